@@ -1,0 +1,41 @@
+-- One more part of a byte string.
+use Rattle.std.proofs.Common.{◌≡◌, ℕ, ◌≤◌, ◌+◌, List, ◌++◌, length, take, drop, Option, sym, ◌∙◌, ap, subst, arith, length-append, length-drop}
+use Rattle.std.specs.Io.KnownBytes.{Appends}
+use Rattle.std.proofs.Math.Seq.{take-add, take-append-add}
+use Rattle.std.proofs.lemmas.List.{take-append-drop, take-append-le, length-take-le}
+use borrow.Rule.Slice.PartMut.{put_mid, post_of}
+use Rattle.nor_base.specs.Device.{Ahead, Gives}
+use Rattle.nor_base.proofs.DeviceLaws.{Appends-append, Gives-append}
+
+shorter_front : (xs : List ℕ) (n m : ℕ) → n ≤ length (take m xs) → take n (take m xs) ≡ take n xs
+shorter_front xs n m fits =
+    sym (take-append-le n (take m xs) (drop m xs) fits) ∙ ap (take n) (take-append-drop m xs)
+
+-- n more bytes of xs, of the m from a on
+pub appends_more : (before between after : Option (List ℕ)) (xs : List ℕ) (a m n : ℕ) → n ≤ length (take m (drop a xs))
+    → Appends before between (take a xs) → Appends between after (take n (take m (drop a xs))) → Appends before after (take (a + n) xs)
+appends_more before between after xs a m n fits p q =
+    let rest : Appends between after (take n (drop a xs)) = subst (Appends between after) (shorter_front (drop a xs) n m fits) q in
+    subst (Appends before after) (sym (take-add a n xs)) (Appends-append before between after (take a xs) (take n (drop a xs)) p rest)
+
+front_and_part : (xs ys : List ℕ) (a k n : ℕ) → a ≤ length xs → n ≤ length ys → take (a + n) (put_mid a k xs ys) ≡ take a xs ++ take n ys
+front_and_part xs ys a k n a_fits n_fits =
+    let whole : length (take a xs) ≡ a = length-take-le a xs a_fits in
+    ap (λ m. take (m + n) (put_mid a k xs ys)) (sym whole)
+    ∙ take-append-add (take a xs) (ys ++ post_of a k xs) n
+    ∙ ap (λ part. take a xs ++ part) (take-append-le n ys (post_of a k xs) n_fits)
+
+pub within_buffer : (xs ys : List ℕ) (a k n : ℕ) → a ≤ length xs → n ≤ length ys → a + n ≤ length (put_mid a k xs ys)
+within_buffer xs ys a k n a_fits n_fits =
+    let whole : length (take a xs) ≡ a = length-take-le a xs a_fits in
+    omega (arith, length-append (take a xs) (ys ++ post_of a k xs), length-append ys (post_of a k xs))
+
+pub within_bytes : (xs : List ℕ) (a m n : ℕ) → a ≤ length xs → n ≤ length (take m (drop a xs)) → a + n ≤ length xs
+within_bytes xs a m n a_fits n_fits =
+    omega (arith, ap length (take-append-drop m (drop a xs)), length-append (take m (drop a xs)) (drop m (drop a xs)), length-drop a xs)
+
+-- n bytes written into the buffer xs from a on
+pub gives_more : (before between after : Ahead) (xs ys : List ℕ) (a k n : ℕ) → a ≤ length xs → n ≤ length ys
+    → Gives before (take a xs) between → Gives between (take n ys) after → Gives before (take (a + n) (put_mid a k xs ys)) after
+gives_more before between after xs ys a k n a_fits n_fits p q =
+    subst (λ bytes. Gives before bytes after) (sym (front_and_part xs ys a k n a_fits n_fits)) (Gives-append before between after (take a xs) (take n ys) p q)

@@ -1,0 +1,10 @@
+-- What a transaction keeps and gives.
+use Rattle.nor_base.proofs.EffectLaws.{keeps_size}
+use Rattle.nor_base.proofs.SampledLaws.{gives_sampled}
+use Rattle.nor_base.proofs.laws.effects.Goals as goal
+
+pub returns-clause-keeps : goal.returns-clause-keeps
+returns-clause-keeps c = keeps_size
+
+pub returns-clause-gives : goal.returns-clause-gives
+returns-clause-gives c = gives_sampled

@@ -1,0 +1,9 @@
+-- An erase stays within its block.
+use Rattle.nor_base.proofs.EffectLaws.{erase_keeps_others, erase_never_judged}
+use Rattle.nor_base.proofs.laws.erases.Goals as goal
+
+pub returns-clause-keeps : goal.returns-clause-keeps
+returns-clause-keeps c = erase_keeps_others
+
+pub returns-clause-judged : goal.returns-clause-judged
+returns-clause-judged c = erase_never_judged

@@ -1,0 +1,73 @@
+-- A chip (W25Q256JV datasheet: the memory array, and of the status registers the write enable latch WEL, the current
+-- address mode ADS and BUSY; this project's: busy times counted in status
+-- reads).
+use Rattle.std.specs.Prelude.{◌≡◌, ◌≢◌, ℕ, zero, suc, Bool, true, false, not, ◌&&◌, ◌||◌, List, length}
+use Rattle.nor_base.specs.declared.meaning.Start.{Start}
+use Rattle.nor_base.specs.declared.meaning.Width.{Width}
+use Rattle.nor_base.specs.declared.meaning.Width.TheVariants.{Three, Both, Four}
+use Rattle.nor_base.specs.Parameters.{Parameters}
+
+-- what is fixed with a chip
+pub record Setting : Type 0 where
+  pub meaning : Parameters
+  -- the mode that it begins in, and its quad setting
+  pub start : Start
+  -- bytes of its page
+  pub page : ℕ
+  -- for how many status reads each accepted program or erase stays busy, in their order; 0 past the end
+  pub busy : List ℕ
+  -- whether a set latch stays where the address mode is entered or left
+  pub keeps : Bool
+
+-- a chip of this meaning and start, with these busy times
+abbrev pub chip_of : Parameters → Start → List ℕ → Bool → Setting
+chip_of m start busy keeps = record { meaning = m; start = start; page = m.page; busy = busy; keeps = keeps }
+
+-- a chip with three address bytes alone has no four-byte mode to begin in
+abbrev pub IsPossible : Parameters → Start → Type 0
+IsPossible m start = start.mode4 ≡ true → m.width ≢ Three
+
+-- a chip at one moment
+pub record Chip : Type 0 where
+  pub array : List ℕ
+  pub latch : Bool
+  -- four-byte address mode
+  pub mode4 : Bool
+  -- status reads left for which it is busy
+  pub left : ℕ
+  -- programs and erases accepted so far
+  pub accepted : ℕ
+
+abbrev pub always_four : Width → Bool
+always_four Three = false
+always_four Both = false
+always_four Four = true
+
+-- the first mode is four-byte where the start says so or the chip has no other
+abbrev pub first_mode4 : Setting → Bool
+first_mode4 s = s.start.mode4 || always_four s.meaning.width
+
+-- idle, the latch clear, in the first mode
+abbrev pub resting : Setting → List ℕ → ℕ → Chip
+resting s array accepted = record { array = array; latch = false; mode4 = first_mode4 s; left = 0; accepted = accepted }
+
+-- the array has a byte for each address of the chip
+abbrev pub IsWhole : Setting → Chip → Type 0
+IsWhole s c = length c.array ≡ s.meaning.size
+
+-- with this content, before any transaction
+abbrev pub ready : Setting → List ℕ → Chip
+ready s content = resting s content 0
+
+-- some status reads are left
+abbrev pub is_busy : ℕ → Bool
+is_busy zero = false
+is_busy (suc left) = true
+
+abbrev pub is_mode : Bool → Bool → Bool
+is_mode true mode4 = mode4
+is_mode false mode4 = not mode4
+
+-- nothing is left busy, the latch is clear, the mode is the first one
+unfoldable pub is_settled : Setting → Chip → Bool
+is_settled s c = not (is_busy c.left) && (not c.latch && is_mode (first_mode4 s) c.mode4)

@@ -1,0 +1,130 @@
+-- Laws of the definitions: facts that would be false if one of them were wrong.
+use Rattle.std.specs.Prelude.{◌≡◌, ◌⊎◌, ℕ, suc, Bool, true, ◌<◌, ◌≤◌, ◌+◌, ◌-◌, ◌%◌, List, [], ◌++◌, length, Option, Some, None, Result, Ok, Err, slice_index}
+use Rattle.std.specs.List.{AllByRecursion}
+use Rattle.nor_base.specs.declared.instruction.What.TheVariants as what
+use Rattle.nor_base.specs.declared.step.Step.{Step}
+use Rattle.nor_base.specs.declared.wrong.Wrong.{Wrong}
+use Rattle.nor_base.specs.declared.wrong.Wrong.TheVariants as wrong
+use Rattle.nor_base.specs.Sample.{sampled_count}
+use Rattle.nor_base.specs.Step.{IsStep}
+use Rattle.nor_base.specs.Script.{IsScript, script_text}
+use Rattle.nor_base.specs.Device.{Ahead, Gives, first_of}
+use Rattle.nor_base.specs.Parameters.{Parameters, block_size}
+use Rattle.nor_base.specs.Instructions.{Row, IsRow, row_of}
+use Rattle.nor_base.specs.Accepted.{IsAccepted}
+use Rattle.nor_base.specs.Decoding.{Instruction}
+use Rattle.nor_base.specs.Blocks.{Block, IsLegalBlock}
+use Rattle.nor_base.specs.Chip.{Setting, Chip, IsWhole}
+use Rattle.nor_base.specs.Effect.{effect, effect_of, is_program}
+use Rattle.nor_base.specs.Run.{polled, polled_trail}
+
+-- a list of steps has one text
+abbrev pub OneText : Type 0
+OneText = (steps : List Step) (t u : List ℕ) → IsScript t steps → IsScript u steps → t ≡ u
+
+-- a text has one list of steps
+abbrev pub OneList : Type 0
+OneList = (text : List ℕ) (a b : List Step) → IsScript text a → IsScript text b → a ≡ b
+
+-- two script texts, whatever follows them, are alike only where the steps are
+abbrev pub TextsApart : Type 0
+TextsApart = (a b : List Step) (x y : List ℕ) → AllByRecursion IsStep a → AllByRecursion IsStep b
+    → script_text a ++ x ≡ script_text b ++ y → (a ≡ b) × (x ≡ y)
+
+-- no script text is a proper prefix of another
+abbrev pub NoProperPrefix : Type 0
+NoProperPrefix = (a b : List Step) (t u rest : List ℕ) → IsScript t a → IsScript u b → u ≡ t ++ rest → rest ≡ []
+
+-- an opcode has at most one row
+abbrev pub OneRow : Type 0
+OneRow = (m : Parameters) (mode4 : Bool) (opcode : ℕ) (r s : Row) → IsAccepted m → IsRow m mode4 opcode r → IsRow m mode4 opcode s → r ≡ s
+
+-- the look-up finds a row only where it is there, and each that is there
+abbrev pub FindsRow : Type 0
+FindsRow = (m : Parameters) (mode4 : Bool) (opcode : ℕ) (r : Row) → row_of m mode4 opcode ≡ Some r → IsRow m mode4 opcode r
+
+abbrev pub RowFound : Type 0
+RowFound = (m : Parameters) (mode4 : Bool) (opcode : ℕ) (r : Row) → IsAccepted m → IsRow m mode4 opcode r → row_of m mode4 opcode ≡ Some r
+
+-- no address lies in both
+abbrev pub AreDisjoint : Block → Block → Type 0
+AreDisjoint b c = (b.start + b.size ≤ c.start) ⊎ (c.start + c.size ≤ b.start)
+
+-- the second holds the first
+abbrev pub LiesIn : Block → Block → Type 0
+LiesIn b c = (c.start ≤ b.start) × (b.start + b.size ≤ c.start + c.size)
+
+-- two legal blocks are disjoint, or one holds the other
+abbrev pub BlocksNest : Type 0
+BlocksNest = (m : Parameters) (b c : Block) → IsAccepted m → IsLegalBlock m b → IsLegalBlock m c
+    → AreDisjoint b c ⊎ (LiesIn b c ⊎ LiesIn c b)
+
+-- every effect keeps the size of the array
+abbrev pub KeepsSize : Type 0
+KeepsSize = (s : Setting) (c d : Chip) (clocks bytes : List ℕ) → effect s c clocks ≡ Ok (d, bytes) → length d.array ≡ length c.array
+
+-- on an array of the chip's size a transaction gives as many bytes as its clocks sample
+abbrev pub GivesSampled : Type 0
+GivesSampled = (s : Setting) (c d : Chip) (clocks bytes : List ℕ) → IsWhole s c → effect s c clocks ≡ Ok (d, bytes)
+    → length bytes ≡ sampled_count clocks
+
+-- a poll ends idle and changes nothing else
+abbrev pub PollEnds : Type 0
+PollEnds = (s : Setting) (c : Chip) → polled s (suc c.left) c ≡ Ok (record c { left = 0 })
+
+-- with n status reads left it makes n + 1
+abbrev pub PollCount : Type 0
+PollCount = (s : Setting) (c : Chip) → length (polled_trail s (suc c.left) c) ≡ c.left + 1
+
+-- no fewer are enough
+abbrev pub PollNeedsAll : Type 0
+PollNeedsAll = (s : Setting) (c : Chip) (turns : ℕ) → turns ≤ c.left → polled s turns c ≡ Err wrong.PollNever
+
+-- which wrong it was, if any
+abbrev pub wrong_of : Result (Chip × List ℕ) Wrong → Option Wrong
+wrong_of (Ok after) = None
+wrong_of (Err why) = Some why
+
+-- the first address of the page that holds an address
+abbrev pub page_start : ℕ → ℕ → ℕ
+page_start page address = address - address % page
+
+-- two arrays of one length that hold the same from one address up to another
+pub record SameWithin (low high : ℕ) (xs ys : List ℕ) : Type 0 where
+  pub length : length xs ≡ length ys
+  pub bytes : (x : ℕ) → low ≤ x → x < high → slice_index xs x ≡ slice_index ys x
+
+abbrev pub IsOutside : ℕ → ℕ → ℕ → Type 0
+IsOutside low high x = (x < low) ⊎ (high ≤ x)
+
+-- a program changes no byte outside its page
+abbrev pub ProgramKeepsOthers : Type 0
+ProgramKeepsOthers = (s : Setting) (c d : Chip) (i : Instruction) (bytes : List ℕ) (x : ℕ) → 0 < s.page → is_program i.what ≡ true
+    → effect_of s c i ≡ Ok (d, bytes) → IsOutside (page_start s.page i.address) (page_start s.page i.address + s.page) x
+    → slice_index d.array x ≡ slice_index c.array x
+
+-- and isn't refused for bytes elsewhere
+abbrev pub ProgramJudgedByPage : Type 0
+ProgramJudgedByPage = (s : Setting) (c : Chip) (array : List ℕ) (i : Instruction) → 0 < s.page → is_program i.what ≡ true
+    → SameWithin (page_start s.page i.address) (page_start s.page i.address + s.page) c.array array
+    → wrong_of (effect_of s (record c { array = array }) i) ≡ wrong_of (effect_of s c i)
+
+-- an erase changes no byte outside its block
+abbrev pub EraseKeepsOthers : Type 0
+EraseKeepsOthers = (s : Setting) (c d : Chip) (i : Instruction) (kind : ℕ) (bytes : List ℕ) (x : ℕ) → i.what ≡ what.Erase kind
+    → effect_of s c i ≡ Ok (d, bytes) → IsOutside i.address (i.address + block_size s.meaning kind) x
+    → slice_index d.array x ≡ slice_index c.array x
+
+-- and isn't refused for any byte
+abbrev pub EraseNeverJudged : Type 0
+EraseNeverJudged = (s : Setting) (c : Chip) (array : List ℕ) (i : Instruction) (kind : ℕ) → i.what ≡ what.Erase kind
+    → wrong_of (effect_of s (record c { array = array }) i) ≡ wrong_of (effect_of s c i)
+
+-- what is ahead of a reader is what it gives first, and then what is ahead after that
+abbrev pub FirstInParts : Type 0
+FirstInParts = (before after : Ahead) (bytes content : List ℕ) (n : ℕ) → Gives before bytes after → first_of (length bytes + n) before ≡ Some content
+    → (rest : List ℕ) × (first_of n after ≡ Some rest) × (content ≡ bytes ++ rest)
+
+-- what is given in two parts is given
+abbrev pub GivesInParts : Type 0
+GivesInParts = (before between after : Ahead) (xs ys : List ℕ) → Gives before xs between → Gives between ys after → Gives before (xs ++ ys) after

@@ -1,0 +1,32 @@
+-- Which steps a script may have (this project's).
+use Rattle.std.specs.Prelude.{◌≡◌, ℕ, Bool, false, true, ◌&&◌, nat_lt, List, [], ◌∷◌}
+use Rattle.std.specs.List.{list_all}
+use Rattle.nor_base.specs.declared.step.Step.{Step}
+use Rattle.nor_base.specs.declared.step.Step.TheVariants.{Send, Poll, Verify}
+use Rattle.nor_base.specs.Sample.{is_symbol}
+
+-- there are some
+abbrev pub is_filled : List ℕ → Bool
+is_filled [] = false
+is_filled (x ∷ xs) = true
+
+-- symbols, and not none
+abbrev pub are_clocks : List ℕ → Bool
+are_clocks clocks = is_filled clocks && list_all is_symbol clocks
+
+-- a step that a script may have: clocks that are symbols and not none, and for a Verify some bytes expected
+abbrev pub is_step : Step → Bool
+is_step (Send clocks) = are_clocks clocks
+is_step (Poll clocks) = are_clocks clocks
+is_step (Verify clocks expect) = are_clocks clocks && is_filled expect
+
+-- the bytes that a step expects
+abbrev pub expected : Step → List ℕ
+expected (Send clocks) = []
+expected (Poll clocks) = []
+expected (Verify clocks expect) = expect
+
+-- a step that a script may have; what it expects are bytes
+pub record IsStep (step : Step) : Type 0 where
+  pub passes : is_step step ≡ true
+  pub bytes : list_all (λ byte. nat_lt byte 256) (expected step) ≡ true

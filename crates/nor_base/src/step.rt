@@ -1,0 +1,57 @@
+//! The steps of a bus script.
+
+ghost use Rattle.std.specs.Prelude.{◌≡◌};
+ghost use Rattle.std.specs.List.{list_all};
+ghost use Rattle.nor_base.specs.Sample.{is_symbol};
+ghost use Rattle.nor_base.specs.Step.{is_step as passes, are_clocks};
+
+use crate::bytes::Bytes;
+use crate::clock::clock_of;
+
+/// One step of a bus script. Its clocks are those of one transaction: chip select falls before the first and rises
+/// after the last.
+#[derive(Drop, Debug, PartialEq, Eq)]
+pub enum Step {
+    /// The transaction, once.
+    Send {
+        /// The symbols of its clocks.
+        clocks: Bytes,
+    },
+    /// The transaction, again and again until bit 0 of the byte that it samples is 0.
+    Poll {
+        /// The symbols of its clocks.
+        clocks: Bytes,
+    },
+    /// The transaction, once; the bytes that it samples are to be those expected.
+    Verify {
+        /// The symbols of its clocks.
+        clocks: Bytes,
+        /// The bytes expected.
+        expect: Bytes,
+    },
+}
+
+/// Whether a step has a line in a script: its clocks are symbols and not none, and so are the bytes that a
+/// [`Step::Verify`] expects.
+pub fn is_step(step: &Step) -> bool
+    ensures { result ≡ passes step.now }
+{
+    match step {
+        Step::Send { clocks } | Step::Poll { clocks } => are_symbols(clocks.as_slice()),
+        Step::Verify { clocks, expect } => {
+            are_symbols(clocks.as_slice()) && !expect.as_slice().is_empty()
+        }
+    }
+}
+
+fn are_symbols(clocks: &[u8]) -> bool
+    ensures { result ≡ are_clocks clocks.now }
+{
+    !clocks.is_empty() && all_symbols(clocks)
+}
+
+fn all_symbols(clocks: &[u8]) -> bool
+    ensures { result ≡ list_all is_symbol clocks.now }
+{
+    clocks.iter().all(|symbol| clock_of(*symbol).is_some())
+}

@@ -1,0 +1,45 @@
+//! Whole byte strings through devices that move any number of bytes at a call.
+
+ghost use Rattle.std.specs.Prelude.{◌<◌, ◌^◌, ◌-◌};
+ghost use Rattle.nor_base.specs.Device.{Writes, Fills, Counts};
+
+use crate::device::{ByteIn, ByteOut, Failed};
+
+/// Puts all of `bytes`, in as many calls as the writer needs; an empty string makes none.
+///
+/// At `Failed` a proper prefix was taken. It comes from the writer alone, whose count of failures rose by one.
+pub fn put_all<W: ByteOut>(writer: &mut W, bytes: &[u8]) -> Result<(), Failed>
+    requires { W.count writer.old < 2 ^ 64 - 1 }
+    ensures bytes { Writes (W.held writer.old) (W.held writer.new) result bytes.now }
+    ensures count { Counts (W.count writer.old) (W.count writer.new) result }
+{
+    let mut done = 0;
+    while done < bytes.len() {
+        match writer.put(&bytes[done..]) {
+            Ok(taken) => done += taken,
+            Err(failed) => return Err(failed),
+        }
+    }
+    Ok(())
+}
+
+/// Takes bytes until `buffer` is full or the reader ends, and answers how many came. Fewer than the buffer has room for
+/// is the end; what stands past them in the buffer says nothing.
+///
+/// At `Failed` fewer than the buffer has room for came. It comes from the reader alone, whose count of failures rose by
+/// one.
+pub fn fill_from<R: ByteIn>(reader: &mut R, buffer: &mut [u8]) -> Result<usize, Failed>
+    requires { R.count reader.old < 2 ^ 64 - 1 }
+    ensures bytes { Fills (R.ahead reader.old) (R.ahead reader.new) result buffer.new }
+    ensures count { Counts (R.count reader.old) (R.count reader.new) result }
+{
+    let mut done = 0;
+    while done < buffer.len() {
+        match reader.take(&mut buffer[done..]) {
+            Ok(0) => return Ok(done),
+            Ok(given) => done += given,
+            Err(failed) => return Err(failed),
+        }
+    }
+    Ok(done)
+}
