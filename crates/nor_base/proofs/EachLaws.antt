@@ -1,10 +1,18 @@
 -- An array by its addresses.
-use Rattle.std.proofs.Common.{◌≡◌, ℕ, suc, ◌+◌, ◌<◌, ◌≤◌, Bool, ◌||◌, List, [], ◌∷◌, length, get_or, refl, sym, ◌∙◌, ap, arith, inl, inr}
+use Rattle.std.proofs.Common.{◌≡◌, ℕ, zero, suc, ◌+◌, ◌<◌, ◌≤◌, Bool, true, false, ◌||◌, List, [], ◌∷◌, length, get_or, refl, sym, ◌∙◌, ap, subst, arith, inl, inr}
 use Rattle.std.specs.List.{list_any, enumerate_from, slice_index}
 use Rattle.std.proofs.lemmas.Bool.{cases_lt}
 use Rattle.std.proofs.lemmas.List.{length-map, get_or-map, get_or_past}
 use Rattle.std.proofs.lemmas.List.FromFn.{length-enumerate_from, get_or-enumerate_from}
-use Rattle.nor_base.specs.Array.{each}
+use Rattle.nor_base.specs.Array.{each, some}
+
+or_left_false : (a b : Bool) → a || b ≡ false → a ≡ false
+or_left_false true b h = h
+or_left_false false b h = refl
+
+or_right_false : (a b : Bool) → a || b ≡ false → b ≡ false
+or_right_false true b h = cc
+or_right_false false b h = h
 
 pub length-each : (f : ℕ → ℕ → ℕ) (array : List ℕ) → length (each f array) ≡ length array
 length-each f array = length-map (enumerate_from 0 array) (λ p. f p.0 p.1) ∙ length-enumerate_from 0 array
@@ -41,3 +49,49 @@ some_same test n (x ∷ xs) (y ∷ ys) lengths same =
     ap (λ m. test m (get_or xs k 0)) (sym moved) ∙ same (suc k) (omega arith) ∙ ap (λ m. test m (get_or ys k 0)) moved in
     ap (λ b. b || list_any (λ p. test p.0 p.1) (enumerate_from (n + 1) xs)) here
     ∙ ap (λ b. test n y || b) (some_same test (n + 1) xs ys lengths' same')
+
+-- a test that no byte passes fails at each address
+none_pass : (test : ℕ → ℕ → Bool) (n : ℕ) (xs : List ℕ) (x : ℕ) → list_any (λ p. test p.0 p.1) (enumerate_from n xs) ≡ false → x < length xs
+    → test (n + x) (get_or xs x 0) ≡ false
+none_pass test n [] x h fits = absurd (omega arith)
+none_pass test n (y ∷ ys) zero h fits =
+    let start : n ≡ n + 0 = omega arith in
+    subst (λ m. test m y ≡ false) start (or_left_false (test n y) _ h)
+none_pass test n (y ∷ ys) (suc x) h fits =
+    let moved : (n + 1) + x ≡ n + suc x = omega arith in
+    subst (λ m. test m (get_or ys x 0) ≡ false) moved (none_pass test (n + 1) ys x (or_right_false (test n y) _ h) (omega arith))
+
+pub some-false : (test : ℕ → ℕ → Bool) (array : List ℕ) (x : ℕ) → some test array ≡ false → x < length array → test x (slice_index array x) ≡ false
+some-false test array x h fits =
+    let start : 0 + x ≡ x = omega arith in
+    subst (λ m. test m (get_or array x 0) ≡ false) start (none_pass test 0 array x h fits)
+
+-- where some byte passes, it has an address
+pub record Passes (test : ℕ → ℕ → Bool) (n : ℕ) (xs : List ℕ) : Type 0 where
+  pub at : ℕ
+  pub inside : at < length xs
+  pub passes : test (n + at) (get_or xs at 0) ≡ true
+
+passes_here : (test : ℕ → ℕ → Bool) (n y : ℕ) (ys : List ℕ) → test n y ≡ true → Passes test n (y ∷ ys)
+passes_here test n y ys is = let start : n ≡ n + 0 = omega arith in
+    record { at = 0; inside = omega arith; passes = subst (λ m. test m y ≡ true) start is }
+
+passes_later : (test : ℕ → ℕ → Bool) (n y : ℕ) (ys : List ℕ) → Passes test (n + 1) ys → Passes test n (y ∷ ys)
+passes_later test n y ys later = let moved : (n + 1) + later.at ≡ n + suc later.at = omega arith in record {
+  at = suc later.at;
+  inside = omega (arith, later.inside);
+  passes = subst (λ m. test m (get_or ys later.at 0) ≡ true) moved later.passes;
+}
+
+passes_step : (test : ℕ → ℕ → Bool) (n y : ℕ) (ys : List ℕ) (b : Bool) → test n y ≡ b
+    → (list_any (λ p. test p.0 p.1) (enumerate_from (n + 1) ys) ≡ true → Passes test (n + 1) ys)
+    → b || list_any (λ p. test p.0 p.1) (enumerate_from (n + 1) ys) ≡ true → Passes test n (y ∷ ys)
+passes_step test n y ys true is later h = passes_here test n y ys is
+passes_step test n y ys false is later h = passes_later test n y ys (later h)
+
+some_passes : (test : ℕ → ℕ → Bool) (n : ℕ) (xs : List ℕ) → list_any (λ p. test p.0 p.1) (enumerate_from n xs) ≡ true → Passes test n xs
+some_passes test n [] h = cc
+some_passes test n (y ∷ ys) h = passes_step test n y ys (test n y) refl (some_passes test (n + 1) ys) h
+
+pub some-true : (test : ℕ → ℕ → Bool) (array : List ℕ) → some test array ≡ true → Passes test 0 array
+some-true test array h = some_passes test 0 array h

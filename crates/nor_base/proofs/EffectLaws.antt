@@ -3,7 +3,7 @@ use Rattle.std.proofs.Common.{◌≡◌, ◌≢◌, ℕ, zero, suc, ◌+◌, ◌
 use Rattle.std.specs.List.{slice_index}
 use Rattle.std.specs.Option.{option_map_or}
 use Rattle.std.proofs.Math.Nat.{mod-lt}
-use Rattle.std.proofs.lemmas.Bool.{cases_lt, le-ltb}
+use Rattle.std.proofs.lemmas.Bool.{cases_lt, le-ltb, le-leb}
 use Rattle.std.proofs.lemmas.Bool.Decides.{eqb_tells, leb_tells}
 use Rattle.nor_base.specs.declared.instruction.What.{What}
 use Rattle.nor_base.specs.declared.instruction.What.TheVariants as what
@@ -14,7 +14,7 @@ use Rattle.nor_base.specs.Decoding.{Instruction, decode}
 use Rattle.nor_base.specs.Chip.{Setting, Chip, is_busy}
 use Rattle.nor_base.specs.Effect.{is_broken, is_status, is_quad, is_program, needs_latch, is_out_of_range, place, last_byte_for, written, raises_bit, raises, programmed, erased, after, answer, effect_of, effect_if, effect}
 use Rattle.nor_base.specs.Laws.{wrong_of, page_start, SameWithin, IsOutside}
-use Rattle.nor_base.proofs.EachLaws.{length-each, each_keeps, some_same}
+use Rattle.nor_base.proofs.EachLaws.{length-each, slice_index-each, each_keeps, some_same}
 
 -- an instruction that the chip takes
 pub record IsTaken (s : Setting) (c : Chip) (i : Instruction) (d : Chip) (bytes : List ℕ) : Type 0 where
@@ -200,3 +200,18 @@ pub program_judged_by_page : (s : Setting) (c : Chip) (array : List ℕ) (i : In
     → wrong_of (effect_of s (record c { array = array }) i) ≡ wrong_of (effect_of s c i)
 program_judged_by_page s c array i some_page program same =
     judged_by s c array i (ap (λ b. is_program i.what && b) (sym (raises_same s.page i.address i.sent c.array array some_page same)))
+
+in_block : (start end x : ℕ) → start ≤ x → x < end → nat_le start x && nat_lt x end ≡ true
+in_block start end x from upto = rw (le-leb start x from) (le-leb (suc x) end upto)
+
+erased_fills : (start size : ℕ) (array : List ℕ) (x : ℕ) → x < length array → start ≤ x → x < start + size → slice_index (erased start size array) x ≡ 255
+unfolding erased
+erased_fills start size array x inside from upto = slice_index-each _ array x inside ∙ rw (in_block start (start + size) x from upto) refl
+
+pub erase_fills : (s : Setting) (c d : Chip) (i : Instruction) (kind : ℕ) (bytes : List ℕ) (x : ℕ) → i.what ≡ what.Erase kind
+    → effect_of s c i ≡ Ok (d, bytes) → x < length c.array → i.address ≤ x → x < i.address + block_size s.meaning kind
+    → slice_index d.array x ≡ 255
+unfolding after
+erase_fills s c d i kind bytes x is h inside from upto =
+    let done : d ≡ after s c i (what.Erase kind) = (taken s c i d bytes h).chip ∙ ap (after s c i) is in
+    ap (λ (e : Chip). slice_index e.array x) done ∙ erased_fills i.address (block_size s.meaning kind) c.array x inside from upto

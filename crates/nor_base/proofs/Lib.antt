@@ -1,4 +1,5 @@
 mod UniformAccepted
+mod LimitLaws
 pub mod DeviceLaws
 mod TransferLemmas
 mod PollLaws
@@ -6,5 +7,10 @@ mod TableLaws
 pub mod ScriptLaws
 pub mod BlockLaws
 pub mod SampledLaws
+mod SymbolLaws
+pub mod RegionLaws
 pub mod EachLaws
 pub mod EffectLaws
+mod ProgramLaws
+mod RunLaws
+mod TargetLaws

@@ -1,22 +1,25 @@
 -- Laws of the definitions: facts that would be false if one of them were wrong.
-use Rattle.std.specs.Prelude.{◌≡◌, ◌⊎◌, ℕ, suc, Bool, true, ◌<◌, ◌≤◌, ◌+◌, ◌-◌, ◌%◌, List, [], ◌++◌, length, Option, Some, None, Result, Ok, Err, slice_index}
+use Rattle.std.specs.Prelude.{◌≡◌, ◌≢◌, ◌⊎◌, ℕ, suc, Bool, true, false, ◌<◌, ◌≤◌, ◌+◌, ◌-◌, ◌%◌, ◌^◌, List, [], ◌∷◌, ◌++◌, length, take, Option, Some, None, option_map, Result, Ok, Err, slice_index, slice_get, sum_by, bit_and}
 use Rattle.std.specs.List.{AllByRecursion}
+use Rattle.nor_base.specs.declared.clock.Clock.{Clock}
 use Rattle.nor_base.specs.declared.instruction.What.TheVariants as what
+use Rattle.nor_base.specs.declared.meaning.Region.{Region}
 use Rattle.nor_base.specs.declared.step.Step.{Step}
 use Rattle.nor_base.specs.declared.wrong.Wrong.{Wrong}
 use Rattle.nor_base.specs.declared.wrong.Wrong.TheVariants as wrong
-use Rattle.nor_base.specs.Sample.{sampled_count}
+use Rattle.nor_base.specs.Sample.{symbol, clock_at, sample, sampled_count}
 use Rattle.nor_base.specs.Step.{IsStep}
 use Rattle.nor_base.specs.Script.{IsScript, script_text}
 use Rattle.nor_base.specs.Device.{Ahead, Gives, first_of}
-use Rattle.nor_base.specs.Parameters.{Parameters, block_size}
+use Rattle.nor_base.specs.Parameters.{Parameters, erase_kind, allows, block_size}
 use Rattle.nor_base.specs.Instructions.{Row, IsRow, row_of}
 use Rattle.nor_base.specs.Accepted.{IsAccepted}
 use Rattle.nor_base.specs.Decoding.{Instruction}
 use Rattle.nor_base.specs.Blocks.{Block, IsLegalBlock}
 use Rattle.nor_base.specs.Chip.{Setting, Chip, IsWhole}
-use Rattle.nor_base.specs.Effect.{effect, effect_of, is_program}
-use Rattle.nor_base.specs.Run.{polled, polled_trail}
+use Rattle.nor_base.specs.Effect.{effect, effect_of, is_program, place}
+use Rattle.nor_base.specs.Run.{polled, polled_trail, run, trail}
+use Rattle.nor_base.specs.Target.{target}
 
 -- a list of steps has one text
 abbrev pub OneText : Type 0
@@ -53,6 +56,31 @@ AreDisjoint b c = (b.start + b.size ≤ c.start) ⊎ (c.start + c.size ≤ b.sta
 -- the second holds the first
 abbrev pub LiesIn : Block → Block → Type 0
 LiesIn b c = (c.start ≤ b.start) × (b.start + b.size ≤ c.start + c.size)
+
+-- the first address of the region of a number
+abbrev pub region_start : Parameters → ℕ → ℕ
+region_start m number = sum_by (λ region. region.size) (take number m.regions)
+
+-- the block lies in one region, which allows its kind
+pub record LiesInRegion (m : Parameters) (b : Block) : Type 0 where
+  pub number : ℕ
+  pub region : Region
+  pub there : slice_get m.regions number ≡ Some region
+  pub from : region_start m number ≤ b.start
+  pub upto : b.start + b.size ≤ region_start m number + region.size
+  pub allowed : allows region b.kind ≡ true
+
+-- a legal block lies in one region that allows its kind, and on the chip
+abbrev pub LegalInRegion : Type 0
+LegalInRegion = (m : Parameters) (b : Block) → IsLegalBlock m b → LiesInRegion m b
+
+abbrev pub LegalOnChip : Type 0
+LegalOnChip = (m : Parameters) (b : Block) → IsAccepted m → IsLegalBlock m b → b.start + b.size ≤ m.size
+
+-- each aligned block of a present kind that lies in such a region is legal
+abbrev pub RegionLegal : Type 0
+RegionLegal = (m : Parameters) (b : Block) → option_map (λ erase. erase.size) (erase_kind m b.kind) ≡ Some b.size → b.start % b.size ≡ 0
+    → LiesInRegion m b → IsLegalBlock m b
 
 -- two legal blocks are disjoint, or one holds the other
 abbrev pub BlocksNest : Type 0
@@ -103,11 +131,40 @@ ProgramKeepsOthers = (s : Setting) (c d : Chip) (i : Instruction) (bytes : List 
     → effect_of s c i ≡ Ok (d, bytes) → IsOutside (page_start s.page i.address) (page_start s.page i.address + s.page) x
     → slice_index d.array x ≡ slice_index c.array x
 
+-- byte j is the last of a program that goes to x
+pub record IsLastFor (page address : ℕ) (bytes : List ℕ) (x j : ℕ) : Type 0 where
+  pub sent : j < length bytes
+  pub here : place page address j ≡ x
+  pub last : (k : ℕ) → j < k → k < length bytes → place page address k ≢ x
+
+-- where a byte goes, the array then holds what it had AND the byte, which is the byte
+abbrev pub ProgramPutsByte : Type 0
+ProgramPutsByte = (s : Setting) (c d : Chip) (i : Instruction) (bytes : List ℕ) (x j : ℕ) → is_program i.what ≡ true
+    → effect_of s c i ≡ Ok (d, bytes) → x < length c.array → IsLastFor s.page i.address i.sent x j
+    → (slice_index d.array x ≡ bit_and (slice_index c.array x) (slice_index i.sent j)) × (slice_index d.array x ≡ slice_index i.sent j)
+
+-- Raised is said for a byte that has a 1 where the array has a 0
+pub record HasRaise (s : Setting) (c : Chip) (i : Instruction) : Type 0 where
+  pub at : ℕ
+  pub byte : ℕ
+  pub inside : at < length c.array
+  pub goes : IsLastFor s.page i.address i.sent at byte
+  pub raises : bit_and (slice_index c.array at) (slice_index i.sent byte) ≢ slice_index i.sent byte
+
+abbrev pub RaisedForByte : Type 0
+RaisedForByte = (s : Setting) (c : Chip) (i : Instruction) → effect_of s c i ≡ Err wrong.Raised → HasRaise s c i
+
 -- and isn't refused for bytes elsewhere
 abbrev pub ProgramJudgedByPage : Type 0
 ProgramJudgedByPage = (s : Setting) (c : Chip) (array : List ℕ) (i : Instruction) → 0 < s.page → is_program i.what ≡ true
     → SameWithin (page_start s.page i.address) (page_start s.page i.address + s.page) c.array array
     → wrong_of (effect_of s (record c { array = array }) i) ≡ wrong_of (effect_of s c i)
+
+-- an erase leaves FFh over its block
+abbrev pub EraseFills : Type 0
+EraseFills = (s : Setting) (c d : Chip) (i : Instruction) (kind : ℕ) (bytes : List ℕ) (x : ℕ) → i.what ≡ what.Erase kind
+    → effect_of s c i ≡ Ok (d, bytes) → x < length c.array → i.address ≤ x → x < i.address + block_size s.meaning kind
+    → slice_index d.array x ≡ 255
 
 -- an erase changes no byte outside its block
 abbrev pub EraseKeepsOthers : Type 0
@@ -128,3 +185,30 @@ FirstInParts = (before after : Ahead) (bytes content : List ℕ) (n : ℕ) → G
 -- what is given in two parts is given
 abbrev pub GivesInParts : Type 0
 GivesInParts = (before between after : Ahead) (xs ys : List ℕ) → Gives before xs between → Gives between ys after → Gives before (xs ++ ys) after
+
+-- a clock is found by its symbol, and no two clocks have the same lanes
+abbrev pub SymbolsFound : Type 0
+SymbolsFound = (clock : Clock) → clock_at (symbol clock) ≡ Some clock
+
+abbrev pub SamplesApart : Type 0
+SamplesApart = (c d : Clock) → sample c ≡ sample d → c ≡ d
+
+-- the last of some chips, or the one before them
+abbrev pub last_of : Chip → List Chip → Chip
+last_of c [] = c
+last_of c (d ∷ more) = last_of d more
+
+-- a run ends with the chip after its last transaction
+abbrev pub RunEndsTrail : Type 0
+RunEndsTrail = (s : Setting) (c d : Chip) (steps : List Step) → run s c steps ≡ Ok d → last_of c (trail s c steps) ≡ d
+
+-- what isn't chosen, or isn't given, or lies past 2^32 stays as it was
+abbrev pub TargetKeeps : Type 0
+TargetKeeps = (image : ℕ → Option ℕ) (base : ℕ) (is_chosen : ℕ → Bool) (content : List ℕ) (a : ℕ)
+    → (is_chosen a ≡ false) ⊎ ((image (base + a) ≡ None) ⊎ (2 ^ 32 ≤ base + a))
+    → slice_index (target image base is_chosen content) a ≡ slice_index content a
+
+-- what is chosen and given becomes the image's byte
+abbrev pub TargetGives : Type 0
+TargetGives = (image : ℕ → Option ℕ) (base : ℕ) (is_chosen : ℕ → Bool) (content : List ℕ) (a byte : ℕ) → a < length content
+    → is_chosen a ≡ true → base + a < 2 ^ 32 → image (base + a) ≡ Some byte → slice_index (target image base is_chosen content) a ≡ byte

@@ -1,15 +1,18 @@
 -- Values of the definitions worked out by hand: on a chip of 32 bytes with a page of 16, and a script on the 8 KiB chip.
-use Rattle.std.specs.Prelude.{◌≡◌, ℕ, Bool, true, false, List, [], ◌∷◌, ◌++◌, length, replicate, codes, Some, None, Ok, Err}
+use Rattle.std.specs.Prelude.{◌≡◌, ℕ, Bool, true, false, List, [], ◌∷◌, ◌++◌, length, replicate, map, not, ◌==◌, codes, Some, None, Ok, Err}
 use Rattle.nor_base.specs.declared.instruction.What.TheVariants as what
 use Rattle.nor_base.specs.declared.meaning.Switch.{Switch}
-use Rattle.nor_base.specs.declared.meaning.Switch.TheVariants.{Plain, Latched}
-use Rattle.nor_base.specs.declared.meaning.Width.TheVariants.{Both}
+use Rattle.nor_base.specs.declared.meaning.Switch.TheVariants.{Absent, Plain, Latched}
+use Rattle.nor_base.specs.declared.meaning.Width.TheVariants.{Both, Four}
 use Rattle.nor_base.specs.declared.step.Step.{Step}
 use Rattle.nor_base.specs.declared.step.Step.TheVariants.{Send, Poll, Verify}
 use Rattle.nor_base.specs.declared.wrong.Wrong.{Wrong}
 use Rattle.nor_base.specs.declared.wrong.Wrong.TheVariants as wrong
 use Rattle.nor_base.specs.Parameters.{Parameters}
+use Rattle.nor_base.specs.Accepted.{IsAccepted}
 use Rattle.nor_base.specs.Uniform.{uniform_of}
+use Rattle.nor_base.specs.Blocks.{is_legal}
+use Rattle.nor_base.specs.Target.{target, is_ignored}
 use Rattle.nor_base.specs.Decoding.{transaction}
 use Rattle.nor_base.specs.Script.{script_text}
 use Rattle.nor_base.specs.Chip.{Setting, Chip, chip_of, ready}
@@ -173,3 +176,49 @@ OneByteTextLength = length one_byte_text ≡ 91
 abbrev pub OneByteRun : ℕ → Bool → Type 0
 OneByteRun busy keeps = DoesTask (chip_of (uniform_of 8192) (record { mode4 = false; quad = false }) (busy ∷ []) keeps)
     (replicate 8192 255) (0 ∷ replicate 8191 255) one_byte_script
+
+-- a chip at the upper limits: 64 MiB, pages and one kind of 4096 bytes, a kind of 16 MiB, 256 regions, 38 dummies
+abbrev pub widest : Parameters
+widest = record {
+  size = 0x4000000;
+  page = 4096;
+  width = Four;
+  erases = None ∷ Some (record { size = 0x1000000; op = 0xD8; op4 = Some 0xDC }) ∷ None ∷ Some (record { size = 4096; op = 0; op4 = Some 0xFF }) ∷ [];
+  regions = replicate 256 (record { size = 0x40000; kinds = 15 });
+  enter = Absent;
+  leave = Absent;
+  quad_read = Some (record { op = 0x01; dummies = 38 });
+  read4 = true;
+  quad_read4 = true;
+  program4 = true;
+  quad4 = true;
+  quad3 = true;
+}
+
+abbrev pub WidestIsAccepted : Type 0
+WidestIsAccepted = IsAccepted widest
+
+-- 64 KiB in a region of 4 KiB for kind 1 and one of 60 KiB for kind 2, whose blocks of 64 KiB fit nowhere
+abbrev pub mapped : Parameters
+mapped = record (uniform_of 0x10000) {
+  erases = Some (record { size = 4096; op = 0x20; op4 = None }) ∷ Some (record { size = 0x10000; op = 0xD8; op4 = None }) ∷ None ∷ None ∷ [];
+  regions = record { size = 4096; kinds = 1 } ∷ record { size = 0xF000; kinds = 2 } ∷ [];
+}
+
+abbrev pub BlocksOfMap : Type 0
+BlocksOfMap = map (is_legal mapped 1) (0 ∷ 1 ∷ 4096 ∷ []) ≡ true ∷ false ∷ false ∷ []
+
+abbrev pub NoBlocksOfMap : Type 0
+NoBlocksOfMap = map (λ kind. is_legal mapped kind 0) (0 ∷ 2 ∷ 3 ∷ 5 ∷ []) ≡ false ∷ false ∷ false ∷ false ∷ []
+
+-- an image that gives each address its own number, moved by 10, of which address 1 alone is chosen
+abbrev pub TargetOfOne : Type 0
+TargetOfOne = target (λ a. Some a) 10 (λ a. a == 1) (1 ∷ 2 ∷ 3 ∷ []) ≡ 1 ∷ 11 ∷ 3 ∷ []
+
+-- from the last address of the image's space on: what would lie past 2^32 stays
+abbrev pub TargetAtTheEnd : Type 0
+TargetAtTheEnd = target (λ a. Some 7) 0xFFFFFFFF (λ a. true) (1 ∷ 2 ∷ []) ≡ 7 ∷ 2 ∷ []
+
+-- of a chip of four bytes from 10 on, all but address 1 chosen
+abbrev pub IgnoredOfFour : Type 0
+IgnoredOfFour = map (is_ignored 10 (λ a. not (a == 1)) 4) (9 ∷ 10 ∷ 11 ∷ 13 ∷ 14 ∷ []) ≡ true ∷ false ∷ true ∷ false ∷ true ∷ []

@@ -1,6 +1,12 @@
 //! Laws of the definitions. Each function does nothing: its contract is the law, and the gate proves it.
 
-ghost use Rattle.nor_base.specs.Laws.{OneText, OneList, TextsApart, NoProperPrefix, OneRow, FindsRow, RowFound, BlocksNest, KeepsSize, GivesSampled, PollEnds, PollCount, PollNeedsAll, ProgramKeepsOthers, ProgramJudgedByPage, EraseKeepsOthers, EraseNeverJudged, FirstInParts, GivesInParts};
+ghost use Rattle.nor_base.specs.Laws.{SymbolsFound, SamplesApart, OneText, OneList, TextsApart, NoProperPrefix, OneRow, FindsRow, RowFound, LegalInRegion, LegalOnChip, RegionLegal, BlocksNest, KeepsSize, GivesSampled, PollEnds, PollCount, PollNeedsAll, RunEndsTrail, ProgramPutsByte, RaisedForByte, ProgramKeepsOthers, ProgramJudgedByPage, EraseFills, EraseKeepsOthers, EraseNeverJudged, TargetKeeps, TargetGives, FirstInParts, GivesInParts};
+
+/// A clock is found by its symbol, and no two clocks have the same lanes: a list of samples means its instruction.
+pub fn symbols()
+    ensures found { SymbolsFound }
+    ensures apart { SamplesApart }
+{}
 
 /// A list of steps has one text, a text has one list of steps, and no script text is a proper prefix of another.
 pub fn script_texts()
@@ -17,9 +23,13 @@ pub fn instruction_rows()
     ensures finds { RowFound }
 {}
 
-/// Two legal blocks are disjoint, or one holds the other.
+/// A block is legal exactly where it is aligned and lies in one region that allows its kind; it lies on the chip. Two
+/// legal blocks are disjoint, or one holds the other.
 pub fn legal_blocks()
-    ensures { BlocksNest }
+    ensures region { LegalInRegion }
+    ensures legal { RegionLegal }
+    ensures chip { LegalOnChip }
+    ensures nest { BlocksNest }
 {}
 
 /// A transaction keeps the size of the array, and on an array of the chip's size it gives as many bytes as its clocks
@@ -36,16 +46,31 @@ pub fn polls()
     ensures all { PollNeedsAll }
 {}
 
-/// A program changes no byte outside its page, and isn't refused for bytes elsewhere.
+/// A program clears the bits that its bytes say, and is Raised just for a byte that would set one. It changes no byte
+/// outside its page, and isn't refused for bytes elsewhere.
 pub fn programs()
+    ensures puts { ProgramPutsByte }
+    ensures raised { RaisedForByte }
     ensures keeps { ProgramKeepsOthers }
     ensures judged { ProgramJudgedByPage }
 {}
 
-/// An erase changes no byte outside its block, and isn't refused for any byte.
+/// An erase leaves FFh over its block, changes no byte outside it, and isn't refused for any byte.
 pub fn erases()
+    ensures fills { EraseFills }
     ensures keeps { EraseKeepsOthers }
     ensures judged { EraseNeverJudged }
+{}
+
+/// A run ends with the chip after its last transaction.
+pub fn runs()
+    ensures { RunEndsTrail }
+{}
+
+/// What is chosen and given becomes the image's byte, and every other byte stays.
+pub fn targets()
+    ensures keeps { TargetKeeps }
+    ensures gives { TargetGives }
 {}
 
 /// What a reader gives in two parts it gives, and what is ahead of it is what it gives first and then the rest.

@@ -2,7 +2,7 @@
 //! computes them.
 
 ghost use Rattle.std.specs.Prelude.{true, false};
-ghost use Rattle.nor_base.specs.Worked.{EnableSetsLatch, ProgramWrites, PollWaits, PollCountsThree, BusyIgnores, ProgramWraps, LastByteCounts, RaiseIsWrong, NoLatchIgnores, EnterPlain, EnterLatched, LeaveLatched, EnterNeedsLatch, QuadProgramsAndReads, DedicatedErase, EraseInMidBlock, BrokenIsIgnored, UnknownOpcode, SevenClocks, ReadsLastByte, ReadPastEnd, OneByteText, OneByteTextLength, OneByteRun};
+ghost use Rattle.nor_base.specs.Worked.{EnableSetsLatch, ProgramWrites, PollWaits, PollCountsThree, BusyIgnores, ProgramWraps, LastByteCounts, RaiseIsWrong, NoLatchIgnores, EnterPlain, EnterLatched, LeaveLatched, EnterNeedsLatch, QuadProgramsAndReads, DedicatedErase, EraseInMidBlock, BrokenIsIgnored, UnknownOpcode, SevenClocks, ReadsLastByte, ReadPastEnd, OneByteText, OneByteTextLength, OneByteRun, WidestIsAccepted, BlocksOfMap, NoBlocksOfMap, TargetOfOne, TargetAtTheEnd, IgnoredOfFour};
 
 /// An enable, programs, polls and what is refused while busy, without the latch or over a 0.
 pub fn programs_worked()
@@ -47,4 +47,22 @@ pub fn script_worked()
     ensures idle { OneByteRun 0 false }
     ensures busy { OneByteRun 1 true }
     ensures busier { OneByteRun 2 false }
+{}
+
+/// A chip at the upper limits is accepted.
+pub fn limits_worked()
+    ensures { WidestIsAccepted }
+{}
+
+/// Legal blocks of a sector map.
+pub fn blocks_worked()
+    ensures legal { BlocksOfMap }
+    ensures none { NoBlocksOfMap }
+{}
+
+/// Targets of small images.
+pub fn targets_worked()
+    ensures one { TargetOfOne }
+    ensures end { TargetAtTheEnd }
+    ensures ignored { IgnoredOfFour }
 {}

@@ -1,6 +1,13 @@
--- A program stays within its page.
+-- What a program puts, and that it stays within its page.
+use Rattle.nor_base.proofs.ProgramLaws.{program_puts_byte, raised_for_byte}
 use Rattle.nor_base.proofs.EffectLaws.{program_keeps_others, program_judged_by_page}
 use Rattle.nor_base.proofs.laws.programs.Goals as goal
+
+pub returns-clause-puts : goal.returns-clause-puts
+returns-clause-puts c = program_puts_byte
+
+pub returns-clause-raised : goal.returns-clause-raised
+returns-clause-raised c = raised_for_byte
 
 pub returns-clause-keeps : goal.returns-clause-keeps
 returns-clause-keeps c = program_keeps_others

@@ -1,0 +1,6 @@
+mod Parts
+mod Digits
+mod Cuts
+mod Sound
+mod Reading
+mod Names

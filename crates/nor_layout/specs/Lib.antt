@@ -1,0 +1,8 @@
+pub mod Region
+pub mod Cause
+pub mod Number
+pub mod Lines
+pub mod Fields
+pub mod Line
+pub mod Text
+pub mod Chosen

@@ -1,0 +1,77 @@
+//! The bytes of a line, cut into fields.
+
+ghost use Rattle.std.specs.Prelude.{◌≡◌};
+ghost use Rattle.std.specs.Option.{option_map};
+ghost use Rattle.std.specs.List.{slice_split};
+ghost use Rattle.nor_layout.specs.Fields.{is_blank, is_separator, is_colon, without_first_blanks, without_last_blanks, trimmed, fields_of, exactly_two};
+
+/// Whether a byte is dropped at either end of a line.
+fn is_blank(byte: u8) -> bool
+    ensures { result ≡ is_blank byte }
+{
+    matches!(byte, b' ' | b'\t' | b'\r')
+}
+
+/// Whether a byte separates fields.
+fn is_separator(byte: u8) -> bool
+    ensures { result ≡ is_separator byte }
+{
+    matches!(byte, b' ' | b'\t')
+}
+
+/// A line without the blanks, tabs and CR at its ends.
+pub(crate) fn trimmed(line: &[u8]) -> &[u8]
+    ensures { result.now ≡ trimmed line.now }
+{
+    without_last_blanks(without_first_blanks(line))
+}
+
+/// A line from its first byte that is no blank on.
+fn without_first_blanks(line: &[u8]) -> &[u8]
+    ensures { result.now ≡ without_first_blanks line.now }
+{
+    let mut rest = line;
+    while let [first, others @ ..] = rest
+        && is_blank(*first)
+    {
+        rest = others;
+    }
+    rest
+}
+
+/// A line up to its last byte that is no blank.
+fn without_last_blanks(line: &[u8]) -> &[u8]
+    ensures { result.now ≡ without_last_blanks line.now }
+{
+    let mut rest = line;
+    while let [others @ .., last] = rest
+        && is_blank(*last)
+    {
+        rest = others;
+    }
+    rest
+}
+
+/// The fields of a line where it has exactly two.
+pub(crate) fn two_fields(line: &[u8]) -> Option<(&[u8], &[u8])>
+    ensures { option_map (λ x. (x.0.now, x.1.now)) result ≡ exactly_two (fields_of line.now) }
+{
+    let mut fields = line
+        .split(|byte| is_separator(*byte))
+        .filter(|field| !field.is_empty());
+    match (fields.next(), fields.next(), fields.next()) {
+        (Some(first), Some(second), None) => Some((first, second)),
+        _ => None,
+    }
+}
+
+/// What stands on either side of the colon, where a field has exactly one.
+pub(crate) fn two_offsets(field: &[u8]) -> Option<(&[u8], &[u8])>
+    ensures { option_map (λ x. (x.0.now, x.1.now)) result ≡ exactly_two (slice_split is_colon field.now) }
+{
+    let mut offsets = field.split(|byte| *byte == b':');
+    match (offsets.next(), offsets.next(), offsets.next()) {
+        (Some(start), Some(end), None) => Some((start, end)),
+        _ => None,
+    }
+}

@@ -1,0 +1,19 @@
+//! A named region, whose name stands in the text.
+
+use std::marker::Model;
+
+/// The addresses from `start` to `end`, both included, under a name.
+#[derive(Drop, Debug)]
+pub(crate) struct Region<'a> {
+    pub(crate) start: u32,
+    pub(crate) end: u32,
+    pub(crate) name: &'a [u8],
+}
+
+impl<'a> Model for Region<'a> {
+    ghost use Rattle.nor_layout.specs.Region.{Region};
+
+    ghost Value = { Region };
+
+    ghost view = { λ r. record { start = r.start; end = r.end; name = r.name.now } };
+}

@@ -1,0 +1,3 @@
+mod WriteLemmas
+mod HexLemmas
+mod VerifyLemmas
