@@ -1,0 +1,6 @@
+pub mod Lines
+pub mod Record
+pub mod Records
+pub mod Image
+pub mod Faults
+pub mod Steps

@@ -1,0 +1,285 @@
+//! The format's own examples and cases worked out by hand.
+
+use crate::reader::bytes_in;
+use crate::{HexFault, read, records};
+use linked_list_allocator::LocalHeap;
+use std::test::Fail;
+
+#[test]
+fn gives_each_address_its_byte(rt: HostRuntime) -> Result<(), Fail> {
+    let cases: [(&[u8], &[(u32, u8)]); 15] = [
+        // An end record alone, with an offset that means nothing.
+        (b":00000001FF\n".as_slice(), &[]),
+        (b":00123401B9".as_slice(), &[]),
+        // Data before any base, and a record with no data.
+        (
+            b":0300100011223387\n:0000000000\n:00000001FF\n".as_slice(),
+            &[(0x10, 0x11), (0x11, 0x22), (0x12, 0x33)],
+        ),
+        // A segment wraps inside its 64 KiB.
+        (
+            b":020000021000EC\n:02FFFF00AABB9B\n:00000001FF\n".as_slice(),
+            &[(0x1_0000, 0xBB), (0x1_FFFF, 0xAA)],
+        ),
+        // Its own record's offset means nothing.
+        (
+            b":02ABCD02100074\n:02FFFF00AABB9B\n:00000001FF\n".as_slice(),
+            &[(0x1_0000, 0xBB), (0x1_FFFF, 0xAA)],
+        ),
+        // The highest segment reaches past 1 MiB.
+        (
+            b":02000002FFFFFE\n:02FFFF000102FD\n:00000001FF\n".as_slice(),
+            &[(0xF_FFF0, 0x02), (0x10_FFEF, 0x01)],
+        ),
+        // A linear address goes on past 64 KiB, and round at 2^32.
+        (
+            b":020000040001F9\n:02FFFF00AABB9B\n:00000001FF\n".as_slice(),
+            &[(0x1_FFFF, 0xAA), (0x2_0000, 0xBB)],
+        ),
+        (
+            b":02000004FFFFFC\n:02FFFF00000000\n:00000001FF\n".as_slice(),
+            &[(0, 0), (0xFFFF_FFFF, 0)],
+        ),
+        // The latest base rules.
+        (
+            b":020000021000EC\n:0100000000FF\n:020000040000FA\n:0100000001FE\n:00000001FF\n".as_slice(),
+            &[(0, 1), (0x1_0000, 0)],
+        ),
+        (
+            b":020000040001F9\n:0100000000FF\n:020000020000FC\n:0100000001FE\n:00000001FF\n".as_slice(),
+            &[(0, 1), (0x1_0000, 0)],
+        ),
+        // Start addresses have no effect.
+        (
+            b":0400000300003800C1\n:04000005000000CD2A\n:0100000000FF\n:00000001FF\n".as_slice(),
+            &[(0, 0)],
+        ),
+        // The same byte twice.
+        (
+            b":0100000000FF\n:0100000000FF\n:00000001FF\n".as_slice(),
+            &[(0, 0)],
+        ),
+        // Lower-case digits.
+        (
+            b":02ffff00aaBb9b\n:00000001ff\n".as_slice(),
+            &[(0xFFFF, 0xAA), (0x1_0000, 0xBB)],
+        ),
+        // Blanks, tabs and carriage returns at a line's end; blank lines; no line feed at the end.
+        (
+            b"\r\n:0100000000FF \t\r\n \n\n:00000001FF\r".as_slice(),
+            &[(0, 0)],
+        ),
+        (b":00000001FF\n\n \t\r\n  ".as_slice(), &[]),
+    ];
+    for (text, want) in cases {
+        let image = read(rt.alloc(), text)?;
+        assert_eq!(rt; image.count(), want.len() as u64);
+        let pairs = image.iter().collect::<Vec<(u32, u8)>>(rt.alloc())?;
+        assert_eq!(rt; pairs.as_slice(), want);
+        for (address, byte) in want {
+            assert_eq!(rt; image.at(*address), Some(*byte), "at {address}");
+        }
+        assert_eq!(rt; image.at(0x8000_0000), None);
+    }
+    Ok(())
+}
+
+#[test]
+fn names_the_first_fault(rt: HostRuntime) {
+    let cases: [(&[u8], HexFault); 54] = [
+        // The end record is asked for.
+        (b"".as_slice(), HexFault::NoEnd { line: 1 }),
+        (b"\n".as_slice(), HexFault::NoEnd { line: 2 }),
+        (b":0100000000FF".as_slice(), HexFault::NoEnd { line: 2 }),
+        (b":0100000000FF\n".as_slice(), HexFault::NoEnd { line: 2 }),
+        (b":0100000000FF\n  ".as_slice(), HexFault::NoEnd { line: 3 }),
+        // Each fault alone.
+        (
+            b":00000001FF\n:00000001FF".as_slice(),
+            HexFault::AfterEnd { line: 2 },
+        ),
+        (b"x".as_slice(), HexFault::NoColon { line: 1 }),
+        (b" :00000001FF".as_slice(), HexFault::NoColon { line: 1 }),
+        (b":00000001FG".as_slice(), HexFault::BadDigit { line: 1 }),
+        (b":0100 00000FF".as_slice(), HexFault::BadDigit { line: 1 }),
+        (b":".as_slice(), HexFault::BadLength { line: 1 }),
+        (b":FF".as_slice(), HexFault::BadLength { line: 1 }),
+        (b":000000001".as_slice(), HexFault::BadLength { line: 1 }),
+        (b":00000001FF0".as_slice(), HexFault::BadLength { line: 1 }),
+        (b":00000001FF00".as_slice(), HexFault::BadLength { line: 1 }),
+        (b":0200000000FE".as_slice(), HexFault::BadLength { line: 1 }),
+        (b":0100000100FE".as_slice(), HexFault::BadLength { line: 1 }),
+        (b":00000002FE".as_slice(), HexFault::BadLength { line: 1 }),
+        (
+            b":020000030000FB".as_slice(),
+            HexFault::BadLength { line: 1 },
+        ),
+        (
+            b":0400000400000000F8".as_slice(),
+            HexFault::BadLength { line: 1 },
+        ),
+        (
+            b":020000050000F9".as_slice(),
+            HexFault::BadLength { line: 1 },
+        ),
+        (b":0100000000FE".as_slice(), HexFault::BadSum { line: 1 }),
+        (b":0000000100".as_slice(), HexFault::BadSum { line: 1 }),
+        (b":00000006FA".as_slice(), HexFault::BadType { line: 1 }),
+        (b":000000FF01".as_slice(), HexFault::BadType { line: 1 }),
+        (
+            b":0100000000FF\n:0100000001FE".as_slice(),
+            HexFault::Conflict { line: 2 },
+        ),
+        (
+            b":020000020001FB\n:0100000000FF\n:020000040000FA\n:0100100001EE".as_slice(),
+            HexFault::Conflict { line: 4 },
+        ),
+        // Blank lines are counted.
+        (
+            b"\n \t\r\n:0100000000FE".as_slice(),
+            HexFault::BadSum { line: 3 },
+        ),
+        (
+            b":0100000000FF\r\n\r\n\r\n:0100000001FE\r\n".as_slice(),
+            HexFault::Conflict { line: 4 },
+        ),
+        (
+            b":00000001FF\n\n \n:0100000000FF".as_slice(),
+            HexFault::AfterEnd { line: 4 },
+        ),
+        // Two causes in one line: after the end record.
+        (b":00000001FF\nx".as_slice(), HexFault::AfterEnd { line: 2 }),
+        (
+            b":00000001FF\n:00000001FG".as_slice(),
+            HexFault::AfterEnd { line: 2 },
+        ),
+        (
+            b":00000001FF\n:FF".as_slice(),
+            HexFault::AfterEnd { line: 2 },
+        ),
+        (
+            b":00000001FF\n:0100000000FE".as_slice(),
+            HexFault::AfterEnd { line: 2 },
+        ),
+        (
+            b":00000001FF\n:00000006FA".as_slice(),
+            HexFault::AfterEnd { line: 2 },
+        ),
+        (
+            b":0100000000FF\n:00000001FF\n:0100000001FE".as_slice(),
+            HexFault::AfterEnd { line: 3 },
+        ),
+        // No colon.
+        (b"00000001FG".as_slice(), HexFault::NoColon { line: 1 }),
+        (b"FF".as_slice(), HexFault::NoColon { line: 1 }),
+        (b"00000001FE".as_slice(), HexFault::NoColon { line: 1 }),
+        (b"00000006FA".as_slice(), HexFault::NoColon { line: 1 }),
+        (
+            b":0100000000FF\n0100000001FE".as_slice(),
+            HexFault::NoColon { line: 2 },
+        ),
+        // A bad digit.
+        (b":FG".as_slice(), HexFault::BadDigit { line: 1 }),
+        (b":0G000001FF".as_slice(), HexFault::BadDigit { line: 1 }),
+        (b":0000000GFE".as_slice(), HexFault::BadDigit { line: 1 }),
+        (b":00000006FG".as_slice(), HexFault::BadDigit { line: 1 }),
+        (
+            b":0100000000FF\n:010000000GFE".as_slice(),
+            HexFault::BadDigit { line: 2 },
+        ),
+        // A wrong length.
+        (b":0200000000FF".as_slice(), HexFault::BadLength { line: 1 }),
+        (b":0100000000".as_slice(), HexFault::BadLength { line: 1 }),
+        (b":01000006F9".as_slice(), HexFault::BadLength { line: 1 }),
+        (
+            b":0100000000FF\n:0200000001FD".as_slice(),
+            HexFault::BadLength { line: 2 },
+        ),
+        (b":0100000100FF".as_slice(), HexFault::BadLength { line: 1 }),
+        // A wrong sum.
+        (b":00000006FB".as_slice(), HexFault::BadSum { line: 1 }),
+        (
+            b":0100000000FF\n:0100000001FF".as_slice(),
+            HexFault::BadSum { line: 2 },
+        ),
+        // An unknown type.
+        (
+            b":0100000000FF\n:0100000601F8".as_slice(),
+            HexFault::BadType { line: 2 },
+        ),
+    ];
+    for (text, want) in cases {
+        match read(rt.alloc(), text) {
+            Ok(_) => assert!(rt; false, "accepted, where {want} was due"),
+            Err(fault) => assert_eq!(rt; fault, want),
+        }
+    }
+}
+
+#[test]
+fn gives_the_records_up_to_the_first_fault(rt: HostRuntime) -> Result<(), Fail> {
+    let text = b"\n:020000021000EC\r\n\n:0310000011aB33FE\n:FF\n:00000001FF\n";
+    let mut items = records(text);
+    let Some(Ok(base)) = items.next() else {
+        return Err("no base")?;
+    };
+    assert_eq!(rt; (base.kind, base.offset, base.line), (2, 0, 2));
+    assert_eq!(rt; base.digits, b"1000".as_slice());
+    let Some(Ok(data)) = items.next() else {
+        return Err("no data")?;
+    };
+    assert_eq!(rt; (data.kind, data.offset, data.line), (0, 0x1000, 4));
+    let mut bytes = Vec::new(rt.alloc());
+    for i in 0..data.digits.len() / 2 {
+        bytes.push(data.byte(i))?;
+    }
+    assert_eq!(rt; bytes.as_slice(), [0x11, 0xAB, 0x33].as_slice());
+    let Some(Err(fault)) = items.next() else {
+        return Err("no fault")?;
+    };
+    assert_eq!(rt; fault, HexFault::BadLength { line: 5 });
+    assert!(rt; items.next().is_none());
+    assert!(rt; items.next().is_none());
+    Ok(())
+}
+
+#[test]
+fn reads_many_blank_lines(rt: HostRuntime) -> Result<(), Fail> {
+    let mut text = Vec::new(rt.alloc());
+    for _ in 0..100_000 {
+        text.push(b'\n')?;
+    }
+    text.extend_from_slice(b":00000001FF")?;
+    assert_eq!(rt; read(rt.alloc(), text.as_slice())?.count(), 0);
+    text.extend_from_slice(b"\n:00000001FF")?;
+    match read(rt.alloc(), text.as_slice()) {
+        Ok(_) => assert!(rt; false, "accepted"),
+        Err(fault) => assert_eq!(rt; fault, HexFault::AfterEnd { line: 100_002 }),
+    }
+    Ok(())
+}
+
+// Heaps that rise in small steps refuse each growth in turn: 64 bytes at addresses far apart.
+#[test]
+fn answers_memory_where_a_growth_is_refused(rt: HostRuntime) -> Result<(), Fail> {
+    let text =
+        b":080000000102030405060708D4\n:081000000102030405060708C4\n:082000000102030405060708B4\n:083000000102030405060708A4\n:00000001FF\n";
+    let mut refused = 0u64;
+    let mut read_whole = 0u64;
+    for size in (64usize..4096).step_by(32) {
+        let heap = LocalHeap::new(rt.alloc(), size)?;
+        match bytes_in(&heap, text) {
+            Ok(bytes) => {
+                assert_eq!(rt; bytes.len(), 32);
+                read_whole = read_whole.saturating_add(1);
+            }
+            Err(fault) => {
+                assert_eq!(rt; fault, HexFault::Memory, "heap of {size}");
+                refused = refused.saturating_add(1);
+            }
+        }
+    }
+    assert!(rt; refused > 0);
+    assert!(rt; read_whole > 0);
+    Ok(())
+}
