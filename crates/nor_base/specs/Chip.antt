@@ -35,8 +35,8 @@ pub record Chip : Type 0 where
   pub mode4 : Bool
   -- status reads left for which it is busy
   pub left : ℕ
-  -- programs and erases accepted so far
-  pub accepted : ℕ
+  -- the busy times of the programs and erases to come: the list without those of the ones accepted so far
+  pub to_come : List ℕ
 
 abbrev pub always_four : Width → Bool
 always_four Three = false
@@ -48,8 +48,8 @@ abbrev pub first_mode4 : Setting → Bool
 first_mode4 s = s.start.mode4 || always_four s.meaning.width
 
 -- idle, the latch clear, in the first mode
-abbrev pub resting : Setting → List ℕ → ℕ → Chip
-resting s array accepted = record { array = array; latch = false; mode4 = first_mode4 s; left = 0; accepted = accepted }
+abbrev pub resting : Setting → List ℕ → List ℕ → Chip
+resting s array to_come = record { array = array; latch = false; mode4 = first_mode4 s; left = 0; to_come = to_come }
 
 -- the array has a byte for each address of the chip
 abbrev pub IsWhole : Setting → Chip → Type 0
@@ -57,7 +57,7 @@ IsWhole s c = length c.array ≡ s.meaning.size
 
 -- with this content, before any transaction
 abbrev pub ready : Setting → List ℕ → Chip
-ready s content = resting s content 0
+ready s content = resting s content s.busy
 
 -- some status reads are left
 abbrev pub is_busy : ℕ → Bool

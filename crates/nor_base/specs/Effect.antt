@@ -1,7 +1,7 @@
 -- What one instruction does to a chip, or which wrong it is (W25Q256JV datasheet: Write Enable 06h, Write Disable 04h, Page
 -- Program 02h with its wrap, Sector and Block Erase, Read Data 03h, Read Status Register-1 05h; this project's: which wrong each misuse is, and that a set latch may stay or go where the address mode
 -- is entered or left).
-use Rattle.std.specs.Prelude.{ℕ, zero, suc, pred, Bool, true, false, ◌+◌, ◌-◌, ◌%◌, ◌==◌, nat_le, nat_lt, not, ◌&&◌, ◌||◌, if◌then◌else◌, List, [], length, replicate, Option, Some, None, Result, Ok, Err, slice_index, slice_range, bit_and}
+use Rattle.std.specs.Prelude.{ℕ, zero, suc, pred, Bool, true, false, ◌+◌, ◌-◌, ◌%◌, ◌==◌, nat_le, nat_lt, not, ◌&&◌, ◌||◌, if◌then◌else◌, List, [], length, replicate, Option, Some, None, Result, Ok, Err, slice_index, slice_range, bit_and, drop}
 use Rattle.std.specs.Option.{option_map_or}
 use Rattle.nor_base.specs.declared.meaning.Switch.{Switch}
 use Rattle.nor_base.specs.declared.meaning.Switch.TheVariants.{Absent, Plain, Latched}
@@ -102,14 +102,14 @@ programmed page address bytes array = each (λ x old. option_map_or (bit_and old
 unfoldable pub erased : ℕ → ℕ → List ℕ → List ℕ
 erased start size array = each (λ x old. if nat_le start x && nat_lt x (start + size) then 255 else old) array
 
--- the chip after a program or an erase: latch clear, one more accepted, busy for its number of the list
+-- the chip after a program or an erase: latch clear, busy for the next of the busy times, 0 past their end
 abbrev pub accepting : Setting → Chip → List ℕ → Chip
 accepting s c array = record {
   array = array;
   latch = false;
   mode4 = c.mode4;
-  left = slice_index s.busy c.accepted;
-  accepted = c.accepted + 1;
+  left = slice_index c.to_come 0;
+  to_come = drop 1 c.to_come;
 }
 
 -- the chip after a change of the address mode: a set latch stays where the chip keeps it

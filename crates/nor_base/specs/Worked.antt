@@ -50,8 +50,8 @@ Leaves s array steps after = run s (ready s array) steps ≡ Ok after
 abbrev pub StopsAt : Setting → List ℕ → List Step → ℕ → Wrong → Chip → Type 0
 StopsAt s array steps at why chip = run s (ready s array) steps ≡ Err (record { at = at; why = why; chip = chip })
 
-abbrev pub chip_with : List ℕ → Bool → Bool → ℕ → ℕ → Chip
-chip_with array latch mode4 left accepted = record { array = array; latch = latch; mode4 = mode4; left = left; accepted = accepted }
+abbrev pub chip_with : List ℕ → Bool → Bool → ℕ → List ℕ → Chip
+chip_with array latch mode4 left to_come = record { array = array; latch = latch; mode4 = mode4; left = left; to_come = to_come }
 
 abbrev pub enable : Step
 enable = Send (codes "00000110")
@@ -61,7 +61,7 @@ poll = Poll poll_clocks
 
 -- 06h sets the latch
 abbrev pub EnableSetsLatch : Type 0
-EnableSetsLatch = Leaves (tiny_chip Plain [] false) blank (enable ∷ []) (chip_with blank true false 0 0)
+EnableSetsLatch = Leaves (tiny_chip Plain [] false) blank (enable ∷ []) (chip_with blank true false 0 [])
 
 -- 02h at 000005h of A5h: the byte is there, the latch is clear, and two status reads are left
 abbrev pub program_at_5 : Step
@@ -71,82 +71,89 @@ abbrev pub one_byte_at_5 : List ℕ
 one_byte_at_5 = replicate 5 255 ++ (0xA5 ∷ replicate 26 255)
 
 abbrev pub ProgramWrites : Type 0
-ProgramWrites = Leaves (tiny_chip Plain (2 ∷ []) false) blank (enable ∷ program_at_5 ∷ []) (chip_with one_byte_at_5 false false 2 1)
+ProgramWrites = Leaves (tiny_chip Plain (2 ∷ []) false) blank (enable ∷ program_at_5 ∷ []) (chip_with one_byte_at_5 false false 2 [])
 
 -- two status reads left make three transactions, and then none
 abbrev pub PollWaits : Type 0
-PollWaits = Leaves (tiny_chip Plain (2 ∷ []) false) blank (enable ∷ program_at_5 ∷ poll ∷ []) (chip_with one_byte_at_5 false false 0 1)
+PollWaits = Leaves (tiny_chip Plain (2 ∷ []) false) blank (enable ∷ program_at_5 ∷ poll ∷ []) (chip_with one_byte_at_5 false false 0 [])
 
 abbrev pub PollCountsThree : Type 0
 PollCountsThree = length (trail (tiny_chip Plain (2 ∷ []) false) (ready (tiny_chip Plain (2 ∷ []) false) blank) (enable ∷ program_at_5 ∷ poll ∷ [])) ≡ 5
 
+-- the second program is busy for the second time of the list, the third for none
+abbrev pub TimesInTurn : Type 0
+TimesInTurn = Leaves (tiny_chip Plain (1 ∷ 2 ∷ []) false) blank (enable ∷ program_at_5 ∷ poll ∷ enable ∷ program_at_5 ∷ []) (chip_with one_byte_at_5 false false 2 [])
+
+abbrev pub NoTimeLeft : Type 0
+NoTimeLeft = Leaves (tiny_chip Plain (1 ∷ []) false) blank (enable ∷ program_at_5 ∷ poll ∷ enable ∷ program_at_5 ∷ []) (chip_with one_byte_at_5 false false 0 [])
+
 -- while busy another instruction is ignored, and the chip stays as it was
 abbrev pub BusyIgnores : Type 0
-BusyIgnores = StopsAt (tiny_chip Plain (2 ∷ []) false) blank (enable ∷ program_at_5 ∷ enable ∷ []) 2 wrong.Ignored (chip_with one_byte_at_5 false false 2 1)
+BusyIgnores = StopsAt (tiny_chip Plain (2 ∷ []) false) blank (enable ∷ program_at_5 ∷ enable ∷ []) 2 wrong.Ignored (chip_with one_byte_at_5 false false 2 [])
 
 -- 02h at 00000Eh of 11h 22h 33h: the third byte goes round to the start of the page
 abbrev pub ProgramWraps : Type 0
 ProgramWraps = Leaves (tiny_chip Plain [] false) blank
     (enable ∷ Send (codes "00000010000000000000000000001110" ++ codes "000100010010001000110011") ∷ [])
-    (chip_with (0x33 ∷ (replicate 13 255 ++ (0x11 ∷ 0x22 ∷ replicate 16 255))) false false 0 1)
+    (chip_with (0x33 ∷ (replicate 13 255 ++ (0x11 ∷ 0x22 ∷ replicate 16 255))) false false 0 [])
 
 -- 17 bytes from 000010h on, 00h first and 0Fh last, all others FFh: the last one counts
 abbrev pub LastByteCounts : Type 0
 LastByteCounts = Leaves (tiny_chip Plain [] false) blank
     (enable ∷ Send (codes "00000010000000000000000000010000" ++ (codes "00000000" ++ (replicate 120 0x31 ++ codes "00001111"))) ∷ [])
-    (chip_with (replicate 16 255 ++ (0x0F ∷ replicate 15 255)) false false 0 1)
+    (chip_with (replicate 16 255 ++ (0x0F ∷ replicate 15 255)) false false 0 [])
 
 -- 01h over 00h raises a bit, and nothing changes
 abbrev pub RaiseIsWrong : Type 0
 RaiseIsWrong = StopsAt (tiny_chip Plain [] false) (0 ∷ replicate 31 255)
-    (enable ∷ Send (codes "00000010000000000000000000000000" ++ codes "00000001") ∷ []) 1 wrong.Raised (chip_with (0 ∷ replicate 31 255) true false 0 0)
+    (enable ∷ Send (codes "00000010000000000000000000000000" ++ codes "00000001") ∷ []) 1 wrong.Raised (chip_with (0 ∷ replicate 31 255) true false 0 [])
 
 -- a program without the latch is ignored
 abbrev pub NoLatchIgnores : Type 0
-NoLatchIgnores = StopsAt (tiny_chip Plain [] false) blank (program_at_5 ∷ []) 0 wrong.Ignored (chip_with blank false false 0 0)
+NoLatchIgnores = StopsAt (tiny_chip Plain [] false) blank (program_at_5 ∷ []) 0 wrong.Ignored (chip_with blank false false 0 [])
 
 -- B7h enters four-byte mode; a latch that was set stays where the chip keeps it
 abbrev pub EnterPlain : Type 0
-EnterPlain = Leaves (tiny_chip Plain [] false) blank (Send (codes "10110111") ∷ []) (chip_with blank false true 0 0)
+EnterPlain = Leaves (tiny_chip Plain [] false) blank (Send (codes "10110111") ∷ []) (chip_with blank false true 0 [])
 
 abbrev pub EnterLatched : (keeps : Bool) → Type 0
-EnterLatched keeps = Leaves (tiny_chip Latched [] keeps) blank (enable ∷ Send (codes "10110111") ∷ []) (chip_with blank keeps true 0 0)
+EnterLatched keeps = Leaves (tiny_chip Latched [] keeps) blank (enable ∷ Send (codes "10110111") ∷ []) (chip_with blank keeps true 0 [])
 
 abbrev pub LeaveLatched : (keeps : Bool) → Type 0
 LeaveLatched keeps = Leaves (tiny_chip Latched [] keeps) blank
-    (enable ∷ Send (codes "10110111") ∷ enable ∷ Send (codes "11101001") ∷ Send (codes "00000100") ∷ []) (chip_with blank false false 0 0)
+    (enable ∷ Send (codes "10110111") ∷ enable ∷ Send (codes "11101001") ∷ Send (codes "00000100") ∷ []) (chip_with blank false false 0 [])
 
 -- B7h of a latched switch without the latch
 abbrev pub EnterNeedsLatch : Type 0
-EnterNeedsLatch = StopsAt (tiny_chip Latched [] false) blank (Send (codes "10110111") ∷ []) 0 wrong.Ignored (chip_with blank false false 0 0)
+EnterNeedsLatch = StopsAt (tiny_chip Latched [] false) blank (Send (codes "10110111") ∷ []) 0 wrong.Ignored (chip_with blank false false 0 [])
 
 -- 32h at 0 of A5h on four lanes, and 6Bh with two dummies reads it
 abbrev pub QuadProgramsAndReads : Type 0
 QuadProgramsAndReads = Leaves (tiny_chip Plain [] false) blank
     (enable ∷ Send (codes "00110010000000000000000000000000" ++ codes "kf")
     ∷ Verify (codes "01101011000000000000000000000000" ++ codes "--==") (0xA5 ∷ []) ∷ [])
-    (chip_with (0xA5 ∷ replicate 31 255) false false 0 1)
+    (chip_with (0xA5 ∷ replicate 31 255) false false 0 [])
 
 -- 21h with four address bytes erases the second block, in three-byte mode
 abbrev pub DedicatedErase : Type 0
 DedicatedErase = Leaves (tiny_chip Plain [] false) (replicate 32 0)
     (enable ∷ Send (codes "00100001" ++ codes "00000000000000000000000000010000") ∷ [])
-    (chip_with (replicate 16 0 ++ replicate 16 255) false false 0 1)
+    (chip_with (replicate 16 0 ++ replicate 16 255) false false 0 [])
 
 -- an erase in mid-block
 abbrev pub EraseInMidBlock : Type 0
 EraseInMidBlock = StopsAt (tiny_chip Plain [] false) blank (enable ∷ Send (codes "00100000000000000000000000001000") ∷ []) 1 wrong.OutOfRange
-    (chip_with blank true false 0 0)
+    (chip_with blank true false 0 [])
 
 -- 06h with a ninth clock is broken; 9Fh is no instruction, nor are seven clocks
 abbrev pub BrokenIsIgnored : Type 0
-BrokenIsIgnored = StopsAt (tiny_chip Plain [] false) blank (Send (codes "000001100") ∷ []) 0 wrong.Ignored (chip_with blank false false 0 0)
+BrokenIsIgnored = StopsAt (tiny_chip Plain [] false) blank (Send (codes "000001100") ∷ []) 0 wrong.Ignored (chip_with blank false false 0 [])
 
 abbrev pub UnknownOpcode : Type 0
-UnknownOpcode = StopsAt (tiny_chip Plain [] false) blank (Send (codes "10011111") ∷ []) 0 wrong.Unknown (chip_with blank false false 0 0)
+UnknownOpcode = StopsAt (tiny_chip Plain [] false) blank (Send (codes "10011111") ∷ []) 0 wrong.Unknown (chip_with blank false false 0 [])
 
 abbrev pub SevenClocks : Type 0
-SevenClocks = StopsAt (tiny_chip Plain [] false) blank (Send (codes "0000011") ∷ []) 0 wrong.Unknown (chip_with blank false false 0 0)
+SevenClocks = StopsAt (tiny_chip Plain [] false) blank (Send (codes "0000011") ∷ []) 0 wrong.Unknown (chip_with blank false false 0 [])
 
 -- 03h at 00001Fh reads the last byte; of two bytes the second is past the end
 abbrev pub ReadsLastByte : Type 0
@@ -155,7 +162,7 @@ ReadsLastByte = transaction (tiny Plain) false (codes "0000001100000000000000000
 
 abbrev pub ReadPastEnd : Type 0
 ReadPastEnd = StopsAt (tiny_chip Plain [] false) blank (Verify (codes "00000011000000000000000000011111" ++ codes "................") (255 ∷ 255 ∷ []) ∷ [])
-    0 wrong.OutOfRange (chip_with blank false false 0 0)
+    0 wrong.OutOfRange (chip_with blank false false 0 [])
 
 -- the script that programs 00h at 0
 abbrev pub one_byte_script : List Step

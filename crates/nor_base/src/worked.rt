@@ -2,7 +2,7 @@
 //! computes them.
 
 ghost use Rattle.std.specs.Prelude.{true, false};
-ghost use Rattle.nor_base.specs.Worked.{EnableSetsLatch, ProgramWrites, PollWaits, PollCountsThree, BusyIgnores, ProgramWraps, LastByteCounts, RaiseIsWrong, NoLatchIgnores, EnterPlain, EnterLatched, LeaveLatched, EnterNeedsLatch, QuadProgramsAndReads, DedicatedErase, EraseInMidBlock, BrokenIsIgnored, UnknownOpcode, SevenClocks, ReadsLastByte, ReadPastEnd, OneByteText, OneByteTextLength, OneByteRun, WidestIsAccepted, BlocksOfMap, NoBlocksOfMap, TargetOfOne, TargetAtTheEnd, IgnoredOfFour};
+ghost use Rattle.nor_base.specs.Worked.{EnableSetsLatch, ProgramWrites, PollWaits, PollCountsThree, TimesInTurn, NoTimeLeft, BusyIgnores, ProgramWraps, LastByteCounts, RaiseIsWrong, NoLatchIgnores, EnterPlain, EnterLatched, LeaveLatched, EnterNeedsLatch, QuadProgramsAndReads, DedicatedErase, EraseInMidBlock, BrokenIsIgnored, UnknownOpcode, SevenClocks, ReadsLastByte, ReadPastEnd, OneByteText, OneByteTextLength, OneByteRun, WidestIsAccepted, BlocksOfMap, NoBlocksOfMap, TargetOfOne, TargetAtTheEnd, IgnoredOfFour};
 
 /// An enable, programs, polls and what is refused while busy, without the latch or over a 0.
 pub fn programs_worked()
@@ -10,6 +10,8 @@ pub fn programs_worked()
     ensures program { ProgramWrites }
     ensures poll { PollWaits }
     ensures count { PollCountsThree }
+    ensures turn { TimesInTurn }
+    ensures past { NoTimeLeft }
     ensures busy { BusyIgnores }
     ensures wrap { ProgramWraps }
     ensures last { LastByteCounts }

@@ -42,3 +42,11 @@ returns-clause-raise c = refl
 pub returns-clause-latch : goal.returns-clause-latch
 unfolding decode transaction by_row has_opcode is_form is_data is_bit_sent is_nibble_sent is_bit_sampled is_nibble_sampled is_idle bit nibble row_of effect effect_of after answer is_out_of_range is_legal erased programmed raises last_byte_for step run polled is_verify trail step_trail polled_trail
 returns-clause-latch c = refl
+
+pub returns-clause-turn : goal.returns-clause-turn
+unfolding decode transaction by_row has_opcode is_form is_data is_bit_sent is_nibble_sent is_bit_sampled is_nibble_sampled is_idle bit nibble row_of effect effect_of after answer is_out_of_range is_legal erased programmed raises last_byte_for step run polled is_verify trail step_trail polled_trail
+returns-clause-turn c = refl
+
+pub returns-clause-past : goal.returns-clause-past
+unfolding decode transaction by_row has_opcode is_form is_data is_bit_sent is_nibble_sent is_bit_sampled is_nibble_sampled is_idle bit nibble row_of effect effect_of after answer is_out_of_range is_legal erased programmed raises last_byte_for step run polled is_verify trail step_trail polled_trail
+returns-clause-past c = refl
