@@ -1,0 +1,3 @@
+mod NumberLemmas
+mod ByteLemmas
+mod TableLemmas

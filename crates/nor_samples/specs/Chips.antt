@@ -1,0 +1,113 @@
+-- What SFDP says of the sample chips.
+use Rattle.std.specs.Prelude.{Bool, true, false, [], ◌∷◌, Some, None}
+use Rattle.std.specs.Bool.{then_some}
+use Rattle.nor_base.specs.declared.meaning.Switch.{Switch}
+use Rattle.nor_base.specs.declared.meaning.Switch.TheVariants.{Absent, Plain, Latched}
+use Rattle.nor_base.specs.declared.meaning.Width.TheVariants.{Three, Both}
+use Rattle.nor_base.specs.Parameters.{Parameters}
+
+-- 8 KiB in sectors of 4 KiB
+abbrev pub small : Parameters
+small = record {
+  size = 8192;
+  page = 256;
+  width = Three;
+  erases = Some (record { size = 4096; op = 0x20; op4 = None }) ∷ None ∷ None ∷ None ∷ [];
+  regions = record { size = 8192; kinds = 15 } ∷ [];
+  enter = Absent;
+  leave = Absent;
+  quad_read = None;
+  read4 = false;
+  quad_read4 = false;
+  program4 = false;
+  quad4 = false;
+  quad3 = false;
+}
+
+-- 64 KiB: 4 KiB for kind 1, and 60 KiB for kind 2, whose blocks fit nowhere
+abbrev pub mapped : Parameters
+mapped = record {
+  size = 65536;
+  page = 256;
+  width = Three;
+  erases = Some (record { size = 4096; op = 0x20; op4 = None }) ∷ Some (record { size = 65536; op = 0xD8; op4 = None }) ∷ None ∷ None ∷ [];
+  regions = record { size = 4096; kinds = 1 } ∷ record { size = 61440; kinds = 2 } ∷ [];
+  enter = Absent;
+  leave = Absent;
+  quad_read = None;
+  read4 = false;
+  quad_read4 = false;
+  program4 = false;
+  quad4 = false;
+  quad3 = false;
+}
+
+-- 32 MiB: how its address mode is switched, whether it has a four-byte address instruction table, and whether it takes
+-- quad programs by 32h
+abbrev pub large_by : Switch → Bool → Bool → Parameters
+large_by switch dedicated quad3 = record {
+  size = 33554432;
+  page = 256;
+  width = Both;
+  erases = Some (record { size = 4096; op = 0x20; op4 = then_some dedicated 0x21 })
+      ∷ Some (record { size = 32768; op = 0x52; op4 = None })
+      ∷ Some (record { size = 65536; op = 0xD8; op4 = then_some dedicated 0xDC })
+      ∷ None
+      ∷ [];
+  regions = record { size = 33554432; kinds = 15 } ∷ [];
+  enter = switch;
+  leave = switch;
+  quad_read = Some (record { op = 0x6B; dummies = 8 });
+  read4 = dedicated;
+  quad_read4 = dedicated;
+  program4 = dedicated;
+  quad4 = dedicated;
+  quad3 = quad3;
+}
+
+abbrev pub large : Parameters
+large = record {
+  size = 33554432;
+  page = 256;
+  width = Both;
+  erases = Some (record { size = 4096; op = 0x20; op4 = Some 0x21 })
+      ∷ Some (record { size = 32768; op = 0x52; op4 = None })
+      ∷ Some (record { size = 65536; op = 0xD8; op4 = Some 0xDC })
+      ∷ None
+      ∷ [];
+  regions = record { size = 33554432; kinds = 15 } ∷ [];
+  enter = Plain;
+  leave = Plain;
+  quad_read = Some (record { op = 0x6B; dummies = 8 });
+  read4 = true;
+  quad_read4 = true;
+  program4 = true;
+  quad4 = true;
+  quad3 = false;
+}
+
+-- the large chip as a W25Q256JV
+abbrev pub large_w25q256jv : Parameters
+large_w25q256jv = record large { quad3 = true }
+
+-- the large chip, its mode switched after a write enable
+abbrev pub large_latched : Parameters
+large_latched = record large { enter = Latched; leave = Latched }
+
+-- the large chip without its four-byte address instruction table
+abbrev pub large_legacy : Parameters
+large_legacy = record large {
+  erases = Some (record { size = 4096; op = 0x20; op4 = None })
+      ∷ Some (record { size = 32768; op = 0x52; op4 = None })
+      ∷ Some (record { size = 65536; op = 0xD8; op4 = None })
+      ∷ None
+      ∷ [];
+  read4 = false;
+  quad_read4 = false;
+  program4 = false;
+  quad4 = false;
+}
+
+-- the same, its mode switched after a write enable
+abbrev pub large_legacy_latched : Parameters
+large_legacy_latched = record large_legacy { enter = Latched; leave = Latched }

@@ -1,0 +1,228 @@
+//! Chips for tests: what SFDP says of a few sample chips, each with its literal parameters as contract.
+#![tactic(auto)]
+
+ghost use Rattle.std.specs.Prelude.{◌≡◌};
+ghost use Rattle.nor_base.specs.declared.meaning.Switch.TheVariants.{Plain, Latched};
+ghost use Rattle.nor_samples.specs.Chips.{small, mapped, large_by, large, large_w25q256jv, large_latched, large_legacy, large_legacy_latched};
+
+use arrayvec::ArrayVec;
+use nor_base::{Erase, Meaning, QuadRead, Region, Switch, Width};
+
+/// 8 KiB in sectors of 4 KiB: the chip of `Meaning::uniform(8192)`.
+pub fn small_chip() -> Meaning
+    ensures { result ≡ small }
+{
+    Meaning::uniform(8192).unwrap()
+}
+
+/// 64 KiB with a sector map: the first 4 KiB allow kind 1 alone, and the other 60 KiB kind 2, whose blocks of 64 KiB fit
+/// nowhere.
+pub fn mapped_chip() -> Meaning
+    ensures { result ≡ mapped }
+{
+    let mut regions = ArrayVec::new();
+    regions.push(Region {
+        size: 4096,
+        kinds: 1,
+    });
+    regions.push(Region {
+        size: 61440,
+        kinds: 2,
+    });
+    let sectors = Erase {
+        size: 4096,
+        op: 0x20,
+        op4: None,
+    };
+    let blocks = Erase {
+        size: 65536,
+        op: 0xD8,
+        op4: None,
+    };
+    Meaning {
+        size: 65536,
+        page: 256,
+        width: Width::Three,
+        erases: [Some(sectors), Some(blocks), None, None],
+        regions,
+        enter: Switch::Absent,
+        leave: Switch::Absent,
+        quad_read: None,
+        read4: false,
+        quad_read4: false,
+        program4: false,
+        quad4: false,
+        quad3: false,
+    }
+}
+
+/// 32 MiB with all that the four-byte address instruction table (FF84h) offers, and both address modes.
+pub fn large_chip() -> Meaning
+    ensures { result ≡ large }
+{
+    large_with(Switch::Plain, true, false)
+}
+
+/// The large chip as a W25Q256JV, which takes quad programs by 32h as well.
+pub fn w25q256jv_chip() -> Meaning
+    ensures { result ≡ large_w25q256jv }
+{
+    large_with(Switch::Plain, true, true)
+}
+
+/// The large chip, whose address mode is switched after a write enable only.
+pub fn latched_chip() -> Meaning
+    ensures { result ≡ large_latched }
+{
+    large_with(Switch::Latched, true, false)
+}
+
+/// The large chip without its four-byte address instruction table (FF84h).
+pub fn legacy_chip() -> Meaning
+    ensures { result ≡ large_legacy }
+{
+    large_with(Switch::Plain, false, false)
+}
+
+/// The large chip without its four-byte address instruction table (FF84h), whose address mode is switched after a write
+/// enable only.
+pub fn legacy_latched_chip() -> Meaning
+    ensures { result ≡ large_legacy_latched }
+{
+    large_with(Switch::Latched, false, false)
+}
+
+/// A chip of 32 MiB: how its address mode is switched, whether it has a four-byte address instruction table, and
+/// whether it takes quad programs by 32h.
+fn large_with(switch: Switch, dedicated: bool, quad3: bool) -> Meaning
+    ensures { result ≡ large_by switch dedicated quad3 }
+{
+    let mut regions = ArrayVec::new();
+    regions.push(Region {
+        size: 0x200_0000,
+        kinds: 15,
+    });
+    let sectors = Erase {
+        size: 4096,
+        op: 0x20,
+        op4: dedicated.then_some(0x21),
+    };
+    let half_blocks = Erase {
+        size: 32768,
+        op: 0x52,
+        op4: None,
+    };
+    let blocks = Erase {
+        size: 65536,
+        op: 0xD8,
+        op4: dedicated.then_some(0xDC),
+    };
+    Meaning {
+        size: 0x200_0000,
+        page: 256,
+        width: Width::Both,
+        erases: [Some(sectors), Some(half_blocks), Some(blocks), None],
+        regions,
+        enter: switch,
+        leave: switch,
+        quad_read: Some(QuadRead {
+            op: 0x6B,
+            dummies: 8,
+        }),
+        read4: dedicated,
+        quad_read4: dedicated,
+        program4: dedicated,
+        quad4: dedicated,
+        quad3,
+    }
+}
+
+#[cfg(test)]
+mod tests {
+    use super::{
+        large_chip, latched_chip, legacy_chip, legacy_latched_chip, mapped_chip, small_chip,
+        w25q256jv_chip,
+    };
+    use nor_base::{Erase, Meaning, Switch};
+    use std::process::Abort;
+
+    /// The blocks of a chip: their sizes, opcodes and dedicated opcodes.
+    fn are_blocks(rt: &impl Abort, chip: &Meaning, wants: [(u32, u8, Option<u8>); 3]) {
+        let [first, second, third, fourth] = chip.erases;
+        for (kind, (size, op, op4)) in [first, second, third].into_iter().zip(wants) {
+            let want = if size == 0 {
+                None
+            } else {
+                Some(Erase { size, op, op4 })
+            };
+            assert_eq!(rt; kind, want);
+        }
+        assert_eq!(rt; fourth, None);
+    }
+
+    /// Size, the number of regions and how the mode is switched; then whether 13h, 34h and 32h are offered.
+    fn is_chip(rt: &impl Abort, chip: &Meaning, want: (u32, usize, Switch), offered: [bool; 3]) {
+        assert_eq!(rt; chip.page, 256);
+        assert_eq!(rt; chip.size, want.0);
+        assert_eq!(rt; chip.regions.len(), want.1);
+        assert_eq!(rt; chip.enter, want.2);
+        assert_eq!(rt; chip.leave, want.2);
+        assert_eq!(rt; [chip.read4, chip.quad4, chip.quad3], offered);
+    }
+
+    #[test]
+    fn are_the_listed_chips(rt: HostRuntime) {
+        let absent = (0, 0, None);
+        let sectors = (4096, 0x20, None);
+        let legacy = [sectors, (32768, 0x52, None), (65536, 0xD8, None)];
+        let dedicated = [
+            (4096, 0x20, Some(0x21)),
+            (32768, 0x52, None),
+            (65536, 0xD8, Some(0xDC)),
+        ];
+        assert!(rt; Some(small_chip()) == Meaning::uniform(8192));
+        are_blocks(&rt, &small_chip(), [sectors, absent, absent]);
+        are_blocks(&rt, &mapped_chip(), [sectors, (65536, 0xD8, None), absent]);
+        are_blocks(&rt, &large_chip(), dedicated);
+        are_blocks(&rt, &w25q256jv_chip(), dedicated);
+        are_blocks(&rt, &latched_chip(), dedicated);
+        are_blocks(&rt, &legacy_chip(), legacy);
+        are_blocks(&rt, &legacy_latched_chip(), legacy);
+        is_chip(
+            &rt,
+            &mapped_chip(),
+            (65536, 2, Switch::Absent),
+            [false, false, false],
+        );
+        is_chip(
+            &rt,
+            &large_chip(),
+            (33_554_432, 1, Switch::Plain),
+            [true, true, false],
+        );
+        is_chip(
+            &rt,
+            &w25q256jv_chip(),
+            (33_554_432, 1, Switch::Plain),
+            [true, true, true],
+        );
+        is_chip(
+            &rt,
+            &latched_chip(),
+            (33_554_432, 1, Switch::Latched),
+            [true, true, false],
+        );
+        is_chip(
+            &rt,
+            &legacy_chip(),
+            (33_554_432, 1, Switch::Plain),
+            [false, false, false],
+        );
+        is_chip(
+            &rt,
+            &legacy_latched_chip(),
+            (33_554_432, 1, Switch::Latched),
+            [false, false, false],
+        );
+    }
+}

@@ -1,0 +1,2 @@
+mod PartLemmas
+mod PlaceLemmas

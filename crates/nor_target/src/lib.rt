@@ -1,0 +1,73 @@
+//! The bytes that a chip must hold in the end: where the image of an Intel HEX text gives a chosen address a byte, that
+//! byte; elsewhere the byte that was there.
+//!
+//! Chip address a takes the image's byte at `base + a`, and nothing is taken from 2^32 on: such a sum doesn't begin
+//! again at 0. These rules are this project's; no public standard speaks of them.
+#![tactic(auto)]
+
+ghost use Rattle.std.specs.Prelude.{◌≡◌, ◌↔◌, ℕ, true, ◌+◌, ◌^◌, ◌≤◌, List, length, map, slice_range, count_by};
+ghost use Rattle.std.specs.List.{enumerate_from};
+ghost use Rattle.std.specs.List.Sorted.{IsStrictlyIncreasing};
+ghost use Rattle.nor_base.specs.Target.{target, target_byte, is_ignored};
+ghost use Rattle.nor_hex.specs.Image.{byte_at, addresses};
+ghost use Rattle.nor_layout.specs.Chosen.{has};
+ghost use Rattle.nor_target.specs.Ignored.{HasNoPlace};
+
+#[cfg(test)]
+mod tests;
+
+pub use nor_hex::Image;
+pub use nor_layout::Chosen;
+
+/// Fills `want` with the target of the chip's addresses from `at` on, where `have` is what the chip holds there.
+///
+/// `want[i]` becomes the image's byte at `base + at + i`, where `at + i` is chosen, that sum is below 2^32 and the image
+/// gives it a byte; else it becomes `have[i]`. Both slices have one length, and `at` plus it is at most 2^32. It takes
+/// no memory.
+pub fn fill(image: &Image, base: u32, chosen: &Chosen, at: u32, have: &[u8], want: &mut [u8])
+    requires lengths { length have.now ≡ length want.old }
+    requires inside { at + length have.now ≤ 2 ^ 32 }
+    ensures bytes { want.new ≡ map (λ p. target_byte (byte_at image.now) base (has chosen.now) p.0 p.1) (enumerate_from at have.now) }
+    ensures part { (content : List ℕ) → slice_range content at (at + length have.now) ≡ have.now
+        → want.new ≡ slice_range (target (byte_at image.now) base (has chosen.now) content) at (at + length have.now) }
+{
+    for (i, old) in have.iter().enumerate() {
+        want[i] = target_byte(image, base, chosen, at + i as u32, *old);
+    }
+}
+
+/// How many addresses of the image are `base + a` for no chosen address a below `size` (bytes of the chip). It takes no
+/// memory.
+pub fn ignored(image: &Image, base: u32, chosen: &Chosen, size: u32) -> u64
+    ensures count { result ≡ count_by (λ pair. is_ignored base (has chosen.now) size pair.0) image.now }
+    ensures each_once { IsStrictlyIncreasing (addresses image.now) }
+    ensures which { (at : ℕ) → (is_ignored base (has chosen.now) size at ≡ true) ↔ HasNoPlace base (has chosen.now) size at }
+{
+    image
+        .iter()
+        .filter(|pair| is_ignored(base, chosen, size, pair.0))
+        .count() as u64
+}
+
+/// The byte that a chip address which holds `old` must hold in the end.
+fn target_byte(image: &Image, base: u32, chosen: &Chosen, address: u32, old: u8) -> u8
+    ensures { result ≡ target_byte (byte_at image.now) base (has chosen.now) address old }
+{
+    if !chosen.has(address) {
+        return old;
+    }
+    match base.checked_add(address) {
+        Some(place) => image.at(place).unwrap_or(old),
+        None => old,
+    }
+}
+
+/// Whether an address of the image is that of no chosen address of a chip of this size.
+fn is_ignored(base: u32, chosen: &Chosen, size: u32, place: u32) -> bool
+    ensures { result ≡ is_ignored base (has chosen.now) size place }
+{
+    match place.checked_sub(base) {
+        Some(address) => address >= size || !chosen.has(address),
+        None => true,
+    }
+}

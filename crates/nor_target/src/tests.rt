@@ -1,0 +1,148 @@
+//! Cases worked out by hand.
+
+use crate::{Chosen, Image, fill, ignored};
+use nor_base::Bytes;
+use std::alloc::Global;
+use std::test::Fail;
+
+/// One image over one part of a chip.
+#[derive(Clone, Copy)]
+struct Case<'a> {
+    hex: &'a [u8],
+    /// The layout whose region `part` is chosen; the whole chip where it is empty.
+    layout: &'a [u8],
+    base: u32,
+    size: u32,
+    at: u32,
+    have: &'a [u8],
+    want: &'a [u8],
+    ignored: u64,
+}
+
+fn image_of(alloc: Global, hex: &[u8]) -> Result<Image, Fail> {
+    Ok(nor_hex::read(alloc, hex)?)
+}
+
+fn chosen_of(alloc: Global, layout: &[u8]) -> Result<Chosen, Fail> {
+    if layout.is_empty() {
+        return Ok(Chosen::whole());
+    }
+    let mut names = Vec::new(alloc);
+    names.push(Bytes::new(Vec::from_slice(alloc, b"part".as_slice())?))?;
+    Ok(nor_layout::read(alloc, layout)?.choose(alloc, names.as_slice())?)
+}
+
+#[test]
+fn fills_and_counts(rt: HostRuntime) -> Result<(), Fail> {
+    const BYTES_AT_2: &[u8] = b":040002001122334450\n:00000001FF\n";
+    const BYTES_AT_1FFE: &[u8] = b":041FFE001122334435\n:00000001FF\n";
+    let cases = [
+        // An empty image.
+        Case {
+            hex: b":00000001FF\n",
+            layout: b"",
+            base: 0,
+            size: 8192,
+            at: 0,
+            have: &[0xA0, 0xA1],
+            want: &[0xA0, 0xA1],
+            ignored: 0,
+        },
+        // Base 0, the whole chip.
+        Case {
+            hex: BYTES_AT_2,
+            layout: b"",
+            base: 0,
+            size: 8192,
+            at: 0,
+            have: &[0xA0, 0xA1, 0xA2, 0xA3, 0xA4, 0xA5, 0xA6, 0xA7],
+            want: &[0xA0, 0xA1, 0x11, 0x22, 0x33, 0x44, 0xA6, 0xA7],
+            ignored: 0,
+        },
+        // Base 1000h, with a byte below it.
+        Case {
+            hex: b":0310020011223385\n:010FFF0044AD\n:00000001FF\n",
+            layout: b"",
+            base: 0x1000,
+            size: 8192,
+            at: 0,
+            have: &[0xA0, 0xA1, 0xA2, 0xA3, 0xA4, 0xA5],
+            want: &[0xA0, 0xA1, 0x11, 0x22, 0x33, 0xA5],
+            ignored: 1,
+        },
+        // Base FFFFF000h: the byte at FFFFFFFFh is the chip's at FFFh, and that at 0 is no chip address's.
+        Case {
+            hex: b":02000004FFFFFC\n:01FFFF0055AC\n:020000040000FA\n:010000006699\n:00000001FF\n",
+            layout: b"",
+            base: 0xFFFF_F000,
+            size: 8192,
+            at: 0xFFE,
+            have: &[0xA0, 0xA1, 0xA2, 0xA3],
+            want: &[0xA0, 0x55, 0xA2, 0xA3],
+            ignored: 1,
+        },
+        // A region that ends inside the image.
+        Case {
+            hex: BYTES_AT_2,
+            layout: b"0:3 part\n4:fff rest\n",
+            base: 0,
+            size: 8192,
+            at: 0,
+            have: &[0xA0, 0xA1, 0xA2, 0xA3, 0xA4, 0xA5],
+            want: &[0xA0, 0xA1, 0x11, 0x22, 0xA4, 0xA5],
+            ignored: 2,
+        },
+        // Nothing of the image is chosen.
+        Case {
+            hex: BYTES_AT_2,
+            layout: b"100:1ff part\n",
+            base: 0,
+            size: 8192,
+            at: 0,
+            have: &[0xA0, 0xA1, 0xA2, 0xA3, 0xA4, 0xA5],
+            want: &[0xA0, 0xA1, 0xA2, 0xA3, 0xA4, 0xA5],
+            ignored: 4,
+        },
+        // A part that ends where the chip ends, inside the image.
+        Case {
+            hex: BYTES_AT_1FFE,
+            layout: b"",
+            base: 0,
+            size: 8192,
+            at: 0x1FFC,
+            have: &[0xA0, 0xA1, 0xA2, 0xA3],
+            want: &[0xA0, 0xA1, 0x11, 0x22],
+            ignored: 2,
+        },
+        // A part that ends at 2^32, far past the chip's end.
+        Case {
+            hex: b":02000004FFFFFC\n:02FFFE001122CE\n:00000001FF\n",
+            layout: b"",
+            base: 0,
+            size: 8192,
+            at: 0xFFFF_FFFD,
+            have: &[0xA0, 0xA1, 0xA2],
+            want: &[0xA0, 0x11, 0x22],
+            ignored: 2,
+        },
+    ];
+    for case in &cases {
+        let image = image_of(rt.alloc(), case.hex)?;
+        let chosen = chosen_of(rt.alloc(), case.layout)?;
+        let mut filled = [0xEE; 8];
+        let want = &mut filled[..case.have.len()];
+        fill(&image, case.base, &chosen, case.at, case.have, want);
+        assert!(rt;
+            &filled[..case.have.len()] == case.want,
+            "bytes from {:x} on",
+            case.at
+        );
+        assert_eq!(rt;
+            ignored(&image, case.base, &chosen, case.size),
+            case.ignored,
+            "at base {:x}",
+            case.base
+        );
+    }
+    Ok(())
+}
