@@ -110,7 +110,7 @@ not_in_block start end x outside = elim outside [
   | inr high ↦ ap (λ b. nat_le start x && b) (not_lt x end high) ∙ and_none (nat_le start x)
 ]
 
-erased_keeps : (start size : ℕ) (array : List ℕ) (x : ℕ) → IsOutside start (start + size) x → slice_index (erased start size array) x ≡ slice_index array x
+pub erased_keeps : (start size : ℕ) (array : List ℕ) (x : ℕ) → IsOutside start (start + size) x → slice_index (erased start size array) x ≡ slice_index array x
 unfolding erased
 erased_keeps start size array x outside = each_keeps _ array x (λ old. rw (not_in_block start (start + size) x outside) refl)
 
@@ -204,7 +204,7 @@ program_judged_by_page s c array i some_page program same =
 in_block : (start end x : ℕ) → start ≤ x → x < end → nat_le start x && nat_lt x end ≡ true
 in_block start end x from upto = rw (le-leb start x from) (le-leb (suc x) end upto)
 
-erased_fills : (start size : ℕ) (array : List ℕ) (x : ℕ) → x < length array → start ≤ x → x < start + size → slice_index (erased start size array) x ≡ 255
+pub erased_fills : (start size : ℕ) (array : List ℕ) (x : ℕ) → x < length array → start ≤ x → x < start + size → slice_index (erased start size array) x ≡ 255
 unfolding erased
 erased_fills start size array x inside from upto = slice_index-each _ array x inside ∙ rw (in_block start (start + size) x from upto) refl
 

@@ -197,6 +197,10 @@ decoded : (m : Parameters) (mode4 : Bool) (clocks : List ℕ) (i : Instruction) 
 unfolding decode transaction
 decoded m mode4 clocks i h = seen_by_row clocks (has_opcode clocks) (row_of m mode4 (opcode clocks)) i refl h
 
+pub asks_sampled : (m : Parameters) (mode4 : Bool) (clocks : List ℕ) (i : Instruction) → decode m mode4 clocks ≡ Some i → is_broken i.what ≡ false
+    → i.asked ≡ sampled_count clocks
+asks_sampled m mode4 clocks i h known = sym ((decoded m mode4 clocks i h).asks known)
+
 or_right_false : (a b : Bool) → a || b ≡ false → b ≡ false
 or_right_false true b h = cc
 or_right_false false b h = h

@@ -14,10 +14,10 @@ use Rattle.nor_base.specs.Device.{Ahead, Gives, first_of}
 use Rattle.nor_base.specs.Parameters.{Parameters, erase_kind, allows, block_size}
 use Rattle.nor_base.specs.Instructions.{Row, IsRow, row_of}
 use Rattle.nor_base.specs.Accepted.{IsAccepted}
-use Rattle.nor_base.specs.Decoding.{Instruction}
+use Rattle.nor_base.specs.Decoding.{Instruction, decode}
 use Rattle.nor_base.specs.Blocks.{Block, IsLegalBlock}
 use Rattle.nor_base.specs.Chip.{Setting, Chip, IsWhole}
-use Rattle.nor_base.specs.Effect.{effect, effect_of, is_program, place}
+use Rattle.nor_base.specs.Effect.{effect, effect_of, is_broken, is_program, place}
 use Rattle.nor_base.specs.Run.{polled, polled_trail, run, trail}
 use Rattle.nor_base.specs.Target.{target}
 
@@ -95,6 +95,11 @@ KeepsSize = (s : Setting) (c d : Chip) (clocks bytes : List ℕ) → effect s c 
 abbrev pub GivesSampled : Type 0
 GivesSampled = (s : Setting) (c d : Chip) (clocks bytes : List ℕ) → IsWhole s c → effect s c clocks ≡ Ok (d, bytes)
     → length bytes ≡ sampled_count clocks
+
+-- an instruction asks for as many bytes as its clocks sample
+abbrev pub AsksSampled : Type 0
+AsksSampled = (m : Parameters) (mode4 : Bool) (clocks : List ℕ) (i : Instruction) → decode m mode4 clocks ≡ Some i → is_broken i.what ≡ false
+    → i.asked ≡ sampled_count clocks
 
 -- a poll ends idle and changes nothing else
 abbrev pub PollEnds : Type 0

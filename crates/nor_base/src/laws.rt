@@ -1,6 +1,6 @@
 //! Laws of the definitions. Each function does nothing: its contract is the law, and the gate proves it.
 
-ghost use Rattle.nor_base.specs.Laws.{SymbolsFound, SamplesApart, OneText, OneList, TextsApart, NoProperPrefix, OneRow, FindsRow, RowFound, LegalInRegion, LegalOnChip, RegionLegal, BlocksNest, KeepsSize, GivesSampled, PollEnds, PollCount, PollNeedsAll, RunEndsTrail, ProgramPutsByte, RaisedForByte, ProgramKeepsOthers, ProgramJudgedByPage, EraseFills, EraseKeepsOthers, EraseNeverJudged, TargetKeeps, TargetGives, FirstInParts, GivesInParts};
+ghost use Rattle.nor_base.specs.Laws.{SymbolsFound, SamplesApart, OneText, OneList, TextsApart, NoProperPrefix, OneRow, FindsRow, RowFound, LegalInRegion, LegalOnChip, RegionLegal, BlocksNest, KeepsSize, AsksSampled, GivesSampled, PollEnds, PollCount, PollNeedsAll, RunEndsTrail, ProgramPutsByte, RaisedForByte, ProgramKeepsOthers, ProgramJudgedByPage, EraseFills, EraseKeepsOthers, EraseNeverJudged, TargetKeeps, TargetGives, FirstInParts, GivesInParts};
 
 /// A clock is found by its symbol, and no two clocks have the same lanes: a list of samples means its instruction.
 pub fn symbols()
@@ -36,6 +36,7 @@ pub fn legal_blocks()
 /// sample.
 pub fn effects()
     ensures keeps { KeepsSize }
+    ensures asks { AsksSampled }
     ensures gives { GivesSampled }
 {}
 

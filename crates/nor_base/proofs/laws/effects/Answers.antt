@@ -1,6 +1,6 @@
 -- What a transaction keeps and gives.
 use Rattle.nor_base.proofs.EffectLaws.{keeps_size}
-use Rattle.nor_base.proofs.SampledLaws.{gives_sampled}
+use Rattle.nor_base.proofs.SampledLaws.{asks_sampled, gives_sampled}
 use Rattle.nor_base.proofs.laws.effects.Goals as goal
 
 pub returns-clause-keeps : goal.returns-clause-keeps
@@ -8,3 +8,6 @@ returns-clause-keeps c = keeps_size
 
 pub returns-clause-gives : goal.returns-clause-gives
 returns-clause-gives c = gives_sampled
+
+pub returns-clause-asks : goal.returns-clause-asks
+returns-clause-asks c = asks_sampled

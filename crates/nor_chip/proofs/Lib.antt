@@ -1,0 +1,5 @@
+mod PlaceLemmas
+mod KernelLemmas
+mod RangeLemmas
+mod TakeLemmas
+mod EraseLemmas

@@ -1,0 +1,99 @@
+-- What lies on the chip.
+use Rattle.std.proofs.Common.{◌≡◌, ℕ, zero, suc, ◌+◌, ◌-◌, ◌*◌, ◌/◌, ◌%◌, ◌^◌, ◌<◌, ◌≤◌, ◌==◌, nat_le, nat_lt, Bool, true, false, not, ◌&&◌, ◌||◌, List, length, get_or, Option, Some, None, option_map, refl, sym, ◌∙◌, ap, subst, arith, inl, inr}
+use Rattle.std.specs.List.{slice_index}
+use Rattle.std.specs.Option.{option_map_or}
+use Rattle.std.proofs.lemmas.Bool.{cases_lt, le-leb, le-ltb, ltb-false}
+use Rattle.std.proofs.Math.Nat.{mul-le-mul_left}
+use Rattle.std.proofs.lemmas.Nat.{pow-add, pow_pos}
+use Rattle.std.proofs.lemmas.Grind.{same_number_lists}
+use Rattle.nor_base.specs.declared.meaning.Erase.{Erase}
+use Rattle.nor_base.specs.declared.instruction.What.{What}
+use Rattle.nor_base.specs.declared.instruction.What.TheVariants as what
+use Rattle.nor_base.specs.Parameters.{Parameters, erase_kind, block_size}
+use Rattle.nor_base.specs.Accepted.{IsAccepted}
+use Rattle.nor_base.specs.Blocks.{Block, IsLegalBlock, is_legal, lies_in_one}
+use Rattle.nor_base.specs.Decoding.{Instruction}
+use Rattle.nor_base.specs.Effect.{has_address, is_program, is_read, starts_no_block, is_out_of_range}
+use Rattle.nor_base.specs.Laws.{page_start}
+use Rattle.nor_base.proofs.RegionLaws.{legal_on_chip}
+
+-- a page that holds an address of the chip lies on the chip
+pub page_inside : (m : Parameters) (address : ℕ) → IsAccepted m → address < m.size → page_start m.page address + m.page ≤ m.size
+page_inside m address accepted inside =
+    let e = accepted.page in
+    let whole : e.exponent + (12 - e.exponent) ≡ 12 = omega (arith, e.at_most) in
+    let twelve : 4096 ≡ m.page * 2 ^ (12 - e.exponent) =
+    ap (λ n. 2 ^ n) (sym whole) ∙ pow-add 2 e.exponent (12 - e.exponent) ∙ ap (λ n. n * 2 ^ (12 - e.exponent)) (sym e.value) in
+    let pages : m.size ≡ m.page * (2 ^ (12 - e.exponent) * (m.size / 4096)) =
+    (let parts : m.size ≡ 4096 * (m.size / 4096) = omega (arith, accepted.size_whole) in parts) ∙ ap (λ n. n * (m.size / 4096)) twelve ∙ omega arith in
+    let some : 0 < m.page = subst (λ n. 0 < n) (sym e.value) (pow_pos e.exponent) in
+    elim (cases_lt (address / m.page) (2 ^ (12 - e.exponent) * (m.size / 4096))) [
+      | inl low ↦
+          let up : m.page * (address / m.page + 1) ≤ m.page * (2 ^ (12 - e.exponent) * (m.size / 4096)) = mul-le-mul_left m.page (omega arith) in
+          omega (arith, up, pages, some)
+      | inr high ↦
+          let up : m.page * (2 ^ (12 - e.exponent) * (m.size / 4096)) ≤ m.page * (address / m.page) = mul-le-mul_left m.page high in
+          absurd (omega (arith, up, pages, some, inside))
+    ]
+
+or_left_false : (a b : Bool) → a || b ≡ false → a ≡ false
+or_left_false true b h = h
+or_left_false false b h = refl
+
+or_right_false : (a b : Bool) → a || b ≡ false → b ≡ false
+or_right_false true b h = cc
+or_right_false false b h = h
+
+not_le : (a b : ℕ) → nat_le a b ≡ false → b < a
+not_le a b h = elim (cases_lt b a) [ inl low ↦ low | inr high ↦ (let told : nat_le a b ≡ true = le-leb a b high in let both : true ≡ false = sym told ∙ h in cc) ]
+
+named_in_range : (m : Parameters) (w : What) (address asked : ℕ) → has_address w ≡ true
+    → (has_address w && nat_le m.size address) || ((is_read w && nat_lt m.size (address + asked)) || starts_no_block m w address) ≡ false → address < m.size
+named_in_range m w address asked named h =
+    not_le m.size address (ap (λ b. b && nat_le m.size address) (sym named) ∙ or_left_false _ _ h)
+
+program_has_address : (w : What) → is_program w ≡ true → has_address w ≡ true
+program_has_address what.Program h = refl
+program_has_address what.QuadProgram h = refl
+program_has_address other h = cc
+
+pub program_in_range : (m : Parameters) (i : Instruction) → is_program i.what ≡ true → is_out_of_range m i ≡ false → i.address < m.size
+unfolding is_out_of_range
+program_in_range m i program h = named_in_range m i.what i.address i.asked (program_has_address i.what program) h
+
+pub read_in_range : (m : Parameters) (i : Instruction) → is_read i.what ≡ true → is_out_of_range m i ≡ false → i.address + i.asked ≤ m.size
+unfolding is_out_of_range
+read_in_range m i read h =
+    ltb-false m.size (i.address + i.asked)
+    (ap (λ b. b && nat_lt m.size (i.address + i.asked)) (sym read) ∙ or_left_false _ _ (or_right_false (has_address i.what && nat_le m.size i.address) _ h))
+
+not_false : (b : Bool) → not b ≡ false → b ≡ true
+not_false true h = refl
+not_false false h = cc
+
+erase_told : (m : Parameters) (w : What) (kind address : ℕ) → w ≡ what.Erase kind → starts_no_block m w address ≡ false → is_legal m kind address ≡ true
+erase_told m w kind address is h = not_false (is_legal m kind address) (ap (λ v. starts_no_block m v address) (sym is) ∙ h)
+
+pub erase_in_range : (m : Parameters) (i : Instruction) (kind : ℕ) → i.what ≡ what.Erase kind → is_out_of_range m i ≡ false → is_legal m kind i.address ≡ true
+unfolding is_out_of_range
+erase_in_range m i kind is h =
+    erase_told m i.what kind i.address is (or_right_false (is_read i.what && nat_lt m.size (i.address + i.asked)) _ (or_right_false (has_address i.what && nat_le m.size i.address) _ h))
+
+legal_slot : (m : Parameters) (kind start : ℕ) (slot : Option Erase) → erase_kind m kind ≡ slot → IsAccepted m
+    → option_map_or (λ (erase : Erase). (start % erase.size == 0) && lies_in_one 0 m.regions kind start erase.size) slot false ≡ true
+    → (option_map (λ (erase : Erase). erase.size) slot ≡ Some (option_map_or (λ (erase : Erase). erase.size) slot 0)) × (0 < option_map_or (λ (erase : Erase). erase.size) slot 0)
+legal_slot m kind start None is accepted h = cc
+legal_slot m kind start (Some erase) is accepted h =
+    let power = (accepted.kinds kind erase is).size in
+    (refl, subst (λ n. 0 < n) (sym power.value) (pow_pos power.exponent))
+
+-- a legal block of a kind has the kind's size, some of it, and lies on the chip
+pub legal_size : (m : Parameters) (kind start : ℕ) → IsAccepted m → is_legal m kind start ≡ true → 0 < block_size m kind
+unfolding is_legal
+legal_size m kind start accepted h = (legal_slot m kind start (erase_kind m kind) refl accepted h).1
+
+pub legal_inside : (m : Parameters) (kind start : ℕ) → IsAccepted m → is_legal m kind start ≡ true → start + block_size m kind ≤ m.size
+unfolding is_legal
+legal_inside m kind start accepted h =
+    legal_on_chip m (record { start = start; size = block_size m kind; kind = kind }) accepted
+    (record { size = (legal_slot m kind start (erase_kind m kind) refl accepted h).0; legal = h })

@@ -1,0 +1,36 @@
+//! What a device that shows a chip promises.
+
+ghost use Rattle.std.specs.Prelude.{◌≡◌, ◌<◌, ◌^◌, ◌-◌, ℕ, length};
+ghost use Rattle.nor_base.specs.Sample.{sampled_count};
+ghost use Rattle.nor_base.specs.Chip.{is_settled};
+ghost use Rattle.nor_base.specs.Port.{Shown, Transacts, CountsTransact};
+
+use nor_base::PortFault;
+
+/// A device that shows a chip: a chip in memory, or an adapter with a chip behind it.
+pub trait Port {
+    /// The chip that it shows, and what is fixed with it.
+    ghost shown: { Self → Shown };
+
+    /// How often it has failed.
+    ghost count: { Self → ℕ };
+
+    /// Does one transaction: select, the clocks, deselect.
+    ///
+    /// `clocks` are symbols of clocks, one byte each, and `out` has as many bytes as they sample. On Ok the chip and `out`
+    /// are what the instruction's effect says. On Wrong the instruction was refused for that reason, and the chip is as
+    /// before. On Failed the device failed, the count rose by one, and nothing is promised of the chip.
+    fn transact(&mut self, clocks: &[u8], out: &mut [u8]) -> Result<(), PortFault>
+        requires out { length out.old ≡ sampled_count clocks.now }
+        requires room { count self.old < 2 ^ 64 - 1 }
+        ensures effect { Transacts (shown self.old) (shown self.new) result clocks.now out.new }
+        ensures count { CountsTransact (count self.old) (count self.new) result };
+
+    /// Whether the chip is idle, with the latch clear, in its first address mode.
+    fn settled(&self) -> bool
+        ensures { result ≡ is_settled (shown self.now).setting (shown self.now).chip };
+
+    /// How often it has failed since its count began.
+    fn failures(&self) -> u64
+        ensures { result ≡ count self.now };
+}
