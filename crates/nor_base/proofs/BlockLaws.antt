@@ -1,5 +1,5 @@
 -- Aligned blocks whose sizes are powers of two nest.
-use Rattle.std.proofs.Common.{◌≡◌, ◌⊎◌, ℕ, ◌+◌, ◌-◌, ◌*◌, ◌/◌, ◌%◌, ◌^◌, ◌<◌, ◌≤◌, ◌==◌, Bool, true, false, ◌&&◌, Option, Some, None, option_map, refl, sym, ◌∙◌, ap, subst, arith, inl, inr, eqb-true}
+use Rattle.std.proofs.Common.{◌≡◌, ◌⊎◌, ℕ, ◌+◌, ◌-◌, ◌*◌, ◌/◌, ◌%◌, ◌^◌, ◌<◌, ◌≤◌, ◌==◌, true, false, ◌&&◌, Option, Some, None, option_map, refl, sym, ◌∙◌, ap, subst, arith, inl, inr, eqb-true}
 use Rattle.std.specs.Option.{option_map_or}
 use Rattle.std.proofs.lemmas.Bool.{cases_lt}
 use Rattle.std.proofs.Math.Nat.{mul-le-mul_left}
@@ -9,6 +9,7 @@ use Rattle.nor_base.specs.Parameters.{Parameters, erase_kind}
 use Rattle.nor_base.specs.Accepted.{IsAccepted}
 use Rattle.nor_base.specs.Blocks.{Block, IsLegalBlock, is_legal, lies_in_one}
 use Rattle.nor_base.specs.Laws.{AreDisjoint, LiesIn}
+use Rattle.nor_base.proofs.Decide.{and_left}
 
 -- a block of n * p up to n * (p + 1), and one k times as large
 nested : (n k p q : ℕ) → (n * p + n ≤ n * (k * q)) ⊎ ((n * (k * q) + n * k ≤ n * p) ⊎ ((n * (k * q) ≤ n * p) × (n * p + n ≤ n * (k * q) + n * k)))
@@ -46,10 +47,6 @@ legal_erase m b (Some erase) accepted is size legal =
       place = b.start / b.size;
       start = omega (arith, aligned', some);
     }
-  where
-    and_left : (a b : Bool) → a && b ≡ true → a ≡ true
-    and_left true b h = refl
-    and_left false b h = cc
 
 legal_is_aligned : (m : Parameters) (b : Block) → IsAccepted m → IsLegalBlock m b → IsAligned b
 unfolding is_legal

@@ -5,14 +5,7 @@ use Rattle.std.proofs.lemmas.Bool.{cases_lt}
 use Rattle.std.proofs.lemmas.List.{length-map, get_or-map, get_or_past}
 use Rattle.std.proofs.lemmas.List.FromFn.{length-enumerate_from, get_or-enumerate_from}
 use Rattle.nor_base.specs.Array.{each, some}
-
-or_left_false : (a b : Bool) → a || b ≡ false → a ≡ false
-or_left_false true b h = h
-or_left_false false b h = refl
-
-or_right_false : (a b : Bool) → a || b ≡ false → b ≡ false
-or_right_false true b h = cc
-or_right_false false b h = h
+use Rattle.nor_base.proofs.Decide.{or_left_false, or_right_false}
 
 pub length-each : (f : ℕ → ℕ → ℕ) (array : List ℕ) → length (each f array) ≡ length array
 length-each f array = length-map (enumerate_from 0 array) (λ p. f p.0 p.1) ∙ length-enumerate_from 0 array

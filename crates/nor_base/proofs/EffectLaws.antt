@@ -1,10 +1,9 @@
 -- What an effect changes, and what it is judged by.
-use Rattle.std.proofs.Common.{◌≡◌, ◌≢◌, ℕ, zero, suc, ◌+◌, ◌%◌, ◌<◌, ◌≤◌, ◌==◌, nat_le, nat_lt, Bool, true, false, not, ◌&&◌, if◌then◌else◌, List, length, Option, Some, None, Result, Ok, Err, refl, sym, ◌∙◌, ap, subst, arith, inl, inr}
+use Rattle.std.proofs.Common.{◌≡◌, ◌≢◌, ℕ, zero, suc, ◌+◌, ◌%◌, ◌<◌, ◌≤◌, nat_le, nat_lt, Bool, true, false, not, ◌&&◌, if◌then◌else◌, List, length, Option, Some, None, Result, Ok, Err, refl, sym, ◌∙◌, ap, subst, arith, inl, inr}
 use Rattle.std.specs.List.{slice_index}
 use Rattle.std.specs.Option.{option_map_or}
 use Rattle.std.proofs.Math.Nat.{mod-lt}
-use Rattle.std.proofs.lemmas.Bool.{cases_lt, le-ltb, le-leb}
-use Rattle.std.proofs.lemmas.Bool.Decides.{eqb_tells, leb_tells}
+use Rattle.std.proofs.lemmas.Bool.{cases_lt, le-ltb, le-leb, ne_eqb, lt-leb}
 use Rattle.nor_base.specs.declared.instruction.What.{What}
 use Rattle.nor_base.specs.declared.instruction.What.TheVariants as what
 use Rattle.nor_base.specs.declared.wrong.Wrong.{Wrong}
@@ -14,6 +13,7 @@ use Rattle.nor_base.specs.Decoding.{Instruction, decode}
 use Rattle.nor_base.specs.Chip.{Setting, Chip, is_busy}
 use Rattle.nor_base.specs.Effect.{is_broken, is_status, is_quad, is_program, needs_latch, is_out_of_range, place, last_byte_for, written, raises_bit, raises, programmed, erased, after, answer, effect_of, effect_if, effect}
 use Rattle.nor_base.specs.Laws.{wrong_of, page_start, SameWithin, IsOutside}
+use Rattle.nor_base.proofs.Decide.{and_none}
 use Rattle.nor_base.proofs.EachLaws.{length-each, slice_index-each, each_keeps, some_same}
 
 -- an instruction that the chip takes
@@ -75,19 +75,6 @@ pub keeps_size : (s : Setting) (c d : Chip) (clocks bytes : List ℕ) → effect
 unfolding effect
 keeps_size s c d clocks bytes h = decoded_keeps_size s c d (decode s.meaning c.mode4 clocks) bytes h
 
-and_none : (a : Bool) → a && false ≡ false
-and_none true = refl
-and_none false = refl
-
-not_le : (a b : ℕ) → b < a → nat_le a b ≡ false
-not_le a b h = elim (leb_tells a b) [ inl told ↦ absurd (omega (arith, told.1)) | inr told ↦ told.0 ]
-
-not_lt : (a b : ℕ) → b ≤ a → nat_lt a b ≡ false
-not_lt a b h = le-ltb a b h
-
-unequal : (a b : ℕ) → a ≢ b → (a == b) ≡ false
-unequal a b apart = elim (eqb_tells a b) [ inl same ↦ absurd (apart same.1) | inr told ↦ told.0 ]
-
 -- no byte of a program goes outside its page
 none_outside : (page address : ℕ) (bytes : List ℕ) (n x : ℕ) → 0 < page → IsOutside (page_start page address) (page_start page address + page) x
     → last_byte_for page address bytes n x ≡ None
@@ -96,7 +83,7 @@ none_outside page address bytes zero x some_page outside = refl
 none_outside page address bytes (suc j) x some_page outside =
     let in_page : (address + j) % page < page = mod-lt (address + j) some_page in
     let apart : place page address j ≢ x = λ same. elim outside [ inl low ↦ omega arith | inr high ↦ omega arith ] in
-    rw (unequal (place page address j) x apart) (none_outside page address bytes j x some_page outside)
+    rw (ne_eqb (place page address j) x apart) (none_outside page address bytes j x some_page outside)
 
 programmed_keeps : (page address : ℕ) (bytes array : List ℕ) (x : ℕ) → 0 < page → IsOutside (page_start page address) (page_start page address + page) x
     → slice_index (programmed page address bytes array) x ≡ slice_index array x
@@ -106,8 +93,8 @@ programmed_keeps page address bytes array x some_page outside =
 
 not_in_block : (start end x : ℕ) → IsOutside start end x → nat_le start x && nat_lt x end ≡ false
 not_in_block start end x outside = elim outside [
-  | inl low ↦ ap (λ b. b && nat_lt x end) (not_le start x low)
-  | inr high ↦ ap (λ b. nat_le start x && b) (not_lt x end high) ∙ and_none (nat_le start x)
+  | inl low ↦ ap (λ b. b && nat_lt x end) (lt-leb start x low)
+  | inr high ↦ ap (λ b. nat_le start x && b) (le-ltb x end high) ∙ and_none (nat_le start x)
 ]
 
 pub erased_keeps : (start size : ℕ) (array : List ℕ) (x : ℕ) → IsOutside start (start + size) x → slice_index (erased start size array) x ≡ slice_index array x

@@ -1,3 +1,4 @@
+pub mod Decide
 mod UniformAccepted
 mod LimitLaws
 pub mod DeviceLaws
@@ -12,5 +13,7 @@ pub mod RegionLaws
 pub mod EachLaws
 pub mod EffectLaws
 mod ProgramLaws
+mod WorkLaws
+mod MakingLaws
 mod RunLaws
 mod TargetLaws

@@ -1,5 +1,5 @@
 -- The chip at the upper limits is accepted.
-use Rattle.std.proofs.Common.{◌≡◌, ℕ, zero, suc, Some, None, refl, subst, arith}
+use Rattle.std.proofs.Common.{◌≡◌, ℕ, zero, suc, Some, refl, subst, arith}
 use Rattle.std.specs.Prelude.{replicate}
 use Rattle.std.specs.List.{AllByRecursion}
 use Rattle.nor_base.specs.declared.meaning.Erase.{Erase}

@@ -1,5 +1,6 @@
 -- A poll counts down the status reads that are left.
 use Rattle.std.proofs.Common.{◌≡◌, ℕ, zero, suc, ◌+◌, ◌≤◌, Bool, true, false, if◌then◌else◌, List, [], ◌∷◌, length, Some, Result, Ok, Err, refl, arith}
+use Rattle.std.specs.List.{AllByRecursion}
 use Rattle.nor_base.specs.declared.wrong.Wrong.{Wrong}
 use Rattle.nor_base.specs.declared.wrong.Wrong.TheVariants as wrong
 use Rattle.nor_base.specs.declared.instruction.What.TheVariants as what
@@ -61,3 +62,15 @@ unfolding polled
 poll_needs_all s c zero n fits = refl
 poll_needs_all s c (suc turns) zero fits = absurd (omega arith)
 poll_needs_all s c (suc turns) (suc n) fits = rw (read_busy s c n) (poll_needs_all s c turns n (omega arith))
+
+one_after_idle : (P : List ℕ → Type 0) (d : Chip) (latch : Bool) (more : Chip → List Chip) → P d.array
+    → AllByRecursion (λ e. P e.array) (trail_on (Ok (d, (if latch then 2 else 0) ∷ [])) (λ after. if says_busy after.1 then more after.0 else []))
+one_after_idle P d true more h = (h, tt)
+one_after_idle P d false more h = (h, tt)
+
+-- what holds of the array holds of it all along a poll
+pub poll_keeps_array : (P : List ℕ → Type 0) (s : Setting) (c : Chip) (n : ℕ) → P c.array
+    → AllByRecursion (λ e. P e.array) (polled_trail s (suc n) (left_with c n))
+unfolding polled_trail
+poll_keeps_array P s c zero h = rw (read_idle s c) (one_after_idle P (left_with c 0) c.latch (polled_trail s 0) h)
+poll_keeps_array P s c (suc n) h = rw (read_busy s c n) (h, poll_keeps_array P s c n h)

@@ -1,5 +1,6 @@
 -- What a program puts where, and when it raises a bit.
-use Rattle.std.proofs.Common.{◌≡◌, ◌≢◌, ℕ, zero, suc, ◌+◌, ◌<◌, ◌≤◌, ◌==◌, Bool, true, false, not, ◌&&◌, if◌then◌else◌, List, length, Option, Some, None, Result, Ok, Err, refl, sym, ◌∙◌, ap, subst, arith, inl, inr, eqb-true, eq-eqb}
+use Rattle.std.proofs.Common.{◌≡◌, ◌≢◌, ℕ, zero, suc, ◌+◌, ◌<◌, ◌==◌, Bool, true, false, not, ◌&&◌, if◌then◌else◌, List, length, Option, Some, None, Result, Ok, Err, refl, sym, ◌∙◌, ap, subst, arith, inl, inr, eqb-true, eq-eqb}
+use Rattle.std.proofs.lemmas.Bool.{ne_eqb}
 use Rattle.std.specs.Prelude.{bit_and}
 use Rattle.std.specs.List.{slice_index}
 use Rattle.std.specs.Option.{option_map_or}
@@ -12,11 +13,9 @@ use Rattle.nor_base.specs.Decoding.{Instruction}
 use Rattle.nor_base.specs.Chip.{Setting, Chip, is_busy}
 use Rattle.nor_base.specs.Effect.{is_broken, is_status, is_quad, is_program, needs_latch, is_out_of_range, place, last_byte_for, written, raises_bit, raises, programmed, after, effect_of}
 use Rattle.nor_base.specs.Laws.{IsLastFor, HasRaise}
-use Rattle.nor_base.proofs.EachLaws.{slice_index-each, some-false, some-true, Passes}
-use Rattle.nor_base.proofs.EffectLaws.{IsTaken, taken}
-
-unequal : (a b : ℕ) → a ≢ b → (a == b) ≡ false
-unequal a b apart = elim (eqb_tells a b) [ inl same ↦ absurd (apart same.1) | inr told ↦ told.0 ]
+use Rattle.nor_base.proofs.Decide.{and_right}
+use Rattle.nor_base.proofs.EachLaws.{slice_index-each, some-false, some-true}
+use Rattle.nor_base.proofs.EffectLaws.{taken}
 
 -- of the first n bytes of a program, byte j is the last that goes to x
 record IsLastOf (page address n x j : ℕ) : Type 0 where
@@ -34,7 +33,7 @@ last_is_written page address bytes (suc n) x j h = elim (eqb_tells j n) [
   | inr other ↦
       let apart = other.1 in
       let earlier : j < n = omega (arith, h.sent) in
-      rw (unequal (place page address n) x (h.last n earlier (omega arith)))
+      rw (ne_eqb (place page address n) x (h.last n earlier (omega arith)))
       (last_is_written page address bytes n x j (record { sent = earlier; here = h.here; last = λ k later fits. h.last k later (omega arith) }))
 ]
 
@@ -83,7 +82,7 @@ programmed_puts page address bytes array x j inside h =
     slice_index-each _ array x inside
     ∙ ap (λ o. option_map_or (bit_and (slice_index array x)) o (slice_index array x)) (last_is_written page address bytes (length bytes) x j (for_whole page address bytes x j h))
 
-not_raised : (old byte : ℕ) → raises_bit old byte ≡ false → bit_and old byte ≡ byte
+pub not_raised : (old byte : ℕ) → raises_bit old byte ≡ false → bit_and old byte ≡ byte
 not_raised old byte h = elim (eqb_tells (bit_and old byte) byte) [
   | inl same ↦ same.1
   | inr other ↦
@@ -134,10 +133,6 @@ raised_line s c i h =
     let f = past_other (needs_latch s.meaning i.what && not c.latch) wrong.Ignored wrong.Raised _ (λ e. cc) e in
     let g = past_other (is_out_of_range s.meaning i) wrong.OutOfRange wrong.Raised _ (λ e. cc) f in
     and_right (is_program i.what) _ (said_here (is_program i.what && raises s.page i.address i.sent c.array) wrong.Raised _ g)
-  where
-    and_right : (a b : Bool) → a && b ≡ true → b ≡ true
-    and_right true b h = h
-    and_right false b h = cc
 
 raise_found : (s : Setting) (c : Chip) (i : Instruction) (x : ℕ) (o : Option ℕ) → x < length c.array → written s.page i.address i.sent x ≡ o
     → option_map_or (raises_bit (slice_index c.array x)) o false ≡ true → HasRaise s c i

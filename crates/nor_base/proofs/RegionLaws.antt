@@ -1,22 +1,15 @@
 -- A block in one region, by the region's number.
-use Rattle.std.proofs.Common.{◌≡◌, ℕ, zero, suc, ◌+◌, ◌<◌, ◌≤◌, ◌%◌, ◌==◌, nat_le, Bool, true, false, ◌&&◌, ◌||◌, List, [], ◌∷◌, length, take, Option, Some, None, option_map, refl, sym, ◌∙◌, ap, subst, arith, eqb-true, eq-eqb, leb-true, le-leb}
+use Rattle.std.proofs.Common.{◌≡◌, ℕ, zero, suc, ◌+◌, ◌≤◌, ◌%◌, ◌==◌, nat_le, Bool, true, false, ◌&&◌, ◌||◌, List, [], ◌∷◌, take, Option, Some, None, option_map, refl, ◌∙◌, ap, subst, arith, eq-eqb, leb-true, le-leb}
 use Rattle.std.specs.Prelude.{slice_get, sum_by}
 use Rattle.std.specs.Option.{option_map_or}
-use Rattle.std.proofs.lemmas.List.Sums.{sum_by-cons, sum_by-take-le}
+use Rattle.std.proofs.lemmas.List.Sums.{sum_by-cons}
 use Rattle.nor_base.specs.declared.meaning.Erase.{Erase}
 use Rattle.nor_base.specs.declared.meaning.Region.{Region}
 use Rattle.nor_base.specs.Parameters.{Parameters, erase_kind, allows}
 use Rattle.nor_base.specs.Accepted.{IsAccepted}
 use Rattle.nor_base.specs.Blocks.{Block, IsLegalBlock, is_legal, lies_in_one}
-use Rattle.nor_base.specs.Laws.{LiesInRegion, region_start}
-
-and_left : (a b : Bool) → a && b ≡ true → a ≡ true
-and_left true b h = refl
-and_left false b h = cc
-
-and_right : (a b : Bool) → a && b ≡ true → b ≡ true
-and_right true b h = h
-and_right false b h = cc
+use Rattle.nor_base.specs.Laws.{LiesInRegion}
+use Rattle.nor_base.proofs.Decide.{and_left, and_right, or_true}
 
 abbrev bytes_of : Region → ℕ
 bytes_of region = region.size
@@ -66,10 +59,6 @@ lies_from : (base : ℕ) (regions : List Region) (kind start size : ℕ) → lie
 lies_from base [] kind start size h = cc
 lies_from base (region ∷ regions) kind start size h =
     lies_step base region regions kind start size _ refl (lies_from (base + region.size) regions kind start size) h
-
-or_true : (a : Bool) → a || true ≡ true
-or_true true = refl
-or_true false = refl
 
 in_one : (base : ℕ) (regions : List Region) (kind start size number : ℕ) (region : Region) → slice_get regions number ≡ Some region
     → base + sum_by (λ r. r.size) (take number regions) ≤ start → start + size ≤ (base + sum_by (λ r. r.size) (take number regions)) + region.size

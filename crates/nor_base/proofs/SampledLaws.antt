@@ -1,5 +1,5 @@
 -- A transaction gives as many bytes as its clocks sample.
-use Rattle.std.proofs.Common.{◌≡◌, ℕ, ◌+◌, ◌-◌, ◌*◌, ◌/◌, ◌≤◌, ◌==◌, nat_le, nat_lt, Bool, true, false, cond, ◌&&◌, ◌||◌, if◌then◌else◌, List, [], ◌∷◌, ◌++◌, length, take, drop, Option, Some, None, option_map, Ok, refl, sym, ◌∙◌, ap, subst, arith, eqb-true, length-drop}
+use Rattle.std.proofs.Common.{◌≡◌, ℕ, ◌+◌, ◌-◌, ◌*◌, ◌/◌, ◌≤◌, ◌==◌, nat_le, nat_lt, Bool, true, false, cond, ◌&&◌, if◌then◌else◌, List, [], ◌∷◌, ◌++◌, length, take, drop, Option, Some, None, option_map, Ok, refl, sym, ◌∙◌, ap, subst, arith, eqb-true, length-drop}
 use Rattle.std.specs.Prelude.{count_by}
 use Rattle.std.specs.List.{list_all, find, slice_range}
 use Rattle.std.specs.Option.{option_map_or}
@@ -17,15 +17,8 @@ use Rattle.nor_base.specs.Instructions.{Form, nothing, sends, sends4, samples, s
 use Rattle.nor_base.specs.Decoding.{has_lanes, is_bit_sent, is_nibble_sent, is_bit_sampled, is_nibble_sampled, is_idle, are_groups, is_data, address_clocks, dummy_clocks, data_clocks, is_form, Transaction, broken, by_row, has_opcode, opcode, number, transaction, bytes_asked, Instruction, instruction, decode}
 use Rattle.nor_base.specs.Chip.{Setting, Chip}
 use Rattle.nor_base.specs.Effect.{is_broken, is_out_of_range, answer, effect, effect_if}
+use Rattle.nor_base.proofs.Decide.{and_left, and_right, or_left_false, or_right_false}
 use Rattle.nor_base.proofs.EffectLaws.{taken}
-
-and_left : (a b : Bool) → a && b ≡ true → a ≡ true
-and_left true b h = refl
-and_left false b h = cc
-
-and_right : (a b : Bool) → a && b ≡ true → b ≡ true
-and_right true b h = h
-and_right false b h = cc
 
 found_step : (byte : ℕ) (first : Clock) (rest : List Clock) (c : Clock) (b : Bool) → (symbol first == byte) ≡ b
     → (find (λ clock. symbol clock == byte) rest ≡ Some c → (symbol c == byte) ≡ true)
@@ -200,14 +193,6 @@ decoded m mode4 clocks i h = seen_by_row clocks (has_opcode clocks) (row_of m mo
 pub asks_sampled : (m : Parameters) (mode4 : Bool) (clocks : List ℕ) (i : Instruction) → decode m mode4 clocks ≡ Some i → is_broken i.what ≡ false
     → i.asked ≡ sampled_count clocks
 asks_sampled m mode4 clocks i h known = sym ((decoded m mode4 clocks i h).asks known)
-
-or_right_false : (a b : Bool) → a || b ≡ false → b ≡ false
-or_right_false true b h = cc
-or_right_false false b h = h
-
-or_left_false : (a b : Bool) → a || b ≡ false → a ≡ false
-or_left_false true b h = h
-or_left_false false b h = refl
 
 length-read : (array : List ℕ) (size address n : ℕ) → length array ≡ size → nat_lt size (address + n) ≡ false → length (slice_range array address (address + n)) ≡ n
 length-read array size address n whole fits =

@@ -1,5 +1,5 @@
 -- A text is that of one list of steps, and none begins another.
-use Rattle.std.proofs.Common.{◌≡◌, ◌≢◌, ℕ, ◌+◌, ◌-◌, ◌/◌, ◌%◌, ◌<◌, ◌≤◌, nat_lt, Bool, true, false, ◌&&◌, if◌then◌else◌, List, [], ◌∷◌, ◌++◌, length, drop, get_or, refl, sym, ◌∙◌, ap, subst, arith, append_assoc, append-nil}
+use Rattle.std.proofs.Common.{◌≡◌, ◌≢◌, ℕ, ◌+◌, ◌-◌, ◌/◌, ◌%◌, ◌<◌, ◌≤◌, nat_lt, true, false, if◌then◌else◌, List, [], ◌∷◌, ◌++◌, length, drop, get_or, refl, sym, ◌∙◌, ap, subst, arith, append_assoc, append-nil}
 use Rattle.std.specs.Prelude.{codes, flat_map}
 use Rattle.std.specs.List.{list_all, AllByRecursion}
 use Rattle.std.proofs.lemmas.Bool.Decides.{nat_tests}
@@ -10,6 +10,7 @@ use Rattle.nor_base.specs.declared.step.Step.TheVariants.{Send, Poll, Verify}
 use Rattle.nor_base.specs.Sample.{is_symbol}
 use Rattle.nor_base.specs.Step.{are_clocks, is_filled, IsStep}
 use Rattle.nor_base.specs.Script.{closed, hex_digit, hex_pair, step_line, header, end_line, step_lines, script_text, IsScript}
+use Rattle.nor_base.proofs.Decide.{and_left, and_right}
 
 -- no element is c
 abbrev None_is : ℕ → List ℕ → Type 0
@@ -26,14 +27,6 @@ up_to c (a ∷ xs) (b ∷ ys) x y p q h =
     let later = up_to c xs ys x y p.1 q.1 tails in
     let lists : a ∷ xs ≡ b ∷ ys = ap (λ n. n ∷ xs) same ∙ ap (λ l. b ∷ l) later.0 in
     (lists, later.1)
-
-and_left : (a b : Bool) → a && b ≡ true → a ≡ true
-and_left true b h = refl
-and_left false b h = cc
-
-and_right : (a b : Bool) → a && b ≡ true → b ≡ true
-and_right true b h = h
-and_right false b h = cc
 
 -- a byte that is no symbol isn't among symbols
 none_of_symbols : (c : ℕ) (xs : List ℕ) → is_symbol c ≡ false → list_all is_symbol xs ≡ true → None_is c xs

@@ -1,5 +1,5 @@
 -- A clock is known by its symbol and by its lanes.
-use Rattle.std.proofs.Common.{◌≡◌, Bool, ◌&&◌, ◌==◌, Option, Some, refl, sym, ◌∙◌, ap}
+use Rattle.std.proofs.Common.{◌≡◌, ◌&&◌, ◌==◌, Option, Some, refl, sym, ◌∙◌, ap}
 use Rattle.std.specs.List.{find}
 use Rattle.nor_base.specs.declared.clock.Clock.{Clock}
 use Rattle.nor_base.specs.declared.clock.Clock.TheVariants.{Zero, One, Nibble0, Nibble1, Nibble2, Nibble3, Nibble4, Nibble5, Nibble6, Nibble7, Nibble8, Nibble9, Nibble10, Nibble11, Nibble12, Nibble13, Nibble14, Nibble15, SampleOne, SampleFour, Idle}

@@ -1,10 +1,11 @@
 -- The first match in the instruction table is the only one.
-use Rattle.std.proofs.Common.{◌≡◌, ◌≢◌, ℕ, zero, suc, ◌<◌, Bool, true, false, not, cond, if◌then◌else◌, ◌&&◌, ◌||◌, ◌==◌, List, [], ◌∷◌, ◌++◌, length, map, get_or, Some, refl, sym, ◌∙◌, ap, arith, subst, eqb-true, eq-eqb, inl, inr}
-use Rattle.std.proofs.lemmas.Bool.Decides.{eqb_tells}
+use Rattle.std.proofs.Common.{◌≡◌, ◌≢◌, ℕ, zero, suc, ◌<◌, Bool, true, false, not, cond, if◌then◌else◌, ◌&&◌, ◌||◌, ◌==◌, List, [], ◌∷◌, ◌++◌, length, map, get_or, Some, refl, sym, ◌∙◌, ap, arith, subst, eqb-true, eq-eqb}
+use Rattle.std.proofs.lemmas.Bool.{ne_eqb, not-true}
 use Rattle.std.specs.List.{find, list_any, Contains}
 use Rattle.nor_base.specs.Parameters.{Parameters}
 use Rattle.nor_base.specs.Instructions.{Row, IsRow, row_of, table, common_rows, own_rows, offered_opcodes}
 use Rattle.nor_base.specs.Accepted.{IsAccepted, are_distinct}
+use Rattle.nor_base.proofs.Decide.{and_left, and_right, and_none, or_left_false, or_right_false, or_true}
 
 -- the row has the opcode, and is offered
 abbrev fits : ℕ → Row → Bool
@@ -15,18 +16,6 @@ record IsFound (rows : List Row) (opcode : ℕ) (r : Row) : Type 0 where
   listed : Contains rows r
   offered : r.offered ≡ true
   by_opcode : r.opcode ≡ opcode
-
-and_left : (a b : Bool) → a && b ≡ true → a ≡ true
-and_left true b h = refl
-and_left false b h = cc
-
-and_right : (a b : Bool) → a && b ≡ true → b ≡ true
-and_right true b h = h
-and_right false b h = cc
-
-and_none : (a : Bool) → a && false ≡ false
-and_none true = refl
-and_none false = refl
 
 fits_here : (opcode : ℕ) (r : Row) → fits opcode r ≡ true → (r.offered ≡ true) × (r.opcode ≡ opcode)
 fits_here opcode r h =
@@ -64,14 +53,10 @@ row_is_there m mode4 opcode r h = let found = is_found (table m mode4) opcode r 
   by_opcode = found.by_opcode;
 }
 
-or_right : (a : Bool) → a || true ≡ true
-or_right true = refl
-or_right false = refl
-
 -- what holds of some opcode of the later rows holds of some opcode of all
 among_later : (test : ℕ → Bool) (opcode : ℕ) (opcodes : List ℕ) (b : Bool) → list_any test opcodes ≡ true
     → list_any test (if b then opcode ∷ opcodes else opcodes) ≡ true
-among_later test opcode opcodes true h = ap (λ rest. test opcode || rest) h ∙ or_right (test opcode)
+among_later test opcode opcodes true h = ap (λ rest. test opcode || rest) h ∙ or_true (test opcode)
 among_later test opcode opcodes false h = h
 
 -- the opcode of an offered row is among those offered
@@ -91,11 +76,8 @@ not_among x y others among apart same =
     let both : list_any (λ opcode. x == opcode) others ≡ true = subst (λ n. list_any (λ opcode. n == opcode) others ≡ true) (sym same) among in
     let absurdly : not true ≡ true = subst (λ b. not b ≡ true) both apart in cc
 
-unequal : (a b : ℕ) → a ≢ b → (a == b) ≡ false
-unequal a b apart = elim (eqb_tells a b) [ inl same ↦ absurd (apart same.1) | inr told ↦ told.0 ]
-
 is_apart : (b : Bool) (opcode : ℕ) (y : Row) → y.offered ≡ b → (b ≡ true → opcode ≢ y.opcode) → fits opcode y ≡ false
-is_apart true opcode y offered apart = ap (λ b. b && y.offered) (unequal opcode y.opcode (apart refl))
+is_apart true opcode y offered apart = ap (λ b. b && y.offered) (ne_eqb opcode y.opcode (apart refl))
 is_apart false opcode y offered apart = ap (λ b. (opcode == y.opcode) && b) offered ∙ and_none (opcode == y.opcode)
 
 skipped : (y : Row) (rows : List Row) (opcode : ℕ) (r : Row) → fits opcode y ≡ false → find (fits opcode) rows ≡ Some r → find (fits opcode) (y ∷ rows) ≡ Some r
@@ -130,14 +112,6 @@ finds (y ∷ rows) opcode r (suc k) distinct h here offered is =
 abbrev opcodes_of : List Row → List ℕ
 opcodes_of rows = map (λ r. r.opcode) rows
 
-or_false_left : (a b : Bool) → a || b ≡ false → a ≡ false
-or_false_left true b h = h
-or_false_left false b h = refl
-
-or_false_right : (a b : Bool) → a || b ≡ false → b ≡ false
-or_false_right true b h = cc
-or_false_right false b h = h
-
 none_before : (b : Bool) (test : ℕ → Bool) (opcode : ℕ) (opcodes others : List ℕ) → test opcode ≡ false → list_any test (opcodes ++ others) ≡ false
     → list_any test ((if b then opcode ∷ opcodes else opcodes) ++ others) ≡ false
 none_before true test opcode opcodes others here later = rw here later
@@ -147,12 +121,8 @@ none_of_fewer : (rows : List Row) (others : List ℕ) (test : ℕ → Bool) → 
     → list_any test (offered_opcodes rows ++ others) ≡ false
 none_of_fewer [] others test h = h
 none_of_fewer (r ∷ rows) others test h =
-    none_before r.offered test r.opcode (offered_opcodes rows) others (or_false_left (test r.opcode) _ h)
-    (none_of_fewer rows others test (or_false_right (test r.opcode) _ h))
-
-not_true : (b : Bool) → not b ≡ true → b ≡ false
-not_true true h = cc
-not_true false h = refl
+    none_before r.offered test r.opcode (offered_opcodes rows) others (or_left_false (test r.opcode) _ h)
+    (none_of_fewer rows others test (or_right_false (test r.opcode) _ h))
 
 distinct_before : (b : Bool) (opcode : ℕ) (opcodes others : List ℕ) → list_any (λ other. opcode == other) (opcodes ++ others) ≡ false
     → are_distinct (opcodes ++ others) ≡ true → are_distinct ((if b then opcode ∷ opcodes else opcodes) ++ others) ≡ true
@@ -162,7 +132,7 @@ distinct_before false opcode opcodes others apart later = later
 distinct_offered : (rows : List Row) (others : List ℕ) → are_distinct (opcodes_of rows ++ others) ≡ true → are_distinct (offered_opcodes rows ++ others) ≡ true
 distinct_offered [] others h = h
 distinct_offered (r ∷ rows) others h =
-    let apart = not_true _ (and_left (not (list_any (λ other. r.opcode == other) (opcodes_of rows ++ others))) _ h) in
+    let apart = not-true _ (and_left (not (list_any (λ other. r.opcode == other) (opcodes_of rows ++ others))) _ h) in
     distinct_before r.offered r.opcode (offered_opcodes rows) others (none_of_fewer rows others (λ other. r.opcode == other) apart)
     (distinct_offered rows others (and_right (not (list_any (λ other. r.opcode == other) (opcodes_of rows ++ others))) _ h))
 

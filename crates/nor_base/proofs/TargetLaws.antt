@@ -1,14 +1,10 @@
 -- The bytes of a target.
-use Rattle.std.proofs.Common.{◌≡◌, ◌⊎◌, ℕ, suc, ◌+◌, ◌^◌, ◌<◌, ◌≤◌, nat_lt, Bool, true, false, ◌&&◌, if◌then◌else◌, List, length, Option, Some, None, refl, sym, ◌∙◌, ap, arith, inl, inr, le-leb}
-use Rattle.std.specs.Prelude.{unwrap_or}
+use Rattle.std.proofs.Common.{◌≡◌, ◌⊎◌, ℕ, suc, ◌+◌, ◌^◌, ◌<◌, ◌≤◌, nat_lt, Bool, true, false, ◌&&◌, if◌then◌else◌, List, length, Option, Some, None, refl, ◌∙◌, inl, inr, le-leb}
 use Rattle.std.specs.List.{slice_index}
 use Rattle.std.proofs.lemmas.Bool.{le-ltb}
 use Rattle.nor_base.specs.Target.{target, target_byte}
+use Rattle.nor_base.proofs.Decide.{and_none}
 use Rattle.nor_base.proofs.EachLaws.{each_keeps, slice_index-each}
-
-and_none : (a : Bool) → a && false ≡ false
-and_none true = refl
-and_none false = refl
 
 same_either_way : (b : Bool) (x : ℕ) → (if b then x else x) ≡ x
 same_either_way true x = refl

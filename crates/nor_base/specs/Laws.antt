@@ -4,6 +4,7 @@ use Rattle.std.specs.List.{AllByRecursion}
 use Rattle.nor_base.specs.declared.clock.Clock.{Clock}
 use Rattle.nor_base.specs.declared.instruction.What.TheVariants as what
 use Rattle.nor_base.specs.declared.meaning.Region.{Region}
+use Rattle.nor_base.specs.declared.meaning.Start.{Start}
 use Rattle.nor_base.specs.declared.step.Step.{Step}
 use Rattle.nor_base.specs.declared.wrong.Wrong.{Wrong}
 use Rattle.nor_base.specs.declared.wrong.Wrong.TheVariants as wrong
@@ -16,10 +17,11 @@ use Rattle.nor_base.specs.Instructions.{Row, IsRow, row_of}
 use Rattle.nor_base.specs.Accepted.{IsAccepted}
 use Rattle.nor_base.specs.Decoding.{Instruction, decode}
 use Rattle.nor_base.specs.Blocks.{Block, IsLegalBlock}
-use Rattle.nor_base.specs.Chip.{Setting, Chip, IsWhole}
+use Rattle.nor_base.specs.Chip.{Setting, Chip, chip_of, ready, IsWhole}
 use Rattle.nor_base.specs.Effect.{effect, effect_of, is_broken, is_program, place}
-use Rattle.nor_base.specs.Run.{polled, polled_trail, run, trail}
+use Rattle.nor_base.specs.Run.{polled, polled_trail, run, trail, DoesTaskOnEvery}
 use Rattle.nor_base.specs.Target.{target}
+use Rattle.nor_base.specs.Work.{must_rise, Program, ArePlanned}
 
 -- a list of steps has one text
 abbrev pub OneText : Type 0
@@ -217,3 +219,22 @@ TargetKeeps = (image : ℕ → Option ℕ) (base : ℕ) (is_chosen : ℕ → Boo
 abbrev pub TargetGives : Type 0
 TargetGives = (image : ℕ → Option ℕ) (base : ℕ) (is_chosen : ℕ → Bool) (content : List ℕ) (a byte : ℕ) → a < length content
     → is_chosen a ≡ true → base + a < 2 ^ 32 → image (base + a) ≡ Some byte → slice_index (target image base is_chosen content) a ≡ byte
+
+-- where no bit must rise, the planned work does the task on every chip
+abbrev pub PlannedDoesTask : Type 0
+PlannedDoesTask = (m : Parameters) (start : Start) (have want : List ℕ) (programs : List Program) (steps : List Step)
+    → length have ≡ m.size → length want ≡ m.size → ((a : ℕ) → must_rise have want a ≡ false)
+    → ArePlanned m start have want programs steps → DoesTaskOnEvery m start have want steps
+
+-- an array that is the target below one address, and the first content from it on
+pub record IsInTheMaking (have want array : List ℕ) : Type 0 where
+  pub upto : ℕ
+  pub below : (x : ℕ) → x < upto → slice_index array x ≡ slice_index want x
+  pub above : (x : ℕ) → upto ≤ x → slice_index array x ≡ slice_index have x
+
+-- there, after each transaction of the work the array is such a one: the target comes in rising order
+abbrev pub InRisingOrder : Type 0
+InRisingOrder = (m : Parameters) (start : Start) (have want : List ℕ) (programs : List Program) (steps : List Step)
+    → length have ≡ m.size → length want ≡ m.size → ((a : ℕ) → must_rise have want a ≡ false)
+    → ArePlanned m start have want programs steps → (busy : List ℕ) (keeps : Bool)
+    → AllByRecursion (λ d. IsInTheMaking have want d.array) (trail (chip_of m start busy keeps) (ready (chip_of m start busy keeps) have) steps)

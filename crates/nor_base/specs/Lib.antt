@@ -14,6 +14,7 @@ pub mod Chip
 pub mod Effect
 pub mod Run
 pub mod Target
+pub mod Work
 pub mod Port
 pub mod Laws
 pub mod Worked

@@ -1,6 +1,6 @@
 //! Laws of the definitions. Each function does nothing: its contract is the law, and the gate proves it.
 
-ghost use Rattle.nor_base.specs.Laws.{SymbolsFound, SamplesApart, OneText, OneList, TextsApart, NoProperPrefix, OneRow, FindsRow, RowFound, LegalInRegion, LegalOnChip, RegionLegal, BlocksNest, KeepsSize, AsksSampled, GivesSampled, PollEnds, PollCount, PollNeedsAll, RunEndsTrail, ProgramPutsByte, RaisedForByte, ProgramKeepsOthers, ProgramJudgedByPage, EraseFills, EraseKeepsOthers, EraseNeverJudged, TargetKeeps, TargetGives, FirstInParts, GivesInParts};
+ghost use Rattle.nor_base.specs.Laws.{SymbolsFound, SamplesApart, OneText, OneList, TextsApart, NoProperPrefix, OneRow, FindsRow, RowFound, LegalInRegion, LegalOnChip, RegionLegal, BlocksNest, KeepsSize, AsksSampled, GivesSampled, PollEnds, PollCount, PollNeedsAll, RunEndsTrail, ProgramPutsByte, RaisedForByte, ProgramKeepsOthers, ProgramJudgedByPage, EraseFills, EraseKeepsOthers, EraseNeverJudged, TargetKeeps, TargetGives, PlannedDoesTask, InRisingOrder, FirstInParts, GivesInParts};
 
 /// A clock is found by its symbol, and no two clocks have the same lanes: a list of samples means its instruction.
 pub fn symbols()
@@ -72,6 +72,13 @@ pub fn runs()
 pub fn targets()
     ensures keeps { TargetKeeps }
     ensures gives { TargetGives }
+{}
+
+/// Where no bit must rise, the planned work does the task on every chip of the meaning and start; and after each transaction
+/// of the work, all below one address is the target and all from it on is as before.
+pub fn planned_work()
+    ensures done { PlannedDoesTask }
+    ensures rising { InRisingOrder }
 {}
 
 /// What a reader gives in two parts it gives, and what is ahead of it is what it gives first and then the rest.

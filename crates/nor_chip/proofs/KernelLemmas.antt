@@ -1,18 +1,15 @@
 -- A program byte by byte, over those that aren't overwritten.
-use Rattle.std.proofs.Common.{◌≡◌, ◌≢◌, ℕ, zero, suc, ◌+◌, ◌-◌, ◌<◌, ◌≤◌, ◌==◌, Bool, true, false, not, if◌then◌else◌, List, length, set, get_or, Option, Some, None, refl, sym, ◌∙◌, ap, subst, arith, inl, inr, eqb-true, eq-eqb, get_or-set_other, get_or-set_same}
+use Rattle.std.proofs.Common.{◌≡◌, ◌≢◌, ℕ, zero, suc, ◌+◌, ◌-◌, ◌<◌, ◌≤◌, ◌==◌, Bool, true, false, not, if◌then◌else◌, List, length, set, Option, Some, None, refl, sym, ◌∙◌, ap, subst, arith, inl, inr, eqb-true, eq-eqb, get_or-set_other, get_or-set_same}
 use Rattle.std.specs.Prelude.{bit_and}
 use Rattle.std.specs.List.{slice_index}
 use Rattle.std.specs.Option.{option_map_or}
-use Rattle.std.proofs.lemmas.Bool.{cases_lt}
+use Rattle.std.proofs.lemmas.Bool.{cases_lt, ne_eqb}
 use Rattle.std.proofs.lemmas.Bool.Decides.{eqb_tells}
 use Rattle.std.proofs.lemmas.Grind.{same_number_lists}
 use Rattle.std.proofs.Math.ListN.{length-set}
 use Rattle.nor_base.specs.Effect.{place, last_byte_for, written, raises_bit, raises, programmed}
-use Rattle.nor_base.proofs.EachLaws.{length-each, slice_index-each, some-false, some-true, Passes}
+use Rattle.nor_base.proofs.EachLaws.{length-each, slice_index-each, some-false, some-true}
 use Rattle.nor_chip.proofs.PlaceLemmas.{place_again, places_apart}
-
-unequal : (a b : ℕ) → a ≢ b → (a == b) ≡ false
-unequal a b apart = elim (eqb_tells a b) [ inl same ↦ absurd (apart same.1) | inr told ↦ told.0 ]
 
 -- of the first n bytes of a program, byte j is the last that goes to x
 pub record IsLastOf (page address n x j : ℕ) : Type 0 where
@@ -30,7 +27,7 @@ last_is_written page address bytes (suc n) x j h = elim (eqb_tells j n) [
   | inr other ↦
       let apart = other.1 in
       let earlier : j < n = omega (arith, h.sent) in
-      rw (unequal (place page address n) x (h.last n earlier (omega arith)))
+      rw (ne_eqb (place page address n) x (h.last n earlier (omega arith)))
       (last_is_written page address bytes n x j (record { sent = earlier; here = h.here; last = λ k later fits. h.last k later (omega arith) }))
 ]
 
@@ -116,7 +113,7 @@ raise_told_if page address bytes array j false is sent kept inside raised =
     let there : written page address bytes (place page address j) ≡ Some (slice_index bytes j) =
     last_is_written page address bytes (length bytes) (place page address j) j (kept_is_last page address (length bytes) j sent kept) in
     let told : raises_bit (slice_index array (place page address j)) (slice_index bytes j) ≡ true =
-    ap not (unequal (bit_and (slice_index array (place page address j)) (slice_index bytes j)) (slice_index bytes j) raised) in
+    ap not (ne_eqb (bit_and (slice_index array (place page address j)) (slice_index bytes j)) (slice_index bytes j) raised) in
     let both : true ≡ false = sym told ∙ ap (λ o. option_map_or (raises_bit (slice_index array (place page address j))) o false) (sym there) ∙ here in cc
 
 pub raise_told : (page address : ℕ) (bytes array : List ℕ) (j : ℕ) → j < length bytes → length bytes - page ≤ j

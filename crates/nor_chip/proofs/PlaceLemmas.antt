@@ -1,9 +1,8 @@
 -- Places of a program within its page.
-use Rattle.std.proofs.Common.{◌≡◌, ◌≢◌, ◌⊎◌, ℕ, zero, suc, ◌+◌, ◌-◌, ◌*◌, ◌/◌, ◌%◌, ◌<◌, ◌≤◌, ◌==◌, List, length, Option, Some, None, refl, sym, ◌∙◌, ap, subst, arith, inl, inr}
-use Rattle.std.specs.List.{slice_index}
+use Rattle.std.proofs.Common.{◌≡◌, ◌≢◌, ℕ, ◌+◌, ◌-◌, ◌*◌, ◌/◌, ◌%◌, ◌<◌, ◌≤◌, sym, ◌∙◌, ap, arith, inl, inr}
 use Rattle.std.proofs.lemmas.Bool.{cases_lt}
 use Rattle.std.proofs.Math.Nat.{mul-le-mul_left, add-mod_right, add-mul-mod_self_left}
-use Rattle.nor_base.specs.Effect.{place, last_byte_for}
+use Rattle.nor_base.specs.Effect.{place}
 
 -- a remainder in two parts
 pub mod_in_parts : (a j p : ℕ) → 0 < p → (a % p + j % p) % p ≡ (a + j) % p

@@ -1,20 +1,19 @@
 -- What lies on the chip.
-use Rattle.std.proofs.Common.{◌≡◌, ℕ, zero, suc, ◌+◌, ◌-◌, ◌*◌, ◌/◌, ◌%◌, ◌^◌, ◌<◌, ◌≤◌, ◌==◌, nat_le, nat_lt, Bool, true, false, not, ◌&&◌, ◌||◌, List, length, get_or, Option, Some, None, option_map, refl, sym, ◌∙◌, ap, subst, arith, inl, inr}
-use Rattle.std.specs.List.{slice_index}
+use Rattle.std.proofs.Common.{◌≡◌, ℕ, ◌+◌, ◌-◌, ◌*◌, ◌/◌, ◌%◌, ◌^◌, ◌<◌, ◌≤◌, ◌==◌, nat_le, nat_lt, Bool, true, false, not, ◌&&◌, ◌||◌, Option, Some, None, option_map, refl, sym, ◌∙◌, ap, subst, arith, inl, inr}
 use Rattle.std.specs.Option.{option_map_or}
-use Rattle.std.proofs.lemmas.Bool.{cases_lt, le-leb, le-ltb, ltb-false}
+use Rattle.std.proofs.lemmas.Bool.{cases_lt, leb-false, ltb-false}
 use Rattle.std.proofs.Math.Nat.{mul-le-mul_left}
 use Rattle.std.proofs.lemmas.Nat.{pow-add, pow_pos}
-use Rattle.std.proofs.lemmas.Grind.{same_number_lists}
 use Rattle.nor_base.specs.declared.meaning.Erase.{Erase}
 use Rattle.nor_base.specs.declared.instruction.What.{What}
 use Rattle.nor_base.specs.declared.instruction.What.TheVariants as what
 use Rattle.nor_base.specs.Parameters.{Parameters, erase_kind, block_size}
 use Rattle.nor_base.specs.Accepted.{IsAccepted}
-use Rattle.nor_base.specs.Blocks.{Block, IsLegalBlock, is_legal, lies_in_one}
+use Rattle.nor_base.specs.Blocks.{is_legal, lies_in_one}
 use Rattle.nor_base.specs.Decoding.{Instruction}
 use Rattle.nor_base.specs.Effect.{has_address, is_program, is_read, starts_no_block, is_out_of_range}
 use Rattle.nor_base.specs.Laws.{page_start}
+use Rattle.nor_base.proofs.Decide.{or_left_false, or_right_false}
 use Rattle.nor_base.proofs.RegionLaws.{legal_on_chip}
 
 -- a page that holds an address of the chip lies on the chip
@@ -36,21 +35,10 @@ page_inside m address accepted inside =
           absurd (omega (arith, up, pages, some, inside))
     ]
 
-or_left_false : (a b : Bool) → a || b ≡ false → a ≡ false
-or_left_false true b h = h
-or_left_false false b h = refl
-
-or_right_false : (a b : Bool) → a || b ≡ false → b ≡ false
-or_right_false true b h = cc
-or_right_false false b h = h
-
-not_le : (a b : ℕ) → nat_le a b ≡ false → b < a
-not_le a b h = elim (cases_lt b a) [ inl low ↦ low | inr high ↦ (let told : nat_le a b ≡ true = le-leb a b high in let both : true ≡ false = sym told ∙ h in cc) ]
-
 named_in_range : (m : Parameters) (w : What) (address asked : ℕ) → has_address w ≡ true
     → (has_address w && nat_le m.size address) || ((is_read w && nat_lt m.size (address + asked)) || starts_no_block m w address) ≡ false → address < m.size
 named_in_range m w address asked named h =
-    not_le m.size address (ap (λ b. b && nat_le m.size address) (sym named) ∙ or_left_false _ _ h)
+    leb-false m.size address (ap (λ b. b && nat_le m.size address) (sym named) ∙ or_left_false _ _ h)
 
 program_has_address : (w : What) → is_program w ≡ true → has_address w ≡ true
 program_has_address what.Program h = refl

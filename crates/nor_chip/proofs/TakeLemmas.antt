@@ -1,5 +1,5 @@
 -- What an instruction that is taken does.
-use Rattle.std.proofs.Common.{◌≡◌, ℕ, ◌+◌, Bool, true, false, not, ◌&&◌, if◌then◌else◌, List, [], ◌∷◌, length, replicate, pred, Option, Some, None, option_map, Result, Ok, Err, refl, sym, ◌∙◌, ap, slice_range}
+use Rattle.std.proofs.Common.{◌≡◌, ℕ, Bool, true, false, not, ◌&&◌, if◌then◌else◌, List, [], ◌∷◌, length, Option, Some, None, option_map, Result, Ok, Err, refl, sym, ◌∙◌, ap}
 use Rattle.nor_base.specs.declared.instruction.What.{What}
 use Rattle.nor_base.specs.declared.instruction.What.TheVariants as what
 use Rattle.nor_base.specs.declared.wrong.Wrong.{Wrong}

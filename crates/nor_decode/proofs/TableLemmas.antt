@@ -6,6 +6,7 @@ use Rattle.std.specs.List.{find}
 use Rattle.std.specs.Option.{option_map_or, option_or}
 use Rattle.nor_base.specs.declared.meaning.Erase.{Erase}
 use Rattle.nor_base.specs.Instructions.{Row}
+use Rattle.nor_base.proofs.Decide.{and_none}
 use Rattle.nor_decode.specs.Table.{rows_by}
 
 -- the row has the opcode, and is offered
@@ -19,10 +20,6 @@ append_step false x rest later joined h = h
 pub find-append : (test : Row → Bool) (xs ys : List Row) → find test (xs ++ ys) ≡ option_or (find test xs) (find test ys)
 find-append test [] ys = refl
 find-append test (x ∷ xs) ys = append_step (test x) x (find test xs) (find test ys) (find test (xs ++ ys)) (find-append test xs ys)
-
-and_none : (a : Bool) → a && false ≡ false
-and_none true = refl
-and_none false = refl
 
 none_dead : (opcode : ℕ) (found : Option Erase) (mode4 : Bool) (kind : ℕ) → find (fits opcode) (rows_by false found mode4 kind) ≡ None
 none_dead opcode found mode4 kind =

@@ -1,12 +1,8 @@
 -- The addresses of an image that have no place on a chip.
-use Rattle.std.proofs.Common.{◌≡◌, ◌↔◌, ℕ, suc, ◌+◌, ◌-◌, ◌<◌, ◌≤◌, Bool, true, false, not, refl, sym, ◌∙◌, ap, arith, inl, inr, le-leb}
-use Rattle.std.proofs.lemmas.Bool.{cases_lt, lt-leb, le-ltb}
+use Rattle.std.proofs.Common.{◌≡◌, ◌↔◌, ℕ, suc, ◌+◌, ◌-◌, ◌<◌, ◌≤◌, Bool, true, not, refl, sym, ◌∙◌, ap, arith, inl, inr, le-leb}
+use Rattle.std.proofs.lemmas.Bool.{cases_lt, lt-leb, le-ltb, not-true}
 use Rattle.nor_base.specs.Target.{is_ignored}
 use Rattle.nor_target.specs.Ignored.{HasNoPlace}
-
-not_true : (b : Bool) → not b ≡ true → b ≡ false
-not_true true h = sym h
-not_true false h = refl
 
 -- the place of the chip's address a is ignored just where a isn't chosen
 here : (base a : ℕ) (is_chosen : ℕ → Bool) (size at : ℕ) → base + a ≡ at → a < size → is_ignored base is_chosen size at ≡ not (is_chosen a)
@@ -23,7 +19,7 @@ past base is_chosen size at from h = rw (le-leb base at from, le-ltb (at - base)
 
 pub ignored_has_no_place : (base : ℕ) (is_chosen : ℕ → Bool) (size at : ℕ) → (is_ignored base is_chosen size at ≡ true) ↔ HasNoPlace base is_chosen size at
 ignored_has_no_place base is_chosen size at = (
-  λ h a fits is. not_true (is_chosen a) (sym (here base a is_chosen size at is fits) ∙ h),
+  λ h a fits is. not-true (is_chosen a) (sym (here base a is_chosen size at is fits) ∙ h),
   λ none. elim (cases_lt at base) [
     | inl low ↦ below base is_chosen size at low
     | inr from ↦ elim (cases_lt (at - base) size) [

@@ -1,5 +1,5 @@
 -- The place by its parts.
-use Rattle.std.proofs.Common.{arith, ap, ◌∙◌, ◌+◌, ◌-◌, ◌%◌}
+use Rattle.std.proofs.Common.{ap, ◌+◌, ◌-◌, ◌%◌}
 use Rattle.nor_chip.proofs.PlaceLemmas.{mod_in_parts}
 use Rattle.nor_chip.proofs.program.place.Goals as goal
 

@@ -1,5 +1,5 @@
 -- The block lies on the chip.
-use Rattle.std.proofs.Common.{◌≡◌, ◌+◌, ◌≤◌, ap, arith, length, ◌∙◌}
+use Rattle.std.proofs.Common.{ap, arith, ◌∙◌}
 use Rattle.nor_base.specs.Blocks.{is_legal}
 use Rattle.nor_base.specs.Port.{Shown}
 use Rattle.nor_chip.proofs.RangeLemmas.{legal_size, legal_inside}

@@ -1,5 +1,5 @@
 -- A program that is in range.
-use Rattle.std.proofs.Common.{◌≡◌, ◌<◌, ap, arith, length, sym, ◌∙◌}
+use Rattle.std.proofs.Common.{◌≡◌, ap, arith, length, sym, ◌∙◌}
 use Rattle.nor_base.specs.Port.{Shown}
 use Rattle.nor_chip.specs.Sent.{instruction_of}
 use Rattle.nor_chip.proofs.RangeLemmas.{program_in_range}

@@ -1,5 +1,5 @@
 -- Each instruction does what its kind says.
-use Rattle.std.proofs.Common.{◌≡◌, ◌≤◌, ◌<◌, ◌+◌, true, refl, sym, ◌∙◌, ap, arith, length, replicate, slice_range, inl, inr}
+use Rattle.std.proofs.Common.{◌≡◌, ◌+◌, true, refl, sym, ◌∙◌, ap, arith, length, replicate, slice_range, inl, inr}
 use Rattle.nor_base.specs.declared.instruction.What.TheVariants as what
 use Rattle.nor_base.specs.Effect.{after, answer, status, is_program, is_read}
 use Rattle.nor_base.specs.Port.{Shown}

@@ -1,7 +1,6 @@
 -- The effect of what the clocks are.
-use Rattle.std.proofs.Common.{◌≡◌, ap, refl, sym, ◌∙◌, length}
+use Rattle.std.proofs.Common.{ap, refl, sym, ◌∙◌}
 use Rattle.nor_base.specs.Effect.{effect_of}
-use Rattle.nor_base.specs.Laws.{wrong_of}
 use Rattle.nor_base.proofs.SampledLaws.{asks_sampled}
 use Rattle.nor_chip.specs.Sent.{instruction_of}
 use Rattle.nor_chip.proofs.TakeLemmas.{taken, unknown, decoded, known, refused}

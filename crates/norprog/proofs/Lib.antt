@@ -1,0 +1,16 @@
+pub mod SpanLemmas
+pub mod WriteLemmas
+pub mod ClockLemmas
+pub mod PageSpans
+pub mod PageLemmas
+pub mod ProgramsLemmas
+pub mod PageParts
+pub mod PagesLaw
+pub mod RiseLemmas
+pub mod SendLemmas
+pub mod WindowLemmas
+pub mod WholeLemmas
+pub mod JobLemmas
+pub mod ReportLemmas
+pub mod ScriptLemmas
+pub mod BuildLemmas

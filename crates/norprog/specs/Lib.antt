@@ -1,0 +1,9 @@
+pub mod Task
+pub mod Lifted
+pub mod Clocks
+pub mod Pages
+pub mod Written
+pub mod Causes
+pub mod Windows
+pub mod Build
+pub mod Report

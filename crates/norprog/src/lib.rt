@@ -1,0 +1,36 @@
+//! Programs a SPI NOR flash chip by a bus script: from an Intel HEX image, a layout with chosen regions and what the
+//! chip holds now to the text of a script in which every clock of every transaction stands.
+//!
+//! [`build`] writes the script. Its contract says what running it on the chip does.
+#![tactic(auto)]
+
+pub mod builder;
+mod clocks;
+pub mod fault;
+pub mod inputs;
+mod job;
+mod pages;
+pub mod report;
+#[cfg(test)]
+mod tests;
+#[cfg(test)]
+mod tests_clocks;
+#[cfg(test)]
+mod tests_devices;
+#[cfg(test)]
+mod tests_job;
+#[cfg(test)]
+mod tests_play;
+#[cfg(test)]
+mod tests_refused;
+#[cfg(test)]
+mod tests_report;
+mod windows;
+
+pub use builder::build;
+pub use fault::{BuildFault, SfdpFault};
+pub use inputs::{Inputs, Source};
+pub use nor_base::{ByteIn, ByteOut, Bytes, Failed, FromRead, IntoWrite, Part, Strategy};
+pub use nor_hex::HexFault;
+pub use nor_layout::LayoutFault;
+pub use report::{Report, write_report};

@@ -1,0 +1,4 @@
+pub mod Values
+pub mod Chip
+pub mod Request
+pub mod Lines

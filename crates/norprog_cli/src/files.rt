@@ -1,0 +1,99 @@
+//! The files that a command line names.
+
+use crate::faults::{FileName, Refusal};
+use std::alloc::Global;
+use std::fs::{self, Files, OpenFile};
+use std::io::{self, Read};
+use std::os::unix::fs::MetadataExt;
+
+/// A file of more bytes counts as one that couldn't be read.
+const MOST_BYTES: u64 = 1 << 36;
+
+/// Which file of the system it is, by whatever name it was opened.
+#[derive(Clone, Copy, Debug, PartialEq, Eq)]
+pub(crate) struct Place {
+    device: u64,
+    inode: u64,
+}
+
+/// Opens a file and reads it whole.
+pub(crate) fn read_whole<R: Files>(
+    rt: &R,
+    alloc: Global,
+    path: &str,
+    name: FileName,
+) -> Result<(Vec<u8>, Place), Refusal> {
+    let (mut file, place, len) = open_input(rt, path, name)?;
+    if len > MOST_BYTES {
+        return Err(Refusal::File(name));
+    }
+    let mut bytes = Vec::new(alloc);
+    match (&mut file).take(MOST_BYTES + 1).read_to_end(&mut bytes) {
+        Ok(_) => {}
+        Err(error) => return Err(refusal_of(&error, name)),
+    }
+    if bytes.len() as u64 > MOST_BYTES {
+        return Err(Refusal::File(name));
+    }
+    Ok((bytes, place))
+}
+
+/// Opens a file that isn't a folder, and answers which one it is and its length.
+pub(crate) fn open_input<R: Files>(
+    rt: &R,
+    path: &str,
+    name: FileName,
+) -> Result<(R::File, Place, u64), Refusal> {
+    let file = match fs::open(rt, path) {
+        Ok(file) => file,
+        Err(error) => return Err(refusal_of(&error, name)),
+    };
+    let metadata = match file.metadata() {
+        Ok(metadata) => metadata,
+        Err(error) => return Err(refusal_of(&error, name)),
+    };
+    if metadata.is_dir() {
+        return Err(Refusal::File(name));
+    }
+    let place = Place {
+        device: metadata.dev(),
+        inode: metadata.ino(),
+    };
+    let len = metadata.len();
+    Ok((file, place, len))
+}
+
+/// Makes the output file, or empties the one that is there, unless it is one of the inputs.
+pub(crate) fn create_output<R: Files>(
+    rt: &R,
+    path: &str,
+    inputs: &[Place],
+) -> Result<R::File, Refusal> {
+    if is_input(rt, path, inputs) {
+        return Err(Refusal::File(FileName::Out));
+    }
+    match fs::create(rt, path) {
+        Ok(file) => Ok(file),
+        Err(error) => Err(refusal_of(&error, FileName::Out)),
+    }
+}
+
+/// Whether the file of this name is there and is one of the inputs.
+fn is_input<R: Files>(rt: &R, path: &str, inputs: &[Place]) -> bool {
+    match fs::metadata(rt, path) {
+        Ok(metadata) => inputs.contains(&Place {
+            device: metadata.dev(),
+            inode: metadata.ino(),
+        }),
+        Err(_) => false,
+    }
+}
+
+/// Want of memory is that; any other error says that the file can't be used.
+fn refusal_of(error: &io::Error, name: FileName) -> Refusal {
+    if error.kind() == io::ErrorKind::OutOfMemory {
+        Refusal::MEMORY
+    } else {
+        Refusal::File(name)
+    }
+}
