@@ -25,14 +25,20 @@ use std::alloc::Global;
 /// every other byte as before, has no instruction ignored and no program raising a bit, and ends idle in the first
 /// address mode.
 ///
+/// Today it serves uniform chips on which no bit must rise.
+///
 /// `content` gives what the chip holds, `len` bytes from address 0 on; no more are read. `out` takes the text of the
 /// script (docs/FORMATS.md, "Script text"), which isn't flushed. For each page that differs from its target, in rising
 /// order, the script has the write enable (06h), one page program (02h) from the first byte that differs to the last,
 /// and a poll (05h) until the chip is idle, as the W25Q256JV datasheet has them. Memory is taken for the image, the
-/// chosen regions and one program at a time.
+/// layout with its chosen regions, and one program at a time.
 ///
-/// The faults up to [`BuildFault::ContentSize`] come in their order, before anything is read or written. After any fault
-/// what was written is a proper prefix of a script, hence no script. A failure of reader or writer is final.
+/// Of the inputs' faults the first of these is told, before anything is read or written: `Contradiction`; `NotYet` for
+/// a chip by its SFDP and for `verify`; `Hex`; `Layout`; `Sfdp` where no uniform chip has the size; `ModeImpossible`;
+/// `ContentSize`. In the work the first that it meets is told: `ContentShort` where the reader ends before `len` bytes,
+/// `Read` and `Write` where that device fails, which is final, and `NotYet` where a bit of a byte that was read must
+/// rise. `Memory` comes where a growth is refused. After any fault what was written is a proper prefix of a script,
+/// hence no script.
 pub fn build<R: ByteIn, W: ByteOut>(
     alloc: Global,
     inputs: &Inputs<'_>,
