@@ -462,6 +462,8 @@ fn is_whole(rt: &HostRuntime, path: &str) -> bool {
 #[test]
 fn tells_usage_and_help(rt: HostRuntime) -> Result<(), Fail> {
     write_job(&rt)?;
+    // another test may have left one
+    let _ = fs::remove_file(&rt, "job");
     for (line, text) in USAGES {
         let ran = ran(&rt, line)?;
         assert_eq!(rt; ran.err.as_str(), text, "{line}");
