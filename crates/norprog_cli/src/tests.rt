@@ -180,89 +180,89 @@ static REFUSALS: [(&str, &str); 38] = [
 static USAGES: [(&str, &str); 21] = [
     // bad values: no digit, a sign, another base's prefix, a letter, too many digits, too large a number
     (
-        "build --hex one --uniform '' --content chip --out job",
+        "build --hex one --uniform '' --content chip --out unmade",
         "norprog: usage\n",
     ),
     (
-        "build --hex one --uniform +8192 --content chip --out job",
+        "build --hex one --uniform +8192 --content chip --out unmade",
         "norprog: usage\n",
     ),
     (
-        "build --hex one --uniform 0x2000 --content chip --out job",
+        "build --hex one --uniform 0x2000 --content chip --out unmade",
         "norprog: usage\n",
     ),
     (
-        "build --hex one --uniform 8k --content chip --out job",
+        "build --hex one --uniform 8k --content chip --out unmade",
         "norprog: usage\n",
     ),
     (
-        "build --hex one --uniform 4294967296 --content chip --out job",
+        "build --hex one --uniform 4294967296 --content chip --out unmade",
         "norprog: usage\n",
     ),
     (
-        "build --hex one --uniform 8192 --base '' --content chip --out job",
+        "build --hex one --uniform 8192 --base '' --content chip --out unmade",
         "norprog: usage\n",
     ),
     (
-        "build --hex one --uniform 8192 --base 000000000 --content chip --out job",
+        "build --hex one --uniform 8192 --base 000000000 --content chip --out unmade",
         "norprog: usage\n",
     ),
     (
-        "build --hex one --uniform 8192 --base 0x10 --content chip --out job",
+        "build --hex one --uniform 8192 --base 0x10 --content chip --out unmade",
         "norprog: usage\n",
     ),
     (
-        "build --hex one --uniform 8192 --base +10 --content chip --out job",
+        "build --hex one --uniform 8192 --base +10 --content chip --out unmade",
         "norprog: usage\n",
     ),
     (
-        "build --hex one --uniform 8192 --base 1g --content chip --out job",
+        "build --hex one --uniform 8192 --base 1g --content chip --out unmade",
         "norprog: usage\n",
     ),
     (
-        "build --hex one --uniform 8192 --status '' --content chip --out job",
+        "build --hex one --uniform 8192 --status '' --content chip --out unmade",
         "norprog: usage\n",
     ),
     (
-        "build --hex one --uniform 8192 --status 00000 --content chip --out job",
+        "build --hex one --uniform 8192 --status 00000 --content chip --out unmade",
         "norprog: usage\n",
     ),
     (
-        "build --hex one --uniform 8192 --status 0000000 --content chip --out job",
+        "build --hex one --uniform 8192 --status 0000000 --content chip --out unmade",
         "norprog: usage\n",
     ),
     (
-        "build --hex one --uniform 8192 --status +00000 --content chip --out job",
+        "build --hex one --uniform 8192 --status +00000 --content chip --out unmade",
         "norprog: usage\n",
     ),
     (
-        "build --hex one --uniform 8192 --part '' --content chip --out job",
+        "build --hex one --uniform 8192 --part '' --content chip --out unmade",
         "norprog: usage\n",
     ),
     (
-        "build --hex one --uniform 8192 --part Generic --content chip --out job",
+        "build --hex one --uniform 8192 --part Generic --content chip --out unmade",
         "norprog: usage\n",
     ),
     // options that don't go together
     (
-        "build --hex one --content chip --out job",
+        "build --hex one --content chip --out unmade",
         "norprog: usage\n",
     ),
     (
-        "build --hex one --uniform 8192 --sfdp one --content chip --out job",
+        "build --hex one --uniform 8192 --sfdp one --content chip --out unmade",
         "norprog: usage\n",
     ),
     (
-        "build --hex one --uniform 8192 --bits 01 --content chip --out job",
+        "build --hex one --uniform 8192 --bits 01 --content chip --out unmade",
         "norprog: usage\n",
     ),
     (
-        "build --hex one --uniform 8192 --bits '' --content chip --out job",
+        "build --hex one --uniform 8192 --bits '' --content chip --out unmade",
         "norprog: usage\n",
     ),
     // a bad value comes before a missing file
     (
-        "build --hex none --uniform 8k --content none --out job",
+        "build --hex none --uniform 8k --content none --out unmade",
         "norprog: usage\n",
     ),
 ];
@@ -278,13 +278,16 @@ static HELPS: [(&str, &str); 10] = [
         "Usage: norprog build [OPTIONS] --hex <F> --content <F> --out <F> [REGIONS]...",
     ),
     ("help build", "--uniform <N>"),
-    ("build --uniform 8192 --content chip --out job", "--hex <F>"),
     (
-        "build --hex one --hex one --uniform 8192 --content chip --out job",
+        "build --uniform 8192 --content chip --out unmade",
+        "--hex <F>",
+    ),
+    (
+        "build --hex one --hex one --uniform 8192 --content chip --out unmade",
         "cannot be used multiple times",
     ),
     (
-        "build --hex one --uniform 8192 --content chip --out job --erase",
+        "build --hex one --uniform 8192 --content chip --out unmade --erase",
         "unexpected argument '--erase'",
     ),
     (
@@ -462,8 +465,6 @@ fn is_whole(rt: &HostRuntime, path: &str) -> bool {
 #[test]
 fn tells_usage_and_help(rt: HostRuntime) -> Result<(), Fail> {
     write_job(&rt)?;
-    // another test may have left one
-    let _ = fs::remove_file(&rt, "job");
     for (line, text) in USAGES {
         let ran = ran(&rt, line)?;
         assert_eq!(rt; ran.err.as_str(), text, "{line}");
@@ -476,7 +477,7 @@ fn tells_usage_and_help(rt: HostRuntime) -> Result<(), Fail> {
         assert_eq!(rt; ran.out.as_str(), "", "{line}");
         assert_eq!(rt; ran.status, 2, "{line}");
     }
-    assert!(rt; !fs::exists(&rt, "job")?);
+    assert!(rt; !fs::exists(&rt, "unmade")?);
     Ok(())
 }
 
