@@ -1,13 +1,26 @@
 # README.md says what each target is for.
 
-.PHONY: test demo
+.PHONY: build test refusals demo
+
+# the sample job of one byte, for the program in crates/norprog_cli
+job = build --hex data/one.hex --uniform 8192 --content data/chip.bin --out
+
+# proves every crate that the program stands on, runs the program once on the sample job, and leaves it at ./norprog
+build:
+	@rm -f norprog crates/norprog_cli/out/norprog_cli
+	@dir=$$(mktemp -d) && (cd crates/norprog_cli && rt run -- $(job) $$dir/one.script); status=$$?; rm -rf "$$dir"; exit $$status
+	@cp crates/norprog_cli/out/norprog_cli norprog
+	@echo "proved and built: ./norprog"
 
 # the merge gate: every proof, must-fail edit and test, from nothing
 test:
 	rt ci
 
-# a build of one byte with the sample files, unproved, and the script that it wrote
+# refuses each growth of memory of small jobs in turn, which the gate can't; it proves nothing
+refusals:
+	tools/refused-growths
+
+# the program unproved on the sample job, and the script that it wrote
 demo:
-	@dir=$$(mktemp -d) && cd crates/norprog_cli \
-	&& rt try -- build --hex data/one.hex --uniform 8192 --content data/chip.bin --out $$dir/one.script \
-	&& cat $$dir/one.script; status=$$?; rm -rf "$$dir"; exit $$status
+	@dir=$$(mktemp -d) && cd crates/norprog_cli && rt try -- $(job) $$dir/one.script && cat $$dir/one.script; \
+	status=$$?; rm -rf "$$dir"; exit $$status

@@ -1,19 +1,63 @@
 -- What is given or taken in two goes.
-use Rattle.std.proofs.Common.{◌≡◌, ℕ, ◌<◌, ◌≤◌, ◌+◌, ◌-◌, inl, inr, List, ◌++◌, length, map, take, Option, Some, None, refl, sym, ◌∙◌, ap, append_assoc, arith, length-append}
+use Rattle.std.proofs.Common.{◌≡◌, ℕ, zero, suc, ◌<◌, ◌≤◌, ◌+◌, ◌-◌, inl, inr, List, [], ◌∷◌, ◌++◌, length, get_or, map, take, drop, Option, Some, None, Result, Ok, Err, refl, sym, ◌∙◌, ap, subst, append_assoc, append-nil, arith, length-append}
+use Rattle.std.specs.Prelude.{flat_map, IsErr}
 use Rattle.std.specs.Io.KnownBytes.{Appends}
 use Rattle.std.specs.List.{slice_index, range_with_len}
 use Rattle.std.proofs.Math.ListN.{get_or-append}
 use Rattle.std.proofs.Math.Seq.{get_or-append_right, take-append-add}
 use Rattle.std.proofs.lemmas.Bool.{cases_lt}
 use Rattle.std.proofs.lemmas.Grind.{same_number_lists}
+use Rattle.std.proofs.lemmas.List.{take-append-le}
 use Rattle.std.proofs.lemmas.List.FromFn.{length-map-range_with_len, get_or-map-range_with_len}
-use Rattle.nor_base.specs.Device.{Ahead, Unknown, Finite, Endless, Gives, past, first_of}
+use Rattle.nor_base.specs.Device.{Ahead, Unknown, Finite, Endless, Gives, past, first_of, Cuts, Writes}
 
 pub Appends-append : (a b c : Option (List ℕ)) (xs ys : List ℕ) → Appends a b xs → Appends b c ys → Appends a c (xs ++ ys)
 Appends-append None b c xs ys p q = tt
 Appends-append (Some a) None c xs ys p q = absurd p
 Appends-append (Some a) (Some b) None xs ys p q = absurd q
 Appends-append (Some a) (Some b) (Some c) xs ys p q = q ∙ ap (λ front. front ++ ys) p ∙ append_assoc a xs ys
+
+pub Appends-none : (a : Option (List ℕ)) → Appends a a []
+Appends-none None = tt
+Appends-none (Some xs) = sym (append-nil xs)
+
+-- what was put, and then a proper prefix of what follows
+pub Cuts-then : (a b c : Option (List ℕ)) (xs ys : List ℕ) → Appends a b xs → Cuts b c ys → Cuts a c (xs ++ ys)
+Cuts-then a b c xs ys p q =
+    let fits : length xs + q.0 < length (xs ++ ys) = omega (arith, q.1, length-append xs ys) in
+    (length xs + q.0, fits, subst (Appends a c) (sym (take-append-add xs ys q.0)) (Appends-append a b c xs (take q.0 ys) p q.2))
+
+-- a proper prefix of a part is one of the whole
+pub Cuts-more : (a b : Option (List ℕ)) (xs ys : List ℕ) → Cuts a b xs → Cuts a b (xs ++ ys)
+Cuts-more a b xs ys p =
+    let fits : p.0 < length (xs ++ ys) = omega (arith, p.1, length-append xs ys) in
+    (p.0, fits, subst (Appends a b) (sym (take-append-le p.0 xs ys (omega (arith, p.1)))) p.2)
+
+-- what was put, and then what is written after it
+pub Writes-then : {T F : Type 0} (a b c : Option (List ℕ)) (r : Result T F) (xs ys : List ℕ) → Appends a b xs → Writes b c r ys → Writes a c r (xs ++ ys)
+Writes-then a b c (Ok x) xs ys p q = Appends-append a b c xs ys p q
+Writes-then a b c (Err e) xs ys p q = Cuts-then a b c xs ys p q
+
+-- a fault that is handed on after a proper prefix
+pub Writes-cut : {T F : Type 0} (a b : Option (List ℕ)) (r : Result T F) (bytes : List ℕ) → IsErr r → Cuts a b bytes → Writes a b r bytes
+Writes-cut a b (Ok x) bytes is p = cc
+Writes-cut a b (Err e) bytes is p = p
+
+-- what is joined, around one of the parts
+joined_at : {X : Type 0} (f : X → List ℕ) (parts : List X) (d : X) (i : ℕ) → i < length parts
+    → flat_map f parts ≡ flat_map f (take i parts) ++ (f (get_or parts i d) ++ flat_map f (drop (suc i) parts))
+joined_at f [] d i fits = absurd (omega arith)
+joined_at f (x ∷ xs) d zero fits = refl
+joined_at f (x ∷ xs) d (suc i) fits =
+    ap (λ rest. f x ++ rest) (joined_at f xs d i (omega arith))
+    ∙ sym (append_assoc (f x) (flat_map f (take i xs)) (f (get_or xs i d) ++ flat_map f (drop (suc i) xs)))
+
+-- the parts before one were put, and a proper prefix of that one
+pub Cuts-at : {X : Type 0} (f : X → List ℕ) (parts : List X) (d : X) (i : ℕ) (a b c : Option (List ℕ)) → i < length parts
+    → Appends a b (flat_map f (take i parts)) → Cuts b c (f (get_or parts i d)) → Cuts a c (flat_map f parts)
+Cuts-at f parts d i a b c fits p q =
+    subst (Cuts a c) (sym (joined_at f parts d i fits))
+    (Cuts-then a b c _ _ p (Cuts-more b c _ (flat_map f (drop (suc i) parts)) q))
 
 -- the bytes of the second part are those past the first
 past_the_first : (f g : ℕ → ℕ) (xs ys : List ℕ) (k : ℕ) → length xs ≤ k → k < length (xs ++ ys)

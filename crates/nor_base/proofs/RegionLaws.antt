@@ -1,5 +1,7 @@
 -- A block in one region, by the region's number.
 use Rattle.std.proofs.Common.{◌≡◌, ℕ, zero, suc, ◌+◌, ◌≤◌, ◌%◌, ◌==◌, nat_le, Bool, true, false, ◌&&◌, ◌||◌, List, [], ◌∷◌, take, Option, Some, None, option_map, refl, ◌∙◌, ap, subst, arith, eq-eqb, leb-true, le-leb}
+use Rattle.std.proofs.lemmas.Bool.{and_parts}
+use Rattle.std.proofs.Math.Bool.{or-true}
 use Rattle.std.specs.Prelude.{slice_get, sum_by}
 use Rattle.std.specs.Option.{option_map_or}
 use Rattle.std.proofs.lemmas.List.Sums.{sum_by-cons}
@@ -7,9 +9,7 @@ use Rattle.nor_base.specs.declared.meaning.Erase.{Erase}
 use Rattle.nor_base.specs.declared.meaning.Region.{Region}
 use Rattle.nor_base.specs.Parameters.{Parameters, erase_kind, allows}
 use Rattle.nor_base.specs.Accepted.{IsAccepted}
-use Rattle.nor_base.specs.Blocks.{Block, IsLegalBlock, is_legal, lies_in_one}
-use Rattle.nor_base.specs.Laws.{LiesInRegion}
-use Rattle.nor_base.proofs.Decide.{and_left, and_right, or_true}
+use Rattle.nor_base.specs.Blocks.{Block, IsLegalBlock, is_legal, lies_in_one, LiesInRegion}
 
 abbrev bytes_of : Region → ℕ
 bytes_of region = region.size
@@ -26,13 +26,13 @@ record LiesFrom (base : ℕ) (regions : List Region) (kind start size : ℕ) : T
 lies_here : (base : ℕ) (region : Region) (regions : List Region) (kind start size : ℕ)
     → nat_le base start && (nat_le (start + size) (base + region.size) && allows region kind) ≡ true → LiesFrom base (region ∷ regions) kind start size
 lies_here base region regions kind start size h =
-    let rest = and_right (nat_le base start) _ h in record {
+    let rest = (and_parts (nat_le base start) _ h).1 in record {
       number = 0;
       region = region;
       there = refl;
-      from = omega (arith, leb-true base start (and_left (nat_le base start) _ h));
-      upto = omega (arith, leb-true (start + size) (base + region.size) (and_left _ (allows region kind) rest));
-      allowed = and_right (nat_le (start + size) (base + region.size)) _ rest;
+      from = omega (arith, leb-true base start (and_parts (nat_le base start) _ h).0);
+      upto = omega (arith, leb-true (start + size) (base + region.size) (and_parts _ (allows region kind) rest).0);
+      allowed = (and_parts (nat_le (start + size) (base + region.size)) _ rest).1;
     }
 
 lies_later : (base : ℕ) (first : Region) (regions : List Region) (kind start size : ℕ)
@@ -72,7 +72,7 @@ in_one base (first ∷ regions) kind start size zero region there from upto allo
 in_one base (first ∷ regions) kind start size (suc number) region there from upto allowed =
     let sums : sum_by (λ (r : Region). r.size) (first ∷ take number regions) ≡ first.size + sum_by (λ (r : Region). r.size) (take number regions) =
     sum_by-cons (λ (r : Region). r.size) first (take number regions) in
-    rw (in_one (base + first.size) regions kind start size number region there (omega (arith, sums)) (omega (arith, sums)) allowed) (or_true _)
+    rw (in_one (base + first.size) regions kind start size number region there (omega (arith, sums)) (omega (arith, sums)) allowed) (or-true _)
 
 legal_lies : (m : Parameters) (b : Block) (slot : Option Erase) → option_map (λ (erase : Erase). erase.size) slot ≡ Some b.size
     → option_map_or (λ (erase : Erase). (b.start % erase.size == 0) && lies_in_one 0 m.regions b.kind b.start erase.size) slot false ≡ true
@@ -80,7 +80,7 @@ legal_lies : (m : Parameters) (b : Block) (slot : Option Erase) → option_map (
 legal_lies m b None size legal = cc
 legal_lies m b (Some erase) size legal =
     let same : erase.size ≡ b.size = cc in
-    subst (λ n. lies_in_one 0 m.regions b.kind b.start n ≡ true) same (and_right (b.start % erase.size == 0) _ legal)
+    subst (λ n. lies_in_one 0 m.regions b.kind b.start n ≡ true) same (and_parts (b.start % erase.size == 0) _ legal).1
 
 pub legal_in_region : (m : Parameters) (b : Block) → IsLegalBlock m b → LiesInRegion m b
 unfolding is_legal

@@ -1,24 +1,19 @@
 -- A transaction gives as many bytes as its clocks sample.
-use Rattle.std.proofs.Common.{◌≡◌, ℕ, ◌+◌, ◌-◌, ◌*◌, ◌/◌, ◌≤◌, ◌==◌, nat_le, nat_lt, Bool, true, false, cond, ◌&&◌, if◌then◌else◌, List, [], ◌∷◌, ◌++◌, length, take, drop, Option, Some, None, option_map, Ok, refl, sym, ◌∙◌, ap, subst, arith, eqb-true, length-drop}
+use Rattle.std.proofs.Common.{◌≡◌, ℕ, ◌+◌, ◌*◌, ◌/◌, ◌==◌, nat_le, Bool, true, false, cond, ◌&&◌, if◌then◌else◌, List, [], ◌∷◌, ◌++◌, length, take, drop, Option, Some, None, option_map, refl, sym, ◌∙◌, ap, subst, arith, eqb-true}
 use Rattle.std.specs.Prelude.{count_by}
-use Rattle.std.specs.List.{list_all, find, slice_range}
+use Rattle.std.specs.List.{list_all, find}
 use Rattle.std.specs.Option.{option_map_or}
-use Rattle.std.proofs.lemmas.Bool.{ltb-false}
-use Rattle.std.proofs.lemmas.List.{length-replicate, length-take-le, take-append-drop}
+use Rattle.std.proofs.lemmas.Bool.{and_parts}
+use Rattle.std.proofs.lemmas.List.{take-append-drop}
 use Rattle.std.proofs.lemmas.List.Sums.{sum_by-append, sum_by-cons}
 use Rattle.nor_base.specs.declared.clock.Clock.{Clock}
 use Rattle.nor_base.specs.declared.clock.Clock.TheVariants as clock
 use Rattle.nor_base.specs.declared.clock.Sample.{Sample}
-use Rattle.nor_base.specs.declared.instruction.What.{What}
-use Rattle.nor_base.specs.declared.instruction.What.TheVariants as what
 use Rattle.nor_base.specs.Sample.{symbol, sample, clocks, clock_at, sampled_count}
 use Rattle.nor_base.specs.Parameters.{Parameters}
 use Rattle.nor_base.specs.Instructions.{Form, nothing, sends, sends4, samples, samples4, form_of, Row, row_of}
 use Rattle.nor_base.specs.Decoding.{has_lanes, is_bit_sent, is_nibble_sent, is_bit_sampled, is_nibble_sampled, is_idle, are_groups, is_data, address_clocks, dummy_clocks, data_clocks, is_form, Transaction, broken, by_row, has_opcode, opcode, number, transaction, bytes_asked, Instruction, instruction, decode}
-use Rattle.nor_base.specs.Chip.{Setting, Chip}
-use Rattle.nor_base.specs.Effect.{is_broken, is_out_of_range, answer, effect, effect_if}
-use Rattle.nor_base.proofs.Decide.{and_left, and_right, or_left_false, or_right_false}
-use Rattle.nor_base.proofs.EffectLaws.{taken}
+use Rattle.nor_base.specs.Effect.{is_broken}
 
 found_step : (byte : ℕ) (first : Clock) (rest : List Clock) (c : Clock) (b : Bool) → (symbol first == byte) ≡ b
     → (find (λ clock. symbol clock == byte) rest ≡ Some c → (symbol c == byte) ≡ true)
@@ -43,8 +38,8 @@ clock_known driven sampled byte None is h = cc
 clock_known driven sampled byte (Some c) is h = record {
   clock = c;
   symbol_is = eqb-true (symbol c) byte (found_symbol byte clocks c is);
-  driven_is = and_left ((sample c).driven == driven) ((sample c).sampled == sampled) h;
-  sampled_is = and_right ((sample c).driven == driven) ((sample c).sampled == sampled) h;
+  driven_is = (and_parts ((sample c).driven == driven) ((sample c).sampled == sampled) h).0;
+  sampled_is = (and_parts ((sample c).driven == driven) ((sample c).sampled == sampled) h).1;
 }
 
 has_clock : (driven sampled byte : ℕ) → has_lanes driven sampled byte ≡ true → HasClock driven sampled byte
@@ -91,15 +86,15 @@ silent_equals driven byte h = let k = has_clock driven 0 byte h in subst (λ b. 
 count_none : (test told : ℕ → Bool) (xs : List ℕ) → ((x : ℕ) → told x ≡ true → test x ≡ false) → list_all told xs ≡ true → count_by test xs ≡ 0
 count_none test told [] none h = refl
 count_none test told (x ∷ xs) none h =
-    let here = none x (and_left (told x) (list_all told xs) h) in
-    let later : count_by test xs ≡ 0 = count_none test told xs none (and_right (told x) (list_all told xs) h) in
+    let here = none x (and_parts (told x) (list_all told xs) h).0 in
+    let later : count_by test xs ≡ 0 = count_none test told xs none (and_parts (told x) (list_all told xs) h).1 in
     sum_by-cons (λ y. cond (test y) 1 0) x xs ∙ ap (λ b. cond b 1 0 + count_by test xs) here ∙ ap (λ n. 0 + n) later
 
 count_all : (test told : ℕ → Bool) (xs : List ℕ) → ((x : ℕ) → told x ≡ true → test x ≡ true) → list_all told xs ≡ true → count_by test xs ≡ length xs
 count_all test told [] all h = refl
 count_all test told (x ∷ xs) all h =
-    let here = all x (and_left (told x) (list_all told xs) h) in
-    let later : count_by test xs ≡ length xs = count_all test told xs all (and_right (told x) (list_all told xs) h) in
+    let here = all x (and_parts (told x) (list_all told xs) h).0 in
+    let later : count_by test xs ≡ length xs = count_all test told xs all (and_parts (told x) (list_all told xs) h).1 in
     sum_by-cons (λ y. cond (test y) 1 0) x xs ∙ ap (λ b. cond b 1 0 + count_by test xs) here ∙ ap (λ n. 1 + n) later ∙ omega arith
 
 -- clocks that sample nothing
@@ -127,15 +122,15 @@ data_sampled : (form : Form) (body : List ℕ) → is_data form body ≡ true �
 unfolding is_data is_bit_sent is_nibble_sent is_bit_sampled is_nibble_sampled
 data_sampled nothing [] h = refl
 data_sampled nothing (x ∷ body) h = absurd (let none : length (x ∷ body) ≡ 0 = eqb-true (length (x ∷ body)) 0 h in omega arith)
-data_sampled sends body h = none_sampled body (silent 13 body (and_right (are_groups 8 body) _ h))
-data_sampled sends4 body h = none_sampled body (silent 15 body (and_right (are_groups 2 body) _ h))
+data_sampled sends body h = none_sampled body (silent 13 body (and_parts (are_groups 8 body) _ h).1)
+data_sampled sends4 body h = none_sampled body (silent 15 body (and_parts (are_groups 2 body) _ h).1)
 data_sampled samples body h =
-    let those = and_right (are_groups 8 body) (list_all (has_lanes 12 2) body) h in
+    let those = (and_parts (are_groups 8 body) (list_all (has_lanes 12 2) body) h).1 in
     let dots = count_all is_dot (has_lanes 12 2) body (λ x t. let k = has_clock 12 2 x t in subst (λ b. is_dot b ≡ true) k.symbol_is (one_dot k.clock k.sampled_is)) those in
     let equals = count_none is_equals (has_lanes 12 2) body (λ x t. let k = has_clock 12 2 x t in subst (λ b. is_equals b ≡ false) k.symbol_is (one_no_equals k.clock k.sampled_is)) those in
     ap (λ n. n / 8 + count_by is_equals body / 2) dots ∙ ap (λ n. length body / 8 + n / 2) equals ∙ omega arith
 data_sampled samples4 body h =
-    let those = and_right (are_groups 2 body) (list_all (has_lanes 0 15) body) h in
+    let those = (and_parts (are_groups 2 body) (list_all (has_lanes 0 15) body) h).1 in
     let dots = count_none is_dot (has_lanes 0 15) body (λ x t. let k = has_clock 0 15 x t in subst (λ b. is_dot b ≡ false) k.symbol_is (four_no_dot k.clock k.sampled_is)) those in
     let equals = count_all is_equals (has_lanes 0 15) body (λ x t. let k = has_clock 0 15 x t in subst (λ b. is_equals b ≡ true) k.symbol_is (four_equals k.clock k.sampled_is)) those in
     ap (λ n. n / 8 + count_by is_equals body / 2) dots ∙ ap (λ n. 0 / 8 + n / 2) equals ∙ omega arith
@@ -144,11 +139,11 @@ data_sampled samples4 body h =
 rest_sampled : (r : Row) (rest : List ℕ) → is_form r rest ≡ true → sampled_count rest ≡ bytes_asked (form_of r.what) (data_clocks r rest)
 unfolding is_form is_bit_sent is_idle
 rest_sampled r rest h =
-    let a = and_right (nat_le (8 * r.width + r.dummies) (length rest)) _ h in
-    let address = silent 13 (address_clocks r rest) (and_left (list_all (has_lanes 13 0) (address_clocks r rest)) _ a) in
-    let b = and_right (list_all (has_lanes 13 0) (address_clocks r rest)) _ a in
-    let dummies = silent 0 (dummy_clocks r rest) (and_left (list_all (has_lanes 0 0) (dummy_clocks r rest)) _ b) in
-    let body = data_sampled (form_of r.what) (data_clocks r rest) (and_right (list_all (has_lanes 0 0) (dummy_clocks r rest)) _ b) in
+    let a = (and_parts (nat_le (8 * r.width + r.dummies) (length rest)) _ h).1 in
+    let address = silent 13 (address_clocks r rest) (and_parts (list_all (has_lanes 13 0) (address_clocks r rest)) _ a).0 in
+    let b = (and_parts (list_all (has_lanes 13 0) (address_clocks r rest)) _ a).1 in
+    let dummies = silent 0 (dummy_clocks r rest) (and_parts (list_all (has_lanes 0 0) (dummy_clocks r rest)) _ b).0 in
+    let body = data_sampled (form_of r.what) (data_clocks r rest) (and_parts (list_all (has_lanes 0 0) (dummy_clocks r rest)) _ b).1 in
     ap sampled_count (sym (take-append-drop (8 * r.width) rest))
     ∙ after_silent (address_clocks r rest) (drop (8 * r.width) rest) address
     ∙ ap sampled_count (sym (take-append-drop r.dummies (drop (8 * r.width) rest)))
@@ -164,10 +159,10 @@ by_row_asks rest r true is known = rest_sampled r rest is
 by_row_asks rest r false is known = cc
 
 -- what was seen, where it isn't broken
-record IsSeen (clocks : List ℕ) (i : Instruction) : Type 0 where
-  seen : Transaction
-  seen_is : i ≡ instruction seen
-  asks : is_broken i.what ≡ false → sampled_count clocks ≡ i.asked
+pub record IsSeen (clocks : List ℕ) (i : Instruction) : Type 0 where
+  pub seen : Transaction
+  pub seen_is : i ≡ instruction seen
+  pub asks : is_broken i.what ≡ false → sampled_count clocks ≡ i.asked
 
 seen_by_row : (clocks : List ℕ) (b : Bool) (found : Option Row) (i : Instruction) → has_opcode clocks ≡ b
     → option_map instruction (if b then option_map (by_row (drop 8 clocks)) found else None) ≡ Some i → IsSeen clocks i
@@ -176,7 +171,7 @@ seen_by_row clocks false found i is h = cc
 seen_by_row clocks true None i is h = cc
 seen_by_row clocks true (Some r) i is h =
     let same : instruction (by_row (drop 8 clocks) r) ≡ i = cc in
-    let front = silent 13 (take 8 clocks) (and_right (nat_le 8 (length clocks)) (list_all (has_lanes 13 0) (take 8 clocks)) is) in
+    let front = silent 13 (take 8 clocks) (and_parts (nat_le 8 (length clocks)) (list_all (has_lanes 13 0) (take 8 clocks)) is).1 in
     record {
       seen = by_row (drop 8 clocks) r;
       seen_is = sym same;
@@ -186,46 +181,10 @@ seen_by_row clocks true (Some r) i is h =
           ∙ by_row_asks (drop 8 clocks) r (is_form r (drop 8 clocks)) refl known' ∙ ap (λ (j : Instruction). j.asked) same;
     }
 
-decoded : (m : Parameters) (mode4 : Bool) (clocks : List ℕ) (i : Instruction) → decode m mode4 clocks ≡ Some i → IsSeen clocks i
+pub decoded : (m : Parameters) (mode4 : Bool) (clocks : List ℕ) (i : Instruction) → decode m mode4 clocks ≡ Some i → IsSeen clocks i
 unfolding decode transaction
 decoded m mode4 clocks i h = seen_by_row clocks (has_opcode clocks) (row_of m mode4 (opcode clocks)) i refl h
 
 pub asks_sampled : (m : Parameters) (mode4 : Bool) (clocks : List ℕ) (i : Instruction) → decode m mode4 clocks ≡ Some i → is_broken i.what ≡ false
     → i.asked ≡ sampled_count clocks
 asks_sampled m mode4 clocks i h known = sym ((decoded m mode4 clocks i h).asks known)
-
-length-read : (array : List ℕ) (size address n : ℕ) → length array ≡ size → nat_lt size (address + n) ≡ false → length (slice_range array address (address + n)) ≡ n
-length-read array size address n whole fits =
-    let inside : address + n ≤ size = ltb-false size (address + n) fits in
-    let count : (address + n) - address ≡ n = omega arith in
-    let enough : n ≤ length (drop address array) = omega (arith, length-drop address array) in
-    ap (λ k. length (take k (drop address array))) count ∙ length-take-le n (drop address array) enough
-
--- what an instruction gives is as long as what it asks for
-answered : (m : Parameters) (c : Chip) (w : What) (address : ℕ) (body : List ℕ) → length c.array ≡ m.size
-    → is_out_of_range m (instruction (record { what = w; address = address; body = body })) ≡ false
-    → length (answer c (instruction (record { what = w; address = address; body = body })) w) ≡ (instruction (record { what = w; address = address; body = body })).asked
-unfolding answer is_out_of_range
-answered m c what.Status address body whole fits = length-replicate (length body / 8) _
-answered m c what.Read address body whole fits =
-    length-read c.array m.size address (length body / 8) whole (or_left_false _ _ (or_right_false (nat_le m.size address) _ fits))
-answered m c what.QuadRead address body whole fits =
-    length-read c.array m.size address (length body / 2) whole (or_left_false _ _ (or_right_false (nat_le m.size address) _ fits))
-answered m c other address body whole fits = refl
-
-gives_if : (s : Setting) (c d : Chip) (clocks : List ℕ) (seen : Option Instruction) (bytes : List ℕ) → decode s.meaning c.mode4 clocks ≡ seen
-    → length c.array ≡ s.meaning.size → effect_if s c seen ≡ Ok (d, bytes) → length bytes ≡ sampled_count clocks
-gives_if s c d clocks None bytes is whole h = cc
-gives_if s c d clocks (Some i) bytes is whole h =
-    let t = taken s c i d bytes h in
-    let see = decoded s.meaning c.mode4 clocks i is in
-    let range : is_out_of_range s.meaning (instruction see.seen) ≡ false = ap (is_out_of_range s.meaning) (sym see.seen_is) ∙ t.in_range in
-    let given : length (answer c (instruction see.seen) see.seen.what) ≡ (instruction see.seen).asked =
-    answered s.meaning c see.seen.what see.seen.address see.seen.body whole range in
-    ap length t.answer ∙ ap (λ (j : Instruction). length (answer c j j.what)) see.seen_is ∙ given
-    ∙ ap (λ (j : Instruction). j.asked) (sym see.seen_is) ∙ sym (see.asks t.known)
-
-pub gives_sampled : (s : Setting) (c d : Chip) (clocks bytes : List ℕ) → length c.array ≡ s.meaning.size → effect s c clocks ≡ Ok (d, bytes)
-    → length bytes ≡ sampled_count clocks
-unfolding effect
-gives_sampled s c d clocks bytes whole h = gives_if s c d clocks (decode s.meaning c.mode4 clocks) bytes refl whole h

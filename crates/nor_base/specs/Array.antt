@@ -1,5 +1,5 @@
 -- A chip's array: a list of bytes, by their addresses from 0 on.
-use Rattle.std.specs.Prelude.{ℕ, Bool, List, map}
+use Rattle.std.specs.Prelude.{◌⊎◌, ℕ, Bool, ◌<◌, ◌≤◌, List, map}
 use Rattle.std.specs.List.{list_any, enumerate_from}
 
 -- each byte of the array by its address and what it was
@@ -9,3 +9,7 @@ each f array = map (λ p. f p.0 p.1) (enumerate_from 0 array)
 -- some byte of the array passes a test of its address and what it is
 abbrev pub some : (ℕ → ℕ → Bool) → List ℕ → Bool
 some test array = list_any (λ p. test p.0 p.1) (enumerate_from 0 array)
+
+-- an address before a stretch or past it
+abbrev pub IsOutside : ℕ → ℕ → ℕ → Type 0
+IsOutside low high x = (x < low) ⊎ (high ≤ x)

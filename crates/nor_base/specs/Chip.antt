@@ -43,9 +43,12 @@ always_four Three = false
 always_four Both = false
 always_four Four = true
 
--- the first mode is four-byte where the start says so or the chip has no other
+-- a chip of this meaning and start begins in four-byte mode: the start says so, or it has no other
+abbrev pub begins4 : Parameters → Start → Bool
+begins4 m start = start.mode4 || always_four m.width
+
 abbrev pub first_mode4 : Setting → Bool
-first_mode4 s = s.start.mode4 || always_four s.meaning.width
+first_mode4 s = begins4 s.meaning s.start
 
 -- idle, the latch clear, in the first mode
 abbrev pub resting : Setting → List ℕ → List ℕ → Chip

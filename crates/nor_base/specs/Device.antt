@@ -54,10 +54,14 @@ abbrev pub Counts : {T : Type 0} → ℕ → ℕ → Result T Failed → Type 0
 Counts before after (Ok x) = after ≡ before
 Counts before after (Err failed) = after ≡ before + 1
 
--- all of a byte string was taken, or, at Failed, a proper prefix
-abbrev pub Writes : {T : Type 0} → Option (List ℕ) → Option (List ℕ) → Result T Failed → List ℕ → Type 0
+-- a proper prefix of a byte string was taken
+abbrev pub Cuts : Option (List ℕ) → Option (List ℕ) → List ℕ → Type 0
+Cuts before after bytes = (n : ℕ) × (n < length bytes) × Appends before after (take n bytes)
+
+-- all of a byte string was taken, or, at a fault, a proper prefix
+abbrev pub Writes : {T F : Type 0} → Option (List ℕ) → Option (List ℕ) → Result T F → List ℕ → Type 0
 Writes before after (Ok x) bytes = Appends before after bytes
-Writes before after (Err failed) bytes = (n : ℕ) × (n < length bytes) × Appends before after (take n bytes)
+Writes before after (Err fault) bytes = Cuts before after bytes
 
 -- a buffer was filled as far as the reader had bytes; at Failed with a proper prefix of what it holds
 abbrev pub Fills : Ahead → Ahead → Result ℕ Failed → List ℕ → Type 0

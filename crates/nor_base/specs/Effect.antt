@@ -72,6 +72,10 @@ is_out_of_range m i =
     || ((is_read i.what && nat_lt m.size (i.address + i.asked))
     || starts_no_block m i.what i.address)
 
+-- the first address of the page that holds an address
+abbrev pub page_start : ℕ → ℕ → ℕ
+page_start page address = address - address % page
+
 -- where byte j of a program at an address goes: on from the address, and round within its page
 abbrev pub place : ℕ → ℕ → ℕ → ℕ
 place page address j = (address - address % page) + (address + j) % page
@@ -160,3 +164,8 @@ effect_if s c (Some i) = effect_of s c i
 -- the effect of a transaction
 unfoldable pub effect : Setting → Chip → List ℕ → Result (Chip × List ℕ) Wrong
 effect s c clocks = effect_if s c (decode s.meaning c.mode4 clocks)
+
+-- which wrong it was, if any
+abbrev pub wrong_of : Result (Chip × List ℕ) Wrong → Option Wrong
+wrong_of (Ok after) = None
+wrong_of (Err why) = Some why

@@ -16,5 +16,3 @@ pub mod Run
 pub mod Target
 pub mod Work
 pub mod Port
-pub mod Laws
-pub mod Worked

@@ -84,3 +84,9 @@ DoPrograms m mode4 (p ∷ ps) steps = BeginsWith m mode4 p (DoPrograms m mode4 p
 pub record ArePlanned (m : Parameters) (start : Start) (have want : List ℕ) (programs : List Program) (steps : List Step) : Type 0 where
   pub pages : ArePrograms m.page have want programs
   pub done : DoPrograms m (first_mode4 (chip_of m start [] false)) programs steps
+
+-- an array that is the target below one address, and the first content from it on
+pub record IsInTheMaking (have want array : List ℕ) : Type 0 where
+  pub upto : ℕ
+  pub below : (x : ℕ) → x < upto → slice_index array x ≡ slice_index want x
+  pub above : (x : ℕ) → upto ≤ x → slice_index array x ≡ slice_index have x

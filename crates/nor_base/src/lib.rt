@@ -9,13 +9,9 @@ pub mod device;
 pub mod from_read;
 pub mod instruction;
 pub mod into_write;
-pub mod laws;
 pub mod meaning;
 pub mod step;
-#[cfg(test)]
-mod tests;
 pub mod transfer;
-pub mod worked;
 pub mod wrong;
 
 pub use bytes::Bytes;
@@ -26,5 +22,5 @@ pub use instruction::What;
 pub use into_write::IntoWrite;
 pub use meaning::{Erase, Meaning, Part, QuadRead, Region, Start, Strategy, Switch, Width};
 pub use step::{Step, is_step};
-pub use transfer::{fill_from, put_all};
+pub use transfer::{fill_from, put_all, put_parts};
 pub use wrong::{PortFault, Wrong};

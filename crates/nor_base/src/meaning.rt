@@ -1,6 +1,8 @@
 //! What a chip's SFDP parameters say of it.
 
-ghost use Rattle.std.specs.Prelude.{◌≡◌, ◌↔◌, ◌≤◌, ◌%◌, ◌^◌, IsSome, IfSome};
+ghost use Rattle.std.specs.Prelude.{◌≡◌, ◌↔◌, ◌<◌, ◌≤◌, ◌%◌, ◌^◌, IsSome, IfSome};
+ghost use Rattle.nor_base.specs.Parameters.{allows, erase_kind};
+ghost use Rattle.nor_base.specs.Chip.{begins4};
 ghost use Rattle.nor_base.specs.Accepted.{IsAccepted};
 ghost use Rattle.nor_base.specs.Uniform.{uniform_of, IsUniformSize};
 
@@ -45,6 +47,19 @@ pub struct Region {
     pub size: u32,
     /// The erase kinds allowed: bit 0 is kind 1.
     pub kinds: u8,
+}
+
+impl Region {
+    /// Whether the region allows the erase kind of a number, 1 to 4; no other kind is allowed.
+    pub fn allows(&self, kind: u8) -> bool
+        ensures { result ≡ allows self.now kind }
+    {
+        let kinds = self.kinds;
+        if kind == 0 || kind > 8 {
+            return false;
+        }
+        (kinds >> (kind - 1)) % 2 == 1
+    }
 }
 
 /// An erase kind (JESD216B, basic DWORDs 8 and 9, and FF84h).
@@ -170,6 +185,26 @@ impl Meaning {
             quad4: false,
             quad3: false,
         })
+    }
+
+    /// The erase kind of a number, 1 to 4, where it is present; `None` for an absent kind and every other number.
+    pub fn erase_kind(&self, kind: u8) -> Option<Erase>
+        ensures kind { result ≡ erase_kind self.now kind }
+        ensures number { IfSome result (λ _. kind ≤ 4) }
+        ensures some { IfSome result (λ erase. 0 < erase.size) }
+    {
+        self.is_accepted();
+        if kind == 0 || kind > 4 {
+            return None;
+        }
+        self.erases[usize::from(kind - 1)]
+    }
+
+    /// Whether a chip that begins so begins in four-byte address mode: the start says so, or it has no other mode.
+    pub fn begins4(&self, start: &Start) -> bool
+        ensures { result ≡ begins4 self.now start.now }
+    {
+        start.mode4 || self.width == Width::Four
     }
 
     /// What holds of every meaning: it is accepted.

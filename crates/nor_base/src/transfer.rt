@@ -1,6 +1,6 @@
 //! Whole byte strings through devices that move any number of bytes at a call.
 
-ghost use Rattle.std.specs.Prelude.{◌<◌, ◌^◌, ◌-◌};
+ghost use Rattle.std.specs.Prelude.{◌<◌, ◌^◌, ◌-◌, flat_map};
 ghost use Rattle.nor_base.specs.Device.{Writes, Fills, Counts};
 
 use crate::device::{ByteIn, ByteOut, Failed};
@@ -15,10 +15,22 @@ pub fn put_all<W: ByteOut>(writer: &mut W, bytes: &[u8]) -> Result<(), Failed>
 {
     let mut done = 0;
     while done < bytes.len() {
-        match writer.put(&bytes[done..]) {
-            Ok(taken) => done += taken,
-            Err(failed) => return Err(failed),
-        }
+        done += writer.put(&bytes[done..])?;
+    }
+    Ok(())
+}
+
+/// Puts all of the parts, one after another.
+///
+/// At `Failed` a proper prefix of the parts joined was taken. It comes from the writer alone, whose count of failures
+/// rose by one.
+pub fn put_parts<W: ByteOut>(writer: &mut W, parts: &[&[u8]]) -> Result<(), Failed>
+    requires { W.count writer.old < 2 ^ 64 - 1 }
+    ensures bytes { Writes (W.held writer.old) (W.held writer.new) result (flat_map (λ part. part.now) parts.now) }
+    ensures count { Counts (W.count writer.old) (W.count writer.new) result }
+{
+    for part in parts {
+        put_all(writer, part)?;
     }
     Ok(())
 }
@@ -35,10 +47,9 @@ pub fn fill_from<R: ByteIn>(reader: &mut R, buffer: &mut [u8]) -> Result<usize, 
 {
     let mut done = 0;
     while done < buffer.len() {
-        match reader.take(&mut buffer[done..]) {
-            Ok(0) => return Ok(done),
-            Ok(given) => done += given,
-            Err(failed) => return Err(failed),
+        match reader.take(&mut buffer[done..])? {
+            0 => return Ok(done),
+            given => done += given,
         }
     }
     Ok(done)

@@ -8,8 +8,7 @@ use Rattle.std.proofs.lemmas.List.{get_or-take, get_or-drop, get_or-replicate, l
 use Rattle.std.proofs.lemmas.List.Edits.{paste_all, length-paste}
 use Rattle.std.proofs.lemmas.Grind.{same_number_lists}
 use Rattle.nor_base.specs.Effect.{erased}
-use Rattle.nor_base.proofs.EachLaws.{length-each}
-use Rattle.nor_base.proofs.EffectLaws.{erased_fills, erased_keeps}
+use Rattle.nor_base.proofs.ArrayLaws.{length-each, erased_fills, erased_keeps}
 
 -- FFh so many times
 abbrev effs : ℕ → List ℕ

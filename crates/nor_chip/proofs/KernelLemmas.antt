@@ -8,7 +8,7 @@ use Rattle.std.proofs.lemmas.Bool.Decides.{eqb_tells}
 use Rattle.std.proofs.lemmas.Grind.{same_number_lists}
 use Rattle.std.proofs.Math.ListN.{length-set}
 use Rattle.nor_base.specs.Effect.{place, last_byte_for, written, raises_bit, raises, programmed}
-use Rattle.nor_base.proofs.EachLaws.{length-each, slice_index-each, some-false, some-true}
+use Rattle.nor_base.proofs.ArrayLaws.{length-each, slice_index-each, some-false, some-true}
 use Rattle.nor_chip.proofs.PlaceLemmas.{place_again, places_apart}
 
 -- of the first n bytes of a program, byte j is the last that goes to x

@@ -1,7 +1,7 @@
 -- What lies on the chip.
 use Rattle.std.proofs.Common.{◌≡◌, ℕ, ◌+◌, ◌-◌, ◌*◌, ◌/◌, ◌%◌, ◌^◌, ◌<◌, ◌≤◌, ◌==◌, nat_le, nat_lt, Bool, true, false, not, ◌&&◌, ◌||◌, Option, Some, None, option_map, refl, sym, ◌∙◌, ap, subst, arith, inl, inr}
 use Rattle.std.specs.Option.{option_map_or}
-use Rattle.std.proofs.lemmas.Bool.{cases_lt, leb-false, ltb-false}
+use Rattle.std.proofs.lemmas.Bool.{cases_lt, leb-false, ltb-false, not-false, or_parts}
 use Rattle.std.proofs.Math.Nat.{mul-le-mul_left}
 use Rattle.std.proofs.lemmas.Nat.{pow-add, pow_pos}
 use Rattle.nor_base.specs.declared.meaning.Erase.{Erase}
@@ -11,9 +11,7 @@ use Rattle.nor_base.specs.Parameters.{Parameters, erase_kind, block_size}
 use Rattle.nor_base.specs.Accepted.{IsAccepted}
 use Rattle.nor_base.specs.Blocks.{is_legal, lies_in_one}
 use Rattle.nor_base.specs.Decoding.{Instruction}
-use Rattle.nor_base.specs.Effect.{has_address, is_program, is_read, starts_no_block, is_out_of_range}
-use Rattle.nor_base.specs.Laws.{page_start}
-use Rattle.nor_base.proofs.Decide.{or_left_false, or_right_false}
+use Rattle.nor_base.specs.Effect.{has_address, is_program, is_read, starts_no_block, is_out_of_range, page_start}
 use Rattle.nor_base.proofs.RegionLaws.{legal_on_chip}
 
 -- a page that holds an address of the chip lies on the chip
@@ -38,7 +36,7 @@ page_inside m address accepted inside =
 named_in_range : (m : Parameters) (w : What) (address asked : ℕ) → has_address w ≡ true
     → (has_address w && nat_le m.size address) || ((is_read w && nat_lt m.size (address + asked)) || starts_no_block m w address) ≡ false → address < m.size
 named_in_range m w address asked named h =
-    leb-false m.size address (ap (λ b. b && nat_le m.size address) (sym named) ∙ or_left_false _ _ h)
+    leb-false m.size address (ap (λ b. b && nat_le m.size address) (sym named) ∙ (or_parts _ _ h).0)
 
 program_has_address : (w : What) → is_program w ≡ true → has_address w ≡ true
 program_has_address what.Program h = refl
@@ -53,35 +51,25 @@ pub read_in_range : (m : Parameters) (i : Instruction) → is_read i.what ≡ tr
 unfolding is_out_of_range
 read_in_range m i read h =
     ltb-false m.size (i.address + i.asked)
-    (ap (λ b. b && nat_lt m.size (i.address + i.asked)) (sym read) ∙ or_left_false _ _ (or_right_false (has_address i.what && nat_le m.size i.address) _ h))
-
-not_false : (b : Bool) → not b ≡ false → b ≡ true
-not_false true h = refl
-not_false false h = cc
+    (ap (λ b. b && nat_lt m.size (i.address + i.asked)) (sym read) ∙ (or_parts _ _ (or_parts (has_address i.what && nat_le m.size i.address) _ h).1).0)
 
 erase_told : (m : Parameters) (w : What) (kind address : ℕ) → w ≡ what.Erase kind → starts_no_block m w address ≡ false → is_legal m kind address ≡ true
-erase_told m w kind address is h = not_false (is_legal m kind address) (ap (λ v. starts_no_block m v address) (sym is) ∙ h)
+erase_told m w kind address is h = not-false (is_legal m kind address) (ap (λ v. starts_no_block m v address) (sym is) ∙ h)
 
 pub erase_in_range : (m : Parameters) (i : Instruction) (kind : ℕ) → i.what ≡ what.Erase kind → is_out_of_range m i ≡ false → is_legal m kind i.address ≡ true
 unfolding is_out_of_range
 erase_in_range m i kind is h =
-    erase_told m i.what kind i.address is (or_right_false (is_read i.what && nat_lt m.size (i.address + i.asked)) _ (or_right_false (has_address i.what && nat_le m.size i.address) _ h))
+    erase_told m i.what kind i.address is (or_parts (is_read i.what && nat_lt m.size (i.address + i.asked)) _ (or_parts (has_address i.what && nat_le m.size i.address) _ h).1).1
 
-legal_slot : (m : Parameters) (kind start : ℕ) (slot : Option Erase) → erase_kind m kind ≡ slot → IsAccepted m
+legal_slot : (m : Parameters) (kind start : ℕ) (slot : Option Erase)
     → option_map_or (λ (erase : Erase). (start % erase.size == 0) && lies_in_one 0 m.regions kind start erase.size) slot false ≡ true
-    → (option_map (λ (erase : Erase). erase.size) slot ≡ Some (option_map_or (λ (erase : Erase). erase.size) slot 0)) × (0 < option_map_or (λ (erase : Erase). erase.size) slot 0)
-legal_slot m kind start None is accepted h = cc
-legal_slot m kind start (Some erase) is accepted h =
-    let power = (accepted.kinds kind erase is).size in
-    (refl, subst (λ n. 0 < n) (sym power.value) (pow_pos power.exponent))
+    → option_map (λ (erase : Erase). erase.size) slot ≡ Some (option_map_or (λ (erase : Erase). erase.size) slot 0)
+legal_slot m kind start None h = cc
+legal_slot m kind start (Some erase) h = refl
 
--- a legal block of a kind has the kind's size, some of it, and lies on the chip
-pub legal_size : (m : Parameters) (kind start : ℕ) → IsAccepted m → is_legal m kind start ≡ true → 0 < block_size m kind
-unfolding is_legal
-legal_size m kind start accepted h = (legal_slot m kind start (erase_kind m kind) refl accepted h).1
-
+-- a legal block of a kind lies on the chip
 pub legal_inside : (m : Parameters) (kind start : ℕ) → IsAccepted m → is_legal m kind start ≡ true → start + block_size m kind ≤ m.size
 unfolding is_legal
 legal_inside m kind start accepted h =
     legal_on_chip m (record { start = start; size = block_size m kind; kind = kind }) accepted
-    (record { size = (legal_slot m kind start (erase_kind m kind) refl accepted h).0; legal = h })
+    (record { size = legal_slot m kind start (erase_kind m kind) h; legal = h })

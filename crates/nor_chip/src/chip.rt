@@ -5,8 +5,7 @@ ghost use Rattle.nor_base.specs.Sample.{sampled_count};
 ghost use Rattle.nor_base.specs.Chip.{chip_of, ready, is_settled, is_mode, IsPossible};
 ghost use Rattle.nor_base.specs.Blocks.{is_legal as is_legal_block};
 ghost use Rattle.nor_base.specs.Parameters.{block_size};
-ghost use Rattle.nor_base.specs.Effect.{effect_of, is_program, raises as raises_of, programmed, erased, accepting, switching, status};
-ghost use Rattle.nor_base.specs.Laws.{wrong_of};
+ghost use Rattle.nor_base.specs.Effect.{effect_of, wrong_of, is_program, raises as raises_of, programmed, erased, accepting, switching, status};
 ghost use Rattle.nor_base.specs.Port.{Shown, Transacts, CountsTransact};
 ghost use Rattle.nor_chip.specs.Sent.{instruction_of, sent};
 
@@ -14,7 +13,7 @@ use crate::erase::{block_size, fill_block};
 use crate::port::Port;
 use crate::program::{program, raises};
 use crate::rules::{is_broken, is_out_of_range, is_program, is_quad, is_status, needs_latch};
-use nor_base::{Meaning, PortFault, Start, What, Width, Wrong};
+use nor_base::{Meaning, PortFault, Start, What, Wrong};
 use nor_decode::{Seen, decode};
 use std::marker::Model;
 
@@ -77,7 +76,7 @@ impl<'a> Chip<'a> {
             keeps,
             array: content,
             latch: false,
-            mode4: start.mode4 || meaning.width == Width::Four,
+            mode4: meaning.begins4(&start),
             left: 0,
             next: 0,
         }
@@ -261,7 +260,7 @@ impl<'a> Port for Chip<'a> {
     #[tactic(auto, unfolding(nor_base::specs::Chip::is_settled))]
     fn settled(&self) -> bool {
         let meaning = self.meaning;
-        let first = self.start.mode4 || meaning.width == Width::Four;
+        let first = meaning.begins4(&self.start);
         !(self.left > 0) && (!self.latch && is_mode(first, self.mode4))
     }
 

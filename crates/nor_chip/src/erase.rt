@@ -1,28 +1,23 @@
 //! What an erase does to the array.
 
-ghost use Rattle.std.specs.Prelude.{◌≡◌, ◌<◌, ◌≤◌, ◌+◌, length, replicate};
+ghost use Rattle.std.specs.Prelude.{◌≡◌, ◌≤◌, ◌+◌, length, replicate};
 ghost use Rattle.nor_base.specs.Parameters.{block_size};
 ghost use Rattle.nor_base.specs.Effect.{erased};
 
 use nor_base::Meaning;
 
-/// The size of a block of an erase kind that the chip has, in bytes.
-pub fn block_size(meaning: &Meaning, kind: u8) -> u32
-    requires { 0 < block_size meaning.now kind }
+/// The bytes of a block of an erase kind; 0 where the chip hasn't the kind.
+pub(crate) fn block_size(meaning: &Meaning, kind: u8) -> u32
     ensures { result ≡ block_size meaning.now kind }
 {
-    meaning.is_accepted();
-    if kind == 0 || kind > 4 {
-        return 0;
-    }
-    match meaning.erases[usize::from(kind - 1)] {
+    match meaning.erase_kind(kind) {
         Some(erase) => erase.size,
         None => 0,
     }
 }
 
 /// FFh over so many bytes, from a place on.
-pub fn fill_block(array: &mut [u8], from: usize, size: usize)
+pub(crate) fn fill_block(array: &mut [u8], from: usize, size: usize)
     requires { from + size ≤ length array.old }
     ensures { array.new ≡ erased from size array.old }
 {

@@ -10,8 +10,6 @@ mod erase;
 mod port;
 mod program;
 mod rules;
-#[cfg(test)]
-mod tests;
 
 pub use chip::Chip;
 pub use nor_base::{PortFault, Wrong};

@@ -1,14 +1,13 @@
 //! What a program does to the array.
 
 ghost use Rattle.std.specs.Prelude.{◌≡◌, ◌<◌, ◌≤◌, ◌+◌, ◌-◌, length, true};
-ghost use Rattle.nor_base.specs.Effect.{is_program, place as place_of, raises as raises_of, programmed};
-ghost use Rattle.nor_base.specs.Laws.{page_start};
+ghost use Rattle.nor_base.specs.Effect.{is_program, place as place_of, raises as raises_of, programmed, page_start};
 ghost use Rattle.nor_chip.specs.Sent.{sent};
 
 use nor_decode::Seen;
 
 /// Where byte `index` of a program goes: on from the address, and round within its page.
-pub fn place(page: u32, address: u32, index: usize) -> usize
+pub(crate) fn place(page: u32, address: u32, index: usize) -> usize
     requires { 0 < page }
     ensures value { result ≡ place_of page address index }
     ensures upto { result < page_start page address + page }
@@ -34,7 +33,7 @@ fn count_sent(seen: &Seen<'_>) -> usize
 }
 
 /// Whether a byte of the program has a 1 where the array has a 0.
-pub fn raises(page: u32, seen: &Seen<'_>, array: &[u8]) -> bool
+pub(crate) fn raises(page: u32, seen: &Seen<'_>, array: &[u8]) -> bool
     requires program { is_program seen.now.what ≡ true }
     requires some { 0 < page }
     requires inside { page_start page seen.now.address + page ≤ length array.now }
@@ -52,7 +51,7 @@ pub fn raises(page: u32, seen: &Seen<'_>, array: &[u8]) -> bool
 }
 
 /// Clears the bits of the array that the program's bytes have clear.
-pub fn program(page: u32, seen: &Seen<'_>, array: &mut [u8])
+pub(crate) fn program(page: u32, seen: &Seen<'_>, array: &mut [u8])
     requires program { is_program seen.now.what ≡ true }
     requires some { 0 < page }
     requires inside { page_start page seen.now.address + page ≤ length array.old }

@@ -6,7 +6,7 @@ use Rattle.std.specs.List.{find}
 use Rattle.std.specs.Option.{option_map_or, option_or}
 use Rattle.nor_base.specs.declared.meaning.Erase.{Erase}
 use Rattle.nor_base.specs.Instructions.{Row}
-use Rattle.nor_base.proofs.Decide.{and_none}
+use Rattle.std.proofs.Math.Bool.{and-false}
 use Rattle.nor_decode.specs.Table.{rows_by}
 
 -- the row has the opcode, and is offered
@@ -23,7 +23,7 @@ find-append test (x ∷ xs) ys = append_step (test x) x (find test xs) (find tes
 
 none_dead : (opcode : ℕ) (found : Option Erase) (mode4 : Bool) (kind : ℕ) → find (fits opcode) (rows_by false found mode4 kind) ≡ None
 none_dead opcode found mode4 kind =
-    rw (and_none (opcode == option_map_or (λ erase. erase.op) found 0), and_none (opcode == option_map_or (λ op4. op4) (option_and_then (λ erase. erase.op4) found) 0)) refl
+    rw (and-false (opcode == option_map_or (λ erase. erase.op) found 0), and-false (opcode == option_map_or (λ op4. op4) (option_and_then (λ erase. erase.op4) found) 0)) refl
 
 -- a kind that no region allows has no row
 pub none_where_no_region : (opcode : ℕ) (found : Option Erase) (allowed mode4 : Bool) (kind : ℕ) → allowed ≡ false

@@ -7,8 +7,6 @@
 mod clocks;
 mod seen;
 mod table;
-#[cfg(test)]
-mod tests;
 mod transaction;
 
 pub use nor_base::What;

@@ -1,9 +1,9 @@
 //! The instruction table (W25Q256JV datasheet, "Instruction Set Table"; JESD216B for what is a chip's own).
 
-ghost use Rattle.std.specs.Prelude.{◌≡◌, ◌<◌, ◌≤◌, ◌==◌, ◌&&◌, suc, [], ◌∷◌, find, is_some, true};
+ghost use Rattle.std.specs.Prelude.{◌≡◌, ◌≤◌, ◌==◌, ◌&&◌, [], ◌∷◌, find, is_some, true};
 ghost use Rattle.std.specs.List.{list_any};
 ghost use Rattle.nor_base.specs.Instructions.{row, by_mode, row_of, common_rows, quad_read_row, erase_rows};
-ghost use Rattle.nor_base.specs.Parameters.{allows, erase_kind};
+ghost use Rattle.nor_base.specs.Parameters.{allows};
 ghost use Rattle.nor_decode.specs.Table.{rows_by};
 
 use nor_base::{Erase, Meaning, Region, Switch, What};
@@ -39,10 +39,10 @@ pub(crate) fn row_of(opcode: u8, meaning: &Meaning, mode4: bool) -> Option<Row>
 {
     common_row(opcode, meaning, mode4)
         .or_else(|| quad_read_row(opcode, meaning, mode4))
-        .or_else(|| erase_row(opcode, meaning, mode4, 0))
         .or_else(|| erase_row(opcode, meaning, mode4, 1))
         .or_else(|| erase_row(opcode, meaning, mode4, 2))
         .or_else(|| erase_row(opcode, meaning, mode4, 3))
+        .or_else(|| erase_row(opcode, meaning, mode4, 4))
 }
 
 /// The row of an opcode that is the same on every chip.
@@ -111,34 +111,24 @@ fn quad_read_row(opcode: u8, meaning: &Meaning, mode4: bool) -> Option<Row>
     }
 }
 
-/// The row of an erase kind, by its legacy or its dedicated opcode. Slots count from 0, kinds from 1.
-fn erase_row(opcode: u8, meaning: &Meaning, mode4: bool, slot: u8) -> Option<Row>
-    requires { slot < 4 }
-    ensures { result ≡ find (λ r. (opcode == r.opcode) && r.offered) (erase_rows meaning.now mode4 (suc slot)) }
+/// The row of an erase kind, by its legacy or its dedicated opcode, where some region allows it.
+fn erase_row(opcode: u8, meaning: &Meaning, mode4: bool, kind: u8) -> Option<Row>
+    ensures { result ≡ find (λ r. (opcode == r.opcode) && r.offered) (erase_rows meaning.now mode4 kind) }
 {
-    let row = row_of_kind(opcode, kind_at(meaning, slot), mode4, slot)?;
-    if some_region_allows(&meaning.regions, slot) {
+    let row = row_of_kind(opcode, meaning.erase_kind(kind), mode4, kind)?;
+    if some_region_allows(&meaning.regions, kind) {
         Some(row)
     } else {
         None
     }
 }
 
-/// The erase kind of a slot.
-fn kind_at(meaning: &Meaning, slot: u8) -> Option<Erase>
-    requires { slot < 4 }
-    ensures { result ≡ erase_kind meaning.now (suc slot) }
-{
-    meaning.erases[usize::from(slot)]
-}
-
-/// The row of the erase kind of a slot, were it live.
-fn row_of_kind(opcode: u8, erase: Option<Erase>, mode4: bool, slot: u8) -> Option<Row>
-    requires { slot < 4 }
-    ensures { result ≡ find (λ r. (opcode == r.opcode) && r.offered) (rows_by (is_some erase) erase mode4 (suc slot)) }
+/// The row of an erase kind, were it live.
+fn row_of_kind(opcode: u8, erase: Option<Erase>, mode4: bool, kind: u8) -> Option<Row>
+    ensures { result ≡ find (λ r. (opcode == r.opcode) && r.offered) (rows_by (is_some erase) erase mode4 kind) }
 {
     let erase = erase?;
-    let what = What::Erase(slot + 1);
+    let what = What::Erase(kind);
     if opcode == erase.op {
         Some(plain(opcode, what, by_mode(mode4)))
     } else if erase.op4 == Some(opcode) {
@@ -148,18 +138,9 @@ fn row_of_kind(opcode: u8, erase: Option<Erase>, mode4: bool, slot: u8) -> Optio
     }
 }
 
-/// Whether some region allows the kind of a slot.
-fn some_region_allows(regions: &[Region], slot: u8) -> bool
-    requires { slot < 4 }
-    ensures { result ≡ list_any (λ region. allows region (suc slot)) regions.now }
+/// Whether some region allows the kind.
+fn some_region_allows(regions: &[Region], kind: u8) -> bool
+    ensures { result ≡ list_any (λ region. allows region kind) regions.now }
 {
-    regions.iter().any(|region| allows(region, slot))
-}
-
-/// Whether the region allows the kind of a slot.
-fn allows(region: &Region, slot: u8) -> bool
-    requires { slot < 4 }
-    ensures { result ≡ allows region.now (suc slot) }
-{
-    (region.kinds >> slot) % 2 == 1
+    regions.iter().any(|region| region.allows(kind))
 }

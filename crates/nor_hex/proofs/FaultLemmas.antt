@@ -8,7 +8,7 @@ use Rattle.nor_hex.specs.declared.base.Base.{Base}
 use Rattle.nor_hex.specs.declared.base.Base.TheVariants.{Linear}
 use Rattle.nor_hex.specs.declared.fault.HexFault.{HexFault}
 use Rattle.nor_hex.specs.declared.fault.HexFault.TheVariants.{NoColon, BadDigit, BadLength, BadSum, BadType, Conflict, NoEnd, AfterEnd, Memory}
-use Rattle.nor_hex.specs.Lines.{filled_lines}
+use Rattle.nor_lines.specs.Lines.{filled_lines}
 use Rattle.nor_hex.specs.Record.{Record, record_of, fields, pair_bytes}
 use Rattle.nor_hex.specs.Records.{record_at, line_records}
 use Rattle.nor_hex.specs.Image.{Pairs, addresses, byte_at, Lays, Puts, base_after}

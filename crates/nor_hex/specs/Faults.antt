@@ -5,7 +5,7 @@ use Rattle.std.specs.List.{list_any}
 use Rattle.std.specs.List.Sorted.{IsStrictlyIncreasing}
 use Rattle.nor_hex.specs.declared.fault.HexFault.{HexFault}
 use Rattle.nor_hex.specs.declared.fault.HexFault.TheVariants.{NoColon, BadDigit, BadLength, BadSum, BadType, Conflict, NoEnd, AfterEnd, Memory}
-use Rattle.nor_hex.specs.Lines.{lines_of_text, filled_lines}
+use Rattle.nor_lines.specs.Lines.{lines_of_text, filled_lines}
 use Rattle.nor_hex.specs.Record.{Record}
 use Rattle.nor_hex.specs.Records.{record_at, line_records}
 use Rattle.nor_hex.specs.Image.{Puts, Pairs, addresses, byte_at}

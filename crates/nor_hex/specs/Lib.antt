@@ -1,4 +1,3 @@
-pub mod Lines
 pub mod Record
 pub mod Records
 pub mod Image

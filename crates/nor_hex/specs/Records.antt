@@ -1,7 +1,7 @@
 -- The records of a text.
 use Rattle.std.specs.Prelude.{ℕ, Bool, if◌then◌else◌, List, [], ◌∷◌, map, Result, Ok, Err}
 use Rattle.nor_hex.specs.declared.fault.HexFault.{HexFault}
-use Rattle.nor_hex.specs.Lines.{filled_lines}
+use Rattle.nor_lines.specs.Lines.{filled_lines}
 use Rattle.nor_hex.specs.Record.{Record, record_of}
 
 -- the record that a numbered line is, or why it is none

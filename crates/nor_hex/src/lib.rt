@@ -10,7 +10,6 @@ mod base;
 mod digits;
 mod fault;
 mod image;
-mod lines;
 mod reader;
 mod record;
 mod record_iter;

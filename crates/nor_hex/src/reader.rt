@@ -9,8 +9,8 @@ ghost use Rattle.nor_hex.specs.Steps.{AddsByte, HasOther, AddsRecord, Clashes, b
 use crate::base::{Base, address, base_in};
 use crate::fault::HexFault;
 use crate::image::Image;
-use crate::lines::{filled, line_count};
 use crate::record::{HexLine, record_in};
+use nor_lines::{filled, line_count};
 use std::alloc::{Allocator, Global};
 use std::collections::BTreeMap;
 

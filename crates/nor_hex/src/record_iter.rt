@@ -6,8 +6,8 @@ ghost use Rattle.nor_hex.specs.Record.{Record, IsRecord, record_of};
 ghost use Rattle.nor_hex.specs.Records.{records_of};
 
 use crate::fault::HexFault;
-use crate::lines::{FilledLines, filled};
 use crate::record::{HexLine, record_in};
+use nor_lines::{FilledLines, filled};
 use std::marker::Model;
 
 /// An iterator over the records of a text. Clauses see it as the list of what it has left.

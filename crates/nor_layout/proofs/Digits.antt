@@ -1,22 +1,17 @@
 -- The value of a few hexadecimal digits.
-use Rattle.std.proofs.Common.{◌≡◌, ℕ, ◌<◌, ◌≤◌, ◌^◌, Bool, true, false, ◌&&◌, List, [], ◌∷◌, length, take, refl, arith}
+use Rattle.std.proofs.Common.{◌≡◌, ℕ, ◌<◌, ◌≤◌, ◌^◌, true, List, [], ◌∷◌, length, take, refl, arith}
 use Rattle.std.proofs.Math.Nat.{pow-le-pow_right}
-use Rattle.std.proofs.lemmas.Bool.{ltb-true}
+use Rattle.std.proofs.lemmas.Bool.{and_parts, ltb-true}
 use Rattle.std.proofs.lemmas.List.{length-take}
 use Rattle.std.proofs.lemmas.Int.Digits.{digits_value-lt}
 use Rattle.std.specs.List.{list_all}
 use Rattle.std.specs.Char.{is_digit, digit_value}
 use Rattle.std.specs.Str.Parse.{AllDigits, digits_value}
 
--- both sides of a true `&&`
-pub both_true : (a b : Bool) → (a && b) ≡ true → (a ≡ true) × (b ≡ true)
-both_true true b e = (refl, e)
-both_true false b e = (e, absurd (cc))
-
 all_digits : (digits : List ℕ) → list_all (λ c. is_digit c 16) digits ≡ true → AllDigits 16 digits
 all_digits [] each = tt
 all_digits (c ∷ digits) each =
-    let both = both_true (is_digit c 16) (list_all (λ c. is_digit c 16) digits) each in
+    let both = and_parts (is_digit c 16) (list_all (λ c. is_digit c 16) digits) each in
     (ltb-true (digit_value c) 16 both.0, all_digits digits both.1)
 
 -- less than 8 digits have a value of less than 28 bits

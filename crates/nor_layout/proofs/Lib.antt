@@ -1,6 +1,5 @@
 mod Parts
 mod Digits
-mod Cuts
 mod Sound
 mod Reading
 mod Names

@@ -1,14 +1,17 @@
 -- No region has an empty name.
-use Rattle.std.proofs.Common.{◌≡◌, ◌∙◌, ℕ, ◌≤◌, true, false, not, List, [], ◌∷◌, length, get_or, None, ltb, refl, sym, ap, arith, Contains}
+use Rattle.std.proofs.Common.{◌≡◌, ◌∙◌, ℕ, ◌≤◌, Bool, true, false, not, cond, List, [], ◌∷◌, length, get_or, Some, None, ltb, refl, sym, ap, arith, Contains}
 use Rattle.std.specs.List.{list_all, position_or_len}
 use Rattle.std.specs.Str.{bytes_eq}
 use Rattle.std.proofs.lemmas.List.Sums.{fails_before_first}
-use Rattle.std.proofs.lemmas.Bool.{ltb-false}
+use Rattle.std.proofs.lemmas.Bool.{and_parts, ltb-false}
 use Rattle.nor_layout.specs.Region.{Region, is_filled, is_region}
 use Rattle.nor_layout.specs.Line.{is_taken}
 use Rattle.nor_layout.specs.Chosen.{first_unknown}
-use Rattle.nor_layout.proofs.Cuts.{missed}
-use Rattle.nor_layout.proofs.Digits.{both_true}
+
+-- a search that finds no place
+missed : (test : Bool) (place : ℕ) → None ≡ cond test (Some place) None → test ≡ false
+missed true place e = cc
+missed false place e = refl
 
 filled_apart : (name : List ℕ) → is_filled name ≡ true → bytes_eq name [] ≡ false
 filled_apart [] filled = sym filled
@@ -17,8 +20,8 @@ filled_apart (byte ∷ bytes) filled = refl
 no_empty_name : (regions : List Region) → list_all is_region regions ≡ true → is_taken regions [] ≡ false
 no_empty_name [] each = refl
 no_empty_name (region ∷ regions) each =
-    let both = both_true (is_region region) (list_all is_region regions) each in
-    let name = both_true (is_filled region.name) _ both.0 in
+    let both = and_parts (is_region region) (list_all is_region regions) each in
+    let name = and_parts (is_filled region.name) _ both.0 in
     rw (filled_apart region.name name.0) (no_empty_name regions both.1)
 
 -- an empty name is unknown

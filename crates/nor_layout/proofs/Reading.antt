@@ -1,20 +1,21 @@
 -- One line more of a layout.
 use borrow.Author.Count.{below_more}
-use Rattle.std.proofs.Common.{◌≡◌, ◌∙◌, ℕ, ◌+◌, ◌<◌, ◌≤◌, Bool, true, false, if◌then◌else◌, List, [], ◌∷◌, ◌++◌, length, take, get_or, Option, Some, None, Result, Ok, Err, refl, sym, ap, subst, ⊎_elim, arith}
-use Rattle.std.specs.List.{filter_map, enumerate_from}
+use Rattle.std.proofs.Common.{◌≡◌, ◌∙◌, ℕ, ◌+◌, ◌<◌, ◌≤◌, Bool, true, false, if◌then◌else◌, List, [], ◌∷◌, ◌++◌, length, map, take, get_or, Option, Some, None, Result, Ok, Err, refl, sym, ap, subst, ⊎_elim, append-nil, arith}
+use Rattle.std.specs.List.{filter_map}
+use Rattle.std.specs.Prelude.{MatchResult, IfErr, IsErrAnd}
 use Rattle.std.specs.Option.{option_to_list}
+use Rattle.std.proofs.Math.Seq.{take-append_seam, get_or-append_seam}
 use Rattle.std.proofs.lemmas.Bool.{cases_lt}
-use Rattle.std.proofs.lemmas.List.{take_all, take_more, get_or_default, get_or_past}
+use Rattle.std.proofs.lemmas.List.{append_assoc, length_push, map_push, get_or_past}
 use Rattle.std.proofs.lemmas.List.Elements.{filter_map-append}
-use Rattle.std.proofs.lemmas.List.FromFn.{length-enumerate_from, get_or-enumerate_from}
+use Rattle.nor_lines.specs.Lines.{filled_lines}
 use Rattle.nor_layout.specs.declared.cause.Cause.{Cause}
 use Rattle.nor_layout.specs.declared.cause.Cause.TheVariants.{BadLine, BadNumber, EndBeforeStart, RepeatedName, TooMany}
 use Rattle.nor_layout.specs.Region.{Region, AreRegions}
 use Rattle.nor_layout.specs.Line.{line_says, said_below, line_below}
 use Rattle.nor_layout.specs.declared.fault.LayoutFault.{LayoutFault}
 use Rattle.nor_layout.specs.Cause.{fault_of}
-use Rattle.nor_layout.specs.Lines.{lines_of}
-use Rattle.nor_layout.specs.Text.{region_said, regions_of, cause_said, cause_at, IsLayout, IsFirstFault, Refuses}
+use Rattle.nor_layout.specs.Text.{region_said, regions_of, line_at, cause_said, cause_at, IsLayout, IsFirstFault, Refuses}
 use Rattle.nor_layout.proofs.Sound.{regions_kept}
 
 -- the tests of a region that pass leave it
@@ -34,50 +35,42 @@ filter_map_one f x None e = rw e refl
 filter_map_one f x (Some y) e = rw e refl
 
 -- the regions of one line more
-pub regions_more : (lines : List (List ℕ)) (n : ℕ) (line : List ℕ) (regions : List Region) (o : Option Region) → n < length lines → line ≡ get_or lines n [] → regions ≡ regions_of (take n lines) → Ok o ≡ line_below regions line → regions_of (take (n + 1) lines) ≡ regions ++ option_to_list o
-regions_more lines n line regions o within at spelled says =
-    let said : region_said (line_says line) ≡ o = said_alone regions (line_says line) o (sym says) in
-    let more : take (n + 1) lines ≡ take n lines ++ line ∷ [] = take_more lines n [] within ∙ ap (λ x. take n lines ++ x ∷ []) (sym at) in
-    ap regions_of more
-    ∙ filter_map-append (λ x. region_said (line_says x)) (take n lines) (line ∷ [])
-    ∙ ap (λ x. regions_of (take n lines) ++ x) (filter_map_one (λ x. region_said (line_says x)) line o said)
+regions_more : (seen : List (ℕ × List ℕ)) (line : ℕ × List ℕ) (regions : List Region) (o : Option Region) → regions ≡ regions_of seen → Ok o ≡ line_below regions line.1 → regions_of (seen ++ line ∷ []) ≡ regions ++ option_to_list o
+regions_more seen line regions o spelled says =
+    let said : region_said (line_says line.1) ≡ o = said_alone regions (line_says line.1) o (sym says) in
+    filter_map-append (λ (x : ℕ × List ℕ). region_said (line_says x.1)) seen (line ∷ [])
+    ∙ ap (λ x. regions_of seen ++ x) (filter_map_one (λ (x : ℕ × List ℕ). region_said (line_says x.1)) line o said)
     ∙ ap (λ x. x ++ option_to_list o) (sym spelled)
 
--- the cause of the line below these regions
-pub cause_here : (lines : List (List ℕ)) (n : ℕ) (line : List ℕ) (regions : List Region) (r : Result (Option Region) Cause) → line ≡ get_or lines n [] → regions ≡ regions_of (take n lines) → r ≡ line_below regions line → cause_at lines n ≡ cause_said r
-cause_here lines n line regions r at spelled says =
-    ap (λ x. cause_said (line_below x (get_or lines n []))) (sym spelled) ∙ ap (λ x. cause_said (line_below regions x)) (sym at) ∙ ap cause_said (sym says)
-
--- past the last line stands no cause
-pub none_past : (lines : List (List ℕ)) (n : ℕ) → length lines ≤ n → cause_at lines n ≡ None
-none_past lines n past = ap (λ x. cause_said (line_below (regions_of (take n lines)) x)) (get_or_past lines n [] past)
-
--- the line and its index that an enumeration gives
-pub enumerated : (lines : List (List ℕ)) (n : ℕ) (index : ℕ) (line : List ℕ) → n < length (enumerate_from 0 lines) → (index, line) ≡ get_or (enumerate_from 0 lines) n (index, line) → (index ≡ n) × (n < length lines) × (line ≡ get_or lines n [])
-enumerated lines n index line within at =
-    let fits : n < length lines = omega (arith, length-enumerate_from 0 lines) in
-    let pair : (index, line) ≡ (0 + n, get_or lines n line) = at ∙ get_or-enumerate_from 0 lines n (index, line) fits in
-    (ap (λ (p : ℕ × List ℕ). p.0) pair ∙ omega arith, fits, ap (λ (p : ℕ × List ℕ). p.1) pair ∙ get_or_default lines n line [] fits)
-
--- n lines were read: their regions, and no cause
-pub record IsRead (lines : List (List ℕ)) (regions : List Region) (n : ℕ) : Type 0 where
-  pub spelled : regions ≡ regions_of (take n lines)
-  pub sound : (above : ℕ) → above < n → cause_at lines above ≡ None
+-- these lines were read: their regions, and no cause; the rest wasn't
+pub record IsRead (lines seen rest : List (ℕ × List ℕ)) (regions : List Region) : Type 0 where
+  pub all : seen ++ rest ≡ lines
+  pub spelled : regions ≡ regions_of seen
+  pub sound : (above : ℕ) → above < length seen → cause_at lines above ≡ None
   pub kept : AreRegions regions
 
--- what an enumeration gave after n lines
-pub record IsNext (lines : List (List ℕ)) (n : ℕ) (index : ℕ) (line : List ℕ) : Type 0 where
-  pub within : n < length (enumerate_from 0 lines)
-  pub at : (index, line) ≡ get_or (enumerate_from 0 lines) n (index, line)
+-- the next line
+line_here : (lines seen rest : List (ℕ × List ℕ)) (line : ℕ × List ℕ) → seen ++ line ∷ rest ≡ lines → line_at lines (length seen) ≡ line
+line_here lines seen rest line all = ap (λ x. line_at x (length seen)) (sym all) ∙ get_or-append_seam seen line rest (0, [])
+
+-- its cause
+cause_here : (lines seen rest : List (ℕ × List ℕ)) (line : ℕ × List ℕ) (regions : List Region) (r : Result (Option Region) Cause) → seen ++ line ∷ rest ≡ lines → regions ≡ regions_of seen → r ≡ line_below regions line.1 → cause_at lines (length seen) ≡ cause_said r
+cause_here lines seen rest line regions r all spelled says =
+    let above : take (length seen) lines ≡ seen = ap (take (length seen)) (sym all) ∙ take-append_seam seen (line ∷ rest) in
+    ap (λ x. cause_said (line_below (regions_of x) (line_at lines (length seen)).1)) above
+    ∙ ap (λ x. cause_said (line_below x (line_at lines (length seen)).1)) (sym spelled)
+    ∙ ap (λ (x : ℕ × List ℕ). cause_said (line_below regions x.1)) (line_here lines seen rest line all)
+    ∙ ap cause_said (sym says)
 
 -- one line more that is skipped or spells a region
-pub one_more : (lines : List (List ℕ)) (regions after : List Region) (n m index : ℕ) (line : List ℕ) (o : Option Region) → IsRead lines regions n → IsNext lines n index line → m ≡ n + 1 → Ok o ≡ line_below regions line → after ≡ regions ++ option_to_list o → IsRead lines after m
-one_more lines regions after n m index line o read next step says added =
-    let here = enumerated lines n index line next.within next.at in
+one_more : (lines seen rest : List (ℕ × List ℕ)) (line : ℕ × List ℕ) (regions after : List Region) (o : Option Region) → IsRead lines seen (line ∷ rest) regions → Ok o ≡ line_below regions line.1 → after ≡ regions ++ option_to_list o → IsRead lines (seen ++ line ∷ []) rest after
+one_more lines seen rest line regions after o read says added =
+    let here : cause_at lines (length seen) ≡ None = cause_here lines seen rest line regions (Ok o) read.all read.spelled says in
     record {
-      spelled = added ∙ sym (ap (λ x. regions_of (take x lines)) step ∙ regions_more lines n line regions o here.1 here.2 read.spelled says);
-      sound = λ above lt. below_more (λ x. cause_at lines x ≡ None) n read.sound (cause_here lines n line regions (Ok o) here.2 read.spelled says) above (omega arith);
-      kept = subst AreRegions (sym added) (regions_kept regions line o read.kept says);
+      all = append_assoc seen (line ∷ []) rest ∙ read.all;
+      spelled = added ∙ sym (regions_more seen line regions o read.spelled says);
+      sound = λ above lt. below_more (λ x. cause_at lines x ≡ None) (length seen) read.sound here above (omega (arith, length_push seen line));
+      kept = subst AreRegions (sym added) (regions_kept regions line.1 o read.kept says);
     }
 
 refuses_by : (text : List ℕ) (cause : Cause) (number : ℕ) → IsFirstFault text (fault_of cause number) → Refuses text (fault_of cause number)
@@ -88,23 +81,57 @@ refuses_by text RepeatedName number first = first
 refuses_by text TooMany number first = first
 
 -- one line more that has a cause
-pub first_fault : (text : List ℕ) (regions : List Region) (n index : ℕ) (line : List ℕ) (cause : Cause) (fault : LayoutFault) → IsRead (lines_of text) regions n → IsNext (lines_of text) n index line → Err cause ≡ line_below regions line → fault ≡ fault_of cause (index + 1) → Refuses text fault
-first_fault text regions n index line cause fault read next says told =
-    let here = enumerated (lines_of text) n index line next.within next.at in
-    let first : IsFirstFault text (fault_of cause (index + 1)) = record {
-      above = n;
+first_fault : (text : List ℕ) (seen rest : List (ℕ × List ℕ)) (line : ℕ × List ℕ) (regions : List Region) (cause : Cause) → IsRead (filled_lines text) seen (line ∷ rest) regions → Err cause ≡ line_below regions line.1 → Refuses text (fault_of cause line.0)
+first_fault text seen rest line regions cause read says =
+    let first : IsFirstFault text (fault_of cause line.0) = record {
+      above = length seen;
       cause = cause;
-      here = cause_here (lines_of text) n line regions (Err cause) here.2 read.spelled says;
+      here = cause_here (filled_lines text) seen rest line regions (Err cause) read.all read.spelled says;
       none_above = read.sound;
-      told = ap (λ x. fault_of cause (x + 1)) here.0;
+      told = ap (λ (x : ℕ × List ℕ). fault_of cause x.0) (sym (line_here (filled_lines text) seen rest line read.all));
     } in
-    subst (Refuses text) (sym told) (refuses_by text cause (index + 1) first)
+    refuses_by text cause line.0 first
+
+-- what the call says of a line
+abbrev pub Tells : Result (Option Region) Cause → ℕ → Result (Option Region) LayoutFault → Type 0
+Tells said number r = MatchResult said (λ o. r ≡ Ok o) (λ cause. r ≡ Err (fault_of cause number))
+
+fault_told : (said : Result (Option Region) Cause) (number : ℕ) (fault : LayoutFault) → Tells said number (Err fault) → (cause : Cause) × (Err cause ≡ said) × (fault ≡ fault_of cause number)
+fault_told (Ok o) number fault told = cc
+fault_told (Err cause) number fault told = (cause, refl, cc)
+
+region_told : (said : Result (Option Region) Cause) (number : ℕ) (o : Option Region) → Tells said number (Ok o) → Ok o ≡ said
+region_told (Ok x) number o told = cc
+region_told (Err cause) number o told = cc
+
+-- the next line's fault refuses the text
+pub refused_here : (text : List ℕ) (seen left rest : List (ℕ × List ℕ)) (line : ℕ × List ℕ) (regions : List Region) (fault : LayoutFault) → IsRead (filled_lines text) seen left regions → left ≡ line ∷ rest
+    → Tells (line_below regions line.1) line.0 (Err fault) → Refuses text fault
+refused_here text seen left rest line regions fault read next tells =
+    let told = fault_told (line_below regions line.1) line.0 fault tells in
+    subst (Refuses text) (sym told.2) (first_fault text seen rest line regions told.0 (subst (λ left. IsRead (filled_lines text) seen left regions) next read) told.1)
+
+-- the next line has no fault
+pub read_further : {X : Type 0} (view : X → ℕ × List ℕ) (lines left rest : List (ℕ × List ℕ)) (given : List X) (item : X) (regions after : List Region) (o : Option Region) → IsRead lines (map view given) left regions → left ≡ view item ∷ rest
+    → Tells (line_below regions (view item).1) (view item).0 (Ok o) → after ≡ regions ++ option_to_list o → IsRead lines (map view (given ++ item ∷ [])) rest after
+read_further view lines left rest given item regions after o read next tells added =
+    subst (λ seen. IsRead lines seen rest after) (sym (map_push view given item))
+    (one_more lines (map view given) rest (view item) regions after o (subst (λ left. IsRead lines (map view given) left regions) next read) (region_told (line_below regions (view item).1) (view item).0 o tells) added)
+
+-- a fault that is handed on
+pub handed_on : {T : Type 0} (r : Result T LayoutFault) (P : LayoutFault → Type 0) (fault : LayoutFault) → P fault → IsErrAnd r (λ e. e ≡ fault) → IfErr r P
+handed_on (Ok x) P fault holds is = absurd is
+handed_on (Err e) P fault holds is = subst P (sym is) holds
+
+-- past the last line stands no cause
+none_past : (lines : List (ℕ × List ℕ)) (n : ℕ) → length lines ≤ n → cause_at lines n ≡ None
+none_past lines n past = ap (λ (x : ℕ × List ℕ). cause_said (line_below (regions_of (take n lines)) x.1)) (get_or_past lines n (0, []) past)
 
 -- all lines were read
-pub all_read : (text : List ℕ) (regions : List Region) (n : ℕ) → IsRead (lines_of text) regions n → n ≡ length (enumerate_from 0 (lines_of text)) → IsLayout text regions
-all_read text regions n read end =
-    let all : n ≡ length (lines_of text) = end ∙ length-enumerate_from 0 (lines_of text) in
+pub all_read : (text : List ℕ) (seen left : List (ℕ × List ℕ)) (regions : List Region) → IsRead (filled_lines text) seen left regions → left ≡ [] → IsLayout text regions
+all_read text seen left regions read end =
+    let all : seen ≡ filled_lines text = sym (append-nil seen) ∙ ap (λ rest. seen ++ rest) (sym end) ∙ read.all in
     record {
-      spelled = read.spelled ∙ ap regions_of (ap (λ x. take x (lines_of text)) all ∙ take_all (length (lines_of text)) (lines_of text) (omega arith));
-      sound = λ above. ⊎_elim (λ lt. read.sound above (omega arith)) (λ ge. none_past (lines_of text) above ge) (cases_lt above (length (lines_of text)));
+      spelled = read.spelled ∙ ap regions_of all;
+      sound = λ above. ⊎_elim (λ lt. read.sound above (omega (arith, ap length all))) (λ ge. none_past (filled_lines text) above ge) (cases_lt above (length (filled_lines text)));
     }

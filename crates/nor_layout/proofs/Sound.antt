@@ -5,7 +5,7 @@ use Rattle.std.specs.Option.{option_to_list}
 use Rattle.std.specs.Str.{bytes_eq}
 use Rattle.std.specs.Char.{is_digit}
 use Rattle.std.specs.Str.Parse.{digits_value}
-use Rattle.std.proofs.lemmas.Bool.{leb-true, leb-false, lt-ltb}
+use Rattle.std.proofs.lemmas.Bool.{and_parts, false_from_ne_true, leb-true, leb-false, lt-ltb}
 use Rattle.std.proofs.lemmas.List.{length_push}
 use Rattle.std.proofs.lemmas.List.Elements.{filter_passes}
 use Rattle.std.proofs.lemmas.List.Folds.{list_all-append, list_any_at}
@@ -14,14 +14,15 @@ use Rattle.nor_layout.specs.declared.cause.Cause.{Cause}
 use Rattle.nor_layout.specs.declared.cause.Cause.TheVariants.{EndBeforeStart, RepeatedName, TooMany}
 use Rattle.nor_layout.specs.Region.{Region, is_filled, is_region, AreRegions}
 use Rattle.nor_layout.specs.Number.{digits_of, are_digits, number_of}
-use Rattle.nor_layout.specs.Fields.{trimmed, is_separator, is_colon, fields_of, exactly_two}
+use Rattle.nor_layout.specs.Fields.{is_separator, is_colon, fields_of, exactly_two}
+use Rattle.nor_lines.specs.Lines.{without_first_blanks}
 use Rattle.nor_layout.specs.Line.{region_between, region_of_offsets, region_of_fields, region_in, is_skipped, or_none, line_says, is_taken, said_below, line_below}
-use Rattle.nor_layout.proofs.Digits.{both_true, value_fits}
+use Rattle.nor_layout.proofs.Digits.{value_fits}
 
 number_bound : (digits : List ℕ) (test : Bool) (n : ℕ) → are_digits digits ≡ test → (if test then Some (digits_value 16 digits) else None) ≡ Some n → n < 2 ^ 32
 number_bound digits true n is e =
-    let outer = both_true (leb 1 (length digits) && leb (length digits) 8) (list_all (λ c. is_digit c 16) digits) is in
-    let inner = both_true (leb 1 (length digits)) (leb (length digits) 8) outer.0 in
+    let outer = and_parts (leb 1 (length digits) && leb (length digits) 8) (list_all (λ c. is_digit c 16) digits) is in
+    let inner = and_parts (leb 1 (length digits)) (leb (length digits) 8) outer.0 in
     let value : digits_value 16 digits ≡ n = cc in
     subst (λ x. x < 2 ^ 32) value (value_fits digits outer.1 (leb-true (length digits) 8 inner.1))
 number_bound digits false n is e = cc
@@ -76,14 +77,10 @@ tests_passed true many region o e = cc
 tests_passed false true region o e = cc
 tests_passed false false region o e = (refl, refl, cc)
 
-not_true : (b : Bool) → (b ≡ true → ⊥) → b ≡ false
-not_true true never = absurd (never refl)
-not_true false never = refl
-
 -- no region of this name: each has another
 others_apart : (above : List Region) (name : List ℕ) → is_taken above name ≡ false → (k : ℕ) (d : Region) → k < length above → bytes_eq (get_or above k d).name name ≡ false
 others_apart above name free k d within =
-    not_true (bytes_eq (get_or above k d).name name) (λ same.
+    false_from_ne_true (bytes_eq (get_or above k d).name name) (λ same.
     let taken : is_taken above name ≡ true = list_any_at (λ (region : Region). bytes_eq region.name name) above k d within same in
     absurd (cc))
 
@@ -107,4 +104,4 @@ said_more above (Ok (Some region)) o sound are e =
 
 -- one line more
 pub regions_kept : (above : List Region) (line : List ℕ) (o : Option Region) → AreRegions above → Ok o ≡ line_below above line → AreRegions (above ++ option_to_list o)
-regions_kept above line o are says = said_more above (line_says line) o (λ region e. unskipped (is_skipped (trimmed line)) (trimmed line) region e) are (sym says)
+regions_kept above line o are says = said_more above (line_says line) o (λ region e. unskipped (is_skipped (without_first_blanks line)) (without_first_blanks line) region e) are (sym says)

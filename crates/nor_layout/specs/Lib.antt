@@ -1,7 +1,6 @@
 pub mod Region
 pub mod Cause
 pub mod Number
-pub mod Lines
 pub mod Fields
 pub mod Line
 pub mod Text

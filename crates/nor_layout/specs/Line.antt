@@ -6,7 +6,8 @@ use Rattle.nor_layout.specs.declared.cause.Cause.{Cause}
 use Rattle.nor_layout.specs.declared.cause.Cause.TheVariants.{BadLine, BadNumber, EndBeforeStart, RepeatedName, TooMany}
 use Rattle.nor_layout.specs.Region.{Region}
 use Rattle.nor_layout.specs.Number.{number_of}
-use Rattle.nor_layout.specs.Fields.{trimmed, fields_of, is_colon, exactly_two}
+use Rattle.nor_layout.specs.Fields.{fields_of, is_colon, exactly_two}
+use Rattle.nor_lines.specs.Lines.{without_first_blanks}
 
 -- the region between two numbers, if both are numbers
 abbrev pub region_between : List ℕ → Option ℕ → Option ℕ → Result Region Cause
@@ -28,7 +29,7 @@ region_of_fields (Some fields) = region_of_offsets fields.1 (exactly_two (slice_
 abbrev pub region_in : List ℕ → Result Region Cause
 region_in line = region_of_fields (exactly_two (fields_of line))
 
--- without its blanks a line is skipped where it is empty or begins with `#`
+-- without the blanks before it a line is skipped where it is empty or begins with `#`
 abbrev pub is_skipped : List ℕ → Bool
 is_skipped [] = true
 is_skipped (byte ∷ bytes) = byte == 35
@@ -37,9 +38,9 @@ abbrev pub or_none : Result Region Cause → Result (Option Region) Cause
 or_none (Ok region) = Ok (Some region)
 or_none (Err cause) = Err cause
 
--- what the line alone says: nothing where it is skipped, a region, or a cause
+-- what the line alone, without blanks at its end, says: nothing where it is skipped, a region, or a cause
 abbrev pub line_says : List ℕ → Result (Option Region) Cause
-line_says line = if is_skipped (trimmed line) then Ok None else or_none (region_in (trimmed line))
+line_says line = if is_skipped (without_first_blanks line) then Ok None else or_none (region_in (without_first_blanks line))
 
 -- some region has this name, byte for byte
 abbrev pub is_taken : List Region → List ℕ → Bool

@@ -7,7 +7,7 @@ ghost use Rattle.nor_layout.specs.declared.fault.LayoutFault.TheVariants.{Memory
 use crate::fault::LayoutFault;
 use crate::region::Region;
 use nor_base::Bytes;
-use std::alloc::Allocator;
+use std::alloc::Global;
 use std::marker::Model;
 
 /// The addresses from `start` to `end`, both included.
@@ -68,12 +68,12 @@ fn lies_in(intervals: &[Interval], address: u32) -> bool
     intervals.iter().any(|interval| interval.start <= address && address <= interval.end)
 }
 
-/// The intervals of the regions with these names, in memory of any allocator.
-pub(crate) fn intervals_of<A: Allocator>(
-    alloc: A,
+/// The intervals of the regions with these names.
+pub(crate) fn intervals_of(
+    alloc: Global,
     regions: &[Region<'_>],
     names: &[Bytes],
-) -> Result<Vec<Interval, A>, LayoutFault>
+) -> Result<Vec<Interval>, LayoutFault>
     ensures chosen { IfOk result (λ intervals. (a : ℕ) → lies_in intervals.items a ≡ lies_in_named regions.now names.now a) }
     ensures refused { IfErr result (λ fault. fault ≡ Memory) }
 {

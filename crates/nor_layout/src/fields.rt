@@ -3,53 +3,13 @@
 ghost use Rattle.std.specs.Prelude.{◌≡◌};
 ghost use Rattle.std.specs.Option.{option_map};
 ghost use Rattle.std.specs.List.{slice_split};
-ghost use Rattle.nor_layout.specs.Fields.{is_blank, is_separator, is_colon, without_first_blanks, without_last_blanks, trimmed, fields_of, exactly_two};
-
-/// Whether a byte is dropped at either end of a line.
-fn is_blank(byte: u8) -> bool
-    ensures { result ≡ is_blank byte }
-{
-    matches!(byte, b' ' | b'\t' | b'\r')
-}
+ghost use Rattle.nor_layout.specs.Fields.{is_separator, is_colon, fields_of, exactly_two};
 
 /// Whether a byte separates fields.
 fn is_separator(byte: u8) -> bool
     ensures { result ≡ is_separator byte }
 {
     matches!(byte, b' ' | b'\t')
-}
-
-/// A line without the blanks, tabs and CR at its ends.
-pub(crate) fn trimmed(line: &[u8]) -> &[u8]
-    ensures { result.now ≡ trimmed line.now }
-{
-    without_last_blanks(without_first_blanks(line))
-}
-
-/// A line from its first byte that is no blank on.
-fn without_first_blanks(line: &[u8]) -> &[u8]
-    ensures { result.now ≡ without_first_blanks line.now }
-{
-    let mut rest = line;
-    while let [first, others @ ..] = rest
-        && is_blank(*first)
-    {
-        rest = others;
-    }
-    rest
-}
-
-/// A line up to its last byte that is no blank.
-fn without_last_blanks(line: &[u8]) -> &[u8]
-    ensures { result.now ≡ without_last_blanks line.now }
-{
-    let mut rest = line;
-    while let [others @ .., last] = rest
-        && is_blank(*last)
-    {
-        rest = others;
-    }
-    rest
 }
 
 /// The fields of a line where it has exactly two.

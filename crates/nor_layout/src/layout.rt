@@ -48,10 +48,7 @@ impl<'a> Layout<'a> {
         if names.is_empty() {
             return Ok(Chosen::whole());
         }
-        match intervals_of(alloc, regions, names) {
-            Ok(intervals) => Ok(Chosen::of(intervals)),
-            Err(fault) => Err(fault),
-        }
+        Ok(Chosen::of(intervals_of(alloc, regions, names)?))
     }
 }
 

@@ -11,12 +11,9 @@ mod fault;
 mod fields;
 mod layout;
 mod line;
-mod lines;
 mod number;
 mod reader;
 mod region;
-#[cfg(test)]
-mod tests;
 
 pub use chosen::Chosen;
 pub use fault::LayoutFault;

@@ -1,27 +1,38 @@
 //! What one line of a layout says.
 
-ghost use Rattle.std.specs.Prelude.{◌≡◌};
+ghost use Rattle.std.specs.Prelude.{◌≡◌, Ok, Err, MatchResult};
+ghost use Rattle.nor_layout.specs.Cause.{fault_of};
 ghost use Rattle.nor_layout.specs.Line.{is_taken, region_in, line_says, line_below};
 
 use crate::cause::Cause;
-use crate::fields::{trimmed, two_fields, two_offsets};
+use crate::fault::LayoutFault;
+use crate::fields::{two_fields, two_offsets};
 use crate::number::number;
 use crate::region::Region;
+use nor_lines::without_first_blanks;
 
 /// As many regions as a layout may have.
 const MOST_REGIONS: usize = 255;
 
-/// The region that a line adds to those above it, None where the line is skipped, or why the line is
-/// refused.
+/// The region that a line adds to those above it, None where the line is skipped, or the fault that
+/// tells why it is refused.
 pub(crate) fn region_below<'a>(
     above: &[Region<'a>],
+    number: u64,
     line: &'a [u8],
-) -> Result<Option<Region<'a>>, Cause>
+) -> Result<Option<Region<'a>>, LayoutFault>
+    ensures { MatchResult (line_below above.now line.now) (λ said. result ≡ Ok said) (λ cause. result ≡ Err (fault_of cause number)) }
+{
+    added_by(above, line).map_err(|cause| cause.at(number))
+}
+
+/// The region that a line adds to those above it, None where the line is skipped, or why the line is
+/// refused.
+fn added_by<'a>(above: &[Region<'a>], line: &'a [u8]) -> Result<Option<Region<'a>>, Cause>
     ensures { result ≡ line_below above.now line.now }
 {
-    let region = match region_on(line) {
-        Ok(Some(region)) => region,
-        other => return other,
+    let Some(region) = region_on(line)? else {
+        return Ok(None);
     };
     if is_taken(above, region.name) {
         return Err(Cause::RepeatedName);
@@ -43,13 +54,10 @@ pub(crate) fn is_taken(regions: &[Region<'_>], name: &[u8]) -> bool
 fn region_on(line: &[u8]) -> Result<Option<Region<'_>>, Cause>
     ensures { result ≡ line_says line.now }
 {
-    let line = trimmed(line);
+    let line = without_first_blanks(line);
     match line {
         [] | [b'#', ..] => Ok(None),
-        _ => match region_of(line) {
-            Ok(region) => Ok(Some(region)),
-            Err(cause) => Err(cause),
-        },
+        _ => Ok(Some(region_of(line)?)),
     }
 }
 

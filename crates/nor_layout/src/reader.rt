@@ -7,9 +7,8 @@ ghost use Rattle.nor_layout.specs.Text.{IsLayout, Refuses};
 use crate::fault::LayoutFault;
 use crate::layout::Layout;
 use crate::line::region_below;
-use crate::lines::Lines;
-use crate::region::Region;
-use std::alloc::{Allocator, Global};
+use nor_lines::filled;
+use std::alloc::Global;
 
 /// Reads a layout: its regions in the order of their lines, with names that borrow the text.
 ///
@@ -31,28 +30,11 @@ pub fn read(alloc: Global, text: &[u8]) -> Result<Layout<'_>, LayoutFault>
     ensures regions { IfOk result AreRegions }
     ensures refused { IfErr result (Refuses text.now) }
 {
-    match regions_in(alloc, text) {
-        Ok(regions) => Ok(Layout { regions }),
-        Err(fault) => Err(fault),
-    }
-}
-
-/// The regions of a layout's text, in memory of any allocator.
-pub(crate) fn regions_in<A: Allocator>(
-    alloc: A,
-    text: &[u8],
-) -> Result<Vec<Region<'_>, A>, LayoutFault>
-    ensures accepted { IfOk result (λ regions. IsLayout text.now regions.items) }
-    ensures regions { IfOk result (λ regions. AreRegions regions.items) }
-    ensures refused { IfErr result (Refuses text.now) }
-{
     let mut regions = Vec::new(alloc);
-    for (index, line) in Lines::of(text).enumerate() {
-        match region_below(&regions, line) {
-            Ok(None) => {}
-            Ok(Some(region)) => regions.push(region)?,
-            Err(cause) => return Err(cause.at(index as u64 + 1)),
+    for (number, line) in filled(text) {
+        if let Some(region) = region_below(&regions, number, line)? {
+            regions.push(region)?;
         }
     }
-    Ok(regions)
+    Ok(Layout { regions })
 }

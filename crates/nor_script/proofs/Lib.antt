@@ -1,3 +1,2 @@
-mod WriteLemmas
 mod HexLemmas
 mod VerifyLemmas

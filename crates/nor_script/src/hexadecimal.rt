@@ -12,7 +12,7 @@ const PART: usize = 32;
 /// Puts two lower-case digits for each byte.
 ///
 /// At `Failed` a proper prefix of them was taken; it comes from the writer alone.
-pub fn put_hexadecimal<W: ByteOut>(writer: &mut W, bytes: &[u8]) -> Result<(), Failed>
+pub(crate) fn put_hexadecimal<W: ByteOut>(writer: &mut W, bytes: &[u8]) -> Result<(), Failed>
     requires { W.count writer.old < 2 ^ 64 - 1 }
     ensures bytes { Writes (W.held writer.old) (W.held writer.new) result (flat_map hex_pair bytes.now) }
     ensures count { Counts (W.count writer.old) (W.count writer.new) result }
@@ -23,10 +23,8 @@ pub fn put_hexadecimal<W: ByteOut>(writer: &mut W, bytes: &[u8]) -> Result<(), F
         let count = (bytes.len() - done).min(PART);
         let part = &bytes[done..done + count];
         encode(part, &mut digits[..2 * count]);
-        match put_all(writer, &digits[..2 * count]) {
-            Ok(()) => done += count,
-            Err(failed) => return Err(failed),
-        }
+        put_all(writer, &digits[..2 * count])?;
+        done += count;
     }
     Ok(())
 }

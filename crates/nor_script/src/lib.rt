@@ -6,8 +6,6 @@
 #![tactic(auto)]
 
 mod hexadecimal;
-#[cfg(test)]
-mod tests;
-pub mod writer;
+mod writer;
 
 pub use writer::{begin, finish, write_step};

@@ -9,7 +9,7 @@ use Rattle.nor_base.specs.Device.{Ahead}
 use Rattle.nor_base.specs.Target.{target, target_byte, is_ignored}
 use Rattle.nor_base.specs.Work.{must_rise, DoPrograms, ArePlanned}
 use Rattle.nor_base.specs.Run.{DoesTaskOnEvery}
-use Rattle.nor_base.specs.Laws.{PlannedDoesTask, InRisingOrder}
+use Rattle.nor_laws.specs.Laws.{PlannedDoesTask, InRisingOrder}
 use Rattle.nor_hex.specs.Image.{byte_at}
 use Rattle.nor_layout.specs.Chosen.{has, is_chosen}
 use Rattle.norprog.specs.declared.fault.BuildFault.{BuildFault}

@@ -1,5 +1,5 @@
 pub mod SpanLemmas
-pub mod WriteLemmas
+pub mod LineLemmas
 pub mod ClockLemmas
 pub mod PageSpans
 pub mod PageLemmas
@@ -10,6 +10,7 @@ pub mod RiseLemmas
 pub mod SendLemmas
 pub mod WindowLemmas
 pub mod WholeLemmas
+pub mod FaultLemmas
 pub mod JobLemmas
 pub mod ReportLemmas
 pub mod ScriptLemmas

@@ -9,7 +9,7 @@ use Rattle.std.proofs.lemmas.Bool.{cases_lt, both_ways, le-leb, lt-ltb}
 use Rattle.std.proofs.lemmas.List.{get_or_past}
 use Rattle.std.proofs.lemmas.List.Folds.{list_any-append}
 use Rattle.nor_base.specs.Work.{differs, Program, program_end, holds, IsSpan, IsPageProgram, ArePrograms}
-use Rattle.nor_base.proofs.Decide.{or_true}
+use Rattle.std.proofs.Math.Bool.{or-true}
 use Rattle.norprog.specs.Pages.{first_from, last_below, program_between, page_program, page_of, page_programs}
 use Rattle.norprog.proofs.PageSpans.{NonePass, IsFirst, IsLast, first_is, last_is, in_order, span_is}
 use Rattle.norprog.proofs.PageParts.{length-page, differs-page, length-page_part, page_part, page_left, page_right}
@@ -124,7 +124,7 @@ of_append have want low mid high ps qs these those = record {
   lie = lie_append low mid high ps qs these.lie those.lie;
   held = λ a above upto apart. list_any-append (holds a) ps qs ∙ elim (cases_lt a mid) [
     | inl early ↦ ap (λ b. b || list_any (holds a) qs) (these.held a above early apart)
-    | inr late ↦ ap (λ b. list_any (holds a) ps || b) (those.held a late upto apart) ∙ or_true (list_any (holds a) ps)
+    | inr late ↦ ap (λ b. list_any (holds a) ps || b) (those.held a late upto apart) ∙ or-true (list_any (holds a) ps)
   ];
 }
 

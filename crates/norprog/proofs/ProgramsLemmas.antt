@@ -4,11 +4,11 @@ use Rattle.std.proofs.lemmas.Grind.{flat_map-append}
 use Rattle.std.specs.Io.KnownBytes.{Appends}
 use Rattle.nor_base.specs.Script.{step_lines}
 use Rattle.nor_base.specs.Work.{Program}
-use Rattle.nor_base.proofs.DeviceLaws.{Appends-append}
+use Rattle.nor_base.proofs.DeviceLaws.{Appends-append, Cuts-then, Cuts-more}
 use Rattle.norprog.specs.Clocks.{program_steps}
 use Rattle.norprog.specs.Pages.{page_of, page_program, page_programs, steps_of, lines_of}
-use Rattle.norprog.specs.Written.{AppendsCut}
-use Rattle.norprog.proofs.WriteLemmas.{lines_append, cut_then, cut_of_more}
+use Rattle.nor_base.specs.Device.{Cuts}
+use Rattle.norprog.proofs.LineLemmas.{lines_append}
 
 pub program_lines_append : (ps qs : List Program) → lines_of (ps ++ qs) ≡ lines_of ps ++ lines_of qs
 program_lines_append ps qs = ap step_lines (flat_map-append program_steps ps qs) ∙ lines_append (steps_of ps) (steps_of qs)
@@ -53,13 +53,13 @@ wrote_page a b c n at have want before now =
     (Appends-append a b c (lines_of (page_programs n at have want)) (lines_of here) before now)
 
 pub cut_page : (a b c : Option (List ℕ)) (n m at : ℕ) (have want : List ℕ) → n < m → Appends a b (lines_of (page_programs n at have want))
-    → AppendsCut b c (lines_of (page_program (at + n * 256) (page_of n have) (page_of n want))) → AppendsCut a c (lines_of (page_programs m at have want))
+    → Cuts b c (lines_of (page_program (at + n * 256) (page_of n have) (page_of n want))) → Cuts a c (lines_of (page_programs m at have want))
 cut_page a b c n m at have want inside before now =
     let here = page_program (at + n * 256) (page_of n have) (page_of n want) in
     let all = first_pages (n + 1) m at have want (omega (arith, inside)) in
-    let upto = cut_then a b c (lines_of (page_programs n at have want)) (lines_of here) before now in
+    let upto = Cuts-then a b c (lines_of (page_programs n at have want)) (lines_of here) before now in
     let next : lines_of (page_programs (n + 1) at have want) ≡ lines_of (page_programs n at have want) ++ lines_of here =
     ap lines_of (next_page n at have want) ∙ program_lines_append (page_programs n at have want) here in
-    let part : AppendsCut a c (lines_of (page_programs (n + 1) at have want)) = subst (AppendsCut a c) (sym next) upto in
-    subst (AppendsCut a c) (sym (ap lines_of all.is ∙ program_lines_append (page_programs (n + 1) at have want) all.rest))
-    (cut_of_more a c (lines_of (page_programs (n + 1) at have want)) (lines_of all.rest) part)
+    let part : Cuts a c (lines_of (page_programs (n + 1) at have want)) = subst (Cuts a c) (sym next) upto in
+    subst (Cuts a c) (sym (ap lines_of all.is ∙ program_lines_append (page_programs (n + 1) at have want) all.rest))
+    (Cuts-more a c (lines_of (page_programs (n + 1) at have want)) (lines_of all.rest) part)

@@ -1,32 +1,38 @@
--- A report that is written in parts.
-use Rattle.std.proofs.Common.{ℕ, ◌+◌, ◌<◌, List, ◌++◌, length, take, Option, Result, Ok, Err, sym, subst, arith, length-append, append_assoc}
-use Rattle.std.specs.Io.KnownBytes.{Appends}
-use Rattle.std.proofs.Math.Seq.{take-append-add}
-use Rattle.std.proofs.lemmas.List.{take-append-le}
-use Rattle.nor_base.specs.declared.device.Failed.{Failed}
-use Rattle.nor_base.specs.Device.{Writes}
-use Rattle.nor_base.proofs.DeviceLaws.{Appends-append}
+-- The lines of a report as parts.
+use Rattle.std.proofs.Common.{◌≡◌, ℕ, List, [], ◌∷◌, ◌++◌, refl, sym, ◌∙◌, ap, append_assoc}
+use Rattle.std.specs.Prelude.{codes, decimal}
+use Rattle.nor_base.specs.Script.{closed}
+use Rattle.norprog.specs.declared.report.Report.{Report}
+use Rattle.norprog.specs.Report.{report_text, strategy_name}
 
--- what was put, and then what is written after it
-pub puts_then : {T : Type 0} (a b c : Option (List ℕ)) (r : Result T Failed) (xs ys : List ℕ) → Appends a b xs → Writes b c r ys → Writes a c r (xs ++ ys)
-puts_then a b c (Ok x) xs ys p q = Appends-append a b c xs ys p q
-puts_then a b c (Err e) xs ys p q =
-    let fits : length xs + q.0 < length (xs ++ ys) = omega (arith, q.1, length-append xs ys) in
-    (length xs + q.0, fits, subst (Appends a c) (sym (take-append-add xs ys q.0)) (Appends-append a b c xs (take q.0 ys) p q.2))
+-- digits, LF, and what follows after the line that they end
+line_then : (digits rest more : List ℕ) → rest ≡ more → digits ++ (0x0A ∷ rest) ≡ (digits ++ (0x0A ∷ [])) ++ more
+line_then digits rest more same = ap (λ tail. digits ++ (0x0A ∷ tail)) same ∙ sym (append_assoc digits (0x0A ∷ []) more)
 
--- some bytes were put of a part, and not all of it
-abbrev Cuts : Option (List ℕ) → Option (List ℕ) → List ℕ → Type 0
-Cuts a b whole = (n : ℕ) × (n < length whole) × Appends a b (take n whole)
+-- a line, five names with their digits between them, and LF
+abbrev pub six_parts : List ℕ → List ℕ → List ℕ → List ℕ → List ℕ → List ℕ → List ℕ
+six_parts line a b c d e =
+    line ++ (codes "steps " ++ (a ++ (codes "\nerases " ++ (b ++ (codes "\nerased " ++ (c ++ (codes "\nprograms " ++ (d ++ (codes "\nignored " ++ (e ++ codes "\n"))))))))))
 
--- a proper prefix of a part is one of the whole
-pub cut_of_whole : (a b : Option (List ℕ)) (xs ys : List ℕ) → Cuts a b xs → Cuts a b (xs ++ ys)
-cut_of_whole a b xs ys p =
-    let fits : p.0 < length (xs ++ ys) = omega (arith, p.1, length-append xs ys) in
-    (p.0, fits, subst (Appends a b) (sym (take-append-le p.0 xs ys (omega (arith, p.1)))) p.2)
+pub parts_text : (report : Report) → six_parts (closed (codes "strategy " ++ strategy_name report.strategy))
+    (decimal report.steps) (decimal report.erases) (decimal report.erased) (decimal report.programs) (decimal report.ignored) ≡ report_text report
+unfolding report_text
+parts_text report =
+    ap (λ rest. closed (codes "strategy " ++ strategy_name report.strategy) ++ (codes "steps " ++ rest))
+    (line_then (decimal report.steps) _ _ (ap (λ rest. codes "erases " ++ rest)
+    (line_then (decimal report.erases) _ _ (ap (λ rest. codes "erased " ++ rest)
+    (line_then (decimal report.erased) _ _ (ap (λ rest. codes "programs " ++ rest)
+    (line_then (decimal report.programs) _ _ refl)))))))
 
--- the same after two parts that were put together
-pub two_then : {T : Type 0} (a b c : Option (List ℕ)) (r : Result T Failed) (xs ys zs : List ℕ) → Appends a b (xs ++ ys) → Writes b c r zs → Writes a c r (xs ++ (ys ++ zs))
-two_then a b c r xs ys zs p q = subst (Writes a c r) (append_assoc xs ys zs) (puts_then a b c r (xs ++ ys) zs p q)
-
-pub cut_of_two : (a b : Option (List ℕ)) (xs ys zs : List ℕ) → Cuts a b (xs ++ ys) → Cuts a b (xs ++ (ys ++ zs))
-cut_of_two a b xs ys zs p = subst (Cuts a b) (append_assoc xs ys zs) (cut_of_whole a b (xs ++ ys) zs p)
+-- the same of a line and digits that were made
+pub parts_told : (report : Report) (line a b c d e : List ℕ) → line ≡ closed (codes "strategy " ++ strategy_name report.strategy)
+    → a ≡ decimal report.steps → b ≡ decimal report.erases → c ≡ decimal report.erased → d ≡ decimal report.programs → e ≡ decimal report.ignored
+    → six_parts line a b c d e ≡ report_text report
+parts_told report line a b c d e is_line is_a is_b is_c is_d is_e =
+    let first = closed (codes "strategy " ++ strategy_name report.strategy) in
+    ap (λ x. six_parts x a b c d e) is_line ∙ ap (λ x. six_parts first x b c d e) is_a
+    ∙ ap (λ x. six_parts first (decimal report.steps) x c d e) is_b
+    ∙ ap (λ x. six_parts first (decimal report.steps) (decimal report.erases) x d e) is_c
+    ∙ ap (λ x. six_parts first (decimal report.steps) (decimal report.erases) (decimal report.erased) x e) is_d
+    ∙ ap (λ x. six_parts first (decimal report.steps) (decimal report.erases) (decimal report.erased) (decimal report.programs) x) is_e
+    ∙ parts_text report

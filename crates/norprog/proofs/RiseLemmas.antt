@@ -4,7 +4,7 @@ use Rattle.std.specs.Prelude.{zip}
 use Rattle.std.specs.List.{list_any}
 use Rattle.nor_base.specs.Effect.{raises_bit}
 use Rattle.nor_base.specs.Work.{must_rise}
-use Rattle.nor_base.proofs.Decide.{or_left_false, or_right_false}
+use Rattle.std.proofs.lemmas.Bool.{or_parts}
 
 abbrev rising : ℕ × ℕ → Bool
 rising pair = raises_bit pair.0 pair.1
@@ -14,9 +14,9 @@ pub none_rises : (have want : List ℕ) → length have ≡ length want → list
 none_rises [] [] lengths none a = refl
 none_rises [] (y ∷ ys) lengths none a = absurd (omega (arith, lengths))
 none_rises (x ∷ xs) [] lengths none a = absurd (omega (arith, lengths))
-none_rises (x ∷ xs) (y ∷ ys) lengths none zero = or_left_false (raises_bit x y) (list_any rising (zip xs ys)) none
+none_rises (x ∷ xs) (y ∷ ys) lengths none zero = (or_parts (raises_bit x y) (list_any rising (zip xs ys)) none).0
 none_rises (x ∷ xs) (y ∷ ys) lengths none (suc a) =
-    none_rises xs ys (omega (arith, lengths)) (or_right_false (raises_bit x y) (list_any rising (zip xs ys)) none) a
+    none_rises xs ys (omega (arith, lengths)) (or_parts (raises_bit x y) (list_any rising (zip xs ys)) none).1 a
 
 -- a place at which a bit must rise
 pub record Rises (have want : List ℕ) : Type 0 where

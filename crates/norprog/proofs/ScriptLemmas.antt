@@ -6,13 +6,12 @@ use Rattle.std.proofs.lemmas.List.{take-append-drop, take-append-le}
 use Rattle.std.proofs.Math.Seq.{take-append-add}
 use Rattle.nor_base.specs.Script.{script_text, header, step_lines, end_line}
 use Rattle.nor_base.specs.Work.{Program}
-use Rattle.nor_base.proofs.DeviceLaws.{Appends-append}
+use Rattle.nor_base.proofs.DeviceLaws.{Appends-append, Appends-none}
 use Rattle.norprog.specs.Build.{IsScriptFront, AppendsFront}
 use Rattle.norprog.specs.Clocks.{IsSendable}
 use Rattle.norprog.specs.Pages.{steps_of, lines_of}
-use Rattle.norprog.specs.Written.{AppendsCut}
+use Rattle.nor_base.specs.Device.{Cuts}
 use Rattle.norprog.proofs.ClockLemmas.{steps_are_steps, steps_length}
-use Rattle.norprog.proofs.WriteLemmas.{appends_none}
 
 -- a script up to some byte of it, which isn't its last
 front_at : (programs : List Program) (n : ℕ) → AllByRecursion IsSendable programs → n < length (script_text (steps_of programs))
@@ -32,7 +31,7 @@ unfolding end_line
 filled_end n = omega arith
 
 -- the header up to some byte of it
-pub cut_header : (x y : Option (List ℕ)) → AppendsCut x y header → AppendsFront x y
+pub cut_header : (x y : Option (List ℕ)) → Cuts x y header → AppendsFront x y
 unfolding script_text
 cut_header x y cut =
     let text = script_text (steps_of []) in
@@ -64,14 +63,14 @@ cut_lines x y z programs sendable begun cut =
 
 -- the header, the lines of programs, and the end line up to some byte of it
 pub cut_end : (w x y z : Option (List ℕ)) (programs : List Program) (n : ℕ) → AllByRecursion IsSendable programs → Appends w x header
-    → Appends x y (lines_of programs) → n ≡ 3 * length programs → AppendsCut y z (end_line n) → AppendsFront w z
+    → Appends x y (lines_of programs) → n ≡ 3 * length programs → Cuts y z (end_line n) → AppendsFront w z
 unfolding script_text
 cut_end w x y z programs n sendable begun put is cut =
     let lines = lines_of programs in
     let count : n ≡ length (steps_of programs) = is ∙ sym (steps_length programs) in
     let end = end_line (length (steps_of programs)) in
     let text = script_text (steps_of programs) in
-    let here : AppendsCut y z end = subst (λ m. AppendsCut y z (end_line m)) count cut in
+    let here : Cuts y z end = subst (λ m. Cuts y z (end_line m)) count cut in
     let at = length header + (length lines + here.0) in
     let inside : at < length text = omega (arith, here.1, length-append header (lines ++ end), length-append lines end) in
     let front : take at text ≡ header ++ (lines ++ take here.0 end) =
@@ -97,4 +96,4 @@ filled_script programs = omega arith
 
 -- where nothing was written
 pub nothing_written : (x : Option (List ℕ)) → AppendsFront x x
-nothing_written x = record { bytes = []; front = front_at [] 0 tt (filled_script []); put = appends_none x }
+nothing_written x = record { bytes = []; front = front_at [] 0 tt (filled_script []); put = Appends-none x }

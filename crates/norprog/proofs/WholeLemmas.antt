@@ -24,7 +24,7 @@ use Rattle.norprog.specs.Windows.{target_from, IsDone, IsCut, CutCause}
 use Rattle.norprog.proofs.PagesLaw.{programs_onward}
 use Rattle.norprog.proofs.ProgramsLemmas.{program_lines_append}
 use Rattle.norprog.proofs.SendLemmas.{all_in_two, pages_send}
-use Rattle.norprog.proofs.WriteLemmas.{no_lines}
+use Rattle.norprog.proofs.LineLemmas.{no_lines}
 
 pub gives_none : (before : Ahead) → Gives before [] before
 gives_none Unknown = tt

@@ -3,7 +3,7 @@ use Rattle.std.proofs.Common.{◌≡◌, ℕ, ◌+◌, ◌/◌, ◌≤◌, ◌^�
 use Rattle.std.specs.Prelude.{zip}
 use Rattle.std.specs.List.{list_any}
 use Rattle.std.specs.Io.KnownBytes.{Appends}
-use Rattle.nor_base.specs.Device.{Ahead, Gives}
+use Rattle.nor_base.specs.Device.{Ahead, Gives, Cuts}
 use Rattle.nor_base.specs.Effect.{raises_bit}
 use Rattle.nor_base.specs.Work.{must_rise}
 use Rattle.norprog.specs.declared.fault.BuildFault.{BuildFault}
@@ -12,10 +12,10 @@ use Rattle.norprog.specs.declared.job.Job.{Job}
 use Rattle.norprog.specs.Clocks.{AreBytes}
 use Rattle.norprog.specs.Pages.{page_programs, lines_of}
 use Rattle.norprog.specs.Windows.{target_from, IsDone, IsCut, CutCause}
-use Rattle.norprog.specs.Written.{AppendsCut, IsOfWriting}
+use Rattle.norprog.specs.Written.{IsOfWriting}
 use Rattle.norprog.proofs.RiseLemmas.{one_rises, none_rises}
 use Rattle.norprog.proofs.SendLemmas.{pages_send}
-use Rattle.norprog.proofs.WriteLemmas.{appends_none}
+use Rattle.nor_base.proofs.DeviceLaws.{Appends-none}
 
 sixteen : (have : List ℕ) → length have ≡ 4096 → length have / 256 ≡ 16
 sixteen have size = ap (λ n. n / 256) size
@@ -52,7 +52,7 @@ window_rises job at before after held have want size given target level =
       cause = (rises.at, rises.inside, subst (λ (goal : List ℕ). must_rise have goal rises.at ≡ true) target rises.must);
       programs = [];
       sendable = tt;
-      front = (0, omega arith, appends_none held);
+      front = (0, omega arith, Appends-none held);
     }
 
 of_writing : (job : Job) (at end : ℕ) (part : List ℕ) (after : Ahead) (why : BuildFault) → IsOfWriting why → CutCause job at end part after why
@@ -63,7 +63,7 @@ of_writing job at end part after other is = absurd is
 
 pub window_cut : (job : Job) (at : ℕ) (before after : Ahead) (held_before held_after : Option (List ℕ)) (have want : List ℕ) (why : BuildFault)
     → length have ≡ 4096 → length want ≡ 4096 → at + 4096 ≤ 2 ^ 24 → Gives before have after → AreBytes want
-    → AppendsCut held_before held_after (lines_of (page_programs (length have / 256) at have want)) → IsOfWriting why
+    → Cuts held_before held_after (lines_of (page_programs (length have / 256) at have want)) → IsOfWriting why
     → IsCut job at (at + 4096) before after held_before held_after why
 window_cut job at before after held_before held_after have want why size size' inside given small cut is = record {
   part = have;

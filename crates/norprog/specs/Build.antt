@@ -12,8 +12,7 @@ use Rattle.nor_base.specs.Script.{IsScript}
 use Rattle.nor_base.specs.Target.{target, is_ignored}
 use Rattle.nor_base.specs.Chip.{chip_of, ready}
 use Rattle.nor_base.specs.Run.{DoesTaskOnEvery, trail}
-use Rattle.nor_base.specs.Laws.{IsInTheMaking}
-use Rattle.nor_base.specs.Work.{Program, must_rise, ArePlanned}
+use Rattle.nor_base.specs.Work.{IsInTheMaking, Program, must_rise, ArePlanned}
 use Rattle.nor_hex.specs.Image.{Pairs, byte_at}
 use Rattle.nor_layout.specs.Region.{Region}
 use Rattle.nor_layout.specs.Chosen.{is_chosen}

@@ -25,12 +25,3 @@ report_text r =
     ++ (count_line (codes "erased") r.erased
     ++ (count_line (codes "programs") r.programs
     ++ count_line (codes "ignored") r.ignored))))
-
--- the lines below the erases'
-abbrev pub last_count_lines : Report → List ℕ
-last_count_lines r =
-    count_line (codes "erased") r.erased ++ (count_line (codes "programs") r.programs ++ count_line (codes "ignored") r.ignored)
-
--- the lines below the strategy's
-abbrev pub count_lines : Report → List ℕ
-count_lines r = count_line (codes "steps") r.steps ++ (count_line (codes "erases") r.erases ++ last_count_lines r)

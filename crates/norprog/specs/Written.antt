@@ -1,17 +1,8 @@
--- What a build that ends early has written, and which device's count of failures rose.
+-- Which device's count of failures rose where a build ended early.
 use Rattle.std.specs.Prelude.{◌≡◌, ◌<◌, ◌+◌, ⊤, ℕ, List, length, take, Option, Result, Ok, Err}
 use Rattle.std.specs.Io.KnownBytes.{Appends}
 use Rattle.norprog.specs.declared.fault.BuildFault.{BuildFault}
 use Rattle.norprog.specs.declared.fault.BuildFault.TheVariants as fault
-
--- a proper prefix of the bytes was appended
-abbrev pub AppendsCut : Option (List ℕ) → Option (List ℕ) → List ℕ → Type 0
-AppendsCut before after bytes = (n : ℕ) × (n < length bytes) × Appends before after (take n bytes)
-
--- all of the bytes were appended; at a fault a proper prefix
-abbrev pub WritesOrCuts : {T : Type 0} → Option (List ℕ) → Option (List ℕ) → Result T BuildFault → List ℕ → Type 0
-WritesOrCuts before after (Ok x) bytes = Appends before after bytes
-WritesOrCuts before after (Err fault) bytes = AppendsCut before after bytes
 
 abbrev pub of_writer : BuildFault → ℕ
 of_writer fault.Write = 1

@@ -14,8 +14,8 @@ use crate::inputs::Inputs;
 use crate::job::{Job, job_of};
 use crate::report::Report;
 use crate::windows::write_chip;
-use nor_base::laws::planned_work;
 use nor_base::{ByteIn, ByteOut, Strategy};
+use nor_laws::planned_work;
 use nor_script::{begin, finish};
 use nor_target::ignored;
 use std::alloc::Global;
@@ -57,15 +57,10 @@ pub fn build<R: ByteIn, W: ByteOut>(
     ensures reads { CountsReader (R.count content.old) (R.count content.new) result }
     ensures writes { CountsWriter (W.count out.old) (W.count out.new) result }
 {
-    let job = match job_of(alloc, inputs, len) {
-        Ok(job) => job,
-        Err(fault) => return Err(fault),
-    };
+    let job = job_of(alloc, inputs, len)?;
     planned_work();
-    match write_script(alloc, &job, content, out) {
-        Ok(programs) => Ok(report_of(&job, programs)),
-        Err(fault) => Err(fault),
-    }
+    let programs = write_script(alloc, &job, content, out)?;
+    Ok(report_of(&job, programs))
 }
 
 /// Writes the script of a job, and answers how many programs it has.
@@ -88,10 +83,7 @@ fn write_script<R: ByteIn, W: ByteOut>(
         Ok(()) => {}
         Err(_) => return Err(BuildFault::Write),
     }
-    let programs = match write_chip(alloc, job, content, out) {
-        Ok(programs) => programs,
-        Err(fault) => return Err(fault),
-    };
+    let programs = write_chip(alloc, job, content, out)?;
     match finish(3 * programs, out) {
         Ok(()) => Ok(programs),
         Err(_) => Err(BuildFault::Write),

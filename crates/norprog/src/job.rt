@@ -17,10 +17,10 @@ use std::alloc::Global;
 /// What a build has to do.
 #[derive(Drop)]
 pub(crate) struct Job {
-    pub image: Image,
-    pub chosen: Chosen,
-    pub meaning: Meaning,
-    pub base: u32,
+    pub(crate) image: Image,
+    pub(crate) chosen: Chosen,
+    pub(crate) meaning: Meaning,
+    pub(crate) base: u32,
 }
 
 /// Looks at the inputs in the order of the faults up to `ContentSize`: the fault told is the first that they have.
@@ -31,27 +31,16 @@ pub(crate) fn job_of(alloc: Global, inputs: &Inputs<'_>, len: u64) -> Result<Job
     ensures only_memory { (image : Pairs) (regions : List Region) → AreAccepted inputs.now len image regions
         → IfErr result (λ fault. fault ≡ Memory) }
 {
-    let size = match begin(inputs) {
-        Ok(size) => size,
-        Err(fault) => return Err(fault),
-    };
-    let image = match image_of(alloc, inputs) {
-        Ok(image) => image,
-        Err(fault) => return Err(fault),
-    };
-    let chosen = match choose(alloc, inputs) {
-        Ok(chosen) => chosen,
-        Err(fault) => return Err(fault),
-    };
-    match meaning_of(inputs, size, len) {
-        Ok(meaning) => Ok(Job {
-            image,
-            chosen,
-            meaning,
-            base: inputs.base,
-        }),
-        Err(fault) => Err(fault),
-    }
+    let size = begin(inputs)?;
+    let image = image_of(alloc, inputs)?;
+    let chosen = choose(alloc, inputs)?;
+    let meaning = meaning_of(inputs, size, len)?;
+    Ok(Job {
+        image,
+        chosen,
+        meaning,
+        base: inputs.base,
+    })
 }
 
 /// The bytes that a uniform chip is asked for. `Contradiction` tells the first contradiction; without one, `NotYet`
@@ -109,10 +98,7 @@ fn image_of(alloc: Global, inputs: &Inputs<'_>) -> Result<Image, BuildFault>
     ensures refused { IfErr result (λ fault. (len : ℕ) → RefusesInputs inputs.now len fault) }
     ensures accepted { (image : Pairs) → HasImage inputs.now image → IfErr result (λ fault. fault ≡ Memory) }
 {
-    match nor_hex::read(alloc, inputs.hex) {
-        Ok(image) => Ok(image),
-        Err(fault) => Err(BuildFault::from(fault)),
-    }
+    Ok(nor_hex::read(alloc, inputs.hex)?)
 }
 
 /// The chosen addresses; without a layout no region is named, and the whole chip is chosen.
@@ -130,14 +116,8 @@ fn choose(alloc: Global, inputs: &Inputs<'_>) -> Result<Chosen, BuildFault>
         Some(text) => text,
         None => return Ok(Chosen::whole()),
     };
-    let layout = match nor_layout::read(alloc, text) {
-        Ok(layout) => layout,
-        Err(fault) => return Err(BuildFault::from(fault)),
-    };
-    match layout.choose(alloc, inputs.regions) {
-        Ok(chosen) => Ok(chosen),
-        Err(fault) => Err(BuildFault::from(fault)),
-    }
+    let layout = nor_layout::read(alloc, text)?;
+    Ok(layout.choose(alloc, inputs.regions)?)
 }
 
 /// The uniform chip of this size.

@@ -11,20 +11,6 @@ pub mod inputs;
 mod job;
 mod pages;
 pub mod report;
-#[cfg(test)]
-mod tests;
-#[cfg(test)]
-mod tests_clocks;
-#[cfg(test)]
-mod tests_devices;
-#[cfg(test)]
-mod tests_job;
-#[cfg(test)]
-mod tests_play;
-#[cfg(test)]
-mod tests_refused;
-#[cfg(test)]
-mod tests_report;
 mod windows;
 
 pub use builder::build;

@@ -8,7 +8,8 @@ ghost use Rattle.nor_base.specs.Run.{poll_clocks};
 ghost use Rattle.nor_base.specs.declared.step.Step.TheVariants.{Send, Poll};
 ghost use Rattle.norprog.specs.Clocks.{program_steps, enable_clocks, program_clocks, AreBytes};
 ghost use Rattle.norprog.specs.Pages.{first_from, last_below, page_program, page_programs, lines_of};
-ghost use Rattle.norprog.specs.Written.{WritesOrCuts, CountsWriter, IsOfWriting};
+ghost use Rattle.nor_base.specs.Device.{Writes};
+ghost use Rattle.norprog.specs.Written.{CountsWriter, IsOfWriting};
 
 use crate::clocks::{enable_step, poll_step, program_step};
 use crate::fault::BuildFault;
@@ -31,7 +32,7 @@ pub(crate) fn write_pages<W: ByteOut>(
     requires lengths { length have.now ≡ length want.now }
     requires inside { at + length have.now ≤ 2 ^ 24 }
     requires room { W.count out.old < 2 ^ 64 - 1 }
-    ensures bytes { WritesOrCuts (W.held out.old) (W.held out.new) result (lines_of (page_programs (length have.now / 256) at have.now want.now)) }
+    ensures bytes { Writes (W.held out.old) (W.held out.new) result (lines_of (page_programs (length have.now / 256) at have.now want.now)) }
     ensures count { CountsWriter (W.count out.old) (W.count out.new) result }
     ensures why { IfErr result IsOfWriting }
     ensures programs { IfOk result (λ programs. programs ≡ length (page_programs (length have.now / 256) at have.now want.now)) }
@@ -67,7 +68,7 @@ fn write_page<W: ByteOut>(
     requires lengths { length have.now ≡ length want.now }
     requires inside { at + length have.now ≤ 2 ^ 24 }
     requires room { W.count out.old < 2 ^ 64 - 1 }
-    ensures bytes { WritesOrCuts (W.held out.old) (W.held out.new) result (lines_of (page_program at have.now want.now)) }
+    ensures bytes { Writes (W.held out.old) (W.held out.new) result (lines_of (page_program at have.now want.now)) }
     ensures count { CountsWriter (W.count out.old) (W.count out.new) result }
     ensures why { IfErr result IsOfWriting }
     ensures programs { IfOk result (λ programs. programs ≡ length (page_program at have.now want.now)) }
@@ -96,7 +97,7 @@ fn write_program<W: ByteOut>(
 ) -> Result<(), BuildFault>
     requires inside { at < 2 ^ 24 }
     requires room { W.count out.old < 2 ^ 64 - 1 }
-    ensures bytes { WritesOrCuts (W.held out.old) (W.held out.new) result (step_lines (program_steps (record { at = at; bytes = bytes.now }))) }
+    ensures bytes { Writes (W.held out.old) (W.held out.new) result (step_lines (program_steps (record { at = at; bytes = bytes.now }))) }
     ensures count { CountsWriter (W.count out.old) (W.count out.new) result }
     ensures why { IfErr result IsOfWriting }
 {
@@ -109,7 +110,7 @@ fn write_program<W: ByteOut>(
 /// Writes the step that enables writing.
 fn put_enable<W: ByteOut>(alloc: Global, out: &mut W) -> Result<(), BuildFault>
     requires room { W.count out.old < 2 ^ 64 - 1 }
-    ensures bytes { WritesOrCuts (W.held out.old) (W.held out.new) result (step_lines (Send enable_clocks ∷ [])) }
+    ensures bytes { Writes (W.held out.old) (W.held out.new) result (step_lines (Send enable_clocks ∷ [])) }
     ensures count { CountsWriter (W.count out.old) (W.count out.new) result }
     ensures why { IfErr result IsOfWriting }
 {
@@ -128,7 +129,7 @@ fn put_program<W: ByteOut>(
 ) -> Result<(), BuildFault>
     requires inside { at < 2 ^ 24 }
     requires room { W.count out.old < 2 ^ 64 - 1 }
-    ensures bytes { WritesOrCuts (W.held out.old) (W.held out.new) result (step_lines (Send (program_clocks (record { at = at; bytes = bytes.now })) ∷ Poll poll_clocks ∷ [])) }
+    ensures bytes { Writes (W.held out.old) (W.held out.new) result (step_lines (Send (program_clocks (record { at = at; bytes = bytes.now })) ∷ Poll poll_clocks ∷ [])) }
     ensures count { CountsWriter (W.count out.old) (W.count out.new) result }
     ensures why { IfErr result IsOfWriting }
 {
@@ -145,7 +146,7 @@ fn put_program<W: ByteOut>(
 /// Writes the poll.
 fn put_poll<W: ByteOut>(alloc: Global, out: &mut W) -> Result<(), BuildFault>
     requires room { W.count out.old < 2 ^ 64 - 1 }
-    ensures bytes { WritesOrCuts (W.held out.old) (W.held out.new) result (step_lines (Poll poll_clocks ∷ [])) }
+    ensures bytes { Writes (W.held out.old) (W.held out.new) result (step_lines (Poll poll_clocks ∷ [])) }
     ensures count { CountsWriter (W.count out.old) (W.count out.new) result }
     ensures why { IfErr result IsOfWriting }
 {
@@ -159,7 +160,7 @@ fn put_poll<W: ByteOut>(alloc: Global, out: &mut W) -> Result<(), BuildFault>
 fn put_step<W: ByteOut>(step: &Step, out: &mut W) -> Result<(), BuildFault>
     requires step { is_step step.now ≡ true }
     requires room { W.count out.old < 2 ^ 64 - 1 }
-    ensures bytes { WritesOrCuts (W.held out.old) (W.held out.new) result (step_lines (step.now ∷ [])) }
+    ensures bytes { Writes (W.held out.old) (W.held out.new) result (step_lines (step.now ∷ [])) }
     ensures count { CountsWriter (W.count out.old) (W.count out.new) result }
     ensures why { IfErr result IsOfWriting }
 {

@@ -1,12 +1,12 @@
 //! What a build did.
 
-ghost use Rattle.std.specs.Prelude.{◌≡◌, ◌<◌, ◌-◌, ◌^◌, ◌++◌, codes, decimal};
+ghost use Rattle.std.specs.Prelude.{◌≡◌, ◌<◌, ◌-◌, ◌^◌, ◌++◌, codes};
 ghost use Rattle.nor_base.specs.Device.{Writes, Counts};
 ghost use Rattle.nor_base.specs.Script.{closed};
-ghost use Rattle.norprog.specs.Report.{report_text, strategy_name, count_lines, last_count_lines};
+ghost use Rattle.norprog.specs.Report.{report_text, strategy_name};
 
 use itoa::Buffer;
-use nor_base::{ByteOut, Failed, Strategy, put_all};
+use nor_base::{ByteOut, Failed, Strategy, put_parts};
 
 /// What a build did.
 #[derive(Clone, Copy, Debug, PartialEq, Eq)]
@@ -34,10 +34,28 @@ pub fn write_report<W: ByteOut>(report: &Report, writer: &mut W) -> Result<(), F
     ensures bytes { Writes (W.held writer.old) (W.held writer.new) result (report_text report.now) }
     ensures count { Counts (W.count writer.old) (W.count writer.new) result }
 {
-    match put_all(writer, strategy_line(report.strategy)) {
-        Ok(()) => write_counts(writer, report),
-        Err(failed) => Err(failed),
-    }
+    let mut steps = Buffer::new();
+    let mut erases = Buffer::new();
+    let mut erased = Buffer::new();
+    let mut programs = Buffer::new();
+    let mut ignored = Buffer::new();
+    put_parts(
+        writer,
+        &[
+            strategy_line(report.strategy),
+            b"steps ",
+            steps.format(report.steps).as_bytes(),
+            b"\nerases ",
+            erases.format(report.erases).as_bytes(),
+            b"\nerased ",
+            erased.format(report.erased).as_bytes(),
+            b"\nprograms ",
+            programs.format(report.programs).as_bytes(),
+            b"\nignored ",
+            ignored.format(report.ignored).as_bytes(),
+            b"\n",
+        ],
+    )
 }
 
 /// The strategy's line.
@@ -50,77 +68,5 @@ fn strategy_line(strategy: Strategy) -> &'static [u8]
         Strategy::S3 => b"strategy S3\n",
         Strategy::S4 => b"strategy S4\n",
         Strategy::S5 => b"strategy S5\n",
-    }
-}
-
-/// The lines below the strategy's.
-fn write_counts<W: ByteOut>(writer: &mut W, report: &Report) -> Result<(), Failed>
-    requires { W.count writer.old < 2 ^ 64 - 1 }
-    ensures bytes { Writes (W.held writer.old) (W.held writer.new) result (count_lines report.now) }
-    ensures count { Counts (W.count writer.old) (W.count writer.new) result }
-{
-    match put_two_counts(writer, b"steps ", report.steps, b"erases ", report.erases) {
-        Ok(()) => write_last_counts(writer, report),
-        Err(failed) => Err(failed),
-    }
-}
-
-/// The lines below the erases'.
-fn write_last_counts<W: ByteOut>(writer: &mut W, report: &Report) -> Result<(), Failed>
-    requires { W.count writer.old < 2 ^ 64 - 1 }
-    ensures bytes { Writes (W.held writer.old) (W.held writer.new) result (last_count_lines report.now) }
-    ensures count { Counts (W.count writer.old) (W.count writer.new) result }
-{
-    match put_two_counts(
-        writer,
-        b"erased ",
-        report.erased,
-        b"programs ",
-        report.programs,
-    ) {
-        Ok(()) => put_count(writer, b"ignored ", report.ignored),
-        Err(failed) => Err(failed),
-    }
-}
-
-fn put_two_counts<W: ByteOut>(
-    writer: &mut W,
-    first: &[u8],
-    first_number: u64,
-    second: &[u8],
-    second_number: u64,
-) -> Result<(), Failed>
-    requires { W.count writer.old < 2 ^ 64 - 1 }
-    ensures bytes { Writes (W.held writer.old) (W.held writer.new) result
-        (closed (first.now ++ decimal first_number) ++ closed (second.now ++ decimal second_number)) }
-    ensures count { Counts (W.count writer.old) (W.count writer.new) result }
-{
-    match put_count(writer, first, first_number) {
-        Ok(()) => put_count(writer, second, second_number),
-        Err(failed) => Err(failed),
-    }
-}
-
-/// A line of a name, which ends in a blank, and a number.
-fn put_count<W: ByteOut>(writer: &mut W, name: &[u8], number: u64) -> Result<(), Failed>
-    requires { W.count writer.old < 2 ^ 64 - 1 }
-    ensures bytes { Writes (W.held writer.old) (W.held writer.new) result (closed (name.now ++ decimal number)) }
-    ensures count { Counts (W.count writer.old) (W.count writer.new) result }
-{
-    let mut digits = Buffer::new();
-    match put_two(writer, name, digits.format(number).as_bytes()) {
-        Ok(()) => put_all(writer, b"\n"),
-        Err(failed) => Err(failed),
-    }
-}
-
-fn put_two<W: ByteOut>(writer: &mut W, first: &[u8], second: &[u8]) -> Result<(), Failed>
-    requires { W.count writer.old < 2 ^ 64 - 1 }
-    ensures bytes { Writes (W.held writer.old) (W.held writer.new) result (first.now ++ second.now) }
-    ensures count { Counts (W.count writer.old) (W.count writer.new) result }
-{
-    match put_all(writer, first) {
-        Ok(()) => put_all(writer, second),
-        Err(failed) => Err(failed),
     }
 }

@@ -1,19 +1,20 @@
 //! The command line of norprog: `norprog build` writes the script that programs a chip.
 //!
-//! [`command::command`] does the work. `main` calls it with the program's words and the real standard output and error.
+//! The options are read here; [`norprog_command::answer`] does the work behind them.
 #![tactic(auto)]
 
-mod command;
-mod faults;
-mod files;
-mod inputs;
+ghost use Rattle.std.specs.Prelude.{◌≡◌, ◌<◌, ◌≤◌, ◌-◌, ◌^◌};
+ghost use Rattle.norprog_command.specs.Lines.{Tells};
+
 mod options;
 #[cfg(test)]
 mod tests;
-mod values;
 
-use faults::{Refusal, refuse};
-use nor_base::IntoWrite;
+use nor_base::{ByteOut, IntoWrite};
+use norprog_command::{Refusal, answer, refuse};
+use options::given_by;
+use std::alloc::AllocGlobal;
+use std::fs::Files;
 use std::io::ErrorKind;
 use std::process::ExitCode;
 
@@ -21,7 +22,7 @@ fn main(rt: HostRuntime) -> ExitCode {
     let mut out = IntoWrite::new(rt.stdout());
     let mut err = IntoWrite::new(rt.stderr());
     let status = match words_of(&rt) {
-        Ok(words) => command::command(&rt, words, &mut out, &mut err),
+        Ok(words) => command(&rt, words, &mut out, &mut err),
         Err(refusal) => refuse(&refusal, &mut err),
     };
     ExitCode::from(status)
@@ -38,4 +39,22 @@ fn words_of(rt: &HostRuntime) -> Result<Vec<String>, Refusal> {
         Ok(words) => Ok(words),
         Err(_) => Err(Refusal::MEMORY),
     }
+}
+
+/// Runs the command that the words spell, the program's name not among them. It opens the files that they name, writes
+/// what goes to standard output to `out` and a refusal to `err`, and answers the status: 0 done, 1 refused, 2 usage.
+fn command<O: ByteOut, E: ByteOut>(
+    rt: &(impl Files + AllocGlobal),
+    words: Vec<String>,
+    out: &mut O,
+    err: &mut E,
+) -> u8
+    requires out { O.count out.old < 2 ^ 64 - 1 }
+    requires err { E.count err.old < 2 ^ 64 - 1 }
+    ensures status { result ≤ 2 }
+    ensures quiet { result ≡ 0 → err.new ≡ err.old }
+    ensures told { 0 < result → E.count err.new ≡ E.count err.old
+        → Tells (E.held err.old) (E.held err.new) result }
+{
+    answer(rt, given_by(rt.alloc(), words.as_slice()), out, err)
 }

@@ -1,36 +1,14 @@
 //! The options and their help, by the command line library.
 
-use crate::faults::Refusal;
 use clap::error::ErrorKind;
 use clap::{Arg, ArgAction, ArgMatches, Command, Error};
 use nor_base::Bytes;
+use norprog_command::{Given, Refusal};
 use std::alloc::{AllocError, Global};
-
-/// What stands on the command line of `build`: the texts of the values, as they were written.
-#[derive(Drop, Debug)]
-pub(crate) struct Given<'a> {
-    pub hex: Option<&'a str>,
-    pub layout: Option<&'a str>,
-    pub sfdp: Option<&'a str>,
-    pub uniform: Option<&'a str>,
-    pub bits: Option<&'a str>,
-    pub part: Option<&'a str>,
-    pub status: Option<&'a str>,
-    pub mode4: bool,
-    pub quad: bool,
-    pub base: Option<&'a str>,
-    pub content: Option<&'a str>,
-    pub verify: bool,
-    pub out: Option<&'a str>,
-    pub regions: Vec<Bytes>,
-}
 
 /// Reads the words behind the program's name. A fault of theirs, and a request for help, is `Text`.
 pub(crate) fn given_by<'a>(alloc: Global, words: &'a [String]) -> Result<Given<'a>, Refusal> {
-    let command = match norprog(alloc) {
-        Ok(command) => command,
-        Err(_) => return Err(Refusal::MEMORY),
-    };
+    let command = norprog(alloc)?;
     let matches = match command.try_get_matches_from(words) {
         Ok(matches) => matches,
         Err(error) => return Err(refusal_of(alloc, &error)),

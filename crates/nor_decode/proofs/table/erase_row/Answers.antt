@@ -1,5 +1,5 @@
 -- The row of a kind is offered where some region allows the kind.
-use Rattle.std.proofs.Common.{◌≡◌, suc, true, false, Some, sym, ◌∙◌, rules}
+use Rattle.std.proofs.Common.{◌≡◌, true, false, Some, sym, ◌∙◌, rules}
 use Rattle.std.specs.Prelude.{is_some}
 use Rattle.std.specs.List.{find, list_any}
 use Rattle.nor_base.specs.Parameters.{allows, erase_kind}
@@ -9,14 +9,14 @@ use Rattle.nor_decode.proofs.table.erase_row.Goals as goal
 
 pub returns-then-some_region_allows : goal.returns-then-some_region_allows
 returns-then-some_region_allows c =
-    let one_allows : list_any (λ region. allows region (suc c.args.slot)) c.args.meaning.now.regions ≡ true = search rules in
-    let found : Some c.in_ok-row.row ≡ find (fits c.args.opcode) (rows_by (is_some c.kind_at.result) c.kind_at.result c.args.mode4 (suc c.args.slot)) = search rules in
-    let same = same_where_allowed c.args.opcode c.kind_at.result (list_any (λ region. allows region (suc c.args.slot)) c.args.meaning.now.regions)
-    c.args.mode4 (suc c.args.slot) one_allows in
-    rw (← c.kind_at.ensures) (found ∙ sym same)
+    let one_allows : list_any (λ region. allows region c.args.kind) c.args.meaning.now.regions ≡ true = search rules in
+    let found : Some c.in_ok-row.row ≡ find (fits c.args.opcode) (rows_by (is_some c.erase_kind.result) c.erase_kind.result c.args.mode4 c.args.kind) = search rules in
+    let same = same_where_allowed c.args.opcode c.erase_kind.result (list_any (λ region. allows region c.args.kind) c.args.meaning.now.regions)
+    c.args.mode4 c.args.kind one_allows in
+    rw (← c.erase_kind.ensures.kind) (found ∙ sym same)
 
 pub returns-else-some_region_allows : goal.returns-else-some_region_allows
 returns-else-some_region_allows c =
-    let none_allows : list_any (λ region. allows region (suc c.args.slot)) c.args.meaning.now.regions ≡ false = search rules in
-    sym (none_where_no_region c.args.opcode (erase_kind c.args.meaning.now (suc c.args.slot))
-    (list_any (λ region. allows region (suc c.args.slot)) c.args.meaning.now.regions) c.args.mode4 (suc c.args.slot) none_allows)
+    let none_allows : list_any (λ region. allows region c.args.kind) c.args.meaning.now.regions ≡ false = search rules in
+    sym (none_where_no_region c.args.opcode (erase_kind c.args.meaning.now c.args.kind)
+    (list_any (λ region. allows region c.args.kind) c.args.meaning.now.regions) c.args.mode4 c.args.kind none_allows)

@@ -1,14 +1,18 @@
 -- Each stage's refusal.
+use Rattle.norprog.proofs.FaultLemmas.{handed_on}
 use Rattle.norprog.proofs.job.job_of.Goals as goal
 
-pub returns-in-Err-clause-refused : goal.returns-in-Err-clause-refused
-returns-in-Err-clause-refused c = c.in-Err.ensures.refused c.args.len
+pub returns-in_err-size-clause-refused : goal.returns-in_err-size-clause-refused
+returns-in_err-size-clause-refused c = handed_on _ _ _ c.from_residual.ensures.1 (c.in_err-size.ensures.refused c.args.len)
 
-pub returns-in-Err-image_of-clause-refused : goal.returns-in-Err-image_of-clause-refused
-returns-in-Err-image_of-clause-refused c = c.in-Err-image_of.ensures.refused c.args.len
+pub returns-in_err-image-clause-refused : goal.returns-in_err-image-clause-refused
+returns-in_err-image-clause-refused c =
+    handed_on _ _ _ c.from_residual-in_err-image.ensures.1 (c.in_err-image.ensures.refused c.args.len)
 
-pub returns-in-Err-image_of-clause-only_memory : goal.returns-in-Err-image_of-clause-only_memory
-returns-in-Err-image_of-clause-only_memory c = λ image regions accepted. c.in-Err-image_of.ensures.accepted image accepted.named.imaged
+pub returns-in_err-image-clause-only_memory : goal.returns-in_err-image-clause-only_memory
+returns-in_err-image-clause-only_memory c = λ image regions accepted.
+    handed_on _ _ _ c.from_residual-in_err-image.ensures.1 (c.in_err-image.ensures.accepted image accepted.named.imaged)
 
-pub returns-in-Err-choose-clause-refused : goal.returns-in-Err-choose-clause-refused
-returns-in-Err-choose-clause-refused c = c.in-Err-choose.ensures.refused c.args.len
+pub returns-in_err-chosen-clause-refused : goal.returns-in_err-chosen-clause-refused
+returns-in_err-chosen-clause-refused c =
+    handed_on _ _ _ c.from_residual-in_err-chosen.ensures.1 (c.in_err-chosen.ensures.refused c.args.len)

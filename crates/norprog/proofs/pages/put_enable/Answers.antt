@@ -3,7 +3,7 @@ use Rattle.nor_base.specs.Step.{is_step}
 use Rattle.nor_base.specs.declared.step.Step.TheVariants.{Send}
 use Rattle.norprog.specs.Clocks.{enable_clocks}
 use Rattle.norprog.proofs.ClockLemmas.{enable_is_step}
-use Rattle.norprog.proofs.WriteLemmas.{nothing_cut}
+use Rattle.norprog.proofs.LineLemmas.{nothing_cut}
 use Rattle.norprog.proofs.pages.put_enable.Goals as goal
 
 pub put_step-requires-clause-step : goal.put_step-requires-clause-step

@@ -6,9 +6,10 @@ use Rattle.nor_base.specs.Work.{Program}
 use Rattle.nor_base.specs.declared.step.Step.{Step}
 use Rattle.nor_base.specs.declared.step.Step.TheVariants.{Send, Poll}
 use Rattle.norprog.specs.Clocks.{program_clocks}
-use Rattle.norprog.specs.Written.{AppendsCut, WritesOrCuts}
+use Rattle.nor_base.specs.Device.{Cuts, Writes}
 use Rattle.norprog.proofs.ClockLemmas.{program_is_step, AreBytes-from_fits}
-use Rattle.norprog.proofs.WriteLemmas.{nothing_cut, writes_then, cut_of_more, lines_append}
+use Rattle.nor_base.proofs.DeviceLaws.{Writes-then, Cuts-more}
+use Rattle.norprog.proofs.LineLemmas.{nothing_cut, lines_append}
 use Rattle.norprog.proofs.pages.put_program.Goals as goal
 
 pub returns-in-Err-clause-bytes : goal.returns-in-Err-clause-bytes
@@ -22,16 +23,16 @@ put_step-requires-clause-step g c =
 
 pub returns-in-Ok-put_step-clause-bytes : goal.returns-in-Ok-put_step-clause-bytes
 returns-in-Ok-put_step-clause-bytes g c =
-    subst (λ (step : Step). WritesOrCuts (g.W.ByteOut.held c.args.out.now) (g.W.ByteOut.held c.put_poll.new.out) c.put_poll.result (step_lines (step ∷ Poll poll_clocks ∷ [])))
+    subst (λ (step : Step). Writes (g.W.ByteOut.held c.args.out.now) (g.W.ByteOut.held c.put_poll.new.out) c.put_poll.result (step_lines (step ∷ Poll poll_clocks ∷ [])))
     c.in-Ok.ensures
-    (subst (WritesOrCuts (g.W.ByteOut.held c.args.out.now) (g.W.ByteOut.held c.put_poll.new.out) c.put_poll.result)
+    (subst (Writes (g.W.ByteOut.held c.args.out.now) (g.W.ByteOut.held c.put_poll.new.out) c.put_poll.result)
     (sym (lines_append (c.in-Ok.step ∷ []) (Poll poll_clocks ∷ [])))
-    (writes_then _ _ _ _ (step_lines (c.in-Ok.step ∷ [])) (step_lines (Poll poll_clocks ∷ [])) c.in-Ok-put_step.ensures.bytes c.put_poll.ensures.bytes))
+    (Writes-then _ _ _ _ (step_lines (c.in-Ok.step ∷ [])) (step_lines (Poll poll_clocks ∷ [])) c.in-Ok-put_step.ensures.bytes c.put_poll.ensures.bytes))
 
 pub returns-clause-bytes : goal.returns-clause-bytes
 returns-clause-bytes g c =
-    subst (λ (step : Step). AppendsCut (g.W.ByteOut.held c.args.out.now) (g.W.ByteOut.held c.put_step.new.out) (step_lines (step ∷ Poll poll_clocks ∷ [])))
+    subst (λ (step : Step). Cuts (g.W.ByteOut.held c.args.out.now) (g.W.ByteOut.held c.put_step.new.out) (step_lines (step ∷ Poll poll_clocks ∷ [])))
     c.in-Ok.ensures
-    (subst (AppendsCut (g.W.ByteOut.held c.args.out.now) (g.W.ByteOut.held c.put_step.new.out))
+    (subst (Cuts (g.W.ByteOut.held c.args.out.now) (g.W.ByteOut.held c.put_step.new.out))
     (sym (lines_append (c.in-Ok.step ∷ []) (Poll poll_clocks ∷ [])))
-    (cut_of_more _ _ (step_lines (c.in-Ok.step ∷ [])) (step_lines (Poll poll_clocks ∷ [])) c.in-Err-put_step.ensures.bytes))
+    (Cuts-more _ _ (step_lines (c.in-Ok.step ∷ [])) (step_lines (Poll poll_clocks ∷ [])) c.in-Err-put_step.ensures.bytes))

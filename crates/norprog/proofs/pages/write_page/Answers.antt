@@ -2,10 +2,10 @@ use Rattle.std.proofs.Common.{rules, ◌≤◌, List, length, sym, subst, ap, �
 use Rattle.std.specs.Io.KnownBytes.{Appends}
 use Rattle.nor_base.specs.Work.{Program, differs}
 use Rattle.norprog.specs.Pages.{lines_of}
-use Rattle.norprog.specs.Written.{AppendsCut}
+use Rattle.nor_base.specs.Device.{Cuts}
 use Rattle.norprog.proofs.PageLemmas.{is_first, is_last, no_first, no_last, one_program}
 use Rattle.norprog.proofs.PageSpans.{in_order}
-use Rattle.norprog.proofs.WriteLemmas.{no_lines, one_program_lines}
+use Rattle.norprog.proofs.LineLemmas.{no_lines, one_program_lines}
 use Rattle.norprog.proofs.pages.write_page.Goals as goal
 
 pub returns-in-None-clause-bytes : goal.returns-in-None-clause-bytes
@@ -80,5 +80,5 @@ pub returns-in-Err-clause-bytes : goal.returns-in-Err-clause-bytes
 returns-in-Err-clause-bytes g c =
     let one = one_program c.args.at c.in-Some.first c.in-Some-last_difference.last c.args.have.now c.args.want.now
     (sym c.in-Some.is ∙ c.first_difference.ensures.first) (sym c.in-Some-last_difference.is ∙ c.last_difference.ensures.last) in
-    subst (λ (programs : List Program). AppendsCut (g.W.ByteOut.held c.args.out.now) (g.W.ByteOut.held c.write_program.new.out) (lines_of programs)) (sym one)
-    (subst (AppendsCut (g.W.ByteOut.held c.args.out.now) (g.W.ByteOut.held c.write_program.new.out)) (one_program_lines _) c.in-Err.ensures.bytes)
+    subst (λ (programs : List Program). Cuts (g.W.ByteOut.held c.args.out.now) (g.W.ByteOut.held c.write_program.new.out) (lines_of programs)) (sym one)
+    (subst (Cuts (g.W.ByteOut.held c.args.out.now) (g.W.ByteOut.held c.write_program.new.out)) (one_program_lines _) c.in-Err.ensures.bytes)

@@ -1,7 +1,7 @@
 -- The lines of one page more follow those before.
 use Rattle.std.proofs.Common.{◌≡◌, ◌+◌, ◌*◌, ◌/◌, length, ◌∙◌, ap, arith, length-append, refl}
 use Rattle.norprog.specs.Pages.{page_of, page_program, page_programs}
-use Rattle.norprog.proofs.WriteLemmas.{no_lines}
+use Rattle.norprog.proofs.LineLemmas.{no_lines}
 use Rattle.norprog.proofs.ProgramsLemmas.{next_page, wrote_page, cut_page}
 use Rattle.norprog.proofs.pages.write_pages.Goals as goal
 

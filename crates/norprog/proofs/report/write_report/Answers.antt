@@ -1,23 +1,14 @@
--- The other lines follow the strategy's.
-use Rattle.std.proofs.Common.{ℕ, ◌<◌, List, ◌++◌, length, take, subst}
-use Rattle.std.specs.Io.KnownBytes.{Appends}
+-- The parts joined are the lines.
+use Rattle.std.proofs.Common.{◌∙◌, subst}
 use Rattle.nor_base.specs.Device.{Writes}
-use Rattle.norprog.specs.Report.{report_text, count_lines}
-use Rattle.norprog.proofs.ReportLemmas.{puts_then, cut_of_whole}
+use Rattle.norprog.proofs.ReportLemmas.{parts_told}
 use Rattle.norprog.proofs.report.write_report.Goals as goal
 
-pub returns-in-Ok-clause-bytes : goal.returns-in-Ok-clause-bytes
-unfolding report_text
-returns-in-Ok-clause-bytes g c =
-    subst (λ (line : List ℕ). Writes (g.W.ByteOut.held c.args.writer.now) (g.W.ByteOut.held c.write_counts.new.writer) c.write_counts.result
-    (line ++ count_lines c.args.report.now))
-    c.strategy_line.ensures
-    (puts_then _ _ _ _ c.strategy_line.result.now (count_lines c.args.report.now) c.in-Ok.ensures.bytes c.write_counts.ensures.bytes)
-
-pub returns-in-Err-clause-bytes : goal.returns-in-Err-clause-bytes
-unfolding report_text
-returns-in-Err-clause-bytes g c =
-    subst (λ (line : List ℕ). (n : ℕ) × (n < length (line ++ count_lines c.args.report.now))
-    × Appends (g.W.ByteOut.held c.args.writer.now) (g.W.ByteOut.held c.put_all.new.writer) (take n (line ++ count_lines c.args.report.now)))
-    c.strategy_line.ensures
-    (cut_of_whole _ _ c.strategy_line.result.now (count_lines c.args.report.now) c.in-Err.ensures.bytes)
+pub returns-clause-bytes : goal.returns-clause-bytes
+returns-clause-bytes g c =
+    subst (Writes (g.W.ByteOut.held c.args.writer.now) (g.W.ByteOut.held c.put_parts.new.writer) c.put_parts.result)
+    (parts_told c.args.report.now _ _ _ _ _ _ c.strategy_line.ensures
+    (c.as_bytes.ensures.value ∙ c.format.ensures.text) (c.as_bytes-2.ensures.value ∙ c.format-2.ensures.text)
+    (c.as_bytes-3.ensures.value ∙ c.format-3.ensures.text) (c.as_bytes-4.ensures.value ∙ c.format-4.ensures.text)
+    (c.as_bytes-5.ensures.value ∙ c.format-5.ensures.text))
+    c.put_parts.ensures.bytes

@@ -2,11 +2,8 @@
 use Rattle.std.proofs.Common.{ap, arith, ◌∙◌}
 use Rattle.nor_base.specs.Blocks.{is_legal}
 use Rattle.nor_base.specs.Port.{Shown}
-use Rattle.nor_chip.proofs.RangeLemmas.{legal_size, legal_inside}
+use Rattle.nor_chip.proofs.RangeLemmas.{legal_inside}
 use Rattle.nor_chip.proofs.chip.Chip.erase.Goals as goal
-
-pub block_size-size-requires : goal.block_size-size-requires
-block_size-size-requires c = legal_size c.self.inside.meaning.now c.args.kind c.args.start c.is_accepted.ensures (ap (λ (v : Shown). is_legal v.setting.meaning c.args.kind c.args.start) c.self.view_is ∙ c.requires)
 
 pub fill_block-requires : goal.fill_block-requires
 fill_block-requires c =

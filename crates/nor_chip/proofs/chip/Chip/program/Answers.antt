@@ -1,6 +1,6 @@
 -- The page lies on the chip.
 use Rattle.std.proofs.Common.{◌≡◌, ◌+◌, ◌≤◌, ◌<◌, ap, arith, length, subst, sym}
-use Rattle.nor_base.specs.Laws.{page_start}
+use Rattle.nor_base.specs.Effect.{page_start}
 use Rattle.nor_base.specs.Port.{Shown}
 use Rattle.nor_chip.proofs.RangeLemmas.{page_inside}
 use Rattle.nor_chip.proofs.chip.Chip.program.Goals as goal

@@ -1,9 +1,0 @@
--- The bytes of a target.
-use Rattle.nor_base.proofs.TargetLaws.{target_keeps, target_gives}
-use Rattle.nor_base.proofs.laws.targets.Goals as goal
-
-pub returns-clause-keeps : goal.returns-clause-keeps
-returns-clause-keeps c = target_keeps
-
-pub returns-clause-gives : goal.returns-clause-gives
-returns-clause-gives c = target_gives

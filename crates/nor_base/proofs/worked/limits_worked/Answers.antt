@@ -1,6 +1,0 @@
--- The chip at the upper limits.
-use Rattle.nor_base.proofs.LimitLaws.{widest_is_accepted}
-use Rattle.nor_base.proofs.worked.limits_worked.Goals as goal
-
-pub returns : goal.returns
-returns c = widest_is_accepted

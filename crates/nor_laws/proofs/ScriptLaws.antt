@@ -1,0 +1,165 @@
+-- A text is that of one list of steps, and none begins another.
+use Rattle.std.proofs.Common.{◌≡◌, ◌≢◌, ℕ, ◌+◌, ◌-◌, ◌/◌, ◌%◌, ◌<◌, ◌≤◌, nat_lt, true, false, if◌then◌else◌, List, [], ◌∷◌, ◌++◌, length, drop, get_or, refl, sym, ◌∙◌, ap, subst, arith, append_assoc, append-nil}
+use Rattle.std.specs.Prelude.{codes, flat_map}
+use Rattle.std.specs.List.{list_all, AllByRecursion}
+use Rattle.std.proofs.lemmas.Bool.Decides.{nat_tests}
+use Rattle.std.proofs.lemmas.Bool.{and_parts, ltb-true}
+use Rattle.std.proofs.lemmas.List.{append_cancel_left}
+use Rattle.nor_base.specs.declared.step.Step.{Step}
+use Rattle.nor_base.specs.declared.step.Step.TheVariants.{Send, Poll, Verify}
+use Rattle.nor_base.specs.Sample.{is_symbol}
+use Rattle.nor_base.specs.Step.{are_clocks, is_filled, IsStep}
+use Rattle.nor_base.specs.Script.{closed, hex_digit, hex_pair, step_line, header, end_line, step_lines, script_text, IsScript}
+
+-- no element is c
+abbrev None_is : ℕ → List ℕ → Type 0
+None_is c xs = AllByRecursion (λ x. x ≢ c) xs
+
+-- two lists up to a first c are alike where all is
+up_to : (c : ℕ) (xs ys x y : List ℕ) → None_is c xs → None_is c ys → xs ++ c ∷ x ≡ ys ++ c ∷ y → (xs ≡ ys) × (x ≡ y)
+up_to c [] [] x y p q h = let tails : x ≡ y = cc in (refl, tails)
+up_to c [] (b ∷ ys) x y p q h = let same : b ≡ c = cc in absurd (q.0 same)
+up_to c (a ∷ xs) [] x y p q h = let same : a ≡ c = cc in absurd (p.0 same)
+up_to c (a ∷ xs) (b ∷ ys) x y p q h =
+    let same : a ≡ b = cc in
+    let tails : xs ++ c ∷ x ≡ ys ++ c ∷ y = cc in
+    let later = up_to c xs ys x y p.1 q.1 tails in
+    let lists : a ∷ xs ≡ b ∷ ys = ap (λ n. n ∷ xs) same ∙ ap (λ l. b ∷ l) later.0 in
+    (lists, later.1)
+
+-- a byte that is no symbol isn't among symbols
+none_of_symbols : (c : ℕ) (xs : List ℕ) → is_symbol c ≡ false → list_all is_symbol xs ≡ true → None_is c xs
+none_of_symbols c [] other h = tt
+none_of_symbols c (x ∷ xs) other h = (
+  λ same.
+      let symbol : is_symbol c ≡ true = subst (λ n. is_symbol n ≡ true) same (and_parts (is_symbol x) (list_all is_symbol xs) h).0 in
+      let both : true ≡ false = sym symbol ∙ other in cc,
+  none_of_symbols c xs other (and_parts (is_symbol x) (list_all is_symbol xs) h).1,
+)
+
+none_of_clocks : (c : ℕ) (clocks : List ℕ) → is_symbol c ≡ false → are_clocks clocks ≡ true → None_is c clocks
+none_of_clocks c clocks other h = none_of_symbols c clocks other (and_parts (is_filled clocks) (list_all is_symbol clocks) h).1
+
+-- the value of a digit
+abbrev digit_value : ℕ → ℕ
+digit_value c = if nat_lt c 0x57 then c - 0x30 else c - 0x57
+
+hex_digit_value : (n : ℕ) → n < 16 → digit_value (hex_digit n) ≡ n
+hex_digit_value n h = grind (arith, nat_tests)
+
+hex_digit_low : (n : ℕ) → 0x30 ≤ hex_digit n
+hex_digit_low n = grind (arith, nat_tests)
+
+digits_apart : (m n : ℕ) → m < 16 → n < 16 → hex_digit m ≡ hex_digit n → m ≡ n
+digits_apart m n p q h = sym (hex_digit_value m p) ∙ ap digit_value h ∙ hex_digit_value n q
+
+pairs_apart : (b c : ℕ) → b < 256 → c < 256 → hex_digit (b / 16) ≡ hex_digit (c / 16) → hex_digit (b % 16) ≡ hex_digit (c % 16) → b ≡ c
+pairs_apart b c p q high low =
+    let highs : b / 16 ≡ c / 16 = digits_apart (b / 16) (c / 16) (omega arith) (omega arith) high in
+    let lows : b % 16 ≡ c % 16 = digits_apart (b % 16) (c % 16) (omega arith) (omega arith) low in
+    omega (arith, highs, lows)
+
+-- bytes by their digits
+bytes_apart : (xs ys x y : List ℕ) → list_all (λ byte. nat_lt byte 256) xs ≡ true → list_all (λ byte. nat_lt byte 256) ys ≡ true
+    → flat_map hex_pair xs ++ 0x0A ∷ x ≡ flat_map hex_pair ys ++ 0x0A ∷ y → (xs ≡ ys) × (x ≡ y)
+bytes_apart [] [] x y p q h = let tails : x ≡ y = cc in (refl, tails)
+bytes_apart [] (c ∷ ys) x y p q h = let heads : 0x0A ≡ hex_digit (c / 16) = ap (λ l. get_or l 0 0) h in absurd (omega (arith, heads, hex_digit_low (c / 16)))
+bytes_apart (b ∷ xs) [] x y p q h = let heads : hex_digit (b / 16) ≡ 0x0A = ap (λ l. get_or l 0 0) h in absurd (omega (arith, heads, hex_digit_low (b / 16)))
+bytes_apart (b ∷ xs) (c ∷ ys) x y p q h =
+    let high : hex_digit (b / 16) ≡ hex_digit (c / 16) = ap (λ l. get_or l 0 0) h in
+    let low : hex_digit (b % 16) ≡ hex_digit (c % 16) = ap (λ l. get_or l 1 0) h in
+    let small_b : b < 256 = ltb-true b 256 (and_parts (nat_lt b 256) (list_all (λ byte. nat_lt byte 256) xs) p).0 in
+    let small_c : c < 256 = ltb-true c 256 (and_parts (nat_lt c 256) (list_all (λ byte. nat_lt byte 256) ys) q).0 in
+    let same : b ≡ c = pairs_apart b c small_b small_c high low in
+    let later = bytes_apart xs ys x y (and_parts (nat_lt b 256) (list_all (λ byte. nat_lt byte 256) xs) p).1
+    (and_parts (nat_lt c 256) (list_all (λ byte. nat_lt byte 256) ys) q).1 (ap (drop 2) h) in
+    let lists : b ∷ xs ≡ c ∷ ys = ap (λ n. n ∷ xs) same ∙ ap (λ l. c ∷ l) later.0 in
+    (lists, later.1)
+
+-- a Verify's line after its letter and blank
+verify_line : (clocks digits x : List ℕ) → ((clocks ++ (codes " " ++ digits)) ++ 0x0A ∷ []) ++ x ≡ clocks ++ 0x20 ∷ (digits ++ 0x0A ∷ x)
+verify_line clocks digits x =
+    append_assoc (clocks ++ (codes " " ++ digits)) (0x0A ∷ []) x ∙ append_assoc clocks (codes " " ++ digits) (0x0A ∷ x)
+
+-- the first byte
+head_of : List ℕ → ℕ
+head_of l = get_or l 0 0
+
+-- lines of two kinds of step differ in their first byte
+step_apart : (s t : Step) (x y : List ℕ) → IsStep s → IsStep t → closed (step_line s) ++ x ≡ closed (step_line t) ++ y → (s ≡ t) × (x ≡ y)
+unfolding step_line head_of
+step_apart (Send a) (Send b) x y p q h =
+    let lines : a ++ 0x0A ∷ x ≡ b ++ 0x0A ∷ y = sym (append_assoc a (0x0A ∷ []) x) ∙ ap (drop 2) h ∙ append_assoc b (0x0A ∷ []) y in
+    let both = up_to 0x0A a b x y (none_of_clocks 0x0A a refl p.passes) (none_of_clocks 0x0A b refl q.passes) lines in
+    (ap Send both.0, both.1)
+step_apart (Poll a) (Poll b) x y p q h =
+    let lines : a ++ 0x0A ∷ x ≡ b ++ 0x0A ∷ y = sym (append_assoc a (0x0A ∷ []) x) ∙ ap (drop 2) h ∙ append_assoc b (0x0A ∷ []) y in
+    let both = up_to 0x0A a b x y (none_of_clocks 0x0A a refl p.passes) (none_of_clocks 0x0A b refl q.passes) lines in
+    (ap Poll both.0, both.1)
+step_apart (Verify a d) (Verify b e) x y p q h =
+    let lines : a ++ 0x20 ∷ (flat_map hex_pair d ++ 0x0A ∷ x) ≡ b ++ 0x20 ∷ (flat_map hex_pair e ++ 0x0A ∷ y) =
+    sym (verify_line a (flat_map hex_pair d) x) ∙ ap (drop 2) h ∙ verify_line b (flat_map hex_pair e) y in
+    let clocks = up_to 0x20 a b _ _ (none_of_clocks 0x20 a refl (and_parts (are_clocks a) (is_filled d) p.passes).0)
+    (none_of_clocks 0x20 b refl (and_parts (are_clocks b) (is_filled e) q.passes).0) lines in
+    let bytes = bytes_apart d e x y p.bytes q.bytes clocks.1 in
+    (ap (λ c. Verify c d) clocks.0 ∙ ap (Verify b) bytes.0, bytes.1)
+step_apart (Send a) (Poll b) x y p q h = let heads : 120 ≡ 112 = ap head_of h in absurd (omega (arith, heads))
+step_apart (Send a) (Verify b e) x y p q h = let heads : 120 ≡ 118 = ap head_of h in absurd (omega (arith, heads))
+step_apart (Poll a) (Send b) x y p q h = let heads : 112 ≡ 120 = ap head_of h in absurd (omega (arith, heads))
+step_apart (Poll a) (Verify b e) x y p q h = let heads : 112 ≡ 118 = ap head_of h in absurd (omega (arith, heads))
+step_apart (Verify a d) (Send b) x y p q h = let heads : 118 ≡ 120 = ap head_of h in absurd (omega (arith, heads))
+step_apart (Verify a d) (Poll b) x y p q h = let heads : 118 ≡ 112 = ap head_of h in absurd (omega (arith, heads))
+
+end_is_no_step : (n : ℕ) (t : Step) (x y : List ℕ) → end_line n ++ x ≡ closed (step_line t) ++ y → ⊥
+unfolding end_line step_line head_of
+end_is_no_step n (Send b) x y h = let heads : 101 ≡ 120 = ap head_of h in omega (arith, heads)
+end_is_no_step n (Poll b) x y h = let heads : 101 ≡ 112 = ap head_of h in omega (arith, heads)
+end_is_no_step n (Verify b e) x y h = let heads : 101 ≡ 118 = ap head_of h in omega (arith, heads)
+
+-- k steps stand before
+lines_apart : (a b : List Step) (k : ℕ) (x y : List ℕ) → AllByRecursion IsStep a → AllByRecursion IsStep b
+    → step_lines a ++ (end_line (k + length a) ++ x) ≡ step_lines b ++ (end_line (k + length b) ++ y) → (a ≡ b) × (x ≡ y)
+unfolding step_lines
+lines_apart [] [] k x y p q h = (refl, append_cancel_left (end_line (k + 0)) x y h)
+lines_apart [] (t ∷ b) k x y p q h =
+    absurd (end_is_no_step (k + 0) t x (step_lines b ++ (end_line (k + length (t ∷ b)) ++ y))
+    (h ∙ append_assoc (closed (step_line t)) (step_lines b) (end_line (k + length (t ∷ b)) ++ y)))
+lines_apart (s ∷ a) [] k x y p q h =
+    absurd (end_is_no_step (k + 0) s y (step_lines a ++ (end_line (k + length (s ∷ a)) ++ x))
+    (sym h ∙ append_assoc (closed (step_line s)) (step_lines a) (end_line (k + length (s ∷ a)) ++ x)))
+lines_apart (s ∷ a) (t ∷ b) k x y p q h =
+    let split = step_apart s t (step_lines a ++ (end_line (k + length (s ∷ a)) ++ x)) (step_lines b ++ (end_line (k + length (t ∷ b)) ++ y)) p.0 q.0
+    (sym (append_assoc (closed (step_line s)) (step_lines a) (end_line (k + length (s ∷ a)) ++ x)) ∙ h
+    ∙ append_assoc (closed (step_line t)) (step_lines b) (end_line (k + length (t ∷ b)) ++ y)) in
+    let count_a : k + length (s ∷ a) ≡ (k + 1) + length a = omega arith in
+    let count_b : k + length (t ∷ b) ≡ (k + 1) + length b = omega arith in
+    let rest : step_lines a ++ (end_line ((k + 1) + length a) ++ x) ≡ step_lines b ++ (end_line ((k + 1) + length b) ++ y) =
+    ap (λ n. step_lines a ++ (end_line n ++ x)) (sym count_a) ∙ split.1 ∙ ap (λ n. step_lines b ++ (end_line n ++ y)) count_b in
+    let later = lines_apart a b (k + 1) x y p.1 q.1 rest in
+    let lists : s ∷ a ≡ t ∷ b = ap (λ step. step ∷ a) split.0 ∙ ap (λ steps. t ∷ steps) later.0 in
+    (lists, later.1)
+
+-- a text by its parts
+text_and_more : (steps : List Step) (x : List ℕ) → script_text steps ++ x ≡ header ++ (step_lines steps ++ (end_line (0 + length steps) ++ x))
+unfolding script_text
+text_and_more steps x =
+    let count : length steps ≡ 0 + length steps = omega arith in
+    append_assoc header (step_lines steps ++ end_line (length steps)) x
+    ∙ ap (λ rest. header ++ rest) (append_assoc (step_lines steps) (end_line (length steps)) x)
+    ∙ ap (λ n. header ++ (step_lines steps ++ (end_line n ++ x))) count
+
+pub texts_apart : (a b : List Step) (x y : List ℕ) → AllByRecursion IsStep a → AllByRecursion IsStep b
+    → script_text a ++ x ≡ script_text b ++ y → (a ≡ b) × (x ≡ y)
+texts_apart a b x y p q h =
+    lines_apart a b 0 x y p q (append_cancel_left header _ _ (sym (text_and_more a x) ∙ h ∙ text_and_more b y))
+
+-- a text with nothing after it
+whole_text : (text : List ℕ) (steps : List Step) → IsScript text steps → text ≡ script_text steps ++ []
+whole_text text steps script = script.spelled ∙ sym (append-nil (script_text steps))
+
+pub one_list : (text : List ℕ) (a b : List Step) → IsScript text a → IsScript text b → a ≡ b
+one_list text a b p q = (texts_apart a b [] [] p.each q.each (sym (whole_text text a p) ∙ whole_text text b q)).0
+
+pub no_proper_prefix : (a b : List Step) (t u rest : List ℕ) → IsScript t a → IsScript u b → u ≡ t ++ rest → rest ≡ []
+no_proper_prefix a b t u rest p q h =
+    (texts_apart a b rest [] p.each q.each (ap (λ text. text ++ rest) (sym p.spelled) ∙ sym h ∙ whole_text u b q)).1

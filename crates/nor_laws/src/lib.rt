@@ -1,0 +1,92 @@
+//! Laws of the definitions that the whole project is proved against, and values of them worked out by hand. Each
+//! function does nothing: its contract is the law, and the gate proves it.
+#![tactic(auto)]
+
+pub mod worked;
+
+ghost use Rattle.nor_laws.specs.Laws.{SymbolsFound, SamplesApart, OneText, OneList, TextsApart, NoProperPrefix, OneRow, FindsRow, RowFound, LegalInRegion, LegalOnChip, RegionLegal, BlocksNest, KeepsSize, AsksSampled, GivesSampled, PollEnds, PollCount, PollNeedsAll, RunEndsTrail, ProgramPutsByte, RaisedForByte, ProgramKeepsOthers, ProgramJudgedByPage, EraseFills, EraseKeepsOthers, EraseNeverJudged, TargetKeeps, TargetGives, PlannedDoesTask, InRisingOrder, FirstInParts, GivesInParts};
+
+/// A clock is found by its symbol, and no two clocks have the same lanes: a list of samples means its instruction.
+pub fn symbols()
+    ensures found { SymbolsFound }
+    ensures apart { SamplesApart }
+{}
+
+/// A list of steps has one text, a text has one list of steps, and no script text is a proper prefix of another.
+pub fn script_texts()
+    ensures one_text { OneText }
+    ensures one_list { OneList }
+    ensures apart { TextsApart }
+    ensures no_proper_prefix { NoProperPrefix }
+{}
+
+/// In an accepted meaning an opcode has at most one row of the instruction table, and the first match is that row.
+pub fn instruction_rows()
+    ensures one { OneRow }
+    ensures found { FindsRow }
+    ensures finds { RowFound }
+{}
+
+/// A block is legal exactly where it is aligned and lies in one region that allows its kind; it lies on the chip. Two
+/// legal blocks are disjoint, or one holds the other.
+pub fn legal_blocks()
+    ensures region { LegalInRegion }
+    ensures legal { RegionLegal }
+    ensures chip { LegalOnChip }
+    ensures nest { BlocksNest }
+{}
+
+/// A transaction keeps the size of the array, and on an array of the chip's size it gives as many bytes as its clocks
+/// sample.
+pub fn effects()
+    ensures keeps { KeepsSize }
+    ensures asks { AsksSampled }
+    ensures gives { GivesSampled }
+{}
+
+/// A poll on a chip with n status reads left makes n + 1 of them, no fewer, ends idle and changes nothing else.
+pub fn polls()
+    ensures ends { PollEnds }
+    ensures count { PollCount }
+    ensures all { PollNeedsAll }
+{}
+
+/// A program clears the bits that its bytes say, and is Raised just for a byte that would set one. It changes no byte
+/// outside its page, and isn't refused for bytes elsewhere.
+pub fn programs()
+    ensures puts { ProgramPutsByte }
+    ensures raised { RaisedForByte }
+    ensures keeps { ProgramKeepsOthers }
+    ensures judged { ProgramJudgedByPage }
+{}
+
+/// An erase leaves FFh over its block, changes no byte outside it, and isn't refused for any byte.
+pub fn erases()
+    ensures fills { EraseFills }
+    ensures keeps { EraseKeepsOthers }
+    ensures judged { EraseNeverJudged }
+{}
+
+/// A run ends with the chip after its last transaction.
+pub fn runs()
+    ensures { RunEndsTrail }
+{}
+
+/// What is chosen and given becomes the image's byte, and every other byte stays.
+pub fn targets()
+    ensures keeps { TargetKeeps }
+    ensures gives { TargetGives }
+{}
+
+/// Where no bit must rise, the planned work does the task on every chip of the meaning and start; and after each transaction
+/// of the work, all below one address is the target and all from it on is as before.
+pub fn planned_work()
+    ensures done { PlannedDoesTask }
+    ensures rising { InRisingOrder }
+{}
+
+/// What a reader gives in two parts it gives, and what is ahead of it is what it gives first and then the rest.
+pub fn readers()
+    ensures parts { GivesInParts }
+    ensures first { FirstInParts }
+{}

@@ -1,0 +1,188 @@
+//! Why a command isn't done, what is printed of it, and the status that it ends with.
+
+ghost use Rattle.std.specs.Prelude.{◌≡◌, ◌<◌, ◌-◌, ◌^◌};
+ghost use Rattle.std.specs.Io.KnownBytes.{Appends};
+ghost use Rattle.nor_base.specs.Device.{Writes, Counts};
+ghost use Rattle.norprog_command.specs.Lines.{spelled, number_text, hex_text, layout_text, fault_text, file_text};
+ghost use Rattle.norprog_command.specs.Lines.{program_line, printed, status_after};
+ghost use Rattle.norprog.specs.declared.fault.BuildFault.TheVariants.{Memory};
+ghost use Rattle.norprog_command.specs.declared.faults.Refusal.TheVariants.{Build};
+
+use itoa::Buffer;
+use nor_base::{ByteOut, Failed, put_all, put_parts};
+use nor_hex::HexFault;
+use nor_layout::LayoutFault;
+use norprog::{BuildFault, SfdpFault};
+use std::alloc::{AllocError, AllocFailed};
+
+/// A file of the command line.
+#[derive(Clone, Copy, Debug, PartialEq, Eq)]
+pub enum FileName {
+    Hex,
+    Layout,
+    Sfdp,
+    Content,
+    Out,
+}
+
+/// Why a command isn't done.
+#[derive(Drop, Debug)]
+pub enum Refusal {
+    /// The words are no command line, or ask for help: the text of the command line library.
+    Text(String),
+    /// A value isn't of its form, or options don't go together.
+    Usage,
+    /// A file can't be used.
+    File(FileName),
+    /// The build is refused. Want of memory and a failed output of the program itself count among these.
+    Build(BuildFault),
+}
+
+impl Refusal {
+    /// Want of memory.
+    pub const MEMORY: Refusal = Refusal::Build(BuildFault::Memory);
+
+    /// An output failed.
+    pub const WRITE: Refusal = Refusal::Build(BuildFault::Write);
+}
+
+impl From<AllocError> for Refusal {
+    ghost from_gives = { λ _ refusal. refusal ≡ Build Memory };
+
+    fn from(_error: AllocError) -> Refusal {
+        Refusal::MEMORY
+    }
+}
+
+impl<T: Drop> From<AllocFailed<T>> for Refusal {
+    ghost from_gives = { λ _ refusal. refusal ≡ Build Memory };
+
+    fn from(_error: AllocFailed<T>) -> Refusal {
+        Refusal::MEMORY
+    }
+}
+
+/// Writes a refusal, and answers the status that the program ends with. Where `err` fails a part of the text is lost,
+/// and nothing more is told.
+pub fn refuse<E: ByteOut>(refusal: &Refusal, err: &mut E) -> u8
+    requires { E.count err.old < 2 ^ 64 - 1 }
+    ensures status { result ≡ status_after refusal.now }
+    ensures told { E.count err.new ≡ E.count err.old
+        → Appends (E.held err.old) (E.held err.new) (printed refusal.now) }
+{
+    let _ = write_refusal(refusal, err);
+    exit_status(refusal)
+}
+
+/// 2 where the command line is at fault or asks for help, else 1.
+fn exit_status(refusal: &Refusal) -> u8
+    ensures { result ≡ status_after refusal.now }
+{
+    match refusal {
+        Refusal::Text(_) | Refusal::Usage => 2,
+        Refusal::File(_) | Refusal::Build(_) => 1,
+    }
+}
+
+/// Writes the line of a refusal, or the command line library's text. It takes no memory.
+fn write_refusal<E: ByteOut>(refusal: &Refusal, err: &mut E) -> Result<(), Failed>
+    requires { E.count err.old < 2 ^ 64 - 1 }
+    ensures bytes { Writes (E.held err.old) (E.held err.new) result (printed refusal.now) }
+    ensures count { Counts (E.count err.old) (E.count err.new) result }
+{
+    match refusal {
+        Refusal::Text(text) => put_all(err, text.as_bytes()),
+        Refusal::Usage => put_line(err, b"usage", None),
+        Refusal::File(name) => put_line(err, file_words(*name), None),
+        Refusal::Build(fault) => {
+            let (words, number) = fault_words(*fault);
+            put_line(err, words, number)
+        }
+    }
+}
+
+/// Writes `norprog: `, the words, the number in decimal where there is one, and LF.
+fn put_line<E: ByteOut>(err: &mut E, words: &[u8], number: Option<u64>) -> Result<(), Failed>
+    requires { E.count err.old < 2 ^ 64 - 1 }
+    ensures bytes { Writes (E.held err.old) (E.held err.new) result (program_line (spelled words.now number)) }
+    ensures count { Counts (E.count err.old) (E.count err.new) result }
+{
+    let mut buffer = Buffer::new();
+    let digits = digits_of(number, &mut buffer);
+    put_parts(err, &[b"norprog: ", words, digits, b"\n"])
+}
+
+/// The number in decimal where there is one, else nothing.
+fn digits_of(number: Option<u64>, buffer: &mut Buffer) -> &[u8]
+    ensures { result.now ≡ number_text number }
+{
+    match number {
+        Some(number) => buffer.format(number).as_bytes(),
+        None => b"",
+    }
+}
+
+/// The words for a file.
+fn file_words(name: FileName) -> &'static [u8]
+    ensures { result.now ≡ file_text name }
+{
+    match name {
+        FileName::Hex => b"file hex",
+        FileName::Layout => b"file layout",
+        FileName::Sfdp => b"file sfdp",
+        FileName::Content => b"file content",
+        FileName::Out => b"file out",
+    }
+}
+
+/// The words for a fault, and the number behind them where there is one.
+fn fault_words(fault: BuildFault) -> (&'static [u8], Option<u64>)
+    ensures { spelled result.0.now result.1 ≡ fault_text fault }
+{
+    match fault {
+        BuildFault::Contradiction(number) => (b"contradiction ", Some(u64::from(number))),
+        BuildFault::Hex(fault) => hex_words(fault),
+        BuildFault::Layout(fault) => layout_words(fault),
+        BuildFault::Sfdp(SfdpFault::Density) => (b"sfdp 6", None),
+        BuildFault::Status(number) => (b"status ", Some(u64::from(number))),
+        BuildFault::ModeImpossible => (b"mode", None),
+        BuildFault::ContentSize => (b"content size", None),
+        BuildFault::ContentShort => (b"content short", None),
+        BuildFault::Read => (b"read", None),
+        BuildFault::Write => (b"write", None),
+        BuildFault::Memory => (b"memory", None),
+        BuildFault::NotYet => (b"not yet", None),
+    }
+}
+
+/// The words for a fault of the image, and its line.
+fn hex_words(fault: HexFault) -> (&'static [u8], Option<u64>)
+    ensures { spelled result.0.now result.1 ≡ hex_text fault }
+{
+    match fault {
+        HexFault::NoColon { line } => (b"hex 1 line ", Some(line)),
+        HexFault::BadDigit { line } => (b"hex 2 line ", Some(line)),
+        HexFault::BadLength { line } => (b"hex 3 line ", Some(line)),
+        HexFault::BadSum { line } => (b"hex 4 line ", Some(line)),
+        HexFault::BadType { line } => (b"hex 5 line ", Some(line)),
+        HexFault::Conflict { line } => (b"hex 6 line ", Some(line)),
+        HexFault::NoEnd { line } => (b"hex 7 line ", Some(line)),
+        HexFault::AfterEnd { line } => (b"hex 8 line ", Some(line)),
+        HexFault::Memory => (b"memory", None),
+    }
+}
+
+/// The words for a fault of the layout, and its line or the index of the chosen name.
+fn layout_words(fault: LayoutFault) -> (&'static [u8], Option<u64>)
+    ensures { spelled result.0.now result.1 ≡ layout_text fault }
+{
+    match fault {
+        LayoutFault::BadLine(line) => (b"layout 1 line ", Some(line)),
+        LayoutFault::BadNumber(line) => (b"layout 2 line ", Some(line)),
+        LayoutFault::EndBeforeStart(line) => (b"layout 3 line ", Some(line)),
+        LayoutFault::RepeatedName(line) => (b"layout 4 line ", Some(line)),
+        LayoutFault::TooMany(line) => (b"layout 5 line ", Some(line)),
+        LayoutFault::UnknownRegion(index) => (b"layout 6 region ", Some(index)),
+        LayoutFault::Memory => (b"memory", None),
+    }
+}

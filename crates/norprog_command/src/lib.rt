@@ -1,0 +1,15 @@
+//! The commands of norprog behind its command line: the forms of values, the request that they make, the files that it
+//! names, and the lines of refusals (docs/FORMATS.md, section 9).
+//!
+//! [`answer`] does what the texts of a command line ask for. Whoever reads a command line hands them over as [`Given`].
+#![tactic(auto)]
+
+mod builds;
+mod faults;
+mod files;
+mod request;
+mod values;
+
+pub use builds::answer;
+pub use faults::{FileName, Refusal, refuse};
+pub use request::{Chip, Given, Request, request_of};

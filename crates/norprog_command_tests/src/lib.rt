@@ -1,0 +1,9 @@
+//! Tests of `norprog_command` over its public calls. Each writes its files first, into the empty folder that it runs in.
+#![tactic(auto)]
+
+#[cfg(test)]
+mod files;
+#[cfg(test)]
+mod jobs;
+#[cfg(test)]
+mod refusals;

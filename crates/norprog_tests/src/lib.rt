@@ -1,0 +1,14 @@
+//! Tests of `norprog` over its public calls: jobs whose scripts are run on a model of a chip, refusals, devices that move
+//! few bytes at a call, end early or fail, and the lines of a report.
+#![tactic(auto)]
+
+#[cfg(test)]
+mod devices;
+#[cfg(test)]
+mod jobs;
+#[cfg(test)]
+mod play;
+#[cfg(test)]
+mod refusals;
+#[cfg(test)]
+mod reports;
