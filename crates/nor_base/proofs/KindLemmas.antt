@@ -6,7 +6,7 @@ use Rattle.std.proofs.lemmas.Nat.{pow_pos}
 use Rattle.std.proofs.lemmas.Option.{slice_get-get_or}
 use Rattle.nor_base.specs.declared.meaning.Erase.{Erase}
 use Rattle.nor_base.specs.declared.meaning.Region.{Region}
-use Rattle.nor_base.specs.Parameters.{Parameters, erase_kind, allows}
+use Rattle.nor_base.specs.Parameters.{Parameters, erase_kind, allows, erased_only_set}
 use Rattle.nor_base.specs.Accepted.{IsAccepted}
 
 -- the kind of a slot that was read
@@ -38,3 +38,25 @@ far_kind kinds k small far =
 pub no_kind : (region : Region) (kind : ℕ) → region.kinds < 256 → (kind ≡ 0) ⊎ (8 < kind) → false ≡ allows region kind
 no_kind region zero small none = refl
 no_kind region (suc k) small none = sym (far_kind region.kinds k small (elim none [ inl h ↦ absurd (omega arith) | inr h ↦ omega arith ]))
+
+-- no limit speaks of the profile
+pub erased_only_accepted : (m : Parameters) → IsAccepted m → IsAccepted (erased_only_set m)
+erased_only_accepted m is = record {
+  size_low = is.size_low;
+  size_high = is.size_high;
+  size_whole = is.size_whole;
+  page = is.page;
+  four_kinds = is.four_kinds;
+  kinds = λ kind erase here.
+      let e = is.kinds kind erase here in record { size = e.size; whole_pages = e.whole_pages; op = e.op; op4 = e.op4 };
+  some_region = is.some_region;
+  few_regions = is.few_regions;
+  regions = is.regions;
+  regions_fill = is.regions_fill;
+  enter = is.enter;
+  leave = is.leave;
+  quad_read4 = is.quad_read4;
+  quad_read_op = is.quad_read_op;
+  dummies = is.dummies;
+  opcodes = is.opcodes;
+}

@@ -9,6 +9,8 @@ sectors : (m : Parameters) → m.page ≡ 256 → IsEraseKind m (record { size =
 sectors m page = record {
   size = record { exponent = 12; at_least = omega arith; at_most = omega arith; value = refl };
   whole_pages = omega arith;
+  op = omega arith;
+  op4 = tt;
 }
 
 only_sectors : (size kind : ℕ) (erase : Erase) → erase_kind (uniform_of size) kind ≡ Some erase → IsEraseKind (uniform_of size) erase
@@ -34,6 +36,7 @@ uniform_accepted size low high whole = record {
   enter = λ h. absurd (h refl);
   leave = λ h. absurd (h refl);
   quad_read4 = λ h. cc;
+  quad_read_op = tt;
   dummies = tt;
   opcodes = refl;
 }

@@ -30,15 +30,17 @@ pub record IsRegion (region : Region) : Type 0 where
   pub whole : region.size % 256 ≡ 0
   pub mask : region.kinds < 16
 
--- an erase kind's size: a power of two from 256 bytes to 16 MiB, and not below the page
+-- an erase kind's size: a power of two from 256 bytes to 16 MiB, and not below the page; its opcodes are bytes
 pub record IsEraseKind (m : Parameters) (erase : Erase) : Type 0 where
   pub size : IsPowerOfTwo 8 24 erase.size
   pub whole_pages : m.page ≤ erase.size
+  pub op : erase.op < 256
+  pub op4 : IfSome erase.op4 (λ op4. op4 < 256)
 
 pub record IsAccepted (m : Parameters) : Type 0 where
-  -- a multiple of 4096 from 4096 to 64 MiB
+  -- a multiple of 4096 from 4096 to 256 MiB
   pub size_low : 4096 ≤ m.size
-  pub size_high : m.size ≤ 2 ^ 26
+  pub size_high : m.size ≤ 2 ^ 28
   pub size_whole : m.size % 4096 ≡ 0
   -- from 16 to 4096 bytes
   pub page : IsPowerOfTwo 4 12 m.page
@@ -52,6 +54,7 @@ pub record IsAccepted (m : Parameters) : Type 0 where
   pub enter : m.enter ≢ Absent → m.width ≡ Both
   pub leave : m.leave ≢ Absent → m.width ≡ Both
   pub quad_read4 : m.quad_read4 ≡ true → IsSome m.quad_read
+  pub quad_read_op : IfSome m.quad_read (λ q. q.op < 256)
   -- 31 wait states and 7 mode clocks
   pub dummies : IfSome m.quad_read (λ q. q.dummies ≤ 38)
   -- no opcode of the 1-1-4 fast read or of a live erase kind is a fixed one or another of these

@@ -1,6 +1,10 @@
 -- A chip's array: a list of bytes, by their addresses from 0 on.
-use Rattle.std.specs.Prelude.{◌⊎◌, ℕ, Bool, ◌<◌, ◌≤◌, List, map}
-use Rattle.std.specs.List.{list_any, enumerate_from}
+use Rattle.std.specs.Prelude.{◌⊎◌, ℕ, Bool, ◌<◌, ◌≤◌, nat_lt, List, map}
+use Rattle.std.specs.List.{list_all, list_any, enumerate_from}
+
+-- numbers below 256
+abbrev pub are_bytes : List ℕ → Bool
+are_bytes numbers = list_all (λ n. nat_lt n 256) numbers
 
 -- each byte of the array by its address and what it was
 abbrev pub each : (ℕ → ℕ → ℕ) → List ℕ → List ℕ

@@ -90,13 +90,18 @@ last_byte_for page address bytes (suc j) x =
 abbrev pub written : ℕ → ℕ → List ℕ → ℕ → Option ℕ
 written page address bytes x = last_byte_for page address bytes (length bytes) x
 
--- a program only clears bits: a byte it writes has a 1 where the array has a 0
-abbrev pub raises_bit : ℕ → ℕ → Bool
-raises_bit old byte = not (bit_and old byte == byte)
+-- a byte may be programmed over the one that is there: a program only clears bits; where only erased bytes may be
+-- programmed, it is done over FFh alone
+abbrev pub may_program : Parameters → ℕ → ℕ → Bool
+may_program m old byte = if m.erased_only then old == 255 else bit_and old byte == byte
 
--- a program of these bytes may not be done over this array
-unfoldable pub raises : ℕ → ℕ → List ℕ → List ℕ → Bool
-raises page address bytes array = some (λ x old. option_map_or (raises_bit old) (written page address bytes x) false) array
+-- a program of these bytes may not be done over this array: some byte that it writes may not be programmed there
+unfoldable pub is_barred : Parameters → ℕ → ℕ → List ℕ → List ℕ → Bool
+is_barred m page address bytes array = some (λ x old. option_map_or (λ byte. not (may_program m old byte)) (written page address bytes x) false) array
+
+-- which wrong such a program is
+abbrev pub barred : Parameters → Wrong
+barred m = if m.erased_only then wrong.NotErased else wrong.Raised
 
 -- the array after a program: each byte that it writes AND what was there
 unfoldable pub programmed : ℕ → ℕ → List ℕ → List ℕ → List ℕ
@@ -154,7 +159,7 @@ effect_of s c i =
     else if is_quad i.what && not s.start.quad then Err wrong.Ignored
     else if needs_latch s.meaning i.what && not c.latch then Err wrong.Ignored
     else if is_out_of_range s.meaning i then Err wrong.OutOfRange
-    else if is_program i.what && raises s.page i.address i.sent c.array then Err wrong.Raised
+    else if is_program i.what && is_barred s.meaning s.page i.address i.sent c.array then Err (barred s.meaning)
     else Ok (after s c i i.what, answer c i i.what)
 
 abbrev pub effect_if : Setting → Chip → Option Instruction → Result (Chip × List ℕ) Wrong

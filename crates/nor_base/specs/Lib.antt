@@ -14,5 +14,12 @@ pub mod Chip
 pub mod Effect
 pub mod Run
 pub mod Target
-pub mod Work
+pub mod Strategies
+pub mod Need
+pub mod Programs
+pub mod Units
+pub mod Spelling
+pub mod Operations
+pub mod Planned
+pub mod Events
 pub mod Port

@@ -1,6 +1,6 @@
 -- What a chip's SFDP parameters say of it (JESD216B: basic flash parameter table FF00h, sector map FF81h, four-byte
 -- address instruction table FF84h). Sizes are bytes.
-use Rattle.std.specs.Prelude.{ℕ, zero, suc, Bool, false, ◌/◌, ◌%◌, ◌^◌, ◌==◌, ◌&&◌, List, Option, None, is_some, slice_get, option_and_then}
+use Rattle.std.specs.Prelude.{ℕ, zero, suc, Bool, true, false, ◌/◌, ◌%◌, ◌^◌, ◌==◌, ◌&&◌, List, Option, None, is_some, slice_get, option_and_then}
 use Rattle.std.specs.List.{list_any}
 use Rattle.std.specs.Option.{option_map_or}
 use Rattle.nor_base.specs.declared.meaning.Width.{Width}
@@ -13,6 +13,8 @@ pub record Parameters : Type 0 where
   -- FF00h DWORD 2, the density; DWORD 11 bits 7:4, the page
   pub size : ℕ
   pub page : ℕ
+  -- a table too short for DWORD 11 tells only that the page is 64 bytes or larger: `page` is the least that it may be
+  pub open_page : Bool
   -- address bytes of the legacy opcodes: DWORD 1 bits 18:17
   pub width : Width
   -- the slots of erase kinds 1 to 4: DWORDs 8 and 9, dedicated opcodes in FF84h DWORD 2
@@ -31,6 +33,8 @@ pub record Parameters : Type 0 where
   pub quad4 : Bool
   -- the quad program 32h, which no table of SFDP tells
   pub quad3 : Bool
+  -- a byte may be programmed only where it is FFh: asked for by the user, told by no table
+  pub erased_only : Bool
 
 -- the erase kind of a number, where it is present; kinds count from 1
 abbrev pub erase_kind : Parameters → ℕ → Option Erase
@@ -49,3 +53,7 @@ is_live m kind = is_some (erase_kind m kind) && list_any (λ region. allows regi
 -- the bytes of a block of the kind; 0 where it is absent
 abbrev pub block_size : Parameters → ℕ → ℕ
 block_size m kind = option_map_or (λ erase. erase.size) (erase_kind m kind) 0
+
+-- the same parameters under the profile that programs erased bytes alone
+abbrev pub erased_only_set : Parameters → Parameters
+erased_only_set m = record m { erased_only = true }

@@ -9,7 +9,7 @@ use Rattle.nor_base.specs.declared.wrong.Wrong.{Wrong}
 use Rattle.nor_base.specs.declared.wrong.Wrong.TheVariants as wrong
 use Rattle.nor_base.specs.Parameters.{Parameters}
 use Rattle.nor_base.specs.Decoding.{is_bit_sampled, is_nibble_sampled}
-use Rattle.nor_base.specs.Chip.{Setting, Chip, chip_of, is_settled, ready}
+use Rattle.nor_base.specs.Chip.{Setting, Chip, IsChipOf, is_settled, ready}
 use Rattle.nor_base.specs.Effect.{effect}
 
 -- the clocks of a poll: read status, and one byte sampled
@@ -73,6 +73,39 @@ unfoldable pub run : Setting → Chip → List Step → Result Chip Stop
 run s c [] = Ok c
 run s c (x ∷ xs) = go_on c (step s c x) (λ d. run s d xs)
 
+-- a poll, or a step, that goes wrong: why, and the chip then
+pub record Halt : Type 0 where
+  pub why : Wrong
+  pub chip : Chip
+
+abbrev pub halt_on : Chip → Result Chip Wrong → Result Chip Halt
+halt_on c (Ok d) = Ok d
+halt_on c (Err why) = Err (record { why = why; chip = c })
+
+abbrev pub poll_or_halt : Chip → Result (Chip × List ℕ) Wrong → (Chip → Result Chip Halt) → Result Chip Halt
+poll_or_halt c (Err why) again = Err (record { why = why; chip = c })
+poll_or_halt c (Ok done) again = if says_busy done.1 then again done.0 else Ok done.0
+
+-- the status read at most so many times; PollNever where each said busy, on the chip that they leave
+unfoldable pub polled_for : Setting → ℕ → Chip → Result Chip Halt
+polled_for s zero c = Err (record { why = wrong.PollNever; chip = c })
+polled_for s (suc turns) c = poll_or_halt c (effect s c poll_clocks) (polled_for s turns)
+
+-- one step of a player that polls at most so many times
+unfoldable pub step_for : Setting → ℕ → Chip → Step → Result Chip Halt
+step_for s limit c (Send clocks) = halt_on c (done (effect s c clocks))
+step_for s limit c (Poll clocks) = if bytes_eq clocks poll_clocks then polled_for s limit c else Err (record { why = wrong.Unknown; chip = c })
+step_for s limit c (Verify clocks expect) = halt_on c (if is_verify clocks then matched expect (effect s c clocks) else Err wrong.Unknown)
+
+abbrev pub play_on : Result Chip Halt → (Chip → Result Chip Stop) → Result Chip Stop
+play_on (Ok d) rest = one_later (rest d)
+play_on (Err halt) rest = Err (record { at = 0; why = halt.why; chip = halt.chip })
+
+-- the run of a player that polls at most so many times at each poll; it keeps the chip also where a poll never ends
+unfoldable pub played : Setting → ℕ → Chip → List Step → Result Chip Stop
+played s limit c [] = Ok c
+played s limit c (x ∷ xs) = play_on (step_for s limit c x) (λ d. played s limit d xs)
+
 -- nothing wrong, and at the end the chip is settled
 pub record IsGoodRun (s : Setting) (from : Chip) (steps : List Step) (to : Chip) : Type 0 where
   pub runs : run s from steps ≡ Ok to
@@ -84,10 +117,9 @@ pub record DoesTask (s : Setting) (content target : List ℕ) (steps : List Step
   pub good : IsGoodRun s (ready s content) steps final
   pub array : final.array ≡ target
 
--- so they do on every chip of a meaning and start, whatever its busy times and whether it keeps a set latch
+-- so they do on every chip of a meaning and start
 abbrev pub DoesTaskOnEvery : Parameters → Start → List ℕ → List ℕ → List Step → Type 0
-DoesTaskOnEvery m start content target steps =
-    (busy : List ℕ) (keeps : Bool) → DoesTask (chip_of m start busy keeps) content target steps
+DoesTaskOnEvery m start content target steps = (s : Setting) → IsChipOf m start s → DoesTask s content target steps
 
 abbrev pub trail_on : Result (Chip × List ℕ) Wrong → (Chip × List ℕ → List Chip) → List Chip
 trail_on (Err why) more = []

@@ -1,8 +1,9 @@
 -- Which steps a script may have (this project's).
-use Rattle.std.specs.Prelude.{◌≡◌, ℕ, Bool, false, true, ◌&&◌, nat_lt, List, [], ◌∷◌}
+use Rattle.std.specs.Prelude.{◌≡◌, ℕ, Bool, false, true, ◌&&◌, List, [], ◌∷◌}
 use Rattle.std.specs.List.{list_all}
 use Rattle.nor_base.specs.declared.step.Step.{Step}
 use Rattle.nor_base.specs.declared.step.Step.TheVariants.{Send, Poll, Verify}
+use Rattle.nor_base.specs.Array.{are_bytes}
 use Rattle.nor_base.specs.Sample.{is_symbol}
 
 -- there are some
@@ -29,4 +30,4 @@ expected (Verify clocks expect) = expect
 -- a step that a script may have; what it expects are bytes
 pub record IsStep (step : Step) : Type 0 where
   pub passes : is_step step ≡ true
-  pub bytes : list_all (λ byte. nat_lt byte 256) (expected step) ≡ true
+  pub bytes : are_bytes (expected step) ≡ true

@@ -15,6 +15,7 @@ abbrev pub uniform_of : ℕ → Parameters
 uniform_of size = record {
   size = size;
   page = 256;
+  open_page = false;
   width = Three;
   erases = Some (record { size = 4096; op = 0x20; op4 = None }) ∷ None ∷ None ∷ None ∷ [];
   regions = record { size = size; kinds = 15 } ∷ [];
@@ -26,4 +27,5 @@ uniform_of size = record {
   program4 = false;
   quad4 = false;
   quad3 = false;
+  erased_only = false;
 }

@@ -6,6 +6,7 @@ abbrev pub parameters : Inside → Parameters
 parameters a = record {
   size = a.size;
   page = a.page;
+  open_page = a.open_page;
   width = a.width;
   erases = a.erases;
   regions = a.regions.items;
@@ -17,12 +18,14 @@ parameters a = record {
   program4 = a.program4;
   quad4 = a.quad4;
   quad3 = a.quad3;
+  erased_only = a.erased_only;
 }
 
 abbrev pub fields_of : Parameters → Inside
 fields_of m = record {
   size = m.size;
   page = m.page;
+  open_page = m.open_page;
   width = m.width;
   erases = m.erases;
   regions = record { items = m.regions };
@@ -34,4 +37,5 @@ fields_of m = record {
   program4 = m.program4;
   quad4 = m.quad4;
   quad3 = m.quad3;
+  erased_only = m.erased_only;
 }

@@ -1,8 +1,10 @@
 //! What a chip's SFDP parameters say of it.
 
 ghost use Rattle.std.specs.Prelude.{◌≡◌, ◌↔◌, ◌<◌, ◌≤◌, ◌%◌, ◌^◌, IsSome, IfSome};
-ghost use Rattle.nor_base.specs.Parameters.{allows, erase_kind};
-ghost use Rattle.nor_base.specs.Chip.{begins4};
+ghost use Rattle.std.specs.Prelude.{◌==◌};
+ghost use Rattle.std.specs.List.{list_any};
+ghost use Rattle.nor_base.specs.Parameters.{allows, erase_kind, erased_only_set};
+ghost use Rattle.nor_base.specs.Chip.{begins4, may_page, page_sizes};
 ghost use Rattle.nor_base.specs.Accepted.{IsAccepted};
 ghost use Rattle.nor_base.specs.Uniform.{uniform_of, IsUniformSize};
 
@@ -109,10 +111,12 @@ pub enum Strategy {
 /// What a chip's SFDP parameters say of it, where they are accepted.
 #[derive(Drop, Debug, PartialEq, Eq)]
 pub struct Meaning {
-    /// Bytes: a multiple of 4096 from 4096 to 64 MiB.
+    /// Bytes: a multiple of 4096 from 4096 to 256 MiB.
     pub size: u32,
     /// Bytes of a page: a power of two from 16 to 4096.
     pub page: u32,
+    /// The page is only known to be that large or larger: a chip's own may be each power of two from it to 4096.
+    pub open_page: bool,
     /// Address bytes of the legacy opcodes.
     pub width: Width,
     /// The erase kinds 1 to 4; a present kind's size is a power of two from 256 to 16 MiB, and not below the page.
@@ -136,6 +140,8 @@ pub struct Meaning {
     pub quad4: bool,
     /// The quad program by 32h.
     pub quad3: bool,
+    /// Bytes are programmed only where they are FFh: the profile that a user asks for (no SFDP tells it).
+    pub erased_only: bool,
 }
 
 impl Model for Meaning {
@@ -173,6 +179,7 @@ impl Meaning {
         Some(Meaning {
             size,
             page: 256,
+            open_page: false,
             width: Width::Three,
             erases: [Some(sectors), None, None, None],
             regions,
@@ -184,6 +191,7 @@ impl Meaning {
             program4: false,
             quad4: false,
             quad3: false,
+            erased_only: false,
         })
     }
 
@@ -200,6 +208,24 @@ impl Meaning {
         self.erases[usize::from(kind - 1)]
     }
 
+    /// Whether a chip of this meaning may have a page of so many bytes: the meaning's own or, where that is only the
+    /// least, any power of two from it to 4096.
+    pub fn may_page(&self, page: u32) -> bool
+        ensures { result ≡ may_page self.now page }
+    {
+        page == self.page || (self.open_page && self.page <= page && is_page_size(page))
+    }
+
+    /// The same meaning under the profile that programs erased bytes alone.
+    pub fn erased_only_set(self) -> Meaning
+        ensures { result ≡ erased_only_set self }
+    {
+        Meaning {
+            erased_only: true,
+            ..self
+        }
+    }
+
     /// Whether a chip that begins so begins in four-byte address mode: the start says so, or it has no other mode.
     pub fn begins4(&self, start: &Start) -> bool
         ensures { result ≡ begins4 self.now start.now }
@@ -213,4 +239,11 @@ impl Meaning {
     {
         let _ = &self.size;
     }
+}
+
+/// Whether a page may have so many bytes on some chip: a power of two from 16 to 4096.
+fn is_page_size(page: u32) -> bool
+    ensures { result ≡ list_any (λ size. page == size) page_sizes }
+{
+    matches!(page, 16 | 32 | 64 | 128 | 256 | 512 | 1024 | 2048 | 4096)
 }

@@ -10,7 +10,7 @@ pub enum Wrong {
     Ignored = 1,
     /// The chip knows no such instruction, or a poll or a verifying read has clocks that none may have.
     Unknown = 2,
-    /// A program has a 1 where the array has a 0.
+    /// A program has a 1 where the array has a 0, on a chip where bytes that aren't erased may be programmed.
     Raised = 3,
     /// An address or a read past the chip's size, or an erase that starts no legal block of its kind.
     OutOfRange = 4,
@@ -20,6 +20,8 @@ pub enum Wrong {
     PollNever = 6,
     /// At the end the chip is busy, or the latch is set, or the address mode isn't the first one.
     NotIdleAtEnd = 7,
+    /// A program covers a byte that isn't FFh, on a chip where only erased bytes are programmed.
+    NotErased = 8,
 }
 
 /// Why a port didn't do a transaction.

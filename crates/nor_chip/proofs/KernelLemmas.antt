@@ -1,70 +1,17 @@
 -- A program byte by byte, over those that aren't overwritten.
-use Rattle.std.proofs.Common.{◌≡◌, ◌≢◌, ℕ, zero, suc, ◌+◌, ◌-◌, ◌<◌, ◌≤◌, ◌==◌, Bool, true, false, not, if◌then◌else◌, List, length, set, Option, Some, None, refl, sym, ◌∙◌, ap, subst, arith, inl, inr, eqb-true, eq-eqb, get_or-set_other, get_or-set_same}
+use Rattle.std.proofs.Common.{◌≡◌, ◌≢◌, ℕ, zero, suc, ◌+◌, ◌-◌, ◌<◌, ◌≤◌, ◌==◌, Bool, true, false, not, if◌then◌else◌, List, length, set, Option, Some, None, refl, sym, ◌∙◌, ap, subst, arith, inl, inr, eq-eqb, get_or-set_other, get_or-set_same}
 use Rattle.std.specs.Prelude.{bit_and}
 use Rattle.std.specs.List.{slice_index}
 use Rattle.std.specs.Option.{option_map_or}
-use Rattle.std.proofs.lemmas.Bool.{cases_lt, ne_eqb}
+use Rattle.std.proofs.lemmas.Bool.{cases_lt}
 use Rattle.std.proofs.lemmas.Bool.Decides.{eqb_tells}
 use Rattle.std.proofs.lemmas.Grind.{same_number_lists}
 use Rattle.std.proofs.Math.ListN.{length-set}
-use Rattle.nor_base.specs.Effect.{place, last_byte_for, written, raises_bit, raises, programmed}
-use Rattle.nor_base.proofs.ArrayLaws.{length-each, slice_index-each, some-false, some-true}
+use Rattle.nor_base.specs.Parameters.{Parameters}
+use Rattle.nor_base.specs.Effect.{place, last_byte_for, written, may_program, is_barred, programmed}
+use Rattle.nor_base.proofs.ArrayLaws.{length-each, slice_index-each, some-true}
+use Rattle.nor_laws.proofs.ProgramLaws.{IsLastOf, is_written, may_at}
 use Rattle.nor_chip.proofs.PlaceLemmas.{place_again, places_apart}
-
--- of the first n bytes of a program, byte j is the last that goes to x
-pub record IsLastOf (page address n x j : ℕ) : Type 0 where
-  pub sent : j < n
-  pub here : place page address j ≡ x
-  pub last : (k : ℕ) → j < k → k < n → place page address k ≢ x
-
-last_is_written : (page address : ℕ) (bytes : List ℕ) (n x j : ℕ) → IsLastOf page address n x j → last_byte_for page address bytes n x ≡ Some (slice_index bytes j)
-unfolding last_byte_for
-last_is_written page address bytes zero x j h = absurd (omega (arith, h.sent))
-last_is_written page address bytes (suc n) x j h = elim (eqb_tells j n) [
-  | inl same ↦
-      let goes : (place page address n == x) ≡ true = eq-eqb (place page address n) x (ap (place page address) (sym same.1) ∙ h.here) in
-      rw goes (ap (λ k. Some (slice_index bytes k)) (sym same.1))
-  | inr other ↦
-      let apart = other.1 in
-      let earlier : j < n = omega (arith, h.sent) in
-      rw (ne_eqb (place page address n) x (h.last n earlier (omega arith)))
-      (last_is_written page address bytes n x j (record { sent = earlier; here = h.here; last = λ k later fits. h.last k later (omega arith) }))
-]
-
--- what is written is some last byte
-record IsWritten (page address : ℕ) (bytes : List ℕ) (n x byte : ℕ) : Type 0 where
-  j : ℕ
-  is_last : IsLastOf page address n x j
-  byte_is : byte ≡ slice_index bytes j
-
-written_step : (page address : ℕ) (bytes : List ℕ) (n x byte : ℕ) (b : Bool) → (place page address n == x) ≡ b
-    → (last_byte_for page address bytes n x ≡ Some byte → IsWritten page address bytes n x byte)
-    → (if b then Some (slice_index bytes n) else last_byte_for page address bytes n x) ≡ Some byte → IsWritten page address bytes (suc n) x byte
-written_step page address bytes n x byte true is later h = record {
-  j = n;
-  is_last = record { sent = omega arith; here = eqb-true (place page address n) x is; last = λ k after before. absurd (omega arith) };
-  byte_is = let same : slice_index bytes n ≡ byte = cc in sym same;
-}
-written_step page address bytes n x byte false is later h = let found = later h in record {
-  j = found.j;
-  is_last = record {
-    sent = omega (arith, found.is_last.sent);
-    here = found.is_last.here;
-    last = λ k after before. elim (eqb_tells k n) [
-      | inl same ↦ λ goes.
-          let passes : (place page address n == x) ≡ true = eq-eqb (place page address n) x (ap (place page address) (sym same.1) ∙ goes) in
-          let both : true ≡ false = sym passes ∙ is in cc
-      | inr other ↦ let apart = other.1 in found.is_last.last k after (omega arith)
-    ];
-  };
-  byte_is = found.byte_is;
-}
-
-is_written : (page address : ℕ) (bytes : List ℕ) (n x byte : ℕ) → last_byte_for page address bytes n x ≡ Some byte → IsWritten page address bytes n x byte
-unfolding last_byte_for
-is_written page address bytes zero x byte h = cc
-is_written page address bytes (suc n) x byte h =
-    written_step page address bytes n x byte (place page address n == x) refl (is_written page address bytes n x byte) h
 
 none_step : (page address : ℕ) (bytes : List ℕ) (n x : ℕ) (b : Bool) → (place page address n == x) ≡ b
     → (last_byte_for page address bytes n x ≡ None → (i : ℕ) → i < n → place page address i ≢ x)
@@ -98,52 +45,48 @@ last_is_kept page address n x j some h = elim (cases_lt j (n - page)) [
   | inr kept ↦ kept
 ]
 
--- no byte from the first kept one up to a place raises a bit
-abbrev pub NoneRaises : ℕ → ℕ → List ℕ → List ℕ → ℕ → Type 0
-NoneRaises page address bytes array upto = (i : ℕ) → length bytes - page ≤ i → i < upto
-    → bit_and (slice_index array (place page address i)) (slice_index bytes i) ≡ slice_index bytes i
+-- each byte from the first kept one up to a place may be programmed where it goes
+abbrev pub MayAllUpTo : Parameters → ℕ → ℕ → List ℕ → List ℕ → ℕ → Type 0
+MayAllUpTo m page address bytes array upto = (i : ℕ) → length bytes - page ≤ i → i < upto
+    → may_program m (slice_index array (place page address i)) (slice_index bytes i) ≡ true
 
-raise_told_if : (page address : ℕ) (bytes array : List ℕ) (j : ℕ) (b : Bool) → raises page address bytes array ≡ b → j < length bytes → length bytes - page ≤ j
-    → place page address j < length array → bit_and (slice_index array (place page address j)) (slice_index bytes j) ≢ slice_index bytes j → raises page address bytes array ≡ true
-unfolding raises
-raise_told_if page address bytes array j true is sent kept inside raised = is
-raise_told_if page address bytes array j false is sent kept inside raised =
-    let x = place page address j in
-    let here = some-false (λ y old. option_map_or (raises_bit old) (written page address bytes y) false) array (place page address j) is inside in
-    let there : written page address bytes (place page address j) ≡ Some (slice_index bytes j) =
-    last_is_written page address bytes (length bytes) (place page address j) j (kept_is_last page address (length bytes) j sent kept) in
-    let told : raises_bit (slice_index array (place page address j)) (slice_index bytes j) ≡ true =
-    ap not (ne_eqb (bit_and (slice_index array (place page address j)) (slice_index bytes j)) (slice_index bytes j) raised) in
-    let both : true ≡ false = sym told ∙ ap (λ o. option_map_or (raises_bit (slice_index array (place page address j))) o false) (sym there) ∙ here in cc
+bar_told_if : (m : Parameters) (page address : ℕ) (bytes array : List ℕ) (j : ℕ) (b : Bool) → is_barred m page address bytes array ≡ b → j < length bytes
+    → length bytes - page ≤ j → place page address j < length array → may_program m (slice_index array (place page address j)) (slice_index bytes j) ≡ false
+    → is_barred m page address bytes array ≡ true
+bar_told_if m page address bytes array j true is sent kept inside bars = is
+bar_told_if m page address bytes array j false is sent kept inside bars =
+    let goes = kept_is_last page address (length bytes) j sent kept in
+    let both : true ≡ false =
+    sym (may_at m page address bytes array (place page address j) j inside (record { sent = goes.sent; here = goes.here; last = goes.last }) is) ∙ bars in cc
 
-pub raise_told : (page address : ℕ) (bytes array : List ℕ) (j : ℕ) → j < length bytes → length bytes - page ≤ j
-    → place page address j < length array → bit_and (slice_index array (place page address j)) (slice_index bytes j) ≢ slice_index bytes j → raises page address bytes array ≡ true
-raise_told page address bytes array j sent kept inside raised = raise_told_if page address bytes array j (raises page address bytes array) refl sent kept inside raised
+pub bar_told : (m : Parameters) (page address : ℕ) (bytes array : List ℕ) (j : ℕ) → j < length bytes → length bytes - page ≤ j → place page address j < length array
+    → may_program m (slice_index array (place page address j)) (slice_index bytes j) ≡ false → is_barred m page address bytes array ≡ true
+bar_told m page address bytes array j sent kept inside bars = bar_told_if m page address bytes array j (is_barred m page address bytes array) refl sent kept inside bars
 
-no_raise_at : (page address : ℕ) (bytes array : List ℕ) (x : ℕ) (o : Option ℕ) → 0 < page → NoneRaises page address bytes array (length bytes)
-    → written page address bytes x ≡ o → option_map_or (raises_bit (slice_index array x)) o false ≡ true → true ≡ false
-no_raise_at page address bytes array x None some none is h = sym h
-no_raise_at page address bytes array x (Some byte) some none is h =
+no_bar_at : (m : Parameters) (page address : ℕ) (bytes array : List ℕ) (x : ℕ) (o : Option ℕ) → 0 < page → MayAllUpTo m page address bytes array (length bytes)
+    → written page address bytes x ≡ o → option_map_or (λ byte. not (may_program m (slice_index array x) byte)) o false ≡ true → true ≡ false
+no_bar_at m page address bytes array x None some may is h = sym h
+no_bar_at m page address bytes array x (Some byte) some may is h =
     let found = is_written page address bytes (length bytes) x byte is in
     let kept = last_is_kept page address (length bytes) x found.j some found.is_last in
-    let falls : bit_and (slice_index array x) byte ≡ byte =
-    ap (λ a. bit_and (slice_index array a) byte) (sym found.is_last.here) ∙ ap (bit_and (slice_index array (place page address found.j))) found.byte_is
-    ∙ none found.j kept found.is_last.sent ∙ sym found.byte_is in
-    let told : raises_bit (slice_index array x) byte ≡ false = ap not (eq-eqb (bit_and (slice_index array x) byte) byte falls) in
-    sym h ∙ told
+    let free : may_program m (slice_index array x) byte ≡ true =
+    ap (λ a. may_program m (slice_index array a) byte) (sym found.is_last.here)
+    ∙ ap (may_program m (slice_index array (place page address found.j))) found.byte_is ∙ may found.j kept found.is_last.sent in
+    sym h ∙ ap not free
 
-none_raised_if : (page address : ℕ) (bytes array : List ℕ) (b : Bool) → raises page address bytes array ≡ b → 0 < page
-    → NoneRaises page address bytes array (length bytes) → raises page address bytes array ≡ false
-unfolding raises
-none_raised_if page address bytes array false is some none = is
-none_raised_if page address bytes array true is some none =
-    let found = some-true (λ y old. option_map_or (raises_bit old) (written page address bytes y) false) array is in
+none_barred_if : (m : Parameters) (page address : ℕ) (bytes array : List ℕ) (b : Bool) → is_barred m page address bytes array ≡ b → 0 < page
+    → MayAllUpTo m page address bytes array (length bytes) → is_barred m page address bytes array ≡ false
+unfolding is_barred
+none_barred_if m page address bytes array false is some may = is
+none_barred_if m page address bytes array true is some may =
+    let found = some-true (λ y old. option_map_or (λ byte. not (may_program m old byte)) (written page address bytes y) false) array is in
     let start : 0 + found.at ≡ found.at = omega arith in
-    let passes = subst (λ x. option_map_or (raises_bit (slice_index array found.at)) (written page address bytes x) false ≡ true) start found.passes in
-    let both : true ≡ false = no_raise_at page address bytes array found.at (written page address bytes found.at) some none refl passes in cc
+    let passes = subst (λ x. option_map_or (λ byte. not (may_program m (slice_index array found.at) byte)) (written page address bytes x) false ≡ true) start found.passes in
+    let both : true ≡ false = no_bar_at m page address bytes array found.at (written page address bytes found.at) some may refl passes in cc
 
-pub none_raised : (page address : ℕ) (bytes array : List ℕ) → 0 < page → NoneRaises page address bytes array (length bytes) → raises page address bytes array ≡ false
-none_raised page address bytes array some none = none_raised_if page address bytes array (raises page address bytes array) refl some none
+pub none_barred : (m : Parameters) (page address : ℕ) (bytes array : List ℕ) → 0 < page → MayAllUpTo m page address bytes array (length bytes)
+    → is_barred m page address bytes array ≡ false
+none_barred m page address bytes array some may = none_barred_if m page address bytes array (is_barred m page address bytes array) refl some may
 
 -- the bytes up to a place are written, and all else is as it was
 pub record IsWrittenUpTo (page address : ℕ) (bytes old array : List ℕ) (upto : ℕ) : Type 0 where

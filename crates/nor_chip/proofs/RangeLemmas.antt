@@ -1,35 +1,69 @@
 -- What lies on the chip.
-use Rattle.std.proofs.Common.{◌≡◌, ℕ, ◌+◌, ◌-◌, ◌*◌, ◌/◌, ◌%◌, ◌^◌, ◌<◌, ◌≤◌, ◌==◌, nat_le, nat_lt, Bool, true, false, not, ◌&&◌, ◌||◌, Option, Some, None, option_map, refl, sym, ◌∙◌, ap, subst, arith, inl, inr}
+use Rattle.std.proofs.Common.{◌≡◌, ℕ, ◌+◌, ◌-◌, ◌*◌, ◌/◌, ◌%◌, ◌^◌, ◌<◌, ◌≤◌, ◌==◌, nat_le, nat_lt, Bool, true, false, not, ◌&&◌, ◌||◌, Option, Some, None, option_map, refl, sym, ◌∙◌, ap, subst, arith, inl, inr, eqb-true, eq-eqb}
+use Rattle.std.specs.List.{list_any}
 use Rattle.std.specs.Option.{option_map_or}
-use Rattle.std.proofs.lemmas.Bool.{cases_lt, leb-false, ltb-false, not-false, or_parts}
+use Rattle.std.proofs.lemmas.Bool.{and_parts, cases_lt, leb-false, ltb-false, not-false, or_cases, or_parts}
 use Rattle.std.proofs.Math.Nat.{mul-le-mul_left}
 use Rattle.std.proofs.lemmas.Nat.{pow-add, pow_pos}
 use Rattle.nor_base.specs.declared.meaning.Erase.{Erase}
 use Rattle.nor_base.specs.declared.instruction.What.{What}
 use Rattle.nor_base.specs.declared.instruction.What.TheVariants as what
 use Rattle.nor_base.specs.Parameters.{Parameters, erase_kind, block_size}
-use Rattle.nor_base.specs.Accepted.{IsAccepted}
+use Rattle.nor_base.specs.Accepted.{IsAccepted, IsPowerOfTwo}
+use Rattle.nor_base.specs.Chip.{may_page, page_sizes}
 use Rattle.nor_base.specs.Blocks.{is_legal, lies_in_one}
 use Rattle.nor_base.specs.Decoding.{Instruction}
 use Rattle.nor_base.specs.Effect.{has_address, is_program, is_read, starts_no_block, is_out_of_range, page_start}
 use Rattle.nor_base.proofs.RegionLaws.{legal_on_chip}
 
+size_step : (page exponent : ℕ) (rest : Bool) → 4 ≤ exponent → exponent ≤ 12 → (page == 2 ^ exponent) || rest ≡ true → (rest ≡ true → IsPowerOfTwo 4 12 page)
+    → IsPowerOfTwo 4 12 page
+size_step page exponent rest low high h other = elim (or_cases (page == 2 ^ exponent) rest h) [
+  | inl same ↦ record { exponent = exponent; at_least = low; at_most = high; value = eqb-true page (2 ^ exponent) same }
+  | inr more ↦ other more
+]
+
+-- each size that a page may have is a power of two from 16 to 4096
+page_size_is_power : (page : ℕ) → list_any (λ size. page == size) page_sizes ≡ true → IsPowerOfTwo 4 12 page
+page_size_is_power page h =
+    size_step page 4 _ (omega arith) (omega arith) h (λ h5.
+    size_step page 5 _ (omega arith) (omega arith) h5 (λ h6.
+    size_step page 6 _ (omega arith) (omega arith) h6 (λ h7.
+    size_step page 7 _ (omega arith) (omega arith) h7 (λ h8.
+    size_step page 8 _ (omega arith) (omega arith) h8 (λ h9.
+    size_step page 9 _ (omega arith) (omega arith) h9 (λ h10.
+    size_step page 10 _ (omega arith) (omega arith) h10 (λ h11.
+    size_step page 11 _ (omega arith) (omega arith) h11 (λ h12.
+    size_step page 12 _ (omega arith) (omega arith) h12 (λ none. cc)))))))))
+
+-- so is each page that a chip may have
+pub page_is_power : (m : Parameters) (page : ℕ) → IsAccepted m → may_page m page ≡ true → IsPowerOfTwo 4 12 page
+page_is_power m page accepted may = elim (or_cases (page == m.page) _ may) [
+  | inl own ↦ subst (IsPowerOfTwo 4 12) (sym (eqb-true page m.page own)) accepted.page
+  | inr larger ↦ page_size_is_power page (and_parts (nat_le m.page page) _ (and_parts m.open_page _ larger).1).1
+]
+
+pub may_own_page : (m : Parameters) → may_page m m.page ≡ true
+may_own_page m = rw (eq-eqb m.page m.page refl) refl
+
+pub page_not_empty : (page : ℕ) → IsPowerOfTwo 4 12 page → 0 < page
+page_not_empty page e = subst (λ n. 0 < n) (sym e.value) (pow_pos e.exponent)
+
 -- a page that holds an address of the chip lies on the chip
-pub page_inside : (m : Parameters) (address : ℕ) → IsAccepted m → address < m.size → page_start m.page address + m.page ≤ m.size
-page_inside m address accepted inside =
-    let e = accepted.page in
+pub page_inside : (m : Parameters) (page address : ℕ) → IsAccepted m → IsPowerOfTwo 4 12 page → address < m.size → page_start page address + page ≤ m.size
+page_inside m page address accepted e inside =
     let whole : e.exponent + (12 - e.exponent) ≡ 12 = omega (arith, e.at_most) in
-    let twelve : 4096 ≡ m.page * 2 ^ (12 - e.exponent) =
+    let twelve : 4096 ≡ page * 2 ^ (12 - e.exponent) =
     ap (λ n. 2 ^ n) (sym whole) ∙ pow-add 2 e.exponent (12 - e.exponent) ∙ ap (λ n. n * 2 ^ (12 - e.exponent)) (sym e.value) in
-    let pages : m.size ≡ m.page * (2 ^ (12 - e.exponent) * (m.size / 4096)) =
+    let pages : m.size ≡ page * (2 ^ (12 - e.exponent) * (m.size / 4096)) =
     (let parts : m.size ≡ 4096 * (m.size / 4096) = omega (arith, accepted.size_whole) in parts) ∙ ap (λ n. n * (m.size / 4096)) twelve ∙ omega arith in
-    let some : 0 < m.page = subst (λ n. 0 < n) (sym e.value) (pow_pos e.exponent) in
-    elim (cases_lt (address / m.page) (2 ^ (12 - e.exponent) * (m.size / 4096))) [
+    let some = page_not_empty page e in
+    elim (cases_lt (address / page) (2 ^ (12 - e.exponent) * (m.size / 4096))) [
       | inl low ↦
-          let up : m.page * (address / m.page + 1) ≤ m.page * (2 ^ (12 - e.exponent) * (m.size / 4096)) = mul-le-mul_left m.page (omega arith) in
+          let up : page * (address / page + 1) ≤ page * (2 ^ (12 - e.exponent) * (m.size / 4096)) = mul-le-mul_left page (omega arith) in
           omega (arith, up, pages, some)
       | inr high ↦
-          let up : m.page * (2 ^ (12 - e.exponent) * (m.size / 4096)) ≤ m.page * (address / m.page) = mul-le-mul_left m.page high in
+          let up : page * (2 ^ (12 - e.exponent) * (m.size / 4096)) ≤ page * (address / page) = mul-le-mul_left page high in
           absurd (omega (arith, up, pages, some, inside))
     ]
 

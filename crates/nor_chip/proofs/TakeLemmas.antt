@@ -8,20 +8,20 @@ use Rattle.nor_base.specs.Parameters.{Parameters}
 use Rattle.nor_base.specs.Instructions.{form_of}
 use Rattle.nor_base.specs.Decoding.{Instruction, bytes_asked, decode, instruction, transaction}
 use Rattle.nor_base.specs.Chip.{Setting, Chip, is_busy}
-use Rattle.nor_base.specs.Effect.{after, answer, effect, effect_if, effect_of, is_broken, is_out_of_range, is_program, is_quad, is_status, needs_latch, raises}
+use Rattle.nor_base.specs.Effect.{after, answer, effect, effect_if, effect_of, is_broken, is_out_of_range, is_program, is_quad, is_status, needs_latch, is_barred, barred}
 use Rattle.nor_base.specs.Effect.{wrong_of}
 use Rattle.nor_decode.specs.declared.seen.Seen.{Seen}
 use Rattle.nor_decode.specs.Seen.{transaction_of}
 use Rattle.nor_chip.specs.Sent.{instruction_of}
 
-abbrev pub chain : (b1 b2 b3 b4 b5 b6 : Bool) → Chip × List ℕ → Result (Chip × List ℕ) Wrong
-chain b1 b2 b3 b4 b5 b6 a =
+abbrev pub chain : (b1 b2 b3 b4 b5 b6 : Bool) → Wrong → Chip × List ℕ → Result (Chip × List ℕ) Wrong
+chain b1 b2 b3 b4 b5 b6 why a =
     if b1 then Err wrong.Ignored
     else if b2 then Err wrong.Ignored
     else if b3 then Err wrong.Ignored
     else if b4 then Err wrong.Ignored
     else if b5 then Err wrong.OutOfRange
-    else if b6 then Err wrong.Raised
+    else if b6 then Err why
     else Ok a
 
 pub record IsTaken (s : Setting) (c : Chip) (i : Instruction) : Type 0 where
@@ -29,21 +29,21 @@ pub record IsTaken (s : Setting) (c : Chip) (i : Instruction) : Type 0 where
   pub in_range : is_out_of_range s.meaning i ≡ false
   pub effect : effect_of s c i ≡ Ok (after s c i i.what, answer c i i.what)
 
-through : (b1 b2 b3 b4 b5 b6 : Bool) (a : Chip × List ℕ) → wrong_of (chain b1 b2 b3 b4 b5 b6 a) ≡ None
-    → (b1 ≡ false) × ((b5 ≡ false) × (chain b1 b2 b3 b4 b5 b6 a ≡ Ok a))
-through true b2 b3 b4 b5 b6 a h = cc
-through false true b3 b4 b5 b6 a h = cc
-through false false true b4 b5 b6 a h = cc
-through false false false true b5 b6 a h = cc
-through false false false false true b6 a h = cc
-through false false false false false true a h = cc
-through false false false false false false a h = (refl, (refl, refl))
+through : (b1 b2 b3 b4 b5 b6 : Bool) (why : Wrong) (a : Chip × List ℕ) → wrong_of (chain b1 b2 b3 b4 b5 b6 why a) ≡ None
+    → (b1 ≡ false) × ((b5 ≡ false) × (chain b1 b2 b3 b4 b5 b6 why a ≡ Ok a))
+through true b2 b3 b4 b5 b6 why a h = cc
+through false true b3 b4 b5 b6 why a h = cc
+through false false true b4 b5 b6 why a h = cc
+through false false false true b5 b6 why a h = cc
+through false false false false true b6 why a h = cc
+through false false false false false true why a h = cc
+through false false false false false false why a h = (refl, (refl, refl))
 
 pub taken : (s : Setting) (c : Chip) (i : Instruction) → wrong_of (effect_of s c i) ≡ None → IsTaken s c i
 unfolding effect_of
 taken s c i h =
     let way = through (is_broken i.what) (not (is_status i.what) && is_busy c.left) (is_quad i.what && not s.start.quad) (needs_latch s.meaning i.what && not c.latch)
-    (is_out_of_range s.meaning i) (is_program i.what && raises s.page i.address i.sent c.array) (after s c i i.what, answer c i i.what) h in
+    (is_out_of_range s.meaning i) (is_program i.what && is_barred s.meaning s.page i.address i.sent c.array) (barred s.meaning) (after s c i i.what, answer c i i.what) h in
     record { known = way.0; in_range = way.1.0; effect = way.1.1 }
 
 -- it is done where the chip and the bytes are those of its kind

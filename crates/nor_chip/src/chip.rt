@@ -2,22 +2,23 @@
 
 ghost use Rattle.std.specs.Prelude.{◌≡◌, ◌<◌, ◌≤◌, ◌+◌, pred, true, length, replicate, slice_range, None, Ok, OnErr};
 ghost use Rattle.nor_base.specs.Sample.{sampled_count};
-ghost use Rattle.nor_base.specs.Chip.{chip_of, ready, is_settled, is_mode, IsPossible};
+ghost use Rattle.nor_base.specs.Chip.{chip_of, may_page, is_settled, is_mode, IsPossible};
 ghost use Rattle.nor_base.specs.Blocks.{is_legal as is_legal_block};
 ghost use Rattle.nor_base.specs.Parameters.{block_size};
-ghost use Rattle.nor_base.specs.Effect.{effect_of, wrong_of, is_program, raises as raises_of, programmed, erased, accepting, switching, status};
+ghost use Rattle.nor_base.specs.Effect.{effect_of, wrong_of, is_program, is_barred as is_barred_of, programmed, erased, accepting, switching, status};
 ghost use Rattle.nor_base.specs.Port.{Shown, Transacts, CountsTransact};
+ghost use Rattle.nor_chip.specs.Ready.{paged, ready_chip};
 ghost use Rattle.nor_chip.specs.Sent.{instruction_of, sent};
 
 use crate::erase::{block_size, fill_block};
 use crate::port::Port;
-use crate::program::{program, raises};
+use crate::program::{barred, is_barred, program};
 use crate::rules::{is_broken, is_out_of_range, is_program, is_quad, is_status, needs_latch};
 use nor_base::{Meaning, PortFault, Start, What, Wrong};
 use nor_decode::{Seen, decode};
 use std::marker::Model;
 
-/// A chip: its meaning and start, what it holds, and its state.
+/// A chip: its meaning, start and page, what it holds, and its state.
 ///
 /// It is to software what the W25Q256JV datasheet and JESD216B say of a chip with that meaning. It acts on its vector in
 /// place, asks for no memory, and takes time proportional to a transaction's clocks and the bytes that it changes or
@@ -26,6 +27,7 @@ use std::marker::Model;
 pub struct Chip<'a> {
     meaning: &'a Meaning,
     start: Start,
+    page: u32,
     busy: Vec<u32>,
     keeps: bool,
     array: Vec<u8>,
@@ -40,19 +42,19 @@ impl<'a> Model for Chip<'a> {
 
     ghost Value = { Shown };
 
-    ghost use Rattle.std.specs.Prelude.{◌≡◌, ◌≤◌, length, drop};
-    ghost use Rattle.nor_base.specs.Chip.{chip_of, IsPossible};
+    ghost use Rattle.std.specs.Prelude.{◌≡◌, ◌≤◌, true, length, drop};
+    ghost use Rattle.nor_base.specs.Chip.{may_page};
 
     ghost view = { λ c. record {
-      setting = chip_of c.meaning.now c.start c.busy.items c.keeps;
+      setting = record { meaning = c.meaning.now; start = c.start; page = c.page; busy = c.busy.items; keeps = c.keeps };
       chip = record { array = c.array.items; latch = c.latch; mode4 = c.mode4; left = c.left; to_come = drop c.next c.busy.items };
     } };
 
-    ghost invariant = { λ c. (length c.array.items ≡ c.meaning.now.size) × (c.next ≤ length c.busy.items) };
+    ghost invariant = { λ c. (length c.array.items ≡ c.meaning.now.size) × ((c.next ≤ length c.busy.items) × (may_page c.meaning.now c.page ≡ true)) };
 }
 
 impl<'a> Chip<'a> {
-    /// A ready chip: idle, with the latch clear, in its first address mode.
+    /// A ready chip with the meaning's own page: idle, with the latch clear, in its first address mode.
     ///
     /// `content` holds the bytes from address 0 on, as many as the meaning's size. Each program and each erase that it
     /// takes keeps it busy for the next number of status reads in `busy`, and for none past the list's end. `keeps` is
@@ -67,11 +69,31 @@ impl<'a> Chip<'a> {
     ) -> Chip<'a>
         requires size { length content.items ≡ meaning.now.size }
         requires mode { IsPossible meaning.now start }
-        ensures { result ≡ record { setting = chip_of meaning.now start busy.items keeps; chip = ready (chip_of meaning.now start busy.items keeps) content.items } }
+        ensures { result ≡ ready_chip (chip_of meaning.now start busy.items keeps) content.items }
+    {
+        let page = meaning.page;
+        Chip::with_page(meaning, start, content, busy, keeps, page)
+    }
+
+    /// The same with a page of so many bytes, one that [`Meaning::may_page`] allows: a chip whose SFDP is that of the
+    /// first JESD216 may have a larger one than the meaning's, which is only the least.
+    pub fn with_page(
+        meaning: &'a Meaning,
+        start: Start,
+        content: Vec<u8>,
+        busy: Vec<u32>,
+        keeps: bool,
+        page: u32,
+    ) -> Chip<'a>
+        requires size { length content.items ≡ meaning.now.size }
+        requires mode { IsPossible meaning.now start }
+        requires page { may_page meaning.now page ≡ true }
+        ensures { result ≡ ready_chip (paged (chip_of meaning.now start busy.items keeps) page) content.items }
     {
         Chip {
             meaning,
             start,
+            page,
             busy,
             keeps,
             array: content,
@@ -110,21 +132,21 @@ impl<'a> Chip<'a> {
         if is_out_of_range(meaning, seen) {
             return Some(Wrong::OutOfRange);
         }
-        if is_program(seen.what) && self.raises(seen) {
-            return Some(Wrong::Raised);
+        if is_program(seen.what) && self.is_barred(seen) {
+            return Some(barred(meaning));
         }
         None
     }
 
-    /// Whether a program has a 1 where the array has a 0.
-    fn raises(&self, seen: &Seen<'_>) -> bool
+    /// Whether a program covers a byte where it may not be done.
+    fn is_barred(&self, seen: &Seen<'_>) -> bool
         requires program { is_program seen.now.what ≡ true }
         requires inside { seen.now.address < length self.now.chip.array }
-        ensures { result ≡ raises_of self.now.setting.page seen.now.address (sent seen.now) self.now.chip.array }
+        ensures { result ≡ is_barred_of self.now.setting.meaning self.now.setting.page seen.now.address (sent seen.now) self.now.chip.array }
     {
         let meaning = self.meaning;
         meaning.is_accepted();
-        raises(meaning.page, seen, self.array.as_slice())
+        is_barred(meaning, self.page, seen, self.array.as_slice())
     }
 
     /// Does an instruction that the chip takes, and fills `out` with the bytes that it gives.
@@ -213,7 +235,7 @@ impl<'a> Chip<'a> {
     {
         let meaning = self.meaning;
         meaning.is_accepted();
-        program(meaning.page, seen, self.array.as_mut_slice());
+        program(self.page, seen, self.array.as_mut_slice());
         self.accept();
     }
 

@@ -14,3 +14,4 @@ mod rules;
 pub use chip::Chip;
 pub use nor_base::{PortFault, Wrong};
 pub use port::Port;
+pub use program::may_program;

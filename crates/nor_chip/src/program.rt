@@ -1,9 +1,10 @@
 //! What a program does to the array.
 
 ghost use Rattle.std.specs.Prelude.{◌≡◌, ◌<◌, ◌≤◌, ◌+◌, ◌-◌, length, true};
-ghost use Rattle.nor_base.specs.Effect.{is_program, place as place_of, raises as raises_of, programmed, page_start};
+ghost use Rattle.nor_base.specs.Effect.{is_program, place as place_of, may_program, is_barred as is_barred_of, barred, programmed, page_start};
 ghost use Rattle.nor_chip.specs.Sent.{sent};
 
+use nor_base::{Meaning, Wrong};
 use nor_decode::Seen;
 
 /// Where byte `index` of a program goes: on from the address, and round within its page.
@@ -32,18 +33,42 @@ fn count_sent(seen: &Seen<'_>) -> usize
     seen.count()
 }
 
-/// Whether a byte of the program has a 1 where the array has a 0.
-pub(crate) fn raises(page: u32, seen: &Seen<'_>, array: &[u8]) -> bool
+/// Whether a byte may be programmed over the one that the array has there.
+///
+/// A program only clears bits, so not where the byte has a 1 and the array a 0 (W25Q256JV datasheet, Page Program). Under
+/// the profile that programs erased bytes alone it may be done over FFh, whatever the byte, and over nothing else.
+pub fn may_program(meaning: &Meaning, old: u8, byte: u8) -> bool
+    ensures { result ≡ may_program meaning.now old byte }
+{
+    if meaning.erased_only {
+        old == 0xFF
+    } else {
+        old & byte == byte
+    }
+}
+
+/// Which wrong a program is that covers a byte where it may not be done.
+pub(crate) fn barred(meaning: &Meaning) -> Wrong
+    ensures { result ≡ barred meaning.now }
+{
+    if meaning.erased_only {
+        Wrong::NotErased
+    } else {
+        Wrong::Raised
+    }
+}
+
+/// Whether some byte of the program may not be programmed where it goes.
+pub(crate) fn is_barred(meaning: &Meaning, page: u32, seen: &Seen<'_>, array: &[u8]) -> bool
     requires program { is_program seen.now.what ≡ true }
     requires some { 0 < page }
     requires inside { page_start page seen.now.address + page ≤ length array.now }
-    ensures { result ≡ raises_of page seen.now.address (sent seen.now) array.now }
+    ensures { result ≡ is_barred_of meaning.now page seen.now.address (sent seen.now) array.now }
 {
     let count = count_sent(seen);
     for index in first_kept(page, count)..count {
         let old = array[place(page, seen.address, index)];
-        let byte = seen.byte(index);
-        if old & byte != byte {
+        if !may_program(meaning, old, seen.byte(index)) {
             return true;
         }
     }

@@ -2,8 +2,11 @@
 
 use crate::transcript::{answer, row_of};
 use nor_base::{Meaning, Start, Width};
-use nor_chip::{Chip, Port};
-use nor_samples::{large_chip, latched_chip, mapped_chip, small_chip, w25q256jv_chip};
+use nor_chip::{Chip, Port, may_program};
+use nor_samples::{
+    erased_only_chip, large_chip, latched_chip, mapped_chip, open_page_chip, small_chip,
+    w25q256jv_chip,
+};
 use std::alloc::Global;
 use std::process::Abort;
 use std::test::Fail;
@@ -27,6 +30,18 @@ pub(crate) fn blank<'a>(
     let busy = Vec::from_slice(alloc, busy)?;
     assert!(rt; !start.mode4 || meaning.width != Width::Three);
     Ok(Chip::new(meaning, start, content, busy, keeps))
+}
+
+/// A chip in three-byte mode that holds FFh, with a page of so many bytes.
+fn paged<'a>(
+    rt: &impl Abort,
+    alloc: Global,
+    meaning: &'a Meaning,
+    page: u32,
+) -> Result<Chip<'a>, Fail> {
+    let content = vec![in alloc; 0xFFu8; meaning.size as usize]?;
+    assert!(rt; meaning.may_page(page));
+    Ok(Chip::with_page(meaning, PLAIN, content, Vec::new(alloc), false, page))
 }
 
 /// The array's first 64 KiB, or all of a smaller one.
@@ -278,6 +293,85 @@ const LATCHED: (&str, bool) = (
     true,
 );
 
+/// Small, under the profile of erased bytes: no program covers another byte, whatever its data.
+const KEPT: (&str, bool) = (
+    "02 000001 55         |                  | ignored
+    06                   |                  |
+    02 000001 55         |                  |
+    06                   |                  |
+    02 000000 00 55 00   |                  | not erased
+    02 000001 55         |                  | not erased
+    02 000001 ff         |                  | not erased
+    02 000001 00         |                  | not erased
+    02 0000ff 00 ff 00   |                  | not erased
+    02 002000 00         |                  | out of range
+    05                   | ........         | 02
+    02 000000 00         |                  |
+    06                   |                  |
+    02 000002 00         |                  |
+    03 000000            | ........................ | 00 55 00
+    06                   |                  |
+    20 000000            |                  |
+    06                   |                  |
+    02 000000 00 55 00   |                  |
+    03 000000            | ........................ | 00 55 00",
+    true,
+);
+
+/// Small, without it: the same programs over the same bytes.
+const COVERED: (&str, bool) = (
+    "06                   |                  |
+    02 000001 55         |                  |
+    06                   |                  |
+    02 000001 ff         |                  | raised
+    02 000000 00 55 00   |                  |
+    03 000000            | ........................ | 00 55 00
+    06                   |                  |
+    02 000001 55         |                  |
+    06                   |                  |
+    02 000001 00         |                  |
+    03 000000            | ........................ | 00 00 00",
+    true,
+);
+
+/// A page of 64 bytes: the second byte goes to the page's first.
+const PAGE_OF_64: (&str, bool) = (
+    "06                   |                  |
+    02 00003f 00 00      |                  |
+    03 00003f            | ................ | 00 ff
+    03 000000            | ................ | 00 ff
+    06                   |                  |
+    02 001ff0 11*64 22   |                  |
+    03 001fef            | ........................ | 11 22 11
+    03 001fbf            | ................ | ff 11",
+    true,
+);
+
+/// A larger page, of 128 bytes: it goes to the next address.
+const PAGE_OF_128: (&str, bool) = (
+    "06                   |                  |
+    02 00003f 00 00      |                  |
+    03 00003f            | ................ | 00 00
+    03 000000            | ................ | ff ff
+    06                   |                  |
+    02 00007f 11 22      |                  |
+    03 00007f            | ................ | 11 ff
+    03 000000            | ........         | 22",
+    true,
+);
+
+/// The largest, of 4096 bytes.
+const PAGE_OF_4096: (&str, bool) = (
+    "06                   |                  |
+    02 0000ff 00 00      |                  |
+    03 0000ff            | ................ | 00 00
+    06                   |                  |
+    02 001fff 11 22      |                  |
+    03 001fff            | ........         | 11
+    03 001000            | ........         | 22",
+    true,
+);
+
 #[test]
 fn refuses_by_the_first_rule_that_applies(rt: HostRuntime) -> Result<(), Fail> {
     let alloc = rt.alloc();
@@ -314,4 +408,39 @@ fn chips_of_each_kind(rt: HostRuntime) -> Result<(), Fail> {
         }
     }
     Ok(())
+}
+
+#[test]
+fn pages_and_erased_bytes(rt: HostRuntime) -> Result<(), Fail> {
+    let table: [(Meaning, u32, (&str, bool)); 6] = [
+        (erased_only_chip(), 256, KEPT),
+        (small_chip(), 256, COVERED),
+        (open_page_chip(), 64, PAGE_OF_64),
+        (open_page_chip(), 128, PAGE_OF_128),
+        (open_page_chip(), 256, WRAPS),
+        (open_page_chip(), 4096, PAGE_OF_4096),
+    ];
+    for (meaning, page, part) in table {
+        let mut chip = paged(&rt, rt.alloc(), &meaning, page)?;
+        play(&rt, rt.alloc(), &mut chip, part)?;
+    }
+    Ok(())
+}
+
+#[test]
+fn bytes_that_may_be_programmed(rt: HostRuntime) {
+    // What the array has, what is to be programmed, and whether it may be, without and with the profile.
+    let table = [
+        (0xFF, 0x00, true, true),
+        (0xFF, 0xFF, true, true),
+        (0x55, 0x55, true, false),
+        (0x55, 0x00, true, false),
+        (0x55, 0xFF, false, false),
+        (0xFE, 0x01, false, false),
+    ];
+    let (plain, profile) = (small_chip(), erased_only_chip());
+    for (old, byte, may, may_erased) in table {
+        assert_eq!(rt; may_program(&plain, old, byte), may);
+        assert_eq!(rt; may_program(&profile, old, byte), may_erased);
+    }
 }

@@ -3,8 +3,8 @@
 use nor_base::{Erase, Meaning, Switch};
 use nor_geometry::is_legal;
 use nor_samples::{
-    large_chip, latched_chip, legacy_chip, legacy_latched_chip, mapped_chip, small_chip,
-    w25q256jv_chip,
+    erased_only_chip, large_chip, latched_chip, legacy_chip, legacy_latched_chip, mapped_chip,
+    open_page_chip, small_chip, w25q256jv_chip,
 };
 use std::process::Abort;
 
@@ -45,59 +45,67 @@ const DEDICATED: [(u32, u8, Option<u8>); 3] = [
     (65536, 0xD8, Some(0xDC)),
 ];
 
+/// The chips of 32 MiB: their blocks, how the mode is switched, and whether 13h, 34h and 32h are offered.
+fn large_rows() -> [(Meaning, [(u32, u8, Option<u8>); 3], Switch, [bool; 3]); 5] {
+    let (plain, latched) = (Switch::Plain, Switch::Latched);
+    let (all, offered, none) = (
+        [true, true, true],
+        [true, true, false],
+        [false, false, false],
+    );
+    [
+        (large_chip(), DEDICATED, plain, offered),
+        (w25q256jv_chip(), DEDICATED, plain, all),
+        (latched_chip(), DEDICATED, latched, offered),
+        (legacy_chip(), LEGACY, plain, none),
+        (legacy_latched_chip(), LEGACY, latched, none),
+    ]
+}
+
 #[test]
 fn are_the_listed_chips(rt: HostRuntime) {
     assert!(rt; Some(small_chip()) == Meaning::uniform(8192));
-    let mapped = [SECTORS, (65536, 0xD8, None), ABSENT];
-    let (absent, plain, latched) = (Switch::Absent, Switch::Plain, Switch::Latched);
-    // Blocks; size, regions and switches; whether 13h, 34h and 32h are offered.
-    let table = [
-        (
-            mapped_chip(),
-            mapped,
-            (65536, 2, absent),
-            [false, false, false],
-        ),
-        (
-            large_chip(),
-            DEDICATED,
-            (33_554_432, 1, plain),
-            [true, true, false],
-        ),
-        (
-            w25q256jv_chip(),
-            DEDICATED,
-            (33_554_432, 1, plain),
-            [true, true, true],
-        ),
-        (
-            latched_chip(),
-            DEDICATED,
-            (33_554_432, 1, latched),
-            [true, true, false],
-        ),
-        (
-            legacy_chip(),
-            LEGACY,
-            (33_554_432, 1, plain),
-            [false, false, false],
-        ),
-        (
-            legacy_latched_chip(),
-            LEGACY,
-            (33_554_432, 1, latched),
-            [false, false, false],
-        ),
-    ];
-    for (chip, blocks, known, offered) in table {
+    let (mapped, none) = (mapped_chip(), [false, false, false]);
+    are_blocks(&rt, &mapped, [SECTORS, (65536, 0xD8, None), ABSENT]);
+    is_chip(&rt, &mapped, (65536, 2, Switch::Absent), none);
+    for (chip, blocks, switch, offered) in large_rows() {
         are_blocks(&rt, &chip, blocks);
-        is_chip(&rt, &chip, known, offered);
+        is_chip(&rt, &chip, (33_554_432, 1, switch), offered);
     }
-    let [sectors, ..] = small_chip().erases;
-    assert_eq!(rt;
-        sectors.map(|erase| (erase.size, erase.op, erase.op4)),
-        Some(SECTORS)
-    );
+    // The three small ones: the page, whether it may be larger, and the profile.
+    let small = [
+        (small_chip(), 256, false, false),
+        (open_page_chip(), 64, true, false),
+        (erased_only_chip(), 256, false, true),
+    ];
+    for (chip, page, open_page, erased_only) in small {
+        are_blocks(&rt, &chip, [SECTORS, ABSENT, ABSENT]);
+        assert_eq!(rt; (chip.size, chip.page), (8192, page));
+        assert_eq!(rt;
+            (chip.open_page, chip.erased_only),
+            (open_page, erased_only)
+        );
+    }
+}
+
+#[test]
+fn pages_that_a_chip_may_have(rt: HostRuntime) {
+    // Bytes of a page, and whether the small chip and the one with an open page may have it.
+    let table = [
+        (0, false, false),
+        (32, false, false),
+        (64, false, true),
+        (96, false, false),
+        (128, false, true),
+        (256, true, true),
+        (4096, false, true),
+        (8192, false, false),
+    ];
+    let (small, open) = (small_chip(), open_page_chip());
+    for (page, may, may_open) in table {
+        assert_eq!(rt; small.may_page(page), may, "{page}");
+        assert_eq!(rt; open.may_page(page), may_open, "{page}");
+    }
 }
 
 #[test]

@@ -36,6 +36,7 @@ pub(crate) fn row_of(alloc: Global, line: &str) -> Result<Row, AllocError> {
         "ignored" => Err(Wrong::Ignored),
         "out of range" => Err(Wrong::OutOfRange),
         "raised" => Err(Wrong::Raised),
+        "not erased" => Err(Wrong::NotErased),
         _ => Ok(()),
     };
     Ok(Row {

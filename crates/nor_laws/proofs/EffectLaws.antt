@@ -1,21 +1,20 @@
 -- What an effect changes, and what it is judged by.
-use Rattle.std.proofs.Common.{◌≡◌, ◌≢◌, ℕ, zero, suc, ◌+◌, ◌%◌, ◌<◌, ◌≤◌, nat_le, nat_lt, Bool, true, false, not, ◌&&◌, if◌then◌else◌, List, length, Option, Some, None, Result, Ok, Err, refl, sym, ◌∙◌, ap, subst, arith, inl, inr}
-use Rattle.std.proofs.Math.Bool.{and-false}
+use Rattle.std.proofs.Common.{◌≡◌, ◌≢◌, ℕ, zero, suc, ◌+◌, ◌%◌, ◌<◌, ◌≤◌, Bool, true, false, not, ◌&&◌, if◌then◌else◌, List, length, Option, Some, None, Result, Ok, Err, refl, sym, ◌∙◌, ap, subst, arith, inl, inr}
 use Rattle.std.specs.List.{slice_index}
 use Rattle.std.specs.Option.{option_map_or}
 use Rattle.std.proofs.Math.Nat.{mod-lt}
-use Rattle.std.proofs.lemmas.Bool.{cases_lt, le-ltb, le-leb, ne_eqb, lt-leb}
+use Rattle.std.proofs.lemmas.Bool.{cases_lt, ne_eqb}
 use Rattle.nor_base.specs.declared.instruction.What.{What}
 use Rattle.nor_base.specs.declared.instruction.What.TheVariants as what
 use Rattle.nor_base.specs.declared.wrong.Wrong.{Wrong}
 use Rattle.nor_base.specs.declared.wrong.Wrong.TheVariants as wrong
-use Rattle.nor_base.specs.Parameters.{block_size}
+use Rattle.nor_base.specs.Parameters.{Parameters, block_size}
 use Rattle.nor_base.specs.Decoding.{Instruction, decode}
 use Rattle.nor_base.specs.Chip.{Setting, Chip, is_busy}
-use Rattle.nor_base.specs.Effect.{is_broken, is_status, is_quad, is_program, needs_latch, is_out_of_range, place, last_byte_for, written, raises_bit, raises, programmed, erased, after, answer, effect_of, effect_if, effect, wrong_of, page_start}
+use Rattle.nor_base.specs.Effect.{is_broken, is_status, is_quad, is_program, needs_latch, is_out_of_range, place, last_byte_for, written, may_program, is_barred, barred, programmed, erased, after, answer, effect_of, effect_if, effect, wrong_of, page_start}
 use Rattle.nor_laws.specs.Laws.{SameWithin}
 use Rattle.nor_base.specs.Array.{IsOutside}
-use Rattle.nor_base.proofs.ArrayLaws.{length-each, slice_index-each, each_keeps, some_same, erased_fills, erased_keeps}
+use Rattle.nor_base.proofs.ArrayLaws.{length-each, each_keeps, some_same, erased_fills, erased_keeps}
 
 -- an instruction that the chip takes
 pub record IsTaken (s : Setting) (c : Chip) (i : Instruction) (d : Chip) (bytes : List ℕ) : Type 0 where
@@ -24,7 +23,7 @@ pub record IsTaken (s : Setting) (c : Chip) (i : Instruction) (d : Chip) (bytes 
   pub quad : is_quad i.what && not s.start.quad ≡ false
   pub latched : needs_latch s.meaning i.what && not c.latch ≡ false
   pub in_range : is_out_of_range s.meaning i ≡ false
-  pub falls : is_program i.what && raises s.page i.address i.sent c.array ≡ false
+  pub may : is_program i.what && is_barred s.meaning s.page i.address i.sent c.array ≡ false
   pub chip : d ≡ after s c i i.what
   pub answer : bytes ≡ answer c i i.what
 
@@ -41,7 +40,7 @@ taken s c i d bytes h =
     let e = past_line (is_quad i.what && not s.start.quad) wrong.Ignored _ (d, bytes) b.1 in
     let f = past_line (needs_latch s.meaning i.what && not c.latch) wrong.Ignored _ (d, bytes) e.1 in
     let g = past_line (is_out_of_range s.meaning i) wrong.OutOfRange _ (d, bytes) f.1 in
-    let r = past_line (is_program i.what && raises s.page i.address i.sent c.array) wrong.Raised _ (d, bytes) g.1 in
+    let r = past_line (is_program i.what && is_barred s.meaning s.page i.address i.sent c.array) (barred s.meaning) _ (d, bytes) g.1 in
     let last : (after s c i i.what, answer c i i.what) ≡ (d, bytes) = cc in
     record {
       known = a.0;
@@ -49,7 +48,7 @@ taken s c i d bytes h =
       quad = e.0;
       latched = f.0;
       in_range = g.0;
-      falls = r.0;
+      may = r.0;
       chip = sym (ap (λ (p : Chip × List ℕ). p.0) last);
       answer = sym (ap (λ (p : Chip × List ℕ). p.1) last);
     }
@@ -114,28 +113,28 @@ erase_keeps_others s c d i kind bytes x is h outside =
     ap (λ (e : Chip). slice_index e.array x) done ∙ erased_keeps i.address (block_size s.meaning kind) c.array x outside
 
 -- six tests that tell the same refuse the same, whatever is left in the end
-judged_alike : (a b c d e f : Bool) (x y : Chip × List ℕ)
+judged_alike : (a b c d e f : Bool) (w : Wrong) (x y : Chip × List ℕ)
     → wrong_of (if a then Err wrong.Ignored else if b then Err wrong.Ignored else if c then Err wrong.Ignored else if d then Err wrong.Ignored
-    else if e then Err wrong.OutOfRange else if f then Err wrong.Raised else Ok x)
+    else if e then Err wrong.OutOfRange else if f then Err w else Ok x)
     ≡ wrong_of (if a then Err wrong.Ignored else if b then Err wrong.Ignored else if c then Err wrong.Ignored else if d then Err wrong.Ignored
-    else if e then Err wrong.OutOfRange else if f then Err wrong.Raised else Ok y)
-judged_alike true b c d e f x y = refl
-judged_alike false true c d e f x y = refl
-judged_alike false false true d e f x y = refl
-judged_alike false false false true e f x y = refl
-judged_alike false false false false true f x y = refl
-judged_alike false false false false false true x y = refl
-judged_alike false false false false false false x y = refl
+    else if e then Err wrong.OutOfRange else if f then Err w else Ok y)
+judged_alike true b c d e f w x y = refl
+judged_alike false true c d e f w x y = refl
+judged_alike false false true d e f w x y = refl
+judged_alike false false false true e f w x y = refl
+judged_alike false false false false true f w x y = refl
+judged_alike false false false false false true w x y = refl
+judged_alike false false false false false false w x y = refl
 
 -- an instruction is judged by the array alone where it is a program that may raise a bit
 judged_by : (s : Setting) (c : Chip) (array : List ℕ) (i : Instruction)
-    → is_program i.what && raises s.page i.address i.sent array ≡ is_program i.what && raises s.page i.address i.sent c.array
+    → is_program i.what && is_barred s.meaning s.page i.address i.sent array ≡ is_program i.what && is_barred s.meaning s.page i.address i.sent c.array
     → wrong_of (effect_of s (record c { array = array }) i) ≡ wrong_of (effect_of s c i)
 unfolding effect_of
 judged_by s c array i same = rw same
     (judged_alike (is_broken i.what) (not (is_status i.what) && is_busy c.left) (is_quad i.what && not s.start.quad)
     (needs_latch s.meaning i.what && not c.latch) (is_out_of_range s.meaning i)
-    (is_program i.what && raises s.page i.address i.sent c.array)
+    (is_program i.what && is_barred s.meaning s.page i.address i.sent c.array) (barred s.meaning)
     (after s (record c { array = array }) i i.what, answer (record c { array = array }) i i.what) (after s c i i.what, answer c i i.what))
 
 pub erase_never_judged : (s : Setting) (c : Chip) (array : List ℕ) (i : Instruction) (kind : ℕ) → i.what ≡ what.Erase kind
@@ -144,40 +143,40 @@ erase_never_judged s c array i kind is =
     let no_program : is_program i.what ≡ false = ap is_program is in
     judged_by s c array i (rw no_program refl)
 
--- a byte outside the page raises nothing
-raises_same_at : (page address : ℕ) (bytes xs ys : List ℕ) (x : ℕ) → 0 < page
+-- a byte outside the page bars nothing
+barred_same_at : (m : Parameters) (page address : ℕ) (bytes xs ys : List ℕ) (x : ℕ) → 0 < page
     → SameWithin (page_start page address) (page_start page address + page) xs ys
-    → option_map_or (raises_bit (slice_index xs x)) (written page address bytes x) false
-    ≡ option_map_or (raises_bit (slice_index ys x)) (written page address bytes x) false
-raises_same_at page address bytes xs ys x some_page same =
+    → option_map_or (λ byte. not (may_program m (slice_index xs x) byte)) (written page address bytes x) false
+    ≡ option_map_or (λ byte. not (may_program m (slice_index ys x) byte)) (written page address bytes x) false
+barred_same_at m page address bytes xs ys x some_page same =
     let outside : IsOutside (page_start page address) (page_start page address + page) x
-    → option_map_or (raises_bit (slice_index xs x)) (written page address bytes x) false
-    ≡ option_map_or (raises_bit (slice_index ys x)) (written page address bytes x) false
+    → option_map_or (λ byte. not (may_program m (slice_index xs x) byte)) (written page address bytes x) false
+    ≡ option_map_or (λ byte. not (may_program m (slice_index ys x) byte)) (written page address bytes x) false
     = λ out. rw (none_outside page address bytes (length bytes) x some_page out) refl in
     elim (cases_lt x (page_start page address)) [
       | inl low ↦ outside (inl low)
       | inr from ↦ elim (cases_lt x (page_start page address + page)) [
-        | inl upto ↦ ap (λ old. option_map_or (raises_bit old) (written page address bytes x) false) (same.bytes x from upto)
+        | inl upto ↦ ap (λ old. option_map_or (λ byte. not (may_program m old byte)) (written page address bytes x) false) (same.bytes x from upto)
         | inr high ↦ outside (inr high)
       ]
     ]
 
-raises_same : (page address : ℕ) (bytes xs ys : List ℕ) → 0 < page → SameWithin (page_start page address) (page_start page address + page) xs ys
-    → raises page address bytes xs ≡ raises page address bytes ys
-unfolding raises
-raises_same page address bytes xs ys some_page same =
-    some_same (λ x old. option_map_or (raises_bit old) (written page address bytes x) false) 0 xs ys same.length
+barred_same : (m : Parameters) (page address : ℕ) (bytes xs ys : List ℕ) → 0 < page → SameWithin (page_start page address) (page_start page address + page) xs ys
+    → is_barred m page address bytes xs ≡ is_barred m page address bytes ys
+unfolding is_barred
+barred_same m page address bytes xs ys some_page same =
+    some_same (λ x old. option_map_or (λ byte. not (may_program m old byte)) (written page address bytes x) false) 0 xs ys same.length
     (λ k fits.
     let start : k ≡ 0 + k = omega arith in
-    subst (λ x. option_map_or (raises_bit (slice_index xs k)) (written page address bytes x) false
-    ≡ option_map_or (raises_bit (slice_index ys k)) (written page address bytes x) false) start
-    (raises_same_at page address bytes xs ys k some_page same))
+    subst (λ x. option_map_or (λ byte. not (may_program m (slice_index xs k) byte)) (written page address bytes x) false
+    ≡ option_map_or (λ byte. not (may_program m (slice_index ys k) byte)) (written page address bytes x) false) start
+    (barred_same_at m page address bytes xs ys k some_page same))
 
 pub program_judged_by_page : (s : Setting) (c : Chip) (array : List ℕ) (i : Instruction) → 0 < s.page → is_program i.what ≡ true
     → SameWithin (page_start s.page i.address) (page_start s.page i.address + s.page) c.array array
     → wrong_of (effect_of s (record c { array = array }) i) ≡ wrong_of (effect_of s c i)
 program_judged_by_page s c array i some_page program same =
-    judged_by s c array i (ap (λ b. is_program i.what && b) (sym (raises_same s.page i.address i.sent c.array array some_page same)))
+    judged_by s c array i (ap (λ b. is_program i.what && b) (sym (barred_same s.meaning s.page i.address i.sent c.array array some_page same)))
 
 pub erase_fills : (s : Setting) (c d : Chip) (i : Instruction) (kind : ℕ) (bytes : List ℕ) (x : ℕ) → i.what ≡ what.Erase kind
     → effect_of s c i ≡ Ok (d, bytes) → x < length c.array → i.address ≤ x → x < i.address + block_size s.meaning kind

@@ -1,24 +1,17 @@
 -- A transaction gives as many bytes as its clocks sample.
-use Rattle.std.proofs.Common.{◌≡◌, ℕ, ◌+◌, ◌-◌, ◌*◌, ◌/◌, ◌≤◌, ◌==◌, nat_le, nat_lt, Bool, true, false, cond, ◌&&◌, if◌then◌else◌, List, [], ◌∷◌, ◌++◌, length, take, drop, Option, Some, None, option_map, Ok, refl, sym, ◌∙◌, ap, subst, arith, eqb-true, length-drop}
-use Rattle.std.specs.Prelude.{count_by}
-use Rattle.std.specs.List.{list_all, find, slice_range}
-use Rattle.std.specs.Option.{option_map_or}
-use Rattle.std.proofs.lemmas.Bool.{and_parts, ltb-false, or_parts}
-use Rattle.std.proofs.lemmas.List.{length-replicate, length-take-le, take-append-drop}
-use Rattle.std.proofs.lemmas.List.Sums.{sum_by-append, sum_by-cons}
-use Rattle.nor_base.specs.declared.clock.Clock.{Clock}
-use Rattle.nor_base.specs.declared.clock.Clock.TheVariants as clock
-use Rattle.nor_base.specs.declared.clock.Sample.{Sample}
+use Rattle.std.proofs.Common.{◌≡◌, ℕ, ◌+◌, ◌-◌, ◌/◌, ◌≤◌, nat_le, nat_lt, false, List, length, take, drop, Option, Some, None, Ok, refl, sym, ◌∙◌, ap, arith, length-drop}
+use Rattle.std.specs.List.{slice_range}
+use Rattle.std.proofs.lemmas.Bool.{ltb-false, or_parts}
+use Rattle.std.proofs.lemmas.List.{length-replicate, length-take-le}
 use Rattle.nor_base.specs.declared.instruction.What.{What}
 use Rattle.nor_base.specs.declared.instruction.What.TheVariants as what
-use Rattle.nor_base.specs.Sample.{symbol, sample, clocks, clock_at, sampled_count}
+use Rattle.nor_base.specs.Sample.{clocks, sampled_count}
 use Rattle.nor_base.specs.Parameters.{Parameters}
-use Rattle.nor_base.specs.Instructions.{Form, nothing, sends, sends4, samples, samples4, form_of, Row, row_of}
-use Rattle.nor_base.specs.Decoding.{has_lanes, is_bit_sent, is_nibble_sent, is_bit_sampled, is_nibble_sampled, is_idle, are_groups, is_data, address_clocks, dummy_clocks, data_clocks, is_form, Transaction, broken, by_row, has_opcode, opcode, number, transaction, bytes_asked, Instruction, instruction, decode}
+use Rattle.nor_base.specs.Decoding.{Instruction, instruction, decode}
 use Rattle.nor_base.specs.Chip.{Setting, Chip}
-use Rattle.nor_base.specs.Effect.{is_broken, is_out_of_range, answer, effect, effect_if}
+use Rattle.nor_base.specs.Effect.{is_out_of_range, answer, effect, effect_if}
 use Rattle.nor_laws.proofs.EffectLaws.{taken}
-use Rattle.nor_base.proofs.SampledLaws.{IsSeen, decoded}
+use Rattle.nor_base.proofs.SampledLaws.{decoded}
 
 length-read : (array : List ℕ) (size address n : ℕ) → length array ≡ size → nat_lt size (address + n) ≡ false → length (slice_range array address (address + n)) ≡ n
 length-read array size address n whole fits =

@@ -1,13 +1,11 @@
 mod LimitLaws
-mod PollLaws
+pub mod PollLaws
 mod TableLaws
 pub mod ScriptLaws
 pub mod BlockLaws
 mod SymbolLaws
 pub mod EffectLaws
-mod ProgramLaws
-mod WorkLaws
-mod MakingLaws
+pub mod ProgramLaws
 mod GivenLaws
 mod RunLaws
 mod TargetLaws

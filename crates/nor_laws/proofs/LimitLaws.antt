@@ -11,9 +11,9 @@ use Rattle.nor_laws.specs.Worked.{widest}
 kinds_of_widest : (kind : ℕ) (erase : Erase) → erase_kind widest kind ≡ Some erase → IsEraseKind widest erase
 kinds_of_widest zero erase h = cc
 kinds_of_widest (suc zero) erase h = cc
-kinds_of_widest (suc (suc zero)) erase h = let e : record { size = 16777216; op = 0xD8; op4 = Some 0xDC } ≡ erase = cc in subst (IsEraseKind widest) e (record { size = record { exponent = 24; at_least = omega arith; at_most = omega arith; value = refl }; whole_pages = omega arith })
+kinds_of_widest (suc (suc zero)) erase h = let e : record { size = 16777216; op = 0xD8; op4 = Some 0xDC } ≡ erase = cc in subst (IsEraseKind widest) e (record { size = record { exponent = 24; at_least = omega arith; at_most = omega arith; value = refl }; whole_pages = omega arith; op = omega arith; op4 = omega arith })
 kinds_of_widest (suc (suc (suc zero))) erase h = cc
-kinds_of_widest (suc (suc (suc (suc zero)))) erase h = let e : record { size = 4096; op = 0; op4 = Some 0xFF } ≡ erase = cc in subst (IsEraseKind widest) e (record { size = record { exponent = 12; at_least = omega arith; at_most = omega arith; value = refl }; whole_pages = omega arith })
+kinds_of_widest (suc (suc (suc (suc zero)))) erase h = let e : record { size = 4096; op = 0; op4 = Some 0xFF } ≡ erase = cc in subst (IsEraseKind widest) e (record { size = record { exponent = 12; at_least = omega arith; at_most = omega arith; value = refl }; whole_pages = omega arith; op = omega arith; op4 = omega arith })
 kinds_of_widest (suc (suc (suc (suc (suc k))))) erase h = cc
 
 all_alike : (region : Region) → IsRegion region → (n : ℕ) → AllByRecursion IsRegion (replicate n region)
@@ -35,6 +35,7 @@ widest_is_accepted = record {
   enter = λ h. absurd (h refl);
   leave = λ h. absurd (h refl);
   quad_read4 = λ h. refl;
+  quad_read_op = omega arith;
   dummies = omega arith;
   opcodes = refl;
 }

@@ -1,28 +1,24 @@
 -- Laws of the definitions: facts that would be false if one of them were wrong.
-use Rattle.std.specs.Prelude.{◌≡◌, ◌≢◌, ◌⊎◌, ℕ, suc, Bool, true, false, ◌<◌, ◌≤◌, ◌+◌, ◌-◌, ◌%◌, ◌^◌, List, [], ◌∷◌, ◌++◌, length, take, Option, Some, None, option_map, Result, Ok, Err, slice_index, slice_get, sum_by, bit_and}
+use Rattle.std.specs.Prelude.{◌≡◌, ◌≢◌, ◌⊎◌, ℕ, suc, Bool, true, false, ◌<◌, ◌≤◌, ◌+◌, ◌%◌, ◌^◌, List, [], ◌∷◌, ◌++◌, length, Option, Some, None, option_map, Ok, Err, slice_index, bit_and}
 use Rattle.std.specs.List.{AllByRecursion}
 use Rattle.nor_base.specs.declared.clock.Clock.{Clock}
 use Rattle.nor_base.specs.declared.instruction.What.TheVariants as what
-use Rattle.nor_base.specs.declared.meaning.Region.{Region}
-use Rattle.nor_base.specs.declared.meaning.Start.{Start}
 use Rattle.nor_base.specs.declared.step.Step.{Step}
-use Rattle.nor_base.specs.declared.wrong.Wrong.{Wrong}
 use Rattle.nor_base.specs.declared.wrong.Wrong.TheVariants as wrong
 use Rattle.nor_base.specs.Sample.{symbol, clock_at, sample, sampled_count}
 use Rattle.nor_base.specs.Step.{IsStep}
 use Rattle.nor_base.specs.Script.{IsScript, script_text}
 use Rattle.nor_base.specs.Device.{Ahead, Gives, first_of}
-use Rattle.nor_base.specs.Parameters.{Parameters, erase_kind, allows, block_size}
+use Rattle.nor_base.specs.Parameters.{Parameters, erase_kind, block_size}
 use Rattle.nor_base.specs.Instructions.{Row, IsRow, row_of}
 use Rattle.nor_base.specs.Accepted.{IsAccepted}
 use Rattle.nor_base.specs.Decoding.{Instruction, decode}
 use Rattle.nor_base.specs.Blocks.{Block, AreDisjoint, LiesIn, LiesInRegion, IsLegalBlock}
-use Rattle.nor_base.specs.Chip.{Setting, Chip, chip_of, ready, IsWhole}
+use Rattle.nor_base.specs.Chip.{Setting, Chip, IsWhole}
 use Rattle.nor_base.specs.Array.{IsOutside}
-use Rattle.nor_base.specs.Effect.{effect, effect_of, is_broken, is_program, place, page_start, wrong_of}
-use Rattle.nor_base.specs.Run.{polled, polled_trail, run, trail, DoesTaskOnEvery}
+use Rattle.nor_base.specs.Effect.{effect, effect_of, is_broken, is_program, place, page_start, may_program, wrong_of}
+use Rattle.nor_base.specs.Run.{polled, polled_trail, run, trail}
 use Rattle.nor_base.specs.Target.{target}
-use Rattle.nor_base.specs.Work.{must_rise, Program, ArePlanned, IsInTheMaking}
 
 -- a list of steps has one text
 abbrev pub OneText : Type 0
@@ -112,22 +108,28 @@ pub record IsLastFor (page address : ℕ) (bytes : List ℕ) (x j : ℕ) : Type 
   pub here : place page address j ≡ x
   pub last : (k : ℕ) → j < k → k < length bytes → place page address k ≢ x
 
--- where a byte goes, the array then holds what it had AND the byte, which is the byte
+-- where a byte goes, the array then holds what it had AND the byte; and the byte might be programmed there
 abbrev pub ProgramPutsByte : Type 0
 ProgramPutsByte = (s : Setting) (c d : Chip) (i : Instruction) (bytes : List ℕ) (x j : ℕ) → is_program i.what ≡ true
     → effect_of s c i ≡ Ok (d, bytes) → x < length c.array → IsLastFor s.page i.address i.sent x j
-    → (slice_index d.array x ≡ bit_and (slice_index c.array x) (slice_index i.sent j)) × (slice_index d.array x ≡ slice_index i.sent j)
+    → (slice_index d.array x ≡ bit_and (slice_index c.array x) (slice_index i.sent j))
+    × (may_program s.meaning (slice_index c.array x) (slice_index i.sent j) ≡ true)
 
--- Raised is said for a byte that has a 1 where the array has a 0
-pub record HasRaise (s : Setting) (c : Chip) (i : Instruction) : Type 0 where
+-- a byte of the program goes where it may not be programmed
+pub record HasBar (s : Setting) (c : Chip) (i : Instruction) : Type 0 where
   pub at : ℕ
   pub byte : ℕ
   pub inside : at < length c.array
   pub goes : IsLastFor s.page i.address i.sent at byte
-  pub raises : bit_and (slice_index c.array at) (slice_index i.sent byte) ≢ slice_index i.sent byte
+  pub bars : may_program s.meaning (slice_index c.array at) (slice_index i.sent byte) ≡ false
 
+-- Raised is said, without the profile of erased bytes, for a byte that has a 1 where the array has a 0
 abbrev pub RaisedForByte : Type 0
-RaisedForByte = (s : Setting) (c : Chip) (i : Instruction) → effect_of s c i ≡ Err wrong.Raised → HasRaise s c i
+RaisedForByte = (s : Setting) (c : Chip) (i : Instruction) → effect_of s c i ≡ Err wrong.Raised → HasBar s c i × (s.meaning.erased_only ≡ false)
+
+-- NotErased is said, with the profile, for a byte that goes where the array isn't FFh
+abbrev pub NotErasedForByte : Type 0
+NotErasedForByte = (s : Setting) (c : Chip) (i : Instruction) → effect_of s c i ≡ Err wrong.NotErased → HasBar s c i × (s.meaning.erased_only ≡ true)
 
 -- and isn't refused for bytes elsewhere
 abbrev pub ProgramJudgedByPage : Type 0
@@ -187,16 +189,3 @@ TargetKeeps = (image : ℕ → Option ℕ) (base : ℕ) (is_chosen : ℕ → Boo
 abbrev pub TargetGives : Type 0
 TargetGives = (image : ℕ → Option ℕ) (base : ℕ) (is_chosen : ℕ → Bool) (content : List ℕ) (a byte : ℕ) → a < length content
     → is_chosen a ≡ true → base + a < 2 ^ 32 → image (base + a) ≡ Some byte → slice_index (target image base is_chosen content) a ≡ byte
-
--- where no bit must rise, the planned work does the task on every chip
-abbrev pub PlannedDoesTask : Type 0
-PlannedDoesTask = (m : Parameters) (start : Start) (have want : List ℕ) (programs : List Program) (steps : List Step)
-    → length have ≡ m.size → length want ≡ m.size → ((a : ℕ) → must_rise have want a ≡ false)
-    → ArePlanned m start have want programs steps → DoesTaskOnEvery m start have want steps
-
--- there, after each transaction of the work the array is such a one: the target comes in rising order
-abbrev pub InRisingOrder : Type 0
-InRisingOrder = (m : Parameters) (start : Start) (have want : List ℕ) (programs : List Program) (steps : List Step)
-    → length have ≡ m.size → length want ≡ m.size → ((a : ℕ) → must_rise have want a ≡ false)
-    → ArePlanned m start have want programs steps → (busy : List ℕ) (keeps : Bool)
-    → AllByRecursion (λ d. IsInTheMaking have want d.array) (trail (chip_of m start busy keeps) (ready (chip_of m start busy keeps) have) steps)

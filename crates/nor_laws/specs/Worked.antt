@@ -23,6 +23,7 @@ abbrev pub tiny : Switch → Parameters
 tiny switch = record {
   size = 32;
   page = 16;
+  open_page = false;
   width = Both;
   erases = Some (record { size = 16; op = 0x20; op4 = Some 0x21 }) ∷ None ∷ None ∷ None ∷ [];
   regions = record { size = 32; kinds = 1 } ∷ [];
@@ -34,6 +35,7 @@ tiny switch = record {
   program4 = true;
   quad4 = true;
   quad3 = true;
+  erased_only = false;
 }
 
 -- that chip in three-byte mode with the quad setting
@@ -184,14 +186,15 @@ abbrev pub OneByteRun : ℕ → Bool → Type 0
 OneByteRun busy keeps = DoesTask (chip_of (uniform_of 8192) (record { mode4 = false; quad = false }) (busy ∷ []) keeps)
     (replicate 8192 255) (0 ∷ replicate 8191 255) one_byte_script
 
--- a chip at the upper limits: 64 MiB, pages and one kind of 4096 bytes, a kind of 16 MiB, 256 regions, 38 dummies
+-- a chip at the upper limits: 256 MiB, pages and one kind of 4096 bytes, a kind of 16 MiB, 256 regions, 38 dummies
 abbrev pub widest : Parameters
 widest = record {
-  size = 0x4000000;
+  size = 0x10000000;
   page = 4096;
+  open_page = false;
   width = Four;
   erases = None ∷ Some (record { size = 0x1000000; op = 0xD8; op4 = Some 0xDC }) ∷ None ∷ Some (record { size = 4096; op = 0; op4 = Some 0xFF }) ∷ [];
-  regions = replicate 256 (record { size = 0x40000; kinds = 15 });
+  regions = replicate 256 (record { size = 0x100000; kinds = 15 });
   enter = Absent;
   leave = Absent;
   quad_read = Some (record { op = 0x01; dummies = 38 });
@@ -200,6 +203,7 @@ widest = record {
   program4 = true;
   quad4 = true;
   quad3 = true;
+  erased_only = false;
 }
 
 abbrev pub WidestIsAccepted : Type 0

@@ -4,7 +4,7 @@
 
 pub mod worked;
 
-ghost use Rattle.nor_laws.specs.Laws.{SymbolsFound, SamplesApart, OneText, OneList, TextsApart, NoProperPrefix, OneRow, FindsRow, RowFound, LegalInRegion, LegalOnChip, RegionLegal, BlocksNest, KeepsSize, AsksSampled, GivesSampled, PollEnds, PollCount, PollNeedsAll, RunEndsTrail, ProgramPutsByte, RaisedForByte, ProgramKeepsOthers, ProgramJudgedByPage, EraseFills, EraseKeepsOthers, EraseNeverJudged, TargetKeeps, TargetGives, PlannedDoesTask, InRisingOrder, FirstInParts, GivesInParts};
+ghost use Rattle.nor_laws.specs.Laws.{SymbolsFound, SamplesApart, OneText, OneList, TextsApart, NoProperPrefix, OneRow, FindsRow, RowFound, LegalInRegion, LegalOnChip, RegionLegal, BlocksNest, KeepsSize, AsksSampled, GivesSampled, PollEnds, PollCount, PollNeedsAll, RunEndsTrail, ProgramPutsByte, RaisedForByte, NotErasedForByte, ProgramKeepsOthers, ProgramJudgedByPage, EraseFills, EraseKeepsOthers, EraseNeverJudged, TargetKeeps, TargetGives, FirstInParts, GivesInParts};
 
 /// A clock is found by its symbol, and no two clocks have the same lanes: a list of samples means its instruction.
 pub fn symbols()
@@ -51,11 +51,13 @@ pub fn polls()
     ensures all { PollNeedsAll }
 {}
 
-/// A program clears the bits that its bytes say, and is Raised just for a byte that would set one. It changes no byte
-/// outside its page, and isn't refused for bytes elsewhere.
+/// A program clears the bits that its bytes say. It is Raised just for a byte that would set one or, under the profile of
+/// erased bytes, NotErased just for a byte over one that isn't FFh. It changes no byte outside its page, and isn't refused
+/// for bytes elsewhere.
 pub fn programs()
     ensures puts { ProgramPutsByte }
     ensures raised { RaisedForByte }
+    ensures not_erased { NotErasedForByte }
     ensures keeps { ProgramKeepsOthers }
     ensures judged { ProgramJudgedByPage }
 {}
@@ -76,13 +78,6 @@ pub fn runs()
 pub fn targets()
     ensures keeps { TargetKeeps }
     ensures gives { TargetGives }
-{}
-
-/// Where no bit must rise, the planned work does the task on every chip of the meaning and start; and after each transaction
-/// of the work, all below one address is the target and all from it on is as before.
-pub fn planned_work()
-    ensures done { PlannedDoesTask }
-    ensures rising { InRisingOrder }
 {}
 
 /// What a reader gives in two parts it gives, and what is ahead of it is what it gives first and then the rest.

@@ -11,6 +11,7 @@ abbrev pub small : Parameters
 small = record {
   size = 8192;
   page = 256;
+  open_page = false;
   width = Three;
   erases = Some (record { size = 4096; op = 0x20; op4 = None }) ∷ None ∷ None ∷ None ∷ [];
   regions = record { size = 8192; kinds = 15 } ∷ [];
@@ -22,13 +23,23 @@ small = record {
   program4 = false;
   quad4 = false;
   quad3 = false;
+  erased_only = false;
 }
+
+-- the same, of whose page no more is known than that it is 64 bytes or larger
+abbrev pub small_open_page : Parameters
+small_open_page = record small { page = 64; open_page = true }
+
+-- the same, where only erased bytes may be programmed
+abbrev pub small_erased_only : Parameters
+small_erased_only = record small { erased_only = true }
 
 -- 64 KiB: 4 KiB for kind 1, and 60 KiB for kind 2, whose blocks fit nowhere
 abbrev pub mapped : Parameters
 mapped = record {
   size = 65536;
   page = 256;
+  open_page = false;
   width = Three;
   erases = Some (record { size = 4096; op = 0x20; op4 = None }) ∷ Some (record { size = 65536; op = 0xD8; op4 = None }) ∷ None ∷ None ∷ [];
   regions = record { size = 4096; kinds = 1 } ∷ record { size = 61440; kinds = 2 } ∷ [];
@@ -40,6 +51,7 @@ mapped = record {
   program4 = false;
   quad4 = false;
   quad3 = false;
+  erased_only = false;
 }
 
 -- 32 MiB: how its address mode is switched, whether it has a four-byte address instruction table, and whether it takes
@@ -48,6 +60,7 @@ abbrev pub large_by : Switch → Bool → Bool → Parameters
 large_by switch dedicated quad3 = record {
   size = 33554432;
   page = 256;
+  open_page = false;
   width = Both;
   erases = Some (record { size = 4096; op = 0x20; op4 = then_some dedicated 0x21 })
       ∷ Some (record { size = 32768; op = 0x52; op4 = None })
@@ -63,51 +76,24 @@ large_by switch dedicated quad3 = record {
   program4 = dedicated;
   quad4 = dedicated;
   quad3 = quad3;
+  erased_only = false;
 }
 
 abbrev pub large : Parameters
-large = record {
-  size = 33554432;
-  page = 256;
-  width = Both;
-  erases = Some (record { size = 4096; op = 0x20; op4 = Some 0x21 })
-      ∷ Some (record { size = 32768; op = 0x52; op4 = None })
-      ∷ Some (record { size = 65536; op = 0xD8; op4 = Some 0xDC })
-      ∷ None
-      ∷ [];
-  regions = record { size = 33554432; kinds = 15 } ∷ [];
-  enter = Plain;
-  leave = Plain;
-  quad_read = Some (record { op = 0x6B; dummies = 8 });
-  read4 = true;
-  quad_read4 = true;
-  program4 = true;
-  quad4 = true;
-  quad3 = false;
-}
+large = large_by Plain true false
 
 -- the large chip as a W25Q256JV
 abbrev pub large_w25q256jv : Parameters
-large_w25q256jv = record large { quad3 = true }
+large_w25q256jv = large_by Plain true true
 
 -- the large chip, its mode switched after a write enable
 abbrev pub large_latched : Parameters
-large_latched = record large { enter = Latched; leave = Latched }
+large_latched = large_by Latched true false
 
 -- the large chip without its four-byte address instruction table
 abbrev pub large_legacy : Parameters
-large_legacy = record large {
-  erases = Some (record { size = 4096; op = 0x20; op4 = None })
-      ∷ Some (record { size = 32768; op = 0x52; op4 = None })
-      ∷ Some (record { size = 65536; op = 0xD8; op4 = None })
-      ∷ None
-      ∷ [];
-  read4 = false;
-  quad_read4 = false;
-  program4 = false;
-  quad4 = false;
-}
+large_legacy = large_by Plain false false
 
 -- the same, its mode switched after a write enable
 abbrev pub large_legacy_latched : Parameters
-large_legacy_latched = record large_legacy { enter = Latched; leave = Latched }
+large_legacy_latched = large_by Latched false false

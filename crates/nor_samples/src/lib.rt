@@ -1,9 +1,9 @@
 //! Chips for tests: what SFDP says of a few sample chips, each with its literal parameters as contract.
 #![tactic(auto)]
 
-ghost use Rattle.std.specs.Prelude.{◌≡◌};
+ghost use Rattle.std.specs.Prelude.{◌≡◌, [], ◌∷◌};
 ghost use Rattle.nor_base.specs.declared.meaning.Switch.TheVariants.{Plain, Latched};
-ghost use Rattle.nor_samples.specs.Chips.{small, mapped, large_by, large, large_w25q256jv, large_latched, large_legacy, large_legacy_latched};
+ghost use Rattle.nor_samples.specs.Chips.{small, small_open_page, small_erased_only, mapped, large_by, large, large_w25q256jv, large_latched, large_legacy, large_legacy_latched};
 
 use arrayvec::ArrayVec;
 use nor_base::{Erase, Meaning, QuadRead, Region, Switch, Width};
@@ -13,6 +13,24 @@ pub fn small_chip() -> Meaning
     ensures { result ≡ small }
 {
     Meaning::uniform(8192).unwrap()
+}
+
+/// The small chip, of whose page no more is known than that it is 64 bytes or larger.
+pub fn open_page_chip() -> Meaning
+    ensures { result ≡ small_open_page }
+{
+    Meaning {
+        page: 64,
+        open_page: true,
+        ..small_chip()
+    }
+}
+
+/// The small chip under the profile that programs erased bytes alone.
+pub fn erased_only_chip() -> Meaning
+    ensures { result ≡ small_erased_only }
+{
+    small_chip().erased_only_set()
 }
 
 /// 64 KiB with a sector map: the first 4 KiB allow kind 1 alone, and the other 60 KiB kind 2, whose blocks of 64 KiB fit
@@ -42,6 +60,7 @@ pub fn mapped_chip() -> Meaning
     Meaning {
         size: 65536,
         page: 256,
+        open_page: false,
         width: Width::Three,
         erases: [Some(sectors), Some(blocks), None, None],
         regions,
@@ -53,6 +72,7 @@ pub fn mapped_chip() -> Meaning
         program4: false,
         quad4: false,
         quad3: false,
+        erased_only: false,
     }
 }
 
@@ -97,11 +117,6 @@ pub fn legacy_latched_chip() -> Meaning
 fn large_with(switch: Switch, dedicated: bool, quad3: bool) -> Meaning
     ensures { result ≡ large_by switch dedicated quad3 }
 {
-    let mut regions = ArrayVec::new();
-    regions.push(Region {
-        size: 0x200_0000,
-        kinds: 15,
-    });
     let sectors = Erase {
         size: 4096,
         op: 0x20,
@@ -120,9 +135,10 @@ fn large_with(switch: Switch, dedicated: bool, quad3: bool) -> Meaning
     Meaning {
         size: 0x200_0000,
         page: 256,
+        open_page: false,
         width: Width::Both,
         erases: [Some(sectors), Some(half_blocks), Some(blocks), None],
-        regions,
+        regions: one_region(0x200_0000),
         enter: switch,
         leave: switch,
         quad_read: Some(QuadRead {
@@ -134,5 +150,15 @@ fn large_with(switch: Switch, dedicated: bool, quad3: bool) -> Meaning
         program4: dedicated,
         quad4: dedicated,
         quad3,
+        erased_only: false,
     }
+}
+
+/// A map of one region of so many bytes that allows each kind.
+fn one_region(size: u32) -> ArrayVec<Region, 256>
+    ensures { result.items ≡ record { size = size; kinds = 15 } ∷ [] }
+{
+    let mut regions = ArrayVec::new();
+    regions.push(Region { size, kinds: 15 });
+    regions
 }

@@ -1,15 +1,24 @@
 -- From a job to what a build promises of its inputs.
-use Rattle.std.proofs.Common.{◌≡◌, ℕ, ◌+◌, ◌-◌, ◌*◌, ◌^◌, Bool, true, false, not, ◌&&◌, ◌||◌, if◌then◌else◌, cond, nat_lt, nat_le, List, [], ◌∷◌, length, map, Option, refl, sym, ◌∙◌, ap, subst, arith}
+use Rattle.std.proofs.Common.{◌≡◌, ℕ, ◌+◌, ◌-◌, ◌*◌, ◌/◌, ◌^◌, Bool, true, false, not, ◌&&◌, ◌||◌, if◌then◌else◌, cond, nat_lt, nat_le, List, [], ◌∷◌, length, map, Option, refl, sym, ◌∙◌, ap, subst, arith}
 use Rattle.std.specs.Prelude.{count_by, unwrap_or}
+use Rattle.std.proofs.lemmas.Bool.{or_parts}
+use Rattle.nor_base.specs.Programs.{Program}
 use Rattle.std.specs.List.{fold, enumerate_from, AllByRecursion}
 use Rattle.nor_base.specs.declared.meaning.Strategy.TheVariants.{S2}
 use Rattle.nor_base.specs.Parameters.{Parameters}
-use Rattle.nor_base.specs.Uniform.{IsUniformSize}
+use Rattle.nor_base.specs.Uniform.{uniform_of, IsUniformSize}
 use Rattle.nor_base.specs.Device.{Ahead}
 use Rattle.nor_base.specs.Target.{target, target_byte, is_ignored}
-use Rattle.nor_base.specs.Work.{must_rise, DoPrograms, ArePlanned}
+use Rattle.nor_base.specs.declared.meaning.Start.{Start}
+use Rattle.nor_base.specs.declared.meaning.Strategy.{Strategy}
+use Rattle.nor_base.specs.declared.step.Step.{Step}
+use Rattle.nor_base.specs.Accepted.{IsAccepted}
 use Rattle.nor_base.specs.Run.{DoesTaskOnEvery}
-use Rattle.nor_laws.specs.Laws.{PlannedDoesTask, InRisingOrder}
+use Rattle.nor_base.specs.Strategies.{strategy}
+use Rattle.nor_base.specs.Need.{is_due, is_at_fault}
+use Rattle.nor_base.specs.Units.{WorkUnit, pages}
+use Rattle.nor_base.specs.Planned.{ArePlanned, planned_units}
+use Rattle.nor_work.specs.Laws.{IsWorkable, PlannedDoesTask, OneUnitInTheMaking}
 use Rattle.nor_hex.specs.Image.{byte_at}
 use Rattle.nor_layout.specs.Chosen.{has, is_chosen}
 use Rattle.norprog.specs.declared.fault.BuildFault.{BuildFault}
@@ -17,13 +26,16 @@ use Rattle.norprog.specs.declared.fault.BuildFault.TheVariants as fault
 use Rattle.norprog.specs.declared.job.Job.{Job}
 use Rattle.norprog.specs.declared.report.Report.{Report}
 use Rattle.norprog.specs.Task.{Task}
-use Rattle.norprog.specs.Causes.{IsJob, uniform_size}
-use Rattle.norprog.specs.Clocks.{IsSendable}
+use Rattle.norprog.specs.Causes.{CanBegin, IsJob, is_not_yet, is_uniform, uniform_size}
+use Rattle.norprog.specs.Clocks.{AreBytes, IsSendable}
 use Rattle.norprog.specs.Pages.{page_programs, steps_of}
 use Rattle.norprog.specs.Windows.{target_from, CutCause, IsScripted, IsCutScript, job_report}
 use Rattle.norprog.specs.Build.{chip_meaning, start_of, wanted, ComesInOrder, IsBuilt, IsLate, WorkCause, StopsWork}
-use Rattle.norprog.proofs.ClockLemmas.{steps_decode, steps_are_steps, steps_length}
-use Rattle.norprog.proofs.PagesLaw.{pages_are_programs}
+use Rattle.norprog.specs.Rises.{must_rise}
+use Rattle.norprog.proofs.ClockLemmas.{steps_are_steps, steps_length}
+use Rattle.norprog.proofs.NeedLemmas.{NoneDue, due_is_rise, by_three, none_at_fault}
+use Rattle.norprog.proofs.PlanLemmas.{IsPlain, units_planned, all_planned, steps_planned}
+use Rattle.norprog.proofs.UnitLemmas.{AreCounted, units_from, units_counted}
 use Rattle.norprog.proofs.SendLemmas.{pages_send}
 use Rattle.norprog.proofs.WholeLemmas.{length-target}
 
@@ -67,36 +79,83 @@ ignored_is t len job is =
     ∙ ap (λ base. count_by (λ pair. is_ignored base c job.meaning.size pair.0) job.image) is.base
     ∙ ap (λ size. count_by (λ pair. is_ignored t.base c size pair.0) job.image) (size_is t len job is ∙ is.accepted.length)
 
-report_same : (s s' p p' i i' : ℕ) → s ≡ s' → p ≡ p' → i ≡ i'
-    → ◌≡◌ {A = Report} (record { strategy = S2; steps = s; erases = 0; erased = 0; programs = p; ignored = i })
-    (record { strategy = S2; steps = s'; erases = 0; erased = 0; programs = p'; ignored = i' })
-report_same s s' p p' i i' a b c =
-    let one : ℕ → ℕ → ℕ → Report = λ s p i. record { strategy = S2; steps = s; erases = 0; erased = 0; programs = p; ignored = i } in
-    ap (λ n. one n p i) a ∙ ap (λ n. one s' n i) b ∙ ap (λ n. one s' p' n) c
+report_same : (by by' : Strategy) (s s' e e' b b' p p' i i' : ℕ) → by ≡ by' → s ≡ s' → e ≡ e' → b ≡ b' → p ≡ p' → i ≡ i'
+    → ◌≡◌ {A = Report} (record { strategy = by; steps = s; erases = e; erased = b; programs = p; ignored = i })
+    (record { strategy = by'; steps = s'; erases = e'; erased = b'; programs = p'; ignored = i' })
+report_same by by' s s' e e' b b' p p' i i' first steps erases erased programs ignored =
+    let one : Strategy → ℕ → ℕ → ℕ → ℕ → ℕ → Report = λ by s e b p i. record { strategy = by; steps = s; erases = e; erased = b; programs = p; ignored = i } in
+    ap (λ v. one v s e b p i) first ∙ ap (λ n. one by' n e b p i) steps ∙ ap (λ n. one by' s' n b p i) erases
+    ∙ ap (λ n. one by' s' e' n p i) erased ∙ ap (λ n. one by' s' e' b' n i) programs ∙ ap (λ n. one by' s' e' b' p' n) ignored
 
--- the steps of the programs are the planned work
-planned_is : (t : Task) (len : ℕ) (job : Job) (pages : ℕ) (part goal : List ℕ) → t.mode4 ≡ false → length part ≡ pages * 256 → length goal ≡ length part
-    → AllByRecursion IsSendable (page_programs pages 0 part goal)
-    → ArePlanned (chip_meaning t) (start_of t) part goal (page_programs pages 0 part goal) (steps_of (page_programs pages 0 part goal))
-planned_is t len job pages part goal three whole lengths sendable = record {
-  pages = pages_are_programs pages part goal whole lengths;
-  done = subst (λ mode4. DoPrograms (chip_meaning t) (mode4 || false) (page_programs pages 0 part goal) (steps_of (page_programs pages 0 part goal)))
-      (sym three) (steps_decode (chip_meaning t) (page_programs pages 0 part goal) sendable);
+-- a uniform chip is one that these programs and steps do for
+plain_is : (t : Task) (len : ℕ) (job : Job) → IsJob t len job → IsAccepted job.meaning → IsPlain (chip_meaning t)
+plain_is t len job is accepted = record {
+  accepted = subst IsAccepted (is.meaning ∙ ap uniform_of is.accepted.length) accepted;
+  any_byte = refl;
+  page = refl;
+  width = refl;
+  reached = is.accepted.size.high;
+  quad4 = refl;
+  quad3 = refl;
 }
 
-pub built_is : (t : Task) (len : ℕ) (job : Job) (before after : Ahead) (x y : Option (List ℕ)) (programs : ℕ) → PlannedDoesTask → InRisingOrder → IsJob t len job
-    → IsScripted job job.meaning.size before after x y programs → IsBuilt t len before after x y (job_report job programs)
-built_is t len job before after x y programs law order is done =
+not_verified : (t : Task) → CanBegin t → t.verify ≡ false
+unfolding is_not_yet
+not_verified t begins = (or_parts (not (is_uniform t.chip)) t.verify begins.today).1
+
+-- the work on a content: nothing is due, the steps are those of the planned work, do the task on every chip, and come in order
+record IsWork (m : Parameters) (start : Start) (verify : Bool) (content goal : List ℕ) (steps : List Step) (programs : List Program) : Type 0 where
+  level : NoneDue m content goal
+  planned : ArePlanned m start verify content goal steps
+  task : DoesTaskOnEvery m start content goal steps
+  rising : ComesInOrder m start content goal steps
+  counted : AreCounted (planned_units m start content goal) programs
+
+workable : (m : Parameters) → IsPlain m → (start : Start) (content goal : List ℕ) → start.mode4 ≡ false → length content ≡ m.size → length goal ≡ length content
+    → AreBytes goal → NoneDue m content goal → IsWorkable m start content goal
+workable m plain start content goal mode size lengths small none = record {
+  accepted = plain.accepted;
+  have_size = size;
+  want_size = lengths ∙ size;
+  bytes = small;
+  sound = λ a inside. ap (λ by. is_at_fault m by content goal a) (by_three m start plain.width plain.reached mode) ∙ none_at_fault m content goal none a;
+}
+
+work_is : (m : Parameters) → IsPlain m → (start : Start) (n : ℕ) (content goal : List ℕ) → start.mode4 ≡ false → n * 256 ≡ m.size → length content ≡ m.size
+    → length goal ≡ length content → AreBytes goal → NoneDue m content goal → AllByRecursion IsSendable (page_programs n 0 content goal)
+    → PlannedDoesTask → OneUnitInTheMaking
+    → IsWork m start false content goal (steps_of (page_programs n 0 content goal)) (page_programs n 0 content goal)
+work_is m plain start n content goal mode whole size lengths small none sendable law making =
+    let programs = page_programs n 0 content goal in
+    let can = workable m plain start content goal mode size lengths small none in
+    let planned = steps_planned m plain start n content goal mode whole size lengths none sendable in
+    record {
+      level = none;
+      planned = planned;
+      task = law m start false content goal (steps_of programs) can planned;
+      rising = making m start false content goal (steps_of programs) can planned;
+      counted = subst (λ us. AreCounted us programs) (sym (units_planned m plain start content goal mode none))
+          (subst (AreCounted (units_from m content goal (pages m.page 0 (m.size / m.page)))) (sym (all_planned m plain n content goal whole size lengths)) (units_counted m content goal (pages m.page 0 (m.size / m.page))));
+    }
+
+pub built_is : (t : Task) (len : ℕ) (job : Job) (before after : Ahead) (x y : Option (List ℕ)) (programs : ℕ) → PlannedDoesTask → OneUnitInTheMaking
+    → IsAccepted job.meaning → IsJob t len job → IsScripted job job.meaning.size before after x y programs → IsBuilt t len before after x y (job_report job programs)
+built_is t len job before after x y programs law making accepted is done =
+    let m = chip_meaning t in
     let part = done.part in
     let own = target_from job 0 part in
-    let goal = wanted t job.image is.regions part in
-    let same : own ≡ goal = target_is t len job is part in
     let size = size_is t len job is in
+    let lengths = length-target job 0 part in
     let these = page_programs done.pages 0 part own in
-    let sendable = pages_send done.pages 0 part own (omega (arith, done.whole)) (omega (arith, done.upto, (size_fits t len job is).high)) (length-target job 0 part) done.bytes in
-    let planned : ArePlanned (chip_meaning t) (start_of t) part own these (steps_of these) =
-    planned_is t len job done.pages part own is.accepted.mode done.whole (length-target job 0 part) sendable in
+    let plain = plain_is t len job is accepted in
+    let sendable = pages_send done.pages 0 part own (omega (arith, done.whole)) (omega (arith, done.upto, (size_fits t len job is).high)) lengths done.bytes in
     let long : length part ≡ uniform_size t.chip = done.upto ∙ size ∙ is.accepted.length in
+    let none : NoneDue m part own = λ a. due_is_rise m refl part own a ∙ done.level a in
+    let own_work : IsWork m (start_of t) false part own (steps_of these) these =
+    work_is m plain (start_of t) done.pages part own is.accepted.mode (sym done.whole ∙ long) long lengths done.bytes none sendable law making in
+    let work : IsWork m (start_of t) t.verify part (wanted t job.image is.regions part) (steps_of these) these =
+    subst (λ verify. IsWork m (start_of t) verify part (wanted t job.image is.regions part) (steps_of these) these) (sym (not_verified t is.accepted.named.imaged.begins))
+    (subst (λ (w : List ℕ). IsWork m (start_of t) false part w (steps_of these) these) (target_is t len job is part) own_work) in
     record {
       image = job.image;
       regions = is.regions;
@@ -104,26 +163,28 @@ built_is t len job before after x y programs law order is done =
       content = part;
       whole = done.upto ∙ size;
       given = done.given;
-      level = subst (λ (w : List ℕ). (a : ℕ) → must_rise part w a ≡ false) same done.level;
+      level = work.level;
       text = _;
       put = done.put;
       steps = steps_of these;
       script = record { each = steps_are_steps these sendable; spelled = refl };
-      programs = these;
-      planned = subst (λ (w : List ℕ). ArePlanned (chip_meaning t) (start_of t) part w these (steps_of these)) same planned;
-      task = subst (λ (w : List ℕ). DoesTaskOnEvery (chip_meaning t) (start_of t) part w (steps_of these)) same
-          (law (chip_meaning t) (start_of t) part own these (steps_of these) long (length-target job 0 part ∙ long) done.level planned);
-      rising = subst (λ (w : List ℕ). ComesInOrder (chip_meaning t) (start_of t) part w (steps_of these)) same
-          (order (chip_meaning t) (start_of t) part own these (steps_of these) long (length-target job 0 part ∙ long) done.level planned);
-      told = report_same (3 * programs) (length (steps_of these)) programs (length these) _ _
-          (ap (λ n. 3 * n) done.count ∙ sym (steps_length these)) done.count (ignored_is t len job is);
+      planned = work.planned;
+      task = work.task;
+      rising = work.rising;
+      told = report_same _ _ _ _ _ _ _ _ _ _ _ _ (sym (by_three m (start_of t) refl plain.reached is.accepted.mode))
+          (ap (λ n. 3 * n) done.count ∙ sym (steps_length these)) (sym work.counted.erases) (sym work.counted.erased)
+          (done.count ∙ sym work.counted.programs) (ignored_is t len job is);
     }
 
 work_cause : (t : Task) (len : ℕ) (job : Job) (is : IsJob t len job) (part : List ℕ) (after : Ahead) (why : BuildFault)
     → CutCause job 0 job.meaning.size part after why → WorkCause t job.image is.regions len part after why
 work_cause t len job is part after fault.ContentShort cause = (omega (arith, cause.0, size_is t len job is), cause.1)
-work_cause t len job is part after fault.NotYet cause =
-    (cause.0, cause.1, subst (λ (w : List ℕ). must_rise part w cause.0 ≡ true) (target_is t len job is part) cause.2)
+work_cause t len job is part after fault.NotYet cause = (
+  cause.0,
+  cause.1,
+  due_is_rise (chip_meaning t) refl part (wanted t job.image is.regions part) cause.0
+      ∙ subst (λ (w : List ℕ). must_rise part w cause.0 ≡ true) (target_is t len job is part) cause.2,
+)
 work_cause t len job is part after fault.Read cause = tt
 work_cause t len job is part after fault.Write cause = tt
 work_cause t len job is part after fault.Memory cause = tt

@@ -11,11 +11,13 @@ use Rattle.nor_base.specs.declared.instruction.What.TheVariants as what
 use Rattle.nor_base.specs.Parameters.{Parameters}
 use Rattle.nor_base.specs.Instructions.{Row, row, row_of, sends}
 use Rattle.nor_base.specs.Sample.{is_symbol}
-use Rattle.nor_base.specs.Decoding.{decode, transaction, by_row, has_opcode, is_form, is_data, is_bit_sent, is_idle, is_bit_sampled, is_nibble_sent, is_nibble_sampled, bit, nibble, number, bytes_of_bits}
+use Rattle.nor_base.specs.Decoding.{decode, transaction, by_row, has_opcode, is_form, is_data, is_bit_sent, is_idle, is_bit_sampled, is_nibble_sent, is_nibble_sampled, bit, nibble, number, bytes_of_bits, opcode}
 use Rattle.nor_base.specs.declared.step.Step.TheVariants.{Send, Poll}
 use Rattle.nor_base.specs.Step.{IsStep, is_filled}
 use Rattle.nor_base.specs.Run.{poll_clocks}
-use Rattle.nor_base.specs.Work.{Program, enable, page_program, DoPrograms}
+use Rattle.nor_base.specs.Programs.{Program}
+use Rattle.nor_base.specs.Spelling.{Instr, seen}
+use Rattle.nor_base.specs.Operations.{enable}
 use Rattle.norprog.specs.Clocks.{bits, bits_of, address_bytes, enable_clocks, program_clocks, program_steps, AreBytes, IsSendable}
 
 -- a byte's symbols stand for it
@@ -33,9 +35,13 @@ unfolding bits
 are_symbols byte h = agree_below_at (λ n. list_all is_symbol (bits n)) (λ n. true) 256 byte refl h
 
 -- on every chip, in each mode, these clocks are a write enable
-pub enable_decodes : (m : Parameters) (mode4 : Bool) → decode m mode4 enable_clocks ≡ Some enable
+pub enable_decodes : (m : Parameters) (mode4 : Bool) → decode m mode4 enable_clocks ≡ Some (seen enable)
 unfolding decode transaction by_row has_opcode is_form is_data is_bit_sent is_nibble_sent is_bit_sampled is_nibble_sampled is_idle bit nibble row_of bits enable_clocks
 enable_decodes m mode4 = refl
+
+pub enable_opcode : opcode enable_clocks ≡ 0x06
+unfolding bits bit enable_clocks
+enable_opcode = refl
 
 pub length-bits : (byte : ℕ) → length (bits byte) ≡ 8
 unfolding bits
@@ -147,9 +153,20 @@ program_parts : (p : Program) → program_clocks p ≡ bits 0x02 ++ (bits_of (ad
 unfolding program_clocks
 program_parts p = ap (λ rest. bits 0x02 ++ rest) (bits_of-append (address_bytes p.at) p.bytes)
 
+-- the page program on one lane, with three address bytes
+abbrev pub one_lane : Program → Instr
+one_lane p = record { what = what.Program; op = 0x02; address = p.at; width = 3; dummies = 0; bytes = p.bytes }
+
+begins_program : (rest : List ℕ) → opcode (bits 0x02 ++ rest) ≡ 0x02
+unfolding bits bit
+begins_program rest = refl
+
+pub opcode_of_program : (p : Program) → opcode (program_clocks p) ≡ 0x02
+opcode_of_program p = ap opcode (program_parts p) ∙ begins_program (bits_of (address_bytes p.at) ++ bits_of p.bytes)
+
 -- with three address bytes the clocks of a program are that page program
 pub program_decodes : (m : Parameters) (p : Program) → 0 < length p.bytes → AreBytes p.bytes → p.at < 2 ^ 24
-    → decode m false (program_clocks p) ≡ Some (page_program p)
+    → decode m false (program_clocks p) ≡ Some (seen (one_lane p))
 unfolding decode
 program_decodes m p some small within =
     let address = bits_of (address_bytes p.at) in
@@ -159,19 +176,6 @@ program_decodes m p some small within =
     let at = address_number p.at within in
     let sent = bytes_of_bits_of p.bytes small in
     rw (program_parts p, found, formed, at, sent)
-
--- the steps of programs do them in their order, where the chip takes three address bytes
-pub steps_decode : (m : Parameters) (programs : List Program) → AllByRecursion IsSendable programs → DoPrograms m false programs (flat_map program_steps programs)
-steps_decode m [] each = refl
-steps_decode m (p ∷ programs) each = record {
-  enabling = enable_clocks;
-  programming = program_clocks p;
-  rest = flat_map program_steps programs;
-  spelled = refl;
-  enables = enable_decodes m false;
-  programs = program_decodes m p each.0.filled each.0.bytes each.0.within;
-  then = steps_decode m programs each.1;
-}
 
 -- each of the three may stand in a script
 pub enable_is_step : IsStep (Send enable_clocks)

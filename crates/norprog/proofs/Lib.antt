@@ -6,6 +6,10 @@ pub mod PageLemmas
 pub mod ProgramsLemmas
 pub mod PageParts
 pub mod PagesLaw
+pub mod KeptLemmas
+pub mod NeedLemmas
+pub mod UnitLemmas
+pub mod PlanLemmas
 pub mod RiseLemmas
 pub mod SendLemmas
 pub mod WindowLemmas

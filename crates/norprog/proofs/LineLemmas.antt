@@ -7,7 +7,7 @@ use Rattle.nor_base.specs.declared.step.Step.{Step}
 use Rattle.nor_base.specs.Script.{step_line, step_lines, closed}
 use Rattle.nor_base.proofs.DeviceLaws.{Appends-none}
 use Rattle.norprog.specs.declared.fault.BuildFault.{BuildFault}
-use Rattle.nor_base.specs.Work.{Program}
+use Rattle.nor_base.specs.Programs.{Program}
 use Rattle.norprog.specs.Clocks.{program_steps}
 use Rattle.norprog.specs.Pages.{lines_of}
 use Rattle.nor_base.specs.Device.{Cuts, Writes}

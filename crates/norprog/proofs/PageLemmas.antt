@@ -1,7 +1,7 @@
 -- The program of a page by its first and its last place that differ.
 use Rattle.std.proofs.Common.{◌≡◌, ℕ, ◌+◌, Bool, List, [], ◌∷◌, length, Option, Some, None, refl, sym, ◌∙◌, ap, subst}
 use Rattle.std.specs.Prelude.{slice_range, MatchOption}
-use Rattle.nor_base.specs.Work.{differs}
+use Rattle.nor_base.specs.Need.{differs}
 use Rattle.norprog.specs.Pages.{first_from, last_below, program_between, page_program}
 use Rattle.norprog.proofs.PageSpans.{NonePass, IsFirst, IsLast, first_is, last_is}
 

@@ -2,7 +2,7 @@
 use Rattle.std.proofs.Common.{◌≡◌, ℕ, ◌+◌, ◌-◌, ◌*◌, ◌<◌, ◌≤◌, ◌==◌, not, List, ◌++◌, length, take, drop, slice_index, slice_range, sym, ◌∙◌, ap, arith, length-take, length-drop, get_or-take, get_or-drop, ext_get_or}
 use Rattle.std.proofs.lemmas.List.{drop-append-le, take-append-le}
 use Rattle.std.proofs.Math.Seq.{drop-append-add}
-use Rattle.nor_base.specs.Work.{differs}
+use Rattle.nor_base.specs.Need.{differs}
 use Rattle.norprog.specs.Pages.{page_of}
 
 pub length-page : (number : ℕ) (bytes : List ℕ) → number * 256 + 256 ≤ length bytes → length (page_of number bytes) ≡ 256

@@ -2,8 +2,17 @@
 use Rattle.std.proofs.Common.{◌≡◌, ℕ, zero, suc, ◌+◌, ◌-◌, ◌<◌, ◌≤◌, Bool, true, false, Option, Some, None, sym, ◌∙◌, ap, arith, inl, inr}
 use Rattle.std.specs.Prelude.{MatchOption}
 use Rattle.std.proofs.lemmas.Bool.{cases_lt, cases_Bool, both_ways}
-use Rattle.nor_base.specs.Work.{IsSpan}
 use Rattle.norprog.specs.Pages.{first_from, last_below}
+
+-- of the addresses from `low` up to `high`, those from the first to the last at which a test passes: from `start` up to `end`
+pub record IsSpan (test : ℕ → Bool) (low high start end : ℕ) : Type 0 where
+  pub some : start < end
+  pub from : low ≤ start
+  pub upto : end ≤ high
+  pub first : test start ≡ true
+  pub last : test (end - 1) ≡ true
+  pub before : (a : ℕ) → low ≤ a → a < start → test a ≡ false
+  pub past : (a : ℕ) → end ≤ a → a < high → test a ≡ false
 
 -- from one place on, of n places none passes
 abbrev pub NonePass : (ℕ → Bool) → ℕ → ℕ → Type 0

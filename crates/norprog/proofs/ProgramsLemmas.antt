@@ -3,7 +3,7 @@ use Rattle.std.proofs.Common.{◌≡◌, ℕ, zero, suc, ◌+◌, ◌*◌, ◌�
 use Rattle.std.proofs.lemmas.Grind.{flat_map-append}
 use Rattle.std.specs.Io.KnownBytes.{Appends}
 use Rattle.nor_base.specs.Script.{step_lines}
-use Rattle.nor_base.specs.Work.{Program}
+use Rattle.nor_base.specs.Programs.{Program}
 use Rattle.nor_base.proofs.DeviceLaws.{Appends-append, Cuts-then, Cuts-more}
 use Rattle.norprog.specs.Clocks.{program_steps}
 use Rattle.norprog.specs.Pages.{page_of, page_program, page_programs, steps_of, lines_of}

@@ -2,8 +2,8 @@
 use Rattle.std.proofs.Common.{◌≡◌, ℕ, zero, suc, ◌<◌, Bool, true, false, ◌||◌, List, [], ◌∷◌, length, refl, arith}
 use Rattle.std.specs.Prelude.{zip}
 use Rattle.std.specs.List.{list_any}
-use Rattle.nor_base.specs.Effect.{raises_bit}
-use Rattle.nor_base.specs.Work.{must_rise}
+use Rattle.norprog.specs.Rises.{raises_bit}
+use Rattle.norprog.specs.Rises.{must_rise}
 use Rattle.std.proofs.lemmas.Bool.{or_parts}
 
 abbrev rising : ℕ × ℕ → Bool

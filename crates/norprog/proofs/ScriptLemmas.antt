@@ -5,7 +5,7 @@ use Rattle.std.specs.Io.KnownBytes.{Appends}
 use Rattle.std.proofs.lemmas.List.{take-append-drop, take-append-le}
 use Rattle.std.proofs.Math.Seq.{take-append-add}
 use Rattle.nor_base.specs.Script.{script_text, header, step_lines, end_line}
-use Rattle.nor_base.specs.Work.{Program}
+use Rattle.nor_base.specs.Programs.{Program}
 use Rattle.nor_base.proofs.DeviceLaws.{Appends-append, Appends-none}
 use Rattle.norprog.specs.Build.{IsScriptFront, AppendsFront}
 use Rattle.norprog.specs.Clocks.{IsSendable}

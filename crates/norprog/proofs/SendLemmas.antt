@@ -2,7 +2,7 @@
 use Rattle.std.proofs.Common.{◌≡◌, ℕ, zero, suc, ◌≤◌, ◌+◌, ◌-◌, ◌*◌, ◌^◌, List, [], ◌∷◌, ◌++◌, length, Option, Some, None, refl, sym, ◌∙◌, arith, length-take, length-drop, drop}
 use Rattle.std.specs.Prelude.{slice_range}
 use Rattle.std.specs.List.{AllByRecursion}
-use Rattle.nor_base.specs.Work.{differs}
+use Rattle.nor_base.specs.Need.{differs}
 use Rattle.norprog.specs.Clocks.{AreBytes, IsSendable}
 use Rattle.norprog.specs.Pages.{first_from, last_below, program_between, page_of, page_program, page_programs}
 use Rattle.norprog.proofs.ClockLemmas.{AreBytes-slice_range}

@@ -9,9 +9,9 @@ use Rattle.std.proofs.lemmas.Bool.{cases_lt}
 use Rattle.std.proofs.lemmas.List.{map-append, length-map, get_or-append-add}
 use Rattle.std.proofs.lemmas.List.FromFn.{length-enumerate_from}
 use Rattle.nor_base.specs.Device.{Ahead, Unknown, Finite, Endless, Gives}
-use Rattle.nor_base.specs.Effect.{raises_bit}
+use Rattle.norprog.specs.Rises.{raises_bit}
 use Rattle.nor_base.specs.Target.{target_byte}
-use Rattle.nor_base.specs.Work.{must_rise}
+use Rattle.norprog.specs.Rises.{must_rise}
 use Rattle.nor_base.proofs.DeviceLaws.{Appends-append, Gives-append}
 use Rattle.nor_hex.specs.Image.{byte_at}
 use Rattle.nor_layout.specs.Chosen.{has}

@@ -4,8 +4,8 @@ use Rattle.std.specs.Prelude.{zip}
 use Rattle.std.specs.List.{list_any}
 use Rattle.std.specs.Io.KnownBytes.{Appends}
 use Rattle.nor_base.specs.Device.{Ahead, Gives, Cuts}
-use Rattle.nor_base.specs.Effect.{raises_bit}
-use Rattle.nor_base.specs.Work.{must_rise}
+use Rattle.norprog.specs.Rises.{raises_bit}
+use Rattle.norprog.specs.Rises.{must_rise}
 use Rattle.norprog.specs.declared.fault.BuildFault.{BuildFault}
 use Rattle.norprog.specs.declared.fault.BuildFault.TheVariants as fault
 use Rattle.norprog.specs.declared.job.Job.{Job}

@@ -1,18 +1,21 @@
 -- What a build promises (this project's).
-use Rattle.std.specs.Prelude.{◌≡◌, ◌≢◌, ℕ, Bool, true, false, ◌<◌, ◌≤◌, ⊤, List, [], ◌++◌, length, count_by, Option}
+use Rattle.std.specs.Prelude.{◌≡◌, ◌≢◌, ℕ, Bool, true, false, ◌<◌, ◌≤◌, ⊤, List, [], ◌++◌, length, count_by, sum_by, Option, is_some}
 use Rattle.std.specs.List.{AllByRecursion}
+use Rattle.std.specs.Option.{option_map_or}
 use Rattle.std.specs.Io.KnownBytes.{Appends}
 use Rattle.nor_base.specs.declared.meaning.Start.{Start}
-use Rattle.nor_base.specs.declared.meaning.Strategy.TheVariants.{S2}
 use Rattle.nor_base.specs.declared.step.Step.{Step}
 use Rattle.nor_base.specs.Parameters.{Parameters}
 use Rattle.nor_base.specs.Uniform.{uniform_of}
 use Rattle.nor_base.specs.Device.{Ahead, Gives, IsAtEnd}
 use Rattle.nor_base.specs.Script.{IsScript}
 use Rattle.nor_base.specs.Target.{target, is_ignored}
-use Rattle.nor_base.specs.Chip.{chip_of, ready}
+use Rattle.nor_base.specs.Chip.{Setting, IsChipOf, ready}
 use Rattle.nor_base.specs.Run.{DoesTaskOnEvery, trail}
-use Rattle.nor_base.specs.Work.{IsInTheMaking, Program, must_rise, ArePlanned}
+use Rattle.nor_base.specs.Strategies.{strategy}
+use Rattle.nor_base.specs.Need.{is_due}
+use Rattle.nor_base.specs.Units.{WorkUnit}
+use Rattle.nor_base.specs.Planned.{ArePlanned, planned_units, IsInTheMaking}
 use Rattle.nor_hex.specs.Image.{Pairs, byte_at}
 use Rattle.nor_layout.specs.Region.{Region}
 use Rattle.nor_layout.specs.Chosen.{is_chosen}
@@ -32,25 +35,24 @@ start_of t = record { mode4 = t.mode4; quad = t.quad }
 abbrev pub wanted : Task → Pairs → List Region → List ℕ → List ℕ
 wanted t image regions content = target (byte_at image) t.base (is_chosen regions t.regions) content
 
--- the report of so many steps and programs; what of the image is ignored
-abbrev pub report_of : Task → Pairs → List Region → List Step → List Program → Report
-report_of t image regions steps programs = record {
-  strategy = S2;
+-- the report of the units of the work and of its steps; what of the image is ignored
+abbrev pub report_of : Task → Pairs → List Region → List WorkUnit → List Step → Report
+report_of t image regions us steps = record {
+  strategy = strategy (chip_meaning t) (start_of t);
   steps = length steps;
-  erases = 0;
-  erased = 0;
-  programs = length programs;
+  erases = count_by (λ u. is_some u.erase) us;
+  erased = sum_by (λ u. option_map_or (λ block. block.size) u.erase 0) us;
+  programs = sum_by (λ u. length u.programs) us;
   ignored = count_by (λ pair. is_ignored t.base (is_chosen regions t.regions) (uniform_size t.chip) pair.0) image;
 }
 
--- after each transaction of the steps, on every chip of a meaning and start, all below one address is the target and all
--- from it on is as before
+-- after each transaction of the steps, on every chip of a meaning and start, at most one unit of the work is in the making
 abbrev pub ComesInOrder : Parameters → Start → List ℕ → List ℕ → List Step → Type 0
-ComesInOrder m start content goal steps = (busy : List ℕ) (keeps : Bool)
-    → AllByRecursion (λ chip. IsInTheMaking content goal chip.array) (trail (chip_of m start busy keeps) (ready (chip_of m start busy keeps) content) steps)
+ComesInOrder m start content goal steps = (s : Setting) → IsChipOf m start s
+    → AllByRecursion (λ chip. IsInTheMaking (planned_units m start content goal) content goal chip.array) (trail s (ready s content) steps)
 
--- the inputs are accepted, the reader gave the whole content, no bit of it must rise, and what was appended is the text of
--- the steps that are the planned work; on every chip of the inputs with that content they do the task
+-- the inputs are accepted, the reader gave the whole content, no byte of it is due, and what was appended is the text of
+-- the steps of the planned work; on every chip of the inputs with that content they do the task
 pub record IsBuilt (t : Task) (len : ℕ) (before after : Ahead) (held_before held_after : Option (List ℕ)) (report : Report) : Type 0 where
   pub image : Pairs
   pub regions : List Region
@@ -58,22 +60,21 @@ pub record IsBuilt (t : Task) (len : ℕ) (before after : Ahead) (held_before he
   pub content : List ℕ
   pub whole : length content ≡ len
   pub given : Gives before content after
-  pub level : (a : ℕ) → must_rise content (wanted t image regions content) a ≡ false
+  pub level : (a : ℕ) → is_due (chip_meaning t) content (wanted t image regions content) a ≡ false
   pub text : List ℕ
   pub put : Appends held_before held_after text
   pub steps : List Step
   pub script : IsScript text steps
-  pub programs : List Program
-  pub planned : ArePlanned (chip_meaning t) (start_of t) content (wanted t image regions content) programs steps
+  pub planned : ArePlanned (chip_meaning t) (start_of t) t.verify content (wanted t image regions content) steps
   pub task : DoesTaskOnEvery (chip_meaning t) (start_of t) content (wanted t image regions content) steps
   pub rising : ComesInOrder (chip_meaning t) (start_of t) content (wanted t image regions content) steps
-  pub told : report ≡ report_of t image regions steps programs
+  pub told : report ≡ report_of t image regions (planned_units (chip_meaning t) (start_of t) content (wanted t image regions content)) steps
 
--- why the work on accepted inputs ended early: the reader ended before the content did, a bit of a byte that was read must
--- rise, a device failed (its count tells it), or a growth was refused
+-- why the work on accepted inputs ended early: the reader ended before the content did, a byte that was read is due, a
+-- device failed (its count tells it), or a growth was refused
 abbrev pub WorkCause : Task → Pairs → List Region → ℕ → List ℕ → Ahead → BuildFault → Type 0
 WorkCause t image regions len part after fault.ContentShort = (length part < len) × IsAtEnd after
-WorkCause t image regions len part after fault.NotYet = (a : ℕ) × (a < length part) × (must_rise part (wanted t image regions part) a ≡ true)
+WorkCause t image regions len part after fault.NotYet = (a : ℕ) × (a < length part) × (is_due (chip_meaning t) part (wanted t image regions part) a ≡ true)
 WorkCause t image regions len part after fault.Read = ⊤
 WorkCause t image regions len part after fault.Write = ⊤
 WorkCause t image regions len part after fault.Memory = ⊤

@@ -4,7 +4,7 @@ use Rattle.std.specs.Prelude.{ℕ, ◌+◌, ◌/◌, ◌%◌, ◌^◌, ◌<◌, 
 use Rattle.nor_base.specs.declared.step.Step.{Step}
 use Rattle.nor_base.specs.declared.step.Step.TheVariants.{Send, Poll}
 use Rattle.nor_base.specs.Run.{poll_clocks}
-use Rattle.nor_base.specs.Work.{Program}
+use Rattle.nor_base.specs.Programs.{Program}
 
 -- the symbol of bit k of a byte: `0` or `1`
 abbrev pub bit_symbol : ℕ → ℕ → ℕ

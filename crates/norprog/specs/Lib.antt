@@ -2,6 +2,7 @@ pub mod Task
 pub mod Lifted
 pub mod Clocks
 pub mod Pages
+pub mod Rises
 pub mod Written
 pub mod Causes
 pub mod Windows

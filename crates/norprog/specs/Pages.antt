@@ -2,7 +2,8 @@
 use Rattle.std.specs.Prelude.{ℕ, zero, suc, Bool, ◌+◌, ◌*◌, if◌then◌else◌, List, [], ◌∷◌, ◌++◌, length, flat_map, Option, Some, None, slice_range}
 use Rattle.nor_base.specs.declared.step.Step.{Step}
 use Rattle.nor_base.specs.Script.{step_lines}
-use Rattle.nor_base.specs.Work.{Program, differs}
+use Rattle.nor_base.specs.Need.{differs}
+use Rattle.nor_base.specs.Programs.{Program}
 use Rattle.norprog.specs.Clocks.{program_steps}
 
 -- the first of n places from one on at which a test passes

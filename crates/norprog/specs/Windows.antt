@@ -6,7 +6,8 @@ use Rattle.nor_base.specs.Device.{Ahead, Gives, IsAtEnd}
 use Rattle.nor_base.specs.Target.{target_byte, is_ignored}
 use Rattle.nor_base.specs.declared.meaning.Strategy.TheVariants.{S2}
 use Rattle.norprog.specs.declared.report.Report.{Report}
-use Rattle.nor_base.specs.Work.{Program, must_rise}
+use Rattle.nor_base.specs.Programs.{Program}
+use Rattle.norprog.specs.Rises.{must_rise}
 use Rattle.nor_hex.specs.Image.{byte_at}
 use Rattle.nor_layout.specs.Chosen.{has}
 use Rattle.norprog.specs.declared.fault.BuildFault.{BuildFault}

@@ -15,9 +15,9 @@ use crate::job::{Job, job_of};
 use crate::report::Report;
 use crate::windows::write_chip;
 use nor_base::{ByteIn, ByteOut, Strategy};
-use nor_laws::planned_work;
 use nor_script::{begin, finish};
 use nor_target::ignored;
+use nor_work::planned_work;
 use std::alloc::Global;
 
 /// Writes the script that programs a chip: run on any idle, unprotected chip of the inputs with the content that the
@@ -59,6 +59,7 @@ pub fn build<R: ByteIn, W: ByteOut>(
 {
     let job = job_of(alloc, inputs, len)?;
     planned_work();
+    job.meaning.is_accepted();
     let programs = write_script(alloc, &job, content, out)?;
     Ok(report_of(&job, programs))
 }

@@ -3,7 +3,8 @@
 ghost use Rattle.std.specs.Prelude.{◌≡◌, ◌<◌, ◌≤◌, ◌+◌, ◌-◌, ◌*◌, ◌%◌, ◌^◌, ◌/◌, true, length, IfOk, IfErr, IfSome, [], ◌∷◌};
 ghost use Rattle.nor_base.specs.Step.{is_step};
 ghost use Rattle.nor_base.specs.Script.{step_line, closed, step_lines};
-ghost use Rattle.nor_base.specs.Work.{differs, Program};
+ghost use Rattle.nor_base.specs.Need.{differs};
+ghost use Rattle.nor_base.specs.Programs.{Program};
 ghost use Rattle.nor_base.specs.Run.{poll_clocks};
 ghost use Rattle.nor_base.specs.declared.step.Step.TheVariants.{Send, Poll};
 ghost use Rattle.norprog.specs.Clocks.{program_steps, enable_clocks, program_clocks, AreBytes};

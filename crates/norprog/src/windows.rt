@@ -3,7 +3,7 @@
 ghost use Rattle.std.specs.Prelude.{◌≡◌, ◌<◌, ◌≤◌, ◌+◌, ◌-◌, ◌^◌, true, length, map, zip, IfOk, IfErr, OnOk, ℕ};
 ghost use Rattle.std.specs.List.{list_any, enumerate_from};
 ghost use Rattle.nor_base.specs.Device.{Gives, IsAtEnd};
-ghost use Rattle.nor_base.specs.Effect.{raises_bit};
+ghost use Rattle.norprog.specs.Rises.{raises_bit};
 ghost use Rattle.nor_base.specs.Uniform.{IsUniformSize};
 ghost use Rattle.norprog.specs.Windows.{target_from, IsDone, IsCut, FillsWindow};
 ghost use Rattle.norprog.specs.Written.{CountsReader, CountsWriter};

@@ -1,5 +1,5 @@
 -- What a program puts, and that it stays within its page.
-use Rattle.nor_laws.proofs.ProgramLaws.{program_puts_byte, raised_for_byte}
+use Rattle.nor_laws.proofs.ProgramLaws.{program_puts_byte, raised_for_byte, not_erased_for_byte}
 use Rattle.nor_laws.proofs.EffectLaws.{program_keeps_others, program_judged_by_page}
 use Rattle.nor_laws.proofs.programs.Goals as goal
 
@@ -14,3 +14,6 @@ returns-clause-keeps c = program_keeps_others
 
 pub returns-clause-judged : goal.returns-clause-judged
 returns-clause-judged c = program_judged_by_page
+
+pub returns-clause-not_erased : goal.returns-clause-not_erased
+returns-clause-not_erased c = not_erased_for_byte

@@ -14,7 +14,7 @@ returns-clause-built g c =
     subst (IsBuilt c.args.inputs.now c.args.len (g.R.ByteIn.ahead c.args.content.now) (g.R.ByteIn.ahead c.write_script.new.content)
     (g.W.ByteOut.held c.args.out.now) (g.W.ByteOut.held c.write_script.new.out))
     (sym c.report_of.ensures)
-    (built_is c.args.inputs.now c.args.len c.in_ok-job.job _ _ _ _ c.in_ok-programs.programs c.planned_work.ensures.done c.planned_work.ensures.rising c.in_ok-job.ensures.job c.in_ok-programs.ensures.done)
+    (built_is c.args.inputs.now c.args.len c.in_ok-job.job _ _ _ _ c.in_ok-programs.programs c.planned_work.ensures.done c.planned_work.ensures.making c.is_accepted.ensures c.in_ok-job.ensures.job c.in_ok-programs.ensures.done)
 
 pub returns-in_err-programs-clause-refused : goal.returns-in_err-programs-clause-refused
 returns-in_err-programs-clause-refused g c =

@@ -1,5 +1,5 @@
 use Rattle.std.proofs.Common.{◌≡◌, ◌-◌, ◌+◌, true, false, length, ◌∙◌, sym, arith}
-use Rattle.nor_base.specs.Work.{differs}
+use Rattle.nor_base.specs.Need.{differs}
 use Rattle.norprog.proofs.SpanLemmas.{first_here, first_past, none_left, unlike, alike}
 use Rattle.norprog.proofs.pages.first_difference.Goals as goal
 

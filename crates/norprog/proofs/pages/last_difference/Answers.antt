@@ -1,5 +1,5 @@
 use Rattle.std.proofs.Common.{◌≡◌, ◌-◌, true, false, ◌∙◌, sym, ap, arith}
-use Rattle.nor_base.specs.Work.{differs}
+use Rattle.nor_base.specs.Need.{differs}
 use Rattle.norprog.specs.Pages.{last_below}
 use Rattle.norprog.proofs.SpanLemmas.{last_here, last_before, unlike, alike}
 use Rattle.norprog.proofs.pages.last_difference.Goals as goal

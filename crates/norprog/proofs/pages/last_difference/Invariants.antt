@@ -1,5 +1,5 @@
 use Rattle.std.proofs.Common.{◌≡◌, ◌≤◌, length}
-use Rattle.nor_base.specs.Work.{differs}
+use Rattle.nor_base.specs.Need.{differs}
 use Rattle.norprog.specs.Pages.{last_below}
 use Rattle.norprog.proofs.pages.last_difference.Given as goal
 

@@ -1,6 +1,7 @@
 use Rattle.std.proofs.Common.{rules, ◌≤◌, List, length, sym, subst, ap, ◌∙◌, arith}
 use Rattle.std.specs.Io.KnownBytes.{Appends}
-use Rattle.nor_base.specs.Work.{Program, differs}
+use Rattle.nor_base.specs.Need.{differs}
+use Rattle.nor_base.specs.Programs.{Program}
 use Rattle.norprog.specs.Pages.{lines_of}
 use Rattle.nor_base.specs.Device.{Cuts}
 use Rattle.norprog.proofs.PageLemmas.{is_first, is_last, no_first, no_last, one_program}

@@ -1,7 +1,7 @@
 use Rattle.std.proofs.Common.{[], ◌∷◌, sym, subst}
 use Rattle.nor_base.specs.Script.{step_lines}
 use Rattle.nor_base.specs.Run.{poll_clocks}
-use Rattle.nor_base.specs.Work.{Program}
+use Rattle.nor_base.specs.Programs.{Program}
 use Rattle.nor_base.specs.declared.step.Step.TheVariants.{Send, Poll}
 use Rattle.norprog.specs.Clocks.{enable_clocks, program_clocks}
 use Rattle.nor_base.specs.Device.{Cuts, Writes}

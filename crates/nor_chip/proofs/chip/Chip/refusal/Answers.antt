@@ -5,8 +5,8 @@ use Rattle.nor_chip.specs.Sent.{instruction_of}
 use Rattle.nor_chip.proofs.RangeLemmas.{program_in_range}
 use Rattle.nor_chip.proofs.chip.Chip.refusal.Goals as goal
 
-pub raises-requires-clause-inside : goal.raises-requires-clause-inside
-raises-requires-clause-inside c =
+pub is_barred-requires-clause-inside : goal.is_barred-requires-clause-inside
+is_barred-requires-clause-inside c =
     let whole : length c.self.inside.array.items ≡ length c.args.self.now.chip.array = ap (λ (v : Shown). length v.chip.array) c.self.view_is in
     let fits = program_in_range c.self.inside.meaning.now (instruction_of c.args.seen.now)
     (sym c.is_program.ensures ∙ c.if-is_program.true) (sym c.is_out_of_range.ensures ∙ c.if-is_out_of_range.false) in

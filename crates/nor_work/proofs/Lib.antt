@@ -1,0 +1,17 @@
+mod Steps
+mod Taken
+mod Laid
+mod Reading
+mod Ops
+mod Lowered
+mod Ranges
+mod Made
+mod Pages
+mod Walk
+mod Best
+mod Erasing
+mod Reached
+mod Wider
+mod Whole
+mod Needed
+mod Least

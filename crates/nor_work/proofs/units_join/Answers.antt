@@ -1,0 +1,6 @@
+-- Stretches side by side.
+use Rattle.nor_work.proofs.Needed.{units_join}
+use Rattle.nor_work.proofs.units_join.Goals as goal
+
+pub returns : goal.returns
+returns c = units_join

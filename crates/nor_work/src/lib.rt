@@ -1,0 +1,31 @@
+//! The law behind the whole project: planned work does the task on every chip, and no script erases less. Each function
+//! does nothing: its contract is the law, and the gate proves it.
+#![tactic(auto)]
+
+ghost use Rattle.nor_work.specs.Laws.{PlannedDoesTask, OneUnitInTheMaking};
+ghost use Rattle.nor_work.specs.Least.{ErasesNeeded, ErasesBlocks, ErasesApart, ErasesLargest, UnitsJoin, NoScriptErasesLess};
+
+/// Planned work does the task on every chip, and after each of its transactions at most one unit is in the making.
+pub fn planned_work()
+    ensures done { PlannedDoesTask }
+    ensures making { OneUnitInTheMaking }
+{}
+
+/// An address is erased exactly where it is needed. The erased blocks are legal and reached, two of them are apart or one,
+/// and each legal block that the strategy reaches inside the needed area lies in one of them.
+pub fn erased_blocks()
+    ensures needed { ErasesNeeded }
+    ensures blocks { ErasesBlocks }
+    ensures apart { ErasesApart }
+    ensures largest { ErasesLargest }
+{}
+
+/// The units of two stretches of pages side by side are those of the whole stretch.
+pub fn units_join()
+    ensures { UnitsJoin }
+{}
+
+/// No script erases less: whatever does the task, on any chip, erases each needed address.
+pub fn least_erasure()
+    ensures { NoScriptErasesLess }
+{}
