@@ -142,6 +142,8 @@ fn names_each_refusal(rt: HostRuntime) -> Result<(), Fail> {
     write_job(&rt)?;
     write_zeros(&rt)?;
     write_faulty(&rt)?;
+    // another test may have left one
+    let _ = fs::remove_file(&rt, "job");
     for changes in USAGES {
         refuses(&rt, changes, "usage", 2)?;
     }
