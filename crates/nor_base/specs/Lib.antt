@@ -20,6 +20,7 @@ pub mod Programs
 pub mod Units
 pub mod Spelling
 pub mod Operations
+pub mod Clocks
 pub mod Planned
 pub mod Events
 pub mod Port

@@ -1,0 +1,4 @@
+pub mod Bits
+pub mod Spelled
+pub mod Symbols
+pub mod Single
