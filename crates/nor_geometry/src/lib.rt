@@ -9,6 +9,10 @@
 ghost use Rattle.std.specs.Prelude.{◌≡◌, ◌≤◌, length};
 ghost use Rattle.nor_base.specs.Blocks.{is_legal, lies_in_one};
 
+mod block;
+
+pub use block::Block;
+
 use nor_base::{Meaning, Region};
 
 /// Whether a legal block of the erase kind starts at the address (bytes from 0 on).

@@ -1,0 +1,3 @@
+pub mod Coded
+pub mod View
+pub mod Streamed

@@ -1,0 +1,27 @@
+-- An `Op` and an `Instr` as the definitions see them.
+use Rattle.std.specs.Prelude.{[], ◌∷◌}
+use Rattle.nor_base.specs.Operations.{Op, erases, writes, reads}
+use Rattle.nor_select.specs.declared.op.Op.{Op as DeclaredOp}
+use Rattle.nor_select.specs.declared.op.Op.TheVariants.{Erase, Program, Read}
+use Rattle.nor_select.specs.declared.instr.Body.{Body}
+use Rattle.nor_select.specs.declared.instr.Body.TheVariants.{Plain, Poll, Write1, Write4, Read1, Read4}
+use Rattle.nor_select.specs.declared.instr.Instr.{Instr}
+use Rattle.nor_select.specs.Coded.{Load, plain, polled, sent, sent4, asked, asked4, Coded}
+
+-- the operation that is meant
+abbrev pub op_of : DeclaredOp → Op
+op_of (Erase block) = erases block
+op_of (Program at bytes) = writes (record { at = at; bytes = bytes.now })
+op_of (Read at bytes) = reads (record { at = at; bytes = bytes.now })
+
+-- a poll waits for a status of 00h: idle, and the latch clear
+abbrev pub load_in : Body → Load
+load_in Plain = plain
+load_in Poll = polled (0 ∷ [])
+load_in (Write1 bytes) = sent bytes.now
+load_in (Write4 bytes) = sent4 bytes.now
+load_in (Read1 bytes) = asked bytes.now
+load_in (Read4 bytes) = asked4 bytes.now
+
+abbrev pub coded_of : Instr → Coded
+coded_of i = record { op = i.op; address = i.address; width = i.width; dummies = i.dummies; load = load_in i.body }

@@ -1,0 +1,171 @@
+//! The instruction that does an operation.
+
+ghost use Rattle.std.specs.Prelude.{◌≡◌, if◌then◌else◌, ◌++◌, [], ◌∷◌, map, IfOk};
+ghost use Rattle.nor_base.specs.Instructions.{quad_read_dummies};
+ghost use Rattle.nor_base.specs.Operations.{takes_dedicated, legacy_width, enable, poll, erasing, programming, reading, instructions};
+ghost use Rattle.nor_select.specs.Coded.{coded};
+ghost use Rattle.nor_select.specs.View.{op_of, load_in, coded_of};
+
+use crate::instr::{Body, Instr};
+use crate::op::Op;
+use nor_base::{Meaning, Start, Strategy};
+use nor_geometry::Block;
+use std::alloc::{AllocError, Allocator};
+
+/// The write enable.
+pub(crate) const ENABLE: u8 = 0x06;
+
+/// The write disable.
+pub(crate) const DISABLE: u8 = 0x04;
+
+/// Appends the instructions that do an operation.
+///
+/// `AllocError` where a growth of memory is refused.
+pub(crate) fn append_op<'a, A: Allocator>(
+    instrs: &mut Vec<Instr<'a>, A>,
+    op: &Op<'a>,
+    meaning: &Meaning,
+    start: &Start,
+    strategy: Strategy,
+) -> Result<(), AllocError>
+    ensures { IfOk result (λ _. map coded_of instrs.new.items ≡ map coded_of instrs.old.items ++ map coded (instructions meaning.now start.now strategy (op_of op.now))) }
+{
+    match *op {
+        Op::Erase(block) => append_change(instrs, erasing(meaning, strategy, block)),
+        Op::Program { at, bytes } => append_change(instrs, programming(meaning, start, strategy, at, bytes)),
+        Op::Read { at, bytes } => {
+            instrs.push(reading(meaning, start, strategy, at, bytes))?;
+            Ok(())
+        }
+    }
+}
+
+/// Appends an instruction that changes the array: it comes after the write enable, and is waited for.
+fn append_change<'a, A: Allocator>(
+    instrs: &mut Vec<Instr<'a>, A>,
+    change: Instr<'a>,
+) -> Result<(), AllocError>
+    ensures { IfOk result (λ _. map coded_of instrs.new.items ≡ map coded_of instrs.old.items ++ (coded enable ∷ coded_of change.entry ∷ coded poll ∷ [])) }
+{
+    instrs.push(Instr::bare(ENABLE))?;
+    instrs.push(change)?;
+    instrs.push(poll())?;
+    Ok(())
+}
+
+/// A poll until the chip is idle.
+fn poll<'a>() -> Instr<'a>
+    ensures { coded_of result ≡ coded poll }
+{
+    Instr {
+        op: 0x05,
+        address: 0,
+        width: 0,
+        dummies: 0,
+        body: Body::Poll,
+    }
+}
+
+/// An erase of a block, by its kind's legacy opcode or its dedicated one.
+fn erasing<'a>(meaning: &Meaning, strategy: Strategy, block: Block) -> Instr<'a>
+    ensures { coded_of result ≡ coded (erasing meaning.now strategy block) }
+{
+    let (op, op4) = match meaning.erase_kind(block.kind) {
+        Some(erase) => (erase.op, erase.op4.unwrap_or(0)),
+        None => (0, 0),
+    };
+    at_address(strategy, op, op4, 0, block.start, Body::Plain)
+}
+
+/// A program of bytes, on four lanes where chip, setting and strategy allow it.
+fn programming<'a>(
+    meaning: &Meaning,
+    start: &Start,
+    strategy: Strategy,
+    at: u32,
+    bytes: &'a [u8],
+) -> Instr<'a>
+    ensures { coded_of result ≡ coded (programming meaning.now start.now strategy (record { at = at; bytes = bytes.now })) }
+{
+    if start.quad && meaning.quad4 {
+        return with_four(0x34, 0, at, Body::Write4(bytes));
+    }
+    if start.quad && meaning.quad3 && !takes_dedicated(strategy, at) {
+        return at_address(strategy, 0x32, 0x34, 0, at, Body::Write4(bytes));
+    }
+    at_address(strategy, 0x02, 0x12, 0, at, Body::Write1(bytes))
+}
+
+/// A read of as many bytes, on four lanes where chip, setting and strategy allow it.
+fn reading<'a>(
+    meaning: &Meaning,
+    start: &Start,
+    strategy: Strategy,
+    at: u32,
+    bytes: &'a [u8],
+) -> Instr<'a>
+    ensures { coded_of result ≡ coded (reading meaning.now start.now strategy (record { at = at; bytes = bytes.now })) }
+{
+    if let (true, Some(quad)) = (start.quad, meaning.quad_read) {
+        if meaning.quad_read4 {
+            return with_four(0x6C, quad.dummies, at, Body::Read4(bytes));
+        }
+        if !takes_dedicated(strategy, at) {
+            return at_address(strategy, quad.op, 0x6C, quad.dummies, at, Body::Read4(bytes));
+        }
+    }
+    at_address(strategy, 0x03, 0x13, 0, at, Body::Read1(bytes))
+}
+
+/// An instruction with four address bytes in each mode.
+fn with_four<'a>(op: u8, dummies: u8, address: u32, body: Body<'a>) -> Instr<'a>
+    ensures { coded_of result ≡ record { op = op; address = address; width = 4; dummies = dummies; load = load_in body.entry } }
+{
+    Instr {
+        op,
+        address,
+        width: 4,
+        dummies,
+        body,
+    }
+}
+
+/// An instruction at an address, by its dedicated opcode or by its legacy one.
+fn at_address<'a>(
+    strategy: Strategy,
+    op: u8,
+    op4: u8,
+    dummies: u8,
+    address: u32,
+    body: Body<'a>,
+) -> Instr<'a>
+    ensures { coded_of result ≡ record { op = if takes_dedicated strategy address then op4 else op; address = address; width = if takes_dedicated strategy address then 4 else legacy_width strategy; dummies = dummies; load = load_in body.entry } }
+{
+    if takes_dedicated(strategy, address) {
+        return with_four(op4, dummies, address, body);
+    }
+    Instr {
+        op,
+        address,
+        width: legacy_width(strategy),
+        dummies,
+        body,
+    }
+}
+
+/// The address bytes of legacy opcodes.
+fn legacy_width(strategy: Strategy) -> u8
+    ensures { result ≡ legacy_width strategy }
+{
+    match strategy {
+        Strategy::S1 | Strategy::S4 => 4,
+        Strategy::S2 | Strategy::S3 | Strategy::S5 => 3,
+    }
+}
+
+/// Whether an address takes an opcode that has four address bytes in each mode.
+fn takes_dedicated(strategy: Strategy, address: u32) -> bool
+    ensures { result ≡ takes_dedicated strategy address }
+{
+    strategy == Strategy::S3 && address >= 0x100_0000
+}
