@@ -1,0 +1,4 @@
+mod LaneLemmas
+mod ChunkLemmas
+mod SpellLemmas
+mod HeadLemmas

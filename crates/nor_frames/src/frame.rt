@@ -1,0 +1,101 @@
+//! The clocks of an instruction.
+
+ghost use Rattle.std.specs.Prelude.{◌≡◌, ◌≤◌, ◌++◌, length, flat_map, replicate, IfOk, IfErr, IfSome};
+ghost use Rattle.nor_base.specs.Clocks.{bits};
+ghost use Rattle.nor_select.specs.View.{coded_of, load_in};
+ghost use Rattle.nor_frames.specs.Frames.{load_clocks, load_len, head_of, frame, SpellsCoded};
+
+use crate::fault::FramesFault;
+use crate::spread::{spread1, spread4};
+use arrayvec::ArrayVec;
+use nor_select::{Body, Instr};
+use nor_spelling::spelling;
+use std::alloc::{AllocError, Allocator};
+
+/// The opcode of an instruction and its address bytes, the highest first. It has at most four of them.
+pub fn head(instr: &Instr<'_>) -> ArrayVec<u8, 5>
+    requires { instr.now.width ≤ 4 }
+    ensures { result.items ≡ head_of (coded_of instr.now) }
+{
+    let mut bytes = ArrayVec::new();
+    bytes.push(instr.op);
+    let address = instr.address.to_be_bytes();
+    for byte in &address[4 - usize::from(instr.width)..] {
+        bytes.push(*byte);
+    }
+    bytes
+}
+
+/// Appends the clocks of an instruction: opcode, address, dummies, data. It has at most four address bytes.
+///
+/// `Memory` where the growth is refused; the vector is as it was then.
+pub fn clocks_into(instr: &Instr<'_>, clocks: &mut Vec<u8>) -> Result<(), FramesFault>
+    requires { instr.now.width ≤ 4 }
+    ensures clocks { IfOk result (λ _. clocks.new.items ≡ clocks.old.items ++ frame (coded_of instr.now)) }
+    ensures stays { IfErr result (λ _. clocks.new.items ≡ clocks.old.items) }
+    ensures spells { SpellsCoded (coded_of instr.now) }
+{
+    spelling();
+    append_instr(instr, clocks).map_err(FramesFault::from)
+}
+
+fn append_instr<A: Allocator>(instr: &Instr<'_>, clocks: &mut Vec<u8, A>) -> Result<(), AllocError>
+    requires { instr.now.width ≤ 4 }
+    ensures clocks { IfOk result (λ _. clocks.new.items ≡ clocks.old.items ++ frame (coded_of instr.now)) }
+    ensures stays { IfErr result (λ _. clocks.new.items ≡ clocks.old.items) }
+{
+    let head = head(instr);
+    append(head.as_slice(), usize::from(instr.dummies), &instr.body, clocks)
+}
+
+/// Appends the clocks of bytes on one lane, of dummies and of data. It asks for their memory at once.
+fn append<A: Allocator>(
+    head: &[u8],
+    dummies: usize,
+    body: &Body<'_>,
+    clocks: &mut Vec<u8, A>,
+) -> Result<(), AllocError>
+    ensures clocks { IfOk result (λ _. clocks.new.items ≡ clocks.old.items ++ (flat_map bits head.now ++ (replicate dummies 0x2D ++ load_clocks (load_in body.now)))) }
+    ensures stays { IfErr result (λ _. clocks.new.items ≡ clocks.old.items) }
+{
+    let start = clocks.len();
+    let lead = head.len().checked_mul(8).ok_or(AllocError)?;
+    let load = body_len(body).ok_or(AllocError)?;
+    let fixed = lead.checked_add(dummies).ok_or(AllocError)?;
+    let more = fixed.checked_add(load).ok_or(AllocError)?;
+    let end = start.checked_add(more).ok_or(AllocError)?;
+    clocks.resize(end, b'-')?;
+    let (_before, after) = clocks.split_at_mut(start);
+    let (front, rest) = after.split_at_mut(lead);
+    let (middle, last) = rest.split_at_mut(dummies);
+    spread1(head, front);
+    middle.fill(b'-');
+    lay_body(body, last);
+    Ok(())
+}
+
+/// How many clocks the data takes; `None` where they are more than a block of memory can have.
+fn body_len(body: &Body<'_>) -> Option<usize>
+    ensures { IfSome result (λ len. len ≡ load_len (load_in body.now)) }
+{
+    match body {
+        Body::Plain => Some(0),
+        Body::Poll => Some(8),
+        Body::Write1(bytes) | Body::Read1(bytes) => bytes.len().checked_mul(8),
+        Body::Write4(bytes) | Body::Read4(bytes) => bytes.len().checked_mul(2),
+    }
+}
+
+/// Writes the clocks of the data.
+fn lay_body(body: &Body<'_>, clocks: &mut [u8])
+    requires { length clocks.old ≡ load_len (load_in body.now) }
+    ensures { clocks.new ≡ load_clocks (load_in body.now) }
+{
+    match body {
+        Body::Plain => {}
+        Body::Poll | Body::Read1(_) => clocks.fill(b'.'),
+        Body::Read4(_) => clocks.fill(b'='),
+        Body::Write1(bytes) => spread1(bytes, clocks),
+        Body::Write4(bytes) => spread4(bytes, clocks),
+    }
+}
