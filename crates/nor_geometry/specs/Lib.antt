@@ -1,1 +1,4 @@
 pub mod View
+pub mod Legal
+pub mod Takes
+pub mod Window

@@ -1,6 +1,6 @@
 use Rattle.std.proofs.Common.{◌≡◌, ◌*◌, ◌≤◌, ◌^◌, drop}
 use Rattle.nor_base.specs.Blocks.{lies_in_one}
-use Rattle.nor_geometry.proofs.lies_in_one.Given as goal
+use Rattle.nor_geometry.proofs.blocks.lies_in_one.Given as goal
 
 -- no region so far holds the block: it lies in one of the rest, the first of which begins at the base
 abbrev pub invariant-loop-region : goal.invariant-loop-region

@@ -1,0 +1,4 @@
+pub mod KindLemmas
+pub mod PlaceLemmas
+pub mod ListLemmas
+pub mod WindowLemmas
