@@ -1,5 +1,5 @@
 -- The last bytes of an address, the highest first.
-use Rattle.std.proofs.Common.{◌≡◌, ℕ, zero, suc, ◌-◌, ◌/◌, ◌≤◌, List, [], ◌∷◌, length, take, drop, refl, ◌∙◌, ap, arith}
+use Rattle.std.proofs.Common.{◌≡◌, ℕ, zero, suc, ◌-◌, ◌/◌, ◌≤◌, List, ◌∷◌, length, take, drop, refl, ◌∙◌, ap, arith}
 use Rattle.std.specs.Int.{bytes_high_first}
 use Rattle.std.proofs.lemmas.List.{take_all}
 use Rattle.nor_base.specs.Clocks.{address_bytes}

@@ -1,5 +1,5 @@
 -- The lanes of the kernels are the symbols of their bytes.
-use Rattle.std.proofs.Common.{◌≡◌, ℕ, zero, suc, ◌+◌, ◌*◌, ◌/◌, ◌%◌, ◌<◌, ◌==◌, true, List, [], ◌∷◌, ◌++◌, length, drop, refl, sym, ◌∙◌, ap, arith, eqb-true, slice_index_or, bit_and}
+use Rattle.std.proofs.Common.{◌≡◌, ℕ, zero, suc, ◌+◌, ◌/◌, ◌%◌, ◌<◌, ◌==◌, true, List, [], ◌∷◌, ◌++◌, length, drop, refl, sym, ◌∙◌, ap, arith, eqb-true, slice_index_or, bit_and}
 use Rattle.std.specs.Prelude.{flat_map}
 use Rattle.std.proofs.Math.Seq.{drop-cons}
 use Rattle.std.proofs.Math.ListN.{drop_of_length-le}
@@ -29,8 +29,16 @@ nibble_lanes x = nibble_lane (x / 16) ∷ nibble_lane (x / 1) ∷ []
 bit_lanes_are : (x : ℕ) → x < 256 → bit_lanes x ≡ bits x
 unfolding bits
 bit_lanes_are x h =
-    rw (bit_lane_is (x / 128) (omega arith), bit_lane_is (x / 64) (omega arith), bit_lane_is (x / 32) (omega arith), bit_lane_is (x / 16) (omega arith),
-    bit_lane_is (x / 8) (omega arith), bit_lane_is (x / 4) (omega arith), bit_lane_is (x / 2) (omega arith), bit_lane_is (x / 1) (omega arith)) refl
+    rw (
+      bit_lane_is (x / 128) (omega arith),
+      bit_lane_is (x / 64) (omega arith),
+      bit_lane_is (x / 32) (omega arith),
+      bit_lane_is (x / 16) (omega arith),
+      bit_lane_is (x / 8) (omega arith),
+      bit_lane_is (x / 4) (omega arith),
+      bit_lane_is (x / 2) (omega arith),
+      bit_lane_is (x / 1) (omega arith),
+    ) refl
 
 nibble_lanes_are : (x : ℕ) → x < 256 → nibble_lanes x ≡ nibbles x
 unfolding nibbles

@@ -45,7 +45,12 @@ fn append_instr<A: Allocator>(instr: &Instr<'_>, clocks: &mut Vec<u8, A>) -> Res
     ensures stays { IfErr result (λ _. clocks.new.items ≡ clocks.old.items) }
 {
     let head = head(instr);
-    append(head.as_slice(), usize::from(instr.dummies), &instr.body, clocks)
+    append(
+        head.as_slice(),
+        usize::from(instr.dummies),
+        &instr.body,
+        clocks,
+    )
 }
 
 /// Appends the clocks of bytes on one lane, of dummies and of data. It asks for their memory at once.

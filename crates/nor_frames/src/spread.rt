@@ -11,12 +11,12 @@ pub fn spread1_lanes(bytes: &[u8; 4]) -> u8x32
 {
     let [a, b, c, d] = *bytes;
     let each = u8x32::from_array([
-        a, a, a, a, a, a, a, a, b, b, b, b, b, b, b, b,
-        c, c, c, c, c, c, c, c, d, d, d, d, d, d, d, d,
+        a, a, a, a, a, a, a, a, b, b, b, b, b, b, b, b, c, c, c, c, c, c, c, c, d, d, d, d, d, d,
+        d, d,
     ]);
     let shifts = u8x32::from_array([
-        7, 6, 5, 4, 3, 2, 1, 0, 7, 6, 5, 4, 3, 2, 1, 0,
-        7, 6, 5, 4, 3, 2, 1, 0, 7, 6, 5, 4, 3, 2, 1, 0,
+        7, 6, 5, 4, 3, 2, 1, 0, 7, 6, 5, 4, 3, 2, 1, 0, 7, 6, 5, 4, 3, 2, 1, 0, 7, 6, 5, 4, 3, 2,
+        1, 0,
     ]);
     ((each >> shifts) & u8x32::splat(1)) + u8x32::splat(b'0')
 }
@@ -25,14 +25,31 @@ pub fn spread1_lanes(bytes: &[u8; 4]) -> u8x32
 pub fn spread4_lanes(bytes: &[u8; 16]) -> u8x32
     ensures { result ≡ flat_map nibbles bytes.now }
 {
-    let [b0, b1, b2, b3, b4, b5, b6, b7, b8, b9, b10, b11, b12, b13, b14, b15] = *bytes;
+    let [
+        b0,
+        b1,
+        b2,
+        b3,
+        b4,
+        b5,
+        b6,
+        b7,
+        b8,
+        b9,
+        b10,
+        b11,
+        b12,
+        b13,
+        b14,
+        b15,
+    ] = *bytes;
     let each = u8x32::from_array([
-        b0, b0, b1, b1, b2, b2, b3, b3, b4, b4, b5, b5, b6, b6, b7, b7,
-        b8, b8, b9, b9, b10, b10, b11, b11, b12, b12, b13, b13, b14, b14, b15, b15,
+        b0, b0, b1, b1, b2, b2, b3, b3, b4, b4, b5, b5, b6, b6, b7, b7, b8, b8, b9, b9, b10, b10,
+        b11, b11, b12, b12, b13, b13, b14, b14, b15, b15,
     ]);
     let shifts = u8x32::from_array([
-        4, 0, 4, 0, 4, 0, 4, 0, 4, 0, 4, 0, 4, 0, 4, 0,
-        4, 0, 4, 0, 4, 0, 4, 0, 4, 0, 4, 0, 4, 0, 4, 0,
+        4, 0, 4, 0, 4, 0, 4, 0, 4, 0, 4, 0, 4, 0, 4, 0, 4, 0, 4, 0, 4, 0, 4, 0, 4, 0, 4, 0, 4, 0,
+        4, 0,
     ]);
     ((each >> shifts) & u8x32::splat(15)) + u8x32::splat(b'a')
 }

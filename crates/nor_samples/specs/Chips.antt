@@ -94,6 +94,10 @@ large_latched = large_by Latched true false
 abbrev pub large_legacy : Parameters
 large_legacy = large_by Plain false false
 
+-- as a W25Q256JV: its quad program is 32h
+abbrev pub large_legacy_w25q256jv : Parameters
+large_legacy_w25q256jv = large_by Plain false true
+
 -- the same, its mode switched after a write enable
 abbrev pub large_legacy_latched : Parameters
 large_legacy_latched = large_by Latched false false

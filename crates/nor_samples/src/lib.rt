@@ -3,7 +3,7 @@
 
 ghost use Rattle.std.specs.Prelude.{◌≡◌, [], ◌∷◌};
 ghost use Rattle.nor_base.specs.declared.meaning.Switch.TheVariants.{Plain, Latched};
-ghost use Rattle.nor_samples.specs.Chips.{small, small_open_page, small_erased_only, mapped, large_by, large, large_w25q256jv, large_latched, large_legacy, large_legacy_latched};
+ghost use Rattle.nor_samples.specs.Chips.{small, small_open_page, small_erased_only, mapped, large_by, large, large_w25q256jv, large_latched, large_legacy, large_legacy_w25q256jv, large_legacy_latched};
 
 use arrayvec::ArrayVec;
 use nor_base::{Erase, Meaning, QuadRead, Region, Switch, Width};
@@ -102,6 +102,13 @@ pub fn legacy_chip() -> Meaning
     ensures { result ≡ large_legacy }
 {
     large_with(Switch::Plain, false, false)
+}
+
+/// A W25Q256JV without its four-byte address instruction table (FF84h): its quad program is 32h.
+pub fn legacy_w25q256jv_chip() -> Meaning
+    ensures { result ≡ large_legacy_w25q256jv }
+{
+    large_with(Switch::Plain, false, true)
 }
 
 /// The large chip without its four-byte address instruction table (FF84h), whose address mode is switched after a write

@@ -1,8 +1,7 @@
 -- An instruction as it goes out: its opcode, address and dummies, and what its data clocks carry (this project's).
-use Rattle.std.specs.Prelude.{ℕ, List, [], ◌∷◌}
+use Rattle.std.specs.Prelude.{ℕ, List}
 use Rattle.nor_base.specs.declared.instruction.What.{What}
 use Rattle.nor_base.specs.declared.instruction.What.TheVariants as what
-use Rattle.nor_base.specs.Instructions.{Form, nothing, sends, sends4, samples, samples4}
 use Rattle.nor_base.specs.Spelling.{Instr}
 
 -- what the data clocks carry

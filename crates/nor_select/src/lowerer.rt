@@ -79,11 +79,7 @@ impl<'m> Lowerer<'m> {
     /// strategy needs.
     ///
     /// `Memory` where a growth is refused; it is as before then.
-    pub fn more<'a>(
-        &mut self,
-        alloc: Global,
-        ops: &[Op<'a>],
-    ) -> Result<Vec<Instr<'a>>, SelectFault>
+    pub fn more<'a>(&mut self, alloc: Global, ops: &[Op<'a>]) -> Result<Vec<Instr<'a>>, SelectFault>
         ensures instrs { IfOk result (λ instrs. map coded_of instrs.items ≡ map coded (next self.old (map op_of ops.now))) }
         ensures started { IfOk result (λ _. self.new ≡ onward self.old (map op_of ops.now)) }
         ensures stays { IfErr result (λ _. self.new ≡ self.old) }

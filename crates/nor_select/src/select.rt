@@ -32,7 +32,10 @@ pub(crate) fn append_op<'a, A: Allocator>(
 {
     match *op {
         Op::Erase(block) => append_change(instrs, erasing(meaning, strategy, block)),
-        Op::Program { at, bytes } => append_change(instrs, programming(meaning, start, strategy, at, bytes)),
+        Op::Program { at, bytes } => append_change(
+            instrs,
+            programming(meaning, start, strategy, at, bytes),
+        ),
         Op::Read { at, bytes } => {
             instrs.push(reading(meaning, start, strategy, at, bytes))?;
             Ok(())
@@ -111,7 +114,14 @@ fn reading<'a>(
             return with_four(0x6C, quad.dummies, at, Body::Read4(bytes));
         }
         if !takes_dedicated(strategy, at) {
-            return at_address(strategy, quad.op, 0x6C, quad.dummies, at, Body::Read4(bytes));
+            return at_address(
+                strategy,
+                quad.op,
+                0x6C,
+                quad.dummies,
+                at,
+                Body::Read4(bytes),
+            );
         }
     }
     at_address(strategy, 0x03, 0x13, 0, at, Body::Read1(bytes))

@@ -1,16 +1,13 @@
 -- What the clocks of bytes, of addresses and of data stand for.
-use Rattle.std.proofs.Common.{◌≡◌, ℕ, zero, suc, ◌+◌, ◌*◌, ◌/◌, ◌%◌, ◌^◌, ◌<◌, ◌≤◌, ◌==◌, ◌&&◌, Bool, true, List, [], ◌∷◌, ◌++◌, length, refl, sym, ◌∙◌, ap, arith, eqb-true, length-append, pow-add}
-use Rattle.std.specs.Prelude.{flat_map, nat_lt, replicate}
+use Rattle.std.proofs.Common.{◌≡◌, ℕ, zero, suc, ◌+◌, ◌*◌, ◌/◌, ◌%◌, ◌^◌, ◌<◌, ◌==◌, Bool, true, List, [], ◌∷◌, ◌++◌, length, refl, sym, ◌∙◌, ap, arith, eqb-true, length-append, pow-add}
+use Rattle.std.specs.Prelude.{flat_map, nat_lt}
 use Rattle.std.specs.List.{list_all}
 use Rattle.std.proofs.Math.Arith.{mod-mul}
 use Rattle.std.proofs.lemmas.Bool.{agree_below_at, and_parts, lt-ltb, ltb-true}
 use Rattle.std.proofs.lemmas.List.Folds.{list_all-append}
-use Rattle.std.proofs.lemmas.List.{length-replicate}
 use Rattle.nor_base.specs.Array.{are_bytes}
-use Rattle.nor_base.specs.Instructions.{Form, nothing, sends, sends4, samples, samples4}
-use Rattle.nor_base.specs.Decoding.{is_data, is_bit_sent, is_nibble_sent, is_bit_sampled, is_nibble_sampled, is_idle, bit, nibble, number, bytes_of_bits, bytes_of_nibbles, bytes_sent, bytes_asked}
-use Rattle.nor_base.specs.Spelling.{bytes_to_send, count_to_read}
-use Rattle.nor_base.specs.Clocks.{bits, nibbles, address_bytes, body_clocks, CanCarry}
+use Rattle.nor_base.specs.Decoding.{is_bit_sent, is_nibble_sent, bit, nibble, number, bytes_of_bits, bytes_of_nibbles}
+use Rattle.nor_base.specs.Clocks.{bits, nibbles, address_bytes}
 
 -- a byte's symbols stand for it
 pub number_of_bits : (byte : ℕ) → byte < 256 → number (bits byte) ≡ byte

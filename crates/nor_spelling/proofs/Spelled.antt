@@ -1,14 +1,13 @@
 -- The clocks of an instruction spell it.
-use Rattle.std.proofs.Common.{◌≡◌, ℕ, zero, suc, ◌+◌, ◌*◌, ◌%◌, ◌^◌, ◌<◌, ◌≤◌, ◌==◌, ◌&&◌, ◌/◌, Bool, true, List, [], ◌∷◌, ◌++◌, length, take, drop, Some, refl, sym, ◌∙◌, ap, arith, eq-eqb, length-append}
+use Rattle.std.proofs.Common.{◌≡◌, ℕ, zero, suc, ◌+◌, ◌*◌, ◌%◌, ◌^◌, ◌<◌, ◌==◌, ◌&&◌, Bool, true, List, ◌++◌, length, take, drop, Some, refl, sym, ◌∙◌, ap, arith, eq-eqb, length-append}
 use Rattle.std.specs.Prelude.{flat_map, nat_le, nat_lt, replicate}
 use Rattle.std.specs.List.{list_all}
 use Rattle.std.proofs.Math.Nat.{mod-eq_of_lt}
 use Rattle.std.proofs.lemmas.Bool.{le-leb, lt-ltb}
 use Rattle.std.proofs.lemmas.List.{append_assoc, take_at, drop_at, length-replicate}
-use Rattle.nor_base.specs.Array.{are_bytes}
 use Rattle.nor_base.specs.Parameters.{Parameters}
 use Rattle.nor_base.specs.Instructions.{Form, nothing, sends, sends4, samples, samples4, form_of, Row, row_of}
-use Rattle.nor_base.specs.Decoding.{Instruction, instruction, decode, transaction, by_row, has_opcode, is_form, is_data, is_bit_sent, is_bit_sampled, is_nibble_sampled, is_idle, number, bytes_sent, bytes_asked, opcode}
+use Rattle.nor_base.specs.Decoding.{instruction, decode, transaction, by_row, has_opcode, is_form, is_data, is_bit_sent, is_bit_sampled, is_nibble_sampled, is_idle, number, bytes_sent, bytes_asked, opcode}
 use Rattle.nor_base.specs.Spelling.{Instr, Spells, seen, bytes_to_send, count_to_read}
 use Rattle.nor_base.specs.Clocks.{bits, nibbles, address_bytes, body_clocks, clocks_of, HasRow, CanCarry, IsSendable}
 use Rattle.nor_spelling.proofs.Bits.{length-bits, length-all_bits, length-all_nibbles, all_sent, all_sent4, bytes_of_all_bits, bytes_of_all_nibbles, number_of_bits, are_sent, number_of_address, address_small, length-address_bytes}
@@ -49,11 +48,15 @@ data_has_form sends bytes can =
 data_has_form sends4 bytes can =
     rw (grouped 2 (length bytes) (flat_map nibbles bytes) (length-all_nibbles bytes) can.0 (omega arith) (omega arith), all_sent4 bytes can.1) refl
 data_has_form samples bytes can =
-    rw (grouped 8 (length bytes) (replicate (8 * length bytes) 0x2E) (length-replicate {A = ℕ} (8 * length bytes) 0x2E) can (omega arith) (omega arith),
-    all_alike is_bit_sampled (8 * length bytes) 0x2E dot_sampled) refl
+    rw (
+      grouped 8 (length bytes) (replicate (8 * length bytes) 0x2E) (length-replicate {A = ℕ} (8 * length bytes) 0x2E) can (omega arith) (omega arith),
+      all_alike is_bit_sampled (8 * length bytes) 0x2E dot_sampled,
+    ) refl
 data_has_form samples4 bytes can =
-    rw (grouped 2 (length bytes) (replicate (2 * length bytes) 0x3D) (length-replicate {A = ℕ} (2 * length bytes) 0x3D) can (omega arith) (omega arith),
-    all_alike is_nibble_sampled (2 * length bytes) 0x3D equals_sampled) refl
+    rw (
+      grouped 2 (length bytes) (replicate (2 * length bytes) 0x3D) (length-replicate {A = ℕ} (2 * length bytes) 0x3D) can (omega arith) (omega arith),
+      all_alike is_nibble_sampled (2 * length bytes) 0x3D equals_sampled,
+    ) refl
 
 -- and say which bytes are sent, and how many are asked for
 data_sends : (form : Form) (bytes : List ℕ) → CanCarry form bytes → bytes_sent form (body_clocks form bytes) ≡ bytes_to_send form bytes

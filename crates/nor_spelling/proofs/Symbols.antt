@@ -1,12 +1,12 @@
 -- A clock of each sort is one symbol, or one of a few.
-use Rattle.std.proofs.Common.{◌≡◌, ℕ, ◌+◌, ◌<◌, ◌==◌, ◌&&◌, ◌||◌, not, Bool, true, false, cond, List, [], ◌∷◌, Option, Some, None, refl, sym, ◌∙◌, ap, subst, eqb-true}
+use Rattle.std.proofs.Common.{◌≡◌, ℕ, ◌+◌, ◌<◌, ◌==◌, ◌&&◌, ◌||◌, not, Bool, true, false, cond, List, [], ◌∷◌, Option, Some, None, refl, subst, eqb-true}
 use Rattle.std.specs.Prelude.{nat_lt, option_map}
 use Rattle.std.specs.List.{list_all, find}
 use Rattle.std.specs.Option.{option_map_or}
 use Rattle.std.proofs.lemmas.Bool.{agree_below_at, and_parts, ltb-true}
 use Rattle.nor_base.specs.declared.clock.Clock.{Clock}
 use Rattle.nor_base.specs.declared.clock.Sample.{Sample}
-use Rattle.nor_base.specs.Sample.{clocks, symbol, clock_at, sample, sample_at}
+use Rattle.nor_base.specs.Sample.{clocks, symbol, clock_at, sample}
 use Rattle.nor_base.specs.Decoding.{has_lanes, is_bit_sent, is_nibble_sent, is_bit_sampled, is_nibble_sampled, is_idle, bit, nibble}
 
 -- what is found passes the test, and each that all pass

@@ -1,4 +1,4 @@
-use Rattle.std.proofs.Common.{◌≡◌, ◌-◌, ◌∷◌, take, drop, length}
+use Rattle.std.proofs.Common.{◌≡◌, ◌∷◌, take}
 use Rattle.nor_frames.proofs.frame.head.Given as goal
 
 -- the opcode and the first address bytes are there
