@@ -50,11 +50,6 @@ pub record HasRow (m : Parameters) (mode4 : Bool) (i : Instr) : Type 0 where
   pub its_width : r.width ≡ i.width
   pub its_dummies : r.dummies ≡ i.dummies
 
--- each instruction has a row in the mode at its place
-abbrev pub HaveRows : Parameters → Bool → List Instr → Type 0
-HaveRows m mode4 [] = Unit {0}
-HaveRows m mode4 (i ∷ more) = HasRow m mode4 i × HaveRows m (mode_after i.what mode4) more
-
 -- data clocks can carry the bytes
 abbrev pub CanCarry : Form → List ℕ → Type 0
 CanCarry nothing bytes = Unit {0}
@@ -68,3 +63,13 @@ pub record IsSendable (i : Instr) : Type 0 where
   pub op : i.op < 256
   pub address : i.address < 2 ^ (8 * i.width)
   pub carried : CanCarry (form_of i.what) i.bytes
+
+-- the chip has the instruction, and it fits its clocks
+pub record CanBeSpelled (m : Parameters) (mode4 : Bool) (i : Instr) : Type 0 where
+  pub row : HasRow m mode4 i
+  pub fits : IsSendable i
+
+-- so it is with each of some instructions, in the mode at its place
+abbrev pub CanAllBeSpelled : Parameters → Bool → List Instr → Type 0
+CanAllBeSpelled m mode4 [] = Unit {0}
+CanAllBeSpelled m mode4 (i ∷ more) = CanBeSpelled m mode4 i × CanAllBeSpelled m (mode_after i.what mode4) more

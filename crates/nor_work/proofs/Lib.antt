@@ -15,3 +15,7 @@ mod Wider
 mod Whole
 mod Needed
 mod Least
+mod Rows
+mod Driven
+mod Sent
+mod Spelled

@@ -21,7 +21,7 @@ use Rattle.nor_work.proofs.Erasing.{erased_for}
 use Rattle.nor_work.proofs.Reached.{erased_where_due}
 use Rattle.nor_work.proofs.Wider.{some_page, in_chip_page, whole_chip}
 
-level_at : (m : Parameters) (start : Start) (have want : List ℕ) (x : ℕ) → x < length have
+pub level_at : (m : Parameters) (start : Start) (have want : List ℕ) (x : ℕ) → x < length have
     → slice_index (levelled m (strategy m start) (is_due m have want) have) x
     ≡ (if is_some (erased_at m (strategy m start) (is_due m have want) x) then 255 else slice_index have x)
 unfolding levelled
@@ -46,7 +46,7 @@ all_pages m start have want w =
     let all : m.size / m.page * m.page + m.size % m.page ≡ m.size = div-add-mod' m.size m.page in
     ends_at m.page (m.size / m.page) 0 m.size (omega (arith, all, whole_chip m w.accepted))
 
-units_sound : (m : Parameters) (start : Start) (page : ℕ) (have want : List ℕ) → IsWorkable m start have want → may_page m page ≡ true
+pub units_sound : (m : Parameters) (start : Start) (page : ℕ) (have want : List ℕ) → IsWorkable m start have want → may_page m page ≡ true
     → AreSoundUnits m page (levelled m (strategy m start) (is_due m have want) have) have want 0 (planned_units m start have want)
 unfolding units
 units_sound m start page have want w may =

@@ -1,2 +1,3 @@
 pub mod Laws
 pub mod Least
+pub mod Exists

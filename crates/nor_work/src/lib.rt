@@ -3,13 +3,28 @@
 #![tactic(auto)]
 
 ghost use Rattle.nor_work.specs.Laws.{PlannedDoesTask, OneUnitInTheMaking};
+ghost use Rattle.nor_work.specs.Exists.{PlannedCanBeSpelled, ThereIsPlannedWork, OnePlannedWork};
 ghost use Rattle.nor_work.specs.Least.{ErasesNeeded, ErasesBlocks, ErasesApart, ErasesLargest, UnitsJoin, NoScriptErasesLess};
+
+use nor_laws::instruction_rows;
+use nor_spelling::spelling;
 
 /// Planned work does the task on every chip, and after each of its transactions at most one unit is in the making.
 pub fn planned_work()
     ensures done { PlannedDoesTask }
     ensures making { OneUnitInTheMaking }
 {}
+
+/// The chip has each planned instruction, in the mode at its place, and each fits its clocks. So there are steps that are the
+/// planned work, and only one list of them.
+pub fn there_is_planned_work()
+    ensures spelled { PlannedCanBeSpelled }
+    ensures some { ThereIsPlannedWork }
+    ensures one { OnePlannedWork }
+{
+    instruction_rows();
+    spelling();
+}
 
 /// An address is erased exactly where it is needed. The erased blocks are legal and reached, two of them are apart or one,
 /// and each legal block that the strategy reaches inside the needed area lies in one of them.
