@@ -27,9 +27,13 @@ load_len (asked4 bytes) = 2 * length bytes
 abbrev pub head_of : Coded → List ℕ
 head_of i = i.op ∷ address_bytes i.width i.address
 
+-- bytes on one lane, dummies, data
+abbrev pub frame_by : List ℕ → ℕ → Load → List ℕ
+frame_by head dummies load = flat_map bits head ++ (replicate dummies 0x2D ++ load_clocks load)
+
 -- opcode, address, dummies, data
 abbrev pub frame : Coded → List ℕ
-frame i = flat_map bits (head_of i) ++ (replicate i.dummies 0x2D ++ load_clocks i.load)
+frame i = frame_by (head_of i) i.dummies i.load
 
 -- they spell the planned instruction that it codes, in each meaning and mode in which that is a row and fits its clocks
 abbrev pub SpellsCoded : Coded → Type 0

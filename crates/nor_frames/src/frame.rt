@@ -1,9 +1,8 @@
 //! The clocks of an instruction.
 
-ghost use Rattle.std.specs.Prelude.{◌≡◌, ◌≤◌, ◌++◌, length, flat_map, replicate, IfOk, IfErr, IfSome};
-ghost use Rattle.nor_base.specs.Clocks.{bits};
+ghost use Rattle.std.specs.Prelude.{◌≡◌, ◌≤◌, ◌++◌, length, IfOk, IfErr, IfSome};
 ghost use Rattle.nor_select.specs.View.{coded_of, load_in};
-ghost use Rattle.nor_frames.specs.Frames.{load_clocks, load_len, head_of, frame, SpellsCoded};
+ghost use Rattle.nor_frames.specs.Frames.{load_clocks, load_len, head_of, frame, frame_by, SpellsCoded};
 
 use crate::fault::FramesFault;
 use crate::spread::{spread1, spread4};
@@ -60,7 +59,7 @@ fn append<A: Allocator>(
     body: &Body<'_>,
     clocks: &mut Vec<u8, A>,
 ) -> Result<(), AllocError>
-    ensures clocks { IfOk result (λ _. clocks.new.items ≡ clocks.old.items ++ (flat_map bits head.now ++ (replicate dummies 0x2D ++ load_clocks (load_in body.now)))) }
+    ensures clocks { IfOk result (λ _. clocks.new.items ≡ clocks.old.items ++ frame_by head.now dummies (load_in body.now)) }
     ensures stays { IfErr result (λ _. clocks.new.items ≡ clocks.old.items) }
 {
     let start = clocks.len();

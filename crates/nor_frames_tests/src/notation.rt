@@ -19,7 +19,7 @@ fn digit(symbol: u8) -> u8 {
 }
 
 /// The clocks that the notation says.
-pub fn written_out(alloc: Global, notation: &[u8]) -> Result<Vec<u8>, Fail> {
+pub(crate) fn written_out(alloc: Global, notation: &[u8]) -> Result<Vec<u8>, Fail> {
     let mut clocks = Vec::new(alloc);
     let mut on_four = false;
     for symbol in notation {
@@ -51,7 +51,7 @@ fn append_digit(clocks: &mut Vec<u8>, value: u8, on_four: bool) -> Result<(), Fa
 }
 
 /// The clocks of instructions, each ended by a line feed.
-pub fn clocks_of(alloc: Global, instrs: &[Instr<'_>]) -> Result<Vec<u8>, Fail> {
+pub(crate) fn clocks_of(alloc: Global, instrs: &[Instr<'_>]) -> Result<Vec<u8>, Fail> {
     let mut clocks = Vec::new(alloc);
     for instr in instrs {
         if instr.width <= 4 {
@@ -63,7 +63,7 @@ pub fn clocks_of(alloc: Global, instrs: &[Instr<'_>]) -> Result<Vec<u8>, Fail> {
 }
 
 /// Instructions have just the clocks that the notation says.
-pub fn are_clocks(
+pub(crate) fn are_clocks(
     rt: &impl Abort,
     alloc: Global,
     instrs: &[Instr<'_>],

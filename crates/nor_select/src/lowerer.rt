@@ -1,11 +1,10 @@
 //! The instructions of operations, all at once or in parts.
 
-ghost use Rattle.std.specs.Prelude.{◌≡◌, ◌++◌, false, map, flat_map, IfOk, IfErr};
+ghost use Rattle.std.specs.Prelude.{◌≡◌, false, map, flat_map, IfOk, IfErr};
 ghost use Rattle.nor_base.specs.declared.instruction.What.TheVariants.{Enter};
 ghost use Rattle.nor_base.specs.Operations.{instructions, entering, leaving, lowered, switching_by};
-ghost use Rattle.nor_select.specs.Coded.{coded};
 ghost use Rattle.nor_select.specs.Streamed.{next, last, onward, PartsJoin};
-ghost use Rattle.nor_select.specs.View.{op_of, coded_of};
+ghost use Rattle.nor_select.specs.View.{op_of, AreCoded, Adds};
 
 use crate::fault::SelectFault;
 use crate::instr::Instr;
@@ -32,7 +31,7 @@ pub fn lower<'a>(
     start: &Start,
     strategy: Strategy,
 ) -> Result<Vec<Instr<'a>>, SelectFault>
-    ensures { IfOk result (λ instrs. map coded_of instrs.items ≡ map coded (lowered meaning.now start.now strategy (map op_of ops.now))) }
+    ensures { IfOk result (λ instrs. AreCoded instrs.items (lowered meaning.now start.now strategy (map op_of ops.now))) }
 {
     let mut instrs = Vec::new(alloc);
     if ops.is_empty() {
@@ -80,7 +79,7 @@ impl<'m> Lowerer<'m> {
     ///
     /// `Memory` where a growth is refused; it is as before then.
     pub fn more<'a>(&mut self, alloc: Global, ops: &[Op<'a>]) -> Result<Vec<Instr<'a>>, SelectFault>
-        ensures instrs { IfOk result (λ instrs. map coded_of instrs.items ≡ map coded (next self.old (map op_of ops.now))) }
+        ensures instrs { IfOk result (λ instrs. AreCoded instrs.items (next self.old (map op_of ops.now))) }
         ensures started { IfOk result (λ _. self.new ≡ onward self.old (map op_of ops.now)) }
         ensures stays { IfErr result (λ _. self.new ≡ self.old) }
     {
@@ -100,7 +99,7 @@ impl<'m> Lowerer<'m> {
     ///
     /// `Memory` where a growth is refused.
     pub fn close(self, alloc: Global) -> Result<Vec<Instr<'static>>, SelectFault>
-        ensures { IfOk result (λ instrs. map coded_of instrs.items ≡ map coded (last self.entry)) }
+        ensures { IfOk result (λ instrs. AreCoded instrs.items (last self.entry)) }
     {
         let mut instrs = Vec::new(alloc);
         if self.started {
@@ -124,7 +123,7 @@ fn append_ops<'a, A: Allocator>(
     start: &Start,
     strategy: Strategy,
 ) -> Result<(), AllocError>
-    ensures { IfOk result (λ _. map coded_of instrs.new.items ≡ map coded_of instrs.old.items ++ map coded (flat_map (instructions meaning.now start.now strategy) (map op_of ops.now))) }
+    ensures { IfOk result (λ _. Adds instrs.old.items (flat_map (instructions meaning.now start.now strategy) (map op_of ops.now)) instrs.new.items) }
 {
     for op in ops {
         append_op(instrs, op, meaning, start, strategy)?;
@@ -138,7 +137,7 @@ fn append_entering<'a, A: Allocator>(
     meaning: &Meaning,
     strategy: Strategy,
 ) -> Result<(), AllocError>
-    ensures { IfOk result (λ _. map coded_of instrs.new.items ≡ map coded_of instrs.old.items ++ map coded (entering meaning.now strategy)) }
+    ensures { IfOk result (λ _. Adds instrs.old.items (entering meaning.now strategy) instrs.new.items) }
 {
     match strategy {
         Strategy::S4 => append_switch(instrs, meaning.enter, ENTER),
@@ -152,7 +151,7 @@ fn append_leaving<'a, A: Allocator>(
     meaning: &Meaning,
     strategy: Strategy,
 ) -> Result<(), AllocError>
-    ensures { IfOk result (λ _. map coded_of instrs.new.items ≡ map coded_of instrs.old.items ++ map coded (leaving meaning.now strategy)) }
+    ensures { IfOk result (λ _. Adds instrs.old.items (leaving meaning.now strategy) instrs.new.items) }
 {
     match strategy {
         Strategy::S4 => append_switch(instrs, meaning.leave, LEAVE),
@@ -166,7 +165,7 @@ fn append_switch<'a, A: Allocator>(
     switch: Switch,
     op: u8,
 ) -> Result<(), AllocError>
-    ensures { IfOk result (λ _. map coded_of instrs.new.items ≡ map coded_of instrs.old.items ++ map coded (switching_by switch Enter op)) }
+    ensures { IfOk result (λ _. Adds instrs.old.items (switching_by switch Enter op) instrs.new.items) }
 {
     match switch {
         Switch::Absent => {}

@@ -4,7 +4,7 @@ ghost use Rattle.std.specs.Prelude.{◌≡◌, if◌then◌else◌, ◌++◌, []
 ghost use Rattle.nor_base.specs.Instructions.{quad_read_dummies};
 ghost use Rattle.nor_base.specs.Operations.{takes_dedicated, legacy_width, enable, poll, erasing, programming, reading, instructions};
 ghost use Rattle.nor_select.specs.Coded.{coded};
-ghost use Rattle.nor_select.specs.View.{op_of, load_in, coded_of};
+ghost use Rattle.nor_select.specs.View.{op_of, load_in, coded_of, Adds, coded_at};
 
 use crate::instr::{Body, Instr};
 use crate::op::Op;
@@ -28,7 +28,7 @@ pub(crate) fn append_op<'a, A: Allocator>(
     start: &Start,
     strategy: Strategy,
 ) -> Result<(), AllocError>
-    ensures { IfOk result (λ _. map coded_of instrs.new.items ≡ map coded_of instrs.old.items ++ map coded (instructions meaning.now start.now strategy (op_of op.now))) }
+    ensures { IfOk result (λ _. Adds instrs.old.items (instructions meaning.now start.now strategy (op_of op.now)) instrs.new.items) }
 {
     match *op {
         Op::Erase(block) => append_change(instrs, erasing(meaning, strategy, block)),
@@ -149,7 +149,7 @@ fn at_address<'a>(
     address: u32,
     body: Body<'a>,
 ) -> Instr<'a>
-    ensures { coded_of result ≡ record { op = if takes_dedicated strategy address then op4 else op; address = address; width = if takes_dedicated strategy address then 4 else legacy_width strategy; dummies = dummies; load = load_in body.entry } }
+    ensures { coded_of result ≡ coded_at strategy op op4 dummies address (load_in body.entry) }
 {
     if takes_dedicated(strategy, address) {
         return with_four(op4, dummies, address, body);
