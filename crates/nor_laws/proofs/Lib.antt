@@ -9,3 +9,4 @@ pub mod ProgramLaws
 mod GivenLaws
 mod RunLaws
 mod TargetLaws
+pub mod BoundedLaws

@@ -24,12 +24,12 @@ abbrev left_with : Chip → ℕ → Chip
 left_with c n = record c { left = n }
 
 -- with some left, a status read says busy and leaves one fewer
-read_busy : (s : Setting) (c : Chip) (n : ℕ) → effect s (left_with c (suc n)) poll_clocks ≡ Ok (left_with c n, 3 ∷ [])
+pub read_busy : (s : Setting) (c : Chip) (n : ℕ) → effect s (left_with c (suc n)) poll_clocks ≡ Ok (left_with c n, 3 ∷ [])
 unfolding effect effect_of after answer is_out_of_range
 read_busy s c n = rw (poll_is_status s.meaning c.mode4) refl
 
 -- with none left it says idle
-read_idle : (s : Setting) (c : Chip) → effect s (left_with c 0) poll_clocks ≡ Ok (left_with c 0, (if c.latch then 2 else 0) ∷ [])
+pub read_idle : (s : Setting) (c : Chip) → effect s (left_with c 0) poll_clocks ≡ Ok (left_with c 0, (if c.latch then 2 else 0) ∷ [])
 unfolding effect effect_of after answer is_out_of_range
 read_idle s c = rw (poll_is_status s.meaning c.mode4) refl
 

@@ -17,7 +17,7 @@ use Rattle.nor_base.specs.Blocks.{Block, AreDisjoint, LiesIn, LiesInRegion, IsLe
 use Rattle.nor_base.specs.Chip.{Setting, Chip, IsWhole}
 use Rattle.nor_base.specs.Array.{IsOutside}
 use Rattle.nor_base.specs.Effect.{effect, effect_of, is_broken, is_program, place, page_start, may_program, wrong_of}
-use Rattle.nor_base.specs.Run.{polled, polled_trail, run, trail}
+use Rattle.nor_base.specs.Run.{polled, polled_trail, run, played, trail}
 use Rattle.nor_base.specs.Target.{target}
 
 -- a list of steps has one text
@@ -178,6 +178,15 @@ last_of c (d ∷ more) = last_of d more
 -- a run ends with the chip after its last transaction
 abbrev pub RunEndsTrail : Type 0
 RunEndsTrail = (s : Setting) (c d : Chip) (steps : List Step) → run s c steps ≡ Ok d → last_of c (trail s c steps) ≡ d
+
+-- fewer status reads than a limit are left busy, and will be
+pub record IsBelow (limit : ℕ) (c : Chip) : Type 0 where
+  pub left : c.left < limit
+  pub to_come : (n : ℕ) → slice_index c.to_come n < limit
+
+-- a run with a bound on polls above what is left busy is the run
+abbrev pub BoundedIsRun : Type 0
+BoundedIsRun = (s : Setting) (limit : ℕ) (c : Chip) (steps : List Step) → IsBelow limit c → played s limit c steps ≡ run s c steps
 
 -- what isn't chosen, or isn't given, or lies past 2^32 stays as it was
 abbrev pub TargetKeeps : Type 0

@@ -2,3 +2,4 @@ pub mod Bits
 pub mod Spelled
 pub mod Symbols
 pub mod Single
+mod Verifying

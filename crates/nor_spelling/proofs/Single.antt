@@ -43,7 +43,7 @@ by_weight (suc zero) (suc zero) p m n ha hb hm hn h = record { high = refl; low 
 by_weight (suc (suc a)) b p m n ha hb hm hn h = absurd (omega arith)
 by_weight a (suc (suc b)) p m n ha hb hm hn h = absurd (omega arith)
 
-same_number : (xs ys : List ℕ) → length xs ≡ length ys → list_all is_bit_sent xs ≡ true → list_all is_bit_sent ys ≡ true → number xs ≡ number ys → xs ≡ ys
+pub same_number : (xs ys : List ℕ) → length xs ≡ length ys → list_all is_bit_sent xs ≡ true → list_all is_bit_sent ys ≡ true → number xs ≡ number ys → xs ≡ ys
 same_number [] [] long first second is = refl
 same_number [] (y ∷ ys) long first second is = absurd (omega (arith, long))
 same_number (x ∷ xs) [] long first second is = absurd (omega (arith, long))
@@ -245,13 +245,13 @@ seen_by_row m mode4 i clocks row spelled =
     record { opcode_there = there.0; formed = parts.0; is = parts.1 }
 
 -- the parts of clocks that have the form of a row
-record HasForm (r : Row) (rest : List ℕ) : Type 0 where
-  enough : 8 * r.width + r.dummies ≤ length rest
-  sent : list_all is_bit_sent (address_clocks r rest) ≡ true
-  idle : list_all is_idle (dummy_clocks r rest) ≡ true
-  good : is_data (form_of r.what) (data_clocks r rest) ≡ true
+pub record HasForm (r : Row) (rest : List ℕ) : Type 0 where
+  pub enough : 8 * r.width + r.dummies ≤ length rest
+  pub sent : list_all is_bit_sent (address_clocks r rest) ≡ true
+  pub idle : list_all is_idle (dummy_clocks r rest) ≡ true
+  pub good : is_data (form_of r.what) (data_clocks r rest) ≡ true
 
-form_parts : (r : Row) (rest : List ℕ) → is_form r rest ≡ true → HasForm r rest
+pub form_parts : (r : Row) (rest : List ℕ) → is_form r rest ≡ true → HasForm r rest
 unfolding is_form
 form_parts r rest h =
     let a = and_parts (nat_le (8 * r.width + r.dummies) (length rest)) _ h in
@@ -273,11 +273,11 @@ same_rest r xs ys first second at sent asked =
     same_data (form_of r.what) (data_clocks r xs) (data_clocks r ys) first.good second.good sent asked in
     same_ends n xs ys address (same_ends r.dummies (drop n xs) (drop n ys) dummies body)
 
-record HasOpcode (clocks : List ℕ) : Type 0 where
-  enough : 8 ≤ length clocks
-  sent : list_all is_bit_sent (take 8 clocks) ≡ true
+pub record HasOpcode (clocks : List ℕ) : Type 0 where
+  pub enough : 8 ≤ length clocks
+  pub sent : list_all is_bit_sent (take 8 clocks) ≡ true
 
-opcode_parts : (clocks : List ℕ) → has_opcode clocks ≡ true → HasOpcode clocks
+pub opcode_parts : (clocks : List ℕ) → has_opcode clocks ≡ true → HasOpcode clocks
 unfolding has_opcode
 opcode_parts clocks h = let a = and_parts (nat_le 8 (length clocks)) _ h in record { enough = leb-true 8 (length clocks) a.0; sent = a.1 }
 

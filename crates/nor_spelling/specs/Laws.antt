@@ -1,7 +1,9 @@
 -- Laws of spelling: which clocks an instruction has.
-use Rattle.std.specs.Prelude.{◌≡◌, ℕ, Bool, List}
+use Rattle.std.specs.Prelude.{◌≡◌, ℕ, Bool, List, Ok}
+use Rattle.nor_base.specs.declared.step.Step.TheVariants.{Verify}
 use Rattle.nor_base.specs.Parameters.{Parameters}
-use Rattle.nor_base.specs.Run.{poll_clocks}
+use Rattle.nor_base.specs.Chip.{Setting, Chip}
+use Rattle.nor_base.specs.Run.{poll_clocks, step}
 use Rattle.nor_base.specs.Spelling.{Instr, Spells}
 use Rattle.nor_base.specs.Operations.{poll}
 use Rattle.nor_base.specs.Clocks.{clocks_of, HasRow, IsSendable}
@@ -21,3 +23,7 @@ SameSpelling = (m : Parameters) (mode4 : Bool) (i : Instr) (xs ys : List ℕ) �
 -- on every chip and in each mode a poll has just its clocks
 abbrev pub PollIsFixed : Type 0
 PollIsFixed = (m : Parameters) (mode4 : Bool) (clocks : List ℕ) → Spells m mode4 poll clocks → clocks ≡ poll_clocks
+
+-- a verifying read leaves the chip as it was
+abbrev pub VerifyKeeps : Type 0
+VerifyKeeps = (s : Setting) (c d : Chip) (clocks expect : List ℕ) → step s c (Verify clocks expect) ≡ Ok d → d ≡ c

@@ -1,8 +1,8 @@
-//! Laws of spelling: an instruction has just one list of clocks. The function does nothing: its contract is the laws, and
+//! Laws of spelling: an instruction has just one list of clocks. The functions do nothing: their contracts are the laws, and
 //! the gate proves them.
 #![tactic(auto)]
 
-ghost use Rattle.nor_spelling.specs.Laws.{HasSpelling, OneSpelling, SameSpelling, PollIsFixed};
+ghost use Rattle.nor_spelling.specs.Laws.{HasSpelling, OneSpelling, SameSpelling, PollIsFixed, VerifyKeeps};
 
 /// An instruction whose opcode has a row of the table that agrees with it is spelled by its clocks, and by no others. A poll
 /// has just its clocks on every chip.
@@ -11,4 +11,9 @@ pub fn spelling()
     ensures one { OneSpelling }
     ensures same { SameSpelling }
     ensures poll { PollIsFixed }
+{}
+
+/// A verifying read leaves the chip as it was: what samples and isn't a status read is a read of the array.
+pub fn verifying_reads()
+    ensures { VerifyKeeps }
 {}
