@@ -1,5 +1,5 @@
 -- A run with a bound on polls above what is left busy is the run.
-use Rattle.std.proofs.Common.{◌≡◌, ℕ, zero, suc, pred, ◌+◌, ◌-◌, ◌<◌, ◌≤◌, Bool, true, false, if◌then◌else◌, List, [], ◌∷◌, length, drop, Option, Some, None, Result, Ok, Err, refl, sym, ◌∙◌, ap, subst, arith, get_or-drop}
+use Rattle.std.proofs.Common.{◌≡◌, ℕ, zero, suc, pred, ◌+◌, ◌<◌, Bool, true, false, if◌then◌else◌, List, [], ◌∷◌, drop, Option, Some, None, Result, Ok, Err, refl, sym, ◌∙◌, ap, subst, arith, get_or-drop}
 use Rattle.std.specs.List.{slice_index}
 use Rattle.std.specs.Str.{bytes_eq}
 use Rattle.nor_base.specs.declared.instruction.What.{What}
@@ -11,7 +11,7 @@ use Rattle.nor_base.specs.declared.wrong.Wrong.TheVariants as wrong
 use Rattle.nor_base.specs.Decoding.{Instruction, decode}
 use Rattle.nor_base.specs.Chip.{Setting, Chip}
 use Rattle.nor_base.specs.Effect.{after, effect_if, effect}
-use Rattle.nor_base.specs.Run.{poll_clocks, polled, is_verify, done, matched, step, Stop, go_on, one_later, run, Halt, halt_on, poll_or_halt, polled_for, step_for, play_on, played}
+use Rattle.nor_base.specs.Run.{poll_clocks, polled, is_verify, done, matched, step, go_on, one_later, run, Halt, halt_on, poll_or_halt, polled_for, step_for, play_on, played}
 use Rattle.nor_laws.specs.Laws.{IsBelow}
 use Rattle.nor_laws.proofs.EffectLaws.{taken}
 use Rattle.nor_laws.proofs.PollLaws.{read_busy, read_idle, poll_ends}

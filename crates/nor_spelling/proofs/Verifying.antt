@@ -1,8 +1,8 @@
 -- A verifying read leaves the chip as it was: what samples, and isn't a status read, is a read of the array.
-use Rattle.std.proofs.Common.{◌≡◌, ℕ, zero, suc, ◌+◌, ◌*◌, ◌<◌, ◌≤◌, ◌==◌, not, ◌&&◌, ◌||◌, Bool, true, false, if◌then◌else◌, List, [], ◌∷◌, ◌++◌, length, take, drop, Option, Some, None, Result, Ok, Err, refl, sym, ◌∙◌, ap, subst, arith, eqb-true, codes, length-take}
+use Rattle.std.proofs.Common.{◌≡◌, ℕ, ◌*◌, ◌==◌, not, ◌&&◌, ◌||◌, Bool, true, false, if◌then◌else◌, List, [], ◌∷◌, ◌++◌, length, take, drop, Option, Some, None, Result, Ok, Err, refl, sym, ◌∙◌, ap, arith, eqb-true, codes, length-take}
 use Rattle.std.proofs.Math.Bool.{and-false}
-use Rattle.std.specs.Prelude.{nat_le, nat_eq, option_map}
-use Rattle.std.specs.List.{list_all, list_any, starts_with}
+use Rattle.std.specs.Prelude.{nat_eq, option_map}
+use Rattle.std.specs.List.{list_all, starts_with}
 use Rattle.std.specs.Option.{option_map_or}
 use Rattle.std.specs.Str.{bytes_eq}
 use Rattle.std.proofs.lemmas.Bool.{and_parts, or_parts, not-true}
@@ -17,13 +17,12 @@ use Rattle.nor_base.specs.Parameters.{Parameters}
 use Rattle.nor_base.specs.Sample.{sample_at}
 use Rattle.nor_base.specs.Instructions.{Form, nothing, sends, sends4, samples4, form_of, Row, row_of, table}
 use Rattle.nor_base.specs.Instructions as form
-use Rattle.nor_base.specs.Decoding.{Instruction, Transaction, instruction, decode, transaction, by_row, broken, has_opcode, is_form, is_data, are_groups, is_bit_sent, is_nibble_sent, is_bit_sampled, is_nibble_sampled, is_idle, has_lanes, bit, number, opcode, address_clocks, dummy_clocks, data_clocks}
+use Rattle.nor_base.specs.Decoding.{Instruction, instruction, decode, transaction, by_row, broken, has_opcode, is_form, is_data, are_groups, is_bit_sent, is_nibble_sent, is_bit_sampled, is_nibble_sampled, is_idle, has_lanes, bit, number, opcode, address_clocks, data_clocks}
 use Rattle.nor_base.specs.Chip.{Setting, Chip}
-use Rattle.nor_base.specs.Effect.{is_broken, is_status, is_read, after, effect_if, effect}
+use Rattle.nor_base.specs.Effect.{is_broken, is_status, after, effect_if, effect}
 use Rattle.nor_base.specs.Run.{samples_some, is_verify, matched, step}
 use Rattle.nor_base.specs.Clocks.{bits}
 use Rattle.nor_laws.proofs.EffectLaws.{taken}
-use Rattle.nor_spelling.proofs.Bits.{length-bits, are_sent}
 use Rattle.nor_spelling.proofs.Symbols.{found_passes}
 use Rattle.nor_spelling.proofs.Single.{same_number, HasForm, form_parts, HasOpcode, opcode_parts}
 

@@ -12,13 +12,7 @@ use Rattle.nor_base.specs.Effect.{may_program, is_barred, place, last_byte_for, 
 use Rattle.nor_base.specs.Programs.{Program, program_end, holds}
 use Rattle.nor_base.specs.Operations.{laid}
 use Rattle.nor_base.proofs.ArrayLaws.{length-each, slice_index-each, each_keeps, some-true}
-
--- a program goes over no border of a page
-pub record IsInPage (page : ℕ) (p : Program) : Type 0 where
-  pub page_start : ℕ
-  pub whole : page_start % page ≡ 0
-  pub from : page_start ≤ p.at
-  pub upto : program_end p ≤ page_start + page
+use Rattle.nor_work.specs.Able.{IsInPage, MayLay, byte_for}
 
 pub from_whole : (page start k : ℕ) → start % page ≡ 0 → k < page → (start + k) % page ≡ k
 from_whole page start k whole fits =
@@ -64,10 +58,6 @@ written_outside page address bytes (suc n) x straight outside =
 straight : (page : ℕ) (p : Program) → IsInPage page p → (j : ℕ) → j < length p.bytes → place page p.at j ≡ p.at + j
 straight page p h j fits = place_straight page h.page_start p.at j h.whole h.from (omega (arith, h.upto, fits))
 
--- the byte of a program for an address
-abbrev pub byte_for : Program → ℕ → ℕ
-byte_for p x = slice_index p.bytes (x - p.at)
-
 -- an address that a program holds, or one that it doesn't
 pub reached : (p : Program) (x : ℕ) → ((p.at ≤ x) × (x < program_end p)) ⊎ ((x < p.at) ⊎ (program_end p ≤ x))
 reached p x = elim (cases_lt x p.at) [
@@ -89,10 +79,6 @@ writes_at page p x h from upto = written_inside page p.at p.bytes (length p.byte
 
 writes_nothing : (page : ℕ) (p : Program) (x : ℕ) → IsInPage page p → (x < p.at) ⊎ (program_end p ≤ x) → written page p.at p.bytes x ≡ None
 writes_nothing page p x h outside = written_outside page p.at p.bytes (length p.bytes) x (straight page p h) outside
-
--- each byte of the program may be programmed over what the array has there
-abbrev pub MayLay : Parameters → Program → List ℕ → Type 0
-MayLay m p a = (x : ℕ) → p.at ≤ x → x < program_end p → may_program m (slice_index a x) (byte_for p x) ≡ true
 
 pub not_barred : (m : Parameters) (page : ℕ) (p : Program) (a : List ℕ) → IsInPage page p → MayLay m p a → is_barred m page p.at p.bytes a ≡ false
 unfolding is_barred

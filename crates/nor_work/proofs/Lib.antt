@@ -19,3 +19,4 @@ mod Rows
 mod Driven
 mod Sent
 mod Spelled
+mod Agree

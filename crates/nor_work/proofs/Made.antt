@@ -12,8 +12,9 @@ use Rattle.nor_base.specs.Operations.{Op, writes, reads, laid, unit_reads, unit_
 use Rattle.nor_base.specs.Planned.{IsUnitOver, IsInTheMaking}
 use Rattle.nor_base.proofs.ArrayLaws.{length-each, erased_fills, erased_keeps}
 use Rattle.nor_work.proofs.Ranges.{length-range, range_at, same_range}
-use Rattle.nor_work.proofs.Laid.{IsInPage, MayLay, byte_for, length-laid, laid_keeps, laid_gives}
-use Rattle.nor_work.proofs.Ops.{CanErase, CanRead, Chain, chain_then}
+use Rattle.nor_work.proofs.Laid.{length-laid, laid_keeps, laid_gives}
+use Rattle.nor_work.proofs.Ops.{Chain, chain_then}
+use Rattle.nor_work.specs.Able.{CanErase, CanRead, IsInPage, MayLay, byte_for}
 
 -- the target below one address, one array from there up to another, and the content past that
 pub record IsMade (mid have want array : List ℕ) (upto high : ℕ) : Type 0 where

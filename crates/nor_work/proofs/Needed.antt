@@ -35,7 +35,7 @@ found test (suc n) start h = elim (or_cases (test start) (list_any test (range_w
       record { at = f.at; from = omega (arith, f.from); upto = omega (arith, f.upto); passes = f.passes }
 ]
 
-all_at : (test : ℕ → Bool) (n start x : ℕ) → list_all test (range_with_len start n) ≡ true → start ≤ x → x < start + n → test x ≡ true
+pub all_at : (test : ℕ → Bool) (n start x : ℕ) → list_all test (range_with_len start n) ≡ true → start ≤ x → x < start + n → test x ≡ true
 all_at test zero start x h from upto = absurd (omega arith)
 all_at test (suc n) start x h from upto =
     let parts = and_parts (test start) (list_all test (range_with_len (start + 1) n)) h in

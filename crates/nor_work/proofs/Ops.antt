@@ -1,8 +1,7 @@
 -- Operations on a chip at rest: their instructions do what they do.
-use Rattle.std.proofs.Common.{◌≡◌, ℕ, ◌+◌, ◌<◌, ◌≤◌, nat_le, nat_lt, Bool, true, false, not, ◌&&◌, if◌then◌else◌, List, [], ◌∷◌, ◌++◌, length, drop, Ok, refl, sym, ◌∙◌, ap, subst, arith}
+use Rattle.std.proofs.Common.{◌≡◌, ℕ, ◌+◌, ◌<◌, nat_le, nat_lt, Bool, true, false, not, ◌&&◌, if◌then◌else◌, List, [], ◌∷◌, ◌++◌, length, drop, Ok, refl, sym, ◌∙◌, ap, subst, arith}
 use Rattle.std.specs.Prelude.{flat_map, is_some}
 use Rattle.std.specs.Option.{option_map_or}
-use Rattle.std.specs.List.{slice_range}
 use Rattle.std.proofs.lemmas.Bool.{and_parts, le-ltb, lt-leb}
 use Rattle.std.proofs.lemmas.Slice.Eq.{bytes_eq-Decides}
 use Rattle.nor_base.specs.declared.instruction.What.TheVariants as what
@@ -11,39 +10,17 @@ use Rattle.nor_base.specs.declared.step.Step.{Step}
 use Rattle.nor_base.specs.declared.step.Step.TheVariants.{Verify}
 use Rattle.nor_base.specs.Parameters.{Parameters, block_size}
 use Rattle.nor_base.specs.Instructions.{quad_read_dummies}
-use Rattle.nor_base.specs.Blocks.{Block, is_legal}
 use Rattle.nor_base.specs.Chip.{Setting, Chip, resting}
 use Rattle.nor_base.specs.Effect.{is_read, effect, effect_if, effect_of, after, answer, is_out_of_range, erased}
 use Rattle.nor_base.specs.Run.{step, step_trail, is_verify}
 use Rattle.nor_base.specs.Spelling.{Instr, seen, IsReadBy, IsStepOf, mode_after}
-use Rattle.nor_base.specs.Programs.{Program, program_end}
+use Rattle.nor_base.specs.Programs.{Program}
 use Rattle.nor_base.specs.Operations.{Op, erases, writes, reads, does, at_address, reading, takes_dedicated, instructions}
 use Rattle.nor_work.proofs.Steps.{Takes, Leads, leads_one, Moves, moves_none, moves_then}
 use Rattle.nor_work.proofs.Taken.{erases_there, programs_there}
-use Rattle.nor_work.proofs.Laid.{IsInPage, MayLay, not_barred, programmed_is_laid}
+use Rattle.nor_work.proofs.Laid.{not_barred, programmed_is_laid}
 use Rattle.nor_work.proofs.Reading.{read_verifies}
-
--- what an operation needs of the chip and its array
-pub record CanErase (m : Parameters) (b : Block) : Type 0 where
-  pub legal : is_legal m b.kind b.start ≡ true
-  pub size : b.size ≡ block_size m b.kind
-  pub inside : b.start < m.size
-
-pub record CanWrite (m : Parameters) (page : ℕ) (p : Program) (a : List ℕ) : Type 0 where
-  pub some : 0 < length p.bytes
-  pub inside : program_end p ≤ m.size
-  pub in_page : IsInPage page p
-  pub may : MayLay m p a
-
-pub record CanRead (m : Parameters) (p : Program) (a : List ℕ) : Type 0 where
-  pub some : 0 < length p.bytes
-  pub inside : program_end p ≤ m.size
-  pub there : slice_range a p.at (program_end p) ≡ p.bytes
-
-abbrev pub CanDo : Parameters → ℕ → Op → List ℕ → Type 0
-CanDo m page (erases b) a = CanErase m b
-CanDo m page (writes p) a = CanWrite m page p a
-CanDo m page (reads p) a = CanRead m p a
+use Rattle.nor_work.specs.Able.{CanDo, CanRead}
 
 -- a read of bytes that are there
 read_done : (s : Setting) (mode4 : Bool) (a t : List ℕ) (p : Program) → CanRead s.meaning p a

@@ -288,7 +288,7 @@ third m start h =
     dedicated_by m (begins4 m start) (nat_le m.size 0x1000000) m.program4 m.read4 (are_dedicated m 0 m.regions) (is_there m.enter && is_there m.leave) h
 
 -- the strategy has a block for an address that it reaches, that is due and that has a legal block
-has_block : (m : Parameters) (start : Start) (by : Strategy) (due : ℕ → Bool) (a : ℕ) (b : Block) → strategy m start ≡ by → IsAccepted m → a < m.size → due a ≡ true
+pub has_block : (m : Parameters) (start : Start) (by : Strategy) (due : ℕ → Bool) (a : ℕ) (b : Block) → strategy m start ≡ by → IsAccepted m → a < m.size → due a ≡ true
     → is_beyond by a ≡ false → smallest m a ≡ Some b → HasBlock m by due a
 has_block m start S1 due a b by accepted inside is_due near is = smallest_reached m S1 due a b accepted inside is_due is refl
 has_block m start S2 due a b by accepted inside is_due near is = smallest_reached m S2 due a b accepted inside is_due is refl

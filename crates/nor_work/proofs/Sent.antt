@@ -240,12 +240,15 @@ near_by S5 m kind start size x h whole upto =
     lt-leb 0x1000000 x (omega (arith, whole small, upto))
 
 -- a block of a legal kind doesn't lie across 2^24
-ends_before : (start size : ℕ) → 0 < size → start % size ≡ 0 → 0x1000000 % size ≡ 0 → start < 0x1000000 → start + size ≤ 0x1000000
+pub ends_before : (start size : ℕ) → 0 < size → start % size ≡ 0 → 0x1000000 % size ≡ 0 → start < 0x1000000 → start + size ≤ 0x1000000
 ends_before start size some whole divides small =
     aligned_le (start + size) 0x1000000 size some (sum_whole start size whole) divides (omega arith)
   where
     sum_whole : (start size : ℕ) → start % size ≡ 0 → (start + size) % size ≡ 0
     sum_whole start size whole = let turned : start + size ≡ size * 1 + start = omega arith in ap (λ n. n % size) turned ∙ mul-add-mod_self_left size 1 start ∙ whole
+
+pub power_small : (n : ℕ) → IsPowerOfTwo 8 24 n → n ≤ 0x1000000
+power_small n p = subst (λ k. k ≤ 0x1000000) (sym p.value) (pow_mono p.at_most)
 
 erased_block : (m : Parameters) (start : Start) (due : ℕ → Bool) (a : ℕ) (b : Block) → IsAccepted m → erased_at m (strategy m start) due a ≡ Some b
     → CanBeErased m (strategy m start) b × ((x : ℕ) → b.start ≤ x → x < b.start + b.size → is_beyond (strategy m start) x ≡ false)
@@ -272,9 +275,6 @@ erased_block m start due a b accepted h =
       },
       beyond,
     )
-  where
-    power_small : (n : ℕ) → IsPowerOfTwo 8 24 n → n ≤ 0x1000000
-    power_small n p = subst (λ k. k ≤ 0x1000000) (sym p.value) (pow_mono p.at_most)
 
 -- a byte that differs of the levelled content is in an erased block, or differs of the content and is no fault
 near_of : (m : Parameters) (start : Start) (have want : List ℕ) (x : ℕ) (o : Option Block) → IsWorkable m start have want → x < m.size

@@ -12,9 +12,9 @@ use Rattle.nor_base.specs.Programs.{Program, page_programs}
 use Rattle.nor_base.specs.Units.{WorkUnit, pages, page_unit, block_unit, unit_by, units_over}
 use Rattle.nor_work.proofs.Ranges.{aligned_le}
 use Rattle.nor_work.proofs.Laid.{may_over_erased}
-use Rattle.nor_work.proofs.Ops.{CanErase}
 use Rattle.nor_work.proofs.Made.{ArePut, EndBy, IsSoundUnit, AreSoundUnits}
 use Rattle.nor_work.proofs.Pages.{IsClear, IsInOne, page_sound, put_then}
+use Rattle.nor_work.specs.Able.{CanErase}
 
 -- a block that is erased for an address, and for each that it holds
 pub record IsErasedFor (m : Parameters) (erased : ℕ → Option Block) (a : ℕ) (b : Block) : Type 0 where

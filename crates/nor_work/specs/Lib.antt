@@ -1,3 +1,4 @@
 pub mod Laws
 pub mod Least
 pub mod Exists
+pub mod Able

@@ -3,6 +3,7 @@
 #![tactic(auto)]
 
 ghost use Rattle.nor_work.specs.Laws.{PlannedDoesTask, OneUnitInTheMaking};
+ghost use Rattle.nor_work.specs.Able.{OperationIsDone, SmallestAgree, BlocksStay, PagesStay};
 ghost use Rattle.nor_work.specs.Exists.{PlannedCanBeSpelled, ThereIsPlannedWork, OnePlannedWork};
 ghost use Rattle.nor_work.specs.Least.{ErasesNeeded, ErasesBlocks, ErasesApart, ErasesLargest, UnitsJoin, NoScriptErasesLess};
 
@@ -33,6 +34,19 @@ pub fn erased_blocks()
     ensures blocks { ErasesBlocks }
     ensures apart { ErasesApart }
     ensures largest { ErasesLargest }
+{}
+
+/// On a chip at rest the instructions of an operation do what it does to the array, and leave the chip at rest.
+pub fn operations()
+    ensures { OperationIsDone }
+{}
+
+/// The smallest block that the strategy reaches at an address is the smallest legal one there, but for its kind. No legal
+/// block and no page lies across 2^24.
+pub fn blocks()
+    ensures smallest { SmallestAgree }
+    ensures blocks { BlocksStay }
+    ensures pages { PagesStay }
 {}
 
 /// The units of two stretches of pages side by side are those of the whole stretch.
