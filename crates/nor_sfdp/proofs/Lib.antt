@@ -1,0 +1,2 @@
+pub mod NewestLemmas
+pub mod CommandLemmas

@@ -1,0 +1,84 @@
+-- The sector map FF81h (JESD216B, 6.5): detection commands first, of two DWORDs each, then maps.
+use Rattle.std.specs.Prelude.{ℕ, zero, suc, ◌+◌, ◌-◌, ◌*◌, ◌^◌, ◌==◌, ◌&&◌, ◌||◌, not, nat_lt, nat_le, Bool, true, false, Option, Some, None, option_and_then, List, [], ◌∷◌, length, map, sum_by, Result, Ok, Err, if◌then◌else◌}
+use Rattle.std.specs.List.{find, list_all, range_with_len}
+use Rattle.nor_base.specs.declared.meaning.Region.{Region}
+use Rattle.nor_sfdp.specs.declared.fault.SfdpFault.{SfdpFault}
+use Rattle.nor_sfdp.specs.declared.fault.SfdpFault.TheVariants.{MapForm, ConfigBits, NoMap, MapSize}
+use Rattle.nor_sfdp.specs.Bits.{dword_count, word, bits, is_set}
+use Rattle.nor_sfdp.specs.Tables.{◌>>=◌}
+
+-- a detection command begins at DWORD k: bit 1 is clear
+abbrev pub is_command : List ℕ → ℕ → Bool
+is_command table k = nat_le k (dword_count table) && not (is_set (word table k) 1)
+
+-- the commands that stand from DWORD k on, of at most n
+abbrev pub commands_from : ℕ → List ℕ → ℕ → ℕ
+commands_from zero table k = 0
+commands_from (suc n) table k = if is_command table k then suc (commands_from n table (k + 2)) else 0
+
+-- at most eight commands, none of which ends past the table
+abbrev pub accepted_count : List ℕ → ℕ → Result ℕ SfdpFault
+accepted_count table count = if nat_lt 8 count || nat_lt (dword_count table) (2 * count) then Err MapForm else Ok count
+
+-- the number of detection commands
+unfoldable pub command_count_of : List ℕ → Result ℕ SfdpFault
+command_count_of table = accepted_count table (commands_from (dword_count table) table 1)
+
+-- a map: its ID, the DWORD of its first region, its number of regions
+pub record SectorMap : Type 0 where
+  pub id : ℕ
+  pub first : ℕ
+  pub count : ℕ
+
+-- the map that begins at DWORD k: bits 15:8 its ID, 23:16 its number of regions, minus one
+abbrev pub map_at : List ℕ → ℕ → SectorMap
+map_at table k = record { id = bits (word table k) 15 8; first = k + 1; count = bits (word table k) 23 16 + 1 }
+
+-- the maps that stand from DWORD k on, of at most n descriptors: up to one with bit 0 set, or up to the table's end.
+-- Bit 1 of a map's first DWORD is set.
+unfoldable pub maps_from : ℕ → List ℕ → ℕ → Result (List SectorMap) SfdpFault
+maps_from zero table k = Ok []
+maps_from (suc n) table k =
+    if nat_lt (dword_count table) k then Ok []
+    else (if not (is_set (word table k) 1) || nat_lt (dword_count table) (k + (map_at table k).count) then Err MapForm
+    else (if is_set (word table k) 0 then Ok (map_at table k ∷ [])
+    else (maps_from n table (k + 1 + (map_at table k).count) >>= λ others. Ok (map_at table k ∷ others))))
+
+abbrev pub is_binary_digit : ℕ → Bool
+is_binary_digit character = (character == 48) || (character == 49)
+
+-- the ID that configuration bits give, the first the highest
+abbrev pub id_of : List ℕ → ℕ
+id_of [] = 0
+id_of (character ∷ others) = (character - 48) * 2 ^ length others + id_of others
+
+-- a `0` or `1` for each command
+unfoldable pub wanted_id : List ℕ → ℕ → Result ℕ SfdpFault
+wanted_id config commands =
+    if (length config == commands) && list_all is_binary_digit config then Ok (id_of config) else Err ConfigBits
+
+-- a region's DWORD: bits 3:0 the erase kinds allowed, bits 31:8 the size in units of 256 bytes, minus one
+abbrev pub region_of : ℕ → Region
+region_of dword = record { size = 256 * (bits dword 31 8 + 1); kinds = bits dword 3 0 }
+
+-- the regions of a map
+abbrev pub map_regions : List ℕ → SectorMap → List Region
+map_regions table m = map (λ j. region_of (word table j)) (range_with_len m.first m.count)
+
+-- the regions of the first map with the ID, which add up to the size
+abbrev pub regions_by : List ℕ → ℕ → Option SectorMap → Result (List Region) SfdpFault
+regions_by table size None = Err NoMap
+regions_by table size (Some m) =
+    if sum_by (λ (region : Region). region.size) (map_regions table m) == size then Ok (map_regions table m) else Err MapSize
+
+unfoldable pub mapped_regions : List ℕ → List ℕ → ℕ → Result (List Region) SfdpFault
+mapped_regions table config size = do
+  commands ← command_count_of table
+  maps ← maps_from (dword_count table) table (2 * commands + 1)
+  id ← wanted_id config commands
+  regions_by table size (find (λ m. m.id == id) maps)
+
+-- the regions of a chip; without a sector map one region of all kinds, and no configuration bits
+unfoldable pub regions_of : Option (List ℕ) → List ℕ → ℕ → Result (List Region) SfdpFault
+regions_of None config size = if length config == 0 then Ok (record { size = size; kinds = 15 } ∷ []) else Err ConfigBits
+regions_of (Some table) config size = mapped_regions table config size
