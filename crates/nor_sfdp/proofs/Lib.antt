@@ -1,2 +1,4 @@
 pub mod NewestLemmas
 pub mod CommandLemmas
+pub mod MapLemmas
+pub mod IdLemmas

@@ -1,9 +1,11 @@
 -- The sector map FF81h (JESD216B, 6.5): detection commands first, of two DWORDs each, then maps.
 use Rattle.std.specs.Prelude.{ℕ, zero, suc, ◌+◌, ◌-◌, ◌*◌, ◌^◌, ◌==◌, ◌&&◌, ◌||◌, not, nat_lt, nat_le, Bool, true, false, Option, Some, None, option_and_then, List, [], ◌∷◌, length, map, sum_by, Result, Ok, Err, if◌then◌else◌}
 use Rattle.std.specs.List.{find, list_all, range_with_len}
+use Rattle.std.specs.Option.{option_or}
 use Rattle.nor_base.specs.declared.meaning.Region.{Region}
 use Rattle.nor_sfdp.specs.declared.fault.SfdpFault.{SfdpFault}
 use Rattle.nor_sfdp.specs.declared.fault.SfdpFault.TheVariants.{MapForm, ConfigBits, NoMap, MapSize}
+use Rattle.nor_sfdp.specs.declared.map.SectorMap.{SectorMap}
 use Rattle.nor_sfdp.specs.Bits.{dword_count, word, bits, is_set}
 use Rattle.nor_sfdp.specs.Tables.{◌>>=◌}
 
@@ -24,33 +26,43 @@ accepted_count table count = if nat_lt 8 count || nat_lt (dword_count table) (2 
 unfoldable pub command_count_of : List ℕ → Result ℕ SfdpFault
 command_count_of table = accepted_count table (commands_from (dword_count table) table 1)
 
--- a map: its ID, the DWORD of its first region, its number of regions
-pub record SectorMap : Type 0 where
-  pub id : ℕ
-  pub first : ℕ
-  pub count : ℕ
-
 -- the map that begins at DWORD k: bits 15:8 its ID, 23:16 its number of regions, minus one
 abbrev pub map_at : List ℕ → ℕ → SectorMap
 map_at table k = record { id = bits (word table k) 15 8; first = k + 1; count = bits (word table k) 23 16 + 1 }
 
--- the maps that stand from DWORD k on, of at most n descriptors: up to one with bit 0 set, or up to the table's end.
--- Bit 1 of a map's first DWORD is set.
+-- the same, where bit 1 is set and the map doesn't end past the table
+unfoldable pub checked_map : List ℕ → ℕ → Result SectorMap SfdpFault
+checked_map table k =
+    if not (is_set (word table k) 1) || nat_lt (dword_count table) (k + (bits (word table k) 23 16 + 1)) then Err MapForm else Ok (map_at table k)
+
+-- the maps that stand from DWORD k on, at most n: up to one with bit 0 set, or up to the table's end
 unfoldable pub maps_from : ℕ → List ℕ → ℕ → Result (List SectorMap) SfdpFault
 maps_from zero table k = Ok []
 maps_from (suc n) table k =
     if nat_lt (dword_count table) k then Ok []
-    else (if not (is_set (word table k) 1) || nat_lt (dword_count table) (k + (map_at table k).count) then Err MapForm
-    else (if is_set (word table k) 0 then Ok (map_at table k ∷ [])
-    else (maps_from n table (k + 1 + (map_at table k).count) >>= λ others. Ok (map_at table k ∷ others))))
+    else (checked_map table k >>= λ m. if is_set (word table k) 0 then Ok (m ∷ []) else (maps_from n table (m.first + m.count) >>= λ others. Ok (m ∷ others)))
+
+-- the first map with an ID
+abbrev pub has_id : ℕ → SectorMap → Bool
+has_id id m = m.id == id
+
+-- a map that was found, or else this one where it has the ID
+abbrev pub found_or : Option SectorMap → SectorMap → ℕ → Option SectorMap
+found_or found m id = option_or found (if has_id id m then Some m else None)
+
+unfoldable pub first_map_of : List ℕ → ℕ → ℕ → Result (Option SectorMap) SfdpFault
+first_map_of table k id = maps_from (dword_count table) table k >>= λ maps. Ok (find (has_id id) maps)
 
 abbrev pub is_binary_digit : ℕ → Bool
 is_binary_digit character = (character == 48) || (character == 49)
 
+abbrev pub bit_of : ℕ → ℕ
+bit_of character = if character == 49 then 1 else 0
+
 -- the ID that configuration bits give, the first the highest
 abbrev pub id_of : List ℕ → ℕ
 id_of [] = 0
-id_of (character ∷ others) = (character - 48) * 2 ^ length others + id_of others
+id_of (character ∷ others) = (if character == 49 then 2 ^ length others else 0) + id_of others
 
 -- a `0` or `1` for each command
 unfoldable pub wanted_id : List ℕ → ℕ → Result ℕ SfdpFault
@@ -71,12 +83,13 @@ regions_by table size None = Err NoMap
 regions_by table size (Some m) =
     if sum_by (λ (region : Region). region.size) (map_regions table m) == size then Ok (map_regions table m) else Err MapSize
 
+-- faults of the form come before those of the configuration bits, so that the ID isn't looked at where there is one
 unfoldable pub mapped_regions : List ℕ → List ℕ → ℕ → Result (List Region) SfdpFault
 mapped_regions table config size = do
   commands ← command_count_of table
   maps ← maps_from (dword_count table) table (2 * commands + 1)
   id ← wanted_id config commands
-  regions_by table size (find (λ m. m.id == id) maps)
+  regions_by table size (find (has_id id) maps)
 
 -- the regions of a chip; without a sector map one region of all kinds, and no configuration bits
 unfoldable pub regions_of : Option (List ℕ) → List ℕ → ℕ → Result (List Region) SfdpFault

@@ -5,13 +5,24 @@ ghost use Rattle.std.specs.List.{find, list_all, range_with_len, AllByRecursion}
 ghost use Rattle.std.specs.Option.{option_map};
 ghost use Rattle.nor_base.specs.Accepted.{IsRegion};
 ghost use Rattle.nor_sfdp.specs.Bits.{dword_at, dword_count, word};
-ghost use Rattle.nor_sfdp.specs.SectorMap.{is_command, command_count_of, maps_from, wanted_id, map_at, region_of, map_regions, mapped_regions, regions_of};
+ghost use Rattle.nor_sfdp.specs.SectorMap.{is_command, command_count_of, maps_from, checked_map, found_or, first_map_of, is_binary_digit, bit_of, id_of, wanted_id, region_of, map_regions, mapped_regions, regions_of};
 
 use crate::bits::{bits, is_set};
 use crate::fault::SfdpFault;
 use crate::tables::SfdpTable;
 use arrayvec::ArrayVec;
 use nor_base::Region;
+
+/// A map, and where its regions stand in the table.
+#[derive(Clone, Copy, Debug)]
+struct SectorMap {
+    /// The map's ID.
+    id: u32,
+    /// The DWORD of the first region.
+    first: usize,
+    /// The number of regions.
+    count: usize,
+}
 
 /// Whether a detection command begins at a DWORD.
 fn is_command(table: &SfdpTable<'_>, at: usize) -> bool
@@ -37,4 +48,105 @@ fn command_count(table: &SfdpTable<'_>) -> Result<usize, SfdpFault>
         return Err(SfdpFault::MapForm);
     }
     Ok(count)
+}
+
+/// The map that begins at a DWORD, which must be no command and not end past the table.
+#[tactic(auto, unfolding(crate::specs::SectorMap::checked_map))]
+fn map_at(table: &SfdpTable<'_>, at: usize) -> Result<SectorMap, SfdpFault>
+    requires { at ≤ dword_count table.now }
+    ensures map { result ≡ checked_map table.now at }
+    ensures first { IfOk result (λ m. m.first ≡ at + 1) }
+    ensures count { IfOk result (λ m. m.count ≤ 256) }
+    ensures within { IfOk result (λ m. m.first + m.count ≤ dword_count table.now + 1) }
+{
+    let dwords = table.len();
+    let head = table.word(at);
+    let count = bits(head, 23, 16) as usize + 1;
+    if !is_set(head, 1) || dwords < at + count {
+        return Err(SfdpFault::MapForm);
+    }
+    Ok(SectorMap {
+        id: bits(head, 15, 8),
+        first: at + 1,
+        count,
+    })
+}
+
+/// A map that was found, or else this one where it has the ID.
+fn found_or(found: Option<SectorMap>, map: SectorMap, id: u32) -> Option<SectorMap>
+    ensures { result ≡ found_or found map id }
+{
+    match found {
+        None if map.id == id => Some(map),
+        _ => found,
+    }
+}
+
+/// The first map with an ID, of those that stand from a DWORD on. Each of them is looked at, up to the one that says it
+/// is the last.
+fn first_map(table: &SfdpTable<'_>, from: usize, id: u32) -> Result<Option<SectorMap>, SfdpFault>
+    requires low { 1 ≤ from }
+    requires high { from ≤ dword_count table.now + 1 }
+    ensures map { result ≡ first_map_of table.now from id }
+    ensures count { IfOk result (λ found. IfSome found (λ m. m.count ≤ 256)) }
+    ensures within { IfOk result (λ found. IfSome found (λ m. m.first + m.count ≤ dword_count table.now + 1)) }
+{
+    let dwords = table.len();
+    let mut found = None;
+    let mut at = from;
+    while at <= dwords {
+        let map = map_at(table, at)?;
+        found = found_or(found, map, id);
+        if is_set(table.word(at), 0) {
+            return Ok(found);
+        }
+        at = map.first + map.count;
+    }
+    Ok(found)
+}
+
+/// Whether a byte is a configuration bit.
+fn is_binary_digit(character: u8) -> bool
+    ensures { result ≡ is_binary_digit character }
+{
+    matches!(character, b'0' | b'1')
+}
+
+/// Whether all bytes are configuration bits.
+fn are_binary_digits(config: &[u8]) -> bool
+    ensures { result ≡ list_all is_binary_digit config.now }
+{
+    config.iter().all(|character| is_binary_digit(*character))
+}
+
+/// The value of a configuration bit.
+fn bit_of(character: u8) -> u32
+    ensures value { result ≡ bit_of character }
+    ensures small { result ≤ 1 }
+{
+    u32::from(character == b'1')
+}
+
+/// The ID that configuration bits give, one for each of so many commands.
+#[tactic(auto, unfolding(crate::specs::SectorMap::wanted_id))]
+fn wanted_id(config: &[u8], commands: usize) -> Result<u32, SfdpFault>
+    requires { commands ≤ 8 }
+    ensures { result ≡ wanted_id config.now commands }
+{
+    if config.len() != commands || !are_binary_digits(config) {
+        return Err(SfdpFault::ConfigBits);
+    }
+    Ok(id_of(config))
+}
+
+/// The number that configuration bits spell, the first the highest.
+fn id_of(config: &[u8]) -> u32
+    requires { length config.now ≤ 8 }
+    ensures { result ≡ id_of config.now }
+{
+    let mut id = 0;
+    for character in config {
+        id = 2 * id + bit_of(*character);
+    }
+    id
 }
