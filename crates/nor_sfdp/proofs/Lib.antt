@@ -2,3 +2,4 @@ pub mod NewestLemmas
 pub mod CommandLemmas
 pub mod MapLemmas
 pub mod IdLemmas
+pub mod RegionLemmas

@@ -73,15 +73,25 @@ wanted_id config commands =
 abbrev pub region_of : ℕ → Region
 region_of dword = record { size = 256 * (bits dword 31 8 + 1); kinds = bits dword 3 0 }
 
+abbrev pub region_at : List ℕ → ℕ → Region
+region_at table k = region_of (word table k)
+
+-- the bytes that regions have together
+abbrev pub bytes_of : List Region → ℕ
+bytes_of regions = sum_by (λ (region : Region). region.size) regions
+
 -- the regions of a map
 abbrev pub map_regions : List ℕ → SectorMap → List Region
-map_regions table m = map (λ j. region_of (word table j)) (range_with_len m.first m.count)
+map_regions table m = map (region_at table) (range_with_len m.first m.count)
 
--- the regions of the first map with the ID, which add up to the size
+-- the same, where they add up to the size
+unfoldable pub regions_at : List ℕ → SectorMap → ℕ → Result (List Region) SfdpFault
+regions_at table m size = if bytes_of (map_regions table m) == size then Ok (map_regions table m) else Err MapSize
+
+-- the regions of the map that was wanted
 abbrev pub regions_by : List ℕ → ℕ → Option SectorMap → Result (List Region) SfdpFault
 regions_by table size None = Err NoMap
-regions_by table size (Some m) =
-    if sum_by (λ (region : Region). region.size) (map_regions table m) == size then Ok (map_regions table m) else Err MapSize
+regions_by table size (Some m) = regions_at table m size
 
 -- faults of the form come before those of the configuration bits, so that the ID isn't looked at where there is one
 unfoldable pub mapped_regions : List ℕ → List ℕ → ℕ → Result (List Region) SfdpFault

@@ -5,7 +5,7 @@ ghost use Rattle.std.specs.List.{find, list_all, range_with_len, AllByRecursion}
 ghost use Rattle.std.specs.Option.{option_map};
 ghost use Rattle.nor_base.specs.Accepted.{IsRegion};
 ghost use Rattle.nor_sfdp.specs.Bits.{dword_at, dword_count, word};
-ghost use Rattle.nor_sfdp.specs.SectorMap.{is_command, command_count_of, maps_from, checked_map, found_or, first_map_of, is_binary_digit, bit_of, id_of, wanted_id, region_of, map_regions, mapped_regions, regions_of};
+ghost use Rattle.nor_sfdp.specs.SectorMap.{is_command, command_count_of, maps_from, checked_map, found_or, first_map_of, is_binary_digit, bit_of, id_of, wanted_id, region_of, bytes_of, regions_at, mapped_regions, regions_of};
 
 use crate::bits::{bits, is_set};
 use crate::fault::SfdpFault;
@@ -149,4 +149,43 @@ fn id_of(config: &[u8]) -> u32
         id = 2 * id + bit_of(*character);
     }
     id
+}
+
+/// The bytes of a region.
+fn region_bytes(dword: u32) -> u64
+    ensures value { result ≡ (region_of dword).size }
+    ensures small { result ≤ 2 ^ 32 }
+{
+    256 * (u64::from(bits(dword, 31, 8)) + 1)
+}
+
+/// The regions of a map, which must add up to the size.
+fn regions_at(table: &SfdpTable<'_>, map: SectorMap, size: u32) -> Result<ArrayVec<Region, 256>, SfdpFault>
+    requires few { map.count ≤ 256 }
+    requires within { map.first + map.count ≤ dword_count table.now + 1 }
+    ensures regions { MatchResult result (λ v. Ok v.items ≡ regions_at table.now map size) (λ fault. Err fault ≡ regions_at table.now map size) }
+    ensures few { IfOk result (λ v. length v.items ≤ 256) }
+    ensures form { IfOk result (λ v. AllByRecursion IsRegion v.items) }
+    ensures fill { IfOk result (λ v. bytes_of v.items ≡ size) }
+{
+    let _dwords = table.len();
+    let size = u64::from(size);
+    let mut regions = ArrayVec::new();
+    let mut total = 0;
+    for k in 0..map.count {
+        let dword = table.word(map.first + k);
+        let bytes = region_bytes(dword);
+        total += bytes;
+        if total > size {
+            return Err(SfdpFault::MapSize);
+        }
+        regions.push(Region {
+            size: bytes as u32,
+            kinds: bits(dword, 3, 0) as u8,
+        });
+    }
+    if total != size {
+        return Err(SfdpFault::MapSize);
+    }
+    Ok(regions)
 }
