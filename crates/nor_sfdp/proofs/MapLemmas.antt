@@ -1,14 +1,16 @@
 -- The maps, one at a time.
 use Rattle.std.proofs.Common.{◌≡◌, ℕ, zero, suc, ◌+◌, ◌-◌, ◌*◌, ◌<◌, ◌≤◌, Bool, true, false, cond, List, [], ◌∷◌, Option, Some, None, Result, Ok, Err, refl, sym, ap, ◌∙◌, arith}
 use Rattle.std.specs.Option.{option_or}
+use Rattle.std.specs.Result.{result_unwrap_or}
 use Rattle.std.specs.List.{find}
 use Rattle.std.specs.Prelude.{IfSome}
 use Rattle.std.proofs.lemmas.Bool.{lt-ltb, le-ltb}
 use Rattle.nor_sfdp.specs.declared.fault.SfdpFault.{SfdpFault}
+use Rattle.nor_base.specs.declared.meaning.Region.{Region}
 use Rattle.nor_sfdp.specs.declared.map.SectorMap.{SectorMap}
 use Rattle.nor_sfdp.specs.Bits.{dword_count, word, is_set}
 use Rattle.nor_sfdp.specs.Tables.{◌>>=◌}
-use Rattle.nor_sfdp.specs.SectorMap.{checked_map, maps_from, has_id, found_or, first_map_of}
+use Rattle.nor_sfdp.specs.SectorMap.{checked_map, maps_from, has_id, found_or, first_map_of, command_count_of, wanted_id, regions_by, mapped_regions}
 
 -- the answer where a map may have been found before
 abbrev walk : ℕ → List ℕ → ℕ → ℕ → Option SectorMap → Result (Option SectorMap) SfdpFault
@@ -94,3 +96,52 @@ found_holds P found m id before this = by_test found (has_id id m) m before this
   by_test (Some o) b m before this = before
   by_test None true m before this = this
   by_test None false m before this = tt
+
+-- the ID where the configuration bits are accepted
+abbrev pub id_or_0 : Result ℕ SfdpFault → ℕ
+id_or_0 wanted = result_unwrap_or wanted 0
+
+-- the regions, where the map is looked for before the configuration bits are known to be accepted
+abbrev pub looked_for : List ℕ → List ℕ → ℕ → ℕ → Result (List Region) SfdpFault
+looked_for table config size commands =
+    first_map_of table (2 * commands + 1) (id_or_0 (wanted_id config commands)) >>= λ found. wanted_id config commands >>= λ _. regions_by table size found
+
+commuted : (maps : Result (List SectorMap) SfdpFault) (wanted : Result ℕ SfdpFault) (f : Option SectorMap → Result (List Region) SfdpFault)
+    → (maps >>= λ all. wanted >>= λ id. f (find (has_id id) all)) ≡ ((maps >>= λ all. Ok (find (has_id (id_or_0 wanted)) all)) >>= λ found. wanted >>= λ _. f found)
+commuted (Ok all) (Ok id) f = refl
+commuted (Ok all) (Err fault) f = refl
+commuted (Err fault) wanted f = refl
+
+pub no_commands : (table config : List ℕ) (size : ℕ) (fault : SfdpFault) → Err fault ≡ command_count_of table → Err fault ≡ mapped_regions table config size
+unfolding mapped_regions
+no_commands table config size fault is = rw (← is) refl
+
+pub after_commands : (table config : List ℕ) (size commands : ℕ) → Ok commands ≡ command_count_of table → mapped_regions table config size ≡ looked_for table config size commands
+unfolding mapped_regions first_map_of
+after_commands table config size commands is =
+    rw (← is) (commuted (maps_from (dword_count table) table (2 * commands + 1)) (wanted_id config commands) (regions_by table size))
+
+pub no_maps : (table config : List ℕ) (size commands id : ℕ) (fault : SfdpFault) → Ok commands ≡ command_count_of table → id ≡ id_or_0 (wanted_id config commands)
+    → Err fault ≡ first_map_of table (2 * commands + 1) id → Err fault ≡ mapped_regions table config size
+no_maps table config size commands id fault counted wanted is =
+    let looked : Err fault ≡ first_map_of table (2 * commands + 1) (id_or_0 (wanted_id config commands)) = is ∙ ap (first_map_of table (2 * commands + 1)) wanted in
+    ap (λ (found : Result (Option SectorMap) SfdpFault). found >>= λ f. wanted_id config commands >>= λ _. regions_by table size f) looked
+    ∙ sym (after_commands table config size commands counted)
+
+pub not_wanted : (table config : List ℕ) (size commands id : ℕ) (fault : SfdpFault) (found : Option SectorMap) → Ok commands ≡ command_count_of table
+    → id ≡ id_or_0 (wanted_id config commands) → Ok found ≡ first_map_of table (2 * commands + 1) id → Err fault ≡ wanted_id config commands
+    → Err fault ≡ mapped_regions table config size
+not_wanted table config size commands id fault found counted wanted is refused =
+    let looked : Ok found ≡ first_map_of table (2 * commands + 1) (id_or_0 (wanted_id config commands)) = is ∙ ap (first_map_of table (2 * commands + 1)) wanted in
+    ap (λ (w : Result ℕ SfdpFault). w >>= λ _. regions_by table size found) refused
+    ∙ ap (λ (found : Result (Option SectorMap) SfdpFault). found >>= λ f. wanted_id config commands >>= λ _. regions_by table size f) looked
+    ∙ sym (after_commands table config size commands counted)
+
+pub was_wanted : (table config : List ℕ) (size commands id accepted : ℕ) (found : Option SectorMap) → Ok commands ≡ command_count_of table
+    → id ≡ id_or_0 (wanted_id config commands) → Ok found ≡ first_map_of table (2 * commands + 1) id → Ok accepted ≡ wanted_id config commands
+    → regions_by table size found ≡ mapped_regions table config size
+was_wanted table config size commands id accepted found counted wanted is taken =
+    let looked : Ok found ≡ first_map_of table (2 * commands + 1) (id_or_0 (wanted_id config commands)) = is ∙ ap (first_map_of table (2 * commands + 1)) wanted in
+    ap (λ (w : Result ℕ SfdpFault). w >>= λ _. regions_by table size found) taken
+    ∙ ap (λ (found : Result (Option SectorMap) SfdpFault). found >>= λ f. wanted_id config commands >>= λ _. regions_by table size f) looked
+    ∙ sym (after_commands table config size commands counted)

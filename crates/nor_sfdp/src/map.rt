@@ -35,6 +35,7 @@ fn is_command(table: &SfdpTable<'_>, at: usize) -> bool
 /// The number of detection commands, which stand first.
 fn command_count(table: &SfdpTable<'_>) -> Result<usize, SfdpFault>
     ensures count { result ≡ command_count_of table.now }
+    ensures few { IfOk result (λ count. count ≤ 8) }
     ensures within { IfOk result (λ count. 2 * count ≤ dword_count table.now) }
 {
     let dwords = table.len();
@@ -188,4 +189,51 @@ fn regions_at(table: &SfdpTable<'_>, map: SectorMap, size: u32) -> Result<ArrayV
         return Err(SfdpFault::MapSize);
     }
     Ok(regions)
+}
+
+/// The regions of a sector map under configuration bits, which must add up to the size.
+fn mapped_regions(table: &SfdpTable<'_>, config: &[u8], size: u32) -> Result<ArrayVec<Region, 256>, SfdpFault>
+    ensures regions { MatchResult result (λ v. Ok v.items ≡ mapped_regions table.now config.now size) (λ fault. Err fault ≡ mapped_regions table.now config.now size) }
+    ensures few { IfOk result (λ v. length v.items ≤ 256) }
+    ensures form { IfOk result (λ v. AllByRecursion IsRegion v.items) }
+    ensures fill { IfOk result (λ v. bytes_of v.items ≡ size) }
+{
+    let commands = command_count(table)?;
+    let wanted = wanted_id(config, commands);
+    let found = first_map(table, 2 * commands + 1, wanted.unwrap_or(0))?;
+    wanted?;
+    match found {
+        None => Err(SfdpFault::NoMap),
+        Some(map) => regions_at(table, map, size),
+    }
+}
+
+/// The regions of a chip of a size, under configuration bits: those of its sector map or, where it has none, one region
+/// that allows all kinds.
+pub(crate) fn regions(
+    sectors: Option<&SfdpTable<'_>>,
+    config: &[u8],
+    size: u32,
+) -> Result<ArrayVec<Region, 256>, SfdpFault>
+    requires whole { size % 256 ≡ 0 }
+    requires some { 0 < size }
+    ensures regions { MatchResult result (λ v. Ok v.items ≡ regions_of (option_map (λ t. t.now) sectors.entry) config.now size) (λ fault. Err fault ≡ regions_of (option_map (λ t. t.now) sectors.entry) config.now size) }
+    ensures few { IfOk result (λ v. length v.items ≤ 256) }
+    ensures form { IfOk result (λ v. AllByRecursion IsRegion v.items) }
+    ensures fill { IfOk result (λ v. bytes_of v.items ≡ size) }
+{
+    match sectors {
+        Some(table) => mapped_regions(table, config, size),
+        None if config.is_empty() => Ok(one_region(size)),
+        None => Err(SfdpFault::ConfigBits),
+    }
+}
+
+/// A region of so many bytes that allows all kinds.
+fn one_region(size: u32) -> ArrayVec<Region, 256>
+    ensures { result.items ≡ record { size = size; kinds = 15 } ∷ [] }
+{
+    let mut regions = ArrayVec::new();
+    regions.push(Region { size, kinds: 15 });
+    regions
 }
