@@ -3,3 +3,4 @@ pub mod CommandLemmas
 pub mod MapLemmas
 pub mod IdLemmas
 pub mod RegionLemmas
+pub mod AcceptedLemmas

@@ -4,3 +4,5 @@ pub mod Tables
 pub mod Basic
 pub mod Kinds
 pub mod SectorMap
+pub mod Opcodes
+pub mod Reading

@@ -53,6 +53,7 @@ pub(crate) fn kinds(
     opcodes: u32,
 ) -> Result<[Option<Erase>; 4], SfdpFault>
     ensures kinds { result ≡ kinds_of page dword8 dword9 offered opcodes }
+    ensures four { IfOk result (λ kinds. length kinds ≡ 4) }
     ensures accepted { IfOk result (λ kinds. AllByRecursion (IsKind page) kinds) }
 {
     Ok([

@@ -8,7 +8,10 @@ mod fault;
 mod header;
 mod kinds;
 mod map;
+mod opcodes;
+mod reader;
 mod tables;
 
 pub use fault::SfdpFault;
+pub use reader::read;
 pub use tables::{SfdpTable, table};
