@@ -1,5 +1,5 @@
 -- What is read is accepted.
-use Rattle.std.proofs.Common.{◌≡◌, ◌≢◌, ℕ, zero, suc, ◌+◌, ◌%◌, ◌^◌, ◌<◌, ◌≤◌, Bool, true, false, not, ◌&&◌, ◌||◌, List, [], ◌∷◌, ◌++◌, length, Option, Some, None, refl, sym, ap, subst, ◌∙◌, arith}
+use Rattle.std.proofs.Common.{◌≡◌, ◌≢◌, ℕ, zero, suc, ◌%◌, ◌^◌, ◌<◌, ◌≤◌, Bool, true, false, not, ◌&&◌, ◌||◌, List, [], ◌∷◌, ◌++◌, length, Option, Some, None, refl, sym, ap, subst, ◌∙◌, arith}
 use Rattle.std.specs.Prelude.{◌==◌, IfSome, IsSome, is_some, slice_get, option_and_then, if◌then◌else◌}
 use Rattle.std.specs.Option.{option_map_or}
 use Rattle.std.proofs.lemmas.List.{append-nil}
@@ -7,9 +7,7 @@ use Rattle.std.specs.List.{list_any, AllByRecursion}
 use Rattle.nor_base.specs.declared.meaning.Erase.{Erase}
 use Rattle.nor_base.specs.declared.meaning.Region.{Region}
 use Rattle.nor_base.specs.declared.meaning.QuadRead.{QuadRead}
-use Rattle.nor_base.specs.declared.meaning.Width.{Width}
 use Rattle.nor_base.specs.declared.meaning.Width.TheVariants.{Both}
-use Rattle.nor_base.specs.declared.meaning.Switch.{Switch}
 use Rattle.nor_base.specs.declared.meaning.Switch.TheVariants.{Absent}
 use Rattle.nor_base.specs.declared.instruction.What.TheVariants as what
 use Rattle.nor_base.specs.Parameters.{Parameters, erase_kind}
@@ -79,7 +77,7 @@ joined xs ys a b first rest = offered-append xs ys ∙ ap (λ (l : List ℕ). l 
 -- the opcodes of the erase rows are those of the live kinds
 erase_opcodes : (first second third fourth : Option Erase) (regions : List Region)
     → offered_opcodes (rows_of first (is_allowed regions 1) 1 ++ (rows_of second (is_allowed regions 2) 2 ++ (rows_of third (is_allowed regions 3) 3 ++ rows_of fourth (is_allowed regions 4) 4)))
-      ≡ live_opcodes regions 1 (first ∷ second ∷ third ∷ fourth ∷ [])
+    ≡ live_opcodes regions 1 (first ∷ second ∷ third ∷ fourth ∷ [])
 erase_opcodes first second third fourth regions =
     let k4 = kind_rows fourth (is_allowed regions 4) 4 ∙ sym (append-nil (kind_opcodes fourth (is_allowed regions 4))) in
     let k3 = joined (rows_of third (is_allowed regions 3) 3) (rows_of fourth (is_allowed regions 4) 4) (kind_opcodes third (is_allowed regions 3)) (kind_opcodes fourth (is_allowed regions 4) ++ [])
@@ -102,15 +100,15 @@ own_distinct : (m : Parameters) (first second third fourth : Option Erase) → m
     → are_distinct (fixed_opcodes ++ offered_opcodes (own_rows m false)) ≡ true
 own_distinct m first second third fourth four distinct free =
     all_distinct m.quad_read (erase_rows m false 1 ++ (erase_rows m false 2 ++ (erase_rows m false 3 ++ erase_rows m false 4))) (live_opcodes m.regions 1 m.erases) (same_rows m first second third fourth four) distinct free where
-  same_rows : (m : Parameters) (first second third fourth : Option Erase) → m.erases ≡ first ∷ second ∷ third ∷ fourth ∷ []
-      → offered_opcodes (erase_rows m false 1 ++ (erase_rows m false 2 ++ (erase_rows m false 3 ++ erase_rows m false 4))) ≡ live_opcodes m.regions 1 m.erases
-  same_rows m first second third fourth four = along m.regions m.erases (first ∷ second ∷ third ∷ fourth ∷ []) four (erase_opcodes first second third fourth m.regions) where
-    along : (regions : List Region) (slots four : List (Option Erase)) → slots ≡ four
-        → offered_opcodes (rows_of (option_and_then (λ slot. slot) (slice_get four 0)) (is_allowed regions 1) 1 ++ (rows_of (option_and_then (λ slot. slot) (slice_get four 1)) (is_allowed regions 2) 2
+      same_rows : (m : Parameters) (first second third fourth : Option Erase) → m.erases ≡ first ∷ second ∷ third ∷ fourth ∷ []
+          → offered_opcodes (erase_rows m false 1 ++ (erase_rows m false 2 ++ (erase_rows m false 3 ++ erase_rows m false 4))) ≡ live_opcodes m.regions 1 m.erases
+      same_rows m first second third fourth four = along m.regions m.erases (first ∷ second ∷ third ∷ fourth ∷ []) four (erase_opcodes first second third fourth m.regions) where
+        along : (regions : List Region) (slots four : List (Option Erase)) → slots ≡ four
+            → offered_opcodes (rows_of (option_and_then (λ slot. slot) (slice_get four 0)) (is_allowed regions 1) 1 ++ (rows_of (option_and_then (λ slot. slot) (slice_get four 1)) (is_allowed regions 2) 2
             ++ (rows_of (option_and_then (λ slot. slot) (slice_get four 2)) (is_allowed regions 3) 3 ++ rows_of (option_and_then (λ slot. slot) (slice_get four 3)) (is_allowed regions 4) 4))) ≡ live_opcodes regions 1 four
-        → offered_opcodes (rows_of (option_and_then (λ slot. slot) (slice_get slots 0)) (is_allowed regions 1) 1 ++ (rows_of (option_and_then (λ slot. slot) (slice_get slots 1)) (is_allowed regions 2) 2
+            → offered_opcodes (rows_of (option_and_then (λ slot. slot) (slice_get slots 0)) (is_allowed regions 1) 1 ++ (rows_of (option_and_then (λ slot. slot) (slice_get slots 1)) (is_allowed regions 2) 2
             ++ (rows_of (option_and_then (λ slot. slot) (slice_get slots 2)) (is_allowed regions 3) 3 ++ rows_of (option_and_then (λ slot. slot) (slice_get slots 3)) (is_allowed regions 4) 4))) ≡ live_opcodes regions 1 slots
-    along regions slots four is h = rw is h
+        along regions slots four is h = rw is h
 
 pub slot_holds : (P : Erase → Type 0) (slots : List (Option Erase)) (k : ℕ) (erase : Erase) → AllByRecursion (λ slot. IfSome slot P) slots
     → option_and_then (λ slot. slot) (slice_get slots k) ≡ Some erase → P erase

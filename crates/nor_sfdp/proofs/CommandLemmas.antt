@@ -1,9 +1,8 @@
 -- Detection commands, one at a time.
-use Rattle.std.proofs.Common.{◌≡◌, ℕ, zero, suc, ◌+◌, ◌-◌, ◌*◌, ◌<◌, ◌≤◌, Bool, true, false, List, refl, sym, ap, ◌∙◌, arith}
-use Rattle.std.specs.Prelude.{Result, Ok, Err}
+use Rattle.std.proofs.Common.{◌≡◌, ℕ, zero, suc, ◌+◌, ◌-◌, ◌*◌, ◌<◌, ◌≤◌, true, false, List, refl, sym, ap, ◌∙◌, arith}
+use Rattle.std.specs.Prelude.{Ok, Err}
 use Rattle.std.proofs.lemmas.Bool.{lt-ltb, le-ltb}
 use Rattle.nor_sfdp.specs.declared.fault.SfdpFault.TheVariants.{MapForm}
-use Rattle.nor_sfdp.specs.declared.fault.SfdpFault.{SfdpFault}
 use Rattle.nor_sfdp.specs.Bits.{dword_count}
 use Rattle.nor_sfdp.specs.SectorMap.{is_command, commands_from, accepted_count, command_count_of}
 

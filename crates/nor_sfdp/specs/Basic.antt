@@ -1,5 +1,5 @@
 -- The basic flash parameter table FF00h (JESD216B, 6.4), DWORD by DWORD.
-use Rattle.std.specs.Prelude.{ℕ, zero, suc, ◌+◌, ◌-◌, ◌/◌, ◌%◌, ◌^◌, ◌==◌, ◌&&◌, ◌||◌, not, nat_lt, Bool, true, false, Option, Some, None, List, Result, Ok, Err, if◌then◌else◌}
+use Rattle.std.specs.Prelude.{ℕ, ◌+◌, ◌/◌, ◌%◌, ◌^◌, ◌==◌, ◌||◌, not, nat_lt, Bool, true, false, Option, Some, None, Result, Ok, Err, if◌then◌else◌}
 use Rattle.nor_base.specs.declared.meaning.Width.{Width}
 use Rattle.nor_base.specs.declared.meaning.Width.TheVariants.{Three, Both, Four}
 use Rattle.nor_base.specs.declared.meaning.Switch.{Switch}

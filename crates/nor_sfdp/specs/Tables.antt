@@ -1,5 +1,5 @@
 -- The tables that are read.
-use Rattle.std.specs.Prelude.{ℕ, ◌+◌, ◌*◌, ◌||◌, nat_lt, Bool, true, false, List, length, take, drop, Option, Some, None, Result, Ok, Err, if◌then◌else◌}
+use Rattle.std.specs.Prelude.{ℕ, ◌+◌, ◌*◌, ◌||◌, nat_lt, Bool, false, List, length, take, drop, Option, Some, None, Result, Ok, Err, if◌then◌else◌}
 use Rattle.std.specs.Option.{option_map_or}
 use Rattle.nor_sfdp.specs.declared.fault.SfdpFault.{SfdpFault}
 use Rattle.nor_sfdp.specs.declared.fault.SfdpFault.TheVariants.{Truncated, NoBasic, ShortTable}
@@ -40,7 +40,7 @@ tables_by bytes None sectors four_byte = Err NoBasic
 tables_by bytes (Some basic) sectors four_byte =
     if nat_lt basic.dwords 9 || is_short four_byte then Err ShortTable
     else (cut_of bytes basic >>= λ basic_table. cut_where_there bytes sectors >>= λ sectors_table. cut_where_there bytes four_byte >>= λ four_byte_table.
-      Ok (record { basic = basic_table; sectors = sectors_table; four_byte = four_byte_table }))
+    Ok (record { basic = basic_table; sectors = sectors_table; four_byte = four_byte_table }))
 
 unfoldable pub tables_of : List ℕ → Result Tables SfdpFault
 tables_of bytes = do

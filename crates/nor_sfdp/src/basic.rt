@@ -63,7 +63,11 @@ pub(crate) fn width(dword1: u32, dword16: u32) -> Result<Width, SfdpFault>
     if address_bytes == 2 || is_set(dword16, 30) {
         return Ok(Width::Four);
     }
-    Ok(if address_bytes == 1 { Width::Both } else { Width::Three })
+    Ok(if address_bytes == 1 {
+        Width::Both
+    } else {
+        Width::Three
+    })
 }
 
 /// The page, by DWORD 11 or, in a table of fewer than 16 DWORDs, by DWORD 1.
@@ -76,7 +80,10 @@ pub(crate) fn page_in(dwords: usize, dword1: u32, dword11: u32) -> Result<Page, 
         if !is_set(dword1, 2) {
             return Err(SfdpFault::PageSize);
         }
-        return Ok(Page { size: 64, open_page: true });
+        return Ok(Page {
+            size: 64,
+            open_page: true,
+        });
     }
     let exponent = bits(dword11, 7, 4);
     if exponent < 4 || exponent > 12 {

@@ -67,7 +67,9 @@ fn header_at(bytes: &[u8], i: usize) -> Header
         minor: bytes[at + 1],
         major: bytes[at + 2],
         dwords: bytes[at + 3],
-        address: u32::from(bytes[at + 4]) + 256 * u32::from(bytes[at + 5]) + 65536 * u32::from(bytes[at + 6]),
+        address: u32::from(bytes[at + 4])
+            + 256 * u32::from(bytes[at + 5])
+            + 65536 * u32::from(bytes[at + 6]),
     }
 }
 

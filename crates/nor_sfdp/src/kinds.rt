@@ -57,9 +57,29 @@ pub(crate) fn kinds(
     ensures accepted { IfOk result (λ kinds. AllByRecursion (IsKind page) kinds) }
 {
     Ok([
-        kind(page, bits(dword8, 7, 0), bits(dword8, 15, 8), dedicated(offered, opcodes, 1))?,
-        kind(page, bits(dword8, 23, 16), bits(dword8, 31, 24), dedicated(offered, opcodes, 2))?,
-        kind(page, bits(dword9, 7, 0), bits(dword9, 15, 8), dedicated(offered, opcodes, 3))?,
-        kind(page, bits(dword9, 23, 16), bits(dword9, 31, 24), dedicated(offered, opcodes, 4))?,
+        kind(
+            page,
+            bits(dword8, 7, 0),
+            bits(dword8, 15, 8),
+            dedicated(offered, opcodes, 1),
+        )?,
+        kind(
+            page,
+            bits(dword8, 23, 16),
+            bits(dword8, 31, 24),
+            dedicated(offered, opcodes, 2),
+        )?,
+        kind(
+            page,
+            bits(dword9, 7, 0),
+            bits(dword9, 15, 8),
+            dedicated(offered, opcodes, 3),
+        )?,
+        kind(
+            page,
+            bits(dword9, 23, 16),
+            bits(dword9, 31, 24),
+            dedicated(offered, opcodes, 4),
+        )?,
     ])
 }

@@ -1,11 +1,12 @@
 //! The sector map FF81h.
 
-ghost use Rattle.std.specs.Prelude.{◌≡◌, ℕ, ◌+◌, ◌*◌, ◌<◌, ◌≤◌, ◌%◌, ◌^◌, [], ◌∷◌, length, map, Ok, Err, IfOk, IfSome, IsTrue, MatchResult, sum_by};
-ghost use Rattle.std.specs.List.{find, list_all, range_with_len, AllByRecursion};
+ghost use Rattle.std.specs.Prelude.{◌≡◌, ◌+◌, ◌*◌, ◌<◌, ◌≤◌, ◌%◌, ◌^◌, [], ◌∷◌, length, Ok, Err, IfOk, IfSome, IsTrue, MatchResult};
+ghost use Rattle.std.specs.List.{list_all, AllByRecursion};
 ghost use Rattle.std.specs.Option.{option_map};
 ghost use Rattle.nor_base.specs.Accepted.{IsRegion};
-ghost use Rattle.nor_sfdp.specs.Bits.{dword_at, dword_count, word};
-ghost use Rattle.nor_sfdp.specs.SectorMap.{is_command, command_count_of, maps_from, checked_map, found_or, first_map_of, is_binary_digit, bit_of, id_of, wanted_id, region_of, bytes_of, regions_at, mapped_regions, regions_of};
+ghost use Rattle.nor_sfdp.specs.Bits.{dword_count};
+ghost use Rattle.nor_sfdp.specs.SectorMap.{is_command, command_count_of, checked_map, found_or, first_map_of, is_binary_digit};
+ghost use Rattle.nor_sfdp.specs.SectorMap.{bit_of, id_of, wanted_id, region_of, bytes_of, regions_at, mapped_regions, regions_of};
 
 use crate::bits::{bits, is_set};
 use crate::fault::SfdpFault;
@@ -161,10 +162,14 @@ fn region_bytes(dword: u32) -> u64
 }
 
 /// The regions of a map, which must add up to the size.
-fn regions_at(table: &SfdpTable<'_>, map: SectorMap, size: u32) -> Result<ArrayVec<Region, 256>, SfdpFault>
+fn regions_at(
+    table: &SfdpTable<'_>,
+    map: SectorMap,
+    size: u32,
+) -> Result<ArrayVec<Region, 256>, SfdpFault>
     requires few { map.count ≤ 256 }
     requires within { map.first + map.count ≤ dword_count table.now + 1 }
-    ensures regions { MatchResult result (λ v. Ok v.items ≡ regions_at table.now map size) (λ fault. Err fault ≡ regions_at table.now map size) }
+    ensures regions { let told = regions_at table.now map size in MatchResult result (λ v. Ok v.items ≡ told) (λ fault. Err fault ≡ told) }
     ensures few { IfOk result (λ v. length v.items ≤ 256) }
     ensures form { IfOk result (λ v. AllByRecursion IsRegion v.items) }
     ensures fill { IfOk result (λ v. bytes_of v.items ≡ size) }
@@ -192,8 +197,13 @@ fn regions_at(table: &SfdpTable<'_>, map: SectorMap, size: u32) -> Result<ArrayV
 }
 
 /// The regions of a sector map under configuration bits, which must add up to the size.
-fn mapped_regions(table: &SfdpTable<'_>, config: &[u8], size: u32) -> Result<ArrayVec<Region, 256>, SfdpFault>
-    ensures regions { MatchResult result (λ v. Ok v.items ≡ mapped_regions table.now config.now size) (λ fault. Err fault ≡ mapped_regions table.now config.now size) }
+fn mapped_regions(
+    table: &SfdpTable<'_>,
+    config: &[u8],
+    size: u32,
+) -> Result<ArrayVec<Region, 256>, SfdpFault>
+    ensures regions { let told = mapped_regions table.now config.now size in
+        MatchResult result (λ v. Ok v.items ≡ told) (λ fault. Err fault ≡ told) }
     ensures few { IfOk result (λ v. length v.items ≤ 256) }
     ensures form { IfOk result (λ v. AllByRecursion IsRegion v.items) }
     ensures fill { IfOk result (λ v. bytes_of v.items ≡ size) }
@@ -217,7 +227,8 @@ pub(crate) fn regions(
 ) -> Result<ArrayVec<Region, 256>, SfdpFault>
     requires whole { size % 256 ≡ 0 }
     requires some { 0 < size }
-    ensures regions { MatchResult result (λ v. Ok v.items ≡ regions_of (option_map (λ t. t.now) sectors.entry) config.now size) (λ fault. Err fault ≡ regions_of (option_map (λ t. t.now) sectors.entry) config.now size) }
+    ensures regions { let told = regions_of (option_map (λ t. t.now) sectors.entry) config.now size in
+        MatchResult result (λ v. Ok v.items ≡ told) (λ fault. Err fault ≡ told) }
     ensures few { IfOk result (λ v. length v.items ≤ 256) }
     ensures form { IfOk result (λ v. AllByRecursion IsRegion v.items) }
     ensures fill { IfOk result (λ v. bytes_of v.items ≡ size) }

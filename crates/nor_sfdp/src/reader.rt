@@ -1,6 +1,6 @@
 //! What SFDP bytes say of a chip.
 
-ghost use Rattle.std.specs.Prelude.{◌≡◌, ◌<◌, ◌≤◌, ◌%◌, ◌^◌, ◌==◌, ◌&&◌, false, IfOk, IfSome, IsSome, IsTrue, is_some, length};
+ghost use Rattle.std.specs.Prelude.{◌≡◌, ◌<◌, ◌≤◌, ◌%◌, ◌^◌, ◌==◌, ◌&&◌, false, IfSome, IsSome, IsTrue, is_some, length};
 ghost use Rattle.std.specs.List.{AllByRecursion, list_any};
 ghost use Rattle.nor_base.specs.Accepted.{IsPowerOfTwo, IsRegion};
 ghost use Rattle.nor_sfdp.specs.Kinds.{IsKind};

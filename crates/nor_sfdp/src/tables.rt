@@ -89,7 +89,10 @@ fn table_at<'a>(bytes: &'a [u8], header: &Header) -> Result<SfdpTable<'a>, SfdpF
 
 /// The table of a header that may be missing.
 #[tactic(auto, unfolding(crate::specs::Tables::cut_where_there))]
-fn table_where_there<'a>(bytes: &'a [u8], header: Option<Header>) -> Result<Option<SfdpTable<'a>>, SfdpFault>
+fn table_where_there<'a>(
+    bytes: &'a [u8],
+    header: Option<Header>,
+) -> Result<Option<SfdpTable<'a>>, SfdpFault>
     ensures { result ≡ cut_where_there bytes.now header }
 {
     match header {

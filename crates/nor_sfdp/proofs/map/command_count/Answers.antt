@@ -12,7 +12,7 @@ loop-count-preserved c =
       place = omega (arith, c.loop-count.invariant.place);
       within = omega (arith, inside);
       counted = command_counted c.args.table.now c.len-dwords.result c.loop-count.at c.loop-count.count _ c.loop-count.invariant.place
-      (omega (arith, inside, c.len-dwords.ensures.count)) c.loop-count-test.ensures.value c.loop-count.invariant.counted;
+          (omega (arith, inside, c.len-dwords.ensures.count)) c.loop-count-test.ensures.value c.loop-count.invariant.counted;
     }
 
 pub returns-then-count-gt8-clause-count : goal.returns-then-count-gt8-clause-count
@@ -21,7 +21,7 @@ returns-then-count-gt8-clause-count c =
     elim c.then-count-gt8.branch [
       | then-count-gt8-via-then-count-gt8 w ↦ sym (total ∙ too_many c.args.table.now c.loop-count.count w.if-count-gt8.true)
       | then-count-gt8-via-else-count-gt8+then-count-dwords w ↦
-        sym (total ∙ past_the_end c.args.table.now c.loop-count.count w.if-count-gt8.false (omega (arith, w.if-count-dwords.true, c.len-dwords.ensures.count)))
+          sym (total ∙ past_the_end c.args.table.now c.loop-count.count w.if-count-gt8.false (omega (arith, w.if-count-dwords.true, c.len-dwords.ensures.count)))
     ]
 
 pub returns-clause-count : goal.returns-clause-count

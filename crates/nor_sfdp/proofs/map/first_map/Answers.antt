@@ -1,10 +1,9 @@
 -- Each map is passed, found, or refused.
-use Rattle.std.proofs.Common.{◌≡◌, ◌+◌, ◌<◌, ◌≤◌, ℕ, Option, Some, None, Ok, Bool, true, false, refl, sym, ap, subst, ◌∙◌, arith}
+use Rattle.std.proofs.Common.{◌≡◌, ◌+◌, ◌<◌, ◌≤◌, ℕ, Option, Ok, true, false, sym, ap, subst, ◌∙◌, arith}
 use Rattle.std.specs.Prelude.{IfSome}
 use Rattle.std.proofs.lemmas.Result.{err_from_is_err_and}
 use Rattle.nor_sfdp.specs.declared.map.SectorMap.{SectorMap}
 use Rattle.nor_sfdp.specs.Bits.{dword_count, word, is_set}
-use Rattle.nor_sfdp.specs.SectorMap.{found_or}
 use Rattle.nor_sfdp.proofs.MapLemmas.{IsWalk, walk_begins, walk_ends, walk_refuses, walk_closes, walk_goes_on, found_holds}
 use Rattle.nor_sfdp.proofs.map.first_map.Goals as goal
 
@@ -26,11 +25,11 @@ loop-at-preserved c =
       low = omega (arith, later);
       high = c.in_ok-map.ensures.within;
       walk = subst (IsWalk c.args.table.now c.args.from c.args.id (c.in_ok-map.map.first + c.in_ok-map.map.count)) (sym c.found_or-found.ensures)
-      (walk_goes_on c.args.table.now c.args.from c.args.id c.loop-at.at c.loop-at.found c.in_ok-map.map inside c.in_ok-map.ensures.map later more c.loop-at.invariant.walk);
+          (walk_goes_on c.args.table.now c.args.from c.args.id c.loop-at.at c.loop-at.found c.in_ok-map.map inside c.in_ok-map.ensures.map later more c.loop-at.invariant.walk);
       count = subst (λ (o : Option SectorMap). IfSome o (λ m. m.count ≤ 256)) (sym c.found_or-found.ensures)
-      (found_holds (λ m. m.count ≤ 256) c.loop-at.found c.in_ok-map.map c.args.id c.loop-at.invariant.count c.in_ok-map.ensures.count);
+          (found_holds (λ m. m.count ≤ 256) c.loop-at.found c.in_ok-map.map c.args.id c.loop-at.invariant.count c.in_ok-map.ensures.count);
       within = subst (λ (o : Option SectorMap). IfSome o (λ m. m.first + m.count ≤ dword_count c.args.table.now + 1)) (sym c.found_or-found.ensures)
-      (found_holds (λ m. m.first + m.count ≤ dword_count c.args.table.now + 1) c.loop-at.found c.in_ok-map.map c.args.id c.loop-at.invariant.within c.in_ok-map.ensures.within);
+          (found_holds (λ m. m.first + m.count ≤ dword_count c.args.table.now + 1) c.loop-at.found c.in_ok-map.map c.args.id c.loop-at.invariant.within c.in_ok-map.ensures.within);
     }
 
 pub returns-in_err-map-clause-map : goal.returns-in_err-map-clause-map

@@ -1,5 +1,5 @@
 -- What is still to be walked gives the answer; the measure is the DWORDs that are left.
-use Rattle.std.proofs.Common.{◌≡◌, ◌+◌, ◌-◌, ◌≤◌}
+use Rattle.std.proofs.Common.{◌+◌, ◌-◌, ◌≤◌}
 use Rattle.std.specs.Prelude.{IfSome}
 use Rattle.nor_sfdp.specs.Bits.{dword_count}
 use Rattle.nor_sfdp.proofs.MapLemmas.{IsWalk}

@@ -1,5 +1,5 @@
 -- With a table, without one, and bits without one.
-use Rattle.std.proofs.Common.{rules, refl, ap, sym, ◌∙◌}
+use Rattle.std.proofs.Common.{refl}
 use Rattle.nor_sfdp.specs.SectorMap.{regions_of}
 use Rattle.nor_sfdp.proofs.map.regions.Goals as goal
 
