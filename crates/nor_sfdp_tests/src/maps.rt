@@ -12,7 +12,10 @@ fn wanted_maps(rt: HostRuntime) -> Result<(), Fail> {
     let alloc = rt.alloc();
     let bytes = mapped(alloc, &TWO_MAPS)?;
     let first = read(&bytes, "0", Part::Generic).ok().expect(&rt, "a chip");
-    let whole = Region { size: 65536, kinds: 1 };
+    let whole = Region {
+        size: 65536,
+        kinds: 1,
+    };
     assert_eq!(rt; first.regions.as_slice(), [whole].as_slice());
     assert_eq!(rt; read(&bytes, "1", Part::Generic), Ok(mapped_chip()));
     let table = [
@@ -77,7 +80,10 @@ fn many_commands(rt: HostRuntime) -> Result<(), Fail> {
     let mut more = vec![in alloc; 0, 0, 0, 0, 0, 0, 0, 0]?;
     more.extend_from_slice(&map)?;
     let bytes = mapped(alloc, &more)?;
-    assert_eq!(rt; read(&bytes, "010100101", Part::Generic).err(), Some(SfdpFault::MapForm));
+    assert_eq!(rt;
+        read(&bytes, "010100101", Part::Generic).err(),
+        Some(SfdpFault::MapForm)
+    );
     Ok(())
 }
 

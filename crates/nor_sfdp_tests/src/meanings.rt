@@ -14,10 +14,16 @@ use std::test::Fail;
 fn sample_chips(rt: HostRuntime) -> Result<(), Fail> {
     let alloc = rt.alloc();
     assert_eq!(rt; read(&SMALL, "", Part::Generic), Ok(small_chip()));
-    assert_eq!(rt; read(&SMALL, "", Part::Generic).ok(), Meaning::uniform(8192));
+    assert_eq!(rt;
+        read(&SMALL, "", Part::Generic).ok(),
+        Meaning::uniform(8192)
+    );
     assert_eq!(rt; read(&LARGE, "", Part::Generic), Ok(large_chip()));
     assert_eq!(rt; read(&LARGE, "", Part::W25q256jv), Ok(w25q256jv_chip()));
-    assert_eq!(rt; read(&mapped(alloc, &ONE_MAP)?, "", Part::Generic), Ok(mapped_chip()));
+    assert_eq!(rt;
+        read(&mapped(alloc, &ONE_MAP)?, "", Part::Generic),
+        Ok(mapped_chip())
+    );
     let table = [
         // a basic table of nine DWORDs
         (SMALL.as_slice(), [(11, 9), SAME, SAME], open_page_chip()),
@@ -31,7 +37,10 @@ fn sample_chips(rt: HostRuntime) -> Result<(), Fail> {
         (&LARGE, [(16, 0), (17, 5), SAME], legacy_chip()),
     ];
     for (bytes, changes, chip) in table {
-        assert_eq!(rt; read(&changed(alloc, bytes, changes)?, "", Part::Generic), Ok(chip));
+        assert_eq!(rt;
+            read(&changed(alloc, bytes, changes)?, "", Part::Generic),
+            Ok(chip)
+        );
     }
     Ok(())
 }
@@ -77,7 +86,13 @@ fn densities(rt: HostRuntime) -> Result<(), Fail> {
 #[test]
 fn quad_reads(rt: HostRuntime) {
     // the quad read's opcode: its own, those of kind 1 and a fixed one
-    let table = [(0xEB, true), (0x20, false), (0x21, false), (0xD8, false), (0x03, false)];
+    let table = [
+        (0xEB, true),
+        (0x20, false),
+        (0x21, false),
+        (0xD8, false),
+        (0x03, false),
+    ];
     for (op, there) in table {
         let mut bytes = LARGE;
         bytes[35] = op;

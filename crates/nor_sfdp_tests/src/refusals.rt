@@ -32,7 +32,10 @@ fn one_cause(rt: HostRuntime) -> Result<(), Fail> {
         let bytes = changed(rt.alloc(), &SMALL, changes)?;
         assert_eq!(rt; read(&bytes, "", Part::Generic).err(), Some(fault));
     }
-    assert_eq!(rt; read(&SMALL, "0", Part::Generic).err(), Some(SfdpFault::ConfigBits));
+    assert_eq!(rt;
+        read(&SMALL, "0", Part::Generic).err(),
+        Some(SfdpFault::ConfigBits)
+    );
     Ok(())
 }
 
@@ -41,17 +44,67 @@ fn two_causes(rt: HostRuntime) -> Result<(), Fail> {
     let alloc = rt.alloc();
     let map = mapped(alloc, &ONE_MAP)?;
     let table = [
-        (SMALL.as_slice(), [(0, 0x00), (6, 0xFF), SAME], "", SfdpFault::Signature),
-        (&SMALL, [(6, 0xFF), (5, 0x02), SAME], "", SfdpFault::Truncated),
+        (
+            SMALL.as_slice(),
+            [(0, 0x00), (6, 0xFF), SAME],
+            "",
+            SfdpFault::Signature,
+        ),
+        (
+            &SMALL,
+            [(6, 0xFF), (5, 0x02), SAME],
+            "",
+            SfdpFault::Truncated,
+        ),
         (&SMALL, [(5, 0x02), (8, 0x01), SAME], "", SfdpFault::Major),
-        (&LARGE, [(8, 0x01), (19, 0x01), SAME], "", SfdpFault::NoBasic),
-        (&LARGE, [(19, 0x01), (12, 0xFF), SAME], "", SfdpFault::ShortTable),
-        (&SMALL, [(11, 0x08), (12, 0x60), SAME], "", SfdpFault::ShortTable),
-        (&map, [(20, 0xFF), (31, 0x80), SAME], "", SfdpFault::Truncated),
-        (&SMALL, [(23, 0x80), (18, 0x06), SAME], "", SfdpFault::Density),
-        (&SMALL, [(18, 0x06), (56, 0xD0), SAME], "", SfdpFault::AddressBytes),
-        (&SMALL, [(56, 0xD0), (44, 0x07), SAME], "", SfdpFault::PageSize),
-        (&map, [(52, 0x07), (19, 0x02), SAME], "", SfdpFault::EraseSize),
+        (
+            &LARGE,
+            [(8, 0x01), (19, 0x01), SAME],
+            "",
+            SfdpFault::NoBasic,
+        ),
+        (
+            &LARGE,
+            [(19, 0x01), (12, 0xFF), SAME],
+            "",
+            SfdpFault::ShortTable,
+        ),
+        (
+            &SMALL,
+            [(11, 0x08), (12, 0x60), SAME],
+            "",
+            SfdpFault::ShortTable,
+        ),
+        (
+            &map,
+            [(20, 0xFF), (31, 0x80), SAME],
+            "",
+            SfdpFault::Truncated,
+        ),
+        (
+            &SMALL,
+            [(23, 0x80), (18, 0x06), SAME],
+            "",
+            SfdpFault::Density,
+        ),
+        (
+            &SMALL,
+            [(18, 0x06), (56, 0xD0), SAME],
+            "",
+            SfdpFault::AddressBytes,
+        ),
+        (
+            &SMALL,
+            [(56, 0xD0), (44, 0x07), SAME],
+            "",
+            SfdpFault::PageSize,
+        ),
+        (
+            &map,
+            [(52, 0x07), (19, 0x02), SAME],
+            "",
+            SfdpFault::EraseSize,
+        ),
         (&map, [(19, 0x02), SAME, SAME], "0", SfdpFault::MapForm),
         (&map, [(89, 0x01), SAME, SAME], "0", SfdpFault::ConfigBits),
         (&map, [(89, 0x01), (97, 0xEE), SAME], "", SfdpFault::NoMap),
@@ -69,7 +122,11 @@ fn proper_prefixes(rt: HostRuntime) -> Result<(), Fail> {
     let map = mapped(rt.alloc(), &ONE_MAP)?;
     for bytes in [SMALL.as_slice(), &LARGE, &map] {
         for end in 0..bytes.len() {
-            let fault = if end < 4 { SfdpFault::Signature } else { SfdpFault::Truncated };
+            let fault = if end < 4 {
+                SfdpFault::Signature
+            } else {
+                SfdpFault::Truncated
+            };
             assert_eq!(rt; read(&bytes[..end], "", Part::Generic).err(), Some(fault));
         }
     }
