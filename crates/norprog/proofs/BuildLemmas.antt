@@ -1,10 +1,9 @@
 -- From a job to what a build promises of its inputs.
-use Rattle.std.proofs.Common.{◌≡◌, ℕ, ◌+◌, ◌-◌, ◌*◌, ◌/◌, ◌^◌, Bool, true, false, not, ◌&&◌, ◌||◌, if◌then◌else◌, cond, nat_lt, nat_le, List, [], ◌∷◌, length, map, Option, refl, sym, ◌∙◌, ap, subst, arith}
+use Rattle.std.proofs.Common.{◌≡◌, ℕ, ◌+◌, ◌-◌, ◌*◌, ◌/◌, ◌^◌, Bool, true, false, not, ◌&&◌, if◌then◌else◌, cond, nat_lt, nat_le, List, [], ◌∷◌, length, map, Option, refl, sym, ◌∙◌, ap, subst, arith}
 use Rattle.std.specs.Prelude.{count_by, unwrap_or}
 use Rattle.std.proofs.lemmas.Bool.{or_parts}
 use Rattle.nor_base.specs.Programs.{Program}
 use Rattle.std.specs.List.{fold, enumerate_from, AllByRecursion}
-use Rattle.nor_base.specs.declared.meaning.Strategy.TheVariants.{S2}
 use Rattle.nor_base.specs.Parameters.{Parameters}
 use Rattle.nor_base.specs.Uniform.{uniform_of, IsUniformSize}
 use Rattle.nor_base.specs.Device.{Ahead}
@@ -14,9 +13,8 @@ use Rattle.nor_base.specs.declared.meaning.Strategy.{Strategy}
 use Rattle.nor_base.specs.declared.step.Step.{Step}
 use Rattle.nor_base.specs.Accepted.{IsAccepted}
 use Rattle.nor_base.specs.Run.{DoesTaskOnEvery}
-use Rattle.nor_base.specs.Strategies.{strategy}
-use Rattle.nor_base.specs.Need.{is_due, is_at_fault}
-use Rattle.nor_base.specs.Units.{WorkUnit, pages}
+use Rattle.nor_base.specs.Need.{is_at_fault}
+use Rattle.nor_base.specs.Units.{pages}
 use Rattle.nor_base.specs.Planned.{ArePlanned, planned_units}
 use Rattle.nor_work.specs.Laws.{IsWorkable, PlannedDoesTask, OneUnitInTheMaking}
 use Rattle.nor_hex.specs.Image.{byte_at}

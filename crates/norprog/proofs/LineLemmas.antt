@@ -1,16 +1,13 @@
 -- The lines of steps.
-use Rattle.std.proofs.Common.{◌≡◌, ℕ, ◌+◌, ◌<◌, List, [], ◌∷◌, ◌++◌, length, take, Option, Some, None, Result, Ok, Err, refl, sym, ◌∙◌, ap, subst, arith, length-append, append_assoc, append-nil}
+use Rattle.std.proofs.Common.{◌≡◌, ℕ, ◌<◌, List, [], ◌∷◌, ◌++◌, length, Option, refl, sym, ◌∙◌, ap, arith, length-append, append_assoc, append-nil}
 use Rattle.std.specs.Io.KnownBytes.{Appends}
-use Rattle.std.proofs.Math.Seq.{take-append-add}
-use Rattle.std.proofs.lemmas.List.{take-append-le}
 use Rattle.nor_base.specs.declared.step.Step.{Step}
 use Rattle.nor_base.specs.Script.{step_line, step_lines, closed}
 use Rattle.nor_base.proofs.DeviceLaws.{Appends-none}
-use Rattle.norprog.specs.declared.fault.BuildFault.{BuildFault}
 use Rattle.nor_base.specs.Programs.{Program}
 use Rattle.norprog.specs.Clocks.{program_steps}
 use Rattle.norprog.specs.Pages.{lines_of}
-use Rattle.nor_base.specs.Device.{Cuts, Writes}
+use Rattle.nor_base.specs.Device.{Cuts}
 
 -- the lines of steps in two parts
 pub lines_append : (xs ys : List Step) → step_lines (xs ++ ys) ≡ step_lines xs ++ step_lines ys

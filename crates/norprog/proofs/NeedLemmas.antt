@@ -1,10 +1,9 @@
 -- Where no byte is due nothing is erased, and nothing is at fault.
-use Rattle.std.proofs.Common.{◌≡◌, ℕ, zero, suc, ◌+◌, ◌-◌, ◌%◌, ◌^◌, ◌<◌, ◌≤◌, ◌==◌, nat_le, nat_lt, Bool, true, false, not, ◌&&◌, ◌||◌, if◌then◌else◌, List, [], ◌∷◌, length, Option, Some, None, slice_index, refl, sym, ◌∙◌, ap, arith, inl, inr, eqb-true, eq-eqb, ext_get_or, le-leb}
+use Rattle.std.proofs.Common.{◌≡◌, ℕ, zero, suc, ◌^◌, ◌<◌, ◌≤◌, ◌==◌, Bool, true, false, not, ◌&&◌, if◌then◌else◌, List, Option, Some, None, slice_index, refl, sym, ◌∙◌, ap, arith, eqb-true, eq-eqb, ext_get_or, le-leb}
 use Rattle.std.specs.Prelude.{bit_and, is_some}
 use Rattle.std.specs.Int.Bits.{and_self}
-use Rattle.std.specs.List.{list_any, list_all, range_with_len}
+use Rattle.std.specs.List.{list_all, range_with_len}
 use Rattle.std.specs.Option.{option_map_or}
-use Rattle.std.proofs.lemmas.Bool.{cases_Bool}
 use Rattle.std.proofs.lemmas.List.Folds.{list_any_none}
 use Rattle.std.proofs.lemmas.Nat.{pow_pos}
 use Rattle.nor_base.specs.declared.meaning.Erase.{Erase}
@@ -17,7 +16,7 @@ use Rattle.nor_base.specs.Accepted.{IsAccepted}
 use Rattle.nor_base.specs.Array.{each}
 use Rattle.nor_base.specs.Blocks.{Block, is_legal, block_at}
 use Rattle.nor_base.specs.Strategies.{strategy, reaches}
-use Rattle.nor_base.specs.Need.{differs, is_due, is_needed, lies_in_needed, kept_if, erasable, erased_at, levelled, is_at_fault, is_unreachable, lacks_erase}
+use Rattle.nor_base.specs.Need.{is_due, is_needed, lies_in_needed, kept_if, erasable, erased_at, levelled, is_at_fault, lacks_erase}
 use Rattle.nor_base.proofs.ArrayLaws.{length-each, each_keeps}
 use Rattle.norprog.specs.Rises.{must_rise}
 

@@ -1,14 +1,11 @@
 -- The programs of a part's pages are those of the planned work, and the clocks of their steps spell its instructions.
-use Rattle.std.proofs.Common.{◌≡◌, ℕ, zero, suc, ◌+◌, ◌-◌, ◌*◌, ◌/◌, ◌<◌, ◌≤◌, ◌^◌, Bool, true, false, ◌&&◌, ◌||◌, List, [], ◌∷◌, ◌++◌, length, map, take, Option, Some, None, refl, sym, ◌∙◌, ap, subst, arith, append-nil}
+use Rattle.std.proofs.Common.{◌≡◌, ℕ, zero, suc, ◌+◌, ◌-◌, ◌*◌, ◌/◌, ◌≤◌, ◌^◌, Bool, true, false, ◌||◌, List, [], ◌∷◌, ◌++◌, length, map, Option, Some, None, refl, sym, ◌∙◌, ap, subst, arith, append-nil}
 use Rattle.std.specs.Prelude.{flat_map, filter, MatchOption, slice_range}
 use Rattle.std.specs.List.{range_with_len, AllByRecursion}
-use Rattle.std.proofs.lemmas.Bool.{both_ways}
 use Rattle.std.proofs.lemmas.Grind.{flat_map-append}
-use Rattle.nor_base.specs.declared.instruction.What.TheVariants as what
 use Rattle.nor_base.specs.declared.meaning.Start.{Start}
 use Rattle.nor_base.specs.declared.meaning.Strategy.TheVariants.{S2}
 use Rattle.nor_base.specs.declared.meaning.Width.TheVariants.{Three}
-use Rattle.nor_base.specs.declared.step.Step.{Step}
 use Rattle.nor_base.specs.declared.step.Step.TheVariants.{Send, Poll}
 use Rattle.nor_base.specs.Parameters.{Parameters}
 use Rattle.nor_base.specs.Accepted.{IsAccepted}
@@ -21,12 +18,12 @@ use Rattle.nor_base.specs.Units.{pages, units}
 use Rattle.nor_base.specs.Spelling.{IsStepOf, AreStepsOf}
 use Rattle.nor_base.specs.Operations.{Op, writes, unit_ops, enable, poll, programming, instructions, lowered}
 use Rattle.nor_base.specs.Planned.{ArePlanned, planned_units, planned_ops, planned}
-use Rattle.norprog.specs.Clocks.{bits, enable_clocks, program_clocks, program_steps, IsSendable}
+use Rattle.norprog.specs.Clocks.{enable_clocks, program_clocks, IsSendable}
 use Rattle.norprog.specs.Pages.{first_from, last_below, program_between, page_of, page_program, page_programs, steps_of}
 use Rattle.norprog.proofs.ClockLemmas.{one_lane, enable_opcode, enable_decodes, opcode_of_program, program_decodes}
 use Rattle.norprog.proofs.KeptLemmas.{none_kept, span_kept}
 use Rattle.norprog.proofs.NeedLemmas.{NoneDue, by_three}
-use Rattle.norprog.proofs.PageParts.{length-page, differs-page, length-page_part, page_part}
+use Rattle.norprog.proofs.PageParts.{length-page, differs-page, page_part}
 use Rattle.norprog.proofs.PageSpans.{NonePass, IsFirst, IsLast, first_is, last_is, in_order, span_is}
 use Rattle.norprog.proofs.UnitLemmas.{whole_page, units_from, programs_from, units_are, ops_are, pages_more}
 

@@ -1,5 +1,5 @@
 -- The units of the work where no byte is due: the pages that have a program.
-use Rattle.std.proofs.Common.{◌≡◌, ℕ, zero, suc, ◌+◌, ◌*◌, ◌/◌, Bool, true, false, List, [], ◌∷◌, ◌++◌, length, map, Option, Some, None, cond, refl, sym, ◌∙◌, ap, arith, length-append, append-nil, append_assoc}
+use Rattle.std.proofs.Common.{◌≡◌, ℕ, zero, suc, ◌+◌, ◌*◌, ◌/◌, false, List, [], ◌∷◌, ◌++◌, length, map, cond, refl, sym, ◌∙◌, ap, arith, length-append, append-nil}
 use Rattle.std.specs.Prelude.{filter, flat_map, count_by, sum_by, is_some}
 use Rattle.std.specs.List.{range_with_len, slice_split}
 use Rattle.std.specs.Option.{option_map_or}
@@ -10,10 +10,10 @@ use Rattle.std.proofs.lemmas.List.Sums.{sum_by-append}
 use Rattle.nor_base.specs.declared.meaning.Strategy.{Strategy}
 use Rattle.nor_base.specs.Parameters.{Parameters}
 use Rattle.nor_base.specs.Accepted.{IsAccepted}
-use Rattle.nor_base.specs.Need.{differs, is_due, erased_at, levelled}
+use Rattle.nor_base.specs.Need.{differs, is_due, erased_at}
 use Rattle.nor_base.specs.Programs.{Program, span, is_closed, page_programs}
 use Rattle.nor_base.specs.Units.{WorkUnit, pages, page_unit, unit_by, units_over, units}
-use Rattle.nor_base.specs.Operations.{Op, writes, unit_ops}
+use Rattle.nor_base.specs.Operations.{writes, unit_ops}
 use Rattle.norprog.proofs.NeedLemmas.{NoneDue, none_erased, levelled_same}
 
 -- the units of some pages, and their programs

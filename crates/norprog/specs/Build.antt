@@ -1,5 +1,5 @@
 -- What a build promises (this project's).
-use Rattle.std.specs.Prelude.{◌≡◌, ◌≢◌, ℕ, Bool, true, false, ◌<◌, ◌≤◌, ⊤, List, [], ◌++◌, length, count_by, sum_by, Option, is_some}
+use Rattle.std.specs.Prelude.{◌≡◌, ◌≢◌, ℕ, true, false, ◌<◌, ◌≤◌, ⊤, List, [], ◌++◌, length, count_by, sum_by, Option, is_some}
 use Rattle.std.specs.List.{AllByRecursion}
 use Rattle.std.specs.Option.{option_map_or}
 use Rattle.std.specs.Io.KnownBytes.{Appends}

@@ -9,6 +9,7 @@ use Rattle.nor_hex.specs.Faults.{IsImage, IsFault}
 use Rattle.nor_layout.specs.declared.fault.LayoutFault.{LayoutFault}
 use Rattle.nor_layout.specs.declared.fault.LayoutFault.TheVariants as layout
 use Rattle.nor_layout.specs.Region.{Region}
+use Rattle.nor_sfdp.specs.declared.fault.SfdpFault.TheVariants.{Density}
 use Rattle.nor_layout.specs.Text.{IsLayout, IsFirstFault}
 use Rattle.nor_layout.specs.Chosen.{has, is_chosen, first_unknown}
 use Rattle.norprog.specs.declared.fault.BuildFault.{BuildFault}
@@ -87,7 +88,7 @@ RefusesInputs t len (fault.Contradiction number) = contradiction t ≡ Some numb
 RefusesInputs t len (fault.Hex why) = CanBegin t × (why ≢ hex.Memory) × IsFault t.hex why
 RefusesInputs t len (fault.Layout why) = ((image : Pairs) × HasImage t image) × RefusesLayout t why
 RefusesInputs t len (fault.Sfdp why) =
-    ((image : Pairs) × (regions : List Region) × HasRegions t image regions) × (IsUniformSize (uniform_size t.chip) → ⊥)
+    ((image : Pairs) × (regions : List Region) × HasRegions t image regions) × (why ≡ Density) × (IsUniformSize (uniform_size t.chip) → ⊥)
 RefusesInputs t len (fault.Status number) = ⊥
 RefusesInputs t len fault.ModeImpossible =
     ((image : Pairs) × (regions : List Region) × HasRegions t image regions) × IsUniformSize (uniform_size t.chip) × (t.mode4 ≡ true)

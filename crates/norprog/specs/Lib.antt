@@ -8,3 +8,4 @@ pub mod Causes
 pub mod Windows
 pub mod Build
 pub mod Report
+pub mod ChipText

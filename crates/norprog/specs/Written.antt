@@ -1,6 +1,5 @@
 -- Which device's count of failures rose where a build ended early.
-use Rattle.std.specs.Prelude.{◌≡◌, ◌<◌, ◌+◌, ⊤, ℕ, List, length, take, Option, Result, Ok, Err}
-use Rattle.std.specs.Io.KnownBytes.{Appends}
+use Rattle.std.specs.Prelude.{◌≡◌, ◌+◌, ⊤, ℕ, Result, Ok, Err}
 use Rattle.norprog.specs.declared.fault.BuildFault.{BuildFault}
 use Rattle.norprog.specs.declared.fault.BuildFault.TheVariants as fault
 

@@ -6,17 +6,9 @@ ghost use Rattle.norprog.specs.declared.fault.BuildFault.TheVariants.{Memory};
 
 use nor_hex::HexFault;
 use nor_layout::LayoutFault;
+use nor_sfdp::SfdpFault;
 use std::alloc::{AllocError, AllocFailed};
 use thiserror::Error;
-
-/// Why a chip's meaning is refused.
-#[derive(Clone, Copy, Debug, PartialEq, Eq, Error)]
-pub enum SfdpFault {
-    /// The size isn't a whole number of bytes, is 0, isn't a multiple of 4096, or is over the limit: 16 MiB for a
-    /// uniform chip.
-    #[error("the size is not one that is accepted")]
-    Density,
-}
 
 /// Why a build is refused.
 ///

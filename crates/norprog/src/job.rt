@@ -8,9 +8,10 @@ ghost use Rattle.nor_layout.specs.Chosen.{has, is_chosen};
 ghost use Rattle.norprog.specs.declared.fault.BuildFault.TheVariants.{Memory};
 ghost use Rattle.norprog.specs.Causes.{CanBegin, HasImage, HasRegions, AreAccepted, IsJob, RefusesInputs, contradiction, is_uniform, uniform_size};
 
-use crate::fault::{BuildFault, SfdpFault};
+use crate::fault::BuildFault;
 use crate::inputs::{Inputs, Source};
 use nor_base::{Meaning, Part, Width};
+use nor_sfdp::SfdpFault;
 use nor_target::{Chosen, Image};
 use std::alloc::Global;
 

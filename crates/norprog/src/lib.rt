@@ -5,6 +5,7 @@
 #![tactic(auto)]
 
 pub mod builder;
+mod chip_text;
 mod clocks;
 pub mod fault;
 pub mod inputs;
@@ -14,9 +15,11 @@ pub mod report;
 mod windows;
 
 pub use builder::build;
-pub use fault::{BuildFault, SfdpFault};
+pub use chip_text::sfdp_text;
+pub use fault::BuildFault;
 pub use inputs::{Inputs, Source};
 pub use nor_base::{ByteIn, ByteOut, Bytes, Failed, FromRead, IntoWrite, Part, Strategy};
 pub use nor_hex::HexFault;
 pub use nor_layout::LayoutFault;
+pub use nor_sfdp::SfdpFault;
 pub use report::{Report, write_report};

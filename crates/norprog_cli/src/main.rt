@@ -1,6 +1,7 @@
-//! The command line of norprog: `norprog build` writes the script that programs a chip.
+//! The command line of norprog: `norprog build` writes the script that programs a chip, `norprog sfdp` prints what a chip's
+//! tables mean.
 //!
-//! The options are read here; [`norprog_command::answer`] does the work behind them.
+//! The options are read here; [`norprog_command::answer`] and [`norprog_command::show`] do the work behind them.
 #![tactic(auto)]
 
 ghost use Rattle.std.specs.Prelude.{◌≡◌, ◌<◌, ◌≤◌, ◌-◌, ◌^◌};
@@ -11,8 +12,8 @@ mod options;
 mod tests;
 
 use nor_base::{ByteOut, IntoWrite};
-use norprog_command::{Refusal, answer, refuse};
-use options::given_by;
+use norprog_command::{Refusal, answer, refuse, show};
+use options::{Asked, asked_by};
 use std::alloc::AllocGlobal;
 use std::fs::Files;
 use std::io::ErrorKind;
@@ -56,5 +57,9 @@ fn command<O: ByteOut, E: ByteOut>(
     ensures told { 0 < result → E.count err.new ≡ E.count err.old
         → Tells (E.held err.old) (E.held err.new) result }
 {
-    answer(rt, given_by(rt.alloc(), words.as_slice()), out, err)
+    match asked_by(rt.alloc(), words.as_slice()) {
+        Ok(Asked::Build(given)) => answer(rt, Ok(given), out, err),
+        Ok(Asked::Sfdp(given)) => show(rt, Ok(given), out, err),
+        Err(refusal) => answer(rt, Err(refusal), out, err),
+    }
 }

@@ -3,18 +3,28 @@
 use clap::error::ErrorKind;
 use clap::{Arg, ArgAction, ArgMatches, Command, Error};
 use nor_base::Bytes;
-use norprog_command::{Given, Refusal};
+use norprog_command::{Given, GivenChip, Refusal};
 use std::alloc::{AllocError, Global};
 
+/// What stands on a command line, by its command.
+#[derive(Drop, Debug)]
+pub(crate) enum Asked<'a> {
+    Build(Given<'a>),
+    Sfdp(GivenChip<'a>),
+}
+
 /// Reads the words behind the program's name. A fault of theirs, and a request for help, is `Text`.
-pub(crate) fn given_by<'a>(alloc: Global, words: &'a [String]) -> Result<Given<'a>, Refusal> {
+pub(crate) fn asked_by<'a>(alloc: Global, words: &'a [String]) -> Result<Asked<'a>, Refusal> {
     let command = norprog(alloc)?;
     let matches = match command.try_get_matches_from(words) {
         Ok(matches) => matches,
         Err(error) => return Err(refusal_of(alloc, &error)),
     };
-    match matches.subcommand_matches("build") {
-        Some(build) => given_in(alloc, build),
+    if let Some(build) = matches.subcommand_matches("build") {
+        return Ok(Asked::Build(given_in(alloc, build)?));
+    }
+    match matches.subcommand_matches("sfdp") {
+        Some(chip) => Ok(Asked::Sfdp(chip_in(chip))),
         None => Err(Refusal::Usage),
     }
 }
@@ -49,6 +59,15 @@ fn given_in<'a>(alloc: Global, build: &ArgMatches<'a>) -> Result<Given<'a>, Refu
     })
 }
 
+fn chip_in<'a>(chip: &ArgMatches<'a>) -> GivenChip<'a> {
+    GivenChip {
+        sfdp: chip.get_str("sfdp"),
+        uniform: chip.get_str("uniform"),
+        bits: chip.get_str("bits"),
+        part: chip.get_str("part"),
+    }
+}
+
 /// The names of regions, in their order.
 fn regions_in(alloc: Global, build: &ArgMatches<'_>) -> Result<Vec<Bytes>, Refusal> {
     let mut regions = Vec::new(alloc);
@@ -65,17 +84,23 @@ fn norprog<'a>(alloc: Global) -> Result<Command<'a>, AllocError> {
         .about("Programs a SPI NOR flash chip by a bus script")
         .no_binary_name(true)
         .subcommand_required(true)
-        .subcommand(build(alloc)?)
+        .subcommand(build(alloc)?)?
+        .subcommand(sfdp(alloc)?)
 }
 
 fn build<'a>(alloc: Global) -> Result<Command<'a>, AllocError> {
     let command = Command::new(alloc, "build").about(
         "Writes the script that programs the chip, and prints a report of it",
     );
-    with_output(
-        alloc,
-        with_state(alloc, with_chip(alloc, with_image(alloc, command)?)?)?,
-    )
+    let sfdp = "The chip's SFDP bytes, a binary file; this or --uniform. Not yet supported";
+    let command = with_chip(alloc, with_image(alloc, command)?, sfdp)?;
+    with_output(alloc, with_state(alloc, command)?)
+}
+
+fn sfdp<'a>(alloc: Global) -> Result<Command<'a>, AllocError> {
+    let command = Command::new(alloc, "sfdp").about("Prints what the chip's SFDP tables mean");
+    let sfdp = "The chip's SFDP bytes, a binary file; this or --uniform";
+    with_chip(alloc, command, sfdp)
 }
 
 /// The options that say what is to stand on the chip.
@@ -99,8 +124,11 @@ fn with_image<'a>(alloc: Global, command: Command<'a>) -> Result<Command<'a>, Al
 }
 
 /// The options that say which chip it is.
-fn with_chip<'a>(alloc: Global, command: Command<'a>) -> Result<Command<'a>, AllocError> {
-    let sfdp = "The chip's SFDP bytes, a binary file; this or --uniform. Not yet supported";
+fn with_chip<'a>(
+    alloc: Global,
+    command: Command<'a>,
+    sfdp: &'static str,
+) -> Result<Command<'a>, AllocError> {
     let uniform =
         "A chip of N bytes without SFDP, with 4 KiB sectors: a decimal multiple of 4096 up to 16777216";
     let bits =

@@ -1,7 +1,7 @@
 //! Tests of the options, and of the text of the command line library.
 
 use crate::command;
-use crate::options::given_by;
+use crate::options::{Asked, asked_by};
 use nor_base::IntoWrite;
 use std::alloc::AllocGlobal;
 use std::fs::Files;
@@ -9,7 +9,7 @@ use std::process::Abort;
 use std::test::Fail;
 
 /// Command lines that the command line library answers, and a part of its text.
-static HELPS: [(&str, &str); 10] = [
+static HELPS: [(&str, &str); 12] = [
     ("", "Usage: norprog <COMMAND>"),
     ("--help", "Usage: norprog <COMMAND>"),
     ("burn", "Usage: norprog <COMMAND>"),
@@ -19,6 +19,11 @@ static HELPS: [(&str, &str); 10] = [
         "Usage: norprog build [OPTIONS] --hex <F> --content <F> --out <F> [REGIONS]...",
     ),
     ("help build", "--uniform <N>"),
+    ("sfdp --help", "Usage: norprog sfdp [OPTIONS]"),
+    (
+        "sfdp --uniform 8192 --mode4",
+        "unexpected argument '--mode4'",
+    ),
     (
         "build --uniform 8192 --content chip --out unmade",
         "--hex <F>",
@@ -66,9 +71,9 @@ fn fills_each_field(rt: &(impl Abort + AllocGlobal)) -> Result<(), Fail> {
     let line =
         "build --hex a --layout b --sfdp c --uniform d --bits e --part f --status g --mode4 --quad --base h --content i --verify --out j k l";
     let words = words(rt, line)?;
-    let given = match given_by(rt.alloc(), words.as_slice()) {
-        Ok(given) => given,
-        Err(_) => return Err(Fail::from("a refusal")),
+    let given = match asked_by(rt.alloc(), words.as_slice()) {
+        Ok(Asked::Build(given)) => given,
+        _ => return Err(Fail::from("no build")),
     };
     let texts = [
         given.hex,
@@ -94,6 +99,8 @@ fn fills_each_field(rt: &(impl Abort + AllocGlobal)) -> Result<(), Fail> {
 #[test]
 fn reads_the_options(rt: HostRuntime) -> Result<(), Fail> {
     fills_each_field(&rt)?;
+    tells(&rt, "sfdp --uniform 8192 --part w25q", "norprog: usage\n")?;
+    tells(&rt, "sfdp --part generic", "norprog: usage\n")?;
     // an empty option is there
     tells(
         &rt,

@@ -6,8 +6,8 @@ use Rattle.nor_hex.specs.declared.fault.HexFault.{HexFault}
 use Rattle.nor_hex.specs.declared.fault.HexFault.TheVariants as hex
 use Rattle.nor_layout.specs.declared.fault.LayoutFault.{LayoutFault}
 use Rattle.nor_layout.specs.declared.fault.LayoutFault.TheVariants as layout
-use Rattle.norprog.specs.declared.fault.SfdpFault.{SfdpFault}
-use Rattle.norprog.specs.declared.fault.SfdpFault.TheVariants as sfdp
+use Rattle.nor_sfdp.specs.declared.fault.SfdpFault.{SfdpFault}
+use Rattle.nor_sfdp.specs.declared.fault.SfdpFault.TheVariants as sfdp
 use Rattle.norprog.specs.declared.fault.BuildFault.{BuildFault}
 use Rattle.norprog.specs.declared.fault.BuildFault.TheVariants as build
 use Rattle.norprog_command.specs.declared.faults.FileName.{FileName}
@@ -49,7 +49,20 @@ layout_text layout.Memory = codes "memory"
 
 -- `sfdp n`
 abbrev pub sfdp_text : SfdpFault → List ℕ
+sfdp_text sfdp.Signature = codes "sfdp 1"
+sfdp_text sfdp.Truncated = codes "sfdp 2"
+sfdp_text sfdp.NoBasic = codes "sfdp 3"
+sfdp_text sfdp.Major = codes "sfdp 4"
+sfdp_text sfdp.ShortTable = codes "sfdp 5"
 sfdp_text sfdp.Density = codes "sfdp 6"
+sfdp_text sfdp.AddressBytes = codes "sfdp 7"
+sfdp_text sfdp.PageSize = codes "sfdp 8"
+sfdp_text sfdp.EraseSize = codes "sfdp 9"
+sfdp_text sfdp.MapForm = codes "sfdp 10"
+sfdp_text sfdp.ConfigBits = codes "sfdp 11"
+sfdp_text sfdp.NoMap = codes "sfdp 12"
+sfdp_text sfdp.MapSize = codes "sfdp 13"
+sfdp_text sfdp.Opcode = codes "sfdp 14"
 
 abbrev pub fault_text : BuildFault → List ℕ
 fault_text (build.Contradiction number) = codes "contradiction " ++ decimal number

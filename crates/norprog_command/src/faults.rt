@@ -3,7 +3,7 @@
 ghost use Rattle.std.specs.Prelude.{◌≡◌, ◌<◌, ◌-◌, ◌^◌};
 ghost use Rattle.std.specs.Io.KnownBytes.{Appends};
 ghost use Rattle.nor_base.specs.Device.{Writes, Counts};
-ghost use Rattle.norprog_command.specs.Lines.{spelled, number_text, hex_text, layout_text, fault_text, file_text};
+ghost use Rattle.norprog_command.specs.Lines.{spelled, number_text, hex_text, layout_text, sfdp_text, fault_text, file_text};
 ghost use Rattle.norprog_command.specs.Lines.{program_line, printed, status_after};
 ghost use Rattle.norprog.specs.declared.fault.BuildFault.TheVariants.{Memory};
 ghost use Rattle.norprog_command.specs.declared.faults.Refusal.TheVariants.{Build};
@@ -143,7 +143,7 @@ fn fault_words(fault: BuildFault) -> (&'static [u8], Option<u64>)
         BuildFault::Contradiction(number) => (b"contradiction ", Some(u64::from(number))),
         BuildFault::Hex(fault) => hex_words(fault),
         BuildFault::Layout(fault) => layout_words(fault),
-        BuildFault::Sfdp(SfdpFault::Density) => (b"sfdp 6", None),
+        BuildFault::Sfdp(fault) => (sfdp_words(fault), None),
         BuildFault::Status(number) => (b"status ", Some(u64::from(number))),
         BuildFault::ModeImpossible => (b"mode", None),
         BuildFault::ContentSize => (b"content size", None),
@@ -184,5 +184,27 @@ fn layout_words(fault: LayoutFault) -> (&'static [u8], Option<u64>)
         LayoutFault::TooMany(line) => (b"layout 5 line ", Some(line)),
         LayoutFault::UnknownRegion(index) => (b"layout 6 region ", Some(index)),
         LayoutFault::Memory => (b"memory", None),
+    }
+}
+
+/// The words for a fault of the SFDP bytes.
+fn sfdp_words(fault: SfdpFault) -> &'static [u8]
+    ensures { result.now ≡ sfdp_text fault }
+{
+    match fault {
+        SfdpFault::Signature => b"sfdp 1",
+        SfdpFault::Truncated => b"sfdp 2",
+        SfdpFault::NoBasic => b"sfdp 3",
+        SfdpFault::Major => b"sfdp 4",
+        SfdpFault::ShortTable => b"sfdp 5",
+        SfdpFault::Density => b"sfdp 6",
+        SfdpFault::AddressBytes => b"sfdp 7",
+        SfdpFault::PageSize => b"sfdp 8",
+        SfdpFault::EraseSize => b"sfdp 9",
+        SfdpFault::MapForm => b"sfdp 10",
+        SfdpFault::ConfigBits => b"sfdp 11",
+        SfdpFault::NoMap => b"sfdp 12",
+        SfdpFault::MapSize => b"sfdp 13",
+        SfdpFault::Opcode => b"sfdp 14",
     }
 }

@@ -5,11 +5,13 @@
 #![tactic(auto)]
 
 mod builds;
+mod chips;
 mod faults;
 mod files;
 mod request;
 mod values;
 
 pub use builds::answer;
+pub use chips::{GivenChip, show};
 pub use faults::{FileName, Refusal, refuse};
 pub use request::{Chip, Given, Request, request_of};

@@ -76,7 +76,7 @@ pub fn request_of<'a>(given: Given<'a>) -> Option<Request<'a>>
 
 /// The chip, where exactly one of its SFDP file and its size is given, the size is of its form, and no bits stand
 /// beside a size.
-fn chip_of<'a>(
+pub(crate) fn chip_of<'a>(
     sfdp: Option<&'a str>,
     uniform: Option<&'a str>,
     bits: Option<&'a str>,

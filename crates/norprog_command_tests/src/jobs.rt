@@ -32,7 +32,7 @@ pub(crate) fn answer_of(rt: &(impl Files + AllocGlobal), changes: &str) -> Resul
     })
 }
 
-fn text(bytes: Vec<u8>) -> Result<String, Fail> {
+pub(crate) fn text(bytes: Vec<u8>) -> Result<String, Fail> {
     match String::from_utf8(bytes) {
         Ok(text) => Ok(text),
         Err(_) => Err(Fail::from("no text")),

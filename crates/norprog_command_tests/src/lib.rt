@@ -2,6 +2,8 @@
 #![tactic(auto)]
 
 #[cfg(test)]
+mod chips;
+#[cfg(test)]
 mod files;
 #[cfg(test)]
 mod jobs;

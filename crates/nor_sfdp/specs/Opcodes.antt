@@ -1,0 +1,30 @@
+-- Which opcodes a chip's own instructions have.
+use Rattle.std.specs.Prelude.{ℕ, suc, Bool, true, false, List, [], ◌∷◌, ◌++◌, Option, Some, None}
+use Rattle.std.specs.List.{list_any}
+use Rattle.nor_base.specs.declared.meaning.Erase.{Erase}
+use Rattle.nor_base.specs.declared.meaning.Region.{Region}
+use Rattle.nor_base.specs.Parameters.{allows}
+use Rattle.nor_base.specs.Accepted.{fixed_opcodes}
+
+-- some region allows the kind
+abbrev pub is_allowed : List Region → ℕ → Bool
+is_allowed regions kind = list_any (λ region. allows region kind) regions
+
+abbrev pub op4_of : Option ℕ → List ℕ
+op4_of None = []
+op4_of (Some op4) = op4 ∷ []
+
+-- the opcodes of a kind that some region allows, or that none does
+abbrev pub kind_opcodes : Option Erase → Bool → List ℕ
+kind_opcodes None allowed = []
+kind_opcodes (Some erase) true = erase.op ∷ op4_of erase.op4
+kind_opcodes (Some erase) false = []
+
+-- the opcodes of the kinds that are live, the first of the slots being kind k
+abbrev pub live_opcodes : List Region → ℕ → List (Option Erase) → List ℕ
+live_opcodes regions k [] = []
+live_opcodes regions k (slot ∷ slots) = kind_opcodes slot (is_allowed regions k) ++ live_opcodes regions (suc k) slots
+
+-- the fixed opcodes, and those of the live kinds
+abbrev pub taken_opcodes : List (Option Erase) → List Region → List ℕ
+taken_opcodes kinds regions = fixed_opcodes ++ live_opcodes regions 1 kinds

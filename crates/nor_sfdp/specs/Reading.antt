@@ -1,0 +1,73 @@
+-- What SFDP bytes, configuration bits and the part together say of a chip, or the first fault in the order of looking.
+use Rattle.std.specs.Prelude.{ℕ, ◌==◌, ◌&&◌, Bool, true, false, List, Option, Some, None, is_some, Result, Ok, Err, if◌then◌else◌}
+use Rattle.std.specs.List.{list_any}
+use Rattle.nor_base.specs.declared.meaning.Part.{Part}
+use Rattle.nor_base.specs.declared.meaning.Part.TheVariants.{Generic, W25q256jv}
+use Rattle.nor_base.specs.declared.meaning.Width.{Width}
+use Rattle.nor_base.specs.declared.meaning.Erase.{Erase}
+use Rattle.nor_base.specs.declared.meaning.Region.{Region}
+use Rattle.nor_base.specs.declared.meaning.QuadRead.{QuadRead}
+use Rattle.nor_base.specs.Parameters.{Parameters}
+use Rattle.nor_base.specs.Accepted.{are_distinct}
+use Rattle.nor_sfdp.specs.declared.fault.SfdpFault.{SfdpFault}
+use Rattle.nor_sfdp.specs.declared.fault.SfdpFault.TheVariants.{Opcode}
+use Rattle.nor_sfdp.specs.declared.basic.Page.{Page}
+use Rattle.nor_sfdp.specs.declared.tables.Tables.{Tables}
+use Rattle.nor_sfdp.specs.Bits.{dword_count, word, word_in, is_set}
+use Rattle.nor_sfdp.specs.Tables.{◌>>=◌, tables_of}
+use Rattle.nor_sfdp.specs.Basic.{size_of, width_of, page_of, switch_of, quad_read_of}
+use Rattle.nor_sfdp.specs.Kinds.{kinds_of}
+use Rattle.nor_sfdp.specs.SectorMap.{regions_of}
+use Rattle.nor_sfdp.specs.Opcodes.{taken_opcodes}
+
+-- the part takes quad programs by 32h
+abbrev pub is_quad3 : Part → Bool
+is_quad3 Generic = false
+is_quad3 W25q256jv = true
+
+-- own: a quad read whose opcode is taken counts as absent
+abbrev pub free_read : List ℕ → Option QuadRead → Option QuadRead
+free_read taken None = None
+free_read taken (Some read) = if list_any (λ other. read.op == other) taken then None else Some read
+
+-- the parameters, once all that can be refused is read
+abbrev pub parameters_by : Tables → Part → ℕ → Width → Page → List (Option Erase) → List Region → Parameters
+parameters_by tables part size width page kinds regions =
+    let basic = tables.basic in
+    let dword16 = word basic 16 in
+    let offered = word_in tables.four_byte 1 in
+    let read = free_read (taken_opcodes kinds regions) (quad_read_of (word basic 1) (word basic 3)) in
+    record {
+      size = size;
+      page = page.size;
+      open_page = page.open_page;
+      width = width;
+      erases = kinds;
+      regions = regions;
+      -- FF00h DWORD 16 bits 24 and 25: B7h alone, 06h and then B7h; bits 14 and 15: E9h alone, 06h and then E9h
+      enter = switch_of width (is_set dword16 24) (is_set dword16 25);
+      leave = switch_of width (is_set dword16 14) (is_set dword16 15);
+      quad_read = read;
+      -- FF84h DWORD 1 bits 0, 4, 6 and 7: 13h, 6Ch, 12h and 34h
+      read4 = is_set offered 0;
+      quad_read4 = is_some read && is_set offered 4;
+      program4 = is_set offered 6;
+      quad4 = is_set offered 7;
+      quad3 = is_quad3 part;
+      erased_only = false;
+    }
+
+-- the same, where no opcode stands twice
+unfoldable pub completed : Tables → Part → ℕ → Width → Page → List (Option Erase) → List Region → Result Parameters SfdpFault
+completed tables part size width page kinds regions =
+    if are_distinct (taken_opcodes kinds regions) then Ok (parameters_by tables part size width page kinds regions) else Err Opcode
+
+unfoldable pub meaning_of : List ℕ → List ℕ → Part → Result Parameters SfdpFault
+meaning_of bytes config part = do
+  tables ← tables_of bytes
+  size ← size_of (word tables.basic 2)
+  width ← width_of (word tables.basic 1) (word tables.basic 16)
+  page ← page_of (dword_count tables.basic) (word tables.basic 1) (word tables.basic 11)
+  kinds ← kinds_of page.size (word tables.basic 8) (word tables.basic 9) (word_in tables.four_byte 1) (word_in tables.four_byte 2)
+  regions ← regions_of tables.sectors config size
+  completed tables part size width page kinds regions

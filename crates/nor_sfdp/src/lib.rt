@@ -1,0 +1,17 @@
+//! Reads Serial Flash Discoverable Parameters (JEDEC JESD216B): what a SPI NOR flash chip says of its size, page, erase
+//! kinds, sector map and instructions, or the first reason why that isn't accepted.
+#![tactic(auto)]
+
+mod basic;
+mod bits;
+mod fault;
+mod header;
+mod kinds;
+mod map;
+mod opcodes;
+mod reader;
+mod tables;
+
+pub use fault::SfdpFault;
+pub use reader::read;
+pub use tables::{SfdpTable, table};

@@ -1,0 +1,134 @@
+//! Each fault alone, neighbours in the order of looking, and bytes that end too early.
+
+use crate::bytes::{LARGE, ONE_MAP, SAME, SMALL, changed, mapped};
+use nor_base::Part;
+use nor_sfdp::{SfdpFault, read};
+use std::test::Fail;
+
+#[test]
+fn one_cause(rt: HostRuntime) -> Result<(), Fail> {
+    let table = [
+        ([(0, 0x00), SAME, SAME], SfdpFault::Signature),
+        ([(5, 0x02), SAME, SAME], SfdpFault::Major),
+        ([(6, 0xFF), SAME, SAME], SfdpFault::Truncated),
+        ([(8, 0x01), SAME, SAME], SfdpFault::NoBasic),
+        ([(10, 0x02), SAME, SAME], SfdpFault::NoBasic),
+        ([(11, 0x08), SAME, SAME], SfdpFault::ShortTable),
+        ([(12, 0x11), SAME, SAME], SfdpFault::Truncated),
+        ([(12, 0xFF), (13, 0xFF), (14, 0xFF)], SfdpFault::Truncated),
+        ([(12, 0x00), SAME, SAME], SfdpFault::Density),
+        ([(23, 0x80), SAME, SAME], SfdpFault::Density),
+        ([(18, 0x06), SAME, SAME], SfdpFault::AddressBytes),
+        ([(56, 0xD0), SAME, SAME], SfdpFault::PageSize),
+        ([(56, 0x30), SAME, SAME], SfdpFault::PageSize),
+        ([(11, 0x09), (16, 0x01), SAME], SfdpFault::PageSize),
+        ([(44, 0x07), SAME, SAME], SfdpFault::EraseSize),
+        ([(44, 0x19), SAME, SAME], SfdpFault::EraseSize),
+        ([(44, 0x08), (56, 0x90), SAME], SfdpFault::EraseSize),
+        ([(45, 0x02), SAME, SAME], SfdpFault::Opcode),
+        ([(46, 0x0F), (47, 0x20), SAME], SfdpFault::Opcode),
+    ];
+    for (changes, fault) in table {
+        let bytes = changed(rt.alloc(), &SMALL, changes)?;
+        assert_eq!(rt; read(&bytes, "", Part::Generic).err(), Some(fault));
+    }
+    assert_eq!(rt;
+        read(&SMALL, "0", Part::Generic).err(),
+        Some(SfdpFault::ConfigBits)
+    );
+    Ok(())
+}
+
+#[test]
+fn two_causes(rt: HostRuntime) -> Result<(), Fail> {
+    let alloc = rt.alloc();
+    let map = mapped(alloc, &ONE_MAP)?;
+    let table = [
+        (
+            SMALL.as_slice(),
+            [(0, 0x00), (6, 0xFF), SAME],
+            "",
+            SfdpFault::Signature,
+        ),
+        (
+            &SMALL,
+            [(6, 0xFF), (5, 0x02), SAME],
+            "",
+            SfdpFault::Truncated,
+        ),
+        (&SMALL, [(5, 0x02), (8, 0x01), SAME], "", SfdpFault::Major),
+        (
+            &LARGE,
+            [(8, 0x01), (19, 0x01), SAME],
+            "",
+            SfdpFault::NoBasic,
+        ),
+        (
+            &LARGE,
+            [(19, 0x01), (12, 0xFF), SAME],
+            "",
+            SfdpFault::ShortTable,
+        ),
+        (
+            &SMALL,
+            [(11, 0x08), (12, 0x60), SAME],
+            "",
+            SfdpFault::ShortTable,
+        ),
+        (
+            &map,
+            [(20, 0xFF), (31, 0x80), SAME],
+            "",
+            SfdpFault::Truncated,
+        ),
+        (
+            &SMALL,
+            [(23, 0x80), (18, 0x06), SAME],
+            "",
+            SfdpFault::Density,
+        ),
+        (
+            &SMALL,
+            [(18, 0x06), (56, 0xD0), SAME],
+            "",
+            SfdpFault::AddressBytes,
+        ),
+        (
+            &SMALL,
+            [(56, 0xD0), (44, 0x07), SAME],
+            "",
+            SfdpFault::PageSize,
+        ),
+        (
+            &map,
+            [(52, 0x07), (19, 0x02), SAME],
+            "",
+            SfdpFault::EraseSize,
+        ),
+        (&map, [(19, 0x02), SAME, SAME], "0", SfdpFault::MapForm),
+        (&map, [(89, 0x01), SAME, SAME], "0", SfdpFault::ConfigBits),
+        (&map, [(89, 0x01), (97, 0xEE), SAME], "", SfdpFault::NoMap),
+        (&map, [(97, 0xEE), (53, 0x02), SAME], "", SfdpFault::MapSize),
+    ];
+    for (bytes, changes, config, fault) in table {
+        let bytes = changed(alloc, bytes, changes)?;
+        assert_eq!(rt; read(&bytes, config, Part::Generic).err(), Some(fault));
+    }
+    Ok(())
+}
+
+#[test]
+fn proper_prefixes(rt: HostRuntime) -> Result<(), Fail> {
+    let map = mapped(rt.alloc(), &ONE_MAP)?;
+    for bytes in [SMALL.as_slice(), &LARGE, &map] {
+        for end in 0..bytes.len() {
+            let fault = if end < 4 {
+                SfdpFault::Signature
+            } else {
+                SfdpFault::Truncated
+            };
+            assert_eq!(rt; read(&bytes[..end], "", Part::Generic).err(), Some(fault));
+        }
+    }
+    Ok(())
+}

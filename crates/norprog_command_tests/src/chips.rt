@@ -1,0 +1,119 @@
+//! What `sfdp` prints.
+
+use crate::jobs::text;
+use nor_base::IntoWrite;
+use norprog_command::{GivenChip, show};
+use std::alloc::AllocGlobal;
+use std::fs::{self, Files};
+use std::process::Abort;
+use std::test::Fail;
+
+/// A chip of 32 MiB: header, two parameter headers, basic table, four-byte address instruction table.
+const LARGE: [u8; 96] = [
+    0x53, 0x46, 0x44, 0x50, 0x06, 0x01, 0x01, 0xFF, 0x00, 0x06, 0x01, 0x10, 0x18, 0x00, 0x00, 0xFF,
+    0x84, 0x00, 0x01, 0x02, 0x58, 0x00, 0x00, 0xFF, 0x05, 0x20, 0x42, 0x00, 0xFF, 0xFF, 0xFF, 0x0F,
+    0x00, 0x00, 0x08, 0x6B, 0, 0, 0, 0, 0, 0, 0, 0, 0, 0, 0, 0, 0, 0, 0, 0, 0x0C, 0x20, 0x0F, 0x52,
+    0x10, 0xD8, 0x00, 0xFF, 0, 0, 0, 0, 0x80, 0, 0, 0, 0, 0, 0, 0, 0, 0, 0, 0, 0, 0, 0, 0, 0, 0, 0,
+    0, 0x00, 0x40, 0x00, 0x01, 0xD1, 0x0A, 0x00, 0x00, 0x21, 0xFF, 0xDC, 0xFF,
+];
+
+const LARGE_TEXT: &str =
+    "size 33554432\npage 256\naddress both\nerase 1 4096 20 21\nerase 2 32768 52 --\nerase 3 65536 d8 dc\nenter plain\nleave plain\nquadread 6b 8\ndedicated 13 6c 12 34\nregion 33554432 15\n";
+
+const SMALL_TEXT: &str =
+    "size 8192\npage 256\naddress three\nerase 1 4096 20 --\nenter absent\nleave absent\nquadread none\ndedicated\nregion 8192 15\n";
+
+/// No option.
+const NONE: GivenChip<'static> = GivenChip {
+    sfdp: None,
+    uniform: None,
+    bits: None,
+    part: None,
+};
+
+/// What is printed for a chip, on standard output or error, and the status.
+fn prints(
+    rt: &(impl Abort + Files + AllocGlobal),
+    given: GivenChip<'_>,
+    want: &str,
+    status: u8,
+) -> Result<(), Fail> {
+    let mut out = IntoWrite::new(Vec::new(rt.alloc()));
+    let mut err = IntoWrite::new(Vec::new(rt.alloc()));
+    assert_eq!(rt; show(rt, Ok(given), &mut out, &mut err), status);
+    let (out, err) = (text(out.into_inner())?, text(err.into_inner())?);
+    let (told, silent) = if status == 0 { (out, err) } else { (err, out) };
+    assert_eq!(rt; told.as_str(), want);
+    assert_eq!(rt; silent.as_str(), "");
+    Ok(())
+}
+
+#[test]
+fn prints_a_chip(rt: HostRuntime) -> Result<(), Fail> {
+    fs::write(&rt, "large.sfdp", &LARGE)?;
+    fs::write(&rt, "short.sfdp", &LARGE[..95])?;
+    let large = GivenChip {
+        sfdp: Some("large.sfdp"),
+        ..NONE
+    };
+    let small = GivenChip {
+        uniform: Some("8192"),
+        ..NONE
+    };
+    let part = Some("w25q256jv");
+    prints(&rt, large, LARGE_TEXT, 0)?;
+    prints(&rt, GivenChip { part, ..large }, LARGE_TEXT, 0)?;
+    prints(&rt, small, SMALL_TEXT, 0)?;
+    prints(
+        &rt,
+        GivenChip {
+            sfdp: Some("short.sfdp"),
+            ..NONE
+        },
+        "norprog: sfdp 2\n",
+        1,
+    )?;
+    prints(
+        &rt,
+        GivenChip {
+            bits: Some("0"),
+            ..large
+        },
+        "norprog: sfdp 11\n",
+        1,
+    )?;
+    prints(
+        &rt,
+        GivenChip {
+            uniform: Some("8193"),
+            ..NONE
+        },
+        "norprog: sfdp 6\n",
+        1,
+    )?;
+    prints(
+        &rt,
+        GivenChip { part, ..small },
+        "norprog: contradiction 4\n",
+        1,
+    )?;
+    prints(
+        &rt,
+        GivenChip {
+            sfdp: Some("none.sfdp"),
+            ..NONE
+        },
+        "norprog: file sfdp\n",
+        1,
+    )?;
+    prints(
+        &rt,
+        GivenChip {
+            bits: Some(""),
+            ..small
+        },
+        "norprog: usage\n",
+        2,
+    )?;
+    prints(&rt, NONE, "norprog: usage\n", 2)
+}
