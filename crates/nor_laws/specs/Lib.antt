@@ -1,2 +1,4 @@
 pub mod Laws
 pub mod Worked
+pub mod Stops
+pub mod Planning

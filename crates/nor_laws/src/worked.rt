@@ -3,6 +3,8 @@
 
 ghost use Rattle.std.specs.Prelude.{true, false};
 ghost use Rattle.nor_laws.specs.Worked.{EnableSetsLatch, ProgramWrites, PollWaits, PollCountsThree, TimesInTurn, NoTimeLeft, BusyIgnores, ProgramWraps, LastByteCounts, RaiseIsWrong, NoLatchIgnores, EnterPlain, EnterLatched, LeaveLatched, EnterNeedsLatch, QuadProgramsAndReads, DedicatedErase, EraseInMidBlock, BrokenIsIgnored, UnknownOpcode, SevenClocks, ReadsLastByte, ReadPastEnd, OneByteText, OneByteTextLength, OneByteRun, WidestIsAccepted, BlocksOfMap, NoBlocksOfMap, TargetOfOne, TargetAtTheEnd, IgnoredOfFour};
+ghost use Rattle.nor_laws.specs.Stops.{ReadsAnother, LongPollIdle, LongPollBusy, VerifiesStatus, VerifiesNothing, NineClocks, LatchIsLeft, CoversKept, CoversKeptElsewhere, RoundInLeast, OnInLarger};
+ghost use Rattle.nor_laws.specs.Planning.{EraseRestores, PageOutside, LowerOfTwoKinds, BorderParts, NoBlockIsFault, CutAtKept, ErasedOnlyIsDue, Strategies, InMode, ThreeBytes, DedicatedFar, EntersAndLeaves, EntersLatched, NothingToDo, BeyondReach, ErasesAndReads, QuadDedicated, QuadLegacy};
 
 /// An enable, programs, polls and what is refused while busy, without the latch or over a 0.
 pub fn programs_worked()
@@ -67,4 +69,47 @@ pub fn targets_worked()
     ensures one { TargetOfOne }
     ensures end { TargetAtTheEnd }
     ensures ignored { IgnoredOfFour }
+{}
+
+/// A verifying read of another byte, polls and reads of other forms, a latch that is left set, the profile of erased bytes,
+/// and pages of two sizes.
+pub fn stops_worked()
+    ensures mismatch { ReadsAnother }
+    ensures idle { LongPollIdle }
+    ensures busy { LongPollBusy }
+    ensures status { VerifiesStatus }
+    ensures nothing { VerifiesNothing }
+    ensures nine { NineClocks }
+    ensures latch { LatchIsLeft }
+    ensures kept { CoversKept }
+    ensures elsewhere { CoversKeptElsewhere }
+    ensures least { RoundInLeast }
+    ensures larger { OnInLarger }
+{}
+
+/// Units of small contents: an erase with what it takes along, a page outside, two kinds of one size, a border, an address
+/// without a block, and the profile of erased bytes.
+pub fn units_worked()
+    ensures restore { EraseRestores }
+    ensures page { PageOutside }
+    ensures kinds { LowerOfTwoKinds }
+    ensures border { BorderParts }
+    ensures fault { NoBlockIsFault }
+    ensures cut { CutAtKept }
+    ensures due { ErasedOnlyIsDue }
+{}
+
+/// The five strategies, and the instructions of programs, erases and reads by each, on one lane and on four.
+pub fn strategies_worked()
+    ensures strategies { Strategies }
+    ensures in_mode { InMode }
+    ensures three { ThreeBytes }
+    ensures dedicated { DedicatedFar }
+    ensures enters { EntersAndLeaves }
+    ensures latched { EntersLatched }
+    ensures nothing { NothingToDo }
+    ensures beyond { BeyondReach }
+    ensures erases { ErasesAndReads }
+    ensures quad { QuadDedicated }
+    ensures quad_legacy { QuadLegacy }
 {}
