@@ -1,4 +1,6 @@
 mod PairLemmas
+mod ListLemmas
+mod PieceLemmas
 mod ImageLemmas
 mod RecordLemmas
 mod StepLemmas

@@ -1,6 +1,6 @@
 //! The format's own examples and cases worked out by hand.
 
-use crate::reader::bytes_in;
+use crate::reader::segments_in;
 use crate::{HexFault, read, records};
 use linked_list_allocator::LocalHeap;
 use std::test::Fail;
@@ -268,9 +268,9 @@ fn answers_memory_where_a_growth_is_refused(rt: HostRuntime) -> Result<(), Fail>
     let mut read_whole = 0u64;
     for size in (64usize..4096).step_by(32) {
         let heap = LocalHeap::new(rt.alloc(), size)?;
-        match bytes_in(&heap, text) {
-            Ok(bytes) => {
-                assert_eq!(rt; bytes.len(), 32);
+        match segments_in(&heap, text) {
+            Ok(segments) => {
+                assert_eq!(rt; segments.bytes.len(), 32);
                 read_whole = read_whole.saturating_add(1);
             }
             Err(fault) => {
