@@ -1,6 +1,8 @@
 mod PairLemmas
 mod ListLemmas
 mod PieceLemmas
+mod SegmentLemmas
+mod ViewLemmas
 mod ImageLemmas
 mod RecordLemmas
 mod StepLemmas

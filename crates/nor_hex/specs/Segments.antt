@@ -3,7 +3,7 @@ use Rattle.std.specs.Prelude.{◌≡◌, ℕ, ◌+◌, ◌-◌, ◌^◌, ◌<◌
 use Rattle.std.specs.List.{enumerate_from}
 use Rattle.nor_hex.specs.declared.pieces.Piece.{Piece}
 use Rattle.nor_hex.specs.declared.segments.Segment.{Segment}
-use Rattle.nor_hex.specs.Pieces.{IsNext, HasNoNext}
+use Rattle.nor_hex.specs.Pieces.{IsNext, HasNoNext, AddsRun}
 use Rattle.nor_hex.specs.Image.{Pairs}
 
 -- how many bytes a segment has
@@ -48,6 +48,15 @@ AreBelow address segments = (i : ℕ) (segment : Segment) → slice_get segments
 abbrev pub EndsAt : List Segment → ℕ → Type 0
 EndsAt segments len = (before : List Segment) (segment : Segment) → segments ≡ before ++ segment ∷ [] → segment.place + size segment ≡ len
 
+-- new segments over new bytes are the old ones with the run past them
+pub record IsJoined (old : List Segment) (old_bytes : List ℕ) (new : List Segment) (new_bytes : List ℕ) (first : ℕ) (run : List ℕ) : Type 0 where
+  pub right : IsSegments new new_bytes
+  pub below : AreBelow (first + length run) new
+  pub ends : EndsAt new (length new_bytes)
+  pub total_is : total new ≡ total old + length run
+  pub length_is : length new_bytes ≡ length old_bytes + length run
+  pub added : AddsRun (Holds old old_bytes) (Holds new new_bytes) first run
+
 -- both give each address the same byte
 pub record SameBytes (old new : ℕ → ℕ → Type 0) : Type 0 where
   pub given : (address byte : ℕ) → new address byte → old address byte
@@ -62,6 +71,13 @@ pub record IsOnly (at_last : ℕ → Option Piece) (len : ℕ) (segment : Segmen
   pub piece_place : piece.place ≡ 0
   pub place_is : segment.place ≡ 0
   pub all : (segment.last - segment.first) + 1 ≡ len
+
+-- the segment is the first that ends at the address or past it
+pub record IsNextSegment (segments : List Segment) (from : ℕ) (segment : Segment) : Type 0 where
+  pub index : ℕ
+  pub here : slice_get segments index ≡ Some segment
+  pub past : from ≤ segment.last
+  pub before : (i : ℕ) (earlier : Segment) → slice_get segments i ≡ Some earlier → i < index → earlier.last < from
 
 -- no segment has the address or a later one
 abbrev pub HoldsNoneFrom : List Segment → List ℕ → ℕ → Type 0

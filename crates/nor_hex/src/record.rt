@@ -61,7 +61,7 @@ pub(crate) fn record_in<'a>(
     bytes: &mut [u8],
 ) -> Result<HexLine<'a>, HexFault>
     requires { length bytes.old ≡ MOST_BYTES }
-    ensures record { result ≡ record_of number line.now }
+    ensures line { result ≡ record_of number line.now }
     ensures few { IfOk result (λ line. length line.bytes ≤ 255) }
     ensures bytes { IfOk result (λ line. take (length line.bytes) (drop 4 bytes.new) ≡ line.bytes) }
 {

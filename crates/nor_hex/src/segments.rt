@@ -1,10 +1,11 @@
 //! Bytes at rising addresses, in segments.
 
-ghost use Rattle.std.specs.Prelude.{◌≡◌, ◌+◌, ◌^◌, ◌<◌, ◌≤◌, length, OnOk, IfOk, IfSome, MatchOption};
+ghost use Rattle.std.specs.Prelude.{◌≡◌, ℕ, slice_get, Some, ◌+◌, ◌^◌, ◌<◌, ◌≤◌, length, OnOk, IfOk, IfSome, MatchOption};
 ghost use Rattle.std.specs.Ordering.{nat_cmp};
 ghost use Rattle.std.specs.BTreeMap.{get};
-ghost use Rattle.nor_hex.specs.Pieces.{Gives, IsPieces, IsNext, HasNoNext, AddsRun};
-ghost use Rattle.nor_hex.specs.Segments.{Holds, IsSegments, AreBelow, EndsAt, total, SameBytes, IsOnly, IsRunIn, HoldsNoneFrom};
+ghost use Rattle.nor_hex.specs.declared.segments.Segment.{Segment};
+ghost use Rattle.nor_hex.specs.Pieces.{Gives, IsPieces, IsNext, HasNoNext};
+ghost use Rattle.nor_hex.specs.Segments.{Holds, IsSegments, AreBelow, EndsAt, total, SameBytes, IsOnly, IsJoined, IsRunIn, HoldsNoneFrom, IsNextSegment};
 
 use crate::pieces::{Piece, Pieces, next_piece};
 use std::alloc::{AllocError, Allocator};
@@ -95,12 +96,7 @@ fn join<A: Allocator + Clone>(
     requires right { IsSegments list.old.items bytes.old.items }
     requires below { AreBelow first list.old.items }
     requires last { EndsAt list.old.items (length bytes.old.items) }
-    ensures right { OnOk result (IsSegments list.new.items bytes.new.items) }
-    ensures below { OnOk result (AreBelow (first + length run.now) list.new.items) }
-    ensures last { OnOk result (EndsAt list.new.items (length bytes.new.items)) }
-    ensures total { OnOk result (total list.new.items ≡ total list.old.items + length run.now) }
-    ensures length { OnOk result (length bytes.new.items ≡ length bytes.old.items + length run.now) }
-    ensures added { OnOk result (AddsRun (Holds list.old.items bytes.old.items) (Holds list.new.items bytes.new.items) first run.now) }
+    ensures { OnOk result (IsJoined list.old.items bytes.old.items list.new.items bytes.new.items first run.now) }
 {
     let place = bytes.len();
     bytes.extend_from_slice(run)?;
@@ -118,12 +114,24 @@ fn join<A: Allocator + Clone>(
 }
 
 /// The first run of bytes at an address or past it, with its address.
-pub(crate) fn run_in<'a>(list: &[Segment], bytes: &'a [u8], from: u32) -> Option<(u32, &'a [u8])>
+pub(crate) fn run_in<'a>(
+    list: &[Segment],
+    bytes: &'a [u8],
+    from: u32,
+) -> Option<(u32, &'a [u8])>
     requires { IsSegments list.now bytes.now }
     ensures { MatchOption result (HoldsNoneFrom list.now bytes.now from) (λ run. IsRunIn list.now bytes.now from run.0 run.1.now) }
 {
-    let segment = list[list.partition_point(|segment| segment.last < from)..].first()?;
+    let segment = next_segment(list, from)?;
     let at = segment.first.max(from);
     let place = segment.place + (at - segment.first) as usize;
     Some((at, &bytes[place..place + (segment.last - at) as usize + 1]))
+}
+
+/// The first segment that ends at an address or past it.
+fn next_segment(list: &[Segment], from: u32) -> Option<Segment>
+    requires { (i : ℕ) (s : Segment) (j : ℕ) (t : Segment) → slice_get list.now i ≡ Some s → slice_get list.now j ≡ Some t → i ≤ j → s.last ≤ t.last }
+    ensures { MatchOption result (AreBelow from list.now) (λ segment. IsNextSegment list.now from segment) }
+{
+    list.get(list.partition_point(|segment| segment.last < from)).copied()
 }

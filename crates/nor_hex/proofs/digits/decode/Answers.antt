@@ -1,4 +1,4 @@
-use Rattle.std.proofs.Common.{◌<◌, ◌≤◌, ◌%◌, sum, length, arith, ap, ◌∙◌}
+use Rattle.std.proofs.Common.{◌≡◌, ◌<◌, ◌≤◌, ◌/◌, ◌%◌, sum, take, length, arith, ap, ◌∙◌}
 use Rattle.std.proofs.lemmas.List.{take_all}
 use Rattle.nor_hex.specs.Record.{pair_bytes}
 use Rattle.nor_hex.proofs.PairLemmas.{length-pair_bytes, sum_step, decode_step}
@@ -19,4 +19,7 @@ returns-clause-sum c =
     c.loop-i.invariant.summed ∙ ap (λ bytes. sum bytes % 256) (take_all c.loop-i.i (pair_bytes c.args.digits.now) done)
 
 pub returns-clause-bytes : goal.returns-clause-bytes
-returns-clause-bytes c = ?
+returns-clause-bytes c =
+    let all : length c.args.digits.now / 2 ≡ c.loop-i.i = omega arith in
+    let done : length (pair_bytes c.args.digits.now) ≤ c.loop-i.i = omega (arith, length-pair_bytes c.args.digits.now) in
+    ap (λ n. take n c.loop-i.bytes) all ∙ c.loop-i.invariant.decoded ∙ take_all c.loop-i.i (pair_bytes c.args.digits.now) done

@@ -1,0 +1,469 @@
+-- Lemmas on segments to which runs are added.
+use Prim.Native.Nat.{zero}
+use Rattle.std.proofs.Common.{◌≡◌, ◌≢◌, ◌⊎◌, inl, inr, ℕ, suc, ◌+◌, ◌-◌, ◌^◌, ◌<◌, ◌≤◌, Bool, true, false, nat_eq, nat_lt, max, leb, List, [], ◌∷◌, ◌++◌, length, take, drop, slice_get, slice_index_or, Bor, Option, Some, None, refl, sym, subst, ap, ◌∙◌, arith, length-append}
+use Rattle.std.proofs.lemmas.Bool.Decides.{eqb_tells, leb_tells}
+use Rattle.std.specs.Option.{MatchOption, IfSome, is_some, option_copied}
+use Rattle.std.proofs.lemmas.Option.{slice_get_past, slice_get_read}
+use Rattle.std.specs.List.Sorted.{IsPartitionPoint, IsPartitionedBy}
+use Rattle.std.proofs.lemmas.Bool.{ltb-true, ltb-false, lt-ltb}
+use Rattle.nor_hex.proofs.ImageLemmas.{get_from_index, index_from_get}
+use Rattle.nor_hex.specs.declared.pieces.Piece.{Piece}
+use Rattle.nor_hex.specs.declared.segments.Segment.{Segment}
+use Rattle.nor_hex.specs.Pieces.{Gives, IsPieces, IsNext, HasNoNext, LaysRun, AddsRun}
+use Rattle.nor_hex.specs.Segments.{Holds, IsSegments, AreBelow, EndsAt, IsJoined, SameBytes, IsOnly, IsNextSegment, HoldsNoneFrom, IsRunIn, size, total}
+use Rattle.nor_hex.proofs.ListLemmas.{some_same, get-below, get-left, get-left_back, get-right, get_part, get-part, length-part}
+use Rattle.nor_hex.proofs.PutLemmas.{get-snoc, get-append_here}
+
+total-snoc : (xs : List Segment) (last : Segment) → total (xs ++ last ∷ []) ≡ total xs + size last
+total-snoc [] last = omega arith
+total-snoc (x ∷ xs) last = omega (arith, total-snoc xs last)
+
+-- the last of two lists that are the same
+last_same : {X : Type 0} (xs ys : List X) (x y : X) → xs ++ x ∷ [] ≡ ys ++ y ∷ [] → x ≡ y
+last_same [] [] x y e = cc
+last_same [] (z ∷ []) x y e = absurd cc
+last_same [] (z ∷ w ∷ ys) x y e = absurd cc
+last_same (z ∷ []) [] x y e = absurd cc
+last_same (z ∷ w ∷ xs) [] x y e = absurd cc
+last_same (z ∷ xs) (w ∷ ys) x y e = last_same xs ys x y cc
+
+-- what is said of each of some segments and of one more
+module _ (xs : List Segment) (one : Segment) (P : Segment → Type 0) where
+  pub each-snoc : ((i : ℕ) (s : Segment) → slice_get xs i ≡ Some s → P s) → P one → (i : ℕ) (s : Segment) → slice_get (xs ++ one ∷ []) i ≡ Some s → P s
+  each-snoc each last i s e = by (get-snoc xs one i s e)
+    where
+      by : (slice_get xs i ≡ Some s) ⊎ ((i ≡ length xs) × (one ≡ s)) → P s
+      by (inl f) = each i s f
+      by (inr p) = subst P p.1 last
+
+-- segments with one more past a gap
+module _ (xs : List Segment) (bytes : List ℕ) (one : Segment) where
+  pub right-snoc : ((i : ℕ) (s : Segment) → slice_get xs i ≡ Some s → s.first ≤ s.last) → ((i : ℕ) (s : Segment) → slice_get xs i ≡ Some s → s.last < 2 ^ 32) → ((i : ℕ) (s : Segment) → slice_get xs i ≡ Some s → s.place + (s.last - s.first) < length bytes) → ((i : ℕ) (s : Segment) (j : ℕ) (t : Segment) → slice_get xs i ≡ Some s → slice_get xs j ≡ Some t → i < j → s.last + 1 < t.first)
+      → one.first ≤ one.last → one.last < 2 ^ 32 → one.place + (one.last - one.first) < length bytes → ((i : ℕ) (s : Segment) → slice_get xs i ≡ Some s → s.last + 1 < one.first) → IsSegments (xs ++ one ∷ []) bytes
+  right-snoc rises fits inside apart one_rises one_fits one_inside one_apart = record {
+    rises = each-snoc xs one (λ s. s.first ≤ s.last) rises one_rises;
+    fits = each-snoc xs one (λ s. s.last < 2 ^ 32) fits one_fits;
+    inside = each-snoc xs one (λ s. s.place + (s.last - s.first) < length bytes) inside one_inside;
+    apart = λ i s j t e f h. by i s j t (get-snoc xs one i s e) (get-snoc xs one j t f) h;
+  }
+    where
+      by : (i : ℕ) (s : Segment) (j : ℕ) (t : Segment) → (slice_get xs i ≡ Some s) ⊎ ((i ≡ length xs) × (one ≡ s)) → (slice_get xs j ≡ Some t) ⊎ ((j ≡ length xs) × (one ≡ t)) → i < j → s.last + 1 < t.first
+      by i s j t (inl e) (inl f) h = apart i s j t e f h
+      by i s j t (inl e) (inr f) h = subst (λ (t : Segment). s.last + 1 < t.first) f.1 (one_apart i s e)
+      by i s j t (inr e) (inl f) h = let below = get-below xs j t f in let at = e.0 in absurd (omega arith)
+      by i s j t (inr e) (inr f) h = let a = e.0 in let b = f.0 in absurd (omega arith)
+
+-- ---- a run past all segments
+module _ (xs : List Segment) (bytes run : List ℕ) (first : ℕ) (some : 0 < length run) (fits : first + length run ≤ 2 ^ 32) (right : IsSegments xs bytes) where
+  longer : length (bytes ++ run) ≡ length bytes + length run
+  longer = length-append bytes run
+
+  inside_more : (i : ℕ) (s : Segment) → slice_get xs i ≡ Some s → s.place + (s.last - s.first) < length (bytes ++ run)
+  inside_more i s e = let there = right.inside i s e in omega (arith, longer)
+
+  -- ---- as a segment of its own
+  pub appended : (fresh : Segment) → fresh.first ≡ first → fresh.place ≡ length bytes → fresh.last + 1 ≡ first + length run → ((i : ℕ) (s : Segment) → slice_get xs i ≡ Some s → s.last + 1 < first) → IsJoined xs bytes (xs ++ fresh ∷ []) (bytes ++ run) first run
+  appended fresh first_is place_is last_is gap = record {
+    right = right-snoc xs (bytes ++ run) fresh right.rises right.fits inside_more right.apart (omega arith) (omega arith) (omega (arith, longer)) (λ i s e. let h = gap i s e in omega arith);
+    below = each-snoc xs fresh (λ s. s.last < first + length run) (λ i s e. let h = gap i s e in omega arith) (omega arith);
+    ends = λ before segment e. let same = last_same xs before fresh segment e in subst (λ (s : Segment). s.place + size s ≡ length (bytes ++ run)) same (omega (arith, longer));
+    total_is = omega (arith, total-snoc xs fresh);
+    length_is = longer;
+    added = record {
+      given = λ at byte h. given at byte h (get-snoc xs fresh h.index h.segment h.here);
+      kept = λ at byte h. record { index = h.index; segment = h.segment; here = get-left xs (fresh ∷ []) h.index h.segment h.here; from = h.from; to = h.to; byte_is = get-left bytes run (h.segment.place + (at - h.segment.first)) byte h.byte_is };
+      laid = laid;
+    };
+  }
+    where
+      given : (at byte : ℕ) (h : Holds (xs ++ fresh ∷ []) (bytes ++ run) at byte) → (slice_get xs h.index ≡ Some h.segment) ⊎ ((h.index ≡ length xs) × (fresh ≡ h.segment)) → Holds xs bytes at byte ⊎ LaysRun first run at byte
+      given at byte h (inl e) =
+          let there = right.inside h.index h.segment e in
+          let to = h.to in
+          let place : h.segment.place + (at - h.segment.first) < length bytes = omega arith in
+          inl (record { index = h.index; segment = h.segment; here = e; from = h.from; to = h.to; byte_is = get-left_back bytes run (h.segment.place + (at - h.segment.first)) byte place h.byte_is })
+      given at byte h (inr p) =
+          let start = ap (λ (s : Segment). s.first) p.1 in
+          let where_to = ap (λ (s : Segment). s.place) p.1 in
+          let from = h.from in
+          let place : h.segment.place + (at - h.segment.first) ≡ length bytes + (at - first) = omega arith in
+          inr (record { index = at - first; byte_is = sym (get-right bytes run (at - first) (h.segment.place + (at - h.segment.first)) place) ∙ h.byte_is; at_is = omega arith })
+
+      laid : (at byte : ℕ) → LaysRun first run at byte → Holds (xs ++ fresh ∷ []) (bytes ++ run) at byte
+      laid at byte l =
+          let below = get-below run l.index byte l.byte_is in
+          let at_is = l.at_is in
+          record {
+            index = length xs;
+            segment = fresh;
+            here = get-append_here xs [] fresh;
+            from = omega arith;
+            to = omega arith;
+            byte_is = get-right bytes run l.index (fresh.place + (at - fresh.first)) (omega arith) ∙ l.byte_is;
+          }
+
+  -- ---- right after the last segment
+  pub lengthened : (rest : List Segment) (before after : Segment) → xs ≡ rest ++ before ∷ [] → before.last + 1 ≡ first → before.place + size before ≡ length bytes → after.first ≡ before.first → after.place ≡ before.place → after.last + 1 ≡ first + length run → IsJoined xs bytes (rest ++ after ∷ []) (bytes ++ run) first run
+  lengthened rest before after xs_is touches ends first_is place_is last_is = record {
+    right = right-snoc rest (bytes ++ run) after (λ i s e. right.rises i s (in_xs i s e)) (λ i s e. right.fits i s (in_xs i s e)) (λ i s e. inside_more i s (in_xs i s e)) (λ i s j t e f h. right.apart i s j t (in_xs i s e) (in_xs j t f) h) (omega (arith, rises)) (omega arith) (omega (arith, longer, rises)) (λ i s e. let h = gap i s e in omega arith);
+    below = each-snoc rest after (λ s. s.last < first + length run) (λ i s e. let h = gap i s e in omega (arith, rises)) (omega arith);
+    ends = λ others segment e. let same = last_same rest others after segment e in subst (λ (s : Segment). s.place + size s ≡ length (bytes ++ run)) same (omega (arith, longer, rises));
+    total_is = omega (arith, total-snoc rest after, total-snoc rest before, ap total xs_is, rises);
+    length_is = longer;
+    added = record {
+      given = λ at byte h. given at byte h (get-snoc rest after h.index h.segment h.here);
+      kept = λ at byte h. kept at byte h (get-snoc rest before h.index h.segment (ap (λ ys. slice_get ys h.index) (sym xs_is) ∙ h.here));
+      laid = laid;
+    };
+  }
+    where
+      in_xs : (i : ℕ) (s : Segment) → slice_get rest i ≡ Some s → slice_get xs i ≡ Some s
+      in_xs i s e = ap (λ ys. slice_get ys i) xs_is ∙ get-left rest (before ∷ []) i s e
+
+      last_in_xs : slice_get xs (length rest) ≡ Some before
+      last_in_xs = ap (λ ys. slice_get ys (length rest)) xs_is ∙ get-append_here rest [] before
+
+      rises : before.first ≤ before.last
+      rises = right.rises (length rest) before last_in_xs
+
+      gap : (i : ℕ) (s : Segment) → slice_get rest i ≡ Some s → s.last + 1 < before.first
+      gap i s e = right.apart i s (length rest) before (in_xs i s e) last_in_xs (get-below rest i s e)
+
+      given : (at byte : ℕ) (h : Holds (rest ++ after ∷ []) (bytes ++ run) at byte) → (slice_get rest h.index ≡ Some h.segment) ⊎ ((h.index ≡ length rest) × (after ≡ h.segment)) → Holds xs bytes at byte ⊎ LaysRun first run at byte
+      given at byte h (inl e) =
+          let there = right.inside h.index h.segment (in_xs h.index h.segment e) in
+          let to = h.to in
+          let place : h.segment.place + (at - h.segment.first) < length bytes = omega arith in
+          inl (record { index = h.index; segment = h.segment; here = in_xs h.index h.segment e; from = h.from; to = h.to; byte_is = get-left_back bytes run (h.segment.place + (at - h.segment.first)) byte place h.byte_is })
+      given at byte h (inr p) = by (leb_tells first at)
+        where
+          start : after.first ≡ h.segment.first
+          start = ap (λ (s : Segment). s.first) p.1
+
+          where_to : after.place ≡ h.segment.place
+          where_to = ap (λ (s : Segment). s.place) p.1
+
+          by : ((leb first at ≡ true) × (first ≤ at)) ⊎ ((leb first at ≡ false) × (at < first)) → Holds xs bytes at byte ⊎ LaysRun first run at byte
+          by (inl q) =
+              let le = q.1 in
+              let place : h.segment.place + (at - h.segment.first) ≡ length bytes + (at - first) = omega (arith, rises, start, where_to) in
+              inr (record { index = at - first; byte_is = sym (get-right bytes run (at - first) (h.segment.place + (at - h.segment.first)) place) ∙ h.byte_is; at_is = omega arith })
+          by (inr q) =
+              let lt = q.1 in
+              let from = h.from in
+              let place : h.segment.place + (at - h.segment.first) < length bytes = omega (arith, rises, start, where_to) in
+              let same : h.segment.place + (at - h.segment.first) ≡ before.place + (at - before.first) = omega (arith, start, where_to) in
+              inl (record { index = length rest; segment = before; here = last_in_xs; from = omega (arith, start); to = omega arith; byte_is = ap (slice_get bytes) (sym same) ∙ get-left_back bytes run (h.segment.place + (at - h.segment.first)) byte place h.byte_is })
+
+      kept : (at byte : ℕ) (h : Holds xs bytes at byte) → (slice_get rest h.index ≡ Some h.segment) ⊎ ((h.index ≡ length rest) × (before ≡ h.segment)) → Holds (rest ++ after ∷ []) (bytes ++ run) at byte
+      kept at byte h (inl e) = record { index = h.index; segment = h.segment; here = get-left rest (after ∷ []) h.index h.segment e; from = h.from; to = h.to; byte_is = get-left bytes run (h.segment.place + (at - h.segment.first)) byte h.byte_is }
+      kept at byte h (inr p) =
+          let start = ap (λ (s : Segment). s.first) p.1 in
+          let end = ap (λ (s : Segment). s.last) p.1 in
+          let where_to = ap (λ (s : Segment). s.place) p.1 in
+          let from = h.from in
+          let to = h.to in
+          let same : h.segment.place + (at - h.segment.first) ≡ after.place + (at - after.first) = omega arith in
+          record { index = length rest; segment = after; here = get-append_here rest [] after; from = omega arith; to = omega arith; byte_is = ap (slice_get (bytes ++ run)) (sym same) ∙ get-left bytes run (h.segment.place + (at - h.segment.first)) byte h.byte_is }
+
+      laid : (at byte : ℕ) → LaysRun first run at byte → Holds (rest ++ after ∷ []) (bytes ++ run) at byte
+      laid at byte l =
+          let below = get-below run l.index byte l.byte_is in
+          let at_is = l.at_is in
+          let up = rises in
+          record {
+            index = length rest;
+            segment = after;
+            here = get-append_here rest [] after;
+            from = omega arith;
+            to = omega arith;
+            byte_is = get-right bytes run l.index (after.place + (at - after.first)) (omega arith) ∙ l.byte_is;
+          }
+
+  -- where the last segment doesn't touch the run, none does
+  pub gap_before : (rest : List Segment) (before : Segment) → xs ≡ rest ++ before ∷ [] → before.last < first → before.last + 1 ≢ first → (i : ℕ) (s : Segment) → slice_get xs i ≡ Some s → s.last + 1 < first
+  gap_before rest before xs_is below apart i s e = by (get-snoc rest before i s (ap (λ ys. slice_get ys i) (sym xs_is) ∙ e))
+    where
+      last_in_xs : slice_get xs (length rest) ≡ Some before
+      last_in_xs = ap (λ ys. slice_get ys (length rest)) xs_is ∙ get-append_here rest [] before
+
+      last_gap : before.last + 1 < first
+      last_gap = omega arith
+
+      by : (slice_get rest i ≡ Some s) ⊎ ((i ≡ length rest) × (before ≡ s)) → s.last + 1 < first
+      by (inl f) = let h = right.apart i s (length rest) before e last_in_xs (get-below rest i s f) in let up = right.rises (length rest) before last_in_xs in omega arith
+      by (inr p) = subst (λ (s : Segment). s.last + 1 < first) p.1 last_gap
+
+pub no_segments : (bytes : List ℕ) → IsSegments [] bytes
+no_segments bytes = record {
+  rises = λ i s e. absurd (none i s e);
+  fits = λ i s e. absurd (none i s e);
+  inside = λ i s e. absurd (none i s e);
+  apart = λ i s j t e f h. absurd (none i s e);
+}
+  where
+    none : (i : ℕ) (s : Segment) → slice_get [] i ≡ Some s → ⊥
+    none i s e = cc
+
+-- ---- segments made of the pieces that end below an address
+pub record IsMade (at_last : ℕ → Option Piece) (given : List ℕ) (list : List Segment) (made : List ℕ) (from : ℕ) : Type 0 where
+  pub fits : from ≤ 2 ^ 32
+  pub right : IsSegments list made
+  pub below : AreBelow from list
+  pub ends : EndsAt list (length made)
+  pub whole : total list ≡ length made
+  pub clear : (last : ℕ) (piece : Piece) → at_last last ≡ Some piece → from ≤ last → from ≤ piece.first
+  pub of_pieces : (at byte : ℕ) → Holds list made at byte → Gives at_last given at byte
+  pub all : (at byte : ℕ) (g : Gives at_last given at byte) → g.last < from → Holds list made at byte
+
+pub made_none : (at_last : ℕ → Option Piece) (given : List ℕ) → IsMade at_last given [] [] 0
+made_none at_last given = record {
+  fits = omega arith;
+  right = no_segments [];
+  below = λ i s e. absurd (none i s e);
+  ends = λ before s e. absurd (apart before s e);
+  whole = refl;
+  clear = λ last piece e h. omega arith;
+  of_pieces = λ at byte h. absurd (none h.index h.segment h.here);
+  all = λ at byte g h. absurd (omega arith);
+}
+  where
+    none : (i : ℕ) (s : Segment) → slice_get [] i ≡ Some s → ⊥
+    none i s e = cc
+
+    apart : (before : List Segment) (s : Segment) → [] ≡ before ++ s ∷ [] → ⊥
+    apart [] s e = cc
+    apart (x ∷ before) s e = cc
+
+pub made_more : (at_last : ℕ → Option Piece) (given : List ℕ) (list new : List Segment) (made new_made : List ℕ) (from last n : ℕ) (piece : Piece) → IsPieces at_last given → IsNext at_last from last piece → n ≡ last - piece.first + 1 → IsMade at_last given list made from → IsJoined list made new new_made piece.first (take n (drop piece.place given)) → IsMade at_last given new new_made (last + 1)
+made_more at_last given list new made new_made from last n piece pieces next n_is so_far joined = record {
+  fits = let few = pieces.fits last piece next.found in omega arith;
+  right = joined.right;
+  below = λ i s e. let h = joined.below i s e in omega (arith, run_len);
+  ends = joined.ends;
+  whole = let t = joined.total_is in let l = joined.length_is in let w = so_far.whole in omega arith;
+  clear = λ k q e h. let past : last < k = omega arith in let apart = pieces.apart last piece k q next.found e past in omega arith;
+  of_pieces = λ at byte h. of_pieces at byte (joined.added.given at byte h);
+  all = λ at byte g h. all at byte g h (leb_tells from g.last);
+}
+  where
+    rises : piece.first ≤ last
+    rises = pieces.rises last piece next.found
+
+    run_len : piece.first + length (take n (drop piece.place given)) ≡ last + 1
+    run_len =
+        let there = pieces.inside last piece next.found in
+        let len = length-part given n piece.place (omega arith) in
+        omega (arith, rises)
+
+    of_pieces : (at byte : ℕ) → Holds list made at byte ⊎ LaysRun piece.first (take n (drop piece.place given)) at byte → Gives at_last given at byte
+    of_pieces at byte (inl h) = so_far.of_pieces at byte h
+    of_pieces at byte (inr l) =
+        let at_is = l.at_is in
+        let found = get_part given n piece.place l.index (piece.place + (at - piece.first)) byte (omega arith) l.byte_is in
+        let below = found.0 in
+        record { last = last; piece = piece; here = next.found; from = omega arith; to = omega (arith, rises); byte_is = found.1 }
+
+    all : (at byte : ℕ) (g : Gives at_last given at byte) → g.last < last + 1 → ((leb from g.last ≡ true) × (from ≤ g.last)) ⊎ ((leb from g.last ≡ false) × (g.last < from)) → Holds new new_made at byte
+    all at byte g h (inr p) = joined.added.kept at byte (so_far.all at byte g p.1)
+    all at byte g h (inl p) =
+        let least = next.least g.last g.piece g.here p.1 in
+        let same : g.last ≡ last = omega arith in
+        let piece_is : g.piece ≡ piece = some_same g.piece piece (at_last last) (ap at_last (sym same) ∙ g.here) next.found in
+        let start = ap (λ (x : Piece). x.first) piece_is in
+        let from = g.from in
+        let to = g.to in
+        joined.added.laid at byte (record {
+          index = at - piece.first;
+          byte_is = get-part given n piece.place (at - piece.first) (piece.place + (at - piece.first)) byte refl (omega arith) (subst (λ (x : Piece). slice_get given (x.place + (at - x.first)) ≡ Some byte) piece_is g.byte_is);
+          at_is = omega arith;
+        })
+
+pub made_all : (at_last : ℕ → Option Piece) (given : List ℕ) (list : List Segment) (made : List ℕ) (from : ℕ) → HasNoNext at_last from → IsMade at_last given list made from → SameBytes (Gives at_last given) (Holds list made)
+made_all at_last given list made from none so_far = record {
+  given = so_far.of_pieces;
+  kept = λ at byte g. so_far.all at byte g (none g.last g.piece g.here);
+}
+
+-- ---- one piece as it is
+module _ (at_last : ℕ → Option Piece) (given : List ℕ) (segment : Segment) (pieces : IsPieces at_last given) (only : IsOnly at_last (length given) segment) where
+  one : (i : ℕ) (s : Segment) → slice_get (segment ∷ []) i ≡ Some s → (i ≡ 0) × (segment ≡ s)
+  one zero s e = (refl, cc)
+  one (suc i) s e = absurd cc
+
+  rises : segment.first ≤ segment.last
+  rises = let up = pieces.rises segment.last only.piece only.next.found in let first = only.first_is in omega arith
+
+  pub only_right : IsSegments (segment ∷ []) given
+  only_right = record {
+    rises = λ i s e. subst (λ (s : Segment). s.first ≤ s.last) (one i s e).1 rises;
+    fits = λ i s e. subst (λ (s : Segment). s.last < 2 ^ 32) (one i s e).1 (pieces.fits segment.last only.piece only.next.found);
+    inside = λ i s e. subst (λ (s : Segment). s.place + (s.last - s.first) < length given) (one i s e).1 (let all = only.all in let place = only.place_is in omega arith);
+    apart = λ i s j t e f h. let a = (one i s e).0 in let b = (one j t f).0 in absurd (omega arith);
+  }
+
+  pub only_whole : total (segment ∷ []) ≡ length given
+  only_whole = let all = only.all in let up = rises in omega arith
+
+  pub only_same : SameBytes (Gives at_last given) (Holds (segment ∷ []) given)
+  only_same = record { given = back; kept = kept }
+    where
+      back : (at byte : ℕ) → Holds (segment ∷ []) given at byte → Gives at_last given at byte
+      back at byte h =
+          let same = (one h.index h.segment h.here).1 in
+          let first = only.first_is in
+          let place = only.place_is in
+          let piece_place = only.piece_place in
+          let start = ap (λ (s : Segment). s.first) same in
+          let end = ap (λ (s : Segment). s.last) same in
+          let where_to = ap (λ (s : Segment). s.place) same in
+          let from = h.from in
+          let to = h.to in
+          let index : h.segment.place + (at - h.segment.first) ≡ only.piece.place + (at - only.piece.first) = omega arith in
+          record { last = segment.last; piece = only.piece; here = only.next.found; from = omega arith; to = omega arith; byte_is = ap (slice_get given) (sym index) ∙ h.byte_is }
+
+      kept : (at byte : ℕ) → Gives at_last given at byte → Holds (segment ∷ []) given at byte
+      kept at byte g =
+          let under = only.none g.last g.piece g.here in
+          let least = only.next.least g.last g.piece g.here (omega arith) in
+          let same : g.last ≡ segment.last = omega arith in
+          let piece_is : g.piece ≡ only.piece = some_same g.piece only.piece (at_last segment.last) (ap at_last (sym same) ∙ g.here) only.next.found in
+          let start = ap (λ (x : Piece). x.first) piece_is in
+          let where_to = ap (λ (x : Piece). x.place) piece_is in
+          let first = only.first_is in
+          let place = only.place_is in
+          let piece_place = only.piece_place in
+          let from = g.from in
+          let to = g.to in
+          let index : g.piece.place + (at - g.piece.first) ≡ segment.place + (at - segment.first) = omega arith in
+          record { index = 0; segment = segment; here = refl; from = omega arith; to = omega arith; byte_is = ap (slice_get given) (sym index) ∙ g.byte_is }
+
+-- ---- the first segment that ends at an address or past it
+get_index : (xs : List Segment) (i : ℕ) (d : Segment) → i < length xs → slice_get xs i ≡ Some (slice_index_or xs i d)
+get_index xs i d h = get_from_index xs i d h
+
+pub parted : (list : List Segment) (from : ℕ) → ((i : ℕ) (s : Segment) (j : ℕ) (t : Segment) → slice_get list i ≡ Some s → slice_get list j ≡ Some t → i ≤ j → s.last ≤ t.last) → IsPartitionedBy (λ s. nat_lt s.last from) list
+parted list from rise = λ i j d le below e.
+    let h = ltb-true (slice_index_or list j d).last from e in
+    let up = rise i (slice_index_or list i d) j (slice_index_or list j d) (get_index list i d (omega arith)) (get_index list j d below) le in
+    lt-ltb (slice_index_or list i d).last from (omega arith)
+
+pub next_at : (list : List Segment) (from at : ℕ) (segment : Segment) → IsPartitionPoint (λ s. nat_lt s.last from ≡ true) (λ s. nat_lt s.last from ≡ false) list at → slice_get list at ≡ Some segment → IsNextSegment list from segment
+next_at list from at segment point here = record {
+  index = at;
+  here = here;
+  past = ltb-false segment.last from (subst (λ (s : Segment). nat_lt s.last from ≡ false) (index_from_get list at segment segment here).1 (point.1 at segment (omega arith) (get-below list at segment here)));
+  before = λ i s e h. ltb-true s.last from (subst (λ (s : Segment). nat_lt s.last from ≡ true) (index_from_get list i s s e).1 (point.0 i s (omega arith) h));
+}
+
+pub all_below : (list : List Segment) (from at : ℕ) → at ≤ length list → IsPartitionPoint (λ s. nat_lt s.last from ≡ true) (λ s. nat_lt s.last from ≡ false) list at → slice_get list at ≡ None → AreBelow from list
+all_below list from at bound point none i s e =
+    let below = get-below list i s e in
+    let past : length list ≤ at = no_element list at none in
+    ltb-true s.last from (subst (λ (s : Segment). nat_lt s.last from ≡ true) (index_from_get list i s s e).1 (point.0 i s (omega arith) (omega arith)))
+  where
+    no_element : (xs : List Segment) (k : ℕ) → slice_get xs k ≡ None → length xs ≤ k
+    no_element [] k e = omega arith
+    no_element (x ∷ xs) zero e = absurd cc
+    no_element (x ∷ xs) (suc k) e = omega (arith, no_element xs k e)
+
+-- the segments rise
+pub rising_last : (list : List Segment) (bytes : List ℕ) → IsSegments list bytes → (i : ℕ) (s : Segment) (j : ℕ) (t : Segment) → slice_get list i ≡ Some s → slice_get list j ≡ Some t → i ≤ j → s.last ≤ t.last
+rising_last list bytes right i s j t e f h = by (eqb_tells i j)
+  where
+    by : ((nat_eq i j ≡ true) × (i ≡ j)) ⊎ ((nat_eq i j ≡ false) × (i ≢ j)) → s.last ≤ t.last
+    by (inl same) = let end = ap (λ (s : Segment). s.last) (some_same s t (slice_get list j) (ap (slice_get list) (sym same.1) ∙ e) f) in omega arith
+    by (inr apart) =
+        let other = apart.1 in
+        let lt : i < j = omega arith in
+        let gap = right.apart i s j t e f lt in
+        let up = right.rises j t f in
+        omega arith
+
+pub none_from : (list : List Segment) (bytes : List ℕ) (from : ℕ) → AreBelow from list → HoldsNoneFrom list bytes from
+none_from list bytes from below address byte h held = let end = below held.index held.segment held.here in let to = held.to in omega arith
+
+-- ---- the run there
+module _ (list : List Segment) (bytes : List ℕ) (from at n : ℕ) (segment : Segment) (right : IsSegments list bytes) (next : IsNextSegment list from segment) (at_is : at ≡ max segment.first from) (n_is : n ≡ segment.last - at + 1) where
+  upward : segment.first ≤ segment.last
+  upward = right.rises next.index segment next.here
+
+  within : segment.place + (segment.last - segment.first) < length bytes
+  within = right.inside next.index segment next.here
+
+  first_at : (at ≡ segment.first) ⊎ (at ≡ from)
+  first_at = by (leb_tells from segment.first)
+    where
+      by : ((leb from segment.first ≡ true) × (from ≤ segment.first)) ⊎ ((leb from segment.first ≡ false) × (segment.first < from)) → (at ≡ segment.first) ⊎ (at ≡ from)
+      by (inl p) = let h = p.1 in inl (omega arith)
+      by (inr p) = let h = p.1 in inr (omega arith)
+
+  bounds : (segment.first ≤ at) × (at ≤ segment.last) × (from ≤ at)
+  bounds = let past = next.past in (omega arith, omega (arith, upward), omega arith)
+
+  pub run_there : IsRunIn list bytes from at (take n (drop (segment.place + (at - segment.first)) bytes))
+  run_there = record {
+    past = bounds.2;
+    some = omega (arith, len);
+    fits = let few = right.fits next.index segment next.here in let to = bounds.1 in omega (arith, len);
+    none = λ address byte from_it below held. none address byte from_it below held (cases held.index);
+    given = given_there;
+    ends = λ byte held. ends byte held (cases held.index);
+  }
+    where
+      len : length (take n (drop (segment.place + (at - segment.first)) bytes)) ≡ n
+      len = let there = within in let from_first = bounds.0 in let to = bounds.1 in length-part bytes n (segment.place + (at - segment.first)) (omega arith)
+
+      cases : (k : ℕ) → (k < next.index) ⊎ ((k ≡ next.index) ⊎ (next.index < k))
+      cases k = by (leb_tells next.index k) (eqb_tells k next.index)
+        where
+          by : ((leb next.index k ≡ true) × (next.index ≤ k)) ⊎ ((leb next.index k ≡ false) × (k < next.index)) → ((nat_eq k next.index ≡ true) × (k ≡ next.index)) ⊎ ((nat_eq k next.index ≡ false) × (k ≢ next.index)) → (k < next.index) ⊎ ((k ≡ next.index) ⊎ (next.index < k))
+          by (inr p) tells = inl p.1
+          by (inl p) (inl same) = inr (inl same.1)
+          by (inl p) (inr apart) = let le = p.1 in let other = apart.1 in inr (inr (omega arith))
+
+      none : (address byte : ℕ) → from ≤ address → address < at → (held : Holds list bytes address byte) → (held.index < next.index) ⊎ ((held.index ≡ next.index) ⊎ (next.index < held.index)) → ⊥
+      none address byte low high held (inl h) = let end = next.before held.index held.segment held.here h in let to = held.to in omega arith
+      none address byte low high held (inr (inl same)) =
+          let start = ap (λ (s : Segment). s.first) (some_same held.segment segment (slice_get list next.index) (ap (slice_get list) (sym same) ∙ held.here) next.here) in
+          let from_it = held.from in
+          omega arith
+      none address byte low high held (inr (inr h)) =
+          let gap = right.apart next.index segment held.index held.segment next.here held.here h in
+          let from_it = held.from in
+          let to = bounds.1 in
+          omega arith
+
+      given_there : (i byte : ℕ) → slice_get (take n (drop (segment.place + (at - segment.first)) bytes)) i ≡ Some byte → Holds list bytes (at + i) byte
+      given_there i byte e =
+          let from_first = bounds.0 in
+          let to = bounds.1 in
+          let found = get_part bytes n (segment.place + (at - segment.first)) i (segment.place + (at + i - segment.first)) byte (omega arith) e in
+          let below = found.0 in
+          record { index = next.index; segment = segment; here = next.here; from = omega arith; to = omega arith; byte_is = found.1 }
+
+      ends : (byte : ℕ) (held : Holds list bytes (at + length (take n (drop (segment.place + (at - segment.first)) bytes))) byte) → (held.index < next.index) ⊎ ((held.index ≡ next.index) ⊎ (next.index < held.index)) → ⊥
+      ends byte held (inl h) =
+          let end = next.before held.index held.segment held.here h in
+          let to = held.to in
+          let past = bounds.2 in
+          omega arith
+      ends byte held (inr (inl same)) =
+          let end = ap (λ (s : Segment). s.last) (some_same held.segment segment (slice_get list next.index) (ap (slice_get list) (sym same) ∙ held.here) next.here) in
+          let to = held.to in
+          let at_end = bounds.1 in
+          omega (arith, len)
+      ends byte held (inr (inr h)) =
+          let gap = right.apart next.index segment held.index held.segment next.here held.here h in
+          let from_it = held.from in
+          let to = bounds.1 in
+          omega (arith, len)
+
+pub next_found : (list : List Segment) (from at : ℕ) (found : Option Segment) → at ≤ length list → IsPartitionPoint (λ s. nat_lt s.last from ≡ true) (λ s. nat_lt s.last from ≡ false) list at → slice_get list at ≡ found → MatchOption found (AreBelow from list) (λ segment. IsNextSegment list from segment)
+next_found list from at (Some segment) bound point e = next_at list from at segment point e
+next_found list from at None bound point e = all_below list from at bound point e
+
+-- what `get` answers is the element at the place
+pub got : (list : List Segment) (at : ℕ) (found : Option (Bor Segment)) → is_some found ≡ nat_lt at (length list) → IfSome found (λ x. x.now ≡ slice_index_or list at x.now) → slice_get list at ≡ option_copied found
+got list at None there item = slice_get_past list at (ltb-false at (length list) (sym there))
+got list at (Some x) there item = slice_get_read list (length list) at x.now refl (ltb-true at (length list) (sym there)) item
