@@ -1,10 +1,11 @@
 -- Lemmas on segments as the list of their addresses with the bytes.
 use Prim.Native.Nat.{zero}
-use Rattle.std.proofs.Common.{◌≡◌, ◌≢◌, ◌⊎◌, inl, inr, ℕ, suc, ◌+◌, ◌-◌, ◌^◌, ◌<◌, ◌≤◌, Bool, true, false, nat_eq, List, [], ◌∷◌, ◌++◌, length, map, take, drop, slice_get, slice_index, Option, Some, None, Contains, refl, sym, subst, ap, ◌∙◌, arith, length-append}
+use Rattle.std.proofs.Common.{◌≡◌, ◌≢◌, ◌⊎◌, inl, inr, ℕ, suc, ◌+◌, ◌-◌, ◌^◌, ◌<◌, ◌≤◌, Bool, true, false, nat_eq, List, [], ◌∷◌, ◌++◌, length, map, take, drop, slice_get, slice_index, Bor, Option, Some, None, Contains, refl, sym, subst, ap, ◌∙◌, arith, length-append}
 use Rattle.std.specs.List.{enumerate_from}
+use Rattle.std.specs.Option.{MatchOption}
 use Rattle.std.specs.List.Sorted.{IsStrictlyIncreasing}
 use Rattle.std.proofs.lemmas.List.FromFn.{length-enumerate_from}
-use Rattle.std.proofs.lemmas.Bool.{ne_eqb, eqb_refl}
+use Rattle.std.proofs.lemmas.Bool.{ne_eqb, eq-eqb}
 use Rattle.std.proofs.lemmas.Bool.Decides.{eqb_tells}
 use Rattle.nor_hex.specs.declared.segments.Segment.{Segment}
 use Rattle.nor_hex.specs.Image.{Pairs, addresses, byte_at, IsRunFrom, HasNoneFrom}
@@ -36,7 +37,7 @@ listed low (pair ∷ pairs) zero address byte r e =
     let first : pair.0 ≡ address = cc in
     let second : pair.1 ≡ byte = cc in
     let low_first = r.0 in
-    (omega arith, rw (first, eqb_refl address, second) refl)
+    (omega arith, rw (first, eq-eqb address address refl, second) refl)
 listed low (pair ∷ pairs) (suc i) address byte r e =
     let more = listed (pair.0 + 1) pairs i address byte r.1 e in
     let above = more.0 in
@@ -48,13 +49,13 @@ pub increasing : (low : ℕ) (pairs : Pairs) → RisesFrom low pairs → IsStric
 unfolding RisesFrom
 increasing low [] r = λ k h. absurd (omega arith)
 increasing low (pair ∷ []) r = λ k h. absurd (omega arith)
-increasing low (pair ∷ next ∷ pairs) r = by
+increasing low (pair ∷ next ∷ pairs) r = by (increasing (pair.0 + 1) (next ∷ pairs) r.1)
   where
-    by : (k : ℕ) → k + 1 < length (addresses (pair ∷ next ∷ pairs)) → slice_index (addresses (pair ∷ next ∷ pairs)) k < slice_index (addresses (pair ∷ next ∷ pairs)) (k + 1)
-    by zero h = let second = r.1.0 in omega arith
-    by (suc k) h =
+    by : IsStrictlyIncreasing (addresses (next ∷ pairs)) → (k : ℕ) → k + 1 < length (addresses (pair ∷ next ∷ pairs)) → slice_index (addresses (pair ∷ next ∷ pairs)) k < slice_index (addresses (pair ∷ next ∷ pairs)) (k + 1)
+    by later zero h = let second = r.1.0 in omega arith
+    by later (suc k) h =
         let e : suc k + 1 ≡ suc (k + 1) = omega arith in
-        rw e (increasing (pair.0 + 1) (next ∷ pairs) r.1 k (omega arith))
+        rw e (later k (omega arith))
 
 -- ---- a run with its addresses
 get-enumerated : (at : ℕ) (run : List ℕ) (i byte : ℕ) → slice_get run i ≡ Some byte → slice_get (enumerate_from at run) i ≡ Some (at + i, byte)
@@ -67,15 +68,15 @@ get-enumerated at (x ∷ run) (suc i) byte e =
 -- what a run and more pairs give, the run gives or the others
 run_or_later : (at : ℕ) (run : List ℕ) (later : Pairs) (address byte : ℕ) → byte_at (enumerate_from at run ++ later) address ≡ Some byte → ((i : ℕ) × (slice_get run i ≡ Some byte) × (at + i ≡ address)) ⊎ (byte_at later address ≡ Some byte)
 run_or_later at [] later address byte e = inr e
-run_or_later at (x ∷ run) later address byte e = by (eqb_tells address at) e
+run_or_later at (x ∷ run) later address byte e = by (eqb_tells address at) e (run_or_later (at + 1) run later address byte)
   where
     more : ((i : ℕ) × (slice_get run i ≡ Some byte) × (at + 1 + i ≡ address)) ⊎ (byte_at later address ≡ Some byte) → ((i : ℕ) × (slice_get (x ∷ run) i ≡ Some byte) × (at + i ≡ address)) ⊎ (byte_at later address ≡ Some byte)
     more (inl p) = let sum = p.2 in inl (suc p.0, p.1, omega arith)
     more (inr f) = inr f
 
-    by : ((nat_eq address at ≡ true) × (address ≡ at)) ⊎ ((nat_eq address at ≡ false) × (address ≢ at)) → byte_at ((at, x) ∷ (enumerate_from (at + 1) run ++ later)) address ≡ Some byte → ((i : ℕ) × (slice_get (x ∷ run) i ≡ Some byte) × (at + i ≡ address)) ⊎ (byte_at later address ≡ Some byte)
-    by (inl same) f = let here = same.1 in let value : Some x ≡ Some byte = rw same.0 at f in inl (0, value, omega arith)
-    by (inr apart) f = let rest : byte_at (enumerate_from (at + 1) run ++ later) address ≡ Some byte = rw apart.0 at f in more (run_or_later (at + 1) run later address byte rest)
+    by : ((nat_eq address at ≡ true) × (address ≡ at)) ⊎ ((nat_eq address at ≡ false) × (address ≢ at)) → byte_at ((at, x) ∷ (enumerate_from (at + 1) run ++ later)) address ≡ Some byte → (byte_at (enumerate_from (at + 1) run ++ later) address ≡ Some byte → ((i : ℕ) × (slice_get run i ≡ Some byte) × (at + 1 + i ≡ address)) ⊎ (byte_at later address ≡ Some byte)) → ((i : ℕ) × (slice_get (x ∷ run) i ≡ Some byte) × (at + i ≡ address)) ⊎ (byte_at later address ≡ Some byte)
+    by (inl same) f further = let here = same.1 in let value : Some x ≡ Some byte = rw same.0 at f in inl (0, value, omega arith)
+    by (inr apart) f further = let rest : byte_at (enumerate_from (at + 1) run ++ later) address ≡ Some byte = rw apart.0 at f in more (further rest)
 
 -- ---- segments
 -- what is left without the first
@@ -125,21 +126,18 @@ byte_from_held segments bytes address byte right held =
 
 pub held_from_byte : (segments : List Segment) (bytes : List ℕ) (address byte : ℕ) → IsSegments segments bytes → byte_at (pairs_of segments bytes) address ≡ Some byte → Holds segments bytes address byte
 held_from_byte [] bytes address byte right e = absurd cc
-held_from_byte (one ∷ later) bytes address byte right e = by (run_or_later one.first (bytes_of one bytes) (pairs_of later bytes) address byte e)
+held_from_byte (one ∷ later) bytes address byte right e = by (run_or_later one.first (bytes_of one bytes) (pairs_of later bytes) address byte e) (held_from_byte later bytes address byte (tail_right one later bytes right))
   where
     further : Holds later bytes address byte → Holds (one ∷ later) bytes address byte
     further held = record { index = suc held.index; segment = held.segment; here = held.here; from = held.from; to = held.to; byte_is = held.byte_is }
 
-    rest : byte_at (pairs_of later bytes) address ≡ Some byte → Holds later bytes address byte
-    rest f = held_from_byte later bytes address byte (tail_right one later bytes right) f
-
-    by : ((i : ℕ) × (slice_get (bytes_of one bytes) i ≡ Some byte) × (one.first + i ≡ address)) ⊎ (byte_at (pairs_of later bytes) address ≡ Some byte) → Holds (one ∷ later) bytes address byte
-    by (inl p) =
+    by : ((i : ℕ) × (slice_get (bytes_of one bytes) i ≡ Some byte) × (one.first + i ≡ address)) ⊎ (byte_at (pairs_of later bytes) address ≡ Some byte) → (byte_at (pairs_of later bytes) address ≡ Some byte → Holds later bytes address byte) → Holds (one ∷ later) bytes address byte
+    by (inl p) rest =
         let sum = p.2 in
         let found = get_part bytes (size one) one.place p.0 (one.place + (address - one.first)) byte (omega arith) p.1 in
         let below = found.0 in
         record { index = 0; segment = one; here = refl; from = omega arith; to = omega arith; byte_is = found.1 }
-    by (inr f) = further (rest f)
+    by (inr f) rest = further (rest f)
 
 -- ---- runs
 none_or_some : (x : Option ℕ) → (x ≡ None) ⊎ ((byte : ℕ) × (x ≡ Some byte))
@@ -179,3 +177,59 @@ pub left_last : (segment : Segment) (later : List Segment) (bytes : List ℕ) (d
 left_last segment later bytes done at inside =
     let len = run_length segment bytes (omega arith) inside in
     drop-left (enumerate_from segment.first (bytes_of segment bytes)) (pairs_of later bytes) (done + 1) (omega (arith, length-enumerate_from segment.first (bytes_of segment bytes)))
+
+-- the image gives just what stands in its list
+pub byte_from_contains : (segments : List Segment) (bytes : List ℕ) (address byte : ℕ) → IsSegments segments bytes → Contains (pairs_of segments bytes) (address, byte) → byte_at (pairs_of segments bytes) address ≡ Some byte
+byte_from_contains segments bytes address byte right found =
+    (listed 0 (pairs_of segments bytes) found.0 address byte (rising 0 segments bytes right (λ s e. omega arith)) (get_from_index (pairs_of segments bytes) found.0 (address, byte) found.1 ∙ ap Some found.2)).1
+
+pub run_found : (segments : List Segment) (bytes : List ℕ) → IsSegments segments bytes → (from : ℕ) (found : Option (ℕ × Bor (List ℕ))) → MatchOption found (HoldsNoneFrom segments bytes from) (λ run. IsRunIn segments bytes from run.0 run.1.now) → MatchOption found (HasNoneFrom (pairs_of segments bytes) from) (λ run. IsRunFrom (pairs_of segments bytes) from run.0 run.1.now)
+run_found segments bytes right from None none = has_none segments bytes right from none
+run_found segments bytes right from (Some run) there = run_from segments bytes right from run.0 run.1.now there
+
+-- ---- what is left of an iteration
+module _ (segments later : List Segment) (segment : Segment) (bytes : List ℕ) (done : ℕ) (left : HasLeft segments bytes done) (first_is : segments ≡ segment ∷ later) where
+  here : slice_get segments 0 ≡ Some segment
+  here = ap (λ xs. slice_get xs 0) first_is
+
+  after : (i : ℕ) (s : Segment) → slice_get later i ≡ Some s → slice_get segments (suc i) ≡ Some s
+  after i s e = ap (λ xs. slice_get xs (suc i)) first_is ∙ e
+
+  pub left_more : segment.first + done ≤ segment.last
+  left_more = left.more segment here
+
+  pub left_fits : segment.last < 2 ^ 32
+  left_fits = left.fits 0 segment here
+
+  pub left_inside : segment.place + (segment.last - segment.first) < length bytes
+  left_inside = left.inside 0 segment here
+
+  pub left_later : HasLeft later bytes 0
+  left_later = record {
+    rises = λ i s e. left.rises (suc i) s (after i s e);
+    fits = λ i s e. left.fits (suc i) s (after i s e);
+    inside = λ i s e. left.inside (suc i) s (after i s e);
+    more = λ s e. let up = left.rises 1 s (after 0 s e) in omega arith;
+    none = λ e. refl;
+  }
+
+  pub left_next : (segment.first + done ≡ segment.last → ⊥) → HasLeft segments bytes (done + 1)
+  left_next apart = record {
+    rises = left.rises;
+    fits = left.fits;
+    inside = left.inside;
+    more = λ s e.
+      let same : segment ≡ s = some_same segment s (slice_get segments 0) here e in
+      subst (λ (s : Segment). s.first + (done + 1) ≤ s.last) same (let le = left_more in omega arith);
+    none = λ e. absurd (none_some segment (slice_get segments 0) (ap (λ xs. slice_get xs 0) e) here);
+  }
+
+  pub step_on : (address byte : ℕ) → address ≡ segment.first + done → byte ≡ slice_index bytes (segment.place + done) → drop done (pairs_of segments bytes) ≡ (address, byte) ∷ drop (done + 1) (pairs_of segments bytes)
+  step_on address byte at which =
+      let le = left_more in
+      subst (λ (xs : List Segment). drop done (pairs_of xs bytes) ≡ (address, byte) ∷ drop (done + 1) (pairs_of xs bytes)) (sym first_is) (left_step segment later bytes done address byte at (omega arith) left_inside which)
+
+  pub step_over : (address byte : ℕ) → address ≡ segment.first + done → segment.first + done ≡ segment.last → byte ≡ slice_index bytes (segment.place + done) → drop done (pairs_of segments bytes) ≡ (address, byte) ∷ pairs_of later bytes
+  step_over address byte at last which =
+      subst (λ (xs : List Segment). drop done (pairs_of xs bytes) ≡ (address, byte) ∷ pairs_of later bytes) (sym first_is)
+      (left_step segment later bytes done address byte at (omega arith) left_inside which ∙ ap (λ more. (address, byte) ∷ more) (left_last segment later bytes done last left_inside))

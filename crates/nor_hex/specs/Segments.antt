@@ -95,6 +95,7 @@ pub record IsRunIn (segments : List Segment) (bytes : List ℕ) (from at : ℕ) 
 -- what is left of an iteration: each segment has its bytes, and the first of them has more than `done`
 pub record HasLeft (segments : List Segment) (bytes : List ℕ) (done : ℕ) : Type 0 where
   pub rises : (i : ℕ) (segment : Segment) → slice_get segments i ≡ Some segment → segment.first ≤ segment.last
+  pub fits : (i : ℕ) (segment : Segment) → slice_get segments i ≡ Some segment → segment.last < 2 ^ 32
   pub inside : (i : ℕ) (segment : Segment) → slice_get segments i ≡ Some segment → segment.place + (segment.last - segment.first) < length bytes
   pub more : (segment : Segment) → slice_get segments 0 ≡ Some segment → segment.first + done ≤ segment.last
   pub none : segments ≡ [] → done ≡ 0

@@ -1,9 +1,16 @@
+use Rattle.std.proofs.Common.{ℕ, ◌≤◌, arith}
+use Rattle.std.specs.List.Sorted.{IsStrictlyIncreasing}
+use Rattle.nor_hex.specs.Segments.{pairs_of}
 use Rattle.nor_hex.proofs.ImageLemmas.{contains_from_byte}
-use Rattle.nor_hex.proofs.ViewLemmas.{rising, listed, increasing}
+use Rattle.nor_hex.proofs.ViewLemmas.{rising, increasing, byte_from_contains}
 use Rattle.nor_hex.proofs.image.Image.iter.Goals as goal
 
 pub returns-clause-rising : goal.returns-clause-rising
-returns-clause-rising c = ?
+returns-clause-rising c =
+    let segments = c.self.inside.segments in
+    rw (← c.self.view_is) (increasing 0 (pairs_of segments.list.items segments.bytes.items) (rising 0 segments.list.items segments.bytes.items segments.right (λ s e. omega arith)))
 
 pub returns-clause-given : goal.returns-clause-given
-returns-clause-given c = ?
+returns-clause-given c =
+    let segments = c.self.inside.segments in
+    λ address byte. (contains_from_byte c.args.self.now address byte, λ found. rw (← c.self.view_is) (byte_from_contains segments.list.items segments.bytes.items address byte segments.right (rw (← c.self.view_is) at found)))
