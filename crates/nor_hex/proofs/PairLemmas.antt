@@ -1,13 +1,9 @@
 -- Lemmas on bytes as pairs of hexadecimal digits.
 use Prim.Native.Nat.{zero}
 use Rattle.std.proofs.Math.Seq.{drop-cons, take-suc, take-suc-set}
-use Rattle.std.specs.Result.{MatchResult}
-use Rattle.std.proofs.lemmas.Result.{MatchResult-at_ok}
 use Rattle.std.proofs.lemmas.List.Sums.{sum_by_more}
-use Rattle.std.proofs.Common.{◌≡◌, ℕ, suc, sum, ◌%◌, take, drop, ◌+◌, ◌*◌, ◌/◌, ◌<◌, Bool, true, false, ◌&&◌, List, [], ◌∷◌, length, slice_index, Option, Some, None, is_some, Result, Ok, Err, unwrap_or, refl, set, ap, ◌∙◌, arith}
+use Rattle.std.proofs.Common.{◌≡◌, ℕ, suc, sum, ◌%◌, take, drop, ◌+◌, ◌*◌, ◌/◌, ◌<◌, Bool, true, false, ◌&&◌, List, [], ◌∷◌, length, slice_index, refl, set, arith}
 use Rattle.std.specs.List.{list_all}
-use Rattle.hex.specs.Hex.{is_hex_digit, hex_digit_value, decode_sized, decode_pairs, digit_or_error, ◌>>=◌}
-use Rattle.hex.specs.declared.error.FromHexError.{FromHexError}
 use Rattle.nor_hex.specs.Record.{pair_bytes, digit}
 
 -- as many bytes as pairs

@@ -1,12 +1,13 @@
 -- Lemmas on bytes that are added to pieces.
-use Rattle.std.proofs.Common.{◌≡◌, ◌≢◌, ◌⊎◌, inl, inr, ℕ, ◌+◌, ◌-◌, ◌^◌, ◌<◌, ◌≤◌, true, false, nat_eq, leb, List, ◌++◌, length, take, drop, slice_get, Option, Some, None, refl, sym, subst, ap, ◌∙◌, arith, length-append}
+use Rattle.std.proofs.Common.{◌≡◌, ◌≢◌, ◌⊎◌, inl, inr, ℕ, ◌+◌, ◌-◌, ◌^◌, ◌<◌, ◌≤◌, true, false, nat_eq, leb, List, ◌++◌, length, take, drop, slice_get, Option, Some, refl, sym, subst, ap, ◌∙◌, arith, length-append}
 use Rattle.std.proofs.lemmas.List.{length-take-le}
 use Rattle.std.specs.Ordering.{nat_cmp}
 use Rattle.std.specs.BTreeMap as tree
+use Rattle.std.specs.Map.{lookup}
 use Rattle.std.proofs.lemmas.Bool.{ne_eqb}
 use Rattle.std.proofs.lemmas.Bool.Decides.{eqb_tells, leb_tells}
 use Rattle.nor_hex.specs.declared.pieces.Piece.{Piece}
-use Rattle.nor_hex.specs.Pieces.{Gives, IsPieces, IsFree, IsNext, HasNoNext, LaysRun, AddsRun, ClashesRun, DiffersIn, Opens}
+use Rattle.nor_hex.specs.Pieces.{Gives, IsPieces, IsFree, IsNext, LaysRun, AddsRun, ClashesRun, DiffersIn, Opens}
 use Rattle.nor_hex.proofs.ListLemmas.{some_same, none_some, get-below, get-left, get-left_back, get-right, get-take, get_taken, get-drop, get_part, get-part, length-part, differ_at}
 use Rattle.nor_hex.proofs.ImageLemmas.{equal_keys}
 
@@ -380,3 +381,18 @@ differs given run d n m count limit n_is m_is inside fits below apart =
       second_is = second.1;
       differ = found.5;
     }
+
+-- ---- an empty map
+no_piece : (m : tree.BTreeMap ℕ Piece) → tree.IsEmpty m → (k : ℕ) (q : Piece) → tree.get nat_cmp m k ≡ Some q → ⊥
+no_piece m empty k q e = none_some q (tree.get nat_cmp m k) (ap (λ entries. lookup (tree.is_at (nat_cmp k)) entries) empty) e
+
+pub pieces_none : (m : tree.BTreeMap ℕ Piece) (bytes : List ℕ) → tree.IsEmpty m → IsPieces (tree.get nat_cmp m) bytes
+pieces_none m bytes empty = record {
+  rises = λ k q e. absurd (no_piece m empty k q e);
+  fits = λ k q e. absurd (no_piece m empty k q e);
+  inside = λ k q e. absurd (no_piece m empty k q e);
+  apart = λ k q j r e f h. absurd (no_piece m empty k q e);
+}
+
+pub gives_none : (m : tree.BTreeMap ℕ Piece) (bytes : List ℕ) → tree.IsEmpty m → (address byte : ℕ) → Gives (tree.get nat_cmp m) bytes address byte → ⊥
+gives_none m bytes empty address byte g = no_piece m empty g.last g.piece g.here

@@ -1,6 +1,6 @@
 -- Lemmas on segments to which runs are added.
 use Prim.Native.Nat.{zero}
-use Rattle.std.proofs.Common.{◌≡◌, ◌≢◌, ◌⊎◌, inl, inr, ℕ, suc, ◌+◌, ◌-◌, ◌^◌, ◌<◌, ◌≤◌, Bool, true, false, nat_eq, nat_lt, max, leb, List, [], ◌∷◌, ◌++◌, length, take, drop, slice_get, slice_index_or, Bor, Option, Some, None, refl, sym, subst, ap, ◌∙◌, arith, length-append}
+use Rattle.std.proofs.Common.{◌≡◌, ◌≢◌, ◌⊎◌, inl, inr, ℕ, suc, ◌+◌, ◌-◌, ◌^◌, ◌<◌, ◌≤◌, true, false, nat_eq, nat_lt, max, leb, List, [], ◌∷◌, ◌++◌, length, take, drop, slice_get, slice_index_or, Bor, Option, Some, None, refl, sym, subst, ap, ◌∙◌, arith, length-append}
 use Rattle.std.proofs.lemmas.Bool.Decides.{eqb_tells, leb_tells}
 use Rattle.std.specs.Option.{MatchOption, IfSome, is_some, option_copied}
 use Rattle.std.proofs.lemmas.Option.{slice_get_past, slice_get_read}
@@ -9,7 +9,7 @@ use Rattle.std.proofs.lemmas.Bool.{ltb-true, ltb-false, lt-ltb}
 use Rattle.nor_hex.proofs.ImageLemmas.{get_from_index, index_from_get}
 use Rattle.nor_hex.specs.declared.pieces.Piece.{Piece}
 use Rattle.nor_hex.specs.declared.segments.Segment.{Segment}
-use Rattle.nor_hex.specs.Pieces.{Gives, IsPieces, IsNext, HasNoNext, LaysRun, AddsRun}
+use Rattle.nor_hex.specs.Pieces.{Gives, IsPieces, IsNext, HasNoNext, LaysRun}
 use Rattle.nor_hex.specs.Segments.{Holds, IsSegments, AreBelow, EndsAt, IsJoined, SameBytes, IsOnly, IsNextSegment, HoldsNoneFrom, IsRunIn, size, total}
 use Rattle.nor_hex.proofs.ListLemmas.{some_same, get-below, get-left, get-left_back, get-right, get_part, get-part, length-part}
 use Rattle.nor_hex.proofs.PutLemmas.{get-snoc, get-append_here}

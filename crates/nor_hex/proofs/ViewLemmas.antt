@@ -1,6 +1,6 @@
 -- Lemmas on segments as the list of their addresses with the bytes.
 use Prim.Native.Nat.{zero}
-use Rattle.std.proofs.Common.{◌≡◌, ◌≢◌, ◌⊎◌, inl, inr, ℕ, suc, ◌+◌, ◌-◌, ◌^◌, ◌<◌, ◌≤◌, Bool, true, false, nat_eq, List, [], ◌∷◌, ◌++◌, length, map, take, drop, slice_get, slice_index, Bor, Option, Some, None, Contains, refl, sym, subst, ap, ◌∙◌, arith, length-append}
+use Rattle.std.proofs.Common.{◌≡◌, ◌≢◌, ◌⊎◌, inl, inr, ℕ, suc, ◌+◌, ◌-◌, ◌^◌, ◌<◌, ◌≤◌, true, false, nat_eq, List, [], ◌∷◌, ◌++◌, length, drop, slice_get, slice_index, Bor, Option, Some, None, Contains, refl, sym, subst, ap, ◌∙◌, arith, length-append}
 use Rattle.std.specs.List.{enumerate_from}
 use Rattle.std.specs.Option.{MatchOption}
 use Rattle.std.specs.List.Sorted.{IsStrictlyIncreasing}
@@ -10,7 +10,7 @@ use Rattle.std.proofs.lemmas.Bool.Decides.{eqb_tells}
 use Rattle.nor_hex.specs.declared.segments.Segment.{Segment}
 use Rattle.nor_hex.specs.Image.{Pairs, addresses, byte_at, IsRunFrom, HasNoneFrom}
 use Rattle.nor_hex.specs.Segments.{Holds, IsSegments, HoldsNoneFrom, IsRunIn, HasLeft, pairs_of, bytes_of, size, total}
-use Rattle.nor_hex.proofs.ListLemmas.{get-below, get_there, get-left, get-right, get_part, get-part, length-part, drop-here, drop-left, none_some, some_same}
+use Rattle.nor_hex.proofs.ListLemmas.{get_there, get-left, get-right, get_part, get-part, length-part, drop-here, drop-left, none_some, some_same}
 use Rattle.nor_hex.proofs.ImageLemmas.{get_from_index}
 
 -- ---- pairs whose addresses rise from `low` on
@@ -219,8 +219,8 @@ module _ (segments later : List Segment) (segment : Segment) (bytes : List ℕ) 
     fits = left.fits;
     inside = left.inside;
     more = λ s e.
-      let same : segment ≡ s = some_same segment s (slice_get segments 0) here e in
-      subst (λ (s : Segment). s.first + (done + 1) ≤ s.last) same (let le = left_more in omega arith);
+        let same : segment ≡ s = some_same segment s (slice_get segments 0) here e in
+        subst (λ (s : Segment). s.first + (done + 1) ≤ s.last) same (let le = left_more in omega arith);
     none = λ e. absurd (none_some segment (slice_get segments 0) (ap (λ xs. slice_get xs 0) e) here);
   }
 

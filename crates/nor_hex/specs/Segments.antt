@@ -1,5 +1,5 @@
 -- Bytes at rising addresses, as segments with gaps between them.
-use Rattle.std.specs.Prelude.{◌≡◌, ℕ, ◌+◌, ◌-◌, ◌^◌, ◌<◌, ◌≤◌, List, [], ◌∷◌, ◌++◌, length, take, drop, slice_get, Option, Some, None}
+use Rattle.std.specs.Prelude.{◌≡◌, ℕ, ◌+◌, ◌-◌, ◌^◌, ◌<◌, ◌≤◌, List, [], ◌∷◌, ◌++◌, length, take, drop, slice_get, Option, Some}
 use Rattle.std.specs.List.{enumerate_from}
 use Rattle.nor_hex.specs.declared.pieces.Piece.{Piece}
 use Rattle.nor_hex.specs.declared.segments.Segment.{Segment}

@@ -114,11 +114,7 @@ fn join<A: Allocator + Clone>(
 }
 
 /// The first run of bytes at an address or past it, with its address.
-pub(crate) fn run_in<'a>(
-    list: &[Segment],
-    bytes: &'a [u8],
-    from: u32,
-) -> Option<(u32, &'a [u8])>
+pub(crate) fn run_in<'a>(list: &[Segment], bytes: &'a [u8], from: u32) -> Option<(u32, &'a [u8])>
     requires { IsSegments list.now bytes.now }
     ensures { MatchOption result (HoldsNoneFrom list.now bytes.now from) (λ run. IsRunIn list.now bytes.now from run.0 run.1.now) }
 {
@@ -133,5 +129,6 @@ fn next_segment(list: &[Segment], from: u32) -> Option<Segment>
     requires { (i : ℕ) (s : Segment) (j : ℕ) (t : Segment) → slice_get list.now i ≡ Some s → slice_get list.now j ≡ Some t → i ≤ j → s.last ≤ t.last }
     ensures { MatchOption result (AreBelow from list.now) (λ segment. IsNextSegment list.now from segment) }
 {
-    list.get(list.partition_point(|segment| segment.last < from)).copied()
+    list.get(list.partition_point(|segment| segment.last < from))
+        .copied()
 }

@@ -1,4 +1,4 @@
-use Rattle.std.proofs.Common.{◌≡◌, ◌+◌, ◌*◌, sym, arith}
+use Rattle.std.proofs.Common.{sym}
 use Rattle.nor_hex.proofs.PairLemmas.{pair_bytes-at}
 use Rattle.nor_hex.proofs.digits.pair.Goals as goal
 

@@ -1,4 +1,4 @@
-use Rattle.std.proofs.Common.{◌≡◌, ℕ, ◌+◌, ◌-◌, List, drop, subst}
+use Rattle.std.proofs.Common.{ℕ, ◌+◌, ◌-◌, List, drop, subst}
 use Rattle.std.proofs.lemmas.Result.{MatchResult-weaker}
 use Rattle.nor_hex.specs.Pieces.{DiffersIn}
 use Rattle.nor_hex.proofs.PieceLemmas.{clashes_over}

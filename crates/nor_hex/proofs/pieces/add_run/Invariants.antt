@@ -1,4 +1,4 @@
-use Rattle.std.proofs.Common.{◌+◌, ◌-◌, ◌≤◌, length, take}
+use Rattle.std.proofs.Common.{◌-◌, ◌≤◌, length, take}
 use Rattle.std.specs.Ordering.{nat_cmp}
 use Rattle.std.specs.BTreeMap.{get}
 use Rattle.nor_hex.specs.Pieces.{Gives, IsPieces, AddsRun}
@@ -11,5 +11,5 @@ abbrev pub invariant-loop-done : goal.invariant-loop-done
 invariant-loop-done g l = record {
   within : l.done ≤ length l.bytes;
   pieces : IsPieces (get nat_cmp l.pieces.by_last) l.pieces.bytes.items;
-  added : AddsRun (Gives (get nat_cmp l.fn.pieces.by_last) l.fn.pieces.bytes.items) (Gives (get nat_cmp l.pieces.by_last) l.pieces.bytes.items) l.address (take l.done l.bytes)
+  added : AddsRun (Gives (get nat_cmp l.fn.pieces.by_last) l.fn.pieces.bytes.items) (Gives (get nat_cmp l.pieces.by_last) l.pieces.bytes.items) l.address (take l.done l.bytes);
 }

@@ -1,4 +1,4 @@
-use Rattle.std.proofs.Common.{◌≡◌, ◌≢◌, ◌+◌, ◌-◌, ◌∙◌, sym, refl, take, drop, arith}
+use Rattle.std.proofs.Common.{◌+◌, ◌-◌, ◌∙◌, sym, refl, arith}
 use Rattle.std.specs.Cmp.Lexicographic.{other_text}
 use Rattle.nor_hex.proofs.PieceLemmas.{differs}
 use Rattle.nor_hex.proofs.pieces.repeat_part.Goals as goal

@@ -8,5 +8,5 @@ use Rattle.nor_hex.proofs.reader.segments_in.Given as goal
 abbrev pub invariant-loop-number : goal.invariant-loop-number
 invariant-loop-number g l = record {
   pieces : IsPieces (get nat_cmp l.pieces.by_last) l.pieces.bytes.items;
-  read : ReadSoFar l.text (map (λ line. (line.0, line.1.now)) l.yielded) l.number-iterator (Gives (get nat_cmp l.pieces.by_last) l.pieces.bytes.items) l.base l.ended
+  read : ReadSoFar l.text (map (λ line. (line.0, line.1.now)) l.yielded) l.number-iterator (Gives (get nat_cmp l.pieces.by_last) l.pieces.bytes.items) l.base l.ended;
 }

@@ -1,10 +1,9 @@
-use Rattle.std.proofs.Common.{◌≡◌, ◌+◌, ◌-◌, ◌<◌, length, ◌++◌, [], ◌∷◌, slice_get, sym, refl, ap, ◌∙◌, arith}
+use Rattle.std.proofs.Common.{◌≡◌, length, [], slice_get, refl, ap, ◌∙◌, arith}
 use Rattle.std.proofs.lemmas.List.{append-nil}
 use Rattle.std.proofs.lemmas.Grind.{common_steps}
 use Rattle.nor_hex.proofs.ListLemmas.{get-below}
 use Rattle.nor_hex.proofs.PutLemmas.{get-append_here}
 use Rattle.nor_hex.proofs.SegmentLemmas.{appended, lengthened, gap_before}
-use Rattle.nor_hex.proofs.segments.join.Given.{Over}
 use Rattle.nor_hex.proofs.segments.join.Goals as goal
 
 pub returns-in_ok-push-in-Some : goal.returns-in_ok-push-in-Some

@@ -1,4 +1,4 @@
-use Rattle.std.proofs.Common.{◌≡◌, ◌+◌, ◌-◌, ℕ, List, take, drop, subst, arith}
+use Rattle.std.proofs.Common.{◌+◌, ◌-◌, ℕ, List, take, drop, subst, arith}
 use Rattle.nor_hex.specs.Segments.{IsJoined}
 use Rattle.nor_hex.proofs.SegmentLemmas.{made_more, made_all, only_same}
 use Rattle.nor_hex.proofs.segments.joined.Goals as goal

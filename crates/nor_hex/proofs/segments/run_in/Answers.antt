@@ -1,4 +1,4 @@
-use Rattle.std.proofs.Common.{◌≡◌, ◌+◌, ◌-◌, ◌<◌, ◌≤◌, length, arith, refl}
+use Rattle.std.proofs.Common.{arith}
 use Rattle.nor_hex.proofs.SegmentLemmas.{rising_last, none_from, run_there}
 use Rattle.nor_hex.proofs.segments.run_in.Goals as goal
 

@@ -1,5 +1,4 @@
-use Rattle.std.proofs.Common.{ℕ, ◌≤◌, arith}
-use Rattle.std.specs.List.Sorted.{IsStrictlyIncreasing}
+use Rattle.std.proofs.Common.{arith}
 use Rattle.nor_hex.specs.Segments.{pairs_of}
 use Rattle.nor_hex.proofs.ImageLemmas.{contains_from_byte}
 use Rattle.nor_hex.proofs.ViewLemmas.{rising, increasing, byte_from_contains}

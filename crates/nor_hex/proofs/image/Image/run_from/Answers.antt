@@ -1,4 +1,3 @@
-use Rattle.std.proofs.Common.{ℕ, List, subst}
 use Rattle.nor_hex.proofs.ViewLemmas.{run_found}
 use Rattle.nor_hex.proofs.image.Image.run_from.Goals as goal
 

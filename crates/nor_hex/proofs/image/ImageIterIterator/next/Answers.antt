@@ -1,4 +1,4 @@
-use Rattle.std.proofs.Common.{◌≡◌, ◌+◌, ◌-◌, ◌<◌, ◌≤◌, length, sym, ap, ◌∙◌, refl, arith, rules}
+use Rattle.std.proofs.Common.{length, sym, ap, ◌∙◌, refl, arith, rules}
 use Rattle.nor_hex.proofs.ViewLemmas.{left_more, left_fits, left_inside, left_later, left_next, step_on, step_over}
 use Rattle.nor_hex.proofs.image.ImageIterIterator.next.Goals as goal
 
