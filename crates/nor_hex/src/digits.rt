@@ -12,11 +12,15 @@ pub(crate) fn is_digit(byte: u8) -> bool
     matches!(byte, b'0'..=b'9' | b'A'..=b'F' | b'a'..=b'f')
 }
 
-/// Whether all bytes are hexadecimal digits.
+/// Whether all bytes are hexadecimal digits. It looks at each, so that many are looked at at once.
 pub(crate) fn are_digits(bytes: &[u8]) -> bool
     ensures { result ≡ list_all is_hex_digit bytes.now }
 {
-    bytes.iter().all(|byte| is_digit(*byte))
+    let mut all = true;
+    for byte in bytes {
+        all &= is_digit(*byte);
+    }
+    all
 }
 
 /// The value of a hexadecimal digit, without a branch: the low half of a decimal digit is its
