@@ -1,6 +1,6 @@
 //! The memory image of a text.
 
-ghost use Rattle.std.specs.Prelude.{◌≡◌, ◌↔◌, ℕ, List, length, Some, Contains, All, MatchOption};
+ghost use Rattle.std.specs.Prelude.{◌≡◌, ◌↔◌, ◌<◌, ◌^◌, ℕ, List, length, Some, Contains, All, MatchOption};
 ghost use Rattle.std.specs.Iterator.{YieldsFirst, item_count};
 ghost use Rattle.std.specs.List.Sorted.{IsStrictlyIncreasing};
 ghost use Rattle.nor_hex.specs.Image.{byte_at, addresses, IsRunFrom, HasNoneFrom};
@@ -69,6 +69,7 @@ impl Image {
     pub fn iter(&self) -> ImageIter<'_>
         ensures pairs { result ≡ self.now }
         ensures rising { IsStrictlyIncreasing (addresses self.now) }
+        ensures few { length self.now < 2 ^ 63 }
         ensures given { (address byte : ℕ) → (byte_at self.now address ≡ Some byte) ↔ Contains self.now (address, byte) }
     {
         ImageIter {

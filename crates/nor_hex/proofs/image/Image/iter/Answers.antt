@@ -1,7 +1,7 @@
-use Rattle.std.proofs.Common.{arith}
+use Rattle.std.proofs.Common.{◌≡◌, ℕ, ◌<◌, ◌≤◌, ◌^◌, length, sym, ap, ◌∙◌, arith}
 use Rattle.nor_hex.specs.Segments.{pairs_of}
 use Rattle.nor_hex.proofs.ImageLemmas.{contains_from_byte}
-use Rattle.nor_hex.proofs.ViewLemmas.{rising, increasing, byte_from_contains}
+use Rattle.nor_hex.proofs.ViewLemmas.{rising, increasing, byte_from_contains, whole_length}
 use Rattle.nor_hex.proofs.image.Image.iter.Goals as goal
 
 pub returns-clause-rising : goal.returns-clause-rising
@@ -13,3 +13,11 @@ pub returns-clause-given : goal.returns-clause-given
 returns-clause-given c =
     let segments = c.self.inside.segments in
     λ address byte. (contains_from_byte c.args.self.now address byte, λ found. rw (← c.self.view_is) (byte_from_contains segments.list.items segments.bytes.items address byte segments.right (rw (← c.self.view_is) at found)))
+
+pub returns-clause-few : goal.returns-clause-few
+returns-clause-few c =
+    let segments = c.self.inside.segments in
+    let ok = segments.bytes.ok in
+    let small = segments.bytes.small in
+    let len : length c.args.self.now ≡ length segments.bytes.items = sym (ap length c.self.view_is) ∙ whole_length segments.list.items segments.bytes.items segments.right ∙ segments.whole in
+    rw len (omega arith)
