@@ -2,6 +2,7 @@ mod PairLemmas
 mod ListLemmas
 mod PieceLemmas
 mod SegmentLemmas
+mod NextLemmas
 mod ViewLemmas
 mod ImageLemmas
 mod RecordLemmas

@@ -33,7 +33,8 @@ pub(crate) fn joined<A: Allocator + Clone>(
     pieces: Pieces<A>,
 ) -> Result<Segments<A>, AllocError>
     requires { IsPieces (get nat_cmp pieces.by_last) pieces.bytes.items }
-    ensures { IfOk result (λ segments. SameBytes (Gives (get nat_cmp pieces.by_last) pieces.bytes.items) (Holds segments.list.items segments.bytes.items)) }
+    ensures { IfOk result (λ segments. SameBytes (Gives (get nat_cmp pieces.by_last) pieces.bytes.items)
+        (Holds segments.list.items segments.bytes.items)) }
 {
     if let Some(segment) = only_segment(&pieces) {
         let mut list = Vec::new(alloc);
@@ -126,7 +127,8 @@ pub(crate) fn run_in<'a>(list: &[Segment], bytes: &'a [u8], from: u32) -> Option
 
 /// The first segment that ends at an address or past it.
 fn next_segment(list: &[Segment], from: u32) -> Option<Segment>
-    requires { (i : ℕ) (s : Segment) (j : ℕ) (t : Segment) → slice_get list.now i ≡ Some s → slice_get list.now j ≡ Some t → i ≤ j → s.last ≤ t.last }
+    requires { (i : ℕ) (s : Segment) (j : ℕ) (t : Segment) → slice_get list.now i ≡ Some s → slice_get list.now j ≡ Some t
+        → i ≤ j → s.last ≤ t.last }
     ensures { MatchOption result (AreBelow from list.now) (λ segment. IsNextSegment list.now from segment) }
 {
     list.get(list.partition_point(|segment| segment.last < from))

@@ -45,7 +45,8 @@ pub fn fill(image: &Image, base: u32, chosen: &Chosen, at: u32, have: &[u8], wan
 fn next_run(image: &Image, base: u32, at: u32, done: usize, len: usize) -> Option<(usize, &[u8])>
     requires done { done ≤ len }
     requires inside { at + len ≤ 2 ^ 32 }
-    ensures { MatchOption result (HasNoRun (byte_at image.now) base at done len) (λ run. IsNextRun (byte_at image.now) base at done len run.0 run.1.now) }
+    ensures { MatchOption result (HasNoRun (byte_at image.now) base at done len)
+        (λ run. IsNextRun (byte_at image.now) base at done len run.0 run.1.now) }
 {
     let start = u64::from(base) + u64::from(at);
     let from = u32::try_from(start + done as u64).ok()?;

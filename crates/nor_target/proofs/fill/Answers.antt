@@ -1,9 +1,9 @@
-use Rattle.std.proofs.Common.{◌≡◌, ◌+◌, length, sym, ◌∙◌, arith}
+use Rattle.std.proofs.Common.{◌+◌, length, sym, ◌∙◌}
 use Rattle.nor_base.specs.Target.{target_byte}
 use Rattle.nor_hex.specs.Image.{byte_at}
 use Rattle.nor_layout.specs.Chosen.{has}
 use Rattle.nor_target.proofs.PartLemmas.{all_filled, part_of_target}
-use Rattle.nor_target.proofs.RunLemmas.{filled_none, filled_more, filled_all}
+use Rattle.nor_target.proofs.RunLemmas.{filled_more, filled_all}
 use Rattle.nor_target.proofs.fill.Goals as goal
 
 pub loop-begin-preserved : goal.loop-begin-preserved

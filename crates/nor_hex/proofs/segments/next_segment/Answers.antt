@@ -1,6 +1,6 @@
 use Rattle.std.proofs.Common.{◌∙◌, nat_lt, sym, rules}
 use Rattle.std.proofs.lemmas.List.Sorted.{IsPartitionPoint-from_clause}
-use Rattle.nor_hex.proofs.SegmentLemmas.{parted, next_found, got}
+use Rattle.nor_hex.proofs.NextLemmas.{parted, next_found, got}
 use Rattle.nor_hex.proofs.segments.next_segment.Goals as goal
 
 pub returns : goal.returns

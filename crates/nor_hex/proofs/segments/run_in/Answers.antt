@@ -1,5 +1,5 @@
 use Rattle.std.proofs.Common.{arith}
-use Rattle.nor_hex.proofs.SegmentLemmas.{rising_last, none_from, run_there}
+use Rattle.nor_hex.proofs.NextLemmas.{rising_last, none_from, run_there}
 use Rattle.nor_hex.proofs.segments.run_in.Goals as goal
 
 pub next_segment-requires : goal.next_segment-requires

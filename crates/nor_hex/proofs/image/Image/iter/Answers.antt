@@ -1,4 +1,4 @@
-use Rattle.std.proofs.Common.{◌≡◌, ℕ, ◌<◌, ◌≤◌, ◌^◌, length, sym, ap, ◌∙◌, arith}
+use Rattle.std.proofs.Common.{◌≡◌, length, sym, ap, ◌∙◌, arith}
 use Rattle.nor_hex.specs.Segments.{pairs_of}
 use Rattle.nor_hex.proofs.ImageLemmas.{contains_from_byte}
 use Rattle.nor_hex.proofs.ViewLemmas.{rising, increasing, byte_from_contains, whole_length}
