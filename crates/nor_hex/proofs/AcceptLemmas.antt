@@ -1,6 +1,6 @@
 -- An accepted text has no fault.
 use Prim.Native.Nat.{zero}
-use Rattle.std.proofs.Common.{◌≡◌, ◌≢◌, ℕ, suc, ◌-◌, ◌<◌, ◌≤◌, List, [], ◌∷◌, ◌++◌, map, length, take, drop, slice_get, Some, Result, Ok, refl, sym, ap, subst, ◌∙◌, arith}
+use Rattle.std.proofs.Common.{◌≡◌, ◌≢◌, ℕ, suc, ◌-◌, ◌≤◌, List, [], ◌∷◌, ◌++◌, map, length, take, drop, slice_get, Some, Result, Ok, refl, sym, ap, subst, ◌∙◌, arith}
 use Rattle.std.specs.List.{list_any}
 use Rattle.std.proofs.lemmas.List.{take-append-drop}
 use Rattle.nor_hex.specs.declared.fault.HexFault.{HexFault}
@@ -10,6 +10,7 @@ use Rattle.nor_hex.specs.Record.{Record}
 use Rattle.nor_hex.specs.Records.{record_at, line_records}
 use Rattle.nor_hex.specs.Image.{Puts}
 use Rattle.nor_hex.specs.Faults.{is_end, HasConflict, IsAccepted, IsCause, IsLineFault, IsFault}
+use Rattle.nor_hex.proofs.ListLemmas.{get-below}
 use Rattle.nor_hex.proofs.PutLemmas.{puts_more, any-take_more}
 
 abbrev item_of : Record → Result Record HexFault
@@ -39,11 +40,6 @@ get-oks [] i item e = absurd cc
 get-oks (x ∷ xs) zero item e = (x, cc, refl)
 get-oks (x ∷ xs) (suc i) item e = get-oks xs i item e
 
-below-length : {X : Type 0} (xs : List X) (i : ℕ) (x : X) → slice_get xs i ≡ Some x → i < length xs
-below-length [] i x e = absurd cc
-below-length (y ∷ xs) zero x e = omega arith
-below-length (y ∷ xs) (suc i) x e = omega (arith, below-length xs i x e)
-
 take-last : {X : Type 0} (xs : List X) (i : ℕ) (x : X) → slice_get xs i ≡ Some x → take (suc i) xs ≡ take i xs ++ x ∷ []
 take-last [] i x e = absurd cc
 take-last (y ∷ xs) zero x e = let same : y ≡ x = cc in ap (λ z. z ∷ []) same
@@ -68,7 +64,7 @@ at_line text records earlier place line each here before =
 
 no_cause : (text : List ℕ) (records earlier : List Record) (place : ℕ) (line : ℕ × List ℕ) (fault : HexFault) → IsAccepted text records → IsAt records earlier place (record_at line) → IsCause earlier line fault → ⊥
 no_cause text records earlier place line (AfterEnd n) accepted at cause =
-    let short : place ≤ length records - 1 = omega (arith, below-length records place at.this at.here) in
+    let short : place ≤ length records - 1 = omega (arith, get-below records place at.this at.here) in
     let ended = any-take_more is_end records place (length records - 1) short (ap (list_any is_end) (sym at.before) ∙ cause.0) in
     let none = accepted.faultless.end_is_last in cc
 no_cause text records earlier place line (Conflict n) accepted at cause =

@@ -1,13 +1,11 @@
 -- Lemmas on an image as a list of addresses with their bytes.
 use Prim.Native.Nat.{zero}
-use Rattle.std.proofs.Common.{◌≡◌, ℕ, suc, ◌<◌, nat_eq, List, [], ◌∷◌, length, slice_get, slice_index_or, Some, Contains, refl, sym, ap, ◌∙◌, arith}
+use Rattle.std.proofs.Common.{◌≡◌, ℕ, suc, ◌<◌, nat_eq, List, [], ◌∷◌, length, slice_get, slice_index_or, Some, Contains, refl, arith}
 use Rattle.std.specs.Ordering.{nat_cmp}
-use Rattle.std.specs.Cmp.{nat_cmp_total}
 use Rattle.std.specs.BTreeMap as tree
-use Rattle.std.specs.Map.{lookup}
 use Rattle.std.proofs.lemmas.Bool.{eqb-true}
 use Rattle.std.proofs.lemmas.Bool.Decides.{nat_tests}
-use Rattle.std.proofs.lemmas.Map.Entries.{place_from_lookup, btree_map_get_place}
+use Rattle.std.proofs.lemmas.Map.Entries.{place_from_lookup}
 use Rattle.nor_hex.specs.Image.{Pairs, byte_at}
 
 -- an element by its place, where the place is known to be there
@@ -32,13 +30,3 @@ contains_from_byte image address byte e =
 -- a look-up by the order finds what one by equality does
 pub equal_keys : (a b : ℕ) → tree.is_at (nat_cmp a) b ≡ nat_eq a b
 equal_keys a b = grind (arith, nat_tests)
-
-pub lookup-by_equal : (image : Pairs) (address : ℕ) → lookup (tree.is_at (nat_cmp address)) image ≡ byte_at image address
-lookup-by_equal [] address = refl
-lookup-by_equal (pair ∷ image) address = rw (equal_keys address pair.0, lookup-by_equal image address) refl
-
--- what is in the list, the image gives
-pub byte_from_contains : (m : tree.BTreeMap ℕ ℕ) (address byte : ℕ) → tree.IsOrdered nat_cmp m → Contains m.entries (address, byte) → byte_at m.entries address ≡ Some byte
-byte_from_contains m address byte ordered found =
-    sym (lookup-by_equal m.entries address)
-    ∙ btree_map_get_place nat_cmp_total m found.0 address byte ordered (get_from_index m.entries found.0 (address, byte) found.1 ∙ ap Some found.2)

@@ -1,4 +1,9 @@
 mod PairLemmas
+mod ListLemmas
+mod PieceLemmas
+mod SegmentLemmas
+mod NextLemmas
+mod ViewLemmas
 mod ImageLemmas
 mod RecordLemmas
 mod StepLemmas

@@ -3,16 +3,12 @@ use Prim.Native.Nat.{zero}
 use Rattle.std.proofs.Common.{◌≡◌, ◌⊎◌, inl, inr, ℕ, suc, ◌≤◌, Bool, true, false, ◌||◌, List, [], ◌∷◌, ◌++◌, reverse, length, take, slice_get, Some, refl, sym, ap, subst, ◌∙◌, arith}
 use Rattle.std.specs.List.{list_any, find}
 use Rattle.std.proofs.lemmas.List.{reverse-append}
+use Rattle.nor_hex.proofs.ListLemmas.{get-left}
 use Rattle.nor_hex.specs.Record.{Record}
 use Rattle.nor_hex.specs.Image.{Lays, Puts, base_after, base_or_linear, is_base}
 use Rattle.nor_hex.specs.Steps.{base_past}
 
 -- ---- an element and what stands before it
-pub get-append_left : {X : Type 0} (xs ys : List X) (i : ℕ) (x : X) → slice_get xs i ≡ Some x → slice_get (xs ++ ys) i ≡ Some x
-get-append_left [] ys i x e = absurd cc
-get-append_left (y ∷ xs) ys zero x e = e
-get-append_left (y ∷ xs) ys (suc i) x e = get-append_left xs ys i x e
-
 pub take-append_left : {X : Type 0} (xs ys : List X) (i : ℕ) (x : X) → slice_get xs i ≡ Some x → take i (xs ++ ys) ≡ take i xs
 take-append_left [] ys i x e = absurd cc
 take-append_left (y ∷ xs) ys zero x e = refl
@@ -41,7 +37,7 @@ pub puts_more : (records more : List Record) (address byte : ℕ) → Puts recor
 puts_more records more address byte puts = record {
   place = puts.place;
   line = puts.line;
-  here = get-append_left records more puts.place puts.line puts.here;
+  here = get-left records more puts.place puts.line puts.here;
   lays = subst (λ earlier. Lays (base_after earlier) puts.line address byte) (sym (take-append_left records more puts.place puts.line puts.here)) puts.lays;
 }
 

@@ -1,6 +1,6 @@
 -- Lemmas on a record by its digits.
 use Prim.Native.Nat.{zero}
-use Rattle.std.proofs.Common.{◌≡◌, ℕ, suc, ◌+◌, ◌-◌, ◌*◌, Bool, true, false, nat_lt, List, [], ◌∷◌, length, take, drop, Ok, Err, refl, ap, ◌∙◌, arith}
+use Rattle.std.proofs.Common.{◌≡◌, ℕ, suc, ◌+◌, ◌-◌, ◌*◌, ◌/◌, ◌≤◌, Bool, true, false, nat_lt, List, [], ◌∷◌, length, take, drop, Ok, Err, refl, sym, ap, ◌∙◌, arith}
 use Rattle.std.specs.List.{list_all}
 use Rattle.std.proofs.Math.ListN.{length-take, length-drop}
 use Rattle.std.proofs.lemmas.Bool.{eqb-true}
@@ -76,3 +76,24 @@ length-data digits e =
 -- and the length is right for the type
 pub fits-complete : (digits : List ℕ) → has_length digits ≡ true → fits_type (type_field (pair_bytes digits)) (length (data_field (pair_bytes digits))) ≡ true
 fits-complete digits e = rw (length-data digits (length-complete digits e)) (both _ _ e).1
+
+-- ---- the data in bytes that begin with those of the record
+front_of_front : (xs : List ℕ) (m n : ℕ) → n ≤ m → take n (take m xs) ≡ take n xs
+front_of_front xs m zero h = refl
+front_of_front [] zero (suc n) h = refl
+front_of_front [] (suc m) (suc n) h = refl
+front_of_front (x ∷ xs) zero (suc n) h = absurd (omega arith)
+front_of_front (x ∷ xs) (suc m) (suc n) h = ap (λ ys. x ∷ ys) (front_of_front xs m n (omega arith))
+
+part_of_front : (xs : List ℕ) (m d n : ℕ) → d + n ≤ m → take n (drop d (take m xs)) ≡ take n (drop d xs)
+part_of_front xs m zero n h = front_of_front xs m n (omega arith)
+part_of_front xs zero (suc d) n h = absurd (omega arith)
+part_of_front [] (suc m) (suc d) n h = refl
+part_of_front (x ∷ xs) (suc m) (suc d) n h = part_of_front xs m d n (omega arith)
+
+pub front_data : (digits bytes : List ℕ) (n : ℕ) → has_length digits ≡ true → take (length digits / 2) bytes ≡ pair_bytes digits → n ≡ length_field (pair_bytes digits) → take n (drop 4 bytes) ≡ data_field (pair_bytes digits)
+front_data digits bytes n full front n_is =
+    let len = length-complete digits full in
+    sym (part_of_front bytes (length digits / 2) 4 n (omega arith))
+    ∙ ap (λ p. take n (drop 4 p)) front
+    ∙ ap (λ k. take k (drop 4 (pair_bytes digits))) n_is

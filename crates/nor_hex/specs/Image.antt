@@ -1,6 +1,6 @@
 -- The memory image that records give.
 -- Intel's "Hexadecimal Object File Format Specification", revision A, "Extended Linear Address Record", "Extended Segment Address Record" and "Data Record". That the linear address 0 is the base before any such record is our own rule.
-use Rattle.std.specs.Prelude.{◌≡◌, ℕ, ◌+◌, ◌*◌, ◌%◌, ◌^◌, ◌==◌, ◌||◌, nat_eq, Bool, if◌then◌else◌, List, map, reverse, take, slice_get, slice_index, Option, Some, None}
+use Rattle.std.specs.Prelude.{◌≡◌, ℕ, ◌+◌, ◌<◌, ◌≤◌, ◌*◌, ◌%◌, ◌^◌, ◌==◌, ◌||◌, nat_eq, Bool, if◌then◌else◌, List, length, map, reverse, take, slice_get, slice_index, Option, Some, None}
 use Rattle.std.specs.List.{find}
 use Rattle.std.specs.Map.{lookup}
 use Rattle.nor_hex.specs.declared.base.Base.{Base}
@@ -54,3 +54,16 @@ addresses image = map (λ pair. pair.0) image
 -- the image as a function of the address
 abbrev pub byte_at : Pairs → ℕ → Option ℕ
 byte_at image address = lookup (nat_eq address) image
+
+-- no address from this one on has a byte
+abbrev pub HasNoneFrom : Pairs → ℕ → Type 0
+HasNoneFrom image from = (address : ℕ) → from ≤ address → byte_at image address ≡ None
+
+-- the run is the image's from its lowest address at or past `from`, which is `at`, to the next address that has no byte, or to FFFFFFFFh
+pub record IsRunFrom (image : Pairs) (from at : ℕ) (run : List ℕ) : Type 0 where
+  pub past : from ≤ at
+  pub some : 0 < length run
+  pub fits : at + length run ≤ 2 ^ 32
+  pub none_before : (address : ℕ) → from ≤ address → address < at → byte_at image address ≡ None
+  pub bytes : (i : ℕ) → i < length run → byte_at image (at + i) ≡ slice_get run i
+  pub none_after : byte_at image (at + length run) ≡ None

@@ -1,6 +1,6 @@
 //! Where the data of a record lies.
 
-ghost use Rattle.std.specs.Prelude.{◌≡◌, ◌+◌, ◌^◌, ◌<◌, IsTrue};
+ghost use Rattle.std.specs.Prelude.{◌≡◌, ℕ, ◌+◌, ◌^◌, ◌<◌, ◌≤◌, IsTrue};
 ghost use Rattle.nor_hex.specs.Image.{address_of, is_base, base_in};
 
 use crate::record::HexLine;
@@ -23,6 +23,22 @@ pub(crate) fn address(base: Base, offset: u16, index: usize) -> u32
     match base {
         Base::Linear(upper) => ((u64::from(upper) * 65536 + offset) % (1 << 32)) as u32,
         Base::Segment(paragraph) => u32::from(paragraph) * 16 + (offset % 65536) as u32,
+    }
+}
+
+/// How many bytes from this load offset on lie before the addresses wrap. Past there as many again
+/// as a record has lie in one run.
+pub(crate) fn room(base: Base, offset: u16) -> usize
+    ensures some { 0 < result }
+    ensures fits { address_of base (offset + 0) + result ≤ 2 ^ 32 }
+    ensures straight { (i : ℕ) → i < result → address_of base (offset + i) ≡ address_of base (offset + 0) + i }
+    ensures rest_fits { address_of base (offset + result) + 255 ≤ 2 ^ 32 }
+    ensures wrapped { (i : ℕ) → i < 255 → address_of base (offset + (result + i)) ≡ address_of base (offset + result) + i }
+{
+    let offset = usize::from(offset);
+    match base {
+        Base::Linear(upper) => (1 << 32) - (usize::from(upper) * 65536 + offset),
+        Base::Segment(_) => 65536 - offset,
     }
 }
 

@@ -1,57 +1,81 @@
 //! The memory image of a text.
 
-ghost use Rattle.std.specs.Prelude.{◌≡◌, ◌↔◌, ℕ, List, length, Some, Contains, All};
+ghost use Rattle.std.specs.Prelude.{◌≡◌, ◌↔◌, ◌<◌, ◌^◌, ℕ, List, length, Some, Contains, All, MatchOption};
 ghost use Rattle.std.specs.Iterator.{YieldsFirst, item_count};
 ghost use Rattle.std.specs.List.Sorted.{IsStrictlyIncreasing};
-ghost use Rattle.nor_hex.specs.Image.{byte_at, addresses};
+ghost use Rattle.nor_hex.specs.Image.{byte_at, addresses, IsRunFrom, HasNoneFrom};
+ghost use Rattle.nor_hex.specs.Segments.{pairs_of};
 
-use std::collections::{BTreeMap, btree_map};
+use crate::segments::{Segment, Segments, run_in};
+use std::alloc::Global;
 use std::marker::Model;
 
 /// The bytes that a text gives, each at its address. Clauses see an image as the list of its
 /// addresses with their bytes, the addresses rising.
 #[derive(Debug, Drop)]
 pub struct Image {
-    bytes: BTreeMap<u32, u8>,
+    segments: Segments<Global>,
 }
 
 impl Model for Image {
     ghost use Rattle.nor_hex.specs.Image.{Pairs};
+    ghost use Rattle.nor_hex.specs.Segments.{pairs_of};
 
     ghost Value = { Pairs };
 
-    ghost view = { λ s. s.bytes.entries };
+    ghost view = { λ s. pairs_of s.segments.list.items s.segments.bytes.items };
 }
 
 impl Image {
-    pub(crate) fn new(bytes: BTreeMap<u32, u8>) -> Image
-        ensures { result ≡ bytes.entries }
+    pub(crate) fn new(segments: Segments<Global>) -> Image
+        ensures { result ≡ pairs_of segments.list.items segments.bytes.items }
     {
-        Image { bytes }
+        Image { segments }
     }
 
     /// The byte at an address, if the text gives it one.
     pub fn at(&self, address: u32) -> Option<u8>
         ensures { result ≡ byte_at self.now address }
     {
-        self.bytes.get(&address).copied()
+        let (at, run) = self.run_from(address)?;
+        if at == address {
+            run.first().copied()
+        } else {
+            None
+        }
+    }
+
+    /// The bytes from the lowest address at or past `from` on that the text gives a byte, up to the
+    /// next address that has none or up to FFFFFFFFh, with that lowest address; None where no
+    /// address from `from` on has a byte. It takes no memory.
+    pub fn run_from(&self, from: u32) -> Option<(u32, &[u8])>
+        ensures { MatchOption result (HasNoneFrom self.now from) (λ run. IsRunFrom self.now from run.0 run.1.now) }
+    {
+        run_in(
+            self.segments.list.as_slice(),
+            self.segments.bytes.as_slice(),
+            from,
+        )
     }
 
     /// The number of addresses that the text gives a byte.
     pub fn count(&self) -> u64
         ensures { result ≡ length self.now }
     {
-        self.bytes.len() as u64
+        self.segments.bytes.len() as u64
     }
 
     /// The addresses that the text gives a byte, with their bytes, in rising order.
     pub fn iter(&self) -> ImageIter<'_>
         ensures pairs { result ≡ self.now }
         ensures rising { IsStrictlyIncreasing (addresses self.now) }
+        ensures few { length self.now < 2 ^ 63 }
         ensures given { (address byte : ℕ) → (byte_at self.now address ≡ Some byte) ↔ Contains self.now (address, byte) }
     {
         ImageIter {
-            bytes: self.bytes.iter(),
+            segments: self.segments.list.as_slice(),
+            bytes: self.segments.bytes.as_slice(),
+            done: 0,
         }
     }
 }
@@ -60,15 +84,22 @@ impl Image {
 /// it has left.
 #[derive(Drop)]
 pub struct ImageIter<'a> {
-    bytes: btree_map::Iter<'a, u32, u8>,
+    segments: &'a [Segment],
+    bytes: &'a [u8],
+    /// How many bytes of the first of these segments were given.
+    done: u32,
 }
 
 impl<'a> Model for ImageIter<'a> {
+    ghost use Rattle.std.specs.Prelude.{drop};
     ghost use Rattle.nor_hex.specs.Image.{Pairs};
+    ghost use Rattle.nor_hex.specs.Segments.{pairs_of, HasLeft};
 
     ghost Value = { Pairs };
 
-    ghost view = { λ s. s.bytes };
+    ghost view = { λ s. drop s.done (pairs_of s.segments.now s.bytes.now) };
+
+    ghost invariant = { λ s. HasLeft s.segments.now s.bytes.now s.done };
 }
 
 impl<'a> Iterator for ImageIter<'a> {
@@ -79,7 +110,15 @@ impl<'a> Iterator for ImageIter<'a> {
     ghost remaining = { item_count (λ rest. rest) };
 
     fn next(&mut self) -> Option<(u32, u8)> {
-        let (address, byte) = self.bytes.next()?;
-        Some((*address, *byte))
+        let (segment, later) = self.segments.split_first()?;
+        let address = segment.first + self.done;
+        let byte = self.bytes[segment.place + self.done as usize];
+        if address == segment.last {
+            self.segments = later;
+            self.done = 0;
+        } else {
+            self.done += 1;
+        }
+        Some((address, byte))
     }
 }

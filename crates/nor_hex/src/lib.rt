@@ -10,9 +10,11 @@ mod base;
 mod digits;
 mod fault;
 mod image;
+mod pieces;
 mod reader;
 mod record;
 mod record_iter;
+mod segments;
 #[cfg(test)]
 mod tests;
 

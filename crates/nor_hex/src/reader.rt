@@ -1,15 +1,21 @@
 //! Reads a text into its image.
 
-ghost use Rattle.std.specs.Prelude.{◌≡◌, ◌≢◌, List, OnOk, IfOk, IfErr};
+ghost use Rattle.std.specs.Prelude.{◌≡◌, ◌≢◌, ◌≤◌, List, length, OnOk, IfOk, IfErr};
+ghost use Rattle.std.specs.Ordering.{nat_cmp};
+ghost use Rattle.std.specs.BTreeMap.{get};
 ghost use Rattle.nor_hex.specs.declared.fault.HexFault.TheVariants.{Conflict, Memory};
 ghost use Rattle.nor_hex.specs.Record.{Record};
 ghost use Rattle.nor_hex.specs.Faults.{IsAccepted, IsImage, IsFault};
-ghost use Rattle.nor_hex.specs.Steps.{AddsByte, HasOther, AddsRecord, Clashes, base_past};
+ghost use Rattle.nor_hex.specs.Pieces.{Gives, IsPieces};
+ghost use Rattle.nor_hex.specs.Segments.{pairs_of};
+ghost use Rattle.nor_hex.specs.Steps.{AddsRecord, Clashes, base_past};
 
-use crate::base::{Base, address, base_in};
+use crate::base::{Base, address, base_in, room};
 use crate::fault::HexFault;
 use crate::image::Image;
-use crate::record::{HexLine, record_in};
+use crate::pieces::{Pieces, add_run};
+use crate::record::{HexLine, MOST_BYTES, record_in};
+use crate::segments::{Segments, joined};
 use nor_lines::{filled, line_count};
 use std::alloc::{Allocator, Global};
 use std::collections::BTreeMap;
@@ -25,35 +31,30 @@ pub fn read(alloc: Global, text: &[u8]) -> Result<Image, HexFault>
     ensures accepted { (records : List Record) → IsAccepted text.now records
         → IfErr result (λ fault. fault ≡ Memory) }
 {
-    match bytes_in(alloc, text) {
-        Ok(bytes) => Ok(Image::new(bytes)),
-        Err(fault) => Err(fault),
-    }
+    Ok(Image::new(segments_in(alloc, text)?))
 }
 
-/// The bytes of a text by their addresses, in memory of any allocator.
-pub(crate) fn bytes_in<A: Allocator + Clone>(
+/// The bytes of a text in segments, in memory of any allocator.
+pub(crate) fn segments_in<A: Allocator + Clone>(
     alloc: A,
     text: &[u8],
-) -> Result<BTreeMap<u32, u8, A>, HexFault>
-    ensures image { IfOk result (λ bytes. IsImage text.now bytes.entries) }
+) -> Result<Segments<A>, HexFault>
+    ensures image { IfOk result (λ segments. IsImage text.now (pairs_of segments.list.items segments.bytes.items)) }
     ensures fault { IfErr result (λ fault. fault ≢ Memory → IsFault text.now fault) }
 {
-    let mut bytes = BTreeMap::new(alloc);
+    let mut pieces = Pieces {
+        by_last: BTreeMap::new(alloc.clone()?),
+        bytes: Vec::new(alloc.clone()?),
+    };
     let mut base = Base::Linear(0);
     let mut ended = false;
+    let mut decoded = [0u8; MOST_BYTES];
     for (number, line) in filled(text) {
         if ended {
             return Err(HexFault::AfterEnd { line: number });
         }
-        let record = match record_in(line, number) {
-            Ok(record) => record,
-            Err(fault) => return Err(fault),
-        };
-        base = match add_record(&mut bytes, base, &record) {
-            Ok(base) => base,
-            Err(fault) => return Err(fault),
-        };
+        let record = record_in(line, number, &mut decoded)?;
+        base = add_record(&mut pieces, base, &record, &decoded[4..4 + record.len()])?;
         ended = record.kind == 1;
     }
     if !ended {
@@ -61,66 +62,63 @@ pub(crate) fn bytes_in<A: Allocator + Clone>(
             line: line_count(text) + 1,
         });
     }
-    Ok(bytes)
+    Ok(joined(alloc, pieces)?)
 }
 
-/// Puts what a record says into the bytes, and answers the base after it. A byte for an address
-/// that has another byte is `Conflict`.
+/// Adds what a record with these data bytes says, and answers the base after it. A byte for an
+/// address that has another byte is `Conflict`.
 fn add_record<A: Allocator + Clone>(
-    bytes: &mut BTreeMap<u32, u8, A>,
+    pieces: &mut Pieces<A>,
     base: Base,
     line: &HexLine<'_>,
+    bytes: &[u8],
 ) -> Result<Base, HexFault>
+    requires bytes { bytes.now ≡ line.now.bytes }
+    requires few { length bytes.now ≤ 255 }
+    requires pieces { IsPieces (get nat_cmp pieces.old.by_last) pieces.old.bytes.items }
     ensures base { IfOk result (λ next. next ≡ base_past base line.now) }
-    ensures bytes { OnOk result (AddsRecord base line.now bytes.old.entries bytes.new.entries) }
+    ensures pieces { OnOk result (IsPieces (get nat_cmp pieces.new.by_last) pieces.new.bytes.items) }
+    ensures bytes { OnOk result (AddsRecord base line.now (Gives (get nat_cmp pieces.old.by_last) pieces.old.bytes.items)
+        (Gives (get nat_cmp pieces.new.by_last) pieces.new.bytes.items)) }
     ensures line { IfErr result (λ fault. fault ≢ Memory → fault ≡ Conflict line.now.line) }
-    ensures clash { IfErr result (λ fault. fault ≢ Memory → Clashes base line.now bytes.old.entries) }
+    ensures clash { IfErr result (λ fault. fault ≢ Memory
+        → Clashes base line.now (Gives (get nat_cmp pieces.old.by_last) pieces.old.bytes.items)) }
 {
     match line.kind {
-        0 => match add_bytes(bytes, base, line) {
-            Ok(()) => Ok(base),
-            Err(fault) => Err(fault),
-        },
+        0 => {
+            add_bytes(pieces, base, line, bytes)?;
+            Ok(base)
+        }
         2 | 4 => Ok(base_in(line)),
         _ => Ok(base),
     }
 }
 
-/// Puts the bytes of a data record where the base says.
+/// Puts the bytes of a data record where the base says: a run up to where the addresses wrap, and
+/// one from there on.
 fn add_bytes<A: Allocator + Clone>(
-    bytes: &mut BTreeMap<u32, u8, A>,
+    pieces: &mut Pieces<A>,
     base: Base,
     line: &HexLine<'_>,
+    bytes: &[u8],
 ) -> Result<(), HexFault>
-    requires { line.now.kind ≡ 0 }
-    ensures bytes { OnOk result (AddsRecord base line.now bytes.old.entries bytes.new.entries) }
+    requires kind { line.now.kind ≡ 0 }
+    requires bytes { bytes.now ≡ line.now.bytes }
+    requires few { length bytes.now ≤ 255 }
+    requires pieces { IsPieces (get nat_cmp pieces.old.by_last) pieces.old.bytes.items }
+    ensures pieces { OnOk result (IsPieces (get nat_cmp pieces.new.by_last) pieces.new.bytes.items) }
+    ensures bytes { OnOk result (AddsRecord base line.now (Gives (get nat_cmp pieces.old.by_last) pieces.old.bytes.items)
+        (Gives (get nat_cmp pieces.new.by_last) pieces.new.bytes.items)) }
     ensures line { IfErr result (λ fault. fault ≢ Memory → fault ≡ Conflict line.now.line) }
-    ensures clash { IfErr result (λ fault. fault ≢ Memory → Clashes base line.now bytes.old.entries) }
+    ensures clash { IfErr result (λ fault. fault ≢ Memory
+        → Clashes base line.now (Gives (get nat_cmp pieces.old.by_last) pieces.old.bytes.items)) }
 {
-    for index in 0..line.digits.len() / 2 {
-        let at = address(base, line.offset, index);
-        match add_byte(bytes, at, line.byte(index), line.line) {
-            Ok(()) => {}
-            Err(fault) => return Err(fault),
-        }
-    }
-    Ok(())
-}
-
-/// Puts a byte at an address. `Conflict` names the line.
-fn add_byte<A: Allocator + Clone>(
-    bytes: &mut BTreeMap<u32, u8, A>,
-    address: u32,
-    byte: u8,
-    line: u64,
-) -> Result<(), HexFault>
-    ensures bytes { OnOk result (AddsByte bytes.old.entries bytes.new.entries address byte) }
-    ensures line { IfErr result (λ fault. fault ≢ Memory → fault ≡ Conflict line) }
-    ensures other { IfErr result (λ fault. fault ≢ Memory → HasOther bytes.old.entries address byte) }
-{
-    match bytes.insert(address, byte) {
-        Ok(Some(other)) if other != byte => Err(HexFault::Conflict { line }),
-        Ok(_) => Ok(()),
-        Err(_) => Err(HexFault::Memory),
-    }
+    let (front, rest) = bytes.split_at(bytes.len().min(room(base, line.offset)));
+    add_run(pieces, address(base, line.offset, 0), front, line.line)?;
+    add_run(
+        pieces,
+        address(base, line.offset, front.len()),
+        rest,
+        line.line,
+    )
 }

@@ -1,11 +1,11 @@
 //! One record.
 
-ghost use Rattle.std.specs.Prelude.{◌≡◌, ◌+◌, ◌*◌, ◌<◌, ◌≤◌, false, ◌∷◌, IsTrue, MatchOption, length, slice_index};
+ghost use Rattle.std.specs.Prelude.{◌≡◌, ◌+◌, ◌*◌, ◌<◌, ◌≤◌, true, false, ◌∷◌, IsTrue, IfOk, MatchOption, length, take, drop, slice_index};
 ghost use Rattle.std.specs.List.{list_all};
 ghost use Rattle.hex.specs.Hex.{is_hex_digit};
 ghost use Rattle.nor_hex.specs.Record.{record_of, pair_bytes, has_colon, has_length, fits_type, length_field, offset_field, data_field};
 
-use crate::digits::{are_digits, checksum, pair};
+use crate::digits::{are_digits, decode, pair};
 use crate::fault::HexFault;
 use std::marker::Model;
 
@@ -40,11 +40,30 @@ impl<'a> HexLine<'a> {
     {
         pair(self.digits, i)
     }
+
+    /// The number of data bytes.
+    pub(crate) fn len(&self) -> usize
+        ensures { result ≡ length self.now.bytes }
+    {
+        self.digits.len() / 2
+    }
 }
 
-/// The record that a line without blanks at its end is.
-pub(crate) fn record_in(line: &[u8], number: u64) -> Result<HexLine<'_>, HexFault>
-    ensures { result ≡ record_of number line.now }
+/// The most bytes that a record has: the length, the load offset in two, the type, 255 data bytes
+/// and the checksum.
+pub(crate) const MOST_BYTES: usize = 260;
+
+/// The record that a line without blanks at its end is. Its bytes are left in `bytes`, the data
+/// from place 4 on.
+pub(crate) fn record_in<'a>(
+    line: &'a [u8],
+    number: u64,
+    bytes: &mut [u8],
+) -> Result<HexLine<'a>, HexFault>
+    requires { length bytes.old ≡ MOST_BYTES }
+    ensures line { result ≡ record_of number line.now }
+    ensures few { IfOk result (λ line. length line.bytes ≤ 255) }
+    ensures bytes { IfOk result (λ line. take (length line.bytes) (drop 4 bytes.new) ≡ line.bytes) }
 {
     let Some(digits) = after_colon(line) else {
         return Err(HexFault::NoColon { line: number });
@@ -55,7 +74,7 @@ pub(crate) fn record_in(line: &[u8], number: u64) -> Result<HexLine<'_>, HexFaul
     if !is_complete(digits) {
         return Err(HexFault::BadLength { line: number });
     }
-    if checksum(digits) != 0 {
+    if decode(digits, bytes) != 0 {
         return Err(HexFault::BadSum { line: number });
     }
     let kind = pair(digits, 3);
@@ -103,7 +122,8 @@ fn data_in(digits: &[u8]) -> &[u8]
 /// record type.
 fn is_complete(digits: &[u8]) -> bool
     requires { IsTrue (list_all is_hex_digit digits.now) }
-    ensures { result ≡ has_length digits.now }
+    ensures complete { result ≡ has_length digits.now }
+    ensures few { result ≡ true → length digits.now ≤ 520 }
 {
     if digits.len() < 10 {
         return false;

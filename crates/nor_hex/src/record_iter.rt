@@ -6,7 +6,7 @@ ghost use Rattle.nor_hex.specs.Record.{Record, IsRecord, record_of};
 ghost use Rattle.nor_hex.specs.Records.{records_of};
 
 use crate::fault::HexFault;
-use crate::record::{HexLine, record_in};
+use crate::record::{HexLine, MOST_BYTES, record_in};
 use nor_lines::{FilledLines, filled};
 use std::marker::Model;
 
@@ -55,7 +55,7 @@ impl<'a> Iterator for RecordIter<'a> {
             return None;
         }
         let (number, line) = self.lines.next()?;
-        let item = record_in(line, number);
+        let item = record_in(line, number, &mut [0; MOST_BYTES]);
         self.ended = item.is_err();
         Some(item)
     }

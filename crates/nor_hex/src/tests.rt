@@ -1,8 +1,11 @@
 //! The format's own examples and cases worked out by hand.
 
-use crate::reader::bytes_in;
+use crate::base::{Base, address, base_in};
+use crate::reader::segments_in;
 use crate::{HexFault, read, records};
 use linked_list_allocator::LocalHeap;
+use std::alloc::Global;
+use std::collections::BTreeMap;
 use std::test::Fail;
 
 #[test]
@@ -259,6 +262,94 @@ fn reads_many_blank_lines(rt: HostRuntime) -> Result<(), Fail> {
     Ok(())
 }
 
+/// The plain form of an image: a map of single addresses, filled byte by byte.
+fn plain_image(alloc: Global, text: &[u8]) -> Result<BTreeMap<u32, u8>, Fail> {
+    let mut bytes = BTreeMap::new(alloc);
+    let mut base = Base::Linear(0);
+    for item in records(text) {
+        let record = item?;
+        match record.kind {
+            0 => {
+                for i in 0..record.len() {
+                    bytes.insert(address(base, record.offset, i), record.byte(i))?;
+                }
+            }
+            2 | 4 => base = base_in(&record),
+            _ => {}
+        }
+    }
+    Ok(bytes)
+}
+
+#[test]
+fn reads_as_the_plain_form_does(rt: HostRuntime) -> Result<(), Fail> {
+    let texts: [&[u8]; 8] = [
+        // falling
+        b":020014000506DF\n:020012000304E5\n:020010000102EB\n:00000001FF".as_slice(),
+        // both_ends
+        b":0100100001EE\n:0100140005E6\n:0100110002EC\n:0100130004E8\n:0100120003EA\n:00000001FF".as_slice(),
+        // every_other
+        b":0100080008EF\n:0100020002FB\n:0100060006F3\n:0100000000FF\n:0100040004F7\n:00000001FF".as_slice(),
+        // overlap
+        b":0400100001020304E2\n:0100200009D6\n:08000E000E0F010203040506B8\n:03001200030405DF\n:00000001FF".as_slice(),
+        // over many
+        b":0100010001FD\n:0100030003F9\n:0100050005F5\n:0100070007F1\n:09000000000102030405060708D3\n:00000001FF".as_slice(),
+        // linear wrap
+        b":02000004FFFFFC\n:04FFFE0001020304F5\n:00000001FF".as_slice(),
+        // segment wrap
+        b":020000021000EC\n:04FFFE0001020304F5\n:00000001FF".as_slice(),
+        // empty data
+        b":00003000D0\n:0100100007E8\n:00000001FF".as_slice(),
+    ];
+    for text in texts {
+        let plain = plain_image(rt.alloc(), text)?;
+        let mut want = Vec::new(rt.alloc());
+        for (address, byte) in plain.iter() {
+            want.push((*address, *byte))?;
+        }
+        let image = read(rt.alloc(), text)?;
+        let pairs = image.iter().collect::<Vec<(u32, u8)>>(rt.alloc())?;
+        assert_eq!(rt; pairs.as_slice(), want.as_slice());
+        assert_eq!(rt; image.count(), want.len() as u64);
+    }
+    Ok(())
+}
+
+#[test]
+fn gives_runs(rt: HostRuntime) -> Result<(), Fail> {
+    let falling = b":020014000506DF\n:020012000304E5\n:020010000102EB\n:00000001FF".as_slice();
+    let apart =
+        b":0100080008EF\n:0100020002FB\n:0100060006F3\n:0100000000FF\n:0100040004F7\n:00000001FF".as_slice();
+    let wraps = b":02000004FFFFFC\n:04FFFE0001020304F5\n:00000001FF".as_slice();
+    let cases: [(&[u8], u32, Option<(u32, &[u8])>); 10] = [
+        (b":00000001FF".as_slice(), 0, None),
+        // Three records join.
+        (falling, 0, Some((0x10, &[1, 2, 3, 4, 5, 6]))),
+        (falling, 0x10, Some((0x10, &[1, 2, 3, 4, 5, 6]))),
+        (falling, 0x13, Some((0x13, &[4, 5, 6]))),
+        (falling, 0x16, None),
+        // A run ends before a gap of one address.
+        (apart, 2, Some((2, &[2]))),
+        (apart, 3, Some((4, &[4]))),
+        // A run ends at FFFFFFFFh.
+        (wraps, 2, Some((0xFFFF_FFFE, &[1, 2]))),
+        (wraps, 0xFFFF_FFFF, Some((0xFFFF_FFFF, &[2]))),
+        (wraps, 0, Some((0, &[3, 4]))),
+    ];
+    for (text, from, want) in cases {
+        let image = read(rt.alloc(), text)?;
+        match (image.run_from(from), want) {
+            (Some((at, run)), Some((place, bytes))) => {
+                assert_eq!(rt; at, place, "from {from}");
+                assert_eq!(rt; run, bytes, "from {from}");
+            }
+            (None, None) => {}
+            _ => assert!(rt; false, "from {from}"),
+        }
+    }
+    Ok(())
+}
+
 // Heaps that rise in small steps refuse each growth in turn: 64 bytes at addresses far apart.
 #[test]
 fn answers_memory_where_a_growth_is_refused(rt: HostRuntime) -> Result<(), Fail> {
@@ -268,9 +359,9 @@ fn answers_memory_where_a_growth_is_refused(rt: HostRuntime) -> Result<(), Fail>
     let mut read_whole = 0u64;
     for size in (64usize..4096).step_by(32) {
         let heap = LocalHeap::new(rt.alloc(), size)?;
-        match bytes_in(&heap, text) {
-            Ok(bytes) => {
-                assert_eq!(rt; bytes.len(), 32);
+        match segments_in(&heap, text) {
+            Ok(segments) => {
+                assert_eq!(rt; segments.bytes.len(), 32);
                 read_whole = read_whole.saturating_add(1);
             }
             Err(fault) => {

@@ -1,2 +1,3 @@
 mod PartLemmas
 mod PlaceLemmas
+mod RunLemmas

@@ -5,13 +5,14 @@
 //! again at 0. These rules are this project's; no public standard speaks of them.
 #![tactic(auto)]
 
-ghost use Rattle.std.specs.Prelude.{◌≡◌, ◌↔◌, ℕ, true, ◌+◌, ◌^◌, ◌≤◌, List, length, map, slice_range, count_by};
+ghost use Rattle.std.specs.Prelude.{◌≡◌, ◌↔◌, ℕ, true, ◌+◌, ◌^◌, ◌≤◌, List, length, map, slice_range, count_by, MatchOption};
 ghost use Rattle.std.specs.List.{enumerate_from};
 ghost use Rattle.std.specs.List.Sorted.{IsStrictlyIncreasing};
 ghost use Rattle.nor_base.specs.Target.{target, target_byte, is_ignored};
 ghost use Rattle.nor_hex.specs.Image.{byte_at, addresses};
 ghost use Rattle.nor_layout.specs.Chosen.{has};
 ghost use Rattle.nor_target.specs.Ignored.{HasNoPlace};
+ghost use Rattle.nor_target.specs.Runs.{HasNoRun, IsNextRun, IsLaid};
 
 #[cfg(test)]
 mod tests;
@@ -31,8 +32,42 @@ pub fn fill(image: &Image, base: u32, chosen: &Chosen, at: u32, have: &[u8], wan
     ensures part { (content : List ℕ) → slice_range content at (at + length have.now) ≡ have.now
         → want.new ≡ slice_range (target (byte_at image.now) base (has chosen.now) content) at (at + length have.now) }
 {
-    for (i, old) in have.iter().enumerate() {
-        want[i] = target_byte(image, base, chosen, at + i as u32, *old);
+    want.copy_from_slice(have);
+    let mut done = 0;
+    while let Some((begin, bytes)) = next_run(image, base, at, done, have.len()) {
+        lay(want, begin, bytes, chosen, at);
+        done = begin + bytes.len();
+    }
+}
+
+/// The image's next bytes for the chip's addresses from `at + done` on and below `at + len`, with
+/// the place of the first of them, from `at` on.
+fn next_run(image: &Image, base: u32, at: u32, done: usize, len: usize) -> Option<(usize, &[u8])>
+    requires done { done ≤ len }
+    requires inside { at + len ≤ 2 ^ 32 }
+    ensures { MatchOption result (HasNoRun (byte_at image.now) base at done len)
+        (λ run. IsNextRun (byte_at image.now) base at done len run.0 run.1.now) }
+{
+    let start = u64::from(base) + u64::from(at);
+    let from = u32::try_from(start + done as u64).ok()?;
+    let (place, run) = image.run_from(from)?;
+    let begin = (u64::from(place) - start) as usize;
+    if begin >= len {
+        return None;
+    }
+    Some((begin, &run[..run.len().min(len - begin)]))
+}
+
+/// Lays a run over the chosen of its places, the first of which is `begin`, from the chip's address `at` on.
+fn lay(want: &mut [u8], begin: usize, run: &[u8], chosen: &Chosen, at: u32)
+    requires within { begin + length run.now ≤ length want.old }
+    requires inside { at + length want.old ≤ 2 ^ 32 }
+    ensures { IsLaid want.old want.new begin run.now (λ k. has chosen.now (at + k)) (length run.now) }
+{
+    for (i, byte) in run.iter().enumerate() {
+        if chosen.has(at + (begin + i) as u32) {
+            want[begin + i] = *byte;
+        }
     }
 }
 
@@ -47,19 +82,6 @@ pub fn ignored(image: &Image, base: u32, chosen: &Chosen, size: u32) -> u64
         .iter()
         .filter(|pair| is_ignored(base, chosen, size, pair.0))
         .count() as u64
-}
-
-/// The byte that a chip address which holds `old` must hold in the end.
-fn target_byte(image: &Image, base: u32, chosen: &Chosen, address: u32, old: u8) -> u8
-    ensures { result ≡ target_byte (byte_at image.now) base (has chosen.now) address old }
-{
-    if !chosen.has(address) {
-        return old;
-    }
-    match base.checked_add(address) {
-        Some(place) => image.at(place).unwrap_or(old),
-        None => old,
-    }
 }
 
 /// Whether an address of the image is that of no chosen address of a chip of this size.

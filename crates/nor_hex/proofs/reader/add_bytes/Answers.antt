@@ -1,24 +1,23 @@
-use Rattle.std.proofs.Common.{◌<◌, ◌≤◌, length, arith, ap}
-use Rattle.nor_hex.proofs.PairLemmas.{length-pair_bytes}
-use Rattle.nor_hex.proofs.StepLemmas.{adds_more, adds_all, clashes, same_address}
+use Rattle.std.proofs.Common.{◌+◌, ap, ◌∙◌, refl}
+use Rattle.std.proofs.lemmas.Result.{MatchResult-weaker, on_ok_weaker, err_from_is_err_and}
+use Rattle.nor_hex.specs.Image.{address_of}
+use Rattle.nor_hex.proofs.StepLemmas.{is_cut, adds_both, clashes_first, clashes_then}
 use Rattle.nor_hex.proofs.reader.add_bytes.Goals as goal
 
-pub byte-requires : goal.byte-requires
-byte-requires g c = omega (arith, length-pair_bytes c.line.inside.digits.now, ap (λ r. length r.bytes) c.line.view_is)
-
-pub loop-index-preserved : goal.loop-index-preserved
-loop-index-preserved g c =
-    let below : c.loop-index.index < length c.args.line.now.bytes = omega (arith, length-pair_bytes c.line.inside.digits.now, ap (λ r. length r.bytes) c.line.view_is) in
-    adds_more c.args.base c.args.line.now c.loop-index.index c.args.bytes.now.entries c.loop-index.bytes.entries c.add_byte.new.bytes.entries c.address-at.result c.byte.result
-    c.requires below (same_address c.args.base _ c.args.line.now c.loop-index.index c.address-at.result c.line.view_is c.address-at.ensures) c.byte.ensures c.loop-index.invariant c.in-Ok.ensures.bytes
-
-pub returns-in-Err-clause-clash : goal.returns-in-Err-clause-clash
-returns-in-Err-clause-clash g c = λ real.
-    let below : c.loop-index.index < length c.args.line.now.bytes = omega (arith, length-pair_bytes c.line.inside.digits.now, ap (λ r. length r.bytes) c.line.view_is) in
-    clashes c.args.base c.args.line.now c.loop-index.index c.args.bytes.now.entries c.loop-index.bytes.entries c.address-at.result c.byte.result
-    c.requires below (same_address c.args.base _ c.args.line.now c.loop-index.index c.address-at.result c.line.view_is c.address-at.ensures) c.byte.ensures c.loop-index.invariant (c.in-Err.ensures.other real)
+pub returns-in_err-add_run-clause-clash : goal.returns-in_err-add_run-clause-clash
+returns-in_err-add_run-clause-clash g c =
+    let p = err_from_is_err_and c.from_residual.result c.from_residual.ensures.1 in
+    let cut = is_cut c.args.base c.args.line.now c.args.bytes.now c.split_at.result.0.now c.split_at.result.1.now c.line.inside.offset c.min.result c.room.result c.address.result (address_of c.args.base (c.line.inside.offset + c.min.result)) c.requires.kind c.requires.bytes (ap (λ r. r.offset) c.line.view_is) c.requires.few c.min.ensures c.split_at.ensures.front c.split_at.ensures.back c.address.ensures refl c.room.ensures.straight c.room.ensures.wrapped in
+    rw (p.1, p.2) (λ real. clashes_first _ _ _ _ _ _ cut _ (c.in_err-add_run.ensures.clash real))
 
 pub returns-clause-bytes : goal.returns-clause-bytes
 returns-clause-bytes g c =
-    let all : length c.args.line.now.bytes ≤ c.loop-index.index = omega (arith, length-pair_bytes c.line.inside.digits.now, ap (λ r. length r.bytes) c.line.view_is) in
-    adds_all c.args.base c.args.line.now c.loop-index.index c.args.bytes.now.entries c.loop-index.bytes.entries all c.loop-index.invariant
+    let again = c.address-2.ensures ∙ ap (λ m. address_of c.args.base (c.line.inside.offset + m)) c.split_at.ensures.front_len in
+    let cut = is_cut c.args.base c.args.line.now c.args.bytes.now c.split_at.result.0.now c.split_at.result.1.now c.line.inside.offset c.min.result c.room.result c.address.result c.address-2.result c.requires.kind c.requires.bytes (ap (λ r. r.offset) c.line.view_is) c.requires.few c.min.ensures c.split_at.ensures.front c.split_at.ensures.back c.address.ensures again c.room.ensures.straight c.room.ensures.wrapped in
+    on_ok_weaker c.add_run-2.result (λ added. adds_both _ _ _ _ _ _ cut _ _ _ c.in_ok-add_run.ensures.added added) c.add_run-2.ensures.added
+
+pub returns-clause-clash : goal.returns-clause-clash
+returns-clause-clash g c =
+    let again = c.address-2.ensures ∙ ap (λ m. address_of c.args.base (c.line.inside.offset + m)) c.split_at.ensures.front_len in
+    let cut = is_cut c.args.base c.args.line.now c.args.bytes.now c.split_at.result.0.now c.split_at.result.1.now c.line.inside.offset c.min.result c.room.result c.address.result c.address-2.result c.requires.kind c.requires.bytes (ap (λ r. r.offset) c.line.view_is) c.requires.few c.min.ensures c.split_at.ensures.front c.split_at.ensures.back c.address.ensures again c.room.ensures.straight c.room.ensures.wrapped in
+    MatchResult-weaker c.add_run-2.result c.add_run-2.ensures.clash (λ done u. u) (λ fault clash real. clashes_then _ _ _ _ _ _ cut _ _ c.in_ok-add_run.ensures.added (clash real))

@@ -1,6 +1,0 @@
-use Rattle.std.proofs.Common.{◌≡◌, ◌%◌, sum, take}
-use Rattle.nor_hex.specs.Record.{pair_bytes}
-use Rattle.nor_hex.proofs.digits.checksum.Given as goal
-
-abbrev pub invariant-loop-i : goal.invariant-loop-i
-invariant-loop-i l = l.sum ≡ sum (take l.i (pair_bytes l.digits)) % 256
