@@ -200,4 +200,3 @@ erased_all m by due a x b accepted h from upto =
     let a_in = held m a x b c accepted t.legal_block u.legal_block t.low t.high from upto u.low u.high larger in
     erasable_moves m by due x a k c accepted is a_in.0 a_in.1)
     best)
-

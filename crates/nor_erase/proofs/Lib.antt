@@ -6,3 +6,4 @@ mod Runs
 mod Tiling
 mod Steps
 mod PageUnits
+mod Planning

@@ -107,5 +107,4 @@ page_alone m by due have want start inside none quiet =
         ∙ open_byte m.erased_only (slice_index have x) (slice_index want x) (quiet x from upto) (ap (λ n. not (n == slice_index want x)) (sym (kept x from upto)) ∙ apart)
 
     same : list_any (differs (levelled m by due have) want) (range_with_len start m.page) ≡ list_any (differs have want) (range_with_len start m.page)
-    same = same_any (differs (levelled m by due have) want) (differs have want) m.page start start (λ i less.
-    ap (λ n. not (n == slice_index want (start + i))) (kept (start + i) (omega arith) (omega arith)))
+    same = same_any (differs (levelled m by due have) want) (differs have want) m.page start start (λ i less. ap (λ n. not (n == slice_index want (start + i))) (kept (start + i) (omega arith) (omega arith)))

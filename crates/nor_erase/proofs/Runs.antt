@@ -26,7 +26,6 @@ use Rattle.nor_erase.proofs.Erasing.{there, can_erase, erasable_is, erased_all, 
 use Rattle.nor_erase.proofs.Reached.{any_at, all_over, four, small, holds_true, erased_where_due}
 use Rattle.nor_erase.proofs.Needed.{needed_caused, holds_smallest, erased_needed, erases_largest, some_of, block_here, all_at}
 
-
 regions_apart : (regions : List Region) (i j : ℕ) (region : Region) → slice_get regions i ≡ Some region → i < j
     → sum_by (λ (r : Region). r.size) (take i regions) + region.size ≤ sum_by (λ (r : Region). r.size) (take j regions)
 regions_apart [] i j region there less = cc

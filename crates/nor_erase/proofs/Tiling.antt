@@ -161,8 +161,7 @@ reached_within m start a s accepted near is =
     let d_same : d.block ≡ s = cc in
     let c_start : c.block.start ≡ s.start = ap (λ (x : Block). x.start) c_same in
     let d_start : d.block.start ≡ s.start = ap (λ (x : Block). x.start) d_same in
-    let d_size : d.block.size ≡ s.size = ap (λ (x : Block). x.size) d_same in
-    (
+    let d_size : d.block.size ≡ s.size = ap (λ (x : Block). x.size) d_same in (
       h.block,
       record { legal = t.legal_block; here = (t.low, t.high); reached = e.reached },
       omega (arith, t.some, c.low, d.high, c_start, d_start, d_size),

@@ -31,9 +31,13 @@ pub record AddsTiles (m : Parameters) (by : Strategy) (low high : ℕ) (before a
   pub tiling : IsTiling m by low high blocks
   pub added : after ≡ before ++ map unit.Block blocks
 
+-- some of so many bytes from a place on differ
+abbrev pub differs_from : List ℕ → List ℕ → ℕ → ℕ → Bool
+differs_from have want from count = list_any (differs have want) (range_with_len from count)
+
 -- some byte of a page differs, of bytes that begin at an address
 abbrev pub page_differs : List ℕ → List ℕ → ℕ → ℕ → ℕ → Bool
-page_differs have want at page start = list_any (differs have want) (range_with_len (start - at) page)
+page_differs have want at page start = differs_from have want (start - at) page
 
 -- a page that differs is a unit
 abbrev pub page_if : List ℕ → List ℕ → ℕ → ℕ → ℕ → List PlanUnit

@@ -1,5 +1,9 @@
 //! The units of a window.
 
+ghost use Rattle.std.specs.Prelude.{◌≡◌, ◌≤◌, ◌<◌, ◌+◌, ◌^◌, length, IfOk, IfErr, MatchOption};
+ghost use Rattle.nor_erase.specs.Bytes.{IsFirstBeyond, NoneBeyond};
+ghost use Rattle.nor_erase.specs.Plan.{IsWindow, IsPlan, IsFault};
+
 use crate::bytes::next_due;
 use crate::fault::PlanFault;
 use crate::tiles::{push_blocks, push_pages};
@@ -19,7 +23,13 @@ pub fn plan(
     at: u32,
     have: &[u8],
     want: &[u8],
-) -> Result<Vec<PlanUnit>, PlanFault> {
+) -> Result<Vec<PlanUnit>, PlanFault>
+    requires lengths { length have.now ≡ length want.now }
+    requires window { IsWindow meaning.now strategy at (length have.now) }
+    ensures plan { IfOk result (λ units. IsPlan meaning.now strategy at have.now want.now units.items) }
+    ensures fault { IfErr result (IsFault meaning.now strategy at have.now want.now) }
+{
+    meaning.is_accepted();
     if let Some(address) = first_beyond(strategy, at, have, want) {
         return Err(PlanFault::Unreachable(address));
     }
@@ -45,12 +55,17 @@ pub fn plan(
 }
 
 /// The lowest address that differs where the strategy doesn't reach.
-fn first_beyond(strategy: Strategy, at: u32, have: &[u8], want: &[u8]) -> Option<u32> {
+fn first_beyond(strategy: Strategy, at: u32, have: &[u8], want: &[u8]) -> Option<u32>
+    requires lengths { length have.now ≡ length want.now }
+    requires inside { at + length have.now ≤ 2 ^ 28 }
+    requires edge { at < 2 ^ 24 → at + length have.now ≤ 2 ^ 24 }
+    ensures { MatchOption result (NoneBeyond strategy have.now want.now at) (IsFirstBeyond strategy have.now want.now at) }
+{
     if strategy != Strategy::S5 || at < FAR {
         return None;
     }
-    for (i, (old, new)) in have.iter().zip(want).enumerate() {
-        if *old != *new {
+    for i in 0..have.len() {
+        if have[i] != want[i] {
             return Some(at + i as u32);
         }
     }
