@@ -7,3 +7,4 @@ mod Tiling
 mod Steps
 mod PageUnits
 mod Planning
+mod TileLemmas

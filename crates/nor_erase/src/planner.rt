@@ -1,6 +1,7 @@
 //! The units of a window.
 
 ghost use Rattle.std.specs.Prelude.{◌≡◌, ◌≤◌, ◌<◌, ◌+◌, ◌^◌, length, IfOk, IfErr, MatchOption};
+ghost use Rattle.nor_base.specs.Need.{is_beyond};
 ghost use Rattle.nor_erase.specs.Bytes.{IsFirstBeyond, NoneBeyond};
 ghost use Rattle.nor_erase.specs.Plan.{IsWindow, IsPlan, IsFault};
 
@@ -61,7 +62,7 @@ fn first_beyond(strategy: Strategy, at: u32, have: &[u8], want: &[u8]) -> Option
     requires edge { at < 2 ^ 24 → at + length have.now ≤ 2 ^ 24 }
     ensures { MatchOption result (NoneBeyond strategy have.now want.now at) (IsFirstBeyond strategy have.now want.now at) }
 {
-    if strategy != Strategy::S5 || at < FAR {
+    if !is_beyond(strategy, at) {
         return None;
     }
     for i in 0..have.len() {
@@ -70,4 +71,14 @@ fn first_beyond(strategy: Strategy, at: u32, have: &[u8], want: &[u8]) -> Option
         }
     }
     None
+}
+
+/// Whether the strategy reaches no address from this one on.
+fn is_beyond(strategy: Strategy, at: u32) -> bool
+    ensures { result ≡ is_beyond strategy at }
+{
+    match strategy {
+        Strategy::S5 => at >= FAR,
+        Strategy::S1 | Strategy::S2 | Strategy::S3 | Strategy::S4 => false,
+    }
 }

@@ -1,6 +1,6 @@
 //! The blocks of a run, and the pages of a gap.
 
-ghost use Rattle.std.specs.Prelude.{◌≡◌, ◌≤◌, ◌+◌, ◌-◌, ◌/◌, ◌%◌, ◌++◌, length, flat_map, nat_le, IfOk, MatchOption};
+ghost use Rattle.std.specs.Prelude.{◌≡◌, ◌≤◌, ◌+◌, ◌-◌, ◌/◌, ◌%◌, ◌++◌, ◌==◌, ◌&&◌, length, flat_map, nat_le, IfOk, MatchOption};
 ghost use Rattle.nor_base.specs.Units.{pages};
 ghost use Rattle.nor_erase.specs.Tiles.{IsLargestAt, NoneFits, AddsTiles, page_if, differs_from};
 
@@ -36,7 +36,7 @@ fn largest(meaning: &Meaning, strategy: Strategy, start: u32, end: u32) -> Optio
     meaning.is_accepted();
     let mut best = None;
     for block in legal(meaning, strategy, start).as_slice() {
-        if block.start == start && ends_by(block, end) {
+        if fits(block, start, end) {
             best = Some(*block);
         }
     }
@@ -82,9 +82,9 @@ fn differs_from(have: &[u8], want: &[u8], from: usize, count: usize) -> bool
     have[from..from + count] != want[from..from + count]
 }
 
-/// Whether a block ends by an address.
-fn ends_by(block: &Block, end: u32) -> bool
-    ensures { result ≡ nat_le (block.now.start + block.now.size) end }
+/// Whether a block starts at an address and ends by another.
+fn fits(block: &Block, start: u32, end: u32) -> bool
+    ensures { result ≡ ((block.now.start == start) && nat_le (block.now.start + block.now.size) end) }
 {
-    u64::from(block.start) + u64::from(block.size) <= u64::from(end)
+    block.start == start && u64::from(block.start) + u64::from(block.size) <= u64::from(end)
 }
