@@ -8,3 +8,4 @@ mod Steps
 mod PageUnits
 mod Planning
 mod TileLemmas
+mod PlanLemmas
