@@ -1,13 +1,13 @@
 -- Erased blocks: legal, of whole pages, each that of all addresses that it holds.
-use Rattle.std.proofs.Common.{◌≡◌, ℕ, suc, ◌+◌, ◌-◌, ◌*◌, ◌/◌, ◌%◌, ◌^◌, ◌<◌, ◌≤◌, ◌==◌, Bool, true, false, ◌&&◌, if◌then◌else◌, Option, Some, None, option_map, refl, sym, ◌∙◌, ap, subst, arith, inl, inr, eq-eqb, eqb-true, pow-add}
+use Rattle.std.proofs.Common.{◌≡◌, ℕ, ◌+◌, ◌-◌, ◌*◌, ◌/◌, ◌%◌, ◌<◌, ◌≤◌, ◌==◌, Bool, true, false, ◌&&◌, if◌then◌else◌, Option, Some, None, option_map, refl, sym, ◌∙◌, ap, subst, arith, inl, inr, eq-eqb, eqb-true}
 use Rattle.std.specs.Option.{option_map_or}
-use Rattle.std.proofs.Math.Nat.{mod-lt, div-add-mod, mul-mod_right, mod-mod_of_dvd, dvd_of_mod-eq-zero, mod-add-mod, pow-suc, pow-le-pow_right, zero-mod}
+use Rattle.std.proofs.Math.Nat.{mod-lt, div-add-mod, mul-mod_right}
 use Rattle.std.proofs.lemmas.Nat.{pow_pos}
 use Rattle.std.proofs.lemmas.Bool.{and_parts, cases_lt}
 use Rattle.nor_base.specs.declared.meaning.Erase.{Erase}
 use Rattle.nor_base.specs.declared.meaning.Strategy.{Strategy}
 use Rattle.nor_base.specs.Parameters.{Parameters, erase_kind, block_size}
-use Rattle.nor_base.specs.Accepted.{IsAccepted, IsPowerOfTwo}
+use Rattle.nor_base.specs.Accepted.{IsAccepted}
 use Rattle.nor_base.specs.Blocks.{Block, IsLegalBlock, is_legal, lies_in_one, block_at, kinds}
 use Rattle.nor_base.specs.Need.{lies_in_needed, kept_if, erasable, erased_at}
 use Rattle.nor_base.specs.Strategies.{reaches}

@@ -1,22 +1,20 @@
 -- What is erased is what is needed, by the largest blocks.
-use Rattle.std.proofs.Common.{◌≡◌, ◌⊎◌, ℕ, zero, suc, ◌+◌, ◌-◌, ◌%◌, ◌<◌, ◌≤◌, nat_le, nat_lt, Bool, true, false, ◌&&◌, List, [], ◌∷◌, ◌++◌, Option, Some, None, option_map, refl, sym, ◌∙◌, ap, arith, inl, inr, leb-true, ltb-true, append_assoc}
+use Rattle.std.proofs.Common.{◌≡◌, ℕ, zero, suc, ◌+◌, ◌-◌, ◌%◌, ◌<◌, ◌≤◌, nat_le, nat_lt, Bool, true, false, ◌&&◌, List, [], ◌∷◌, ◌++◌, Option, Some, None, option_map, refl, sym, ◌∙◌, ap, arith, inl, inr, leb-true, ltb-true, append_assoc}
 use Rattle.std.specs.Prelude.{is_some, flat_map}
 use Rattle.std.specs.List.{list_any, list_all, range_with_len}
 use Rattle.std.specs.Option.{option_map_or}
 use Rattle.std.proofs.lemmas.Bool.{and_parts, cases_lt, or_cases}
 use Rattle.nor_base.specs.declared.meaning.Erase.{Erase}
-use Rattle.nor_base.specs.declared.meaning.Start.{Start}
 use Rattle.nor_base.specs.declared.meaning.Strategy.{Strategy}
 use Rattle.nor_base.specs.Parameters.{Parameters, block_size}
 use Rattle.nor_base.specs.Accepted.{IsAccepted}
-use Rattle.nor_base.specs.Blocks.{Block, Holds, AreDisjoint, LiesIn, IsLegalBlock, block_holds, block_at, is_legal, kinds, smallest}
-use Rattle.nor_base.specs.Strategies.{strategy, reaches}
-use Rattle.nor_base.specs.Need.{is_due, is_needed, lies_in_needed, erasable, erased_at}
-use Rattle.nor_base.specs.Units.{unit_by, units_over}
+use Rattle.nor_base.specs.Blocks.{Block, Holds, LiesIn, IsLegalBlock, block_holds, block_at, is_legal, kinds, smallest}
+use Rattle.nor_base.specs.Strategies.{reaches}
+use Rattle.nor_base.specs.Need.{is_needed, lies_in_needed, erasable, erased_at}
 use Rattle.nor_laws.proofs.BlockLaws.{blocks_nest}
 use Rattle.nor_erase.proofs.Best.{best_is, best_bounds, NoneLarger, Among, picked, some_best}
-use Rattle.nor_erase.proofs.Erasing.{there, can_erase, erased_all, erasable_is, legal_kind, size_of, is_block, legal_parts}
-use Rattle.nor_erase.proofs.Reached.{all_over, four, small, erased_where_due}
+use Rattle.nor_erase.proofs.Erasing.{there, can_erase, erasable_is, legal_kind, size_of, is_block, legal_parts}
+use Rattle.nor_erase.proofs.Reached.{all_over, four, small}
 
 -- an address at which a test over a stretch passes
 record Finds (test : ℕ → Bool) (start n : ℕ) : Type 0 where

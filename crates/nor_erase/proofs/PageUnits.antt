@@ -1,14 +1,13 @@
 -- Which pages outside the erased blocks are units.
-use Rattle.std.proofs.Common.{◌≡◌, ◌⊎◌, ℕ, zero, suc, ◌+◌, ◌-◌, ◌<◌, ◌≤◌, ◌==◌, Bool, true, false, cond, not, ◌&&◌, ◌||◌, if◌then◌else◌, List, [], ◌∷◌, ◌++◌, length, map, Option, Some, None, refl, sym, ◌∙◌, ap, arith, inl, inr}
+use Rattle.std.proofs.Common.{◌≡◌, ℕ, zero, suc, ◌+◌, ◌<◌, ◌≤◌, ◌==◌, Bool, true, false, cond, not, ◌&&◌, ◌||◌, if◌then◌else◌, List, [], ◌∷◌, ◌++◌, length, map, None, refl, sym, ◌∙◌, ap, arith}
 use Rattle.std.specs.Prelude.{is_some, filter, flat_map, slice_index, bit_and}
 use Rattle.std.specs.List.{list_any, range_with_len, slice_split, onto_first}
-use Rattle.std.proofs.lemmas.Bool.{cases_lt, cases_Bool, both_ways}
+use Rattle.std.proofs.lemmas.Bool.{both_ways}
 use Rattle.nor_base.specs.Parameters.{Parameters}
 use Rattle.nor_base.specs.declared.meaning.Strategy.{Strategy}
-use Rattle.nor_base.specs.Effect.{may_program}
 use Rattle.nor_base.specs.Need.{differs, is_due, erased_at, levelled}
 use Rattle.nor_base.specs.Programs.{Program, span, is_closed, page_programs}
-use Rattle.nor_base.specs.Units.{WorkUnit, page_unit}
+use Rattle.nor_base.specs.Units.{page_unit}
 use Rattle.nor_base.proofs.ArrayLaws.{slice_index-each}
 use Rattle.nor_erase.specs.declared.unit.PlanUnit.{PlanUnit}
 use Rattle.nor_erase.specs.declared.unit.PlanUnit.TheVariants as unit

@@ -1,28 +1,26 @@
 -- The plan of a window, whatever the rest of the chip holds.
-use Rattle.std.proofs.Common.{◌≡◌, ◌⊎◌, ℕ, zero, suc, ◌+◌, ◌-◌, ◌*◌, ◌/◌, ◌%◌, ◌^◌, ◌<◌, ◌≤◌, ◌==◌, Bool, true, false, not, ◌&&◌, ◌||◌, List, [], ◌∷◌, ◌++◌, length, map, Option, Some, None, refl, sym, ◌∙◌, ap, subst, arith, inl, inr, append_assoc, append-nil, leb-true, le-leb, mul_comm}
-use Rattle.std.specs.Prelude.{is_some, flat_map, slice_index}
-use Rattle.std.proofs.lemmas.Bool.{cases_lt, cases_Bool, both_ways, leb-false}
+use Rattle.std.proofs.Common.{◌≡◌, ◌⊎◌, ℕ, ◌+◌, ◌-◌, ◌*◌, ◌/◌, ◌%◌, ◌^◌, ◌<◌, ◌≤◌, ◌==◌, true, false, not, ◌&&◌, List, [], ◌++◌, length, map, None, refl, sym, ◌∙◌, ap, subst, arith, inl, inr, mul_comm}
+use Rattle.std.specs.Prelude.{flat_map, slice_index}
+use Rattle.std.proofs.lemmas.Bool.{cases_lt}
 use Rattle.std.proofs.Math.Nat.{div-add-mod, mod-add-mod, pow-le-pow_right, mul-div_left, mod_self}
 use Rattle.nor_base.specs.declared.meaning.Start.{Start}
 use Rattle.nor_base.specs.declared.meaning.Strategy.{Strategy}
-use Rattle.nor_base.specs.declared.meaning.Strategy.TheVariants.{S1, S2, S3, S4, S5}
 use Rattle.nor_base.specs.Parameters.{Parameters}
 use Rattle.nor_base.specs.Accepted.{IsAccepted, IsPowerOfTwo}
-use Rattle.nor_base.specs.Blocks.{Block, IsLegalBlock, smallest}
-use Rattle.nor_base.specs.Strategies.{is_far, strategy}
+use Rattle.nor_base.specs.Blocks.{Block, smallest}
+use Rattle.nor_base.specs.Strategies.{strategy}
 use Rattle.nor_base.specs.Effect.{may_program}
 use Rattle.nor_base.specs.Need.{differs, is_due, is_needed, is_beyond, is_unreachable, lacks_erase, is_at_fault}
 use Rattle.nor_base.specs.Units.{pages, units_of}
 use Rattle.nor_base.proofs.RegionLaws.{legal_on_chip}
 use Rattle.nor_geometry.specs.Legal.{IsReachedAt, IsSmallestAt}
-use Rattle.nor_geometry.specs.Window.{IsWindowSize, IsUncrossed}
+use Rattle.nor_geometry.specs.Window.{IsWindowSize}
 use Rattle.nor_geometry.proofs.KindLemmas.{placed}
 use Rattle.nor_geometry.proofs.WindowLemmas.{divides, multiple_of, steps, window_power, blocks_uncrossed}
 use Rattle.nor_erase.specs.declared.unit.PlanUnit.{PlanUnit}
-use Rattle.nor_erase.specs.declared.unit.PlanUnit.TheVariants as unit
 use Rattle.nor_erase.specs.declared.fault.PlanFault.TheVariants as fault
 use Rattle.nor_erase.specs.Bytes.{IsFirstDue, NoneDue, IsFirstBeyond, NoneBeyond}
-use Rattle.nor_erase.specs.Plan.{plan_unit, IsWindow, HasPart, IsPlan, IsPlanOf, IsFault, IsFaultOf, IsLowestAt}
+use Rattle.nor_erase.specs.Plan.{plan_unit, IsWindow, HasPart, IsPlan, IsPlanOf, IsFault}
 use Rattle.nor_erase.specs.Tiles.{AddsTiles, IsTiling, page_if}
 use Rattle.nor_erase.proofs.Tiling.{IsIn, IsRunTo, none_smallest}
 use Rattle.nor_erase.proofs.Steps.{IsStep, step_of, step_on, step_over, first_run, last_gap, last_sound, no_fault, near_where_due}

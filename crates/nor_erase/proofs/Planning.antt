@@ -1,8 +1,8 @@
 -- The units up to an address, and one stretch more.
-use Rattle.std.proofs.Common.{◌≡◌, ◌⊎◌, ℕ, zero, suc, ◌+◌, ◌-◌, ◌*◌, ◌/◌, ◌%◌, ◌<◌, ◌≤◌, ◌==◌, nat_le, Bool, true, false, not, ◌&&◌, if◌then◌else◌, List, [], ◌∷◌, ◌++◌, length, map, Option, Some, None, refl, sym, ◌∙◌, ap, subst, arith, inl, inr, append_assoc, append-nil, eq-eqb, mul_comm}
-use Rattle.std.specs.Prelude.{is_some, flat_map, slice_index}
+use Rattle.std.proofs.Common.{◌≡◌, ℕ, zero, suc, ◌+◌, ◌-◌, ◌*◌, ◌/◌, ◌%◌, ◌<◌, ◌≤◌, ◌==◌, false, not, if◌then◌else◌, List, [], ◌∷◌, ◌++◌, length, map, Option, Some, None, refl, sym, ◌∙◌, ap, subst, arith, inl, inr, append_assoc, append-nil, eq-eqb, mul_comm}
+use Rattle.std.specs.Prelude.{flat_map, slice_index}
 use Rattle.std.specs.List.{list_any, range_with_len}
-use Rattle.std.proofs.lemmas.Bool.{cases_lt, cases_Bool, both_ways}
+use Rattle.std.proofs.lemmas.Bool.{cases_lt, both_ways}
 use Rattle.std.proofs.lemmas.List.{map-append}
 use Rattle.std.proofs.lemmas.Grind.{flat_map-append}
 use Rattle.std.proofs.Math.Nat.{div-add-mod, mul-suc}
@@ -14,18 +14,15 @@ use Rattle.nor_base.specs.Accepted.{IsAccepted}
 use Rattle.nor_base.specs.Blocks.{Block, IsLegalBlock}
 use Rattle.nor_base.specs.Strategies.{strategy}
 use Rattle.nor_base.specs.Need.{differs, is_due, is_needed, erased_at, levelled}
-use Rattle.nor_base.specs.Programs.{page_programs}
-use Rattle.nor_base.specs.Units.{WorkUnit, pages, block_unit, page_unit, unit_by, units_over, units_of}
-use Rattle.nor_geometry.specs.Legal.{IsReachedAt}
+use Rattle.nor_base.specs.Units.{WorkUnit, pages, block_unit, unit_by, units_over, units_of}
 use Rattle.nor_geometry.proofs.KindLemmas.{placed}
-use Rattle.nor_geometry.proofs.WindowLemmas.{divides, multiple_of}
+use Rattle.nor_geometry.proofs.WindowLemmas.{divides}
 use Rattle.nor_erase.specs.declared.unit.PlanUnit.{PlanUnit}
 use Rattle.nor_erase.specs.declared.unit.PlanUnit.TheVariants as unit
 use Rattle.nor_erase.specs.Plan.{plan_unit, HasPart}
-use Rattle.nor_erase.specs.Tiles.{IsLargestAt, IsTiling, NoneFits, page_differs, page_if}
+use Rattle.nor_erase.specs.Tiles.{IsTiling, page_differs, page_if}
 use Rattle.nor_erase.proofs.Erasing.{erased_all}
 use Rattle.nor_erase.proofs.Needed.{erased_needed}
-use Rattle.nor_erase.proofs.Runs.{erased_is}
 use Rattle.nor_erase.proofs.Tiling.{IsIn, IsRunTo, Stops, first_erased, tile_is, tile_rest}
 use Rattle.nor_erase.proofs.PageUnits.{page_alone, same_any, unit_if}
 

@@ -1,30 +1,25 @@
 -- Smallest blocks don't overlap in part, and what is erased of a run.
-use Rattle.std.proofs.Common.{◌≡◌, ◌⊎◌, ℕ, zero, suc, ◌+◌, ◌-◌, ◌*◌, ◌/◌, ◌%◌, ◌<◌, ◌≤◌, nat_le, nat_lt, Bool, true, false, ◌&&◌, List, [], ◌∷◌, take, Option, Some, None, refl, sym, ◌∙◌, ap, subst, arith, inl, inr}
-use Rattle.std.specs.Prelude.{is_some, slice_get, sum_by}
-use Rattle.std.specs.List.{list_any, list_all, range_with_len}
+use Rattle.std.proofs.Common.{◌≡◌, ◌⊎◌, ℕ, zero, suc, ◌+◌, ◌-◌, ◌%◌, ◌<◌, ◌≤◌, Bool, true, false, ◌&&◌, List, [], ◌∷◌, take, Option, Some, sym, ◌∙◌, ap, arith, inl, inr}
+use Rattle.std.specs.Prelude.{slice_get, sum_by}
 use Rattle.std.specs.Option.{option_map_or}
 use Rattle.std.proofs.Math.Nat.{mod-lt, mod-le, mod-add-mod}
-use Rattle.std.proofs.lemmas.Bool.{cases_lt, cases_Bool, both_ways}
+use Rattle.std.proofs.lemmas.Bool.{cases_lt}
 use Rattle.std.proofs.lemmas.List.Sums.{sum_by-cons}
-use Rattle.nor_base.specs.declared.meaning.Erase.{Erase}
 use Rattle.nor_base.specs.declared.meaning.Region.{Region}
-use Rattle.nor_base.specs.declared.meaning.Start.{Start}
 use Rattle.nor_base.specs.declared.meaning.Strategy.{Strategy}
-use Rattle.nor_base.specs.Parameters.{Parameters, erase_kind, allows, block_size}
+use Rattle.nor_base.specs.Parameters.{Parameters, allows, block_size}
 use Rattle.nor_base.specs.Accepted.{IsAccepted}
 use Rattle.nor_base.specs.Blocks.{Block, Holds, AreDisjoint, LiesIn, IsLegalBlock, LiesInRegion, block_holds, block_at, is_legal, kinds, smallest}
-use Rattle.nor_base.specs.Strategies.{strategy, reaches}
-use Rattle.nor_base.specs.Need.{is_due, is_needed, lies_in_needed, erasable, erased_at, is_at_fault}
+use Rattle.nor_base.specs.Need.{is_due, is_needed, lies_in_needed, erasable, erased_at}
 use Rattle.nor_base.proofs.RegionLaws.{legal_in_region, region_legal}
 use Rattle.nor_laws.proofs.BlockLaws.{blocks_nest}
-use Rattle.nor_geometry.specs.Legal.{IsReachedAt, IsListedAt}
+use Rattle.nor_geometry.specs.Legal.{IsReachedAt}
 use Rattle.nor_geometry.proofs.KindLemmas.{placed, size_of}
 use Rattle.nor_geometry.proofs.WindowLemmas.{divides, multiple_of}
-use Rattle.nor_erase.specs.Tiles.{IsLargestAt}
 use Rattle.nor_erase.proofs.Best.{Best, best_is, picked, Among}
-use Rattle.nor_erase.proofs.Erasing.{there, can_erase, erasable_is, erased_all, is_block, floor_aligned, aligned_le, legal_kind, moved}
-use Rattle.nor_erase.proofs.Reached.{any_at, all_over, four, small, holds_true, erased_where_due}
-use Rattle.nor_erase.proofs.Needed.{needed_caused, holds_smallest, erased_needed, erases_largest, some_of, block_here, all_at}
+use Rattle.nor_erase.proofs.Erasing.{there, can_erase, erasable_is, is_block, floor_aligned, aligned_le, legal_kind, moved}
+use Rattle.nor_erase.proofs.Reached.{any_at, four, small, holds_true}
+use Rattle.nor_erase.proofs.Needed.{block_here, all_at}
 
 regions_apart : (regions : List Region) (i j : ℕ) (region : Region) → slice_get regions i ≡ Some region → i < j
     → sum_by (λ (r : Region). r.size) (take i regions) + region.size ≤ sum_by (λ (r : Region). r.size) (take j regions)

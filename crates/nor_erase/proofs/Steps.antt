@@ -1,5 +1,5 @@
 -- From one byte that is due to the next.
-use Rattle.std.proofs.Common.{◌≡◌, ◌⊎◌, ℕ, zero, suc, ◌+◌, ◌-◌, ◌<◌, ◌≤◌, Bool, true, false, not, ◌&&◌, ◌||◌, List, Option, Some, None, refl, sym, ◌∙◌, ap, arith, inl, inr}
+use Rattle.std.proofs.Common.{◌≡◌, ◌⊎◌, ℕ, ◌+◌, ◌-◌, ◌<◌, ◌≤◌, Bool, true, false, not, ◌&&◌, List, Option, Some, None, refl, ap, arith, inl, inr}
 use Rattle.std.specs.Prelude.{is_some, slice_index}
 use Rattle.std.proofs.lemmas.Bool.{cases_lt, cases_Bool, both_ways, and_parts}
 use Rattle.nor_base.specs.declared.meaning.Start.{Start}
@@ -9,7 +9,7 @@ use Rattle.nor_base.specs.Accepted.{IsAccepted}
 use Rattle.nor_base.specs.Blocks.{Block, Holds, IsLegalBlock, block_at, kinds, smallest}
 use Rattle.nor_base.specs.Strategies.{strategy}
 use Rattle.nor_base.specs.Effect.{may_program}
-use Rattle.nor_base.specs.Need.{differs, is_due, is_needed, erased_at, is_beyond, is_unreachable, lacks_erase, is_at_fault}
+use Rattle.nor_base.specs.Need.{differs, is_due, is_needed, is_beyond, is_unreachable, lacks_erase, is_at_fault}
 use Rattle.nor_geometry.specs.Legal.{IsSmallestAt}
 use Rattle.nor_erase.proofs.Best.{none_small}
 use Rattle.nor_erase.proofs.Erasing.{legal_kind}

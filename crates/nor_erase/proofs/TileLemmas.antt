@@ -17,7 +17,7 @@ use Rattle.nor_base.specs.declared.meaning.Strategy.{Strategy}
 use Rattle.nor_base.specs.Parameters.{Parameters}
 use Rattle.nor_base.specs.Accepted.{IsAccepted}
 use Rattle.nor_base.specs.Blocks.{Block}
-use Rattle.nor_geometry.specs.Legal.{IsReachedAt, IsListedAt, AreLegalAt}
+use Rattle.nor_geometry.specs.Legal.{IsListedAt, AreLegalAt}
 use Rattle.nor_geometry.proofs.KindLemmas.{same_place}
 use Rattle.nor_erase.specs.declared.unit.PlanUnit.{PlanUnit}
 use Rattle.nor_erase.specs.declared.unit.PlanUnit.TheVariants as unit

@@ -1,24 +1,21 @@
 -- A run of needed addresses, tiled from its low end.
-use Rattle.std.proofs.Common.{◌≡◌, ◌⊎◌, ℕ, zero, suc, ◌+◌, ◌-◌, ◌%◌, ◌<◌, ◌≤◌, ◌==◌, nat_le, Bool, true, false, not, ◌&&◌, List, [], ◌∷◌, Option, Some, None, refl, sym, ◌∙◌, ap, arith, inl, inr, eq-eqb, eqb-true}
-use Rattle.std.specs.Prelude.{is_some}
-use Rattle.std.proofs.lemmas.Bool.{cases_lt, cases_Bool, both_ways, and_parts}
+use Rattle.std.proofs.Common.{◌≡◌, ◌⊎◌, ℕ, ◌+◌, ◌-◌, ◌%◌, ◌<◌, ◌≤◌, ◌==◌, Bool, true, false, List, Option, Some, None, refl, sym, ◌∙◌, ap, arith, inl, inr, eq-eqb, eqb-true}
+use Rattle.std.proofs.lemmas.Bool.{cases_lt, both_ways}
 use Rattle.nor_base.specs.declared.meaning.Start.{Start}
-use Rattle.nor_base.specs.declared.meaning.Strategy.{Strategy}
 use Rattle.nor_base.specs.Parameters.{Parameters}
 use Rattle.nor_base.specs.Accepted.{IsAccepted}
-use Rattle.nor_base.specs.Blocks.{Block, Holds, LiesIn, IsLegalBlock, block_at, kinds, smallest}
-use Rattle.nor_base.specs.Strategies.{strategy, reaches}
-use Rattle.nor_base.specs.Need.{differs, is_due, is_needed, lies_in_needed, erased_at, is_beyond, is_unreachable, lacks_erase, is_at_fault}
-use Rattle.nor_base.proofs.RegionLaws.{legal_on_chip}
-use Rattle.nor_geometry.specs.Legal.{IsReachedAt, IsListedAt, IsSmallestAt}
+use Rattle.nor_base.specs.Blocks.{Block, IsLegalBlock, block_at, kinds, smallest}
+use Rattle.nor_base.specs.Strategies.{strategy}
+use Rattle.nor_base.specs.Need.{is_due, is_needed, lies_in_needed, erased_at, is_beyond, is_at_fault}
+use Rattle.nor_geometry.specs.Legal.{IsReachedAt, IsSmallestAt}
 use Rattle.nor_geometry.specs.Window.{IsUncrossed}
 use Rattle.nor_geometry.proofs.KindLemmas.{placed, floor_is}
 use Rattle.nor_erase.specs.Tiles.{IsLargestAt}
 use Rattle.nor_erase.proofs.Best.{none_small}
 use Rattle.nor_erase.proofs.Erasing.{can_erase, erased_all, there, legal_kind}
 use Rattle.nor_erase.proofs.Reached.{all_over, four, small, has_block, erased_where_due}
-use Rattle.nor_erase.proofs.Needed.{needed_caused, holds_smallest, erased_needed, erases_largest, some_of, all_at}
-use Rattle.nor_erase.proofs.Runs.{same_smallest, needed_of, IsErasedAt, erased_is, at_address, lowest_kind}
+use Rattle.nor_erase.proofs.Needed.{needed_caused, holds_smallest, erases_largest, some_of, all_at}
+use Rattle.nor_erase.proofs.Runs.{IsErasedAt, erased_is, at_address, lowest_kind}
 
 -- a part of the chip whose ends no legal block crosses
 pub record IsIn (m : Parameters) (at end : ℕ) : Type 0 where

@@ -1,5 +1,5 @@
 -- Two ranges are equal where no byte differs.
-use Rattle.std.proofs.Common.{◌≡◌, ℕ, ◌+◌, ◌-◌, ◌∙◌, ap, arith, not, take, drop}
+use Rattle.std.proofs.Common.{◌≡◌, ◌+◌, ◌-◌, ◌∙◌, ap, arith, not, take, drop}
 use Rattle.nor_erase.proofs.TileLemmas.{ranges_differ}
 use Rattle.nor_erase.proofs.tiles.differs_from.Goals as goal
 use lib.Pointwise.{pointwise}

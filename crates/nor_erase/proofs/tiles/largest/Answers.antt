@@ -1,5 +1,5 @@
 -- The last block that fits.
-use Rattle.std.proofs.Common.{◌≡◌, ◌⊎◌, ◌∙◌, sym, ap, subst, arith, inl, inr, true, false, Some, List}
+use Rattle.std.proofs.Common.{◌∙◌, sym, subst, inl, inr, List}
 use Rattle.nor_base.specs.Blocks.{Block}
 use Rattle.nor_geometry.specs.Legal.{AreLegalAt}
 use Rattle.nor_erase.proofs.TileLemmas.{next_fit, last_is}

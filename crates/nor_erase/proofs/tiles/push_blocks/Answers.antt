@@ -1,7 +1,6 @@
 -- One block more, and none that fits.
-use Rattle.std.proofs.Common.{◌≡◌, ◌∙◌, ℕ, ◌+◌, sym, ap, subst}
+use Rattle.std.proofs.Common.{◌≡◌, ℕ, ◌+◌, sym, ap, subst}
 use Rattle.nor_base.specs.Blocks.{Block}
-use Rattle.nor_erase.specs.Tiles.{IsLargestAt}
 use Rattle.nor_erase.proofs.TileLemmas.{IsTiledTo, one_tiled, tiled}
 use Rattle.nor_erase.proofs.tiles.push_blocks.Goals as goal
 

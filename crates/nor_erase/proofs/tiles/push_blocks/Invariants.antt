@@ -1,4 +1,4 @@
-use Rattle.std.proofs.Common.{◌≤◌, ◌-◌, ◌⊎◌, ◌≡◌}
+use Rattle.std.proofs.Common.{◌-◌}
 use Rattle.nor_erase.proofs.TileLemmas.{IsTiledTo}
 use Rattle.nor_erase.proofs.tiles.push_blocks.Given as goal
 

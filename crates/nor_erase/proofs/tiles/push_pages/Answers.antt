@@ -1,8 +1,6 @@
 -- Page by page.
-use Rattle.std.proofs.Common.{◌≡◌, ℕ, ◌+◌, ◌-◌, ◌<◌, ◌≤◌, ◌∙◌, List, [], ◌∷◌, ◌++◌, true, false, if◌then◌else◌, sym, ap, subst, arith, append-nil}
+use Rattle.std.proofs.Common.{◌≡◌, ℕ, ◌+◌, ◌-◌, ◌∙◌, ◌++◌, sym, ap, subst, arith, append-nil}
 use Rattle.nor_base.specs.Parameters.{Parameters}
-use Rattle.nor_erase.specs.declared.unit.PlanUnit.{PlanUnit}
-use Rattle.nor_erase.specs.declared.unit.PlanUnit.TheVariants as unit
 use Rattle.nor_erase.specs.Tiles.{page_if, differs_from}
 use Rattle.nor_erase.proofs.PageUnits.{unit_if}
 use Rattle.nor_erase.proofs.Planning.{page_some}
