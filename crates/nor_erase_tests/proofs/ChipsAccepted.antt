@@ -1,9 +1,7 @@
 -- The chips of these tests are accepted.
 use Rattle.std.proofs.Common.{◌≡◌, ℕ, zero, suc, Bool, true, false, IfSome, List, ◌<◌, ◌≤◌, ◌^◌, ◌∷◌, [], ◌++◌, Option, Some, None, refl, subst, arith}
-use Rattle.std.specs.Bool.{then_some}
 use Rattle.nor_base.specs.declared.meaning.Erase.{Erase}
 use Rattle.nor_base.specs.declared.meaning.Region.{Region}
-use Rattle.nor_base.specs.declared.meaning.Switch.{Switch}
 use Rattle.nor_base.specs.declared.meaning.Switch.TheVariants.{Plain, Absent}
 use Rattle.nor_base.specs.declared.meaning.Width.TheVariants.{Both, Three}
 use Rattle.nor_base.specs.Parameters.{Parameters, erase_kind}

@@ -20,6 +20,7 @@ fn is_told(
     let (plain, profile) = (small_chip(), erased_only_chip());
     let mut have = vec![in alloc; 0xA5u8; 100]?;
     let mut want = vec![in alloc; 0xA5u8; 100]?;
+    assert!(rt; place < 100 && place < have.len() && place < want.len());
     have[place] = old;
     want[place] = new;
     assert_eq!(rt; rises(&have, &want), rising, "{place}");

@@ -1,5 +1,5 @@
 -- The parameters built are those of the mixed chip.
-use Rattle.std.proofs.Common.{◌≡◌, ◌∙◌, refl, [], ◌∷◌}
+use Rattle.std.proofs.Common.{◌≡◌, refl, [], ◌∷◌}
 use Rattle.nor_erase_tests.proofs.ChipsAccepted.{mixed_built}
 use Rattle.nor_erase_tests.proofs.chips.mixed_chip.Goals as goal
 
