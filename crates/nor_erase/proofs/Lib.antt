@@ -9,3 +9,4 @@ mod PageUnits
 mod Planning
 mod TileLemmas
 mod PlanLemmas
+mod LaneLemmas

@@ -1,10 +1,11 @@
 //! What has to change.
 
 use nor_base::Meaning;
-use nor_erase::{dirty, first_due, rises};
+use nor_erase::{dirty, first_due, rises, rises_lanes};
 use nor_samples::{erased_only_chip, small_chip};
 use std::alloc::Global;
 use std::process::Abort;
+use std::simd::prelude::*;
 use std::test::Fail;
 
 /// Of 100 bytes that all hold A5h, one is to become another: whether a bit rises, whether a byte that isn't FFh changes,
@@ -56,4 +57,19 @@ fn at_each_place(rt: HostRuntime) -> Result<(), Fail> {
         is_told(&rt, alloc, place, 0x5A, 0x5A, (false, false))?;
     }
     Ok(())
+}
+
+#[test]
+fn at_each_lane(rt: HostRuntime) {
+    let all = [0xA5u8; 32];
+    for place in 0..32 {
+        let mut have = all;
+        let mut want = all;
+        have[place] = 0xF0;
+        want[place] = 0xF1;
+        let (old, new) = (u8x32::from_array(have), u8x32::from_array(want));
+        assert!(rt; rises_lanes(old, new), "{place}");
+        assert!(rt; !rises_lanes(new, old), "{place}");
+        assert!(rt; !rises_lanes(old, old), "{place}");
+    }
 }
