@@ -2,7 +2,7 @@
 
 ghost use Rattle.std.specs.Prelude.{◌≡◌, ◌≤◌, ◌+◌, ◌-◌, ◌/◌, ◌%◌, ◌++◌, ◌==◌, ◌&&◌, length, flat_map, nat_le, IfOk, MatchOption};
 ghost use Rattle.nor_base.specs.Units.{pages};
-ghost use Rattle.nor_erase.specs.Tiles.{IsLargestAt, NoneFits, AddsTiles, page_if, differs_from};
+ghost use Rattle.nor_erase.specs.Tiles.{IsLargestAt, NoneFits, AddsTiles, AddsPages, differs_from};
 
 use crate::unit::PlanUnit;
 use nor_base::{Meaning, Strategy};
@@ -60,7 +60,7 @@ pub(crate) fn push_pages(
     requires high { high ≤ at + length have.now }
     requires low_page { low % meaning.now.page ≡ 0 }
     requires high_page { high % meaning.now.page ≡ 0 }
-    ensures { IfOk result (λ _. units.new.items ≡ units.old.items ++ flat_map (page_if have.now want.now at meaning.now.page) (pages meaning.now.page low ((high - low) / meaning.now.page))) }
+    ensures { IfOk result (λ _. AddsPages have.now want.now at meaning.now.page low high units.old.items units.new.items) }
 {
     meaning.is_accepted();
     let mut start = low;
