@@ -1,11 +1,17 @@
 -- The words of the private parts.
-use Rattle.std.specs.Prelude.{ℕ, Bool, true, not, ◌||◌, nat_lt, if◌then◌else◌, List, [], ◌∷◌, Option}
+use Rattle.std.specs.Prelude.{ℕ, Bool, true, not, ◌&&◌, ◌||◌, is_some, nat_lt, if◌then◌else◌, List, [], ◌∷◌, Option}
 use Rattle.nor_base.specs.declared.meaning.Strategy.{Strategy}
 use Rattle.nor_base.specs.declared.meaning.Strategy.TheVariants.{S1, S2, S3, S4, S5}
+use Rattle.nor_base.specs.declared.meaning.Region.{Region}
+use Rattle.nor_base.specs.Instructions.{dedicated}
 use Rattle.nor_base.specs.Parameters.{Parameters}
 use Rattle.nor_base.specs.Blocks.{Block, block_at}
-use Rattle.nor_base.specs.Strategies.{is_far, reaches}
+use Rattle.nor_base.specs.Strategies.{is_far, reaches, erases_in, is_least}
 use Rattle.nor_base.specs.Need.{kept_if}
+
+-- the kind is of the region's least size and has an opcode with four address bytes
+abbrev pub is_least_dedicated : Parameters → Region → ℕ → Bool
+is_least_dedicated m region kind = erases_in m region kind && (is_least m region kind && is_some (dedicated m kind))
 
 -- the strategy has an erase for an address by a kind with or without an opcode of four address bytes
 abbrev pub takes : Strategy → Bool → ℕ → Bool

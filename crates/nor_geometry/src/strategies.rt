@@ -5,7 +5,7 @@ ghost use Rattle.std.specs.List.{list_any};
 ghost use Rattle.nor_base.specs.Parameters.{block_size};
 ghost use Rattle.nor_base.specs.Strategies.{strategy, are_dedicated, is_dedicated, erases_in, is_least};
 ghost use Rattle.nor_base.specs.Instructions.{dedicated, is_there};
-ghost use Rattle.nor_geometry.specs.Takes.{takes};
+ghost use Rattle.nor_geometry.specs.Takes.{takes, is_least_dedicated};
 
 use nor_base::{Meaning, Region, Start, Strategy, Switch};
 
@@ -76,7 +76,7 @@ fn some_erases(meaning: &Meaning, region: &Region, kinds: &[u8]) -> bool
 
 /// Whether one of some kinds is of the region's least size and has an opcode with four address bytes.
 fn some_is_dedicated(meaning: &Meaning, region: &Region, kinds: &[u8]) -> bool
-    ensures { result ≡ list_any (λ kind. erases_in meaning.now region.now kind && (is_least meaning.now region.now kind && is_some (dedicated meaning.now kind))) kinds.now }
+    ensures { result ≡ list_any (is_least_dedicated meaning.now region.now) kinds.now }
 {
     kinds
         .iter()
@@ -85,7 +85,7 @@ fn some_is_dedicated(meaning: &Meaning, region: &Region, kinds: &[u8]) -> bool
 
 /// Whether the kind is of the region's least size and has an opcode with four address bytes.
 fn is_least_dedicated(meaning: &Meaning, region: &Region, kind: u8) -> bool
-    ensures { result ≡ (erases_in meaning.now region.now kind && (is_least meaning.now region.now kind && is_some (dedicated meaning.now kind))) }
+    ensures { result ≡ is_least_dedicated meaning.now region.now kind }
 {
     erases_in(meaning, region, kind) && is_least(meaning, region, kind) && has_op4(meaning, kind)
 }

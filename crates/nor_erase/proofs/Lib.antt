@@ -1,0 +1,12 @@
+mod Best
+mod Erasing
+mod Reached
+mod Needed
+mod Runs
+mod Tiling
+mod Steps
+mod PageUnits
+mod Planning
+mod TileLemmas
+mod PlanLemmas
+mod LaneLemmas

@@ -1,0 +1,73 @@
+//! Bytes that are there beside those that are wanted.
+
+ghost use Rattle.std.specs.Prelude.{◌≡◌, ◌≤◌, ◌<◌, ◌+◌, ◌-◌, ℕ, false, length, zip, MatchOption};
+ghost use Rattle.std.specs.List.{list_any};
+ghost use Rattle.nor_base.specs.Effect.{may_program};
+ghost use Rattle.nor_base.specs.Need.{is_due};
+ghost use Rattle.nor_erase.specs.Bytes.{raises_bit, is_kept, is_due_over, IsFirstDue, NoneDue};
+
+use nor_base::Meaning;
+
+/// Whether some bit is 0 in `have` and 1 in `want`: only an erase sets it.
+pub fn rises(have: &[u8], want: &[u8]) -> bool
+    requires { length have.now ≡ length want.now }
+    ensures { result ≡ list_any (λ pair. raises_bit pair.0 pair.1) (zip have.now want.now) }
+{
+    have.iter().zip(want).any(|(old, new)| *old & *new != *new)
+}
+
+/// Whether some byte differs and isn't FFh in `have`: where only erased bytes may be programmed, an erase must come
+/// first.
+pub fn dirty(have: &[u8], want: &[u8]) -> bool
+    requires { length have.now ≡ length want.now }
+    ensures { result ≡ list_any (λ pair. is_kept pair.0 pair.1) (zip have.now want.now) }
+{
+    have.iter()
+        .zip(want)
+        .any(|(old, new)| *old != *new && *old != 0xFF)
+}
+
+/// The lowest address whose byte is due, of bytes that begin at `at`; `None` where none is.
+///
+/// A byte is due where it has to change and no program may do it.
+pub fn first_due(meaning: &Meaning, at: u32, have: &[u8], want: &[u8]) -> Option<u32>
+    requires lengths { length have.now ≡ length want.now }
+    requires inside { at + length have.now ≤ meaning.now.size }
+    ensures { MatchOption result (NoneDue meaning.now have.now want.now at at) (IsFirstDue meaning.now have.now want.now at at) }
+{
+    next_due(meaning, at, have, want, at)
+}
+
+/// The lowest address from `from` on whose byte is due, of bytes that begin at `at`.
+pub(crate) fn next_due(
+    meaning: &Meaning,
+    at: u32,
+    have: &[u8],
+    want: &[u8],
+    from: u32,
+) -> Option<u32>
+    requires lengths { length have.now ≡ length want.now }
+    requires inside { at + length have.now ≤ meaning.now.size }
+    requires from { at ≤ from }
+    ensures { MatchOption result (NoneDue meaning.now have.now want.now at from) (IsFirstDue meaning.now have.now want.now at from) }
+{
+    meaning.is_accepted();
+    for i in (from - at) as usize..have.len() {
+        if is_due(meaning, have[i], want[i]) {
+            return Some(at + i as u32);
+        }
+    }
+    None
+}
+
+/// Whether a byte has to change and no program may do it.
+fn is_due(meaning: &Meaning, old: u8, new: u8) -> bool
+    ensures { result ≡ is_due_over meaning.now old new }
+{
+    old != new
+        && if meaning.erased_only {
+            old != 0xFF
+        } else {
+            old & new != new
+        }
+}

@@ -1,0 +1,14 @@
+//! 32 bytes at a time.
+
+ghost use Rattle.std.specs.Prelude.{◌≡◌, zip};
+ghost use Rattle.std.specs.List.{list_any};
+ghost use Rattle.nor_erase.specs.Bytes.{raises_bit};
+
+use std::simd::prelude::*;
+
+/// Whether some bit is 0 in a lane of `have` and 1 in that of `want`.
+pub fn rises_lanes(have: u8x32, want: u8x32) -> bool
+    ensures { result ≡ list_any (λ pair. raises_bit pair.0 pair.1) (zip have want) }
+{
+    (have & want).simd_ne(want).any()
+}

@@ -1,0 +1,11 @@
+//! Runs of `nor_erase`, with values worked out by hand.
+//!
+//! They stand apart, over public calls, so that the crate isn't proved a second time with its tests.
+#![tactic(auto)]
+
+#[cfg(test)]
+mod bytes;
+#[cfg(test)]
+mod chips;
+#[cfg(test)]
+mod units;
