@@ -1,7 +1,3 @@
-mod Best
-mod Erasing
-mod Reached
-mod Needed
 mod Runs
 mod Tiling
 mod Steps

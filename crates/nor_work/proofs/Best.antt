@@ -158,7 +158,7 @@ none_small_step of j js k c (Some x) (Some y) o_is r_is later h among is = by_si
     by_size true h = cc
     by_size false h = cc
 
-none_small : (of : ℕ → Option Block) (ks : List ℕ) → best_of smaller_of of ks ≡ None → (k : ℕ) (c : Block) → Among ks k → of k ≡ Some c → ⊥
+pub none_small : (of : ℕ → Option Block) (ks : List ℕ) → best_of smaller_of of ks ≡ None → (k : ℕ) (c : Block) → Among ks k → of k ≡ Some c → ⊥
 none_small of [] h k c among is = absurd among
 none_small of (j ∷ js) h k c among is =
     none_small_step of j js k c (of j) (best_of smaller_of of js) refl refl (λ none more. none_small of js none k c more is) h among is

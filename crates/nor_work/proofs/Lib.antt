@@ -4,16 +4,16 @@ mod Laid
 mod Reading
 mod Ops
 mod Lowered
-mod Ranges
+pub mod Ranges
 mod Made
 mod Pages
 mod Walk
-mod Best
-mod Erasing
-mod Reached
+pub mod Best
+pub mod Erasing
+pub mod Reached
 mod Wider
 mod Whole
-mod Needed
+pub mod Needed
 mod Least
 mod Rows
 mod Driven

@@ -82,11 +82,11 @@ holds_smallest m a k b s accepted at is =
       ]
     ]
 
-some_of : (o : Option Block) → is_some o ≡ true → (b : Block) × (o ≡ Some b)
+pub some_of : (o : Option Block) → is_some o ≡ true → (b : Block) × (o ≡ Some b)
 some_of None h = cc
 some_of (Some b) h = (b, refl)
 
-erased_needed : (m : Parameters) (by : Strategy) (due : ℕ → Bool) (a : ℕ) (b : Block) → IsAccepted m → erased_at m by due a ≡ Some b → is_needed m due a ≡ true
+pub erased_needed : (m : Parameters) (by : Strategy) (due : ℕ → Bool) (a : ℕ) (b : Block) → IsAccepted m → erased_at m by due a ≡ Some b → is_needed m due a ≡ true
 unfolding erased_at lies_in_needed
 erased_needed m by due a b accepted h =
     let some = picked (erasable m by due a) kinds b (best_is (erasable m by due a) kinds b h) in
