@@ -1,0 +1,2 @@
+mod RunLemmas
+mod UnitRuns

@@ -1,0 +1,83 @@
+-- The runs of a unit (this project's; a program in a page as the Page Program of the W25Q256JV datasheet).
+use Rattle.std.specs.Prelude.{◌≡◌, ℕ, zero, suc, Bool, ◌+◌, ◌-◌, ◌*◌, ◌/◌, ◌%◌, ◌<◌, ◌≤◌, ◌==◌, not, ◌&&◌, if◌then◌else◌, List, [], ◌∷◌, ◌++◌, length, map, flat_map, Option, Some, None, slice_index, slice_range}
+use Rattle.std.specs.List.{range_with_len}
+use Rattle.nor_base.specs.Parameters.{Parameters}
+use Rattle.nor_base.specs.Programs.{Program, target_bytes, page_programs}
+use Rattle.nor_base.specs.Units.{pages}
+use Rattle.nor_erase.specs.declared.unit.PlanUnit.{PlanUnit}
+use Rattle.nor_erase.specs.declared.unit.PlanUnit.TheVariants as unit
+use Rattle.nor_erase.specs.Plan.{HasPart}
+use Rattle.nor_pages.specs.declared.run.Run.{Run}
+
+-- whole pages of the chip: a block, or a page
+abbrev pub IsStretch : Parameters → ℕ → ℕ → Type 0
+IsStretch m start count = (count % m.page ≡ 0) × (start + count ≤ m.size)
+
+abbrev pub IsUnit : Parameters → PlanUnit → ℕ → Type 0
+IsUnit m (unit.Block b) count = (count ≡ b.size) × IsStretch m b.start count
+IsUnit m (unit.Page start) count = (count ≡ m.page) × IsStretch m start count
+
+-- the program of a run
+abbrev pub run_program : List ℕ → Run → Program
+run_program target r = target_bytes target r.at (r.at + r.len)
+
+-- FFh over a stretch
+abbrev pub IsBlank : List ℕ → ℕ → ℕ → Type 0
+IsBlank level start count = (x : ℕ) → start ≤ x → x < start + count → slice_index level x ≡ 255
+
+-- whatever the rest of the chip holds and must hold: the runs are just the programs of the unit, over the content with its
+-- erased blocks level
+abbrev pub IsSplit : Parameters → PlanUnit → List ℕ → List ℕ → List Run → Type 0
+IsSplit m (unit.Block b) have want runs =
+    (level target : List ℕ) → IsBlank level b.start b.size → HasPart target want b.start
+    → map (run_program target) runs ≡ flat_map (page_programs m level target) (pages m.page b.start (b.size / m.page))
+IsSplit m (unit.Page start) have want runs =
+    (level target : List ℕ) → HasPart level have start → HasPart target want start → map (run_program target) runs ≡ page_programs m level target start
+
+-- what is there when a byte is programmed
+abbrev pub old_over : Bool → ℕ → ℕ
+old_over blank old = if blank then 255 else old
+
+-- a run up to an address, or one that begins there
+abbrev pub extended : Option Run → ℕ → Run
+extended None a = record { at = a; len = 1 }
+extended (Some r) a = record { at = r.at; len = a - r.at + 1 }
+
+abbrev pub reaches_back : Option Run → ℕ → Type 0
+reaches_back None a = Unit {0}
+reaches_back (Some r) a = r.at ≤ a
+
+abbrev pub some_run : Option Run → List Run
+some_run None = []
+some_run (Some r) = r ∷ []
+
+-- at an address: the run that ends there, where no program may cover it; and the one that goes on, to it where it differs
+abbrev pub ended : Bool → Option Run → List Run
+ended closed run = if closed then some_run run else []
+
+abbrev pub onward : Bool → Bool → Option Run → ℕ → Option Run
+onward closed differs run a = if closed then None else if differs then Some (extended run a) else run
+
+-- the runs of some addresses, of which a run so far may go on: one ends at an address that no program may cover, and goes from
+-- the first that differs to the last
+abbrev pub runs_on : (ℕ → Bool) → (ℕ → Bool) → Option Run → List ℕ → List Run
+runs_on closed differs run [] = some_run run
+runs_on closed differs run (a ∷ more) = ended (closed a) run ++ runs_on closed differs (onward (closed a) (differs a) run a) more
+
+-- of a page's bytes from an address on: those that no program may cover, and those that differ
+abbrev pub closed_at : Bool → Bool → List ℕ → ℕ → ℕ → Bool
+closed_at blank erased_only have at a = erased_only && not (old_over blank (slice_index have (a - at)) == 255)
+
+abbrev pub differs_at : Bool → List ℕ → List ℕ → ℕ → ℕ → Bool
+differs_at blank have want at a = not (old_over blank (slice_index have (a - at)) == slice_index want (a - at))
+
+abbrev pub page_runs : Bool → Bool → List ℕ → List ℕ → ℕ → List Run
+page_runs blank erased_only have want at =
+    runs_on (closed_at blank erased_only have at) (differs_at blank have want at) None (range_with_len at (length want))
+
+-- the runs of so many pages, the last of them last
+abbrev pub pages_runs : Bool → Bool → ℕ → List ℕ → List ℕ → ℕ → ℕ → List Run
+pages_runs blank erased_only page have want start zero = []
+pages_runs blank erased_only page have want start (suc n) =
+    pages_runs blank erased_only page have want start n
+    ++ page_runs blank erased_only (slice_range have (n * page) (n * page + page)) (slice_range want (n * page) (n * page + page)) (start + n * page)
