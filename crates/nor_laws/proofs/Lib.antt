@@ -10,3 +10,4 @@ mod GivenLaws
 mod RunLaws
 mod TargetLaws
 pub mod BoundedLaws
+mod EventLaws

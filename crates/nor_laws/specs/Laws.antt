@@ -1,5 +1,5 @@
 -- Laws of the definitions: facts that would be false if one of them were wrong.
-use Rattle.std.specs.Prelude.{◌≡◌, ◌≢◌, ◌⊎◌, ℕ, suc, Bool, true, false, ◌<◌, ◌≤◌, ◌+◌, ◌%◌, ◌^◌, List, [], ◌∷◌, ◌++◌, length, Option, Some, None, option_map, Ok, Err, slice_index, bit_and}
+use Rattle.std.specs.Prelude.{◌≡◌, ◌≢◌, ◌⊎◌, ℕ, suc, Bool, true, false, ◌<◌, ◌≤◌, ◌+◌, ◌%◌, ◌^◌, List, [], ◌∷◌, ◌++◌, length, map, Option, Some, None, option_map, Ok, Err, slice_index, bit_and}
 use Rattle.std.specs.List.{AllByRecursion}
 use Rattle.nor_base.specs.declared.clock.Clock.{Clock}
 use Rattle.nor_base.specs.declared.instruction.What.TheVariants as what
@@ -18,6 +18,7 @@ use Rattle.nor_base.specs.Chip.{Setting, Chip, IsWhole}
 use Rattle.nor_base.specs.Array.{IsOutside}
 use Rattle.nor_base.specs.Effect.{effect, effect_of, is_broken, is_program, place, page_start, may_program, wrong_of}
 use Rattle.nor_base.specs.Run.{polled, polled_trail, run, played, trail}
+use Rattle.nor_base.specs.Events.{events}
 use Rattle.nor_base.specs.Target.{target}
 
 -- a list of steps has one text
@@ -187,6 +188,10 @@ pub record IsBelow (limit : ℕ) (c : Chip) : Type 0 where
 -- a run with a bound on polls above what is left busy is the run
 abbrev pub BoundedIsRun : Type 0
 BoundedIsRun = (s : Setting) (limit : ℕ) (c : Chip) (steps : List Step) → IsBelow limit c → played s limit c steps ≡ run s c steps
+
+-- the chips of a run's events are its trail
+abbrev pub EventsAreTrail : Type 0
+EventsAreTrail = (s : Setting) (c : Chip) (steps : List Step) → map (λ e. e.chip) (events s c steps) ≡ trail s c steps
 
 -- what isn't chosen, or isn't given, or lies past 2^32 stays as it was
 abbrev pub TargetKeeps : Type 0

@@ -9,12 +9,12 @@ use Rattle.nor_base.specs.declared.meaning.Switch.TheVariants.{Absent, Plain, La
 use Rattle.nor_base.specs.declared.meaning.Region.{Region}
 use Rattle.nor_base.specs.Parameters.{Parameters}
 use Rattle.nor_base.specs.Blocks.{Block}
-use Rattle.nor_base.specs.Strategies.{strategy}
-use Rattle.nor_base.specs.Need.{is_at_fault}
+use Rattle.nor_base.specs.Strategies.{strategy, reaches}
+use Rattle.nor_base.specs.Need.{is_at_fault, is_beyond}
 use Rattle.nor_base.specs.Programs.{Program}
-use Rattle.nor_base.specs.Units.{units}
+use Rattle.nor_base.specs.Units.{WorkUnit, units}
 use Rattle.nor_base.specs.Spelling.{Instr}
-use Rattle.nor_base.specs.Operations.{Op, erases, writes, reads, enable, poll, disable, lowered}
+use Rattle.nor_base.specs.Operations.{Op, erases, writes, reads, enable, poll, disable, unit_ops, lowered}
 use Rattle.nor_laws.specs.Worked.{tiny}
 
 -- 16 bytes, pages of 2, blocks of 4 bytes, and two kinds of 8 bytes
@@ -56,10 +56,38 @@ PageOutside = units (little whole) S2 (ff 16) (ff 6 ++ (0x0F ∷ 0x0F ∷ ff 8))
 abbrev pub LowerOfTwoKinds : Type 0
 LowerOfTwoKinds = units (little whole) S2 (0 ∷ (ff 3 ++ (0 ∷ ff 11))) (ff 16) ≡ record { erase = block 0 8 2; start = 0; size = 8; programs = [] } ∷ []
 
--- past three address bytes only kinds with dedicated opcodes count, and here all is near: the lower again; over a border no block lies
+-- over a border no block lies
 abbrev pub BorderParts : Type 0
 BorderParts = units (little halves) S2 (0 ∷ (ff 3 ++ (0 ∷ ff 11))) (ff 16)
     ≡ record { erase = block 0 4 1; start = 0; size = 4; programs = [] } ∷ record { erase = block 4 4 1; start = 4; size = 4; programs = [] } ∷ []
+
+-- a page is programmed at once, from its first byte that differs to its last, over one that stays
+abbrev pub SpansPage : Type 0
+SpansPage = units (record (little whole) { page = 4 }) S2 (ff 16) (0x0F ∷ 255 ∷ 0x0F ∷ ff 13)
+    ≡ record { erase = None; start = 0; size = 4; programs = program 0 (0x0F ∷ 255 ∷ 0x0F ∷ []) ∷ [] } ∷ []
+
+-- the operations of the unit that restores: its erase, its programs, and where it is verified its block page by page
+abbrev pub restoring : WorkUnit
+restoring = record { erase = block 0 4 1; start = 0; size = 4; programs = program 1 (1 ∷ []) ∷ program 3 (0x12 ∷ []) ∷ [] }
+
+abbrev pub VerifiesBlock : Type 0
+VerifiesBlock = unit_ops (little whole) true (255 ∷ 1 ∷ 255 ∷ 0x12 ∷ ff 12) restoring
+    ≡ erases (record { start = 0; size = 4; kind = 1 }) ∷ writes (program 1 (1 ∷ [])) ∷ writes (program 3 (0x12 ∷ []))
+    ∷ reads (program 0 (255 ∷ 1 ∷ [])) ∷ reads (program 2 (255 ∷ 0x12 ∷ [])) ∷ []
+
+abbrev pub VerifiesNone : Type 0
+VerifiesNone = unit_ops (little whole) false (255 ∷ 1 ∷ 255 ∷ 0x12 ∷ ff 12) restoring
+    ≡ erases (record { start = 0; size = 4; kind = 1 }) ∷ writes (program 1 (1 ∷ [])) ∷ writes (program 3 (0x12 ∷ [])) ∷ []
+
+-- a page outside is read over its programs
+abbrev pub VerifiesPage : Type 0
+VerifiesPage = unit_ops (little whole) true (ff 16) (record { erase = None; start = 6; size = 2; programs = program 6 (0x0F ∷ []) ∷ [] })
+    ≡ writes (program 6 (0x0F ∷ [])) ∷ reads (program 6 (0x0F ∷ [])) ∷ []
+
+-- what the fifth strategy doesn't reach, and which kinds the third reaches past three address bytes
+abbrev pub Reached : Type 0
+Reached = map (is_beyond S5) (0xFFFFFF ∷ 0x1000000 ∷ []) ++ map (λ kind. reaches S3 (little whole) kind 0x1000000) (1 ∷ 2 ∷ 3 ∷ [])
+    ≡ false ∷ true ∷ true ∷ false ∷ true ∷ []
 
 -- a byte that must rise in a region without a block is at fault, one that only falls is not
 abbrev pub NoBlockIsFault : Type 0
@@ -144,6 +172,6 @@ QuadDedicated = lowered (big true Plain) (begin false true) S3 (writes (program 
     ≡ enable ∷ at what.QuadProgram 0x34 0 4 0 ∷ poll ∷ at what.QuadRead 0x6C 0x1000000 4 2 ∷ []
 
 abbrev pub QuadLegacy : Type 0
-QuadLegacy = lowered (big false Plain) (begin false true) S3
+QuadLegacy = lowered (record (big true Plain) { quad4 = false; quad_read4 = false }) (begin false true) S3
     (writes (program 0 (0 ∷ [])) ∷ writes (program 0x1000000 (0 ∷ [])) ∷ reads (program 0 (0 ∷ [])) ∷ reads (program 0x1000000 (0 ∷ [])) ∷ [])
     ≡ enable ∷ at what.QuadProgram 0x32 0 3 0 ∷ poll ∷ enable ∷ at what.Program 0x12 0x1000000 4 0 ∷ poll ∷ at what.QuadRead 0x6B 0 3 2 ∷ at what.Read 0x13 0x1000000 4 0 ∷ []

@@ -1,11 +1,13 @@
 -- Where a run stops, worked out by hand: a verifying read, polls and reads of other forms, the profile of erased bytes; and where
 -- a program goes round in its page.
-use Rattle.std.specs.Prelude.{◌≡◌, ℕ, true, false, List, [], ◌∷◌, ◌++◌, replicate, codes}
+use Rattle.std.specs.Prelude.{◌≡◌, ℕ, Bool, true, false, List, [], ◌∷◌, ◌++◌, replicate, codes, Ok}
 use Rattle.nor_base.specs.declared.meaning.Switch.TheVariants.{Plain}
 use Rattle.nor_base.specs.declared.step.Step.{Step}
 use Rattle.nor_base.specs.declared.step.Step.TheVariants.{Send, Poll, Verify}
 use Rattle.nor_base.specs.declared.wrong.Wrong.TheVariants as wrong
-use Rattle.nor_base.specs.Chip.{Setting, is_settled}
+use Rattle.nor_base.specs.Chip.{Setting, Chip, ready}
+use Rattle.nor_base.specs.Effect.{effect}
+use Rattle.nor_base.specs.Run.{IsGoodRun}
 use Rattle.nor_laws.specs.Worked.{tiny, tiny_chip, blank, Leaves, StopsAt, chip_with, enable, program_at_5, one_byte_at_5}
 
 abbrev pub here : Setting
@@ -36,9 +38,30 @@ VerifiesNothing = StopsAt here blank (Verify (codes "00000110") (0 ∷ []) ∷ [
 abbrev pub NineClocks : Type 0
 NineClocks = StopsAt here blank (Send (codes "00000011000000000000000000000000" ++ codes ".........") ∷ []) 0 wrong.Ignored (chip_with blank false false 0 (2 ∷ []))
 
--- a run that ends with the latch set isn't settled
+-- a run that ends with the latch set, or busy, isn't good
 abbrev pub LatchIsLeft : Type 0
-LatchIsLeft = is_settled here (chip_with blank true false 0 (2 ∷ [])) ≡ false
+LatchIsLeft = (d : Chip) → IsGoodRun here (ready here blank) (enable ∷ []) d → ⊥
+
+abbrev pub BusyIsLeft : Type 0
+BusyIsLeft = (d : Chip) → IsGoodRun here (ready here blank) (enable ∷ program_at_5 ∷ []) d → ⊥
+
+-- a quad read without the quad setting is ignored
+abbrev pub single : Setting
+single = record here { start = record { mode4 = false; quad = false } }
+
+abbrev pub QuadOff : Type 0
+QuadOff = StopsAt single blank (Verify (codes "01101011000000000000000000000000" ++ codes "--==") (255 ∷ []) ∷ []) 0 wrong.Ignored (chip_with blank false false 0 (2 ∷ []))
+
+-- an erase in the middle of a block, without the latch: the latch is looked at first
+abbrev pub LatchFirst : Type 0
+LatchFirst = StopsAt here blank (Send (codes "00100000000000000000000000001000") ∷ []) 0 wrong.Ignored (chip_with blank false false 0 (2 ∷ []))
+
+-- the status: 02h with the latch set; 03h while busy, each byte of one read, which counts once
+abbrev pub StatusOfLatch : Type 0
+StatusOfLatch = effect here (chip_with blank true false 0 []) (codes "00000101........") ≡ Ok (chip_with blank true false 0 [], 2 ∷ [])
+
+abbrev pub StatusOfBusy : Type 0
+StatusOfBusy = effect here (chip_with blank false false 2 []) (codes "00000101................") ≡ Ok (chip_with blank false false 1 [], 3 ∷ 3 ∷ [])
 
 -- F0h over F0h: no bit rises; with the profile of erased bytes it is refused all the same
 abbrev pub kept : List ℕ

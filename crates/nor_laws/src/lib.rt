@@ -4,7 +4,7 @@
 
 pub mod worked;
 
-ghost use Rattle.nor_laws.specs.Laws.{SymbolsFound, SamplesApart, OneText, OneList, TextsApart, NoProperPrefix, OneRow, FindsRow, RowFound, LegalInRegion, LegalOnChip, RegionLegal, BlocksNest, KeepsSize, AsksSampled, GivesSampled, PollEnds, PollCount, PollNeedsAll, BoundedIsRun, RunEndsTrail, ProgramPutsByte, RaisedForByte, NotErasedForByte, ProgramKeepsOthers, ProgramJudgedByPage, EraseFills, EraseKeepsOthers, EraseNeverJudged, TargetKeeps, TargetGives, FirstInParts, GivesInParts};
+ghost use Rattle.nor_laws.specs.Laws.{SymbolsFound, SamplesApart, OneText, OneList, TextsApart, NoProperPrefix, OneRow, FindsRow, RowFound, LegalInRegion, LegalOnChip, RegionLegal, BlocksNest, KeepsSize, AsksSampled, GivesSampled, PollEnds, PollCount, PollNeedsAll, BoundedIsRun, EventsAreTrail, RunEndsTrail, ProgramPutsByte, RaisedForByte, NotErasedForByte, ProgramKeepsOthers, ProgramJudgedByPage, EraseFills, EraseKeepsOthers, EraseNeverJudged, TargetKeeps, TargetGives, FirstInParts, GivesInParts};
 
 /// A clock is found by its symbol, and no two clocks have the same lanes: a list of samples means its instruction.
 pub fn symbols()
@@ -49,6 +49,11 @@ pub fn polls()
     ensures ends { PollEnds }
     ensures count { PollCount }
     ensures all { PollNeedsAll }
+{}
+
+/// The chips of a run's events, one after another, are its trail.
+pub fn run_events()
+    ensures { EventsAreTrail }
 {}
 
 /// With a bound on polls above all that is left busy, now and later, a run is the run without a bound.

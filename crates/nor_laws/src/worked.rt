@@ -3,8 +3,8 @@
 
 ghost use Rattle.std.specs.Prelude.{true, false};
 ghost use Rattle.nor_laws.specs.Worked.{EnableSetsLatch, ProgramWrites, PollWaits, PollCountsThree, TimesInTurn, NoTimeLeft, BusyIgnores, ProgramWraps, LastByteCounts, RaiseIsWrong, NoLatchIgnores, EnterPlain, EnterLatched, LeaveLatched, EnterNeedsLatch, QuadProgramsAndReads, DedicatedErase, EraseInMidBlock, BrokenIsIgnored, UnknownOpcode, SevenClocks, ReadsLastByte, ReadPastEnd, OneByteText, OneByteTextLength, OneByteRun, WidestIsAccepted, BlocksOfMap, NoBlocksOfMap, TargetOfOne, TargetAtTheEnd, IgnoredOfFour};
-ghost use Rattle.nor_laws.specs.Stops.{ReadsAnother, LongPollIdle, LongPollBusy, VerifiesStatus, VerifiesNothing, NineClocks, LatchIsLeft, CoversKept, CoversKeptElsewhere, RoundInLeast, OnInLarger};
-ghost use Rattle.nor_laws.specs.Planning.{EraseRestores, PageOutside, LowerOfTwoKinds, BorderParts, NoBlockIsFault, CutAtKept, ErasedOnlyIsDue, Strategies, InMode, ThreeBytes, DedicatedFar, EntersAndLeaves, EntersLatched, NothingToDo, BeyondReach, ErasesAndReads, QuadDedicated, QuadLegacy};
+ghost use Rattle.nor_laws.specs.Stops.{ReadsAnother, LongPollIdle, LongPollBusy, VerifiesStatus, VerifiesNothing, NineClocks, LatchIsLeft, BusyIsLeft, QuadOff, LatchFirst, StatusOfLatch, StatusOfBusy, CoversKept, CoversKeptElsewhere, RoundInLeast, OnInLarger};
+ghost use Rattle.nor_laws.specs.Planning.{EraseRestores, PageOutside, LowerOfTwoKinds, BorderParts, SpansPage, VerifiesBlock, VerifiesNone, VerifiesPage, Reached, NoBlockIsFault, CutAtKept, ErasedOnlyIsDue, Strategies, InMode, ThreeBytes, DedicatedFar, EntersAndLeaves, EntersLatched, NothingToDo, BeyondReach, ErasesAndReads, QuadDedicated, QuadLegacy};
 
 /// An enable, programs, polls and what is refused while busy, without the latch or over a 0.
 pub fn programs_worked()
@@ -71,8 +71,8 @@ pub fn targets_worked()
     ensures ignored { IgnoredOfFour }
 {}
 
-/// A verifying read of another byte, polls and reads of other forms, a latch that is left set, the profile of erased bytes,
-/// and pages of two sizes.
+/// A verifying read of another byte, polls and reads of other forms, what is left set or busy, the order of what is looked at,
+/// the status, the profile of erased bytes, and pages of two sizes.
 pub fn stops_worked()
     ensures mismatch { ReadsAnother }
     ensures idle { LongPollIdle }
@@ -80,7 +80,12 @@ pub fn stops_worked()
     ensures status { VerifiesStatus }
     ensures nothing { VerifiesNothing }
     ensures nine { NineClocks }
-    ensures latch { LatchIsLeft }
+    ensures latch_left { LatchIsLeft }
+    ensures busy_left { BusyIsLeft }
+    ensures quad { QuadOff }
+    ensures first { LatchFirst }
+    ensures status_latch { StatusOfLatch }
+    ensures status_busy { StatusOfBusy }
     ensures kept { CoversKept }
     ensures elsewhere { CoversKeptElsewhere }
     ensures least { RoundInLeast }
@@ -94,6 +99,11 @@ pub fn units_worked()
     ensures page { PageOutside }
     ensures kinds { LowerOfTwoKinds }
     ensures border { BorderParts }
+    ensures span { SpansPage }
+    ensures verified { VerifiesBlock }
+    ensures unverified { VerifiesNone }
+    ensures page_read { VerifiesPage }
+    ensures reached { Reached }
     ensures fault { NoBlockIsFault }
     ensures cut { CutAtKept }
     ensures due { ErasedOnlyIsDue }

@@ -33,3 +33,23 @@ returns-clause-cut c = refl
 pub returns-clause-due : goal.returns-clause-due
 unfolding units units_over page_programs erased_at levelled lies_in_needed is_needed smallest block_at is_legal lacks_erase
 returns-clause-due c = refl
+
+pub returns-clause-span : goal.returns-clause-span
+unfolding units units_over page_programs erased_at levelled lies_in_needed is_needed smallest block_at is_legal lacks_erase
+returns-clause-span c = refl
+
+pub returns-clause-verified : goal.returns-clause-verified
+unfolding units units_over page_programs erased_at levelled lies_in_needed is_needed smallest block_at is_legal lacks_erase
+returns-clause-verified c = refl
+
+pub returns-clause-unverified : goal.returns-clause-unverified
+unfolding units units_over page_programs erased_at levelled lies_in_needed is_needed smallest block_at is_legal lacks_erase
+returns-clause-unverified c = refl
+
+pub returns-clause-page_read : goal.returns-clause-page_read
+unfolding units units_over page_programs erased_at levelled lies_in_needed is_needed smallest block_at is_legal lacks_erase
+returns-clause-page_read c = refl
+
+pub returns-clause-reached : goal.returns-clause-reached
+unfolding units units_over page_programs erased_at levelled lies_in_needed is_needed smallest block_at is_legal lacks_erase
+returns-clause-reached c = refl
