@@ -13,9 +13,9 @@ pub record Parameters : Type 0 where
   -- FF00h DWORD 2, the density; DWORD 11 bits 7:4, the page
   pub size : ℕ
   pub page : ℕ
-  -- a table too short for DWORD 11 tells only that the page is 64 bytes or larger: `page` is the least that it may be
+  -- a basic table of fewer than 16 DWORDs tells only that the page is 64 bytes or larger: `page` is the least that it may be
   pub open_page : Bool
-  -- address bytes of the legacy opcodes: DWORD 1 bits 18:17
+  -- address bytes of the legacy opcodes: DWORD 1 bits 18:17; four also by DWORD 16 bit 30
   pub width : Width
   -- the slots of erase kinds 1 to 4: DWORDs 8 and 9, dedicated opcodes in FF84h DWORD 2
   pub erases : List (Option Erase)

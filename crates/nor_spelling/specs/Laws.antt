@@ -8,7 +8,7 @@ use Rattle.nor_base.specs.Spelling.{Instr, Spells}
 use Rattle.nor_base.specs.Operations.{poll}
 use Rattle.nor_base.specs.Clocks.{clocks_of, HasRow, IsSendable}
 
--- where the opcode has a row that agrees, its clocks spell the instruction
+-- where the opcode has a row that agrees, and the instruction fits its clocks, these spell it
 abbrev pub HasSpelling : Type 0
 HasSpelling = (m : Parameters) (mode4 : Bool) (i : Instr) → HasRow m mode4 i → IsSendable i → Spells m mode4 i (clocks_of i)
 

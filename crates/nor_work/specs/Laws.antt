@@ -11,7 +11,7 @@ use Rattle.nor_base.specs.Strategies.{strategy}
 use Rattle.nor_base.specs.Need.{is_at_fault}
 use Rattle.nor_base.specs.Planned.{ArePlanned, planned_units, IsInTheMaking}
 
--- a content and a target of a chip: a byte for each address, and no address at fault
+-- a content and a target of a chip's size, the target of bytes, and no address at fault
 pub record IsWorkable (m : Parameters) (start : Start) (have want : List ℕ) : Type 0 where
   pub accepted : IsAccepted m
   pub have_size : length have ≡ m.size
