@@ -1,2 +1,5 @@
 mod HexLemmas
 mod VerifyLemmas
+mod DigitLemmas
+mod LineLemmas
+mod ReadLemmas

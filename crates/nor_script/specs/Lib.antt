@@ -1,1 +1,4 @@
 pub mod Verify
+pub mod Line
+pub mod Parts
+pub mod Faults

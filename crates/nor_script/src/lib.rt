@@ -2,10 +2,15 @@
 //! one LF. `docs/FORMATS.md`, "Script text", has the format.
 //!
 //! [`begin`], then [`write_step`] for each step, then [`finish`] with their number write a script. None of them takes
-//! memory.
+//! memory. [`read`] reads one back, or tells its first fault.
 #![tactic(auto)]
 
+mod fault;
 mod hexadecimal;
+mod line;
+mod reader;
 mod writer;
 
+pub use fault::ScriptFault;
+pub use reader::read;
 pub use writer::{begin, finish, write_step};

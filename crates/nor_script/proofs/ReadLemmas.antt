@@ -1,0 +1,238 @@
+-- The reading of a script, line by line.
+use Rattle.std.proofs.Common.{◌≡◌, ◌≢◌, ℕ, ◌+◌, ◌-◌, ◌<◌, ◌≤◌, ◌==◌, ◌||◌, not, Bool, true, false, cond, if◌then◌else◌, List, [], ◌∷◌, ◌++◌, length, take, drop, get_or, Option, Some, None, Result, Ok, Err, ◌⊎◌, inl, inr, refl, sym, ◌∙◌, ap, subst, arith, append_assoc, append-nil, eqb-true}
+use Rattle.std.specs.Prelude.{codes, decimal, position, IfSome, IfErr, IsErrAnd}
+use Rattle.std.specs.List.{AllByRecursion, list_any, list_all, position_or_len, before_first, after_first}
+use Rattle.std.specs.Str.{bytes_eq}
+use Rattle.std.proofs.lemmas.Bool.{ltb-true, ltb-false}
+use Rattle.std.proofs.lemmas.List.{take_rest, get_or-take, take-append-drop, length-take-le}
+use Rattle.std.proofs.lemmas.List.Sums.{fails_before_first, passes_at_first, split_at_first}
+use Rattle.std.proofs.lemmas.List.Folds.{list_any_none}
+use Rattle.std.proofs.lemmas.Slice.Eq.{bytes_eq-Decides}
+use Rattle.std.proofs.lemmas.Grind.{flat_map-append}
+use Rattle.nor_base.specs.declared.step.Step.{Step}
+use Rattle.nor_base.specs.Sample.{is_symbol}
+use Rattle.nor_base.specs.Step.{IsStep, is_filled}
+use Rattle.nor_base.specs.Script.{closed, step_line, header, end_line, step_lines, script_text, IsScript}
+use Rattle.nor_script.specs.declared.fault.ScriptFault.{ScriptFault}
+use Rattle.nor_script.specs.declared.fault.ScriptFault.TheVariants.{Header, BadLine, BadSymbol, BadCount, NoEnd, AfterEnd, Memory}
+use Rattle.nor_script.specs.Line.{is_end, is_blank, are_two_parts, are_pairs, clocks_fault, verify_fault, step_fault, count_fault, line_fault, SpellsStep}
+use Rattle.nor_script.specs.Parts.{TellsFault, or_fault}
+use Rattle.nor_script.specs.Faults.{is_line_feed, BeginsWith, IsRight, HasBadLine, Refuses}
+
+-- where a search finds a place, and where it finds none
+place_found : (b : Bool) (n i : ℕ) → cond b (Some n) None ≡ Some i → (b ≡ true) × (n ≡ i)
+place_found true n i h = (refl, cc)
+place_found false n i h = cc
+
+place_missed : (b : Bool) (n : ℕ) → cond b (Some n) None ≡ None → b ≡ false
+place_missed true n h = cc
+place_missed false n h = refl
+
+pub unclosed : (text : List ℕ) → position is_line_feed text ≡ None → list_any is_line_feed text ≡ false
+unclosed text h =
+    let past : length text ≤ position_or_len is_line_feed text = ltb-false _ _ (place_missed _ _ h) in
+    list_any_none is_line_feed text (λ k d below. fails_before_first is_line_feed text k d (omega (arith, past)))
+
+none_before : (p : ℕ → Bool) (xs : List ℕ) (i : ℕ) → i ≤ position_or_len p xs → i ≤ length xs → list_any p (take i xs) ≡ false
+none_before p xs i first inside =
+    list_any_none p (take i xs) (λ k d below.
+    let short : k < i = omega (arith, length-take-le i xs inside) in
+    ap p (get_or-take i xs k d short) ∙ fails_before_first p xs k d (omega arith))
+
+pub begins : (text : List ℕ) (i : ℕ) → position is_line_feed text ≡ Some i → BeginsWith text (take i text) (take (length text - (i + 1)) (drop (i + 1) text))
+begins text i h =
+    let place = place_found _ _ i h in
+    let first = place.1 in
+    let inside : position_or_len is_line_feed text < length text = ltb-true _ _ place.0 in
+    let feed : get_or text (position_or_len is_line_feed text) 0 ≡ 10 = eqb-true _ 10 (passes_at_first is_line_feed text 0 inside) in
+    let cut : text ≡ take (position_or_len is_line_feed text) text ++ 10 ∷ drop (position_or_len is_line_feed text + 1) text =
+    split_at_first is_line_feed text 0 inside ∙ ap (λ c. before_first is_line_feed text ++ c ∷ after_first is_line_feed text) feed in
+    record {
+      whole = cut ∙ ap (λ n. take n text ++ 10 ∷ drop (n + 1) text) first
+          ∙ sym (append_assoc (take i text) (10 ∷ []) (drop (i + 1) text))
+          ∙ ap (λ l. closed (take i text) ++ l) (sym (take_rest text (i + 1)));
+      one = none_before is_line_feed text i (omega arith) (omega arith);
+    }
+
+-- the rest is shorter
+pub shorter : (text line rest : List ℕ) → BeginsWith text line rest → length rest < length text
+shorter text line rest first = rw first.whole (long line rest)
+  where
+    long : (line rest : List ℕ) → length rest < length (closed line ++ rest)
+    long [] rest = omega arith
+    long (byte ∷ line) rest = let more = long line rest in omega arith
+
+-- nothing is read yet
+pub begun : (text rest : List ℕ) → text ≡ header ++ rest → IsRight text [] rest
+unfolding step_lines
+begun text rest is = record { each = tt; whole = is }
+
+each_more : (above : List Step) (step : Step) → AllByRecursion IsStep above → IsStep step → AllByRecursion IsStep (above ++ step ∷ [])
+each_more [] step each here = (here, tt)
+each_more (x ∷ above) step each here = (each.0, each_more above step each.1 here)
+
+lines_more : (above : List Step) (step : Step) (rest : List ℕ) → step_lines (above ++ step ∷ []) ++ rest ≡ step_lines above ++ (closed (step_line step) ++ rest)
+unfolding step_lines
+lines_more above step rest =
+    ap (λ l. l ++ rest) (flat_map-append (λ x. closed (step_line x)) above (step ∷ []) ∙ ap (λ l. step_lines above ++ l) (append-nil (closed (step_line step))))
+    ∙ append_assoc (step_lines above) (closed (step_line step)) rest
+
+-- one step more
+pub one_more : (text : List ℕ) (above after : List Step) (rest line more : List ℕ) (step : Step) → IsRight text above rest → BeginsWith rest line more → SpellsStep line step
+    → after ≡ above ++ step ∷ [] → IsRight text after more
+one_more text above after rest line more step right first spells added =
+    subst (λ (steps : List Step). IsRight text steps more) (sym added) (record {
+      each = each_more above step right.each spells.is_one;
+      whole = right.whole ∙ ap (λ l. header ++ (step_lines above ++ l)) (first.whole ∙ ap (λ l. closed l ++ more) spells.spelled)
+          ∙ ap (λ l. header ++ l) (sym (lines_more above step more));
+    })
+
+-- an end line with the number of steps
+end_is : (line : List ℕ) (n : ℕ) → is_end line ≡ true → count_fault n (drop 4 line) ≡ None → closed line ≡ end_line n
+unfolding end_line
+end_is line n ends counted =
+    ap closed (sym (take-append-drop 4 line) ∙ ap (λ l. l ++ drop 4 line) ((bytes_eq-Decides (take 4 line) (codes "end ")).0 ends)
+    ∙ ap (λ l. codes "end " ++ l) ((bytes_eq-Decides (drop 4 line) (decimal n)).0 (same (bytes_eq (drop 4 line) (decimal n)) n counted)))
+  where
+    same : (b : Bool) (n : ℕ) → (if b then None else Some (BadCount (n + 2))) ≡ None → b ≡ true
+    same true n h = refl
+    same false n h = cc
+
+text_then : (text : List ℕ) (steps : List Step) (rest line more : List ℕ) → IsRight text steps rest → BeginsWith rest line more → is_end line ≡ true
+    → count_fault (length steps) (drop 4 line) ≡ None → text ≡ script_text steps ++ more
+unfolding script_text
+text_then text steps rest line more right first ends counted =
+    right.whole ∙ ap (λ l. header ++ (step_lines steps ++ l)) (first.whole ∙ ap (λ l. l ++ more) (end_is line (length steps) ends counted))
+    ∙ ap (λ l. header ++ l) (sym (append_assoc (step_lines steps) (end_line (length steps)) more))
+    ∙ sym (append_assoc header (step_lines steps ++ end_line (length steps)) more)
+
+none_left : (o : Option ScriptFault) → or_fault o ≡ Ok tt → o ≡ None
+none_left None h = refl
+none_left (Some fault) h = cc
+
+fault_left : (o : Option ScriptFault) (fault : ScriptFault) → or_fault o ≡ Err fault → o ≡ Some fault
+fault_left None fault h = cc
+fault_left (Some f) fault h = cc
+
+-- the whole script
+pub all_read : (text : List ℕ) (steps : List Step) (rest line more : List ℕ) → IsRight text steps rest → BeginsWith rest line more → is_end line ≡ true
+    → or_fault (count_fault (length steps) (drop 4 line)) ≡ Ok tt → length more ≡ 0 → IsScript text steps
+all_read text steps rest line [] right first ends counted over = record {
+  each = right.each;
+  spelled = text_then text steps rest line [] right first ends (none_left _ counted) ∙ append-nil (script_text steps);
+}
+all_read text steps rest line (byte ∷ more) right first ends counted over = absurd (omega arith)
+
+-- something after it
+pub went_on : (text : List ℕ) (steps : List Step) (rest line more : List ℕ) → IsRight text steps rest → BeginsWith rest line more → is_end line ≡ true
+    → or_fault (count_fault (length steps) (drop 4 line)) ≡ Ok tt → length more ≢ 0 → Refuses text (AfterEnd (length steps + 3))
+went_on text steps rest line [] right first ends counted over = absurd (over refl)
+went_on text steps rest line (byte ∷ more) right first ends counted over = record {
+  steps = steps;
+  byte = byte;
+  more = more;
+  each = right.each;
+  whole = text_then text steps rest line (byte ∷ more) right first ends (none_left _ counted);
+  number = refl;
+}
+
+-- the faults of a line
+abbrev pub IsOfLine : ScriptFault → Type 0
+IsOfLine (BadLine n) = Unit {0}
+IsOfLine (BadSymbol n) = Unit {0}
+IsOfLine (BadCount n) = Unit {0}
+IsOfLine (Header n) = ⊥
+IsOfLine (NoEnd n) = ⊥
+IsOfLine (AfterEnd n) = ⊥
+IsOfLine Memory = ⊥
+
+clocks_of_line : (n : ℕ) (clocks : List ℕ) → IfSome (clocks_fault n clocks) IsOfLine
+clocks_of_line n clocks = symbols (not (is_filled clocks)) (not (list_all is_symbol clocks)) n
+  where
+    symbols : (empty other : Bool) (n : ℕ) → IfSome (if empty then Some (BadLine n) else if other then Some (BadSymbol n) else None) IsOfLine
+    symbols true other n = tt
+    symbols false true n = tt
+    symbols false false n = tt
+
+verify_of_line : (n : ℕ) (rest : List ℕ) → IfSome (verify_fault n rest) IsOfLine
+verify_of_line n rest = parts (not (are_two_parts rest)) (not (list_all is_symbol (before_first is_blank rest))) (not (are_pairs (after_first is_blank rest))) n
+  where
+    parts : (cut other odd : Bool) (n : ℕ) → IfSome (if cut then Some (BadLine n) else if other then Some (BadSymbol n) else if odd then Some (BadLine n) else None) IsOfLine
+    parts true other odd n = tt
+    parts false true odd n = tt
+    parts false false true n = tt
+    parts false false false n = tt
+
+step_of_line : (n : ℕ) (line : List ℕ) → IfSome (step_fault n line) IsOfLine
+step_of_line n [] = tt
+step_of_line n (letter ∷ []) = tt
+step_of_line n (letter ∷ blank ∷ rest) =
+    by_letter (not (is_blank blank)) (letter == 0x78 || letter == 0x70) (letter == 0x76) n (clocks_fault n rest) (verify_fault n rest) (clocks_of_line n rest) (verify_of_line n rest)
+  where
+    by_letter : (apart once other : Bool) (n : ℕ) (x y : Option ScriptFault) → IfSome x IsOfLine → IfSome y IsOfLine
+        → IfSome (if apart then Some (BadLine n) else if once then x else if other then y else Some (BadLine n)) IsOfLine
+    by_letter true once other n x y p q = tt
+    by_letter false true other n x y p q = p
+    by_letter false false true n x y p q = q
+    by_letter false false false n x y p q = tt
+
+refuses_by : (text : List ℕ) (fault : ScriptFault) → IsOfLine fault → HasBadLine text fault → Refuses text fault
+refuses_by text (BadLine n) of bad = bad
+refuses_by text (BadSymbol n) of bad = bad
+refuses_by text (BadCount n) of bad = bad
+refuses_by text (Header n) of bad = absurd of
+refuses_by text (NoEnd n) of bad = absurd of
+refuses_by text (AfterEnd n) of bad = absurd of
+refuses_by text Memory of bad = absurd of
+
+line_refused : (text : List ℕ) (steps : List Step) (rest line more : List ℕ) (fault : ScriptFault) → IsRight text steps rest → BeginsWith rest line more
+    → IsOfLine fault → line_fault (length steps) line ≡ Some fault → Refuses text fault
+line_refused text steps rest line more fault right first of here =
+    refuses_by text fault of (record { above = steps; rest = rest; line = line; more = more; right = right; first = first; here = here })
+
+-- an end line with another number
+pub count_refused : (text : List ℕ) (steps : List Step) (rest line more : List ℕ) (fault : ScriptFault) → IsRight text steps rest → BeginsWith rest line more → is_end line ≡ true
+    → or_fault (count_fault (length steps) (drop 4 line)) ≡ Err fault → Refuses text fault
+count_refused text steps rest line more fault right first ends told =
+    let there = fault_left _ fault told in
+    let of : IfSome (count_fault (length steps) (drop 4 line)) IsOfLine = counted (bytes_eq (drop 4 line) (decimal (length steps))) (length steps + 2) in
+    line_refused text steps rest line more fault right first (subst (λ (o : Option ScriptFault). IfSome o IsOfLine) there of)
+    (ap (λ b. if b then count_fault (length steps) (drop 4 line) else step_fault (length steps + 2) line) ends ∙ there)
+  where
+    counted : (b : Bool) (n : ℕ) → IfSome (if b then None else Some (BadCount n)) IsOfLine
+    counted true n = tt
+    counted false n = tt
+
+-- a line of no step
+told_or_memory : (o : Option ScriptFault) (fault : ScriptFault) → TellsFault o fault → (fault ≡ Memory) ⊎ (o ≡ Some fault)
+told_or_memory o (BadLine n) h = inr h
+told_or_memory o (BadSymbol n) h = inr h
+told_or_memory o (BadCount n) h = inr h
+told_or_memory o (Header n) h = inr h
+told_or_memory o (NoEnd n) h = inr h
+told_or_memory o (AfterEnd n) h = inr h
+told_or_memory o Memory h = inl refl
+
+pub step_refused : (text : List ℕ) (steps : List Step) (rest line more : List ℕ) (fault : ScriptFault) → IsRight text steps rest → BeginsWith rest line more → is_end line ≡ false
+    → TellsFault (step_fault (length steps + 2) line) fault → Refuses text fault
+step_refused text steps rest line more fault right first ends told =
+    elim (told_or_memory (step_fault (length steps + 2) line) fault told) [
+      | inl none ↦ subst (Refuses text) (sym none) tt
+      | inr there ↦
+          line_refused text steps rest line more fault right first
+          (subst (λ (o : Option ScriptFault). IfSome o IsOfLine) there (step_of_line (length steps + 2) line))
+          (ap (λ b. if b then count_fault (length steps) (drop 4 line) else step_fault (length steps + 2) line) ends ∙ there)
+    ]
+
+-- no end line
+pub end_missing : (text : List ℕ) (steps : List Step) (rest : List ℕ) → IsRight text steps rest → list_any is_line_feed rest ≡ false → Refuses text (NoEnd (length steps + 2))
+end_missing text steps rest right none = record { above = steps; rest = rest; right = right; unclosed = none; number = refl }
+
+-- the header is missing
+pub header_missing : (text : List ℕ) → ((rest : List ℕ) → text ≢ header ++ rest) → Refuses text (Header 1)
+header_missing text none = (refl, none)
+
+-- a fault that is handed on
+pub handed_on : {T : Type 0} (r : Result T ScriptFault) (P : ScriptFault → Type 0) (fault : ScriptFault) → P fault → IsErrAnd r (λ e. e ≡ fault) → IfErr r P
+handed_on (Ok x) P fault here is = absurd is
+handed_on (Err e) P fault here is = subst P (sym is) here

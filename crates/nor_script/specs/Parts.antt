@@ -1,0 +1,29 @@
+-- What the parts of a line are read as.
+use Rattle.std.specs.Prelude.{◌≡◌, ℕ, true, ⊤, List, flat_map, Option, Some, None, Result, Ok, Err}
+use Rattle.std.specs.List.{before_first, after_first}
+use Rattle.nor_base.specs.Array.{are_bytes}
+use Rattle.nor_base.specs.Script.{hex_pair}
+use Rattle.nor_script.specs.declared.fault.ScriptFault.{ScriptFault}
+use Rattle.nor_script.specs.declared.fault.ScriptFault.TheVariants.{Memory}
+use Rattle.nor_script.specs.Line.{is_blank, are_two_parts}
+
+-- a refusal tells the fault that there is, if any, or that memory was refused
+abbrev pub TellsFault : Option ScriptFault → ScriptFault → Type 0
+TellsFault there Memory = ⊤
+TellsFault there fault = there ≡ Some fault
+
+-- the two parts of what stands behind `v `
+pub record AreParts (rest clocks digits : List ℕ) : Type 0 where
+  pub two : are_two_parts rest ≡ true
+  pub first : clocks ≡ before_first is_blank rest
+  pub second : digits ≡ after_first is_blank rest
+
+-- the bytes are those that the digits spell
+pub record SpellsBytes (digits bytes : List ℕ) : Type 0 where
+  pub spelled : digits ≡ flat_map hex_pair bytes
+  pub small : are_bytes bytes ≡ true
+
+-- Ok where there is no fault
+abbrev pub or_fault : Option ScriptFault → Result (Unit {0}) ScriptFault
+or_fault None = Ok tt
+or_fault (Some fault) = Err fault

@@ -1,0 +1,58 @@
+//! The reader of scripts.
+
+ghost use Rattle.std.specs.Prelude.{◌≡◌, false, IfOk, IfErr, MatchOption};
+ghost use Rattle.std.specs.List.{list_any};
+ghost use Rattle.nor_base.specs.Script.{IsScript};
+ghost use Rattle.nor_script.specs.Faults.{is_line_feed, BeginsWith, Refuses};
+
+use crate::fault::ScriptFault;
+use crate::line::{check_count, place_of, step_on};
+use nor_base::Step;
+use std::alloc::Global;
+
+/// Reads a script: exactly the texts that [`crate::begin`], [`crate::write_step`] and [`crate::finish`] write.
+///
+/// The first fault is told with its line, counted from 1:
+/// - `Header`: the first line isn't `norscript 1` with its LF.
+/// - `NoEnd`: the text ends before an end line is closed by LF; before the other faults of that line.
+/// - `BadLine`: a line that is none of `x CLOCKS`, `p CLOCKS`, `v CLOCKS HEX` and `end N`, with one blank between two
+///   parts and nothing else, or a HEX that isn't pairs of lower-case digits.
+/// - `BadSymbol`: a byte of CLOCKS that is no symbol; it is told before a fault of HEX.
+/// - `BadCount`: N isn't the number of steps in decimal without leading zeros.
+/// - `AfterEnd`: a byte after the end line.
+///
+/// `Memory` where a growth is refused.
+pub fn read(alloc: Global, text: &[u8]) -> Result<Vec<Step>, ScriptFault>
+    ensures read { IfOk result (λ steps. IsScript text.now steps.items) }
+    ensures refused { IfErr result (Refuses text.now) }
+{
+    let Some(body) = text.strip_prefix(b"norscript 1\n") else {
+        return Err(ScriptFault::Header(1));
+    };
+    let mut steps = Vec::new(alloc);
+    let mut rest = body;
+    while let Some((line, more)) = first_line(rest) {
+        let count = steps.len() as u64;
+        if let Some(digits) = line.strip_prefix(b"end ") {
+            check_count(count, digits)?;
+            return if more.is_empty() {
+                Ok(steps)
+            } else {
+                Err(ScriptFault::AfterEnd(count + 3))
+            };
+        }
+        steps.push(step_on(alloc, count + 2, line)?)?;
+        rest = more;
+    }
+    Err(ScriptFault::NoEnd(steps.len() as u64 + 2))
+}
+
+/// The first line, without the LF that closes it, and what stands after it; None where no LF is left.
+fn first_line(text: &[u8]) -> Option<(&[u8], &[u8])>
+    ensures { MatchOption result (list_any is_line_feed text.now ≡ false) (λ cut. BeginsWith text.now cut.0.now cut.1.now) }
+{
+    let Some(end) = place_of(b'\n', text) else {
+        return None;
+    };
+    Some((&text[..end], &text[end + 1..]))
+}
