@@ -3,7 +3,7 @@
 ghost use Rattle.std.specs.Prelude.{◌≡◌, ◌↔◌, ◌<◌, ◌≤◌, ◌%◌, ◌^◌, IsSome, IfSome};
 ghost use Rattle.std.specs.Prelude.{◌==◌};
 ghost use Rattle.std.specs.List.{list_any};
-ghost use Rattle.nor_base.specs.Parameters.{allows, erase_kind, erased_only_set};
+ghost use Rattle.nor_base.specs.Parameters.{allows, block_size, erase_kind, erased_only_set};
 ghost use Rattle.nor_base.specs.Chip.{begins4, may_page, page_sizes};
 ghost use Rattle.nor_base.specs.Accepted.{IsAccepted};
 ghost use Rattle.nor_base.specs.Uniform.{uniform_of, IsUniformSize};
@@ -206,6 +206,23 @@ impl Meaning {
             return None;
         }
         self.erases[usize::from(kind - 1)]
+    }
+
+    /// Bytes of a block of the erase kind of a number; 0 for an absent kind and every other number than 1 to 4.
+    pub fn block_size(&self, kind: u8) -> u32
+        ensures { result ≡ block_size self.now kind }
+    {
+        match self.erase_kind(kind) {
+            Some(erase) => erase.size,
+            None => 0,
+        }
+    }
+
+    /// Whether some region allows the erase kind of a number, 1 to 4, be it present or not; no other kind is allowed.
+    pub fn is_allowed(&self, kind: u8) -> bool
+        ensures { result ≡ list_any (λ region. allows region kind) self.now.regions }
+    {
+        self.regions.iter().any(|region| region.allows(kind))
     }
 
     /// Whether a chip of this meaning may have a page of so many bytes: the meaning's own or, where that is only the

@@ -10,7 +10,7 @@ ghost use Rattle.nor_base.specs.Port.{Shown, Transacts, CountsTransact};
 ghost use Rattle.nor_chip.specs.Ready.{paged, ready_chip};
 ghost use Rattle.nor_chip.specs.Sent.{instruction_of, sent};
 
-use crate::erase::{block_size, fill_block};
+use crate::erase::fill_block;
 use crate::port::Port;
 use crate::program::{barred, is_barred, program};
 use crate::rules::{is_broken, is_out_of_range, is_program, is_quad, is_status, needs_latch};
@@ -221,7 +221,7 @@ impl<'a> Chip<'a> {
     {
         let meaning = self.meaning;
         meaning.is_accepted();
-        let size = block_size(meaning, kind);
+        let size = meaning.block_size(kind);
         fill_block(self.array.as_mut_slice(), start as usize, size as usize);
         self.accept();
     }

@@ -1,12 +1,10 @@
 //! The instruction table (W25Q256JV datasheet, "Instruction Set Table"; JESD216B for what is a chip's own).
 
 ghost use Rattle.std.specs.Prelude.{◌≡◌, ◌≤◌, ◌==◌, ◌&&◌, [], ◌∷◌, find, is_some, true};
-ghost use Rattle.std.specs.List.{list_any};
 ghost use Rattle.nor_base.specs.Instructions.{row, by_mode, row_of, common_rows, quad_read_row, erase_rows};
-ghost use Rattle.nor_base.specs.Parameters.{allows};
 ghost use Rattle.nor_decode.specs.Table.{rows_by};
 
-use nor_base::{Erase, Meaning, Region, Switch, What};
+use nor_base::{Erase, Meaning, Switch, What};
 use std::marker::Model;
 
 /// A row that a chip offers.
@@ -116,7 +114,7 @@ fn erase_row(opcode: u8, meaning: &Meaning, mode4: bool, kind: u8) -> Option<Row
     ensures { result ≡ find (λ r. (opcode == r.opcode) && r.offered) (erase_rows meaning.now mode4 kind) }
 {
     let row = row_of_kind(opcode, meaning.erase_kind(kind), mode4, kind)?;
-    if some_region_allows(&meaning.regions, kind) {
+    if meaning.is_allowed(kind) {
         Some(row)
     } else {
         None
@@ -136,11 +134,4 @@ fn row_of_kind(opcode: u8, erase: Option<Erase>, mode4: bool, kind: u8) -> Optio
     } else {
         None
     }
-}
-
-/// Whether some region allows the kind.
-fn some_region_allows(regions: &[Region], kind: u8) -> bool
-    ensures { result ≡ list_any (λ region. allows region kind) regions.now }
-{
-    regions.iter().any(|region| region.allows(kind))
 }

@@ -101,7 +101,7 @@ fn erases_in(meaning: &Meaning, region: &Region, kind: u8) -> bool
 fn is_least(meaning: &Meaning, region: &Region, kind: u8) -> bool
     ensures { result ≡ is_least meaning.now region.now kind }
 {
-    !some_is_smaller(meaning, region, &KINDS, size_of(meaning, kind))
+    !some_is_smaller(meaning, region, &KINDS, meaning.block_size(kind))
 }
 
 /// Whether one of some kinds is one of the region's and its blocks have fewer bytes.
@@ -117,17 +117,7 @@ fn some_is_smaller(meaning: &Meaning, region: &Region, kinds: &[u8], size: u32) 
 fn is_smaller(meaning: &Meaning, region: &Region, kind: u8, size: u32) -> bool
     ensures { result ≡ (erases_in meaning.now region.now kind && nat_lt (block_size meaning.now kind) size) }
 {
-    erases_in(meaning, region, kind) && size_of(meaning, kind) < size
-}
-
-/// The bytes of a block of the kind; 0 where the chip hasn't the kind.
-fn size_of(meaning: &Meaning, kind: u8) -> u32
-    ensures { result ≡ block_size meaning.now kind }
-{
-    match meaning.erase_kind(kind) {
-        Some(erase) => erase.size,
-        None => 0,
-    }
+    erases_in(meaning, region, kind) && meaning.block_size(kind) < size
 }
 
 /// Whether the kind has an opcode that takes four address bytes in each mode.

@@ -1,13 +1,11 @@
 //! Windows: the parts in which a chip's content is worked on.
 
 ghost use Rattle.std.specs.Prelude.{◌≡◌, ℕ, ◌<◌, ◌≤◌, ◌+◌, ◌%◌};
-ghost use Rattle.std.specs.List.{list_any};
-ghost use Rattle.nor_base.specs.Parameters.{allows};
 ghost use Rattle.nor_base.specs.Accepted.{IsPowerOfTwo};
 ghost use Rattle.nor_base.specs.Blocks.{Block, IsLegalBlock};
 ghost use Rattle.nor_geometry.specs.Window.{IsWindowSize, IsUncrossed, live_size};
 
-use nor_base::{Meaning, Region};
+use nor_base::Meaning;
 
 /// The least window.
 const LEAST: u32 = 4096;
@@ -33,18 +31,8 @@ pub fn window_size(meaning: &Meaning) -> u32
 fn live_size(meaning: &Meaning, kind: u8) -> u32
     ensures { result ≡ live_size meaning.now kind }
 {
-    if !is_allowed(&meaning.regions, kind) {
+    if !meaning.is_allowed(kind) {
         return 0;
     }
-    match meaning.erase_kind(kind) {
-        Some(erase) => erase.size,
-        None => 0,
-    }
-}
-
-/// Whether some region allows the kind.
-fn is_allowed(regions: &[Region], kind: u8) -> bool
-    ensures { result ≡ list_any (λ region. allows region kind) regions.now }
-{
-    regions.iter().any(|region| region.allows(kind))
+    meaning.block_size(kind)
 }
