@@ -82,7 +82,8 @@ fn lies_in(intervals: &[Interval], address: u32) -> bool
 
 /// What the interval that comes first at or past `from` has from there on.
 fn next_run_in(intervals: &[Interval], from: u32) -> Option<(u32, u32)>
-    ensures { MatchOption result (HasNoneChosen (lies_in intervals.now) from) (λ run. IsChosenRun (lies_in intervals.now) from run.0 run.1) }
+    ensures { MatchOption result (HasNoneChosen (lies_in intervals.now) from)
+        (λ run. IsChosenRun (lies_in intervals.now) from run.0 run.1) }
 {
     let mut next = None;
     for interval in intervals {
