@@ -1,5 +1,5 @@
 -- Which addresses named regions choose.
-use Rattle.std.specs.Prelude.{◌≡◌, ℕ, Bool, true, false, not, ◌&&◌, ◌||◌, nat_le, Option, Some, None, List, [], ◌∷◌, position}
+use Rattle.std.specs.Prelude.{◌≡◌, ℕ, ◌<◌, ◌≤◌, Bool, true, false, not, ◌&&◌, ◌||◌, nat_le, nat_lt, Option, Some, None, List, [], ◌∷◌, position}
 use Rattle.std.specs.List.{list_any}
 use Rattle.std.specs.Str.{bytes_eq}
 use Rattle.nor_layout.specs.declared.chosen.Interval.{Interval}
@@ -36,6 +36,22 @@ lies_in intervals address = list_any (λ interval. nat_le interval.start address
 abbrev pub has : Option (List Interval) → ℕ → Bool
 has None address = true
 has (Some intervals) address = lies_in intervals address
+
+-- no address from this one on is chosen
+abbrev pub HasNoneChosen : (ℕ → Bool) → ℕ → Type 0
+HasNoneChosen is_chosen from = (address : ℕ) → from ≤ address → is_chosen address ≡ false
+
+-- `first` is the lowest chosen address at or past `from`, and each from it to `last` is chosen
+pub record IsChosenRun (is_chosen : ℕ → Bool) (from first last : ℕ) : Type 0 where
+  pub past : from ≤ first
+  pub some : first ≤ last
+  pub none_before : (address : ℕ) → from ≤ address → address < first → is_chosen address ≡ false
+  pub each : (address : ℕ) → first ≤ address → address ≤ last → is_chosen address ≡ true
+
+-- the address lies before the first of a run, as each does before none
+abbrev pub is_before : ℕ → Option (ℕ × ℕ) → Bool
+is_before address None = true
+is_before address (Some run) = nat_lt address run.0
 
 -- what a refused choice says of the regions and names: memory is asked for only where each name is known
 abbrev pub RefusesChoice : List Region → List (List ℕ) → LayoutFault → Type 0

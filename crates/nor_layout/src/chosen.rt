@@ -1,7 +1,7 @@
 //! A choice of addresses.
 
-ghost use Rattle.std.specs.Prelude.{◌≡◌, ℕ, Some, None, IfOk, IfErr};
-ghost use Rattle.nor_layout.specs.Chosen.{has, is_named, lies_in, lies_in_named};
+ghost use Rattle.std.specs.Prelude.{◌≡◌, ℕ, Some, None, IfOk, IfErr, MatchOption};
+ghost use Rattle.nor_layout.specs.Chosen.{has, is_named, lies_in, lies_in_named, is_before, HasNoneChosen, IsChosenRun};
 ghost use Rattle.nor_layout.specs.declared.fault.LayoutFault.TheVariants.{Memory};
 
 use crate::fault::LayoutFault;
@@ -51,6 +51,18 @@ impl Chosen {
         }
     }
 
+    /// The lowest chosen address at or past `from`, with the last of some addresses from there on that
+    /// are all chosen; None where no address from `from` on is chosen. The one after the last may be
+    /// chosen too. It takes no memory, and its time grows with the number of regions chosen.
+    pub fn next_run(&self, from: u32) -> Option<(u32, u32)>
+        ensures { MatchOption result (HasNoneChosen (has self.now) from) (λ run. IsChosenRun (has self.now) from run.0 run.1) }
+    {
+        match &self.intervals {
+            None => Some((from, u32::MAX)),
+            Some(intervals) => next_run_in(intervals, from),
+        }
+    }
+
     /// The addresses of the intervals.
     pub(crate) fn of(intervals: Vec<Interval>) -> Chosen
         ensures { result ≡ Some intervals.items }
@@ -66,6 +78,31 @@ fn lies_in(intervals: &[Interval], address: u32) -> bool
     ensures { result ≡ lies_in intervals.now address }
 {
     intervals.iter().any(|interval| interval.start <= address && address <= interval.end)
+}
+
+/// What the interval that comes first at or past `from` has from there on.
+fn next_run_in(intervals: &[Interval], from: u32) -> Option<(u32, u32)>
+    ensures { MatchOption result (HasNoneChosen (lies_in intervals.now) from)
+        (λ run. IsChosenRun (lies_in intervals.now) from run.0 run.1) }
+{
+    let mut next = None;
+    for interval in intervals {
+        let first = interval.start.max(from);
+        if first <= interval.end && is_before(first, next) {
+            next = Some((first, interval.end));
+        }
+    }
+    next
+}
+
+/// Whether an address lies before a run, as it does where there is none.
+fn is_before(address: u32, run: Option<(u32, u32)>) -> bool
+    ensures { result ≡ is_before address run }
+{
+    match run {
+        Some((first, _)) => address < first,
+        None => true,
+    }
 }
 
 /// The intervals of the regions with these names.

@@ -1,3 +1,3 @@
+mod CountLemmas
 mod PartLemmas
-mod PlaceLemmas
 mod RunLemmas

@@ -11,8 +11,8 @@ ghost use Rattle.std.specs.List.Sorted.{IsStrictlyIncreasing};
 ghost use Rattle.nor_base.specs.Target.{target, target_byte, is_ignored};
 ghost use Rattle.nor_hex.specs.Image.{byte_at, addresses};
 ghost use Rattle.nor_layout.specs.Chosen.{has};
-ghost use Rattle.nor_target.specs.Ignored.{HasNoPlace};
-ghost use Rattle.nor_target.specs.Runs.{HasNoRun, IsNextRun, IsLaid};
+ghost use Rattle.nor_target.specs.Ignored.{HasNoPlace, ignored_below};
+ghost use Rattle.nor_target.specs.Runs.{HasNoChosen, IsNextChosen, HasNoRun, IsNextRun, IsLaid};
 
 #[cfg(test)]
 mod tests;
@@ -34,9 +34,40 @@ pub fn fill(image: &Image, base: u32, chosen: &Chosen, at: u32, have: &[u8], wan
 {
     want.copy_from_slice(have);
     let mut done = 0;
-    while let Some((begin, bytes)) = next_run(image, base, at, done, have.len()) {
-        lay(want, begin, bytes, chosen, at);
-        done = begin + bytes.len();
+    while let Some((begin, end)) = next_chosen(chosen, at, done, have.len()) {
+        lay(want, image, base, at, begin, end);
+        done = end;
+    }
+}
+
+/// The next chosen places from `done` on and below `len`, the first and the one past the last. Place 0 is the chip's
+/// address `at`.
+fn next_chosen(chosen: &Chosen, at: u32, done: usize, len: usize) -> Option<(usize, usize)>
+    requires done { done ≤ len }
+    requires inside { at + len ≤ 2 ^ 32 }
+    ensures { MatchOption result (HasNoChosen (has chosen.now) at done len) (λ p. IsNextChosen (has chosen.now) at done len p.0 p.1) }
+{
+    let address = u32::try_from(u64::from(at) + done as u64).ok()?;
+    let (first, last) = chosen.next_run(address)?;
+    let begin = (first - at) as usize;
+    if begin >= len {
+        return None;
+    }
+    let end = (last - at) as usize + 1;
+    Some((begin, end.min(len)))
+}
+
+/// Lays the image's bytes over the places from `begin` on and below `end`. Place 0 is the chip's address `at`.
+fn lay(want: &mut [u8], image: &Image, base: u32, at: u32, begin: usize, end: usize)
+    requires order { begin ≤ end }
+    requires within { end ≤ length want.old }
+    requires inside { at + end ≤ 2 ^ 32 }
+    ensures { IsLaid (byte_at image.now) base at want.old want.new begin end }
+{
+    let mut done = begin;
+    while let Some((first, bytes)) = next_run(image, base, at, done, end) {
+        done = first + bytes.len();
+        want[first..done].copy_from_slice(bytes);
     }
 }
 
@@ -58,25 +89,41 @@ fn next_run(image: &Image, base: u32, at: u32, done: usize, len: usize) -> Optio
     Some((begin, &run[..run.len().min(len - begin)]))
 }
 
-/// Lays a run over the chosen of its places, the first of which is `begin`, from the chip's address `at` on.
-fn lay(want: &mut [u8], begin: usize, run: &[u8], chosen: &Chosen, at: u32)
-    requires within { begin + length run.now ≤ length want.old }
-    requires inside { at + length want.old ≤ 2 ^ 32 }
-    ensures { IsLaid want.old want.new begin run.now (λ k. has chosen.now (at + k)) (length run.now) }
-{
-    for (i, byte) in run.iter().enumerate() {
-        if chosen.has(at + (begin + i) as u32) {
-            want[begin + i] = *byte;
-        }
-    }
-}
-
 /// How many addresses of the image are `base + a` for no chosen address a below `size` (bytes of the chip). It takes no
 /// memory.
 pub fn ignored(image: &Image, base: u32, chosen: &Chosen, size: u32) -> u64
     ensures count { result ≡ count_by (λ pair. is_ignored base (has chosen.now) size pair.0) image.now }
     ensures each_once { IsStrictlyIncreasing (addresses image.now) }
     ensures which { (at : ℕ) → (is_ignored base (has chosen.now) size at ≡ true) ↔ HasNoPlace base (has chosen.now) size at }
+{
+    if u64::from(base) + u64::from(size) <= 1 << 32 {
+        ignored_by_runs(image, base, chosen, size)
+    } else {
+        ignored_one_by_one(image, base, chosen, size)
+    }
+}
+
+/// What `ignored` counts, where the chip ends in the image's address space.
+fn ignored_by_runs(image: &Image, base: u32, chosen: &Chosen, size: u32) -> u64
+    requires { base + size ≤ 2 ^ 32 }
+    ensures count { result ≡ ignored_below image.now base (has chosen.now) size }
+    ensures each_once { IsStrictlyIncreasing (addresses image.now) }
+{
+    // Called for what it promises: the addresses rise.
+    let _ = image.iter();
+    let mut left = image.count();
+    let mut done = 0;
+    while let Some((begin, end)) = next_chosen(chosen, 0, done, size as usize) {
+        left -= given(image, base, begin, end);
+        done = end;
+    }
+    left
+}
+
+/// What `ignored` counts, byte by byte: for the odd chip that ends past the image's address space.
+fn ignored_one_by_one(image: &Image, base: u32, chosen: &Chosen, size: u32) -> u64
+    ensures count { result ≡ ignored_below image.now base (has chosen.now) size }
+    ensures each_once { IsStrictlyIncreasing (addresses image.now) }
 {
     image
         .iter()
@@ -92,4 +139,20 @@ fn is_ignored(base: u32, chosen: &Chosen, size: u32, place: u32) -> bool
         Some(address) => address >= size || !chosen.has(address),
         None => true,
     }
+}
+
+/// How many addresses of the image are `base + a` for an address a of the chip from `begin` on and below `end`.
+fn given(image: &Image, base: u32, begin: usize, end: usize) -> u64
+    requires order { begin ≤ end }
+    requires inside { base + end ≤ 2 ^ 32 }
+    requires rising { IsStrictlyIncreasing (addresses image.now) }
+    ensures { result + ignored_below image.now base (λ _. true) end ≡ ignored_below image.now base (λ _. true) begin }
+{
+    let mut count = 0;
+    let mut done = begin;
+    while let Some((first, bytes)) = next_run(image, base, 0, done, end) {
+        count += bytes.len() as u64;
+        done = first + bytes.len();
+    }
+    count
 }

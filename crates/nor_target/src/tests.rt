@@ -9,7 +9,7 @@ use std::test::Fail;
 #[derive(Clone, Copy)]
 struct Case<'a> {
     hex: &'a [u8],
-    /// The layout whose region `part` is chosen; the whole chip where it is empty.
+    /// The layout whose regions `part` and `more` are chosen; the whole chip where it is empty.
     layout: &'a [u8],
     base: u32,
     size: u32,
@@ -29,6 +29,7 @@ fn chosen_of(alloc: Global, layout: &[u8]) -> Result<Chosen, Fail> {
     }
     let mut names = Vec::new(alloc);
     names.push(Bytes::new(Vec::from_slice(alloc, b"part".as_slice())?))?;
+    names.push(Bytes::new(Vec::from_slice(alloc, b"more".as_slice())?))?;
     Ok(nor_layout::read(alloc, layout)?.choose(alloc, names.as_slice())?)
 }
 
@@ -84,7 +85,7 @@ fn fills_and_counts(rt: HostRuntime) -> Result<(), Fail> {
         // A region that ends inside the image.
         Case {
             hex: BYTES_AT_2,
-            layout: b"0:3 part\n4:fff rest\n",
+            layout: b"0:3 part\n4:fff rest\n0:1 more\n",
             base: 0,
             size: 8192,
             at: 0,
@@ -95,7 +96,7 @@ fn fills_and_counts(rt: HostRuntime) -> Result<(), Fail> {
         // Nothing of the image is chosen.
         Case {
             hex: BYTES_AT_2,
-            layout: b"100:1ff part\n",
+            layout: b"100:1ff part\n300:3ff more\n",
             base: 0,
             size: 8192,
             at: 0,
@@ -124,6 +125,54 @@ fn fills_and_counts(rt: HostRuntime) -> Result<(), Fail> {
             have: &[0xA0, 0xA1, 0xA2],
             want: &[0xA0, 0x11, 0x22],
             ignored: 2,
+        },
+    ];
+    for case in &cases {
+        let image = image_of(rt.alloc(), case.hex)?;
+        let chosen = chosen_of(rt.alloc(), case.layout)?;
+        let mut filled = [0xEE; 8];
+        let want = &mut filled[..case.have.len()];
+        fill(&image, case.base, &chosen, case.at, case.have, want);
+        assert!(rt;
+            &filled[..case.have.len()] == case.want,
+            "bytes from {:x} on",
+            case.at
+        );
+        assert_eq!(rt;
+            ignored(&image, case.base, &chosen, case.size),
+            case.ignored,
+            "at base {:x}",
+            case.base
+        );
+    }
+    Ok(())
+}
+
+#[test]
+fn goes_by_runs_and_regions(rt: HostRuntime) -> Result<(), Fail> {
+    const TWO_RUNS: &[u8] = b":0300010011223396\n:040005004455667781\n:00000001FF\n";
+    let cases = [
+        // Two regions out of order that overlap, over two runs of the image.
+        Case {
+            hex: TWO_RUNS,
+            layout: b"4:6 part\n2:5 more\n",
+            base: 0,
+            size: 8192,
+            at: 0,
+            have: &[0xA0, 0xA1, 0xA2, 0xA3, 0xA4, 0xA5, 0xA6, 0xA7],
+            want: &[0xA0, 0xA1, 0x22, 0x33, 0xA4, 0x44, 0x55, 0xA7],
+            ignored: 3,
+        },
+        // The same on a chip that ends inside a region and inside a run.
+        Case {
+            hex: TWO_RUNS,
+            layout: b"4:6 part\n2:5 more\n",
+            base: 0,
+            size: 6,
+            at: 1,
+            have: &[0xA1, 0xA2, 0xA3, 0xA4, 0xA5],
+            want: &[0xA1, 0x22, 0x33, 0xA4, 0x44],
+            ignored: 4,
         },
     ];
     for case in &cases {

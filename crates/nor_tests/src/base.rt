@@ -103,6 +103,8 @@ fn is_uniform(rt: &impl Abort, meaning: &Meaning, size: u32) {
     assert!(rt; meaning.erases == [Some(sectors), None, None, None]);
     assert_eq!(rt; meaning.regions.as_slice().len(), 1);
     assert!(rt; meaning.erase_kind(1) == Some(sectors) && meaning.erase_kind(2).is_none());
+    assert!(rt; meaning.block_size(1) == 4096 && meaning.block_size(2) == 0);
+    assert!(rt; meaning.is_allowed(2) && !meaning.is_allowed(5));
     assert!(rt;
         meaning
             .regions

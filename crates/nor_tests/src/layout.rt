@@ -126,6 +126,61 @@ fn a_choice_has_the_addresses_of_its_regions(rt: HostRuntime) -> Result<(), Fail
     Ok(())
 }
 
+/// How many addresses the runs of a choice have, where it has at most 300.
+fn count_by_runs(set: &Chosen) -> u64 {
+    let mut count = 0_u64;
+    let mut from = 0;
+    for _ in 0..300 {
+        let Some((first, last)) = set.next_run(from) else {
+            return count;
+        };
+        count = count.wrapping_add(u64::from(last - first) + 1);
+        let Some(next) = last.checked_add(1) else {
+            return count;
+        };
+        from = next;
+    }
+    count
+}
+
+#[test]
+fn a_choice_gives_its_next_run(rt: HostRuntime) -> Result<(), Fail> {
+    let text: &[u8] = b"3000:3fff d\n0:fff a\n0800:17ff b\n900:9ff c\nffffffff:ffffffff e";
+    let table: [(&[&[u8]], u32, Option<(u32, u32)>); 12] = [
+        (&[b"a"], 0, Some((0, 0xfff))),
+        (&[b"a"], 0xfff, Some((0xfff, 0xfff))),
+        (&[b"a"], 0x1000, None),
+        (&[b"b"], 0, Some((0x800, 0x17ff))),
+        (&[b"b"], 0x801, Some((0x801, 0x17ff))),
+        (&[b"d", b"c"], 0, Some((0x900, 0x9ff))),
+        (&[b"d", b"c"], 0xa00, Some((0x3000, 0x3fff))),
+        (&[b"a", b"b"], 0x1000, Some((0x1000, 0x17ff))),
+        (&[b"a", b"d"], 0x4000, None),
+        (&[b"e"], 0, Some((0xffff_ffff, 0xffff_ffff))),
+        (&[b"e"], 0xffff_ffff, Some((0xffff_ffff, 0xffff_ffff))),
+        (&[], 5, Some((5, 0xffff_ffff))),
+    ];
+    let layout = read(rt.alloc(), text)?;
+    for (names, from, run) in table {
+        let names = owned(rt.alloc(), names)?;
+        let set = layout.choose(rt.alloc(), &names)?;
+        assert!(rt; set.next_run(from) == run, "{names:?} from {from:x}");
+    }
+    let sizes: [(&[&[u8]], u64); 5] = [
+        (&[b"a", b"b"], 0x1800),
+        (&[b"b", b"c", b"a"], 0x1800),
+        (&[b"a", b"b", b"c", b"d", b"e"], 0x2801),
+        (&[b"c", b"d"], 0x1100),
+        (&[], 0x1_0000_0000),
+    ];
+    for (names, size) in sizes {
+        let names = owned(rt.alloc(), names)?;
+        let set = layout.choose(rt.alloc(), &names)?;
+        assert_eq!(rt; count_by_runs(&set), size, "{names:?}");
+    }
+    Ok(())
+}
+
 #[test]
 fn an_unknown_name_is_told_by_its_index(rt: HostRuntime) -> Result<(), Fail> {
     let layout = read(rt.alloc(), b"0:fff a\n0800:17ff b")?;

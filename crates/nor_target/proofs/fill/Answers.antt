@@ -8,7 +8,7 @@ use Rattle.nor_target.proofs.fill.Goals as goal
 
 pub loop-begin-preserved : goal.loop-begin-preserved
 loop-begin-preserved c =
-    filled_more (byte_at c.args.image.now) c.args.base c.args.at (has c.args.chosen.now) c.args.have.now c.loop-begin.want c.lay.new.want c.in-Some.bytes.now c.loop-begin.done c.in-Some.begin c.loop-begin.invariant c.in-Some.ensures c.lay.auto.want c.lay.ensures
+    filled_more (byte_at c.args.image.now) c.args.base c.args.at (has c.args.chosen.now) c.args.have.now c.loop-begin.want c.lay.new.want c.loop-begin.done c.in-Some.begin c.in-Some.end c.loop-begin.invariant c.in-Some.ensures c.lay.auto.want c.lay.ensures
 
 pub returns-clause-bytes : goal.returns-clause-bytes
 returns-clause-bytes c =
