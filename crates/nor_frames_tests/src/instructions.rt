@@ -2,6 +2,7 @@
 
 use crate::notation::are_clocks;
 use nor_base::{Meaning, Start, Strategy};
+use nor_frames::clocks_into;
 use nor_geometry::{Block, strategy};
 use nor_samples::{
     large_chip, latched_chip, legacy_chip, legacy_latched_chip, legacy_w25q256jv_chip, small_chip,
@@ -155,14 +156,28 @@ fn in_parts(rt: HostRuntime) -> Result<(), Fail> {
     are_clocks(&rt, alloc, unused.close(alloc)?.as_slice(), "")
 }
 
-/// With each growth refused in turn, as `rt try --test --fail-alloc N` does, the fault is Memory.
-#[test]
-fn a_refused_growth_is_memory(rt: HostRuntime) -> Result<(), Fail> {
+/// The clocks of two programs, their number; each want of memory is a fault of its crate. After one the vector is as it was.
+fn two_programs(rt: &impl Abort, alloc: Global) -> Result<usize, SelectFault> {
     let chip = legacy_latched_chip();
     let ops = [program(0, &[0]), program(256, &[1])];
-    match lower(rt.alloc(), &ops, &chip, &SINGLE, Strategy::S4) {
-        Ok(instrs) => assert_eq!(rt; instrs.len(), 12),
+    let instrs = lower(alloc, &ops, &chip, &SINGLE, Strategy::S4)?;
+    let mut clocks = Vec::new(alloc);
+    for instr in instrs.as_slice() {
+        let before = clocks.len();
+        if instr.width <= 4 && clocks_into(instr, &mut clocks).is_err() {
+            assert_eq!(rt; clocks.len(), before);
+            return Err(SelectFault::Memory);
+        }
+    }
+    Ok(clocks.len())
+}
+
+/// With each growth refused in turn, as `rt try --test --fail-alloc N` does, the fault is Memory. Of the twelve instructions
+/// eight are an opcode alone, two a poll and two a program of five bytes and one.
+#[test]
+fn a_refused_growth_is_memory(rt: HostRuntime) {
+    match two_programs(&rt, rt.alloc()) {
+        Ok(count) => assert_eq!(rt; count, 8 * 8 + 2 * 16 + 2 * 48),
         Err(fault) => assert_eq!(rt; fault, SelectFault::Memory),
     }
-    Ok(())
 }

@@ -144,13 +144,18 @@ fn of_a_page(rt: HostRuntime) -> Result<(), Fail> {
     )
 }
 
+/// The number of runs of three bytes in three pages of the sector; each want of memory is the fault's.
+fn three_runs(alloc: Global) -> Result<usize, PagesFault> {
+    let have = vec![in alloc; 0xFFu8; 4096]?;
+    let mut want = vec![in alloc; 0xFFu8; 4096]?;
+    for place in [0, 256, 512] {
+        want[place] = 0;
+    }
+    Ok(split(alloc, &small_chip(), &SECTOR, &have, &want)?.len())
+}
+
 /// With each growth refused in turn, as `rt try --test --fail-alloc N` does, the fault is Memory.
 #[test]
-fn a_refused_growth_is_memory(rt: HostRuntime) -> Result<(), Fail> {
-    let changes = [(0, 1, 0xFF, 0), (256, 1, 0xFF, 0), (512, 1, 0xFF, 0)];
-    match runs_of(&rt, rt.alloc(), &small_chip(), SECTOR, &changes)? {
-        Ok(runs) => assert_eq!(rt; runs.len(), 3),
-        Err(fault) => assert_eq!(rt; fault, PagesFault::Memory),
-    }
-    Ok(())
+fn a_refused_growth_is_memory(rt: HostRuntime) {
+    assert!(rt; matches!(three_runs(rt.alloc()), Ok(3) | Err(PagesFault::Memory)));
 }
