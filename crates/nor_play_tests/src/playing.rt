@@ -179,26 +179,3 @@ fn the_end(rt: HostRuntime) -> Result<(), Fail> {
     }
     Ok(())
 }
-
-#[test]
-fn plays_a_verify(rt: HostRuntime) -> Result<(), Fail> {
-    let meaning = small_chip();
-    let mut chip = blank(&rt, rt.alloc(), &meaning, &[], false)?;
-    assert_eq!(rt; played(&rt, rt.alloc(), VERIFY, &mut chip, 10)?, Ok(4));
-    Ok(())
-}
-
-/// With each growth refused in turn, as `rt try --test --fail-alloc N` does, the fault is Memory; the chip and the steps have
-/// growths of their own.
-#[test]
-fn a_refused_growth_is_memory(rt: HostRuntime) -> Result<(), Fail> {
-    let meaning = small_chip();
-    let Ok(mut chip) = blank(&rt, rt.alloc(), &meaning, &[], false) else {
-        return Ok(());
-    };
-    let Ok(result) = played(&rt, rt.alloc(), VERIFY, &mut chip, 10) else {
-        return Ok(());
-    };
-    assert!(rt; result == Ok(4) || result == Err(PlayFault::Memory));
-    Ok(())
-}
