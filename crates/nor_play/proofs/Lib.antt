@@ -1,0 +1,3 @@
+mod StepLemmas
+mod PollLemmas
+mod PlayLemmas

@@ -1,0 +1,14 @@
+-- Clocks sent once.
+use Rattle.std.proofs.Common.{ℕ, Vec, Global}
+use Rattle.nor_base.specs.declared.step.Step.TheVariants.{Send}
+use Rattle.nor_play.specs.Turns.{PlaysStep}
+use Rattle.nor_play.proofs.StepLemmas.{handed_on, send_ends, send_halts}
+use Rattle.nor_play.proofs.step.send.Goals as goal
+
+pub returns-in_err-_bytes-clause-played : goal.returns-in_err-_bytes-clause-played
+returns-in_err-_bytes-clause-played g c =
+    handed_on c.from_residual.result (PlaysStep (g.P.Port.shown c.args.port.now) (g.P.Port.shown c.transact.new.port) c.args.limit (Send c.args.clocks.now)) c.in_err-_bytes.field-0.0
+    (send_halts {A = Vec ℕ Global} (λ v. v.items) _ _ c.args.limit c.args.clocks.now c.in_err-_bytes.field-0.0 c.in_err-_bytes.ensures.given) c.from_residual.ensures.1
+
+pub returns-clause-played : goal.returns-clause-played
+returns-clause-played g c = send_ends _ _ c.args.limit c.args.clocks.now _ c.requires.limit c.in_ok-_bytes.ensures.given.0 c.in_ok-_bytes.ensures.given.1

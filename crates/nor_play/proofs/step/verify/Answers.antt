@@ -1,0 +1,29 @@
+-- Clocks sent once, and their bytes compared.
+use Rattle.std.proofs.Common.{◌≡◌, true, false, ℕ, Vec, Global, rules}
+use Rattle.std.specs.Str.{bytes_eq}
+use Rattle.nor_base.specs.declared.step.Step.TheVariants.{Verify}
+use Rattle.nor_base.specs.Run.{is_verify}
+use Rattle.nor_play.specs.Turns.{PlaysStep}
+use Rattle.nor_play.proofs.StepLemmas.{handed_on, verify_ends, verify_differs, verify_unknown, verify_halts}
+use Rattle.nor_play.proofs.step.verify.Goals as goal
+
+pub returns-then-not-is_verify-clause-played : goal.returns-then-not-is_verify-clause-played
+returns-then-not-is_verify-clause-played g c = verify_unknown _ c.args.limit c.args.clocks.now c.args.expect.now (search rules)
+
+pub returns-in_err-bytes-clause-played : goal.returns-in_err-bytes-clause-played
+returns-in_err-bytes-clause-played g c =
+    let is : is_verify c.args.clocks.now ≡ true = search rules in
+    handed_on c.from_residual.result (PlaysStep (g.P.Port.shown c.args.port.now) (g.P.Port.shown c.transact.new.port) c.args.limit (Verify c.args.clocks.now c.args.expect.now)) c.in_err-bytes.field-0.0
+    (verify_halts {A = Vec ℕ Global} (λ v. v.items) _ _ c.args.limit c.args.clocks.now c.args.expect.now c.in_err-bytes.field-0.0 is c.in_err-bytes.ensures.given) c.from_residual.ensures.1
+
+pub returns-then-ne-clause-played : goal.returns-then-ne-clause-played
+returns-then-ne-clause-played g c =
+    let is : is_verify c.args.clocks.now ≡ true = search rules in
+    let differs : bytes_eq c.in_ok-bytes.bytes.items c.args.expect.now ≡ false = search rules in
+    verify_differs _ _ c.args.limit c.args.clocks.now c.args.expect.now _ c.verifying_reads.ensures is differs c.in_ok-bytes.ensures.given.0 c.in_ok-bytes.ensures.given.1
+
+pub returns-clause-played : goal.returns-clause-played
+returns-clause-played g c =
+    let is : is_verify c.args.clocks.now ≡ true = search rules in
+    let match : bytes_eq c.in_ok-bytes.bytes.items c.args.expect.now ≡ true = search rules in
+    verify_ends _ _ c.args.limit c.args.clocks.now c.args.expect.now _ c.requires.limit is match c.in_ok-bytes.ensures.given.0 c.in_ok-bytes.ensures.given.1

@@ -1,0 +1,4 @@
+pub mod Halt
+pub mod Play
+pub mod Turns
+pub mod Numbered
