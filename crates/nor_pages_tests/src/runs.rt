@@ -148,9 +148,9 @@ fn of_a_page(rt: HostRuntime) -> Result<(), Fail> {
 fn three_runs(alloc: Global) -> Result<usize, PagesFault> {
     let have = vec![in alloc; 0xFFu8; 4096]?;
     let mut want = vec![in alloc; 0xFFu8; 4096]?;
-    for place in [0, 256, 512] {
-        want[place] = 0;
-    }
+    want[0] = 0;
+    want[256] = 0;
+    want[512] = 0;
     Ok(split(alloc, &small_chip(), &SECTOR, &have, &want)?.len())
 }
 
