@@ -164,12 +164,15 @@ fn a_refused_growth_is_memory(rt: HostRuntime) -> Result<(), Fail> {
     Ok(())
 }
 
+/// The first page.
+const LOWEST: PlanUnit = PlanUnit::Page { start: 0 };
+
 /// A kept byte between two that change is covered, but with the profile of erased bytes.
 #[test]
 fn over_a_kept_byte(rt: HostRuntime) -> Result<(), Fail> {
-    let (unit, alloc) = (PlanUnit::Page { start: 0 }, rt.alloc());
+    let alloc = rt.alloc();
     let around = [(0, 1, 0xFF, 0), (1, 1, 0x55, 0x55), (2, 1, 0xFF, 0)];
-    are_runs(&rt, alloc, &small_chip(), unit, &around, &[(0, 3)])?;
+    are_runs(&rt, alloc, &small_chip(), LOWEST, &around, &[(0, 3)])?;
     let parts = [(0, 1), (2, 1)];
-    are_runs(&rt, alloc, &erased_only_chip(), unit, &around, &parts)
+    are_runs(&rt, alloc, &erased_only_chip(), LOWEST, &around, &parts)
 }
