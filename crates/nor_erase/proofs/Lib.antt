@@ -6,3 +6,4 @@ mod Planning
 mod TileLemmas
 mod PlanLemmas
 mod LaneLemmas
+mod ChunkLemmas

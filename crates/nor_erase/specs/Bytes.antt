@@ -1,5 +1,6 @@
 -- Bytes that are there beside those that are wanted.
 use Rattle.std.specs.Prelude.{◌≡◌, ℕ, Bool, true, false, ◌+◌, ◌-◌, ◌<◌, ◌≤◌, ◌==◌, not, ◌&&◌, List, length, bit_and}
+use Rattle.std.specs.List.{list_any, zip}
 use Rattle.nor_base.specs.Parameters.{Parameters}
 use Rattle.nor_base.specs.Effect.{may_program}
 use Rattle.nor_base.specs.declared.meaning.Strategy.{Strategy}
@@ -12,6 +13,10 @@ raises_bit old byte = not (bit_and old byte == byte)
 -- they differ, and the first isn't FFh
 abbrev pub is_kept : ℕ → ℕ → Bool
 is_kept old byte = not (old == byte) && not (old == 255)
+
+-- some bytes of a pair of lists, taken side by side, pass
+abbrev pub any_pair : (ℕ → ℕ → Bool) → List ℕ × List ℕ → Bool
+any_pair test lists = list_any (λ pair. test pair.0 pair.1) (zip lists.0 lists.1)
 
 -- a byte over another is due
 abbrev pub is_due_over : Parameters → ℕ → ℕ → Bool

@@ -4,12 +4,35 @@ ghost use Rattle.std.specs.Prelude.{◌≡◌, ◌≤◌, ◌<◌, ◌+◌, ◌-
 ghost use Rattle.std.specs.List.{list_any};
 ghost use Rattle.nor_base.specs.Effect.{may_program};
 ghost use Rattle.nor_base.specs.Need.{is_due};
-ghost use Rattle.nor_erase.specs.Bytes.{raises_bit, is_kept, is_due_over, IsFirstDue, NoneDue};
+ghost use Rattle.nor_erase.specs.Bytes.{any_pair, raises_bit, is_kept, is_due_over, IsFirstDue, NoneDue};
 
+use crate::lanes::{dirty_lanes, rises_lanes};
 use nor_base::Meaning;
+use std::simd::prelude::*;
 
 /// Whether some bit is 0 in `have` and 1 in `want`: only an erase sets it.
 pub fn rises(have: &[u8], want: &[u8]) -> bool
+    requires { length have.now ≡ length want.now }
+    ensures { result ≡ list_any (λ pair. raises_bit pair.0 pair.1) (zip have.now want.now) }
+{
+    let (old_chunks, old_rest) = have.as_chunks::<32>();
+    let (new_chunks, new_rest) = want.as_chunks::<32>();
+    rises_chunks(old_chunks, new_chunks) || rises_rest(old_rest, new_rest)
+}
+
+/// [`rises`] of chunks of 32 bytes.
+fn rises_chunks(have: &[[u8; 32]], want: &[[u8; 32]]) -> bool
+    requires { length have.now ≡ length want.now }
+    ensures { result ≡ list_any (any_pair raises_bit) (zip have.now want.now) }
+{
+    have.iter().zip(want).any(|(old, new)| rises_lanes(
+        u8x32::from_array(*old),
+        u8x32::from_array(*new),
+    ))
+}
+
+/// [`rises`] of what is left after the chunks.
+fn rises_rest(have: &[u8], want: &[u8]) -> bool
     requires { length have.now ≡ length want.now }
     ensures { result ≡ list_any (λ pair. raises_bit pair.0 pair.1) (zip have.now want.now) }
 {
@@ -19,6 +42,27 @@ pub fn rises(have: &[u8], want: &[u8]) -> bool
 /// Whether some byte differs and isn't FFh in `have`: where only erased bytes may be programmed, an erase must come
 /// first.
 pub fn dirty(have: &[u8], want: &[u8]) -> bool
+    requires { length have.now ≡ length want.now }
+    ensures { result ≡ list_any (λ pair. is_kept pair.0 pair.1) (zip have.now want.now) }
+{
+    let (old_chunks, old_rest) = have.as_chunks::<32>();
+    let (new_chunks, new_rest) = want.as_chunks::<32>();
+    dirty_chunks(old_chunks, new_chunks) || dirty_rest(old_rest, new_rest)
+}
+
+/// [`dirty`] of chunks of 32 bytes.
+fn dirty_chunks(have: &[[u8; 32]], want: &[[u8; 32]]) -> bool
+    requires { length have.now ≡ length want.now }
+    ensures { result ≡ list_any (any_pair is_kept) (zip have.now want.now) }
+{
+    have.iter().zip(want).any(|(old, new)| dirty_lanes(
+        u8x32::from_array(*old),
+        u8x32::from_array(*new),
+    ))
+}
+
+/// [`dirty`] of what is left after the chunks.
+fn dirty_rest(have: &[u8], want: &[u8]) -> bool
     requires { length have.now ≡ length want.now }
     ensures { result ≡ list_any (λ pair. is_kept pair.0 pair.1) (zip have.now want.now) }
 {

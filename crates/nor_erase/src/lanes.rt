@@ -2,7 +2,7 @@
 
 ghost use Rattle.std.specs.Prelude.{◌≡◌, zip};
 ghost use Rattle.std.specs.List.{list_any};
-ghost use Rattle.nor_erase.specs.Bytes.{raises_bit};
+ghost use Rattle.nor_erase.specs.Bytes.{raises_bit, is_kept};
 
 use std::simd::prelude::*;
 
@@ -11,4 +11,15 @@ pub fn rises_lanes(have: u8x32, want: u8x32) -> bool
     ensures { result ≡ list_any (λ pair. raises_bit pair.0 pair.1) (zip have want) }
 {
     (have & want).simd_ne(want).any()
+}
+
+/// Whether some lane differs and isn't FFh in `have`.
+pub(crate) fn dirty_lanes(have: u8x32, want: u8x32) -> bool
+    ensures { result ≡ list_any (λ pair. is_kept pair.0 pair.1) (zip have want) }
+{
+    let erased = u8x32::splat(0xFF);
+    have.simd_ne(want)
+        .select(have, erased)
+        .simd_ne(erased)
+        .any()
 }

@@ -31,6 +31,29 @@ mixed = record {
   erased_only = false;
 }
 
+abbrev lone : Parameters
+lone = record {
+  size = 12288;
+  page = 256;
+  open_page = false;
+  width = Three;
+  erases = Some (record { size = 32768; op = 0x52; op4 = None })
+      ∷ None
+      ∷ None
+      ∷ None
+      ∷ [];
+  regions = record { size = 12288; kinds = 15 } ∷ [];
+  enter = Absent;
+  leave = Absent;
+  quad_read = None;
+  read4 = false;
+  quad_read4 = false;
+  program4 = false;
+  quad4 = false;
+  quad3 = false;
+  erased_only = false;
+}
+
 abbrev odd : Bool → Parameters
 odd program4 = record {
   size = 0x2003000;
@@ -75,6 +98,15 @@ mixed_kinds (suc (suc (suc zero))) erase h = cc
 mixed_kinds (suc (suc (suc (suc zero)))) erase h = cc
 mixed_kinds (suc (suc (suc (suc (suc k))))) erase h = cc
 
+lone_kinds : (kind : ℕ) (erase : Erase) → erase_kind lone kind ≡ Some erase → IsEraseKind lone erase
+lone_kinds zero erase h = cc
+lone_kinds (suc zero) erase h =
+    is_kind lone 32768 0x52 15 None (omega arith) (omega arith) (omega arith) refl (omega arith) (omega arith) tt erase h
+lone_kinds (suc (suc zero)) erase h = cc
+lone_kinds (suc (suc (suc zero))) erase h = cc
+lone_kinds (suc (suc (suc (suc zero)))) erase h = cc
+lone_kinds (suc (suc (suc (suc (suc k))))) erase h = cc
+
 odd_kinds : (program4 : Bool) (kind : ℕ) (erase : Erase) → erase_kind (odd program4) kind ≡ Some erase → IsEraseKind (odd program4) erase
 odd_kinds program4 zero erase h = cc
 odd_kinds program4 (suc zero) erase h =
@@ -94,6 +126,26 @@ mixed_accepted = record {
   page = record { exponent = 8; at_least = omega arith; at_most = omega arith; value = refl };
   four_kinds = refl;
   kinds = mixed_kinds;
+  some_region = omega arith;
+  few_regions = omega arith;
+  regions = (record { some = omega arith; whole = refl; mask = omega arith }, tt);
+  regions_fill = refl;
+  enter = λ h. absurd (h refl);
+  leave = λ h. absurd (h refl);
+  quad_read4 = λ h. cc;
+  quad_read_op = tt;
+  dummies = tt;
+  opcodes = refl;
+}
+
+lone_accepted : IsAccepted lone
+lone_accepted = record {
+  size_low = omega arith;
+  size_high = omega arith;
+  size_whole = refl;
+  page = record { exponent = 8; at_least = omega arith; at_most = omega arith; value = refl };
+  four_kinds = refl;
+  kinds = lone_kinds;
   some_region = omega arith;
   few_regions = omega arith;
   regions = (record { some = omega arith; whole = refl; mask = omega arith }, tt);
@@ -133,6 +185,9 @@ odd_accepted program4 = record {
 -- their fields as code fills them in
 pub mixed_built : (regions : List Region) → regions ≡ record { size = 65536; kinds = 15 } ∷ [] → IsAccepted (record mixed { regions = regions })
 mixed_built regions filled = rw filled mixed_accepted
+
+pub lone_built : (regions : List Region) → regions ≡ record { size = 12288; kinds = 15 } ∷ [] → IsAccepted (record lone { regions = regions })
+lone_built regions filled = rw filled lone_accepted
 
 pub odd_built : (program4 : Bool) (regions : List Region) → regions ≡ record { size = 0xFFF000; kinds = 15 } ∷ record { size = 0x1004000; kinds = 15 } ∷ []
     → IsAccepted (record (odd program4) { regions = regions })

@@ -73,3 +73,40 @@ fn at_each_lane(rt: HostRuntime) {
         assert!(rt; !rises_lanes(old, old), "{place}");
     }
 }
+
+/// [`rises`], byte by byte.
+fn rises_plainly(have: &[u8], want: &[u8]) -> bool {
+    have.iter().zip(want).any(|(old, new)| *old & *new != *new)
+}
+
+/// [`dirty`], byte by byte.
+fn dirty_plainly(have: &[u8], want: &[u8]) -> bool {
+    have.iter()
+        .zip(want)
+        .any(|(old, new)| *old != *new && *old != 0xFF)
+}
+
+/// Of so many bytes that hold F0h the last is to become another; what lies past them isn't looked at.
+fn agrees(rt: &impl Abort, len: usize, new: u8, rising: bool, kept: bool) {
+    let have = [0xF0u8; 100];
+    let mut want = [0x0Fu8; 100];
+    assert!(rt; 0 < len && len <= 100);
+    want[..len].fill(0xF0);
+    want[len - 1] = new;
+    let (have, want) = (&have[..len], &want[..len]);
+    assert_eq!(rt; rises(have, want), rising, "{len}");
+    assert_eq!(rt; rises_plainly(have, want), rising, "{len}");
+    assert_eq!(rt; dirty(have, want), kept, "{len}");
+    assert_eq!(rt; dirty_plainly(have, want), kept, "{len}");
+}
+
+#[test]
+fn at_each_length(rt: HostRuntime) {
+    let none: [u8; 0] = [];
+    assert!(rt; !rises(&none, &none) && !dirty(&none, &none));
+    for len in 1..101 {
+        agrees(&rt, len, 0xF0, false, false);
+        agrees(&rt, len, 0xF1, true, true);
+        agrees(&rt, len, 0xE0, false, true);
+    }
+}

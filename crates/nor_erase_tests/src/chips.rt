@@ -39,6 +39,37 @@ pub(crate) fn mixed_chip() -> Meaning {
     }
 }
 
+/// 12 KiB, of which no block of the only kind, 32 KiB, can be erased.
+pub(crate) fn lone_chip() -> Meaning {
+    let mut regions = ArrayVec::new();
+    regions.push(Region {
+        size: 12288,
+        kinds: 15,
+    });
+    let blocks = Erase {
+        size: 32768,
+        op: 0x52,
+        op4: None,
+    };
+    Meaning {
+        size: 12288,
+        page: 256,
+        open_page: false,
+        width: Width::Three,
+        erases: [Some(blocks), None, None, None],
+        regions,
+        enter: Switch::Absent,
+        leave: Switch::Absent,
+        quad_read: None,
+        read4: false,
+        quad_read4: false,
+        program4: false,
+        quad4: false,
+        quad3: false,
+        erased_only: false,
+    }
+}
+
 /// 32 MiB and 12 KiB, so that the last window is cut short, in two regions whose border is 4 KiB below 2^24. Kinds 1
 /// and 2 both have 4 KiB sectors, kind 3 has 64 KiB blocks; 2 and 3 have opcodes of four address bytes. Four-byte mode
 /// can't be left, so without the program by 12h what lies past 2^24 is out of reach.

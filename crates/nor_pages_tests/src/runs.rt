@@ -67,6 +67,13 @@ const SECTOR: PlanUnit = PlanUnit::Block(Block {
 
 const PAGE: PlanUnit = PlanUnit::Page { start: 3840 };
 
+/// The first sector.
+const FIRST: PlanUnit = PlanUnit::Block(Block {
+    start: 0,
+    size: 4096,
+    kind: 1,
+});
+
 /// In an erased block what isn't FFh is written, whether it was there before or not.
 #[test]
 fn of_a_block(rt: HostRuntime) -> Result<(), Fail> {
@@ -74,6 +81,8 @@ fn of_a_block(rt: HostRuntime) -> Result<(), Fail> {
     let alloc = rt.alloc();
     let far = [(0, 1, 0xFF, 1), (0x300, 1, 0, 2)];
     are_runs(&rt, alloc, &chip, SECTOR, &far, &[(0x1000, 1), (0x1300, 1)])?;
+    let two = [(0, 1, 0xFF, 1), (0x300, 1, 0xFF, 2)];
+    are_runs(&rt, alloc, &chip, FIRST, &two, &[(0, 1), (0x300, 1)])?;
     are_runs(&rt, alloc, &chip, SECTOR, &[], &[])?;
     are_runs(&rt, alloc, &chip, SECTOR, &[(10, 5, 0, 0xFF)], &[])?;
     let kept = [(3, 1, 7, 7), (9, 1, 0, 1)];
@@ -158,4 +167,17 @@ fn three_runs(alloc: Global) -> Result<usize, PagesFault> {
 #[test]
 fn a_refused_growth_is_memory(rt: HostRuntime) {
     assert!(rt; matches!(three_runs(rt.alloc()), Ok(3) | Err(PagesFault::Memory)));
+}
+
+/// The first page.
+const LOWEST: PlanUnit = PlanUnit::Page { start: 0 };
+
+/// A kept byte between two that change is covered, but with the profile of erased bytes.
+#[test]
+fn over_a_kept_byte(rt: HostRuntime) -> Result<(), Fail> {
+    let alloc = rt.alloc();
+    let around = [(0, 1, 0xFF, 0), (1, 1, 0x55, 0x55), (2, 1, 0xFF, 0)];
+    are_runs(&rt, alloc, &small_chip(), LOWEST, &around, &[(0, 3)])?;
+    let parts = [(0, 1), (2, 1)];
+    are_runs(&rt, alloc, &erased_only_chip(), LOWEST, &around, &parts)
 }
