@@ -20,7 +20,9 @@ test:
 refusals:
 	tools/refused-growths
 
-# the program unproved on the sample job, and the script that it wrote
+# the program unproved on a job that matters: a chip by its SFDP bytes, of which one region is programmed; it holds bits that
+# must rise, so a sector is erased, and what else the sector holds is restored
 demo:
-	@dir=$$(mktemp -d) && cd crates/norprog_cli && rt try -- $(job) $$dir/one.script && cat $$dir/one.script; \
+	@dir=$$(mktemp -d) && cd crates/norprog_cli && rt try -- build --sfdp data/sfdp.bin --layout data/chip.layout \
+		--hex data/config.hex --content data/held.bin --verify --out $$dir/config.script config && cut -c 1-120 $$dir/config.script; \
 	status=$$?; rm -rf "$$dir"; exit $$status

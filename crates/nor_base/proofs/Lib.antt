@@ -1,4 +1,4 @@
-mod UniformAccepted
+pub mod UniformAccepted
 mod TransferLemmas
 mod KindLemmas
 pub mod DeviceLaws

@@ -1,5 +1,5 @@
 -- What has to be erased (this project's).
-use Rattle.std.specs.Prelude.{◌≡◌, ℕ, Bool, true, false, ◌<◌, ◌==◌, not, ◌&&◌, ◌||◌, if◌then◌else◌, List, Option, Some, None, is_some, slice_index}
+use Rattle.std.specs.Prelude.{ℕ, Bool, false, ◌==◌, not, ◌&&◌, ◌||◌, if◌then◌else◌, List, Option, Some, None, is_some, slice_index}
 use Rattle.std.specs.List.{list_all, list_any, range_with_len}
 use Rattle.std.specs.Option.{option_map_or}
 use Rattle.nor_base.specs.declared.meaning.Strategy.{Strategy}
@@ -61,8 +61,3 @@ lacks_erase m by have want a = not (is_beyond by a) && (is_due m have want a && 
 
 abbrev pub is_at_fault : Parameters → Strategy → List ℕ → List ℕ → ℕ → Bool
 is_at_fault m by have want a = is_unreachable by have want a || lacks_erase m by have want a
-
--- an address at fault, and none below it
-pub record IsLowestFault (m : Parameters) (by : Strategy) (have want : List ℕ) (a : ℕ) : Type 0 where
-  pub here : is_at_fault m by have want a ≡ true
-  pub none_below : (x : ℕ) → x < a → is_at_fault m by have want x ≡ false

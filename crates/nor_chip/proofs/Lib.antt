@@ -1,5 +1,5 @@
 mod PlaceLemmas
 mod KernelLemmas
-mod RangeLemmas
-mod TakeLemmas
+pub mod RangeLemmas
+pub mod TakeLemmas
 mod EraseLemmas

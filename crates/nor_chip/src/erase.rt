@@ -4,7 +4,7 @@ ghost use Rattle.std.specs.Prelude.{◌≡◌, ◌≤◌, ◌+◌, length, repli
 ghost use Rattle.nor_base.specs.Effect.{erased};
 
 /// FFh over so many bytes, from a place on.
-pub(crate) fn fill_block(array: &mut [u8], from: usize, size: usize)
+pub fn fill_block(array: &mut [u8], from: usize, size: usize)
     requires { from + size ≤ length array.old }
     ensures { array.new ≡ erased from size array.old }
 {

@@ -6,10 +6,10 @@
 #![tactic(auto)]
 
 mod chip;
-mod erase;
+pub mod erase;
 mod port;
-mod program;
-mod rules;
+pub mod program;
+pub mod rules;
 
 pub use chip::Chip;
 pub use nor_base::{PortFault, Wrong};

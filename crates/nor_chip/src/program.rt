@@ -8,7 +8,7 @@ use nor_base::{Meaning, Wrong};
 use nor_decode::Seen;
 
 /// Where byte `index` of a program goes: on from the address, and round within its page.
-pub(crate) fn place(page: u32, address: u32, index: usize) -> usize
+pub fn place(page: u32, address: u32, index: usize) -> usize
     requires { 0 < page }
     ensures value { result ≡ place_of page address index }
     ensures upto { result < page_start page address + page }
@@ -48,7 +48,7 @@ pub fn may_program(meaning: &Meaning, old: u8, byte: u8) -> bool
 }
 
 /// Which wrong a program is that covers a byte where it may not be done.
-pub(crate) fn barred(meaning: &Meaning) -> Wrong
+pub fn barred(meaning: &Meaning) -> Wrong
     ensures { result ≡ barred meaning.now }
 {
     if meaning.erased_only {
@@ -59,7 +59,7 @@ pub(crate) fn barred(meaning: &Meaning) -> Wrong
 }
 
 /// Whether some byte of the program may not be programmed where it goes.
-pub(crate) fn is_barred(meaning: &Meaning, page: u32, seen: &Seen<'_>, array: &[u8]) -> bool
+pub fn is_barred(meaning: &Meaning, page: u32, seen: &Seen<'_>, array: &[u8]) -> bool
     requires program { is_program seen.now.what ≡ true }
     requires some { 0 < page }
     requires inside { page_start page seen.now.address + page ≤ length array.now }
@@ -76,7 +76,7 @@ pub(crate) fn is_barred(meaning: &Meaning, page: u32, seen: &Seen<'_>, array: &[
 }
 
 /// Clears the bits of the array that the program's bytes have clear.
-pub(crate) fn program(page: u32, seen: &Seen<'_>, array: &mut [u8])
+pub fn program(page: u32, seen: &Seen<'_>, array: &mut [u8])
     requires program { is_program seen.now.what ≡ true }
     requires some { 0 < page }
     requires inside { page_start page seen.now.address + page ≤ length array.old }

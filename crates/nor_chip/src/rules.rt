@@ -9,35 +9,35 @@ use nor_decode::Seen;
 use nor_geometry::is_legal;
 
 /// The opcode is known, and its clocks aren't those of its instruction.
-pub(crate) fn is_broken(what: What) -> bool
+pub fn is_broken(what: What) -> bool
     ensures { result ≡ is_broken what }
 {
     matches!(what, What::Broken)
 }
 
 /// A busy chip takes status reads alone.
-pub(crate) fn is_status(what: What) -> bool
+pub fn is_status(what: What) -> bool
     ensures { result ≡ is_status what }
 {
     matches!(what, What::Status)
 }
 
 /// Four lanes need the quad enable setting.
-pub(crate) fn is_quad(what: What) -> bool
+pub fn is_quad(what: What) -> bool
     ensures { result ≡ is_quad what }
 {
     matches!(what, What::QuadProgram | What::QuadRead)
 }
 
 /// It writes to a page.
-pub(crate) fn is_program(what: What) -> bool
+pub fn is_program(what: What) -> bool
     ensures { result ≡ is_program what }
 {
     matches!(what, What::Program | What::QuadProgram)
 }
 
 /// Erases, programs, and switches of a chip that asks for it need the write enable latch.
-pub(crate) fn needs_latch(meaning: &Meaning, what: What) -> bool
+pub fn needs_latch(meaning: &Meaning, what: What) -> bool
     ensures { result ≡ needs_latch meaning.now what }
 {
     match what {
@@ -50,7 +50,7 @@ pub(crate) fn needs_latch(meaning: &Meaning, what: What) -> bool
 
 /// An address at or past the size, a byte read past it, or an erase that starts no legal block.
 #[tactic(auto, unfolding(nor_base::specs::Effect::is_out_of_range))]
-pub(crate) fn is_out_of_range(meaning: &Meaning, seen: &Seen<'_>) -> bool
+pub fn is_out_of_range(meaning: &Meaning, seen: &Seen<'_>) -> bool
     ensures { result ≡ is_out_of_range meaning.now (instruction_of seen.now) }
 {
     let size = meaning.size;

@@ -1,9 +1,9 @@
-mod Runs
-mod Tiling
+pub mod Runs
+pub mod Tiling
 mod Steps
 mod PageUnits
 mod Planning
 mod TileLemmas
-mod PlanLemmas
+pub mod PlanLemmas
 mod LaneLemmas
 mod ChunkLemmas

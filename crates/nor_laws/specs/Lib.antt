@@ -2,3 +2,4 @@ pub mod Laws
 pub mod Worked
 pub mod Stops
 pub mod Planning
+pub mod Seen

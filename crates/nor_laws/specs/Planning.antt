@@ -14,6 +14,7 @@ use Rattle.nor_base.specs.Need.{is_at_fault, is_beyond}
 use Rattle.nor_base.specs.Programs.{Program}
 use Rattle.nor_base.specs.Units.{WorkUnit, units}
 use Rattle.nor_base.specs.Spelling.{Instr}
+use Rattle.nor_base.specs.Planned.{IsInTheMaking}
 use Rattle.nor_base.specs.Operations.{Op, erases, writes, reads, enable, poll, disable, unit_ops, lowered}
 use Rattle.nor_laws.specs.Worked.{tiny}
 
@@ -60,6 +61,31 @@ LowerOfTwoKinds = units (little whole) S2 (0 ∷ (ff 3 ++ (0 ∷ ff 11))) (ff 16
 abbrev pub BorderParts : Type 0
 BorderParts = units (little halves) S2 (0 ∷ (ff 3 ++ (0 ∷ ff 11))) (ff 16)
     ≡ record { erase = block 0 4 1; start = 0; size = 4; programs = [] } ∷ record { erase = block 4 4 1; start = 4; size = 4; programs = [] } ∷ []
+
+-- two blocks to be erased one after the other, and what of their making is one unit in the making: the first erased, and no
+-- more; not both erased before either is programmed, nor the second made before the first
+abbrev pub two_have : List ℕ
+two_have = 0 ∷ (ff 3 ++ (0 ∷ ff 11))
+
+abbrev pub two_want : List ℕ
+two_want = 1 ∷ (ff 3 ++ (1 ∷ ff 11))
+
+abbrev pub two_units : List WorkUnit
+two_units =
+    record { erase = block 0 4 1; start = 0; size = 4; programs = program 0 (1 ∷ []) ∷ [] }
+    ∷ record { erase = block 4 4 1; start = 4; size = 4; programs = program 4 (1 ∷ []) ∷ [] } ∷ []
+
+abbrev pub TwoErased : Type 0
+TwoErased = units (little halves) S2 two_have two_want ≡ two_units
+
+abbrev pub OneInTheMaking : Type 0
+OneInTheMaking = IsInTheMaking two_units two_have two_want (ff 4 ++ (0 ∷ ff 11))
+
+abbrev pub BothErasedFirst : Type 0
+BothErasedFirst = IsInTheMaking two_units two_have two_want (ff 16) → ⊥
+
+abbrev pub SecondMadeFirst : Type 0
+SecondMadeFirst = IsInTheMaking two_units two_have two_want (0 ∷ (ff 3 ++ (1 ∷ ff 11))) → ⊥
 
 -- a page is programmed at once, from its first byte that differs to its last, over one that stays
 abbrev pub SpansPage : Type 0

@@ -4,7 +4,8 @@
 ghost use Rattle.std.specs.Prelude.{true, false};
 ghost use Rattle.nor_laws.specs.Worked.{EnableSetsLatch, ProgramWrites, PollWaits, PollCountsThree, TimesInTurn, NoTimeLeft, BusyIgnores, ProgramWraps, LastByteCounts, RaiseIsWrong, NoLatchIgnores, EnterPlain, EnterLatched, LeaveLatched, EnterNeedsLatch, QuadProgramsAndReads, DedicatedErase, EraseInMidBlock, BrokenIsIgnored, UnknownOpcode, SevenClocks, ReadsLastByte, ReadPastEnd, OneByteText, OneByteTextLength, OneByteRun, WidestIsAccepted, BlocksOfMap, NoBlocksOfMap, TargetOfOne, TargetAtTheEnd, IgnoredOfFour};
 ghost use Rattle.nor_laws.specs.Stops.{ReadsAnother, LongPollIdle, LongPollBusy, VerifiesStatus, VerifiesNothing, NineClocks, LatchIsLeft, BusyIsLeft, QuadOff, LatchFirst, StatusOfLatch, StatusOfBusy, CoversKept, CoversKeptElsewhere, RoundInLeast, OnInLarger};
-ghost use Rattle.nor_laws.specs.Planning.{EraseRestores, PageOutside, LowerOfTwoKinds, BorderParts, SpansPage, VerifiesBlock, VerifiesNone, VerifiesPage, Reached, NoBlockIsFault, CutAtKept, ErasedOnlyIsDue, Strategies, InMode, ThreeBytes, DedicatedFar, EntersAndLeaves, EntersLatched, NothingToDo, BeyondReach, ErasesAndReads, QuadDedicated, QuadLegacy};
+ghost use Rattle.nor_laws.specs.Seen.{StepsSeen, SecondErased, UnreadIsNotVerified};
+ghost use Rattle.nor_laws.specs.Planning.{EraseRestores, PageOutside, LowerOfTwoKinds, BorderParts, TwoErased, OneInTheMaking, BothErasedFirst, SecondMadeFirst, SpansPage, VerifiesBlock, VerifiesNone, VerifiesPage, Reached, NoBlockIsFault, CutAtKept, ErasedOnlyIsDue, Strategies, InMode, ThreeBytes, DedicatedFar, EntersAndLeaves, EntersLatched, NothingToDo, BeyondReach, ErasesAndReads, QuadDedicated, QuadLegacy};
 
 /// An enable, programs, polls and what is refused while busy, without the latch or over a 0.
 pub fn programs_worked()
@@ -92,6 +93,13 @@ pub fn stops_worked()
     ensures larger { OnInLarger }
 {}
 
+/// The transactions of a run with their steps, the addresses that an erase erased, and a program that nothing reads later.
+pub fn events_worked()
+    ensures steps { StepsSeen }
+    ensures erased { SecondErased }
+    ensures unread { UnreadIsNotVerified }
+{}
+
 /// Units of small contents: an erase with what it takes along, a page outside, two kinds of one size, a border, an address
 /// without a block, and the profile of erased bytes.
 pub fn units_worked()
@@ -107,6 +115,15 @@ pub fn units_worked()
     ensures fault { NoBlockIsFault }
     ensures cut { CutAtKept }
     ensures due { ErasedOnlyIsDue }
+{}
+
+/// Two blocks to be erased: the first erased is one unit in the making; both erased before either is programmed isn't, nor the
+/// second made before the first.
+pub fn making_worked()
+    ensures units { TwoErased }
+    ensures one { OneInTheMaking }
+    ensures both { BothErasedFirst }
+    ensures second { SecondMadeFirst }
 {}
 
 /// The five strategies, and the instructions of programs, erases and reads by each, on one lane and on four.

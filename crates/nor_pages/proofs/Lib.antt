@@ -1,2 +1,3 @@
 mod RunLemmas
 mod UnitRuns
+mod Within

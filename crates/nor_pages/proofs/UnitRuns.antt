@@ -140,7 +140,7 @@ pages_last page (suc n) start f =
 part_at : (xs : List ℕ) (low page i : ℕ) → i < page → slice_index (slice_range xs low (low + page)) i ≡ slice_index xs (low + i)
 part_at xs low page i inside = get_or-take ((low + page) - low) (drop low xs) i 0 (omega (arith, inside)) ∙ get_or-drop low xs i 0
 
-part_length : (xs : List ℕ) (low page : ℕ) → low + page ≤ length xs → length (slice_range xs low (low + page)) ≡ page
+pub part_length : (xs : List ℕ) (low page : ℕ) → low + page ≤ length xs → length (slice_range xs low (low + page)) ≡ page
 part_length xs low page inside = omega (arith, length-take ((low + page) - low) (drop low xs), length-drop low xs, inside)
 
 -- what the bytes of some pages say of the chip's

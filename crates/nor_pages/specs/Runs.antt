@@ -1,6 +1,6 @@
 -- The runs of a unit (this project's; a program in a page as the Page Program of the W25Q256JV datasheet).
 use Rattle.std.specs.Prelude.{◌≡◌, ℕ, zero, suc, Bool, ◌+◌, ◌-◌, ◌*◌, ◌/◌, ◌%◌, ◌<◌, ◌≤◌, ◌==◌, not, ◌&&◌, if◌then◌else◌, List, [], ◌∷◌, ◌++◌, length, map, flat_map, Option, Some, None, slice_index, slice_range}
-use Rattle.std.specs.List.{range_with_len}
+use Rattle.std.specs.List.{range_with_len, AllByRecursion}
 use Rattle.nor_base.specs.Parameters.{Parameters}
 use Rattle.nor_base.specs.Programs.{Program, target_bytes, page_programs}
 use Rattle.nor_base.specs.Units.{pages}
@@ -33,6 +33,21 @@ IsSplit m (unit.Block b) have want runs =
     → map (run_program target) runs ≡ flat_map (page_programs m level target) (pages m.page b.start (b.size / m.page))
 IsSplit m (unit.Page start) have want runs =
     (level target : List ℕ) → HasPart level have start → HasPart target want start → map (run_program target) runs ≡ page_programs m level target start
+
+-- a run of some bytes from one address up to another
+pub record LiesBetween (low high : ℕ) (r : Run) : Type 0 where
+  pub from : low ≤ r.at
+  pub some : 0 < r.len
+  pub upto : r.at + r.len ≤ high
+
+-- so they all are, and there are no more than so many
+pub record AreBetween (low high most : ℕ) (runs : List Run) : Type 0 where
+  pub each : AllByRecursion (LiesBetween low high) runs
+  pub few : length runs ≤ most
+
+abbrev pub unit_start : PlanUnit → ℕ
+unit_start (unit.Block b) = b.start
+unit_start (unit.Page start) = start
 
 -- what is there when a byte is programmed
 abbrev pub old_over : Bool → ℕ → ℕ

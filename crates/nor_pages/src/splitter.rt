@@ -1,7 +1,7 @@
 //! The runs of a unit.
 
 ghost use Rattle.std.specs.Prelude.{◌≡◌, ◌≤◌, ◌<◌, ◌+◌, ◌/◌, ◌^◌, ◌++◌, ◌==◌, ◌&&◌, not, length, IfOk};
-ghost use Rattle.nor_pages.specs.Runs.{IsUnit, IsSplit, page_runs, old_over, extended, reaches_back, some_run, ended, onward, pages_runs};
+ghost use Rattle.nor_pages.specs.Runs.{IsUnit, IsSplit, AreBetween, unit_start, page_runs, old_over, extended, reaches_back, some_run, ended, onward, pages_runs};
 
 use crate::fault::PagesFault;
 use crate::run::Run;
@@ -9,7 +9,8 @@ use nor_base::Meaning;
 use nor_erase::PlanUnit;
 use std::alloc::{AllocError, Allocator, Global};
 
-/// The runs of a unit, rising: `have` and `want` are its bytes, what the chip holds there and what it must hold.
+/// The runs of a unit, rising: `have` and `want` are its bytes, what the chip holds there and what it must hold. Each
+/// lies within the unit, and there are no more of them than bytes.
 ///
 /// `Memory` where a growth is refused.
 pub fn split(
@@ -21,7 +22,8 @@ pub fn split(
 ) -> Result<Vec<Run>, PagesFault>
     requires lengths { length have.now ≡ length want.now }
     requires unit { IsUnit meaning.now unit.now (length want.now) }
-    ensures { IfOk result (λ runs. IsSplit meaning.now unit.now have.now want.now runs.items) }
+    ensures split { IfOk result (λ runs. IsSplit meaning.now unit.now have.now want.now runs.items) }
+    ensures within { IfOk result (λ runs. AreBetween (unit_start unit.now) (unit_start unit.now + length want.now) (length want.now) runs.items) }
 {
     meaning.is_accepted();
     match unit {
@@ -41,7 +43,8 @@ fn split_pages<A: Allocator>(
 ) -> Result<Vec<Run, A>, AllocError>
     requires lengths { length have.now ≡ length want.now }
     requires inside { start + length want.now ≤ 2 ^ 28 }
-    ensures { IfOk result (λ runs. runs.items ≡ pages_runs blank meaning.now.erased_only meaning.now.page have.now want.now start (length want.now / meaning.now.page)) }
+    ensures { IfOk result (λ runs. runs.items
+        ≡ pages_runs blank meaning.now.erased_only meaning.now.page have.now want.now start (length want.now / meaning.now.page)) }
 {
     meaning.is_accepted();
     let mut runs = Vec::new(alloc);

@@ -18,15 +18,14 @@ clocks_then_digits clocks expect =
     (append_assoc clocks (codes " ") (flat_map hex_pair expect ++ 10 ∷ [])
     ∙ sym (append_assoc clocks (codes " " ++ flat_map hex_pair expect) (10 ∷ [])))
 
-pub send_line : (step : Step) (clocks bytes : List ℕ) → step ≡ Send clocks → bytes ≡ clocks → codes "x " ++ (bytes ++ 10 ∷ []) ≡ closed (step_line step)
-unfolding step_line
-send_line step clocks bytes is same = ap (λ b. 120 ∷ 32 ∷ (b ++ 10 ∷ [])) same ∙ sym (ap (λ s. closed (step_line s)) is)
+-- the line of a step whose clocks and bytes are these
+pub send_line : (step : Step) (clocks bytes : List ℕ) → step ≡ Send clocks → bytes ≡ clocks → closed (step_line (Send bytes)) ≡ closed (step_line step)
+send_line step clocks bytes is same = ap (λ b. closed (step_line (Send b))) same ∙ sym (ap (λ s. closed (step_line s)) is)
 
-pub poll_line : (step : Step) (clocks bytes : List ℕ) → step ≡ Poll clocks → bytes ≡ clocks → codes "p " ++ (bytes ++ 10 ∷ []) ≡ closed (step_line step)
-unfolding step_line
-poll_line step clocks bytes is same = ap (λ b. 112 ∷ 32 ∷ (b ++ 10 ∷ [])) same ∙ sym (ap (λ s. closed (step_line s)) is)
+pub poll_line : (step : Step) (clocks bytes : List ℕ) → step ≡ Poll clocks → bytes ≡ clocks → closed (step_line (Poll bytes)) ≡ closed (step_line step)
+poll_line step clocks bytes is same = ap (λ b. closed (step_line (Poll b))) same ∙ sym (ap (λ s. closed (step_line s)) is)
 
-pub verify_line_lem : (step : Step) (clocks expect a b : List ℕ) → step ≡ Verify clocks expect → a ≡ clocks → b ≡ expect → verify_line a b ≡ closed (step_line step)
-unfolding step_line
+pub verify_line_lem : (step : Step) (clocks expect a b : List ℕ) → step ≡ Verify clocks expect → a ≡ clocks → b ≡ expect
+    → closed (step_line (Verify a b)) ≡ closed (step_line step)
 verify_line_lem step clocks expect a b is same_clocks same_bytes =
-    ap (λ x. verify_line x b) same_clocks ∙ ap (verify_line clocks) same_bytes ∙ sym (ap (λ s. closed (step_line s)) is)
+    ap (λ x. closed (step_line (Verify x b))) same_clocks ∙ ap (λ x. closed (step_line (Verify clocks x))) same_bytes ∙ sym (ap (λ s. closed (step_line s)) is)

@@ -2,7 +2,7 @@
 //! one LF. `docs/FORMATS.md`, "Script text", has the format.
 //!
 //! [`begin`], then [`write_step`] for each step, then [`finish`] with their number write a script. None of them takes
-//! memory. [`read`] reads one back, or tells its first fault.
+//! memory. [`write_send`], [`write_poll`] and [`write_verify`] write a step's line from borrowed clocks. [`read`] reads one back, or tells its first fault.
 #![tactic(auto)]
 
 mod fault;
@@ -13,4 +13,4 @@ mod writer;
 
 pub use fault::ScriptFault;
 pub use reader::read;
-pub use writer::{begin, finish, write_step};
+pub use writer::{begin, finish, write_poll, write_send, write_step, write_verify};

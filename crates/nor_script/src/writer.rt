@@ -3,6 +3,7 @@
 ghost use Rattle.std.specs.Prelude.{◌≡◌, ◌<◌, ◌-◌, ◌^◌, true};
 ghost use Rattle.nor_base.specs.Device.{Writes, Counts};
 ghost use Rattle.nor_base.specs.Step.{is_step};
+ghost use Rattle.nor_base.specs.declared.step.Step.TheVariants.{Send, Poll, Verify};
 ghost use Rattle.nor_base.specs.Script.{header, closed, step_line, end_line};
 ghost use Rattle.nor_script.specs.Verify.{verify_line};
 
@@ -31,10 +32,46 @@ pub fn write_step<W: ByteOut>(step: &Step, writer: &mut W) -> Result<(), Failed>
     ensures count { Counts (W.count writer.old) (W.count writer.new) result }
 {
     match step {
-        Step::Send { clocks } => put_parts(writer, &[b"x ", clocks.as_slice(), b"\n"]),
-        Step::Poll { clocks } => put_parts(writer, &[b"p ", clocks.as_slice(), b"\n"]),
-        Step::Verify { clocks, expect } => put_verify(writer, clocks.as_slice(), expect.as_slice()),
+        Step::Send { clocks } => write_send(clocks.as_slice(), writer),
+        Step::Poll { clocks } => write_poll(clocks.as_slice(), writer),
+        Step::Verify { clocks, expect } => {
+            write_verify(clocks.as_slice(), expect.as_slice(), writer)
+        }
     }
+}
+
+/// Writes the line of clocks that are sent: `x CLOCKS`. They are some symbols.
+///
+/// At `Failed` a proper prefix of it was taken; it comes from the writer alone, whose count of failures rose by one.
+pub fn write_send<W: ByteOut>(clocks: &[u8], writer: &mut W) -> Result<(), Failed>
+    requires { W.count writer.old < 2 ^ 64 - 1 }
+    ensures bytes { Writes (W.held writer.old) (W.held writer.new) result (closed (step_line (Send clocks.now))) }
+    ensures count { Counts (W.count writer.old) (W.count writer.new) result }
+{
+    put_parts(writer, &[b"x ", clocks, b"\n"])
+}
+
+/// Writes the line of clocks that are sent until the chip is idle: `p CLOCKS`. They are some symbols.
+///
+/// At `Failed` a proper prefix of it was taken; it comes from the writer alone, whose count of failures rose by one.
+pub fn write_poll<W: ByteOut>(clocks: &[u8], writer: &mut W) -> Result<(), Failed>
+    requires { W.count writer.old < 2 ^ 64 - 1 }
+    ensures bytes { Writes (W.held writer.old) (W.held writer.new) result (closed (step_line (Poll clocks.now))) }
+    ensures count { Counts (W.count writer.old) (W.count writer.new) result }
+{
+    put_parts(writer, &[b"p ", clocks, b"\n"])
+}
+
+/// Writes the line of clocks that read, and of the bytes that they are to read: `v CLOCKS HEX`. They are some symbols, and
+/// some bytes.
+///
+/// At `Failed` a proper prefix of it was taken; it comes from the writer alone, whose count of failures rose by one.
+pub fn write_verify<W: ByteOut>(clocks: &[u8], expect: &[u8], writer: &mut W) -> Result<(), Failed>
+    requires { W.count writer.old < 2 ^ 64 - 1 }
+    ensures bytes { Writes (W.held writer.old) (W.held writer.new) result (closed (step_line (Verify clocks.now expect.now))) }
+    ensures count { Counts (W.count writer.old) (W.count writer.new) result }
+{
+    put_verify(writer, clocks, expect)
 }
 
 /// Writes the end line with the number of steps.

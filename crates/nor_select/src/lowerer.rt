@@ -74,6 +74,20 @@ impl<'m> Lowerer<'m> {
         }
     }
 
+    /// The chip that it gives instructions for.
+    pub fn meaning(&self) -> &'m Meaning
+        ensures { result.now ≡ self.now.meaning }
+    {
+        self.meaning
+    }
+
+    /// How it drives the chip.
+    pub fn strategy(&self) -> Strategy
+        ensures { result ≡ self.now.by }
+    {
+        self.strategy
+    }
+
     /// The instructions of the next operations; before the first operation of all those that enter the mode that the
     /// strategy needs.
     ///
@@ -123,7 +137,8 @@ fn append_ops<'a, A: Allocator>(
     start: &Start,
     strategy: Strategy,
 ) -> Result<(), AllocError>
-    ensures { IfOk result (λ _. Adds instrs.old.items (flat_map (instructions meaning.now start.now strategy) (map op_of ops.now)) instrs.new.items) }
+    ensures { IfOk result (λ _. Adds instrs.old.items (flat_map (instructions meaning.now start.now strategy) (map op_of ops.now))
+        instrs.new.items) }
 {
     for op in ops {
         append_op(instrs, op, meaning, start, strategy)?;

@@ -77,7 +77,7 @@ holds_outside p x outside = elim outside [
 writes_at : (page : ℕ) (p : Program) (x : ℕ) → IsInPage page p → p.at ≤ x → x < program_end p → written page p.at p.bytes x ≡ Some (byte_for p x)
 writes_at page p x h from upto = written_inside page p.at p.bytes (length p.bytes) x (straight page p h) from upto
 
-writes_nothing : (page : ℕ) (p : Program) (x : ℕ) → IsInPage page p → (x < p.at) ⊎ (program_end p ≤ x) → written page p.at p.bytes x ≡ None
+pub writes_nothing : (page : ℕ) (p : Program) (x : ℕ) → IsInPage page p → (x < p.at) ⊎ (program_end p ≤ x) → written page p.at p.bytes x ≡ None
 writes_nothing page p x h outside = written_outside page p.at p.bytes (length p.bytes) x (straight page p h) outside
 
 pub not_barred : (m : Parameters) (page : ℕ) (p : Program) (a : List ℕ) → IsInPage page p → MayLay m p a → is_barred m page p.at p.bytes a ≡ false

@@ -179,7 +179,7 @@ send_keeps s n c d clocks want x a (Ok after) wide is h due =
     let same : after.0 ≡ d = cc in
     one_event s n c d after.0 clocks after.1 want x a (λ r. []) wide is due (λ still. inl (subst (λ (e : Chip). is_due s.meaning e.array want x ≡ true) same still))
 
-matched_done : (expect : List ℕ) (d : Chip) (r : Result (Chip × List ℕ) Wrong) → matched expect r ≡ Ok d → done r ≡ Ok d
+pub matched_done : (expect : List ℕ) (d : Chip) (r : Result (Chip × List ℕ) Wrong) → matched expect r ≡ Ok d → done r ≡ Ok d
 matched_done expect d (Err why) h = cc
 matched_done expect d (Ok gave) h = by_same (bytes_eq gave.1 expect) h
   where
@@ -220,7 +220,7 @@ second_any : (test : Event → Bool) (xs ys : List Event) → list_any test ys �
 second_any test [] ys h = h
 second_any test (e ∷ xs) ys h = rw (second_any test xs ys h) (or-true (test e))
 
-later_ok : (r : Result Chip Stop) (d : Chip) → one_later r ≡ Ok d → r ≡ Ok d
+pub later_ok : (r : Result Chip Stop) (d : Chip) → one_later r ≡ Ok d → r ≡ Ok d
 later_ok (Ok c) d h = h
 later_ok (Err stop) d h = cc
 

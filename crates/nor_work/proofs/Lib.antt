@@ -7,11 +7,11 @@ mod Lowered
 pub mod Ranges
 mod Made
 mod Pages
-mod Walk
+pub mod Walk
 pub mod Best
 pub mod Erasing
 pub mod Reached
-mod Wider
+pub mod Wider
 mod Whole
 pub mod Needed
 mod Least
@@ -20,3 +20,15 @@ mod Driven
 mod Sent
 mod Spelled
 mod Agree
+mod Shown
+mod Chosen
+mod Lists
+mod Counted
+mod Exact
+mod Once
+mod Area
+mod Totals
+mod Reread
+mod Followed
+mod Verified
+mod Small

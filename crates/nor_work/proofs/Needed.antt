@@ -106,7 +106,7 @@ needed_erased m start have want a w h =
     let lies = holds_smallest m c.cause some.0 b.0 c.block w.accepted e.at c.is in
     ap (λ (x : Option Block). is_some x) (erased_all m (strategy m start) (is_due m have want) c.cause a b.0 w.accepted b.1 (omega (arith, lies.0, c.low)) (omega (arith, lies.1, c.high)))
 
-same_truth : (x y : Bool) → (x ≡ true → y ≡ true) → (y ≡ true → x ≡ true) → x ≡ y
+pub same_truth : (x y : Bool) → (x ≡ true → y ≡ true) → (y ≡ true → x ≡ true) → x ≡ y
 same_truth true y on back = sym (on refl)
 same_truth false true on back = back refl
 same_truth false false on back = refl

@@ -31,7 +31,7 @@ use Rattle.nor_work.proofs.Needed.{erases_blocks}
 use Rattle.nor_work.proofs.Wider.{some_page}
 use Rattle.nor_work.proofs.Whole.{level_at, units_sound}
 
-all_append : {A : Type 0} (P : A → Type 0) (xs ys : List A) → AllByRecursion P xs → AllByRecursion P ys → AllByRecursion P (xs ++ ys)
+pub all_append : {A : Type 0} (P : A → Type 0) (xs ys : List A) → AllByRecursion P xs → AllByRecursion P ys → AllByRecursion P (xs ++ ys)
 all_append P [] ys first second = second
 all_append P (x ∷ xs) ys first second = (first.0, all_append P xs ys first.1 second)
 
@@ -87,8 +87,8 @@ pages_apart m level want (start ∷ starts) =
     all_append (BeginsApart level want) (page_programs m level want start) _ (page_apart m level want start) (pages_apart m level want starts)
 
 -- of a unit: its block is erased for some address, and each of its programs begins apart
-record IsFrom (level want : List ℕ) (erased : ℕ → Option Block) (u : WorkUnit) : Type 0 where
-  block : (b : Block) → u.erase ≡ Some b → (a : ℕ) × (erased a ≡ Some b)
+pub record IsFrom (level want : List ℕ) (erased : ℕ → Option Block) (u : WorkUnit) : Type 0 where
+  pub block : (b : Block) → u.erase ≡ Some b → (a : ℕ) × (erased a ≡ Some b)
   apart : AllByRecursion (BeginsApart level want) u.programs
 
 block_from : (m : Parameters) (level want : List ℕ) (erased : ℕ → Option Block) (start : ℕ) (b : Block) (t : Bool) → erased start ≡ Some b
@@ -109,7 +109,7 @@ unit_from : (m : Parameters) (level want : List ℕ) (erased : ℕ → Option Bl
 unit_from m level want erased start (Some b) is = block_from m level want erased start b (b.start == start) is
 unit_from m level want erased start None is = page_from m level want erased start (page_programs m level want start) (page_apart m level want start)
 
-units_from : (m : Parameters) (level want : List ℕ) (erased : ℕ → Option Block) (starts : List ℕ) → AllByRecursion (IsFrom level want erased) (units_over m level want erased starts)
+pub units_from : (m : Parameters) (level want : List ℕ) (erased : ℕ → Option Block) (starts : List ℕ) → AllByRecursion (IsFrom level want erased) (units_over m level want erased starts)
 unfolding units_over
 units_from m level want erased [] = tt
 units_from m level want erased (start ∷ starts) =
@@ -306,6 +306,9 @@ given m start have want w = record {
   held = λ a b x is from upto. (erased_block m start (is_due m have want) a b w.accepted is).1 x from upto;
 }
 
+pub own_page : (m : Parameters) → may_page m m.page ≡ true
+own_page m = let same : (m.page == m.page) ≡ true = eq-eqb m.page m.page refl in rw same refl
+
 pub planned_done : (m : Parameters) (start : Start) (verify : Bool) (have want : List ℕ) → IsWorkable m start have want
     → AllByRecursion (CanBeDone m (strategy m start)) (planned_ops m start verify have want)
 unfolding units
@@ -314,6 +317,3 @@ planned_done m start verify have want w =
     let erased = erased_at m (strategy m start) (is_due m have want) in
     units_done m start level have want erased verify (planned_units m start have want) 0 (given m start have want w)
     (units_from m level want erased (pages m.page 0 (m.size / m.page))) (units_sound m start m.page have want w (own_page m))
-  where
-    own_page : (m : Parameters) → may_page m m.page ≡ true
-    own_page m = let same : (m.page == m.page) ≡ true = eq-eqb m.page m.page refl in rw same refl

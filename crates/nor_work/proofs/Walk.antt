@@ -89,7 +89,7 @@ ends_at page (suc n) start high sum =
     let more : suc n * page ≡ n * page + page = suc-mul n page in
     ends_at page n (start + page) high (omega (arith, more, sum))
 
-within : (page n start high : ℕ) → EndsAt page start n high → start ≤ high
+pub within : (page n start high : ℕ) → EndsAt page start n high → start ≤ high
 within page zero start high ends = omega arith
 within page (suc n) start high ends = let later = within page n (start + page) high ends in omega (arith, later)
 
@@ -97,7 +97,7 @@ end_by : (page n start high : ℕ) → EndsAt page start n high → EndBy page s
 end_by page zero start high ends = tt
 end_by page (suc n) start high ends = (within page n (start + page) high ends, end_by page n (start + page) high ends)
 
-block_ends : (m : Parameters) (erased : ℕ → Option Block) (a : ℕ) (b : Block) → IsErasedFor m erased a b → EndsAt m.page b.start (b.size / m.page) (b.start + b.size)
+pub block_ends : (m : Parameters) (erased : ℕ → Option Block) (a : ℕ) (b : Block) → IsErasedFor m erased a b → EndsAt m.page b.start (b.size / m.page) (b.start + b.size)
 block_ends m erased a b is =
     let all : b.size / m.page * m.page + b.size % m.page ≡ b.size = div-add-mod' b.size m.page in
     ends_at m.page (b.size / m.page) b.start (b.start + b.size) (omega (arith, all, is.whole))

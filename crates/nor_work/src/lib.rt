@@ -6,6 +6,9 @@ ghost use Rattle.nor_work.specs.Laws.{PlannedDoesTask, OneUnitInTheMaking};
 ghost use Rattle.nor_work.specs.Able.{OperationIsDone, SmallestAgree, BlocksStay, PagesStay};
 ghost use Rattle.nor_work.specs.Exists.{PlannedCanBeSpelled, ThereIsPlannedWork, OnePlannedWork};
 ghost use Rattle.nor_work.specs.Least.{ErasesNeeded, ErasesBlocks, ErasesApart, ErasesLargest, UnitsJoin, NoScriptErasesLess};
+ghost use Rattle.nor_work.specs.Runs.{PlannedErasesNeeded, ErasesOnce, ErasesCounted, ProgramsCounted};
+ghost use Rattle.nor_work.specs.Runs.{PlannedIsVerified, NoneVerifies, ErasedBytes};
+ghost use Rattle.nor_work.specs.Small.{SmallIsWorkable, SmallWorkErases};
 
 use nor_laws::instruction_rows;
 use nor_spelling::spelling;
@@ -58,3 +61,31 @@ pub fn units_join()
 pub fn least_erasure()
     ensures { NoScriptErasesLess }
 {}
+
+/// What a run of planned work shows, on every chip. It erases just the needed area, each address once, and it erases and
+/// programs as often as the units do. Where the work is verified each address that it erases or programs is read later,
+/// against the target; else no step verifies.
+pub fn planned_runs()
+    ensures exact { PlannedErasesNeeded }
+    ensures once { ErasesOnce }
+    ensures erases { ErasesCounted }
+    ensures programs { ProgramsCounted }
+    ensures verified { PlannedIsVerified }
+    ensures unverified { NoneVerifies }
+{}
+
+/// The units' blocks have as many bytes as addresses are needed.
+pub fn erased_bytes()
+    ensures { ErasedBytes }
+{
+    there_is_planned_work();
+}
+
+/// Of 8 KiB in sectors of 4 KiB, with one byte that must rise: the laws' premise holds, and there is planned work, which does
+/// the task on every chip and erases the first sector and no more.
+pub fn small_work()
+    ensures workable { SmallIsWorkable }
+    ensures erases { SmallWorkErases }
+{
+    there_is_planned_work();
+}

@@ -1,41 +1,56 @@
 -- From a job to what a build promises of its inputs.
-use Rattle.std.proofs.Common.{◌≡◌, ℕ, ◌+◌, ◌-◌, ◌*◌, ◌/◌, ◌^◌, Bool, true, false, not, ◌&&◌, if◌then◌else◌, cond, nat_lt, nat_le, List, [], ◌∷◌, length, map, Option, refl, sym, ◌∙◌, ap, subst, arith}
-use Rattle.std.specs.Prelude.{count_by, unwrap_or}
-use Rattle.std.proofs.lemmas.Bool.{or_parts}
-use Rattle.nor_base.specs.Programs.{Program}
+use Rattle.std.proofs.Common.{◌≡◌, ℕ, ◌+◌, ◌-◌, ◌^◌, Bool, not, ◌&&◌, if◌then◌else◌, cond, nat_lt, nat_le, List, [], ◌∷◌, length, map, Option, refl, sym, ◌∙◌, ap, subst, arith}
+use Rattle.std.specs.Prelude.{count_by, sum_by, is_some, unwrap_or}
+use Rattle.std.specs.Option.{option_map_or}
 use Rattle.std.specs.List.{fold, enumerate_from, AllByRecursion}
-use Rattle.nor_base.specs.Parameters.{Parameters}
-use Rattle.nor_base.specs.Uniform.{uniform_of, IsUniformSize}
-use Rattle.nor_base.specs.Device.{Ahead}
-use Rattle.nor_base.specs.Target.{target, target_byte, is_ignored}
+use Rattle.std.proofs.lemmas.List.{length-map}
 use Rattle.nor_base.specs.declared.meaning.Start.{Start}
 use Rattle.nor_base.specs.declared.meaning.Strategy.{Strategy}
 use Rattle.nor_base.specs.declared.step.Step.{Step}
 use Rattle.nor_base.specs.Accepted.{IsAccepted}
-use Rattle.nor_base.specs.Run.{DoesTaskOnEvery}
-use Rattle.nor_base.specs.Need.{is_at_fault}
-use Rattle.nor_base.specs.Units.{pages}
-use Rattle.nor_base.specs.Planned.{ArePlanned, planned_units}
-use Rattle.nor_work.specs.Laws.{IsWorkable, PlannedDoesTask, OneUnitInTheMaking}
+use Rattle.nor_base.specs.Chip.{begins4}
+use Rattle.nor_base.specs.Device.{Ahead}
+use Rattle.nor_base.specs.Parameters.{Parameters}
+use Rattle.nor_base.specs.Planned.{planned, planned_ops, planned_units, ArePlanned}
+use Rattle.nor_base.specs.Step.{IsStep}
+use Rattle.nor_base.specs.Strategies.{strategy}
+use Rattle.nor_base.specs.Target.{target, target_byte, is_ignored}
+use Rattle.nor_erase.specs.Plan.{IsFault}
 use Rattle.nor_hex.specs.Image.{byte_at}
+use Rattle.nor_job.specs.declared.fault.BuildFault.{BuildFault}
+use Rattle.nor_job.specs.declared.fault.BuildFault.TheVariants as fault
+use Rattle.nor_job.specs.declared.job.Job.{Job}
+use Rattle.nor_job.specs.Job.{IsJob}
+use Rattle.nor_job.specs.Status.{start_of}
+use Rattle.nor_job.specs.Task.{Task}
 use Rattle.nor_layout.specs.Chosen.{has, is_chosen}
-use Rattle.norprog.specs.declared.fault.BuildFault.{BuildFault}
-use Rattle.norprog.specs.declared.fault.BuildFault.TheVariants as fault
-use Rattle.norprog.specs.declared.job.Job.{Job}
+use Rattle.nor_spelling.specs.Laws.{HasSpelling}
+use Rattle.nor_steps.specs.declared.tally.Tally.{Tally}
+use Rattle.nor_steps.specs.Lines.{step_of, steps_of}
+use Rattle.nor_work.specs.Exists.{PlannedCanBeSpelled}
+use Rattle.nor_work.specs.Laws.{IsWorkable, PlannedDoesTask, OneUnitInTheMaking}
+use Rattle.nor_work.specs.Least.{NoScriptErasesLess}
+use Rattle.nor_work.specs.Runs.{PlannedErasesNeeded, PlannedIsVerified, NoneVerifies}
 use Rattle.norprog.specs.declared.report.Report.{Report}
-use Rattle.norprog.specs.Task.{Task}
-use Rattle.norprog.specs.Causes.{CanBegin, IsJob, is_not_yet, is_uniform, uniform_size}
-use Rattle.norprog.specs.Clocks.{AreBytes, IsSendable}
-use Rattle.norprog.specs.Pages.{page_programs, steps_of}
+use Rattle.norprog.specs.Build.{wanted, IsDoneBy, IsBuilt, IsLate, WorkCause, IsFrontOf, StopsWork}
 use Rattle.norprog.specs.Windows.{target_from, CutCause, IsScripted, IsCutScript, job_report}
-use Rattle.norprog.specs.Build.{chip_meaning, start_of, wanted, ComesInOrder, IsBuilt, IsLate, WorkCause, StopsWork}
-use Rattle.norprog.specs.Rises.{must_rise}
-use Rattle.norprog.proofs.ClockLemmas.{steps_are_steps, steps_length}
-use Rattle.norprog.proofs.NeedLemmas.{NoneDue, due_is_rise, by_three, none_at_fault}
-use Rattle.norprog.proofs.PlanLemmas.{IsPlain, units_planned, all_planned, steps_planned}
-use Rattle.norprog.proofs.UnitLemmas.{AreCounted, units_from, units_counted}
-use Rattle.norprog.proofs.SendLemmas.{pages_send}
-use Rattle.norprog.proofs.WholeLemmas.{length-target}
+use Rattle.norprog.proofs.CountLemmas.{erases_told, erased_told, programs_told}
+use Rattle.norprog.proofs.FillLemmas.{filled, filled_is}
+use Rattle.norprog.proofs.ImageLemmas.{image_bytes}
+use Rattle.norprog.proofs.OpBytes.{planned_bytes}
+use Rattle.norprog.proofs.StepLemmas.{plain_lowered, steps_spell, steps_pass}
+use Rattle.norprog.proofs.TargetLemmas.{length-target}
+
+-- what holds of planned work
+pub record Laws : Type 0 where
+  pub done : PlannedDoesTask
+  pub making : OneUnitInTheMaking
+  pub exact : PlannedErasesNeeded
+  pub verified : PlannedIsVerified
+  pub unverified : NoneVerifies
+  pub least : NoScriptErasesLess
+  pub spelled : PlannedCanBeSpelled
+  pub has : HasSpelling
 
 map_same : {X Y : Type 0} (f g : X → Y) (xs : List X) → ((x : X) → f x ≡ g x) → map f xs ≡ map g xs
 map_same f g [] same = refl
@@ -46,18 +61,11 @@ byte_same image base c d same a old =
     ap (λ b. if b && nat_lt (base + a) (2 ^ 32) then unwrap_or (image (base + a)) old else old) (same a)
 
 -- the target of a job is that of its inputs
-pub target_is : (t : Task) (len : ℕ) (job : Job) (is : IsJob t len job) (part : List ℕ) → target_from job 0 part ≡ wanted t job.image is.regions part
+target_is : (t : Task) (len : ℕ) (job : Job) (is : IsJob t len job) (part : List ℕ) → target_from job 0 part ≡ wanted t job.image is.regions part
 unfolding target
 target_is t len job is part =
     map_same _ _ (enumerate_from 0 part) (λ p. byte_same (byte_at job.image) job.base (has job.chosen) (is_chosen is.regions t.regions) is.chosen p.0 p.1)
     ∙ ap (λ base. map (λ p. target_byte (byte_at job.image) base (is_chosen is.regions t.regions) p.0 p.1) (enumerate_from 0 part)) is.base
-
-pub size_is : (t : Task) (len : ℕ) (job : Job) → IsJob t len job → job.meaning.size ≡ len
-size_is t len job is = ap (λ (m : Parameters). m.size) is.meaning
-
-pub size_fits : (t : Task) (len : ℕ) (job : Job) → IsJob t len job → IsUniformSize job.meaning.size
-size_fits t len job is =
-    subst IsUniformSize (sym (size_is t len job is ∙ is.accepted.length)) is.accepted.size
 
 counts_same : {X : Type 0} (f g : X → Bool) (n : ℕ) (xs : List X) → ((x : X) → f x ≡ g x)
     → fold (λ m x. m + cond (f x) 1 0) n xs ≡ fold (λ m x. m + cond (g x) 1 0) n xs
@@ -70,12 +78,39 @@ count_same f g xs same = counts_same f g 0 xs same
 
 ignored_is : (t : Task) (len : ℕ) (job : Job) (is : IsJob t len job)
     → count_by (λ pair. is_ignored job.base (has job.chosen) job.meaning.size pair.0) job.image
-    ≡ count_by (λ pair. is_ignored t.base (is_chosen is.regions t.regions) (uniform_size t.chip) pair.0) job.image
+    ≡ count_by (λ pair. is_ignored t.base (is_chosen is.regions t.regions) job.meaning.size pair.0) job.image
 ignored_is t len job is =
     let c = is_chosen is.regions t.regions in
     count_same _ _ job.image (λ pair. ap (λ b. not (nat_le job.base pair.0 && (nat_lt (pair.0 - job.base) job.meaning.size && b))) (is.chosen (pair.0 - job.base)))
     ∙ ap (λ base. count_by (λ pair. is_ignored base c job.meaning.size pair.0) job.image) is.base
-    ∙ ap (λ size. count_by (λ pair. is_ignored t.base c size pair.0) job.image) (size_is t len job is ∙ is.accepted.length)
+
+-- the steps of the planned work
+record IsSpelled (m : Parameters) (start : Start) (verify : Bool) (content goal : List ℕ) (steps : List Step) : Type 0 where
+  each : AllByRecursion IsStep steps
+  planned : ArePlanned m start verify content goal steps
+
+spelled_is : Laws → (m : Parameters) (start : Start) (verify : Bool) (content goal : List ℕ) → IsWorkable m start content goal
+    → IsSpelled m start verify content goal (steps_of (planned m start verify content goal))
+spelled_is laws m start verify content goal w =
+    let these = planned m start verify content goal in
+    let plain = plain_lowered m start (strategy m start) (planned_ops m start verify content goal) (planned_bytes m start verify content goal w.bytes) in
+    let can = laws.spelled m start verify content goal w in
+    record { each = steps_pass m (begins4 m start) these plain can; planned = steps_spell laws.has m (begins4 m start) these plain can }
+
+-- what they do on every chip
+done_by : Laws → (m : Parameters) (start : Start) (verify : Bool) (content goal : List ℕ) (steps : List Step) → IsWorkable m start content goal
+    → ArePlanned m start verify content goal steps → IsDoneBy m start verify content goal steps
+done_by laws m start verify content goal steps w are = record {
+  workable = w;
+  planned = are;
+  task = laws.done m start verify content goal steps w are;
+  rising = laws.making m start verify content goal steps w are;
+  verified = λ asked. laws.verified m start content goal steps w (subst (λ v. ArePlanned m start v content goal steps) asked are);
+  unverified = λ asked. laws.unverified m start content goal steps (subst (λ v. ArePlanned m start v content goal steps) asked are);
+  erased = λ s is a. laws.exact m start verify content goal steps w are s is a;
+  least = λ s other others a is is' does erased.
+      laws.least m start other content goal others a w.accepted is' does (sym (laws.exact m start verify content goal steps w are s is a) ∙ erased);
+}
 
 report_same : (by by' : Strategy) (s s' e e' b b' p p' i i' : ℕ) → by ≡ by' → s ≡ s' → e ≡ e' → b ≡ b' → p ≡ p' → i ≡ i'
     → ◌≡◌ {A = Report} (record { strategy = by; steps = s; erases = e; erased = b; programs = p; ignored = i })
@@ -85,129 +120,104 @@ report_same by by' s s' e e' b b' p p' i i' first steps erases erased programs i
     ap (λ v. one v s e b p i) first ∙ ap (λ n. one by' n e b p i) steps ∙ ap (λ n. one by' s' n b p i) erases
     ∙ ap (λ n. one by' s' e' n p i) erased ∙ ap (λ n. one by' s' e' b' n i) programs ∙ ap (λ n. one by' s' e' b' p' n) ignored
 
--- a uniform chip is one that these programs and steps do for
-plain_is : (t : Task) (len : ℕ) (job : Job) → IsJob t len job → IsAccepted job.meaning → IsPlain (chip_meaning t)
-plain_is t len job is accepted = record {
-  accepted = subst IsAccepted (is.meaning ∙ ap uniform_of is.accepted.length) accepted;
-  any_byte = refl;
-  page = refl;
-  width = refl;
-  reached = is.accepted.size.high;
-  quad4 = refl;
-  quad3 = refl;
-}
-
-not_verified : (t : Task) → CanBegin t → t.verify ≡ false
-unfolding is_not_yet
-not_verified t begins = (or_parts (not (is_uniform t.chip)) t.verify begins.today).1
-
--- the work on a content: nothing is due, the steps are those of the planned work, do the task on every chip, and come in order
-record IsWork (m : Parameters) (start : Start) (verify : Bool) (content goal : List ℕ) (steps : List Step) (programs : List Program) : Type 0 where
-  level : NoneDue m content goal
-  planned : ArePlanned m start verify content goal steps
-  task : DoesTaskOnEvery m start content goal steps
-  rising : ComesInOrder m start content goal steps
-  counted : AreCounted (planned_units m start content goal) programs
-
-workable : (m : Parameters) → IsPlain m → (start : Start) (content goal : List ℕ) → start.mode4 ≡ false → length content ≡ m.size → length goal ≡ length content
-    → AreBytes goal → NoneDue m content goal → IsWorkable m start content goal
-workable m plain start content goal mode size lengths small none = record {
-  accepted = plain.accepted;
-  have_size = size;
-  want_size = lengths ∙ size;
-  bytes = small;
-  sound = λ a inside. ap (λ by. is_at_fault m by content goal a) (by_three m start plain.width plain.reached mode) ∙ none_at_fault m content goal none a;
-}
-
-work_is : (m : Parameters) → IsPlain m → (start : Start) (n : ℕ) (content goal : List ℕ) → start.mode4 ≡ false → n * 256 ≡ m.size → length content ≡ m.size
-    → length goal ≡ length content → AreBytes goal → NoneDue m content goal → AllByRecursion IsSendable (page_programs n 0 content goal)
-    → PlannedDoesTask → OneUnitInTheMaking
-    → IsWork m start false content goal (steps_of (page_programs n 0 content goal)) (page_programs n 0 content goal)
-work_is m plain start n content goal mode whole size lengths small none sendable law making =
-    let programs = page_programs n 0 content goal in
-    let can = workable m plain start content goal mode size lengths small none in
-    let planned = steps_planned m plain start n content goal mode whole size lengths none sendable in
-    record {
-      level = none;
-      planned = planned;
-      task = law m start false content goal (steps_of programs) can planned;
-      rising = making m start false content goal (steps_of programs) can planned;
-      counted = subst (λ us. AreCounted us programs) (sym (units_planned m plain start content goal mode none))
-          (subst (AreCounted (units_from m content goal (pages m.page 0 (m.size / m.page)))) (sym (all_planned m plain n content goal whole size lengths)) (units_counted m content goal (pages m.page 0 (m.size / m.page))));
-    }
-
-pub built_is : (t : Task) (len : ℕ) (job : Job) (before after : Ahead) (x y : Option (List ℕ)) (programs : ℕ) → PlannedDoesTask → OneUnitInTheMaking
-    → IsAccepted job.meaning → IsJob t len job → IsScripted job job.meaning.size before after x y programs → IsBuilt t len before after x y (job_report job programs)
-built_is t len job before after x y programs law making accepted is done =
-    let m = chip_meaning t in
+pub built_is : (t : Task) (len : ℕ) (job : Job) (before after : Ahead) (x y : Option (List ℕ)) (told : Tally) → Laws → IsAccepted job.meaning → IsJob t len job
+    → IsScripted job before after x y told → IsBuilt t len before after x y (job_report job told)
+built_is t len job before after x y told laws accepted is done =
+    let m = job.meaning in
     let part = done.part in
     let own = target_from job 0 part in
-    let size = size_is t len job is in
-    let lengths = length-target job 0 part in
-    let these = page_programs done.pages 0 part own in
-    let plain = plain_is t len job is accepted in
-    let sendable = pages_send done.pages 0 part own (omega (arith, done.whole)) (omega (arith, done.upto, (size_fits t len job is).high)) lengths done.bytes in
-    let long : length part ≡ uniform_size t.chip = done.upto ∙ size ∙ is.accepted.length in
-    let none : NoneDue m part own = λ a. due_is_rise m refl part own a ∙ done.level a in
-    let own_work : IsWork m (start_of t) false part own (steps_of these) these =
-    work_is m plain (start_of t) done.pages part own is.accepted.mode (sym done.whole ∙ long) long lengths done.bytes none sendable law making in
-    let work : IsWork m (start_of t) t.verify part (wanted t job.image is.regions part) (steps_of these) these =
-    subst (λ verify. IsWork m (start_of t) verify part (wanted t job.image is.regions part) (steps_of these) these) (sym (not_verified t is.accepted.named.imaged.begins))
-    (subst (λ (w : List ℕ). IsWork m (start_of t) false part w (steps_of these) these) (target_is t len job is part) own_work) in
+    let goal = wanted t job.image is.regions part in
+    let these = planned m job.start job.verify part own in
+    let steps = steps_of these in
+    let us = planned_units m job.start part own in
+    let same : own ≡ goal = target_is t len job is part in
+    let units : us ≡ planned_units m (start_of t) part goal = ap (λ (s : Start). planned_units m s part own) is.start ∙ ap (planned_units m (start_of t) part) same in
+    let w : IsWorkable m job.start part own =
+    record { accepted = accepted; have_size = done.upto; want_size = length-target job 0 part ∙ done.upto; bytes = done.bytes; sound = done.sound } in
+    let spelled = spelled_is laws m job.start job.verify part own w in
+    let tally = done.its_tally in
     record {
       image = job.image;
       regions = is.regions;
+      m = m;
       accepted = is.accepted;
       content = part;
-      whole = done.upto ∙ size;
+      whole = done.upto ∙ sym is.accepted.size;
       given = done.given;
-      level = work.level;
       text = _;
       put = done.put;
-      steps = steps_of these;
-      script = record { each = steps_are_steps these sendable; spelled = refl };
-      planned = work.planned;
-      task = work.task;
-      rising = work.rising;
-      told = report_same _ _ _ _ _ _ _ _ _ _ _ _ (sym (by_three m (start_of t) refl plain.reached is.accepted.mode))
-          (ap (λ n. 3 * n) done.count ∙ sym (steps_length these)) (sym work.counted.erases) (sym work.counted.erased)
-          (done.count ∙ sym work.counted.programs) (ignored_is t len job is);
+      steps = steps;
+      script = record { each = spelled.each; spelled = refl };
+      work = subst (λ (wish : List ℕ). IsDoneBy m (start_of t) t.verify part wish steps) same
+          (subst (λ v. IsDoneBy m (start_of t) v part own steps) is.verify
+          (subst (λ (s : Start). IsDoneBy m s job.verify part own steps) is.start (done_by laws m job.start job.verify part own steps w spelled.planned)));
+      told = report_same _ _ _ _ _ _ _ _ _ _ _ _ (ap (strategy m) is.start) (ap (λ (v : Tally). v.steps) tally ∙ sym (length-map these step_of))
+          (ap (λ (v : Tally). v.erases) tally ∙ erases_told m job.verify own us ∙ ap (λ vs. count_by (λ u. is_some u.erase) vs) units)
+          (ap (λ (v : Tally). v.erased) tally ∙ erased_told m job.verify own us ∙ ap (λ vs. sum_by (λ u. option_map_or (λ block. block.size) u.erase 0) vs) units)
+          (ap (λ (v : Tally). v.programs) tally ∙ programs_told m job.verify own us ∙ ap (λ vs. sum_by (λ u. length u.programs) vs) units)
+          (ignored_is t len job is);
     }
 
 work_cause : (t : Task) (len : ℕ) (job : Job) (is : IsJob t len job) (part : List ℕ) (after : Ahead) (why : BuildFault)
-    → CutCause job 0 job.meaning.size part after why → WorkCause t job.image is.regions len part after why
-work_cause t len job is part after fault.ContentShort cause = (omega (arith, cause.0, size_is t len job is), cause.1)
-work_cause t len job is part after fault.NotYet cause = (
-  cause.0,
-  cause.1,
-  due_is_rise (chip_meaning t) refl part (wanted t job.image is.regions part) cause.0
-      ∙ subst (λ (w : List ℕ). must_rise part w cause.0 ≡ true) (target_is t len job is part) cause.2,
-)
+    → CutCause job part after why → WorkCause t job.image is.regions job.meaning len part after why
+work_cause t len job is part after fault.ContentShort cause = (omega (arith, cause.0, is.accepted.size), cause.1)
+work_cause t len job is part after (fault.Plan why) cause =
+    subst (λ (goal : List ℕ). IsFault job.meaning (strategy job.meaning (start_of t)) 0 part goal why) (target_is t len job is part)
+    (subst (λ (s : Start). IsFault job.meaning (strategy job.meaning s) 0 part (target_from job 0 part) why) is.start cause)
 work_cause t len job is part after fault.Read cause = tt
 work_cause t len job is part after fault.Write cause = tt
 work_cause t len job is part after fault.Memory cause = tt
 work_cause t len job is part after other cause = absurd cause
 
-pub stops_is : (t : Task) (len : ℕ) (job : Job) (before after : Ahead) (x y : Option (List ℕ)) (why : BuildFault) → IsJob t len job
-    → IsCutScript job job.meaning.size before after x y why → StopsWork t len before after why
-stops_is t len job before after x y why is cut = record {
+front_is : (t : Task) (len : ℕ) (job : Job) (before after : Ahead) (x y : Option (List ℕ)) (why : BuildFault) → Laws → IsAccepted job.meaning → (is : IsJob t len job)
+    → (cut : IsCutScript job before after x y why) → IsFrontOf job.meaning (start_of t) t.verify (wanted t job.image is.regions) cut.part cut.bytes
+front_is t len job before after x y why laws accepted is cut =
+    let m = job.meaning in
+    let content = filled job cut.known cut.part in
+    let own = target_from job 0 content in
+    let same : own ≡ wanted t job.image is.regions content = target_is t len job is content in
+    let gives = image_bytes t.hex job.image is.accepted.named.imaged.spelled in
+    let fill = filled_is job cut.known cut.part cut.bytes accepted gives cut.within cut.front in
+    let text = cut.front.front content own fill.size fill.has fill.has' in
+    let spelled = spelled_is laws m job.start job.verify content own fill.workable in
+    let steps = steps_of (planned m job.start job.verify content own) in
+    record {
+      content = content;
+      known = cut.known;
+      within = cut.front.within;
+      window = cut.window;
+      its_size = cut.its_size;
+      recent = cut.recent;
+      begins = fill.begins;
+      workable = subst (IsWorkable m (start_of t) content) same (subst (λ (s : Start). IsWorkable m s content own) is.start fill.workable);
+      steps = steps;
+      planned = subst (λ (wish : List ℕ). ArePlanned m (start_of t) t.verify content wish steps) same
+          (subst (λ v. ArePlanned m (start_of t) v content own steps) is.verify (subst (λ (s : Start). ArePlanned m s job.verify content own steps) is.start spelled.planned));
+      rest = text.rest;
+      script = record { each = spelled.each; spelled = sym text.whole };
+      more = text.more;
+    }
+
+pub stops_is : (t : Task) (len : ℕ) (job : Job) (before after : Ahead) (x y : Option (List ℕ)) (why : BuildFault) → Laws → IsAccepted job.meaning → IsJob t len job
+    → IsCutScript job before after x y why → StopsWork t len before after x y why
+stops_is t len job before after x y why laws accepted is cut = record {
   image = job.image;
   regions = is.regions;
+  m = job.meaning;
   accepted = is.accepted;
   part = cut.part;
-  within = omega (arith, cut.within, size_is t len job is);
+  within = omega (arith, cut.within, is.accepted.size);
   given = cut.given;
   cause = work_cause t len job is cut.part after why cut.cause;
+  bytes = cut.bytes;
+  front = front_is t len job before after x y why laws accepted is cut;
+  put = cut.put;
 }
 
-late : (job : Job) (end : ℕ) (part : List ℕ) (after : Ahead) (why : BuildFault) → CutCause job 0 end part after why → IsLate why
-late job end part after fault.ContentShort cause = tt
-late job end part after fault.NotYet cause = tt
-late job end part after fault.Read cause = tt
-late job end part after fault.Write cause = tt
-late job end part after fault.Memory cause = tt
-late job end part after other cause = absurd cause
-
-pub cut_is_late : (job : Job) (before after : Ahead) (x y : Option (List ℕ)) (why : BuildFault)
-    → IsCutScript job job.meaning.size before after x y why → IsLate why
-cut_is_late job before after x y why cut = late job job.meaning.size cut.part after why cut.cause
+pub cause_is_late : (job : Job) (part : List ℕ) (after : Ahead) (why : BuildFault) → CutCause job part after why → IsLate why
+cause_is_late job part after fault.ContentShort cause = tt
+cause_is_late job part after (fault.Plan why) cause = tt
+cause_is_late job part after fault.Read cause = tt
+cause_is_late job part after fault.Write cause = tt
+cause_is_late job part after fault.Memory cause = tt
+cause_is_late job part after other cause = absurd cause

@@ -1,7 +1,7 @@
 -- A fault that `?` hands on.
 use Rattle.std.proofs.Common.{◌≡◌, Result, Ok, Err, sym, subst}
 use Rattle.std.specs.Prelude.{IfErr, IsErrAnd}
-use Rattle.norprog.specs.declared.fault.BuildFault.{BuildFault}
+use Rattle.nor_job.specs.declared.fault.BuildFault.{BuildFault}
 
 -- what is known of it is known of the result
 pub handed_on : {T : Type 0} (P : BuildFault → Type 0) (r : Result T BuildFault) (fault : BuildFault) → IsErrAnd r (λ lifted. lifted ≡ fault) → P fault → IfErr r P

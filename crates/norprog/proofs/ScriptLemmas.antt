@@ -1,99 +1,159 @@
--- From the lines of programs to a whole script.
-use Rattle.std.proofs.Common.{◌≡◌, ℕ, ◌+◌, ◌*◌, ◌<◌, ◌≤◌, List, [], ◌++◌, length, take, drop, Option, sym, ◌∙◌, ap, subst, arith, ◌-◌, length-append, length-drop}
-use Rattle.std.specs.List.{AllByRecursion}
+-- How far the text of a script was written.
+use Rattle.std.proofs.Common.{◌≡◌, ℕ, ◌+◌, List, [], ◌++◌, length, take, Option, refl, sym, ◌∙◌, ap, subst, arith, length-append}
 use Rattle.std.specs.Io.KnownBytes.{Appends}
-use Rattle.std.proofs.lemmas.List.{take-append-drop, take-append-le}
-use Rattle.std.proofs.Math.Seq.{take-append-add}
-use Rattle.nor_base.specs.Script.{script_text, header, step_lines, end_line}
-use Rattle.nor_base.specs.Programs.{Program}
+use Rattle.nor_base.specs.Accepted.{IsAccepted}
+use Rattle.nor_base.specs.Device.{Ahead, Cuts}
+use Rattle.nor_base.specs.Operations.{Op}
+use Rattle.nor_base.specs.Script.{header, end_line}
 use Rattle.nor_base.proofs.DeviceLaws.{Appends-append, Appends-none}
-use Rattle.norprog.specs.Build.{IsScriptFront, AppendsFront}
-use Rattle.norprog.specs.Clocks.{IsSendable}
-use Rattle.norprog.specs.Pages.{steps_of, lines_of}
-use Rattle.nor_base.specs.Device.{Cuts}
-use Rattle.norprog.proofs.ClockLemmas.{steps_are_steps, steps_length}
+use Rattle.nor_geometry.specs.Window.{IsWindowSize}
+use Rattle.nor_job.specs.declared.fault.BuildFault.{BuildFault}
+use Rattle.nor_job.specs.declared.fault.BuildFault.TheVariants as fault
+use Rattle.nor_job.specs.declared.job.Job.{Job}
+use Rattle.nor_select.specs.Streamed.{next, last, onward}
+use Rattle.nor_steps.specs.declared.fault.StepsFault.{StepsFault}
+use Rattle.nor_steps.specs.declared.fault.StepsFault.TheVariants as steps
+use Rattle.nor_steps.specs.declared.tally.Tally.{Tally}
+use Rattle.nor_steps.specs.Faults.{IsOfWriting}
+use Rattle.nor_steps.specs.Tally.{tally_with}
+use Rattle.nor_steps.specs.Writing.{Writing, Begins, lines_of, next_lines}
+use Rattle.norprog.specs.Windows.{target_from, first_writing, lifted_steps, IsDone, CutCause, IsCut, IsScripted, IsCutScript}
+use Rattle.norprog.proofs.PlaceLemmas.{some_page}
+use Rattle.norprog.proofs.TargetLemmas.{gives_none, part_whole}
+use Rattle.norprog.proofs.TextLemmas.{closing_lines, job_ops, job_planned, job_text, body, planned_parts, text_is, header_front, known_front, whole_is, closing_front, end_front}
 
--- a script up to some byte of it, which isn't its last
-front_at : (programs : List Program) (n : ℕ) → AllByRecursion IsSendable programs → n < length (script_text (steps_of programs))
-    → IsScriptFront (take n (script_text (steps_of programs)))
-front_at programs n sendable inside =
-    let text = script_text (steps_of programs) in
-    let left : length (drop n text) ≡ length text - n = length-drop n text in
+-- before anything was written
+pub memory_cut : (job : Job) (w : ℕ) (a : Ahead) (x : Option (List ℕ)) → IsWindowSize job.meaning w → IsCutScript job a a x x fault.Memory
+memory_cut job w a x size = record {
+  part = [];
+  within = omega arith;
+  given = gives_none a;
+  cause = tt;
+  known = 0;
+  window = w;
+  its_size = size;
+  recent = omega arith;
+  bytes = take 0 header;
+  front = header_front job 0;
+  put = Appends-none x;
+}
+
+-- in the header
+pub header_cut : (job : Job) (w : ℕ) (a : Ahead) (x y : Option (List ℕ)) → IsWindowSize job.meaning w → Cuts x y header → IsCutScript job a a x y fault.Write
+header_cut job w a x y size cut = record {
+  part = [];
+  within = omega arith;
+  given = gives_none a;
+  cause = tt;
+  known = 0;
+  window = w;
+  its_size = size;
+  recent = omega arith;
+  bytes = take cut.0 header;
+  front = header_front job cut.0;
+  put = cut.2;
+}
+
+-- in the windows
+pub windows_cut : (job : Job) (w n : ℕ) (a b : Ahead) (x y z : Option (List ℕ)) (why : BuildFault) → IsAccepted job.meaning → IsWindowSize job.meaning w → n ≡ w
+    → Appends x y header → IsCut job n a b y z why → IsCutScript job a b x z why
+windows_cut job w n a b x y z why accepted size same begun cut = record {
+  part = cut.part;
+  within = cut.within;
+  given = cut.given;
+  cause = cut.cause;
+  known = cut.known;
+  window = w;
+  its_size = size;
+  recent = omega (arith, cut.recent, same);
+  bytes = header ++ cut.front;
+  front = known_front job cut.known cut.part cut.front (some_page job.meaning accepted) cut.within cut.begins;
+  put = Appends-append x y z header cut.front begun cut.put;
+}
+
+of_writing : (job : Job) (part : List ℕ) (after : Ahead) (why : StepsFault) → IsOfWriting why → CutCause job part after (lifted_steps why)
+of_writing job part after steps.Write is = tt
+of_writing job part after steps.Memory is = tt
+of_writing job part after (steps.Plan why) is = absurd is
+
+pub closing_cut : (job : Job) (v : Writing) (w : ℕ) (a b : Ahead) (x y z u : Option (List ℕ)) (told : Tally) (why : StepsFault) → IsWindowSize job.meaning w
+    → Appends x y header → IsDone job v job.meaning.size a b y z told → Begins z u (lines_of (last v.streaming)) → IsOfWriting why
+    → IsCutScript job a b x u (lifted_steps why)
+closing_cut job v w a b x y z u told why size begun done close is =
+    let lines : closing_lines (first_writing job) done.ops ≡ close.front ++ close.rest = ap (λ (t : Writing). lines_of (last t.streaming)) (sym done.state) ∙ close.whole in
     record {
-      steps = steps_of programs;
-      rest = drop n text;
-      script = record { each = steps_are_steps programs sendable; spelled = take-append-drop n text };
-      more = λ none. absurd (omega (arith, ap length none, left, inside));
+      part = done.part;
+      within = omega (arith, done.upto);
+      given = done.given;
+      cause = of_writing job done.part b why is;
+      known = length done.part;
+      window = w;
+      its_size = size;
+      recent = omega arith;
+      bytes = header ++ (next_lines (first_writing job) done.ops ++ close.front);
+      front = closing_front job done.part close.front close.rest done.ops (whole_is job v a b y z told done) lines;
+      put = Appends-append x y u header _ begun (Appends-append y z u _ close.front done.put close.put);
     }
 
-filled_end : (n : ℕ) → 0 < length (end_line n)
-unfolding end_line
-filled_end n = omega arith
+-- all that stands before the end line
+body_put : (job : Job) (v : Writing) (a b : Ahead) (x y z u : Option (List ℕ)) (told : Tally) → Appends x y header → (done : IsDone job v job.meaning.size a b y z told)
+    → Appends z u (lines_of (last v.streaming)) → Appends x u (body job done.ops)
+body_put job v a b x y z u told begun done close =
+    Appends-append x y u header _ begun
+    (Appends-append y z u _ _ done.put (subst (λ (t : Writing). Appends z u (lines_of (last t.streaming))) done.state close))
 
--- the header up to some byte of it
-pub cut_header : (x y : Option (List ℕ)) → Cuts x y header → AppendsFront x y
-unfolding script_text
-cut_header x y cut =
-    let text = script_text (steps_of []) in
-    let rest = step_lines (steps_of []) ++ end_line (length (steps_of [])) in
-    let inside : cut.0 < length text = omega (arith, cut.1, length-append header rest) in
+steps_are : (job : Job) (v : Writing) (a b : Ahead) (y z : Option (List ℕ)) (told : Tally) (more n : ℕ) → (done : IsDone job v job.meaning.size a b y z told)
+    → more ≡ length (last v.streaming) → n ≡ told.steps + more
+    → n ≡ length (next (first_writing job).streaming done.ops ++ last (onward (first_writing job).streaming done.ops))
+steps_are job v a b y z told more n done count sum =
+    let s = (first_writing job).streaming in
+    let first : told.steps ≡ length (next s done.ops) = ap (λ (t : Tally). t.steps) done.its_tally in
+    let second : more ≡ length (last (onward s done.ops)) = count ∙ ap (λ (t : Writing). length (last t.streaming)) done.state in
+    omega (arith, sum, first, second, length-append (next s done.ops) (last (onward s done.ops)))
+
+pub end_cut : (job : Job) (v : Writing) (w : ℕ) (a b : Ahead) (x y z u t : Option (List ℕ)) (told : Tally) (more n : ℕ) → IsWindowSize job.meaning w
+    → Appends x y header → IsDone job v job.meaning.size a b y z told → Appends z u (lines_of (last v.streaming)) → more ≡ length (last v.streaming)
+    → n ≡ told.steps + more → Cuts u t (end_line n) → IsCutScript job a b x t fault.Write
+end_cut job v w a b x y z u t told more n size begun done close count sum cut = record {
+  part = done.part;
+  within = omega (arith, done.upto);
+  given = done.given;
+  cause = tt;
+  known = length done.part;
+  window = w;
+  its_size = size;
+  recent = omega arith;
+  bytes = body job done.ops ++ take cut.0 (end_line n);
+  front = end_front job done.part done.ops n cut.0 (whole_is job v a b y z told done) (steps_are job v a b y z told more n done count sum) cut.1;
+  put = Appends-append x u t (body job done.ops) _ (body_put job v a b x y z u told begun done close) cut.2;
+}
+
+abbrev tally : ℕ → ℕ → ℕ → ℕ → Tally
+tally a b c d = record { steps = a; erases = b; erased = c; programs = d }
+
+told_all : (told : Tally) (ops these : List Op) (k n : ℕ) → told ≡ tally_with k ops → these ≡ ops → (m : ℕ) → n ≡ m
+    → tally n told.erases told.erased told.programs ≡ tally_with m these
+told_all told ops these k n is same m count =
+    ap (λ (t : Tally). tally n t.erases t.erased t.programs) is ∙ ap (λ i. tally_with i ops) count ∙ ap (tally_with m) (sym same)
+
+pub whole_script : (job : Job) (v : Writing) (a b : Ahead) (x y z u t : Option (List ℕ)) (told : Tally) (more : ℕ)
+    → Appends x y header → IsDone job v job.meaning.size a b y z told → Appends z u (lines_of (last v.streaming)) → more ≡ length (last v.streaming)
+    → Appends u t (end_line (told.steps + more))
+    → IsScripted job a b x t (record { steps = told.steps + more; erases = told.erases; erased = told.erased; programs = told.programs })
+whole_script job v a b x y z u t told more begun done close count ended =
+    let n = told.steps + more in
+    let part = done.part in
+    let goal = target_from job 0 part in
+    let whole = whole_is job v a b y z told done in
+    let are : job_ops job part goal ≡ done.ops = whole.are part goal done.upto (part_whole part) (part_whole goal) in
+    let steps : n ≡ length (job_planned job part goal) = steps_are job v a b y z told more n done count refl ∙ sym (ap length (planned_parts job part goal done.ops are)) in
+    let text : body job done.ops ++ end_line n ≡ job_text job part goal = ap (λ i. body job done.ops ++ end_line i) steps ∙ sym (text_is job part goal done.ops are) in
     record {
-      bytes = take cut.0 text;
-      front = front_at [] cut.0 tt inside;
-      put = subst (Appends x y) (sym (take-append-le cut.0 header rest (omega (arith, cut.1)))) cut.2;
+      part = part;
+      upto = done.upto;
+      given = done.given;
+      bytes = done.bytes;
+      sound = λ i inside. whole.sound part goal (part_whole part) (part_whole goal) i (omega arith) (omega (arith, inside, done.upto));
+      put = subst (Appends x t) text (Appends-append x u t (body job done.ops) (end_line n) (body_put job v a b x y z u told begun done close) ended);
+      its_tally = told_all told done.ops (job_ops job part goal) _ n done.its_tally are _ steps;
     }
-
--- the header, and the lines of programs up to some byte of them
-pub cut_lines : (x y z : Option (List ℕ)) (programs : List Program) → AllByRecursion IsSendable programs → Appends x y header
-    → (n : ℕ) × (n ≤ length (lines_of programs)) × Appends y z (take n (lines_of programs)) → AppendsFront x z
-unfolding script_text
-cut_lines x y z programs sendable begun cut =
-    let lines = lines_of programs in
-    let end = end_line (length (steps_of programs)) in
-    let text = script_text (steps_of programs) in
-    let inside : length header + cut.0 < length text =
-    omega (arith, cut.1, length-append header (lines ++ end), length-append lines end, filled_end (length (steps_of programs))) in
-    let front : take (length header + cut.0) text ≡ header ++ take cut.0 lines =
-    take-append-add header (lines ++ end) cut.0 ∙ ap (λ some. header ++ some) (take-append-le cut.0 lines end cut.1) in
-    record {
-      bytes = take (length header + cut.0) text;
-      front = front_at programs (length header + cut.0) sendable inside;
-      put = subst (Appends x z) (sym front) (Appends-append x y z header (take cut.0 lines) begun cut.2);
-    }
-
--- the header, the lines of programs, and the end line up to some byte of it
-pub cut_end : (w x y z : Option (List ℕ)) (programs : List Program) (n : ℕ) → AllByRecursion IsSendable programs → Appends w x header
-    → Appends x y (lines_of programs) → n ≡ 3 * length programs → Cuts y z (end_line n) → AppendsFront w z
-unfolding script_text
-cut_end w x y z programs n sendable begun put is cut =
-    let lines = lines_of programs in
-    let count : n ≡ length (steps_of programs) = is ∙ sym (steps_length programs) in
-    let end = end_line (length (steps_of programs)) in
-    let text = script_text (steps_of programs) in
-    let here : Cuts y z end = subst (λ m. Cuts y z (end_line m)) count cut in
-    let at = length header + (length lines + here.0) in
-    let inside : at < length text = omega (arith, here.1, length-append header (lines ++ end), length-append lines end) in
-    let front : take at text ≡ header ++ (lines ++ take here.0 end) =
-    take-append-add header (lines ++ end) (length lines + here.0) ∙ ap (λ some. header ++ some) (take-append-add lines end here.0) in
-    record {
-      bytes = take at text;
-      front = front_at programs at sendable inside;
-      put = subst (Appends w z) (sym front)
-          (Appends-append w x z header (lines ++ take here.0 end) begun (Appends-append x y z lines (take here.0 end) put here.2));
-    }
-
-pub whole_script : (w x y z : Option (List ℕ)) (programs : List Program) (n : ℕ) → Appends w x header
-    → Appends x y (lines_of programs) → n ≡ 3 * length programs → Appends y z (end_line n) → Appends w z (script_text (steps_of programs))
-unfolding script_text
-whole_script w x y z programs n begun put is ended =
-    let count : n ≡ length (steps_of programs) = is ∙ sym (steps_length programs) in
-    Appends-append w x z header (lines_of programs ++ end_line (length (steps_of programs))) begun
-    (Appends-append x y z (lines_of programs) (end_line (length (steps_of programs))) put (subst (λ m. Appends y z (end_line m)) count ended))
-
-filled_script : (programs : List Program) → 0 < length (script_text (steps_of programs))
-unfolding script_text header
-filled_script programs = omega arith
-
--- where nothing was written
-pub nothing_written : (x : Option (List ℕ)) → AppendsFront x x
-nothing_written x = record { bytes = []; front = front_at [] 0 tt (filled_script []); put = Appends-none x }

@@ -1,76 +1,184 @@
--- What one window does.
-use Rattle.std.proofs.Common.{◌≡◌, ℕ, ◌+◌, ◌/◌, ◌≤◌, ◌^◌, true, false, List, [], length, Option, sym, ◌∙◌, ap, subst, arith}
-use Rattle.std.specs.Prelude.{zip}
-use Rattle.std.specs.List.{list_any}
+-- The windows of a content, one after another.
+use Rattle.std.proofs.Common.{◌≡◌, ℕ, ◌+◌, ◌%◌, ◌<◌, ◌≤◌, List, [], ◌++◌, length, take, Option, refl, sym, ◌∙◌, ap, subst, arith, inl, inr, length-append}
 use Rattle.std.specs.Io.KnownBytes.{Appends}
-use Rattle.nor_base.specs.Device.{Ahead, Gives, Cuts}
-use Rattle.norprog.specs.Rises.{raises_bit}
-use Rattle.norprog.specs.Rises.{must_rise}
-use Rattle.norprog.specs.declared.fault.BuildFault.{BuildFault}
-use Rattle.norprog.specs.declared.fault.BuildFault.TheVariants as fault
-use Rattle.norprog.specs.declared.job.Job.{Job}
-use Rattle.norprog.specs.Clocks.{AreBytes}
-use Rattle.norprog.specs.Pages.{page_programs, lines_of}
-use Rattle.norprog.specs.Windows.{target_from, IsDone, IsCut, CutCause}
-use Rattle.norprog.specs.Written.{IsOfWriting}
-use Rattle.norprog.proofs.RiseLemmas.{one_rises, none_rises}
-use Rattle.norprog.proofs.SendLemmas.{pages_send}
-use Rattle.nor_base.proofs.DeviceLaws.{Appends-none}
+use Rattle.std.proofs.lemmas.List.{append-nil, take_all}
+use Rattle.std.proofs.Math.Seq.{take-append_seam}
+use Rattle.std.proofs.lemmas.List.Sums.{sum_by-append}
+use Rattle.nor_base.specs.Device.{Ahead, Gives}
+use Rattle.nor_base.specs.Operations.{Op}
+use Rattle.nor_base.specs.Script.{step_lines}
+use Rattle.nor_base.specs.Strategies.{strategy}
+use Rattle.nor_base.proofs.DeviceLaws.{Appends-append, Appends-none, Gives-append}
+use Rattle.nor_erase.specs.Plan.{IsFault}
+use Rattle.nor_job.specs.declared.fault.BuildFault.{BuildFault}
+use Rattle.nor_job.specs.declared.fault.BuildFault.TheVariants as fault
+use Rattle.nor_job.specs.declared.job.Job.{Job}
+use Rattle.nor_select.specs.Streamed.{Streaming, next, onward}
+use Rattle.nor_steps.specs.declared.tally.Tally.{Tally}
+use Rattle.nor_steps.specs.Tally.{tally_of, sum_of, nothing_told, IsFew, erases_of, erased_of, programs_of}
+use Rattle.nor_steps.specs.Work.{IsWork, IsBegun, HasBegun}
+use Rattle.nor_steps.specs.Writing.{Writing, next_lines, written_on}
+use Rattle.nor_steps.proofs.OpLemmas.{more_lines, more_steps, more_on}
+use Rattle.norprog.specs.Windows.{target_from, first_writing, WroteWindow, StopsWindow, IsDone, CutCause, IsKnown, IsCut}
+use Rattle.norprog.specs.Written.{AreBytes}
+use Rattle.norprog.proofs.TargetLemmas.{gives_none, length-target, target_of_parts, bytes_of_parts}
+use Rattle.norprog.proofs.StretchLemmas.{work_join, begun_done, begun_join, fault_join, work_none}
 
-sixteen : (have : List ℕ) → length have ≡ 4096 → length have / 256 ≡ 16
-sixteen have size = ap (λ n. n / 256) size
-
-pub window_done : (job : Job) (at : ℕ) (before after : Ahead) (held_before held_after : Option (List ℕ)) (have want : List ℕ) (programs : ℕ)
-    → length have ≡ 4096 → length want ≡ 4096 → Gives before have after → want ≡ target_from job at have
-    → false ≡ list_any (λ pair. raises_bit pair.0 pair.1) (zip have want) → AreBytes want
-    → Appends held_before held_after (lines_of (page_programs (length have / 256) at have want))
-    → programs ≡ length (page_programs (length have / 256) at have want)
-    → IsDone job at (at + 4096) before after held_before held_after programs
-window_done job at before after held_before held_after have want programs size size' given target level small put count = record {
-  part = have;
-  pages = 16;
-  whole = size;
-  upto = ap (λ n. at + n) size;
-  given = given;
-  level = subst (λ (goal : List ℕ). (a : ℕ) → must_rise have goal a ≡ false) target (none_rises have want (size ∙ sym size') (sym level));
-  bytes = subst AreBytes target small;
-  put = subst (λ (goal : List ℕ). Appends held_before held_after (lines_of (page_programs 16 at have goal))) target
-      (subst (λ n. Appends held_before held_after (lines_of (page_programs n at have want))) (sixteen have size) put);
-  count = subst (λ (goal : List ℕ). programs ≡ length (page_programs 16 at have goal)) target
-      (subst (λ n. programs ≡ length (page_programs n at have want)) (sixteen have size) count);
+-- at the beginning nothing has been read or written
+pub none_done : (job : Job) (v : Writing) (before : Ahead) (held : Option (List ℕ)) → v ≡ first_writing job → IsDone job v 0 before before held held nothing_told
+unfolding step_lines
+none_done job v before held is = record {
+  part = [];
+  upto = refl;
+  given = gives_none before;
+  bytes = λ k. omega arith;
+  ops = [];
+  work = work_none (first_writing job);
+  put = Appends-none held;
+  state = is;
+  its_tally = refl;
+  few = record { steps = omega arith; erases = omega arith; erased = omega arith; programs = omega arith };
 }
 
-pub window_rises : (job : Job) (at : ℕ) (before after : Ahead) (held : Option (List ℕ)) (have want : List ℕ)
-    → length have ≡ 4096 → Gives before have after → want ≡ target_from job at have
-    → true ≡ list_any (λ pair. raises_bit pair.0 pair.1) (zip have want)
-    → IsCut job at (at + 4096) before after held held fault.NotYet
-window_rises job at before after held have want size given target level =
-    let rises = one_rises have want (sym level) in record {
-      part = have;
-      within = omega (arith, size);
-      given = given;
-      cause = (rises.at, rises.inside, subst (λ (goal : List ℕ). must_rise have goal rises.at ≡ true) target rises.must);
-      programs = [];
-      sendable = tt;
-      front = (0, omega arith, Appends-none held);
+abbrev tally : ℕ → ℕ → ℕ → ℕ → Tally
+tally a b c d = record { steps = a; erases = b; erased = c; programs = d }
+
+same_tally : (a b c d a' b' c' d' : ℕ) → a ≡ a' → b ≡ b' → c ≡ c' → d ≡ d' → tally a b c d ≡ tally a' b' c' d'
+same_tally a b c d a' b' c' d' p q r s = cc
+
+-- what two parts tell together
+tally_join : (s : Streaming) (p q : List Op) (one other : Tally) → one ≡ tally_of s p → other ≡ tally_of (onward s p) q → sum_of one other ≡ tally_of s (p ++ q)
+tally_join s p q one other first second =
+    ap (λ (t : Tally). sum_of t other) first ∙ ap (λ (t : Tally). sum_of (tally_of s p) t) second
+    ∙ same_tally _ _ _ _ _ _ _ _ (sym (more_steps s p q)) (sym (sum_by-append erases_of p q)) (sym (sum_by-append erased_of p q)) (sym (sum_by-append programs_of p q))
+
+few_join : (n k : ℕ) (one other : Tally) → IsFew n one → IsFew k other → IsFew (n + k) (sum_of one other)
+few_join n k one other first second = record {
+  steps = omega (arith, first.steps, second.steps);
+  erases = omega (arith, first.erases, second.erases);
+  erased = omega (arith, first.erased, second.erased);
+  programs = omega (arith, first.programs, second.programs);
+}
+
+-- the text of two parts
+text_join : (w v : Writing) (x y z : Option (List ℕ)) (p q : List Op) → v ≡ written_on w p → Appends x y (next_lines w p) → Appends y z (next_lines v q)
+    → Appends x z (next_lines w (p ++ q))
+text_join w v x y z p q state first second =
+    more_lines x y z w p q first (subst (λ (u : Writing). Appends y z (next_lines u q)) state second)
+
+-- what was done up to an address, and then a window
+pub done_then : (job : Job) (v u : Writing) (at n : ℕ) (a b c : Ahead) (x y z : Option (List ℕ)) (told more : Tally) → 0 < job.meaning.page → at % job.meaning.page ≡ 0
+    → IsDone job v at a b x y told → WroteWindow job v u at n b c y z more → IsDone job u (at + n) a c x z (sum_of told more)
+done_then job v u at n a b c x y z told more some whole done window =
+    let w = first_writing job in
+    let xs = done.part in
+    let ys = window.part in
+    let goal = target_of_parts job 0 at xs ys (omega (arith, done.upto)) in
+    let wrote = window.wrote in
+    record {
+      part = xs ++ ys;
+      upto = omega (arith, length-append xs ys, done.upto, window.size);
+      given = Gives-append a b c xs ys done.given window.given;
+      bytes = subst AreBytes (sym goal) (bytes_of_parts (target_from job 0 xs) (target_from job at ys) done.bytes window.bytes);
+      ops = done.ops ++ wrote.ops;
+      work = subst (λ (goal : List ℕ). IsWork w 0 (xs ++ ys) goal (done.ops ++ wrote.ops)) (sym goal)
+          (work_join w v at xs ys (target_from job 0 xs) (target_from job at ys) done.ops wrote.ops some whole done.upto (length-target job 0 xs ∙ done.upto) done.state done.work wrote.work);
+      put = text_join w v x y z done.ops wrote.ops done.state done.put wrote.put;
+      state = wrote.state ∙ ap (λ (t : Writing). written_on t wrote.ops) done.state ∙ more_on w done.ops wrote.ops;
+      its_tally = tally_join w.streaming done.ops wrote.ops told more done.its_tally
+          (wrote.its_tally ∙ ap (λ (t : Writing). tally_of t.streaming wrote.ops) done.state);
+      few = few_join at n told more done.few (subst (λ k. IsFew k more) window.size wrote.few);
     }
 
-of_writing : (job : Job) (at end : ℕ) (part : List ℕ) (after : Ahead) (why : BuildFault) → IsOfWriting why → CutCause job at end part after why
-of_writing job at end part after fault.Write is = tt
-of_writing job at end part after fault.Memory is = tt
-of_writing job at end part after fault.Read is = tt
-of_writing job at end part after other is = absurd is
+-- what was done is known, whatever was read after it
+known_done : (job : Job) (v : Writing) (at : ℕ) (a b : Ahead) (x y : Option (List ℕ)) (told : Tally) (ys : List ℕ) → at % job.meaning.page ≡ 0
+    → (done : IsDone job v at a b x y told) → IsKnown job at (done.part ++ ys) (next_lines (first_writing job) done.ops)
+known_done job v at a b x y told ys whole done =
+    let w = first_writing job in
+    let xs = done.part in
+    let front : take at (xs ++ ys) ≡ xs = ap (λ n. take n (xs ++ ys)) (sym done.upto) ∙ take-append_seam xs ys in
+    record {
+      within = omega (arith, length-append xs ys, done.upto);
+      pages = whole;
+      bytes = subst (λ (part : List ℕ). AreBytes (target_from job 0 part)) (sym front) done.bytes;
+      begun = subst (λ (part : List ℕ). IsBegun w 0 part (target_from job 0 part) (next_lines w done.ops)) (sym front) (begun_done w 0 xs (target_from job 0 xs) done.ops done.work);
+    }
 
-pub window_cut : (job : Job) (at : ℕ) (before after : Ahead) (held_before held_after : Option (List ℕ)) (have want : List ℕ) (why : BuildFault)
-    → length have ≡ 4096 → length want ≡ 4096 → at + 4096 ≤ 2 ^ 24 → Gives before have after → AreBytes want
-    → Cuts held_before held_after (lines_of (page_programs (length have / 256) at have want)) → IsOfWriting why
-    → IsCut job at (at + 4096) before after held_before held_after why
-window_cut job at before after held_before held_after have want why size size' inside given small cut is = record {
-  part = have;
-  within = omega (arith, size);
-  given = given;
-  cause = of_writing job at (at + 4096) have after why is;
-  programs = page_programs (length have / 256) at have want;
-  sendable = pages_send (length have / 256) at have want (omega (arith, sixteen have size, size)) (omega (arith, size, inside)) (size' ∙ sym size) small;
-  front = (cut.0, omega (arith, cut.1), cut.2);
+-- and so is a window that was begun
+known_begun : (job : Job) (v : Writing) (at n : ℕ) (a b c : Ahead) (x y : Option (List ℕ)) (told : Tally) (ys front : List ℕ) → 0 < job.meaning.page → at % job.meaning.page ≡ 0
+    → (at + n) % job.meaning.page ≡ 0 → length ys ≡ n → AreBytes (target_from job at ys) → (done : IsDone job v at a b x y told)
+    → IsBegun v at ys (target_from job at ys) front → IsKnown job (at + n) (done.part ++ ys) (next_lines (first_writing job) done.ops ++ front)
+known_begun job v at n a b c x y told ys front some whole whole' size small done begun =
+    let w = first_writing job in
+    let xs = done.part in
+    let goal = target_of_parts job 0 at xs ys (omega (arith, done.upto)) in
+    let all : take (at + n) (xs ++ ys) ≡ xs ++ ys = take_all (at + n) (xs ++ ys) (omega (arith, length-append xs ys, done.upto, size)) in
+    let text = next_lines w done.ops ++ front in
+    record {
+      within = omega (arith, length-append xs ys, done.upto, size);
+      pages = whole';
+      bytes = subst (λ (part : List ℕ). AreBytes (target_from job 0 part)) (sym all)
+          (subst AreBytes (sym goal) (bytes_of_parts (target_from job 0 xs) (target_from job at ys) done.bytes small));
+      begun = subst (λ (part : List ℕ). IsBegun w 0 part (target_from job 0 part) text) (sym all)
+          (subst (λ (goal : List ℕ). IsBegun w 0 (xs ++ ys) goal text) (sym goal)
+          (begun_join w v at xs ys (target_from job 0 xs) (target_from job at ys) done.ops front some whole done.upto (length-target job 0 xs ∙ done.upto) done.state done.work begun));
+    }
+
+-- what was done, and then nothing more was written
+cut_unwritten : (job : Job) (v : Writing) (at n window : ℕ) (a b c : Ahead) (x y z : Option (List ℕ)) (told : Tally) (ys : List ℕ) (why : BuildFault) → at % job.meaning.page ≡ 0
+    → n ≤ window → at + n ≤ job.meaning.size → length ys ≤ n → (done : IsDone job v at a b x y told) → Gives b ys c × Appends y z [] → CutCause job (done.part ++ ys) c why
+    → IsCut job window a c x z why
+cut_unwritten job v at n window a b c x y z told ys why whole few fits size done next cause = record {
+  part = done.part ++ ys;
+  within = omega (arith, length-append done.part ys, done.upto, size, fits);
+  given = Gives-append a b c done.part ys done.given next.0;
+  cause = cause;
+  known = at;
+  recent = omega (arith, length-append done.part ys, done.upto, size, few);
+  front = next_lines (first_writing job) done.ops;
+  begins = known_done job v at a b x y told ys whole done;
+  put = subst (Appends x z) (append-nil (next_lines (first_writing job) done.ops)) (Appends-append x y z _ [] done.put next.1);
 }
+
+-- or some of the window's text was
+cut_begun : (job : Job) (v : Writing) (at n window : ℕ) (a b c : Ahead) (x y z : Option (List ℕ)) (told : Tally) (ys : List ℕ) (why : BuildFault) → 0 < job.meaning.page
+    → at % job.meaning.page ≡ 0 → (at + n) % job.meaning.page ≡ 0 → at + n ≤ job.meaning.size → length ys ≡ n → AreBytes (target_from job at ys)
+    → (done : IsDone job v at a b x y told) → Gives b ys c → HasBegun v y z at ys (target_from job at ys) → CutCause job (done.part ++ ys) c why
+    → IsCut job window a c x z why
+cut_begun job v at n window a b c x y z told ys why some whole whole' fits size small done given begun cause = record {
+  part = done.part ++ ys;
+  within = omega (arith, length-append done.part ys, done.upto, size, fits);
+  given = Gives-append a b c done.part ys done.given given;
+  cause = cause;
+  known = at + n;
+  recent = omega (arith, length-append done.part ys, done.upto, size);
+  front = next_lines (first_writing job) done.ops ++ begun.front;
+  begins = known_begun job v at n a b c x y told ys begun.front some whole whole' size small done begun.begun;
+  put = Appends-append x y z _ _ done.put begun.put;
+}
+
+-- what was done up to an address, and then it ended early
+pub done_then_cut : (job : Job) (v : Writing) (at n window : ℕ) (a b c : Ahead) (x y z : Option (List ℕ)) (told : Tally) (why : BuildFault) → 0 < job.meaning.page
+    → at % job.meaning.page ≡ 0 → (at + n) % job.meaning.page ≡ 0 → n ≤ window → at + n ≤ job.meaning.size → IsDone job v at a b x y told
+    → StopsWindow job v at n b c y z why → IsCut job window a c x z why
+done_then_cut job v at n window a b c x y z told fault.ContentShort some whole whole' few fits done stops =
+    let unread = stops.0 in
+    cut_unwritten job v at n window a b c x y z told unread.part fault.ContentShort whole few fits (omega (arith, unread.few)) done (unread.given, unread.put)
+    (omega (arith, length-append done.part unread.part, done.upto, unread.few, fits), stops.1)
+done_then_cut job v at n window a b c x y z told fault.Read some whole whole' few fits done unread =
+    cut_unwritten job v at n window a b c x y z told unread.part fault.Read whole few fits (omega (arith, unread.few)) done (unread.given, unread.put) tt
+done_then_cut job v at n window a b c x y z told (fault.Plan why) some whole whole' few fits done stops =
+    let w = first_writing job in
+    let xs = done.part in
+    let ys = stops.part in
+    let goal = target_of_parts job 0 at xs ys (omega (arith, done.upto)) in
+    cut_unwritten job v at n window a b c x y z told ys (fault.Plan why) whole few fits (omega (arith, stops.size)) done (stops.given, stops.stops.1)
+    (subst (λ (goal : List ℕ). IsFault job.meaning (strategy job.meaning job.start) 0 (xs ++ ys) goal why) (sym goal)
+    (fault_join w v at xs ys (target_from job 0 xs) (target_from job at ys) done.ops why done.upto (length-target job 0 xs ∙ done.upto) done.state done.work stops.stops.0))
+done_then_cut job v at n window a b c x y z told fault.Write some whole whole' few fits done stops =
+    cut_begun job v at n window a b c x y z told stops.part fault.Write some whole whole' fits stops.size stops.bytes done stops.given stops.stops tt
+done_then_cut job v at n window a b c x y z told fault.Memory some whole whole' few fits done stops = elim stops.stops [
+  | inl begun ↦ cut_begun job v at n window a b c x y z told stops.part fault.Memory some whole whole' fits stops.size stops.bytes done stops.given begun tt
+  | inr put ↦ cut_unwritten job v at n window a b c x y z told stops.part fault.Memory whole few fits (omega (arith, stops.size)) done (stops.given, put) tt
+]
+done_then_cut job v at n window a b c x y z told other some whole whole' few fits done stops = absurd stops

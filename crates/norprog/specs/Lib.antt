@@ -1,10 +1,4 @@
-pub mod Task
-pub mod Lifted
-pub mod Clocks
-pub mod Pages
-pub mod Rises
 pub mod Written
-pub mod Causes
 pub mod Windows
 pub mod Build
 pub mod Report

@@ -1,64 +1,43 @@
--- What a part of a build has done: content was read, and the steps of its programs were written.
-use Rattle.std.specs.Prelude.{◌≡◌, ℕ, true, false, ◌+◌, ◌*◌, ◌<◌, ◌≤◌, ⊤, List, length, map, take, count_by, Option, Result, Ok, Err}
-use Rattle.std.specs.List.{enumerate_from, AllByRecursion}
+-- What a part of a build has done: content was read, and the steps of its windows were written (this project's).
+use Rattle.std.specs.Prelude.{◌≡◌, ◌≢◌, ℕ, false, ◌+◌, ◌%◌, ◌<◌, ◌≤◌, ⊤, List, [], ◌++◌, length, map, take, count_by, Option, Result, Ok, Err}
+use Rattle.std.specs.List.{enumerate_from}
 use Rattle.std.specs.Io.KnownBytes.{Appends}
 use Rattle.nor_base.specs.Device.{Ahead, Gives, IsAtEnd}
-use Rattle.nor_base.specs.Target.{target_byte, is_ignored}
-use Rattle.nor_base.specs.declared.meaning.Strategy.TheVariants.{S2}
-use Rattle.norprog.specs.declared.report.Report.{Report}
-use Rattle.nor_base.specs.Programs.{Program}
-use Rattle.norprog.specs.Rises.{must_rise}
-use Rattle.nor_hex.specs.Image.{byte_at}
-use Rattle.nor_layout.specs.Chosen.{has}
-use Rattle.norprog.specs.declared.fault.BuildFault.{BuildFault}
-use Rattle.norprog.specs.declared.fault.BuildFault.TheVariants as fault
-use Rattle.norprog.specs.declared.job.Job.{Job}
-use Rattle.norprog.specs.Clocks.{AreBytes, IsSendable}
+use Rattle.nor_base.specs.Need.{is_at_fault}
+use Rattle.nor_base.specs.Operations.{Op}
+use Rattle.nor_base.specs.Planned.{planned, planned_ops}
 use Rattle.nor_base.specs.Script.{script_text}
-use Rattle.norprog.specs.Pages.{page_programs, lines_of, steps_of}
-use Rattle.norprog.specs.Build.{AppendsFront}
+use Rattle.nor_base.specs.Strategies.{strategy}
+use Rattle.nor_base.specs.Target.{target_byte, is_ignored}
+use Rattle.nor_erase.specs.Plan.{HasPart, IsFault}
+use Rattle.nor_geometry.specs.Window.{IsWindowSize}
+use Rattle.nor_hex.specs.Image.{byte_at}
+use Rattle.nor_job.specs.declared.fault.BuildFault.{BuildFault}
+use Rattle.nor_job.specs.declared.fault.BuildFault.TheVariants as fault
+use Rattle.nor_job.specs.declared.job.Job.{Job}
+use Rattle.nor_layout.specs.Chosen.{has}
+use Rattle.nor_steps.specs.declared.fault.StepsFault.{StepsFault}
+use Rattle.nor_steps.specs.declared.fault.StepsFault.TheVariants as steps
+use Rattle.nor_steps.specs.declared.tally.Tally.{Tally}
+use Rattle.nor_steps.specs.Lines.{steps_of}
+use Rattle.nor_steps.specs.Tally.{tally_of, tally_with, IsFew}
+use Rattle.nor_steps.specs.Work.{IsSound, IsWork, IsBegun, WroteStretch, StopsStretch}
+use Rattle.nor_steps.specs.Writing.{Writing, fresh, next_lines, written_on}
+use Rattle.norprog.specs.declared.report.Report.{Report}
+use Rattle.norprog.specs.Written.{AreBytes}
 
 -- the target of a part of the content that begins at an address
 abbrev pub target_from : Job → ℕ → List ℕ → List ℕ
 target_from job at part = map (λ p. target_byte (byte_at job.image) job.base (has job.chosen) p.0 p.1) (enumerate_from at part)
 
--- the content from one address up to another was read, no bit of it must rise, and the steps of its programs were written
-pub record IsDone (job : Job) (at end : ℕ) (before after : Ahead) (held_before held_after : Option (List ℕ)) (programs : ℕ) : Type 0 where
-  pub part : List ℕ
-  pub pages : ℕ
-  pub whole : length part ≡ pages * 256
-  pub upto : at + length part ≡ end
-  pub given : Gives before part after
-  pub level : (a : ℕ) → must_rise part (target_from job at part) a ≡ false
-  pub bytes : AreBytes (target_from job at part)
-  pub put : Appends held_before held_after (lines_of (page_programs pages at part (target_from job at part)))
-  pub count : programs ≡ length (page_programs pages at part (target_from job at part))
+-- the work of a job before its first operation
+abbrev pub first_writing : Job → Writing
+first_writing job = fresh job.meaning job.start (strategy job.meaning job.start) job.verify
 
--- why it ended early: the reader ended before the last address, or a bit of what was read must rise; a device's failure is
--- told by its count
-abbrev pub CutCause : Job → ℕ → ℕ → List ℕ → Ahead → BuildFault → Type 0
-CutCause job at end part after fault.ContentShort = (at + length part < end) × IsAtEnd after
-CutCause job at end part after fault.NotYet = (a : ℕ) × (a < length part) × (must_rise part (target_from job at part) a ≡ true)
-CutCause job at end part after fault.Read = ⊤
-CutCause job at end part after fault.Write = ⊤
-CutCause job at end part after fault.Memory = ⊤
-CutCause job at end part after (fault.Contradiction number) = ⊥
-CutCause job at end part after (fault.Hex why) = ⊥
-CutCause job at end part after (fault.Layout why) = ⊥
-CutCause job at end part after (fault.Sfdp why) = ⊥
-CutCause job at end part after (fault.Status number) = ⊥
-CutCause job at end part after fault.ModeImpossible = ⊥
-CutCause job at end part after fault.ContentSize = ⊥
-
--- some of the content from one address up to another was read, and a prefix of the lines of some programs was written
-pub record IsCut (job : Job) (at end : ℕ) (before after : Ahead) (held_before held_after : Option (List ℕ)) (why : BuildFault) : Type 0 where
-  pub part : List ℕ
-  pub within : at + length part ≤ end
-  pub given : Gives before part after
-  pub cause : CutCause job at end part after why
-  pub programs : List Program
-  pub sendable : AllByRecursion IsSendable programs
-  pub front : (n : ℕ) × (n ≤ length (lines_of programs)) × Appends held_before held_after (take n (lines_of programs))
+abbrev pub lifted_steps : StepsFault → BuildFault
+lifted_steps (steps.Plan why) = fault.Plan why
+lifted_steps steps.Write = fault.Write
+lifted_steps steps.Memory = fault.Memory
 
 -- why a window wasn't filled: the reader ended, or it failed
 abbrev pub WindowCause : Ahead → BuildFault → Type 0
@@ -71,33 +50,123 @@ abbrev pub FillsWindow : Ahead → Ahead → Result (Unit {0}) BuildFault → Li
 FillsWindow before after (Ok u) window = Gives before window after
 FillsWindow before after (Err why) window = (part : List ℕ) × (length part < length window) × Gives before part after × WindowCause after why
 
--- a whole script of the content up to an address was written
-pub record IsScripted (job : Job) (end : ℕ) (before after : Ahead) (held_before held_after : Option (List ℕ)) (programs : ℕ) : Type 0 where
+-- a window of so many bytes was read, and its steps were written
+pub record WroteWindow (job : Job) (w v : Writing) (at count : ℕ) (before after : Ahead) (held_before held_after : Option (List ℕ)) (told : Tally) : Type 0 where
   pub part : List ℕ
-  pub pages : ℕ
-  pub whole : length part ≡ pages * 256
+  pub size : length part ≡ count
+  pub given : Gives before part after
+  pub bytes : AreBytes (target_from job at part)
+  pub wrote : WroteStretch w v held_before held_after at part (target_from job at part) told
+
+-- it was read, and its steps were not all written
+pub record IsUnwritten (job : Job) (w : Writing) (at count : ℕ) (before after : Ahead) (held_before held_after : Option (List ℕ)) (why : StepsFault) : Type 0 where
+  pub part : List ℕ
+  pub size : length part ≡ count
+  pub given : Gives before part after
+  pub bytes : AreBytes (target_from job at part)
+  pub stops : StopsStretch w held_before held_after at part (target_from job at part) why
+
+-- less than a window was read, and nothing was written
+pub record IsUnread (count : ℕ) (before after : Ahead) (held_before held_after : Option (List ℕ)) : Type 0 where
+  pub part : List ℕ
+  pub few : length part < count
+  pub given : Gives before part after
+  pub put : Appends held_before held_after []
+
+abbrev pub StopsWindow : Job → Writing → ℕ → ℕ → Ahead → Ahead → Option (List ℕ) → Option (List ℕ) → BuildFault → Type 0
+StopsWindow job w at count before after x y fault.ContentShort = IsUnread count before after x y × IsAtEnd after
+StopsWindow job w at count before after x y fault.Read = IsUnread count before after x y
+StopsWindow job w at count before after x y (fault.Plan why) = IsUnwritten job w at count before after x y (steps.Plan why)
+StopsWindow job w at count before after x y fault.Write = IsUnwritten job w at count before after x y steps.Write
+StopsWindow job w at count before after x y fault.Memory = IsUnwritten job w at count before after x y steps.Memory
+StopsWindow job w at count before after x y other = ⊥
+
+-- the content up to an address was read, and the steps of its windows were written
+pub record IsDone (job : Job) (v : Writing) (end : ℕ) (before after : Ahead) (held_before held_after : Option (List ℕ)) (told : Tally) : Type 0 where
+  pub part : List ℕ
   pub upto : length part ≡ end
   pub given : Gives before part after
-  pub level : (a : ℕ) → must_rise part (target_from job 0 part) a ≡ false
   pub bytes : AreBytes (target_from job 0 part)
-  pub put : Appends held_before held_after (script_text (steps_of (page_programs pages 0 part (target_from job 0 part))))
-  pub count : programs ≡ length (page_programs pages 0 part (target_from job 0 part))
+  pub ops : List Op
+  pub work : IsWork (first_writing job) 0 part (target_from job 0 part) ops
+  pub put : Appends held_before held_after (next_lines (first_writing job) ops)
+  pub state : v ≡ written_on (first_writing job) ops
+  pub its_tally : told ≡ tally_of (first_writing job).streaming ops
+  pub few : IsFew end told
 
--- it ended early: some of the content was read, and a proper prefix of a script was written
-pub record IsCutScript (job : Job) (end : ℕ) (before after : Ahead) (held_before held_after : Option (List ℕ)) (why : BuildFault) : Type 0 where
+-- why the work on a part of the content ended early
+abbrev pub CutCause : Job → List ℕ → Ahead → BuildFault → Type 0
+CutCause job part after fault.ContentShort = (length part < job.meaning.size) × IsAtEnd after
+CutCause job part after (fault.Plan why) = IsFault job.meaning (strategy job.meaning job.start) 0 part (target_from job 0 part) why
+CutCause job part after fault.Read = ⊤
+CutCause job part after fault.Write = ⊤
+CutCause job part after fault.Memory = ⊤
+CutCause job part after other = ⊥
+
+-- so much of what was read was whole windows, and some of the text of their steps was written, from its beginning on
+pub record IsKnown (job : Job) (known : ℕ) (part front : List ℕ) : Type 0 where
+  pub within : known ≤ length part
+  pub pages : known % job.meaning.page ≡ 0
+  pub bytes : AreBytes (target_from job 0 (take known part))
+  pub begun : IsBegun (first_writing job) 0 (take known part) (target_from job 0 (take known part)) front
+
+-- some of the content was read, and no more than a window of it isn't in what was written
+pub record IsCut (job : Job) (window : ℕ) (before after : Ahead) (held_before held_after : Option (List ℕ)) (why : BuildFault) : Type 0 where
   pub part : List ℕ
-  pub within : length part ≤ end
+  pub within : length part ≤ job.meaning.size
   pub given : Gives before part after
-  pub cause : CutCause job 0 end part after why
-  pub front : AppendsFront held_before held_after
+  pub cause : CutCause job part after why
+  pub known : ℕ
+  pub recent : length part ≤ known + window
+  pub front : List ℕ
+  pub begins : IsKnown job known part front
+  pub put : Appends held_before held_after front
 
--- the report of a job with so many programs
-abbrev pub job_report : Job → ℕ → Report
-job_report job programs = record {
-  strategy = S2;
-  steps = 3 * programs;
-  erases = 0;
-  erased = 0;
-  programs = programs;
+-- no address of a chip is at fault, and the text of the steps of the work on it was written, with what is told of them
+pub record IsScripted (job : Job) (before after : Ahead) (held_before held_after : Option (List ℕ)) (told : Tally) : Type 0 where
+  pub part : List ℕ
+  pub upto : length part ≡ job.meaning.size
+  pub given : Gives before part after
+  pub bytes : AreBytes (target_from job 0 part)
+  pub sound : (x : ℕ) → x < job.meaning.size → is_at_fault job.meaning (strategy job.meaning job.start) part (target_from job 0 part) x ≡ false
+  pub put : Appends held_before held_after (script_text (steps_of (planned job.meaning job.start job.verify part (target_from job 0 part))))
+  pub its_tally : told ≡ tally_with (length (planned job.meaning job.start job.verify part (target_from job 0 part))) (planned_ops job.meaning job.start job.verify part (target_from job 0 part))
+
+-- what was written is a front of the text of the steps of the work on a content and a target, with something left
+pub record IsTextFront (job : Job) (content target bytes : List ℕ) : Type 0 where
+  pub rest : List ℕ
+  pub whole : script_text (steps_of (planned job.meaning job.start job.verify content target)) ≡ bytes ++ rest
+  pub more : rest ≢ []
+
+-- so it is whatever the chip holds and must hold past what is known; of what is known no address is at fault
+pub record IsScriptFront (job : Job) (known : ℕ) (part bytes : List ℕ) : Type 0 where
+  pub within : known ≤ length part
+  pub small : AreBytes (target_from job 0 (take known part))
+  pub front : (content target : List ℕ) → length content ≡ job.meaning.size → HasPart content (take known part) 0
+      → HasPart target (target_from job 0 (take known part)) 0 → IsTextFront job content target bytes
+  pub sound : (content target : List ℕ) → HasPart content (take known part) 0 → HasPart target (target_from job 0 (take known part)) 0
+      → IsSound (first_writing job) 0 known content target
+
+pub record IsCutScript (job : Job) (before after : Ahead) (held_before held_after : Option (List ℕ)) (why : BuildFault) : Type 0 where
+  pub part : List ℕ
+  pub within : length part ≤ job.meaning.size
+  pub given : Gives before part after
+  pub cause : CutCause job part after why
+  pub known : ℕ
+  pub window : ℕ
+  pub its_size : IsWindowSize job.meaning window
+  pub recent : length part ≤ known + window
+  pub bytes : List ℕ
+  pub front : IsScriptFront job known part bytes
+  pub put : Appends held_before held_after bytes
+
+-- the report of a job of which so much is told
+abbrev pub job_report : Job → Tally → Report
+job_report job told = record {
+  strategy = strategy job.meaning job.start;
+  steps = told.steps;
+  erases = told.erases;
+  erased = told.erased;
+  programs = told.programs;
   ignored = count_by (λ pair. is_ignored job.base (has job.chosen) job.meaning.size pair.0) job.image;
 }

@@ -1,7 +1,7 @@
 -- Which device's count of failures rose where a build ended early.
-use Rattle.std.specs.Prelude.{◌≡◌, ◌+◌, ⊤, ℕ, Result, Ok, Err}
-use Rattle.norprog.specs.declared.fault.BuildFault.{BuildFault}
-use Rattle.norprog.specs.declared.fault.BuildFault.TheVariants as fault
+use Rattle.std.specs.Prelude.{◌≡◌, ◌+◌, ◌<◌, ℕ, List, Result, Ok, Err, slice_index}
+use Rattle.nor_job.specs.declared.fault.BuildFault.{BuildFault}
+use Rattle.nor_job.specs.declared.fault.BuildFault.TheVariants as fault
 
 abbrev pub of_writer : BuildFault → ℕ
 of_writer fault.Write = 1
@@ -21,8 +21,6 @@ abbrev pub CountsReader : {T : Type 0} → ℕ → ℕ → Result T BuildFault �
 CountsReader before after (Ok x) = after ≡ before
 CountsReader before after (Err fault) = after ≡ before + of_reader fault
 
--- what writing alone can meet: a writer that fails, or a growth that is refused
-abbrev pub IsOfWriting : BuildFault → Type 0
-IsOfWriting fault.Write = ⊤
-IsOfWriting fault.Memory = ⊤
-IsOfWriting other = ⊥
+-- numbers below 256
+abbrev pub AreBytes : List ℕ → Type 0
+AreBytes bytes = (k : ℕ) → slice_index bytes k < 256

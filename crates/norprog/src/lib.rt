@@ -6,20 +6,14 @@
 
 pub mod builder;
 mod chip_text;
-mod clocks;
-pub mod fault;
-pub mod inputs;
-mod job;
-mod pages;
 pub mod report;
 mod windows;
 
 pub use builder::build;
 pub use chip_text::sfdp_text;
-pub use fault::BuildFault;
-pub use inputs::{Inputs, Source};
 pub use nor_base::{ByteIn, ByteOut, Bytes, Failed, FromRead, IntoWrite, Part, Strategy};
 pub use nor_hex::HexFault;
+pub use nor_job::{BuildFault, Inputs, Source};
 pub use nor_layout::LayoutFault;
 pub use nor_sfdp::SfdpFault;
 pub use report::{Report, write_report};

@@ -54,6 +54,7 @@ fn given_in<'a>(alloc: Global, build: &ArgMatches<'a>) -> Result<Given<'a>, Refu
         base: build.get_str("base"),
         content: build.get_str("content"),
         verify: build.get_flag("verify"),
+        erased_only: build.get_flag("erased-only"),
         out: build.get_str("out"),
         regions: regions_in(alloc, build)?,
     })
@@ -92,15 +93,13 @@ fn build<'a>(alloc: Global) -> Result<Command<'a>, AllocError> {
     let command = Command::new(alloc, "build").about(
         "Writes the script that programs the chip, and prints a report of it",
     );
-    let sfdp = "The chip's SFDP bytes, a binary file; this or --uniform. Not yet supported";
-    let command = with_chip(alloc, with_image(alloc, command)?, sfdp)?;
+    let command = with_chip(alloc, with_image(alloc, command)?)?;
     with_output(alloc, with_state(alloc, command)?)
 }
 
 fn sfdp<'a>(alloc: Global) -> Result<Command<'a>, AllocError> {
     let command = Command::new(alloc, "sfdp").about("Prints what the chip's SFDP tables mean");
-    let sfdp = "The chip's SFDP bytes, a binary file; this or --uniform";
-    with_chip(alloc, command, sfdp)
+    with_chip(alloc, command)
 }
 
 /// The options that say what is to stand on the chip.
@@ -124,11 +123,8 @@ fn with_image<'a>(alloc: Global, command: Command<'a>) -> Result<Command<'a>, Al
 }
 
 /// The options that say which chip it is.
-fn with_chip<'a>(
-    alloc: Global,
-    command: Command<'a>,
-    sfdp: &'static str,
-) -> Result<Command<'a>, AllocError> {
+fn with_chip<'a>(alloc: Global, command: Command<'a>) -> Result<Command<'a>, AllocError> {
+    let sfdp = "The chip's SFDP bytes, a binary file; this or --uniform";
     let uniform =
         "A chip of N bytes without SFDP, with 4 KiB sectors: a decimal multiple of 4096 up to 16777216";
     let bits =
@@ -166,7 +162,8 @@ fn with_state<'a>(alloc: Global, command: Command<'a>) -> Result<Command<'a>, Al
 
 /// The options that say what is written.
 fn with_output<'a>(alloc: Global, command: Command<'a>) -> Result<Command<'a>, AllocError> {
-    let verify = "Read back each byte that is written [default: no]. Not yet supported";
+    let verify = "Read back each byte that is written [default: no]";
+    let erased_only = "Program erased bytes alone, as some chips ask for it [default: no]";
     let out = file(
         alloc,
         "out",
@@ -174,6 +171,7 @@ fn with_output<'a>(alloc: Global, command: Command<'a>) -> Result<Command<'a>, A
     );
     command
         .arg(flag(alloc, "verify", verify))?
+        .arg(flag(alloc, "erased-only", erased_only))?
         .arg(out.required(true))
 }
 

@@ -37,5 +37,6 @@ pub record AsksFor (given : Given) (request : Request) : Type 0 where
   pub base : base_of (asked_base given) ≡ Some request.base
   pub content : given.content ≡ Some request.content
   pub verify : request.verify ≡ given.verify
+  pub erased_only : request.erased_only ≡ given.erased_only
   pub out : given.out ≡ Some request.out
   pub regions : request.regions ≡ given.regions

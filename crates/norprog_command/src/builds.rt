@@ -135,6 +135,7 @@ fn inputs_of<'a>(request: &'a Request<'_>, texts: &'a Texts) -> Inputs<'a> {
         quad: request.quad,
         base: request.base,
         verify: request.verify,
+        erased_only: request.erased_only,
     }
 }
 

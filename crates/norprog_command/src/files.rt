@@ -11,13 +11,13 @@ const MOST_BYTES: u64 = 1 << 36;
 
 /// Which file of the system it is, by whatever name it was opened.
 #[derive(Clone, Copy, Debug, PartialEq, Eq)]
-pub(crate) struct Place {
+pub struct Place {
     device: u64,
     inode: u64,
 }
 
 /// Opens a file and reads it whole.
-pub(crate) fn read_whole<R: Files>(
+pub fn read_whole<R: Files>(
     rt: &R,
     alloc: Global,
     path: &str,
@@ -39,7 +39,7 @@ pub(crate) fn read_whole<R: Files>(
 }
 
 /// Opens a file that isn't a folder, and answers which one it is and its length.
-pub(crate) fn open_input<R: Files>(
+pub fn open_input<R: Files>(
     rt: &R,
     path: &str,
     name: FileName,
@@ -64,11 +64,7 @@ pub(crate) fn open_input<R: Files>(
 }
 
 /// Makes the output file, or empties the one that is there, unless it is one of the inputs.
-pub(crate) fn create_output<R: Files>(
-    rt: &R,
-    path: &str,
-    inputs: &[Place],
-) -> Result<R::File, Refusal> {
+pub fn create_output<R: Files>(rt: &R, path: &str, inputs: &[Place]) -> Result<R::File, Refusal> {
     if is_input(rt, path, inputs) {
         return Err(Refusal::File(FileName::Out));
     }

@@ -14,4 +14,6 @@ mod values;
 pub use builds::answer;
 pub use chips::{GivenChip, show};
 pub use faults::{FileName, Refusal, refuse};
-pub use request::{Chip, Given, Request, request_of};
+pub use files::{Place, create_output, open_input, read_whole};
+pub use request::{Chip, Given, Request, chip_of, optional_status, request_of};
+pub use values::{decimal, part};

@@ -23,6 +23,7 @@ pub struct Given<'a> {
     pub base: Option<&'a str>,
     pub content: Option<&'a str>,
     pub verify: bool,
+    pub erased_only: bool,
     pub out: Option<&'a str>,
     pub regions: Vec<Bytes>,
 }
@@ -49,6 +50,7 @@ pub struct Request<'a> {
     pub base: u32,
     pub content: &'a str,
     pub verify: bool,
+    pub erased_only: bool,
     pub out: &'a str,
     pub regions: Vec<Bytes>,
 }
@@ -69,6 +71,7 @@ pub fn request_of<'a>(given: Given<'a>) -> Option<Request<'a>>
         base: base(given.base.unwrap_or("0"))?,
         content: given.content?,
         verify: given.verify,
+        erased_only: given.erased_only,
         out: given.out?,
         regions: given.regions,
     })
@@ -76,7 +79,7 @@ pub fn request_of<'a>(given: Given<'a>) -> Option<Request<'a>>
 
 /// The chip, where exactly one of its SFDP file and its size is given, the size is of its form, and no bits stand
 /// beside a size.
-pub(crate) fn chip_of<'a>(
+pub fn chip_of<'a>(
     sfdp: Option<&'a str>,
     uniform: Option<&'a str>,
     bits: Option<&'a str>,
@@ -95,7 +98,7 @@ pub(crate) fn chip_of<'a>(
 }
 
 /// The status, if one is given; None where it isn't of its form.
-fn optional_status(text: Option<&str>) -> Option<Option<u32>>
+pub fn optional_status(text: Option<&str>) -> Option<Option<u32>>
     ensures { result ≡ said_status (option_map (λ t. t.now) text.entry) }
 {
     match text {

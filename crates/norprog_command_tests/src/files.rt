@@ -7,21 +7,10 @@ use std::os::unix::fs::symlink;
 use std::process::Abort;
 use std::test::Fail;
 
-/// The script of the job of one byte without its last line, hence no script.
-const WITHOUT_END: &str =
-    "norscript 1\nx 00000110\nx 0000001000000000000000000000000000000000\np 00000101........\n";
-
 #[test]
 fn opens_files_in_their_order(rt: HostRuntime) -> Result<(), Fail> {
     write_job(&rt)?;
     fs::write(&rt, "sum", ":0100000000FE\n")?;
-    // after a program for address 0 a byte at 1000h must rise
-    fs::write(&rt, "rise", ":0100000000FF\n:0110000001EE\n:00000001FF\n")?;
-    let mut spot = fs::read(&rt, "chip")?;
-    if let Some(byte) = spot.get_mut(4096) {
-        *byte = 0;
-    }
-    fs::write(&rt, "spot", spot.as_slice())?;
     let rows = [
         (
             "hex=none layout=none no-uniform sfdp=none content=none",
@@ -49,8 +38,7 @@ fn opens_files_in_their_order(rt: HostRuntime) -> Result<(), Fail> {
             "before",
         ),
         ("hex=sum layout=one", "hex 4 line 1", ""),
-        ("layout=one no-uniform sfdp=one", "not yet", ""),
-        ("hex=rise content=spot", "not yet", WITHOUT_END),
+        ("layout=one no-uniform sfdp=one", "layout 1 line 1", ""),
     ];
     for (changes, refusal, left) in rows {
         fs::write(&rt, "job", "before")?;

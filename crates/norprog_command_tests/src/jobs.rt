@@ -55,6 +55,7 @@ pub(crate) fn given<'a>(alloc: Global, changes: &'a str) -> Result<Given<'a>, Fa
         base: None,
         content: Some("chip"),
         verify: false,
+        erased_only: false,
         out: Some("job"),
         regions: Vec::new(alloc),
     };
@@ -84,6 +85,7 @@ fn change<'a>(alloc: Global, given: &mut Given<'a>, word: &'a str) -> Result<(),
         "base" => given.base = value,
         "content" => given.content = value,
         "verify" => given.verify = true,
+        "erased-only" => given.erased_only = true,
         "out" => given.out = value,
         "region" => {
             let name = Vec::from_slice(alloc, value.unwrap_or("").as_bytes())?;

@@ -2,6 +2,7 @@
 
 use crate::jobs::{ONE_BYTE, answer_of, given, write_job, write_zeros};
 use nor_base::IntoWrite;
+use nor_erase::PlanFault;
 use norprog::{BuildFault, HexFault, LayoutFault, SfdpFault};
 use norprog_command::{Refusal, answer, refuse};
 use std::alloc::AllocGlobal;
@@ -10,7 +11,7 @@ use std::process::Abort;
 use std::test::Fail;
 
 /// Changes of the job of one byte, and the line that each is refused with.
-static REFUSALS: [(&str, &str); 38] = [
+static REFUSALS: [(&str, &str); 37] = [
     ("region=a", "contradiction 1"),
     ("status=000000", "contradiction 2"),
     (
@@ -22,8 +23,7 @@ static REFUSALS: [(&str, &str); 38] = [
         "contradiction 3",
     ),
     ("part=w25q256jv", "contradiction 4"),
-    ("no-uniform sfdp=short bits=", "not yet"),
-    ("verify", "not yet"),
+    ("no-uniform sfdp=short bits=", "sfdp 1"),
     ("hex=colon", "hex 1 line 1"),
     ("hex=digit", "hex 2 line 1"),
     ("hex=length", "hex 3 line 1"),
@@ -180,7 +180,14 @@ fn prints_each_fault(rt: HostRuntime) -> Result<(), Fail> {
         (BuildFault::Read, "read"),
         (BuildFault::Write, "write"),
         (BuildFault::Memory, "memory"),
-        (BuildFault::NotYet, "not yet"),
+        (
+            BuildFault::Plan(PlanFault::NoErase(0x1000)),
+            "plan 1 at 00001000",
+        ),
+        (
+            BuildFault::Plan(PlanFault::Unreachable(0x0ABC_DEF9)),
+            "plan 2 at 0abcdef9",
+        ),
     ];
     for (fault, text) in rows {
         let mut err = IntoWrite::new(Vec::new(rt.alloc()));

@@ -168,10 +168,7 @@ fn a_refused_growth_is_memory(rt: HostRuntime) {
 /// A reader, and what a build over it answers.
 #[derive(Clone, Copy)]
 struct Reading {
-    image: &'static str,
-    /// An address and the content's byte there; the others are FFh.
-    holds: (usize, u8),
-    /// How many bytes the reader has.
+    /// How many bytes the reader has, all FFh.
     has: usize,
     most: usize,
     fails_at: usize,
@@ -181,27 +178,10 @@ struct Reading {
 /// A reader of so many blank bytes for the image of one byte.
 fn blank_reading(has: usize, most: usize, fails_at: usize, want: Option<BuildFault>) -> Reading {
     Reading {
-        image: IMAGE,
-        holds: (0, 0xFF),
         has,
         most,
         fails_at,
         want,
-    }
-}
-
-/// The same where the image has 01h at address 0, whose bit has to rise.
-fn rising_reading(
-    holds: (usize, u8),
-    has: usize,
-    most: usize,
-    fails_at: usize,
-    want: BuildFault,
-) -> Reading {
-    Reading {
-        image: ":0100000001FE\n:00000001FF\n",
-        holds,
-        ..blank_reading(has, most, fails_at, Some(want))
     }
 }
 
@@ -228,16 +208,6 @@ fn a_reader_gives_what_it_likes(rt: HostRuntime) -> Result<(), Fail> {
         blank_reading(8192, 1, 8193, None),
         blank_reading(100, 8192, 2, read),
         blank_reading(100, 8192, 3, short),
-        // a bit would have to rise
-        rising_reading((0, 0x00), 8192, 8192, 0, BuildFault::NotYet),
-        rising_reading((0, 0xF0), 4096, 1, 4097, BuildFault::NotYet),
-        rising_reading((0, 0x00), 4095, 8192, 0, BuildFault::ContentShort),
-        rising_reading((0, 0x00), 8192, 1, 4096, BuildFault::Read),
-        Reading {
-            image: ":0100000000FF\n:0110000001EE\n:00000001FF\n",
-            holds: (0x1000, 0x00),
-            ..blank_reading(8192, 8192, 0, Some(BuildFault::NotYet))
-        },
     ];
     for row in table {
         try_reading(&rt, rt.alloc(), row)?;
@@ -253,15 +223,12 @@ fn try_reading(rt: &impl Abort, alloc: Global, row: Reading) -> Result<(), Fail>
         fails_at,
         ..
     } = row;
-    let mut bytes = [0xFF; 8200];
-    let (place, byte) = row.holds;
-    assert!(rt; place < 8200);
-    bytes[place] = byte;
+    let bytes = [0xFF; 8200];
     let given = bytes.get(..has).expect(rt, "so many bytes");
     let mut reader = content(given, most);
     reader.fails_at = fails_at;
     let writer = script(alloc, 128)?;
-    let built = run_build(alloc, &inputs(row.image), reader, 8192, writer);
+    let built = run_build(alloc, &inputs(IMAGE), reader, 8192, writer);
     let fault = fault_beside_script(rt, &built);
     assert_eq!(rt; fault, row.want, "{has}, {most}, {fails_at}");
     let failures = if fault == Some(BuildFault::Read) {

@@ -2,6 +2,7 @@
 
 use crate::devices::{SlowWriter, content, run_build};
 use crate::play::{play, script_of, with_bytes};
+use nor_base::{Meaning, Start};
 use norprog::{Bytes, Inputs, Part, Report, Source, Strategy};
 use std::alloc::{AllocError, Global};
 use std::process::Abort;
@@ -24,8 +25,15 @@ pub(crate) fn inputs(hex: &str) -> Inputs<'_> {
         quad: false,
         base: 0,
         verify: false,
+        erased_only: false,
     }
 }
+
+/// In three-byte mode, without the quad setting.
+const AT_REST: Start = Start {
+    mode4: false,
+    quad: false,
+};
 
 /// A list of one name, as a caller has it.
 pub(crate) fn one_name(alloc: Global, name: &[u8]) -> Result<Vec<Bytes>, AllocError> {
@@ -183,7 +191,7 @@ static CASES: [Case; 16] = [
 ];
 
 /// The report and the script of a build for a chip that holds these bytes.
-fn script_for(
+pub(crate) fn script_for(
     alloc: Global,
     inputs: &Inputs<'_>,
     before: &[u8],
@@ -235,30 +243,57 @@ fn try_case(rt: &impl Abort, alloc: Global, case: &Case) -> Result<(), Fail> {
         ignored: case.ignored,
     };
     assert_eq!(rt; report, want, "{records}");
-    let want = script_of(alloc, case.programs)?;
+    let want = programs_text(alloc, case.programs)?;
     assert!(rt; text.as_slice() == want.as_slice(), "{records}");
     let after = with_bytes(rt, alloc, before.as_slice(), case.changes)?;
-    play(
+    let start = Start {
+        mode4: false,
+        quad: case.quad,
+    };
+    play_uniform(
         rt,
         alloc,
+        start,
         text.as_slice(),
-        case.quad,
         before.as_slice(),
         after.as_slice(),
     )
+}
+
+/// The text of the script of these programs: each after a write enable, and waited for.
+fn programs_text(alloc: Global, programs: &str) -> Result<Vec<u8>, AllocError> {
+    let mut lines = String::new(alloc);
+    for program in programs.split_whitespace() {
+        lines.push_str(format!(in alloc; "06 {program} . ")?.as_str())?;
+    }
+    script_of(alloc, lines.as_str())
+}
+
+/// Runs a script on uniform chips that hold `before`.
+fn play_uniform(
+    rt: &impl Abort,
+    alloc: Global,
+    start: Start,
+    text: &[u8],
+    before: &[u8],
+    after: &[u8],
+) -> Result<(), Fail> {
+    let size = u32::try_from(before.len())?;
+    let meaning = Meaning::uniform(size).expect(rt, "a uniform chip");
+    play(rt, alloc, &meaning, start, text, before, after)
 }
 
 #[test]
 fn each_image_becomes_its_script(rt: HostRuntime) -> Result<(), Fail> {
     let alloc = rt.alloc();
     assert_eq!(rt;
-        script_of(alloc, "0200000000")?.as_slice(),
+        programs_text(alloc, "0200000000")?.as_slice(),
         ONE_BYTE.as_bytes()
     );
     let two =
         "norscript 1\nx 00000110\nx 000000100001001000110100010101101010010110000001\np 00000101........\nx 00000110\nx 0000001010001001101010111100110111101111\np 00000101........\nend 6\n";
     assert_eq!(rt;
-        script_of(alloc, "02123456A581 0289ABCDEF")?.as_slice(),
+        programs_text(alloc, "02123456A581 0289ABCDEF")?.as_slice(),
         two.as_bytes()
     );
     for case in &CASES {
@@ -321,11 +356,11 @@ fn a_larger_job_leaves_its_bytes_on_the_chip(rt: HostRuntime) -> Result<(), Fail
     // one in each page that a record touches
     assert_eq!(rt; report.programs, 4);
     assert_eq!(rt; report.ignored, 0);
-    play(
+    play_uniform(
         &rt,
         alloc,
+        AT_REST,
         text.as_slice(),
-        false,
         before.as_slice(),
         after.as_slice(),
     )

@@ -3,6 +3,10 @@
 #![tactic(auto)]
 
 #[cfg(test)]
+mod bytes;
+#[cfg(test)]
+mod chips;
+#[cfg(test)]
 mod devices;
 #[cfg(test)]
 mod jobs;
@@ -12,3 +16,5 @@ mod play;
 mod refusals;
 #[cfg(test)]
 mod reports;
+#[cfg(test)]
+mod windows;

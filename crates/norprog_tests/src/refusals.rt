@@ -56,9 +56,6 @@ fn each_cause_is_told(rt: HostRuntime) -> Result<(), Fail> {
     let alloc = rt.alloc();
     contradictions(&rt, alloc)?;
     texts(&rt, alloc)?;
-    let mut verify = inputs(IMAGE);
-    verify.verify = true;
-    refuses(&rt, alloc, &verify, 8192, BuildFault::NotYet)?;
     let mut mode4 = inputs(IMAGE);
     mode4.mode4 = true;
     refuses(&rt, alloc, &mode4, 8192, BuildFault::ModeImpossible)?;
@@ -77,7 +74,7 @@ fn clash(number: u8) -> BuildFault {
     BuildFault::Contradiction(number)
 }
 
-/// Inputs that contradict one another, also in more ways than one, and a chip by its SFDP.
+/// Inputs that contradict one another, also in more ways than one, and a chip by bytes that are cut off.
 fn contradictions(rt: &impl Abort, alloc: Global) -> Result<(), Fail> {
     let sfdp = Source::Sfdp {
         bytes: b"SFDP",
@@ -86,7 +83,7 @@ fn contradictions(rt: &impl Abort, alloc: Global) -> Result<(), Fail> {
     let uniform = Source::Uniform(8192);
     let w25 = Part::W25q256jv;
     let generic = Part::Generic;
-    let not_yet = BuildFault::NotYet;
+    let cut = BuildFault::Sfdp(SfdpFault::Truncated);
     // the chip, its part, its status, and what else is given
     let table = [
         (uniform, generic, None, "name", clash(1)),
@@ -100,9 +97,9 @@ fn contradictions(rt: &impl Abort, alloc: Global) -> Result<(), Fail> {
         (uniform, w25, None, "", clash(4)),
         (uniform, w25, Some(0), "", clash(4)),
         (uniform, w25, None, "mode4 quad", clash(4)),
-        (sfdp, generic, None, "", not_yet),
-        (sfdp, w25, Some(0), "", not_yet),
-        (sfdp, w25, None, "mode4 quad", not_yet),
+        (sfdp, generic, None, "", cut),
+        (sfdp, w25, Some(0), "", cut),
+        (sfdp, w25, None, "mode4 quad", cut),
     ];
     for (chip, part, status, given, want) in table {
         contradicts(rt, alloc, chip_inputs(chip, part, status), given, want)?;
@@ -167,7 +164,6 @@ fn texts(rt: &impl Abort, alloc: Global) -> Result<(), Fail> {
 fn the_first_of_several_causes_is_told(rt: HostRuntime) -> Result<(), Fail> {
     let order = [
         BuildFault::Contradiction(2),
-        BuildFault::NotYet,
         BuildFault::Hex(HexFault::BadSum { line: 1 }),
         BuildFault::Layout(LayoutFault::EndBeforeStart(1)),
         BuildFault::Sfdp(SfdpFault::Density),
@@ -176,7 +172,7 @@ fn the_first_of_several_causes_is_told(rt: HostRuntime) -> Result<(), Fail> {
     ];
     for (first, want) in order.into_iter().enumerate() {
         // that cause, and any of the later ones
-        for later in 0..0x80u8 >> first {
+        for later in 0..0x40u8 >> first {
             let set = (later | 1) << first;
             let (inputs, len) = faulty(set);
             refuses(&rt, rt.alloc(), &inputs, len, want)?;
@@ -190,11 +186,10 @@ fn faulty(set: u8) -> (Inputs<'static>, u64) {
     let has = |cause: u8| set & cause != 0;
     let inputs = Inputs {
         status: if has(0x01) { Some(0) } else { None },
-        verify: has(0x02),
-        layout: if has(0x08) { Some(BACKWARDS) } else { None },
-        chip: Source::Uniform(if has(0x10) { 4097 } else { 8192 }),
-        mode4: has(0x20),
-        ..inputs(if has(0x04) { BAD } else { IMAGE })
+        layout: if has(0x04) { Some(BACKWARDS) } else { None },
+        chip: Source::Uniform(if has(0x08) { 4097 } else { 8192 }),
+        mode4: has(0x10),
+        ..inputs(if has(0x02) { BAD } else { IMAGE })
     };
-    (inputs, if has(0x40) { 8191 } else { 8192 })
+    (inputs, if has(0x20) { 8191 } else { 8192 })
 }

@@ -1,31 +1,61 @@
 -- The whole path.
-use Rattle.std.proofs.Common.{inr, sym, subst}
+use Rattle.std.proofs.Common.{inr, [], sym, subst, arith}
 use Rattle.norprog.specs.Build.{IsBuilt, IsLate}
-use Rattle.norprog.proofs.BuildLemmas.{built_is, stops_is, cut_is_late}
+use Rattle.norprog.proofs.BuildLemmas.{Laws, built_is, stops_is, cause_is_late}
 use Rattle.norprog.proofs.FaultLemmas.{handed_on}
-use Rattle.norprog.proofs.ScriptLemmas.{nothing_written}
+use Rattle.norprog.proofs.TargetLemmas.{gives_none}
 use Rattle.norprog.proofs.builder.build.Goals as goal
-
-pub returns-in_err-job-clause-front : goal.returns-in_err-job-clause-front
-returns-in_err-job-clause-front g c = handed_on _ _ _ c.from_residual.ensures.1 (nothing_written (g.W.ByteOut.held c.args.out.now))
 
 pub returns-clause-built : goal.returns-clause-built
 returns-clause-built g c =
+    let laws : Laws = record {
+      done = c.planned_work.ensures.done;
+      making = c.planned_work.ensures.making;
+      exact = c.planned_runs.ensures.exact;
+      verified = c.planned_runs.ensures.verified;
+      unverified = c.planned_runs.ensures.unverified;
+      least = c.least_erasure.ensures;
+      spelled = c.there_is_planned_work.ensures.spelled;
+      has = c.spelling.ensures.has;
+    } in
     subst (IsBuilt c.args.inputs.now c.args.len (g.R.ByteIn.ahead c.args.content.now) (g.R.ByteIn.ahead c.write_script.new.content)
     (g.W.ByteOut.held c.args.out.now) (g.W.ByteOut.held c.write_script.new.out))
     (sym c.report_of.ensures)
-    (built_is c.args.inputs.now c.args.len c.in_ok-job.job _ _ _ _ c.in_ok-programs.programs c.planned_work.ensures.done c.planned_work.ensures.making c.is_accepted.ensures c.in_ok-job.ensures.job c.in_ok-programs.ensures.done)
+    (built_is c.args.inputs.now c.args.len c.in_ok-job.job _ _ _ _ c.in_ok-told.told laws c.is_accepted.ensures c.in_ok-job.ensures.job c.in_ok-told.ensures.done)
 
-pub returns-in_err-programs-clause-refused : goal.returns-in_err-programs-clause-refused
-returns-in_err-programs-clause-refused g c =
-    handed_on _ _ _ c.from_residual-in_err-programs.ensures.1
-    (inr (stops_is c.args.inputs.now c.args.len c.in_ok-job.job _ _ _ _ c.in_err-programs.field-0.0 c.in_ok-job.ensures.job c.in_err-programs.ensures.cut))
+pub returns-in_err-told-clause-refused : goal.returns-in_err-told-clause-refused
+returns-in_err-told-clause-refused g c =
+    let laws : Laws = record {
+      done = c.planned_work.ensures.done;
+      making = c.planned_work.ensures.making;
+      exact = c.planned_runs.ensures.exact;
+      verified = c.planned_runs.ensures.verified;
+      unverified = c.planned_runs.ensures.unverified;
+      least = c.least_erasure.ensures;
+      spelled = c.there_is_planned_work.ensures.spelled;
+      has = c.spelling.ensures.has;
+    } in
+    handed_on _ _ _ c.from_residual-in_err-told.ensures.1
+    (inr (stops_is c.args.inputs.now c.args.len c.in_ok-job.job _ _ _ _ c.in_err-told.field-0.0 laws c.is_accepted.ensures c.in_ok-job.ensures.job c.in_err-told.ensures.cut))
 
 pub returns-in_err-job-clause-accepted : goal.returns-in_err-job-clause-accepted
-returns-in_err-job-clause-accepted g c = λ image regions accepted.
-    handed_on _ _ _ c.from_residual.ensures.1 (subst IsLate (sym (c.in_err-job.ensures.only_memory image regions accepted)) tt)
+returns-in_err-job-clause-accepted g c = λ image regions m accepted.
+    handed_on _ _ _ c.from_residual.ensures.1 (subst IsLate (sym (c.in_err-job.ensures.only_memory image regions m accepted)) tt)
 
-pub returns-in_err-programs-clause-accepted : goal.returns-in_err-programs-clause-accepted
-returns-in_err-programs-clause-accepted g c = λ image regions accepted.
-    handed_on _ _ _ c.from_residual-in_err-programs.ensures.1
-    (cut_is_late c.in_ok-job.job _ _ _ _ c.in_err-programs.field-0.0 c.in_err-programs.ensures.cut)
+pub returns-in_err-told-clause-accepted : goal.returns-in_err-told-clause-accepted
+returns-in_err-told-clause-accepted g c = λ image regions m accepted.
+    let cut = c.in_err-told.ensures.cut in
+    handed_on _ _ _ c.from_residual-in_err-told.ensures.1 (cause_is_late c.in_ok-job.job cut.part _ c.in_err-told.field-0.0 cut.cause)
+
+pub returns-in_err-job-clause-within : goal.returns-in_err-job-clause-within
+returns-in_err-job-clause-within g c = record { bytes = []; few = omega arith; given = gives_none (g.R.ByteIn.ahead c.args.content.now) }
+
+pub returns-in_err-told-clause-within : goal.returns-in_err-told-clause-within
+returns-in_err-told-clause-within g c =
+    let cut = c.in_err-told.ensures.cut in
+    record { bytes = cut.part; few = omega (arith, cut.within, c.in_ok-job.ensures.job.accepted.size); given = cut.given }
+
+pub returns-clause-within : goal.returns-clause-within
+returns-clause-within g c =
+    let done = c.in_ok-told.ensures.done in
+    record { bytes = done.part; few = omega (arith, done.upto, c.in_ok-job.ensures.job.accepted.size); given = done.given }

@@ -1,41 +1,62 @@
 -- One window more follows those before.
-use Rattle.std.proofs.Common.{◌+◌, ◌≤◌, ◌∙◌, refl, ap, arith}
-use Rattle.norprog.specs.declared.job.Job.{Job}
-use Rattle.norprog.proofs.WholeLemmas.{none_done, done_then, done_then_cut}
+use Rattle.std.proofs.Common.{◌≡◌, ◌+◌, ◌-◌, ◌<◌, ◌∙◌, min, length, take, drop, refl, sym, ap, subst, arith, length-append, length-drop}
+use Rattle.std.proofs.lemmas.List.{length-take-le}
+use Rattle.std.proofs.Math.Nat.{zero-mod}
+use Rattle.nor_job.specs.declared.job.Job.{Job}
+use Rattle.norprog.specs.Windows.{IsDone, WroteWindow, StopsWindow}
+use Rattle.norprog.proofs.FaultLemmas.{handed_on}
+use Rattle.norprog.proofs.PlaceLemmas.{some_page, place_is}
+use Rattle.norprog.proofs.WindowLemmas.{none_done, done_then, done_then_cut}
 use Rattle.norprog.proofs.windows.write_chip.Goals as goal
 
 pub loop-at-init : goal.loop-at-init
 loop-at-init g c = record {
-  done = none_done c.args.job.now (g.R.ByteIn.ahead c.args.content.now) (g.W.ByteOut.held c.args.out.now);
+  done = subst (IsDone c.args.job.now c.args.writer.now 0 (g.R.ByteIn.ahead c.args.content.now) (g.R.ByteIn.ahead c.args.content.now) (g.W.ByteOut.held c.args.out.now) (g.W.ByteOut.held c.args.out.now))
+      (sym c.none-told.ensures) (none_done c.args.job.now c.args.writer.now (g.R.ByteIn.ahead c.args.content.now) (g.W.ByteOut.held c.args.out.now) c.requires.first);
   room = refl;
-  room' = refl;
-  aligned = refl;
+  room' = c.requires.lengths;
+  size = refl;
+  whole = zero-mod c.args.job.now.meaning.page;
+  aligned = λ before. zero-mod (length c.args.have.now);
   within = omega arith;
-  few = omega arith;
   reads = refl;
   writes = refl;
 }
 
-pub returns-in-Err-clause-cut : goal.returns-in-Err-clause-cut
-returns-in-Err-clause-cut g c =
-    let before = c.loop-at.invariant in
+pub returns-in_err-more-clause-cut : goal.returns-in_err-more-clause-cut
+returns-in_err-more-clause-cut g c =
+    let m = c.args.job.now.meaning in
     let size = ap (λ (v : Job). v.meaning.size) c.job.view_is in
-    let near : c.loop-at.at + 4096 ≤ c.args.job.now.meaning.size = omega (arith, before.aligned, before.within, c.requires.size.whole, c.loop-at-test.true, size) in
-    done_then_cut c.args.job.now c.loop-at.at (c.loop-at.at + 4096) c.args.job.now.meaning.size _ _ _ _ _ _ c.loop-at.programs c.in-Err.fault
-    (omega (arith, near, c.requires.size.high)) near before.done c.in-Err.ensures.cut
+    let before : c.loop-at.at < m.size = omega (arith, c.loop-at-test.true, size) in
+    let place = place_is m (length c.args.have.now) c.loop-at.at c.min-count.result c.requires.accepted c.requires.window before (c.loop-at.invariant.aligned before) (c.min-count.ensures ∙ ap (λ n. min (length c.args.have.now) (n - c.loop-at.at)) size) in
+    let took : length (take c.min-count.result c.loop-at.have) ≡ c.min-count.result = length-take-le c.min-count.result c.loop-at.have (omega (arith, place.few, c.loop-at.invariant.room)) in
+    handed_on _ _ _ c.from_residual.ensures.1
+    (done_then_cut c.args.job.now c.loop-at.writer c.loop-at.at c.min-count.result (length c.args.have.now) _ _ _ _ _ _ c.loop-at.told c.in_err-more.field-0.0
+    (some_page m c.requires.accepted) c.loop-at.invariant.whole place.whole place.few place.inside c.loop-at.invariant.done
+    (subst (λ n. StopsWindow c.args.job.now c.loop-at.writer c.loop-at.at n (g.R.ByteIn.ahead c.loop-at.content) (g.R.ByteIn.ahead c.write_window.new.content) (g.W.ByteOut.held c.loop-at.out) (g.W.ByteOut.held c.write_window.new.out) c.in_err-more.field-0.0)
+    took c.in_err-more.ensures.stopped))
 
 pub loop-at-preserved : goal.loop-at-preserved
 loop-at-preserved g c =
-    let before = c.loop-at.invariant in
-    let now = c.in-Ok.ensures in
+    let m = c.args.job.now.meaning in
     let size = ap (λ (v : Job). v.meaning.size) c.job.view_is in
+    let before : c.loop-at.at < m.size = omega (arith, c.loop-at-test.true, size) in
+    let place = place_is m (length c.args.have.now) c.loop-at.at c.min-count.result c.requires.accepted c.requires.window before (c.loop-at.invariant.aligned before) (c.min-count.ensures ∙ ap (λ n. min (length c.args.have.now) (n - c.loop-at.at)) size) in
+    let took : length (take c.min-count.result c.loop-at.have) ≡ c.min-count.result = length-take-le c.min-count.result c.loop-at.have (omega (arith, place.few, c.loop-at.invariant.room)) in
+    let took' : length (take c.min-count.result c.loop-at.want) ≡ c.min-count.result = length-take-le c.min-count.result c.loop-at.want (omega (arith, place.few, c.loop-at.invariant.room')) in
     record {
-      done = done_then c.args.job.now c.loop-at.at (c.loop-at.at + 4096) _ _ _ _ _ _ c.loop-at.programs c.in-Ok.written before.done now.done;
-      room = c.write_window.auto.have ∙ before.room;
-      room' = c.write_window.auto.want ∙ before.room';
-      aligned = omega (arith, before.aligned);
-      within = omega (arith, before.aligned, before.within, c.requires.size.whole, c.loop-at-test.true, size);
-      few = omega (arith, before.few, now.few);
-      reads = now.reads ∙ before.reads;
-      writes = now.writes ∙ before.writes;
+      done = subst (IsDone c.args.job.now c.write_window.new.writer (c.loop-at.at + c.min-count.result) (g.R.ByteIn.ahead c.args.content.now) (g.R.ByteIn.ahead c.write_window.new.content) (g.W.ByteOut.held c.args.out.now) (g.W.ByteOut.held c.write_window.new.out))
+          (sym c.plus-told.ensures)
+          (done_then c.args.job.now c.loop-at.writer c.write_window.new.writer c.loop-at.at c.min-count.result _ _ _ _ _ _ c.loop-at.told c.in_ok-more.more
+          (some_page m c.requires.accepted) c.loop-at.invariant.whole c.loop-at.invariant.done
+          (subst (λ n. WroteWindow c.args.job.now c.loop-at.writer c.write_window.new.writer c.loop-at.at n (g.R.ByteIn.ahead c.loop-at.content) (g.R.ByteIn.ahead c.write_window.new.content) (g.W.ByteOut.held c.loop-at.out) (g.W.ByteOut.held c.write_window.new.out) c.in_ok-more.more)
+          took c.in_ok-more.ensures.wrote));
+      room = length-append c.write_window.new.have (drop c.min-count.result c.loop-at.have) ∙ omega (arith, length-drop c.min-count.result c.loop-at.have, c.write_window.auto.have, took, place.few, c.loop-at.invariant.room);
+      room' = length-append c.write_window.new.want (drop c.min-count.result c.loop-at.want) ∙ omega (arith, length-drop c.min-count.result c.loop-at.want, c.write_window.auto.want, took', place.few, c.loop-at.invariant.room');
+      size = refl;
+      whole = place.whole;
+      aligned = place.aligned;
+      within = place.inside;
+      reads = c.in_ok-more.ensures.reads ∙ c.loop-at.invariant.reads;
+      writes = c.in_ok-more.ensures.writes ∙ c.loop-at.invariant.writes;
     }

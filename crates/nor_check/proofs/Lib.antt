@@ -1,0 +1,12 @@
+mod Before
+mod Lines
+mod Members
+mod Takes
+mod Steps
+mod Judges
+mod Found
+mod Ends
+mod Pages
+mod Seeing
+mod Judging
+mod OneVerdict

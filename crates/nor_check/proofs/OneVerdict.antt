@@ -1,0 +1,78 @@
+-- Two worst verdicts are one.
+use Rattle.std.proofs.Common.{◌≡◌, ℕ, ◌<◌, ◌==◌, if◌then◌else◌, false, List, refl, sym, ◌∙◌, ap, arith, inl, inr, subst}
+use Rattle.nor_base.specs.declared.meaning.Start.{Start}
+use Rattle.nor_base.specs.declared.step.Step.{Step}
+use Rattle.nor_base.specs.declared.wrong.Wrong.{Wrong}
+use Rattle.nor_base.specs.declared.wrong.Wrong.TheVariants as wrong
+use Rattle.nor_base.specs.Parameters.{Parameters}
+use Rattle.nor_check.specs.declared.verdict.Verdict.{Verdict}
+use Rattle.nor_check.specs.declared.verdict.Verdict.TheVariants.{Yes, No}
+use Rattle.nor_check.specs.declared.verdict.Why.{Why}
+use Rattle.nor_check.specs.declared.verdict.Why.TheVariants as why
+use Rattle.nor_check.specs.Order.{rank, rank_of, is_before}
+use Rattle.nor_check.specs.Worst.{IsWorst}
+use Rattle.nor_check.proofs.Before.{IsNoLater, untold}
+
+-- the wrong of a rank below 8
+wrong_at : ℕ → Wrong
+wrong_at n =
+    if n == 0 then wrong.Unknown
+    else if n == 1 then wrong.Ignored
+    else if n == 2 then wrong.OutOfRange
+    else if n == 3 then wrong.Raised
+    else if n == 4 then wrong.NotErased
+    else if n == 5 then wrong.Mismatch
+    else if n == 6 then wrong.PollNever
+    else wrong.NotIdleAtEnd
+
+wrong_again : (w : Wrong) → wrong_at (rank_of w) ≡ w
+unfolding wrong_at
+wrong_again wrong.Unknown = refl
+wrong_again wrong.Ignored = refl
+wrong_again wrong.OutOfRange = refl
+wrong_again wrong.Raised = refl
+wrong_again wrong.NotErased = refl
+wrong_again wrong.Mismatch = refl
+wrong_again wrong.PollNever = refl
+wrong_again wrong.NotIdleAtEnd = refl
+
+below_eight : (w : Wrong) → rank_of w < 8
+below_eight wrong.Unknown = omega arith
+below_eight wrong.Ignored = omega arith
+below_eight wrong.OutOfRange = omega arith
+below_eight wrong.Raised = omega arith
+below_eight wrong.NotErased = omega arith
+below_eight wrong.Mismatch = omega arith
+below_eight wrong.PollNever = omega arith
+below_eight wrong.NotIdleAtEnd = omega arith
+
+-- two causes of one rank are one
+same_cause : (a b : Why) → rank a ≡ rank b → a ≡ b
+same_cause (why.Wrong v) (why.Wrong w) h = ap why.Wrong (sym (wrong_again v) ∙ ap wrong_at h ∙ wrong_again w)
+same_cause (why.Wrong v) (why.Differs b) h = let low = below_eight v in absurd (omega (arith, h))
+same_cause (why.Differs a) (why.Wrong w) h = let low = below_eight w in absurd (omega (arith, h))
+same_cause (why.Differs a) (why.Differs b) h = let same : a ≡ b = omega (arith, h) in ap why.Differs same
+
+same_verdict : (v u : Verdict) → IsNoLater v u → IsNoLater u v → v ≡ u
+same_verdict Yes Yes h g = refl
+same_verdict Yes (No n b) h g = absurd h
+same_verdict (No k a) Yes h g = absurd g
+same_verdict (No k a) (No n b) (inl less) (inl more) = absurd (omega arith)
+same_verdict (No k a) (No n b) (inl less) (inr same) = let number = same.0 in absurd (omega arith)
+same_verdict (No k a) (No n b) (inr same) (inl more) = let number = same.0 in absurd (omega arith)
+same_verdict (No k a) (No n b) (inr same) (inr too) =
+    let low = same.1 in
+    let high = too.1 in
+    let ranks : rank a ≡ rank b = omega arith in
+    ap (λ m. No m a) same.0 ∙ ap (No n) (same_cause a b ranks)
+
+-- what is worst is no later than any outcome, and so than what is worst
+no_later : (m : Parameters) (start : Start) (content target : List ℕ) (steps : List Step) (v u : Verdict) → IsWorst m start content target steps v
+    → IsWorst m start content target steps u → IsNoLater v u
+no_later m start content target steps v u first second =
+    untold v u (subst (λ (t : Verdict). is_before t v ≡ false) second.so (first.first second.chip second.is))
+
+pub one_worst : (m : Parameters) (start : Start) (content target : List ℕ) (steps : List Step) (v u : Verdict) → IsWorst m start content target steps v
+    → IsWorst m start content target steps u → v ≡ u
+one_worst m start content target steps v u first second =
+    same_verdict v u (no_later m start content target steps v u first second) (no_later m start content target steps u v second first)

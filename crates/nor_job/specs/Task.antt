@@ -1,0 +1,66 @@
+-- What a build is asked for, as plain data, and when its parts contradict one another (this project's).
+use Rattle.std.specs.Prelude.{ℕ, Bool, true, false, not, ◌&&◌, ◌||◌, if◌then◌else◌, List, [], ◌∷◌, Option, Some, None, is_some, option_map}
+use Rattle.nor_base.specs.declared.meaning.Part.{Part}
+use Rattle.nor_base.specs.declared.meaning.Part.TheVariants.{Generic, W25q256jv}
+use Rattle.nor_job.specs.declared.inputs.Source.{Source}
+use Rattle.nor_job.specs.declared.inputs.Source.TheVariants as source
+use Rattle.nor_job.specs.declared.inputs.Inputs.TheInside.{Inside}
+
+-- where the meaning of a chip comes from: its SFDP bytes and configuration bits, or a size
+pub data Origin : Type 0 where
+  Sfdp : List ℕ → List ℕ → Origin
+  Uniform : ℕ → Origin
+
+abbrev pub origin_of : Source → Origin
+origin_of (source.Sfdp bytes bits) = Sfdp bytes.now bits.now
+origin_of (source.Uniform size) = Uniform size
+
+pub record Task : Type 0 where
+  pub hex : List ℕ
+  pub layout : Option (List ℕ)
+  pub regions : List (List ℕ)
+  pub chip : Origin
+  pub part : Part
+  pub status : Option ℕ
+  pub mode4 : Bool
+  pub quad : Bool
+  pub base : ℕ
+  pub verify : Bool
+  pub erased_only : Bool
+
+abbrev pub task_of : Inside → Task
+task_of inputs = record {
+  hex = inputs.hex.now;
+  layout = option_map (λ text. text.now) inputs.layout;
+  regions = inputs.regions.now;
+  chip = origin_of inputs.chip;
+  part = inputs.part;
+  status = inputs.status;
+  mode4 = inputs.mode4;
+  quad = inputs.quad;
+  base = inputs.base;
+  verify = inputs.verify;
+  erased_only = inputs.erased_only;
+}
+
+abbrev pub is_generic : Part → Bool
+is_generic Generic = true
+is_generic W25q256jv = false
+
+abbrev pub is_uniform : Origin → Bool
+is_uniform (Sfdp bytes bits) = false
+is_uniform (Uniform size) = true
+
+abbrev pub are_named : List (List ℕ) → Bool
+are_named [] = false
+are_named (name ∷ names) = true
+
+-- the first contradiction of the inputs: regions without a layout; a status with part Generic; a status together with
+-- `mode4` or `quad`; a uniform chip of another part
+unfoldable pub contradiction : Task → Option ℕ
+contradiction t =
+    if not (is_some t.layout) && are_named t.regions then Some 1
+    else if is_some t.status && is_generic t.part then Some 2
+    else if is_some t.status && (t.mode4 || t.quad) then Some 3
+    else if is_uniform t.chip && not (is_generic t.part) then Some 4
+    else None

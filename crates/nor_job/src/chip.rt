@@ -1,0 +1,63 @@
+//! The chip that a build is for.
+
+ghost use Rattle.std.specs.Prelude.{◌≡◌, IsOk, IfOk, IfErr};
+ghost use Rattle.nor_base.specs.Parameters.{Parameters};
+ghost use Rattle.nor_job.specs.Chip.{HasChip, RefusesChip, chip_says, uniform_says, profiled};
+ghost use Rattle.nor_job.specs.Status.{start_of};
+
+use crate::fault::BuildFault;
+use crate::inputs::{Inputs, Source};
+use crate::status::{start_of, status_fault};
+use nor_base::{Meaning, Start, Width};
+use nor_sfdp::SfdpFault;
+
+/// What the inputs say of the chip, and how it begins. It looks neither at the image nor at the layout, nor for a
+/// contradiction, and takes no memory.
+///
+/// `Sfdp` where the chip's meaning is refused; else `Status` where the status, if there is one, says that the chip isn't
+/// idle and unprotected; else `ModeImpossible` where it begins in four-byte mode and has three address bytes alone.
+pub fn chip_of(inputs: &Inputs<'_>) -> Result<(Meaning, Start), BuildFault>
+    ensures chip { IfOk result (λ chip. HasChip inputs.now chip.0) }
+    ensures start { IfOk result (λ chip. chip.1 ≡ start_of inputs.now) }
+    ensures refused { IfErr result (RefusesChip inputs.now) }
+    ensures accepted { (m : Parameters) → HasChip inputs.now m → IsOk result }
+{
+    let meaning = meaning_of(inputs)?;
+    if let Some(number) = status_fault(inputs.status) {
+        return Err(BuildFault::Status(number));
+    }
+    let start = start_of(inputs);
+    if start.mode4 && meaning.width == Width::Three {
+        return Err(BuildFault::ModeImpossible);
+    }
+    Ok((meaning, start))
+}
+
+/// The chip's meaning, by its SFDP bytes or its size, under the profile that is asked for.
+fn meaning_of(inputs: &Inputs<'_>) -> Result<Meaning, SfdpFault>
+    ensures { result ≡ chip_says inputs.now }
+{
+    let meaning = match inputs.chip {
+        Source::Sfdp { bytes, bits } => nor_sfdp::read(bytes, bits, inputs.part)?,
+        Source::Uniform(size) => uniform(size)?,
+    };
+    Ok(profiled(meaning, inputs.erased_only))
+}
+
+/// The uniform chip of a size.
+#[tactic(auto, unfolding(crate::specs::Chip::uniform_says))]
+fn uniform(size: u32) -> Result<Meaning, SfdpFault>
+    ensures { result ≡ uniform_says size }
+{
+    Meaning::uniform(size).ok_or(SfdpFault::Density)
+}
+
+/// The meaning under the profile that programs erased bytes alone, where that is asked for.
+fn profiled(meaning: Meaning, erased_only: bool) -> Meaning
+    ensures { result ≡ profiled erased_only meaning }
+{
+    if erased_only {
+        return meaning.erased_only_set();
+    }
+    meaning
+}

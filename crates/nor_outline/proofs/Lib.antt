@@ -1,0 +1,4 @@
+mod RangeLemmas
+mod ReasonLemmas
+mod TextLemmas
+mod WalkLemmas

@@ -1,0 +1,98 @@
+-- Each smallest block starts where the one before it ends.
+use Rattle.std.proofs.Common.{◌≡◌, ℕ, ◌+◌, ◌≤◌, ◌<◌, List, length, refl, ◌∙◌, ap, subst, arith, rules}
+use Rattle.std.specs.Io.KnownBytes.{Appends}
+use Rattle.nor_base.specs.Blocks.{Block, Holds}
+use Rattle.nor_base.specs.Parameters.{Parameters}
+use Rattle.nor_base.specs.declared.meaning.Strategy.{Strategy}
+use Rattle.nor_base.specs.Accepted.{IsAccepted}
+use Rattle.nor_base.proofs.DeviceLaws.{Appends-none, Writes-cut}
+use Rattle.nor_base.proofs.RegionLaws.{legal_on_chip}
+use Rattle.nor_geometry.specs.Legal.{IsSmallestAt}
+use Rattle.nor_geometry.proofs.KindLemmas.{placed}
+use Rattle.nor_work.specs.Able.{BlocksStay}
+use Rattle.nor_work.proofs.Ranges.{length-range}
+use Rattle.nor_outline.specs.Outline.{MayErase, reasons}
+use Rattle.nor_outline.specs.Parts.{due_in}
+use Rattle.nor_outline.proofs.ReasonLemmas.{IsBorder, IsNextIn, first_border, next_in}
+use Rattle.nor_outline.proofs.WalkLemmas.{one_more, cut_there}
+use Rattle.nor_outline.proofs.reasons.put_reasons.Goals as goal
+
+-- the smallest block at the next place
+next_at : (m : Parameters) (by : Strategy) (b : Block) (have want : List ℕ) (start done : ℕ) (least : Block) → BlocksStay → IsAccepted m → MayErase m by b
+    → length have ≡ length want → length want ≡ b.size → done < length have → start ≡ b.start → IsBorder m (b.start + done) → IsSmallestAt m by (start + done) least
+    → IsNextIn m b (b.start + done) least
+next_at m by b have want start done least stay accepted may lengths count less starts border is =
+    let held : Holds b (b.start + done) = (omega arith, omega arith) in
+    next_in m by b (b.start + done) least stay accepted may held border (subst (λ n. IsSmallestAt m by (n + done) least) starts is)
+
+pub loop-done-init : goal.loop-done-init
+loop-done-init g c =
+    let place : c.args.block.start ≡ c.args.block.start + 0 = omega arith in
+    let p = placed c.args.meaning.now c.args.block c.is_accepted.ensures c.requires.block.legal in
+    record {
+      upto = omega arith;
+      border = subst (IsBorder c.args.meaning.now) place (first_border c.args.meaning.now c.args.block c.is_accepted.ensures c.requires.block.legal p.some);
+      put = Appends-none _;
+      count = refl;
+    }
+
+pub overflow_add-start : goal.overflow_add-start
+overflow_add-start g c =
+    let start : c.block.inside.start ≡ c.args.block.start = ap (λ (b : Block). b.start) c.block.view_is in
+    let fits = legal_on_chip c.args.meaning.now c.args.block c.is_accepted.ensures c.requires.block.legal in
+    omega (arith, fits, start, c.is_accepted.ensures.size_high)
+
+pub slice_bounds-put_reason-end : goal.slice_bounds-put_reason-end
+slice_bounds-put_reason-end g c =
+    let start : c.block.inside.start ≡ c.args.block.start = ap (λ (b : Block). b.start) c.block.view_is in
+    let size : c.least.inside.size ≡ c.in-Some.least.size = ap (λ (b : Block). b.size) c.least.view_is in
+    let next = next_at c.args.meaning.now c.args.strategy c.args.block c.args.have.now c.args.want.now c.block.inside.start c.loop-done.done c.in-Some.least c.blocks-2.ensures.blocks
+    c.is_accepted.ensures c.requires.block c.requires.lengths c.requires.count c.loop-done-test.true start c.loop-done.invariant.border c.in-Some.ensures in
+    let upto : c.loop-done.done + c.least.inside.size ≤ length c.args.have.now = omega (arith, next.fits, size) in
+    search rules
+
+pub put_reason-requires-clause-inside : goal.put_reason-requires-clause-inside
+put_reason-requires-clause-inside g c =
+    let start : c.block.inside.start ≡ c.args.block.start = ap (λ (b : Block). b.start) c.block.view_is in
+    let size : c.least.inside.size ≡ c.in-Some.least.size = ap (λ (b : Block). b.size) c.least.view_is in
+    let next = next_at c.args.meaning.now c.args.strategy c.args.block c.args.have.now c.args.want.now c.block.inside.start c.loop-done.done c.in-Some.least c.blocks-2.ensures.blocks
+    c.is_accepted.ensures c.requires.block c.requires.lengths c.requires.count c.loop-done-test.true start c.loop-done.invariant.border c.in-Some.ensures in
+    let upto : c.loop-done.done + c.least.inside.size ≤ length c.args.have.now = omega (arith, next.fits, size) in
+    let fits = legal_on_chip c.args.meaning.now c.args.block c.is_accepted.ensures c.requires.block.legal in
+    omega (arith, fits, start, length-range c.args.have.now c.loop-done.done (c.loop-done.done + c.least.inside.size) (omega arith) upto)
+
+pub returns-in_err-put_reason-clause-bytes : goal.returns-in_err-put_reason-clause-bytes
+returns-in_err-put_reason-clause-bytes g c =
+    let start : c.block.inside.start ≡ c.args.block.start = ap (λ (b : Block). b.start) c.block.view_is in
+    let size : c.least.inside.size ≡ c.in-Some.least.size = ap (λ (b : Block). b.size) c.least.view_is in
+    let next = next_at c.args.meaning.now c.args.strategy c.args.block c.args.have.now c.args.want.now c.block.inside.start c.loop-done.done c.in-Some.least c.blocks-2.ensures.blocks
+    c.is_accepted.ensures c.requires.block c.requires.lengths c.requires.count c.loop-done-test.true start c.loop-done.invariant.border c.in-Some.ensures in
+    let upto : c.loop-done.done + c.least.inside.size ≤ length c.args.have.now = omega (arith, next.fits, size) in
+    Writes-cut _ _ _ _ c.from_residual.ensures.0
+    (cut_there c.args.meaning.now c.args.block c.in-Some.least c.args.have.now c.args.want.now c.block.inside.start c.loop-done.done c.least.inside.size
+    (g.W.ByteOut.held c.args.out.now) (g.W.ByteOut.held c.loop-done.out) (g.W.ByteOut.held c.put_reason.new.out) start size
+    (c.requires.lengths ∙ c.requires.count) upto next c.loop-done.invariant.put c.in_err-put_reason.ensures.bytes)
+
+pub loop-done-preserved : goal.loop-done-preserved
+loop-done-preserved g c =
+    let start : c.block.inside.start ≡ c.args.block.start = ap (λ (b : Block). b.start) c.block.view_is in
+    let size : c.least.inside.size ≡ c.in-Some.least.size = ap (λ (b : Block). b.size) c.least.view_is in
+    let next = next_at c.args.meaning.now c.args.strategy c.args.block c.args.have.now c.args.want.now c.block.inside.start c.loop-done.done c.in-Some.least c.blocks-2.ensures.blocks
+    c.is_accepted.ensures c.requires.block c.requires.lengths c.requires.count c.loop-done-test.true start c.loop-done.invariant.border c.in-Some.ensures in
+    let upto : c.loop-done.done + c.least.inside.size ≤ length c.args.have.now = omega (arith, next.fits, size) in
+    let place : (c.args.block.start + c.loop-done.done) + c.in-Some.least.size ≡ c.args.block.start + (c.loop-done.done + c.least.inside.size) = omega (arith, size) in
+    record {
+      upto = upto;
+      border = subst (IsBorder c.args.meaning.now) place next.border;
+      put = one_more c.args.meaning.now c.args.block c.in-Some.least c.args.have.now c.args.want.now c.block.inside.start c.loop-done.done c.least.inside.size
+          (g.W.ByteOut.held c.args.out.now) (g.W.ByteOut.held c.loop-done.out) (g.W.ByteOut.held c.put_reason.new.out) start size upto next
+          c.loop-done.invariant.put c.in_ok-put_reason.ensures.bytes;
+      count = c.in_ok-put_reason.ensures.count ∙ c.loop-done.invariant.count;
+    }
+
+pub returns-clause-bytes : goal.returns-clause-bytes
+unfolding reasons
+returns-clause-bytes g c =
+    let all : c.loop-done.done ≡ c.args.block.size = omega (arith, c.loop-done.invariant.upto, c.requires.lengths, c.requires.count) in
+    subst (λ n. Appends (g.W.ByteOut.held c.args.out.now) (g.W.ByteOut.held c.loop-done.out)
+    (reasons c.args.meaning.now (due_in c.args.meaning.now c.args.have.now c.args.want.now c.args.block.start) c.args.block.start n)) all c.loop-done.invariant.put

@@ -1,0 +1,7 @@
+-- The line's bytes.
+use Rattle.nor_base.specs.Script.{step_line}
+use Rattle.nor_script.proofs.writer.write_poll.Goals as goal
+
+pub returns-clause-bytes : goal.returns-clause-bytes
+unfolding step_line
+returns-clause-bytes g c = c.put_parts.ensures.bytes

@@ -1,0 +1,7 @@
+pub mod LineLemmas
+pub mod StreamLemmas
+pub mod OpLemmas
+mod TallyLemmas
+mod UnitLemmas
+pub mod Placed
+pub mod WindowLemmas

@@ -1,0 +1,11 @@
+-- The lines of the instructions before this one were put.
+use Rattle.std.proofs.Common.{◌≡◌, take}
+use Rattle.std.specs.Io.KnownBytes.{Appends}
+use Rattle.nor_steps.specs.Lines.{lines_out}
+use Rattle.nor_steps.proofs.lines.write_instrs.Given as goal
+
+abbrev pub invariant-loop-instr : goal.invariant-loop-instr
+invariant-loop-instr g l = record {
+  put : Appends (g.W.ByteOut.held l.fn.out) (g.W.ByteOut.held l.out) (lines_out (take l.instr-index l.instrs));
+  count : g.W.ByteOut.count l.out ≡ g.W.ByteOut.count l.fn.out;
+}

@@ -1,0 +1,6 @@
+pub mod Faults
+pub mod Lines
+pub mod Tally
+pub mod Writing
+pub mod Units
+pub mod Work

@@ -1,0 +1,240 @@
+//! The steps of a unit.
+
+ghost use Rattle.std.specs.Prelude.{◌≡◌, ◌≤◌, ◌<◌, ◌+◌, ◌*◌, ◌-◌, ◌^◌, [], ◌∷◌, length, IfOk, IfErr};
+ghost use Rattle.std.specs.List.{AllByRecursion};
+ghost use Rattle.nor_pages.specs.Runs.{IsUnit, LiesBetween, AreBetween};
+ghost use Rattle.nor_select.specs.Streamed.{next};
+ghost use Rattle.nor_steps.specs.Faults.{CountsSteps, IsOfWriting};
+ghost use Rattle.nor_steps.specs.Units.{run_op, run_ops, page_reads, block_reads, run_reads, block_ops, page_ops, Writes, WritesUnit};
+ghost use Rattle.nor_steps.specs.Writing.{Adds, next_lines, written_on};
+
+use crate::fault::StepsFault;
+use crate::tally::Tally;
+use crate::writer::StepWriter;
+use nor_base::ByteOut;
+use nor_erase::PlanUnit;
+use nor_geometry::Block;
+use nor_pages::{Run, split};
+use nor_select::Op;
+use std::alloc::Global;
+
+impl<'m> StepWriter<'m> {
+    /// Writes the steps of a unit. `have` and `want` are its bytes: what the chip holds there and what it must hold.
+    pub(crate) fn write_unit<W: ByteOut>(
+        &mut self,
+        alloc: Global,
+        unit: &PlanUnit,
+        have: &[u8],
+        want: &[u8],
+        out: &mut W,
+    ) -> Result<Tally, StepsFault>
+        requires lengths { length have.now ≡ length want.now }
+        requires unit { IsUnit self.old.streaming.meaning unit.now (length want.now) }
+        requires few { length want.now ≤ 2 ^ 24 }
+        requires writer { W.count out.old < 2 ^ 64 - 1 }
+        ensures written { WritesUnit self.old self.new (W.held out.old) (W.held out.new) unit.now have.now want.now result }
+        ensures count { CountsSteps (W.count out.old) (W.count out.new) result }
+        ensures why { IfErr result IsOfWriting }
+    {
+        let meaning = self.lowerer.meaning();
+        meaning.is_accepted();
+        let runs = split(alloc, meaning, unit, have, want)?;
+        match unit {
+            PlanUnit::Block(block) => self.write_block(alloc, *block, &runs, want, out),
+            PlanUnit::Page { start } => self.write_page(alloc, *start, &runs, want, out),
+        }
+    }
+
+    /// Writes the steps of a block: its erase, a program of each run, and, where it is verified, a read of each page.
+    fn write_block<W: ByteOut>(
+        &mut self,
+        alloc: Global,
+        block: Block,
+        runs: &[Run],
+        want: &[u8],
+        out: &mut W,
+    ) -> Result<Tally, StepsFault>
+        requires between { AreBetween block.start (block.start + length want.now) (length want.now) runs.now }
+        requires inside { block.start + length want.now ≤ 2 ^ 28 }
+        requires size { block.size ≡ length want.now }
+        requires few { length want.now ≤ 2 ^ 24 }
+        requires writer { W.count out.old < 2 ^ 64 - 1 }
+        ensures written { Writes self.old self.new (W.held out.old) (W.held out.new) 1 (block_ops self.old block runs.now want.now) result }
+        ensures count { CountsSteps (W.count out.old) (W.count out.new) result }
+        ensures why { IfErr result IsOfWriting }
+    {
+        let erase = self.write_ops(alloc, &[Op::Erase(block)], out)?;
+        let programs = self.write_runs(alloc, false, block.start, runs, want, out)?;
+        let reads = self.verify_block(alloc, block.start, want, out)?;
+        Ok(Tally {
+            steps: erase + programs + reads,
+            erases: 1,
+            erased: u64::from(block.size),
+            programs: runs.len() as u64,
+        })
+    }
+
+    /// Writes the steps of a page: a program of each run, and, where it is verified, a read of each.
+    fn write_page<W: ByteOut>(
+        &mut self,
+        alloc: Global,
+        start: u32,
+        runs: &[Run],
+        want: &[u8],
+        out: &mut W,
+    ) -> Result<Tally, StepsFault>
+        requires between { AreBetween start (start + length want.now) (length want.now) runs.now }
+        requires few { length want.now ≤ 2 ^ 24 }
+        requires writer { W.count out.old < 2 ^ 64 - 1 }
+        ensures written { Writes self.old self.new (W.held out.old) (W.held out.new) 1 (page_ops self.old start runs.now want.now) result }
+        ensures count { CountsSteps (W.count out.old) (W.count out.new) result }
+        ensures why { IfErr result IsOfWriting }
+    {
+        let programs = self.write_runs(alloc, false, start, runs, want, out)?;
+        let reads = self.verify_runs(alloc, start, runs, want, out)?;
+        Ok(Tally {
+            steps: programs + reads,
+            erases: 0,
+            erased: 0,
+            programs: runs.len() as u64,
+        })
+    }
+
+    /// Writes the steps of a read of each page of a block, where the work is verified, and answers how many they are.
+    fn verify_block<W: ByteOut>(
+        &mut self,
+        alloc: Global,
+        start: u32,
+        want: &[u8],
+        out: &mut W,
+    ) -> Result<u64, StepsFault>
+        requires inside { start + length want.now ≤ 2 ^ 28 }
+        requires few { length want.now ≤ 2 ^ 24 }
+        requires writer { W.count out.old < 2 ^ 64 - 1 }
+        ensures lines { Adds (W.held out.old) (W.held out.new) result (next_lines self.old (block_reads self.old start want.now)) }
+        ensures steps { IfOk result (λ steps. steps ≡ length (next self.old.streaming (block_reads self.old start want.now))) }
+        ensures few { IfOk result (λ steps. steps ≤ 6 * length want.now) }
+        ensures onward { IfOk result (λ _. self.new ≡ written_on self.old (block_reads self.old start want.now)) }
+        ensures count { CountsSteps (W.count out.old) (W.count out.new) result }
+        ensures why { IfErr result IsOfWriting }
+    {
+        if !self.verify {
+            return Ok(0);
+        }
+        let meaning = self.lowerer.meaning();
+        meaning.is_accepted();
+        let page = meaning.page;
+        self.write_reads(alloc, page, start, want, out)
+    }
+
+    /// Writes the steps of a read of each run, where the work is verified, and answers how many they are.
+    fn verify_runs<W: ByteOut>(
+        &mut self,
+        alloc: Global,
+        start: u32,
+        runs: &[Run],
+        want: &[u8],
+        out: &mut W,
+    ) -> Result<u64, StepsFault>
+        requires between { AllByRecursion (LiesBetween start (start + length want.now)) runs.now }
+        requires few { length runs.now ≤ 2 ^ 24 }
+        requires writer { W.count out.old < 2 ^ 64 - 1 }
+        ensures lines { Adds (W.held out.old) (W.held out.new) result (next_lines self.old (run_reads self.old start want.now runs.now)) }
+        ensures steps { IfOk result (λ steps. steps ≡ length (next self.old.streaming (run_reads self.old start want.now runs.now))) }
+        ensures few { IfOk result (λ steps. steps ≤ 6 * length runs.now) }
+        ensures onward { IfOk result (λ _. self.new ≡ written_on self.old (run_reads self.old start want.now runs.now)) }
+        ensures count { CountsSteps (W.count out.old) (W.count out.new) result }
+        ensures why { IfErr result IsOfWriting }
+    {
+        if !self.verify {
+            return Ok(0);
+        }
+        self.write_runs(alloc, true, start, runs, want, out)
+    }
+
+    /// Writes the steps of a program of each run, or of a read, and answers how many they are. `want` is what the bytes
+    /// from `start` on must be.
+    fn write_runs<W: ByteOut>(
+        &mut self,
+        alloc: Global,
+        read: bool,
+        start: u32,
+        runs: &[Run],
+        want: &[u8],
+        out: &mut W,
+    ) -> Result<u64, StepsFault>
+        requires between { AllByRecursion (LiesBetween start (start + length want.now)) runs.now }
+        requires few { length runs.now ≤ 2 ^ 24 }
+        requires writer { W.count out.old < 2 ^ 64 - 1 }
+        ensures lines { Adds (W.held out.old) (W.held out.new) result (next_lines self.old (run_ops read start want.now runs.now)) }
+        ensures steps { IfOk result (λ steps. steps ≡ length (next self.old.streaming (run_ops read start want.now runs.now))) }
+        ensures few { IfOk result (λ steps. steps ≤ 6 * length runs.now) }
+        ensures onward { IfOk result (λ _. self.new ≡ written_on self.old (run_ops read start want.now runs.now)) }
+        ensures count { CountsSteps (W.count out.old) (W.count out.new) result }
+        ensures why { IfErr result IsOfWriting }
+    {
+        let mut steps = 0;
+        for run in runs {
+            steps += self.write_run(alloc, read, start, run, want, out)?;
+        }
+        Ok(steps)
+    }
+
+    /// Writes the steps of a program of a run, or of a read, and answers how many they are.
+    fn write_run<W: ByteOut>(
+        &mut self,
+        alloc: Global,
+        read: bool,
+        start: u32,
+        run: &Run,
+        want: &[u8],
+        out: &mut W,
+    ) -> Result<u64, StepsFault>
+        requires between { LiesBetween start (start + length want.now) run.now }
+        requires writer { W.count out.old < 2 ^ 64 - 1 }
+        ensures lines { Adds (W.held out.old) (W.held out.new) result (next_lines self.old (run_op read start want.now run.now ∷ [])) }
+        ensures steps { IfOk result (λ steps. steps ≡ length (next self.old.streaming (run_op read start want.now run.now ∷ []))) }
+        ensures few { IfOk result (λ steps. steps ≤ 6) }
+        ensures onward { IfOk result (λ _. self.new ≡ written_on self.old (run_op read start want.now run.now ∷ [])) }
+        ensures count { CountsSteps (W.count out.old) (W.count out.new) result }
+        ensures why { IfErr result IsOfWriting }
+    {
+        let low = (run.at - start) as usize;
+        let bytes = &want[low..low + run.len as usize];
+        let at = run.at;
+        if read {
+            self.write_ops(alloc, &[Op::Read { at, bytes }], out)
+        } else {
+            self.write_ops(alloc, &[Op::Program { at, bytes }], out)
+        }
+    }
+
+    /// Writes the steps of a read of each page of a block, and answers how many they are. `want` is what its bytes must
+    /// be.
+    fn write_reads<W: ByteOut>(
+        &mut self,
+        alloc: Global,
+        page: u32,
+        start: u32,
+        want: &[u8],
+        out: &mut W,
+    ) -> Result<u64, StepsFault>
+        requires page { 0 < page }
+        requires inside { start + length want.now ≤ 2 ^ 28 }
+        requires few { length want.now ≤ 2 ^ 24 }
+        requires writer { W.count out.old < 2 ^ 64 - 1 }
+        ensures lines { Adds (W.held out.old) (W.held out.new) result (next_lines self.old (page_reads start page want.now)) }
+        ensures steps { IfOk result (λ steps. steps ≡ length (next self.old.streaming (page_reads start page want.now))) }
+        ensures few { IfOk result (λ steps. steps ≤ 6 * length want.now) }
+        ensures onward { IfOk result (λ _. self.new ≡ written_on self.old (page_reads start page want.now)) }
+        ensures count { CountsSteps (W.count out.old) (W.count out.new) result }
+        ensures why { IfErr result IsOfWriting }
+    {
+        let mut steps = 0;
+        for number in 0..want.len() / page as usize {
+            let at = start + number as u32 * page;
+            steps += self.write_run(alloc, true, start, &Run { at, len: page }, want, out)?;
+        }
+        Ok(steps)
+    }
+}

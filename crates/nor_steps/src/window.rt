@@ -1,0 +1,86 @@
+//! The steps of a window's units.
+
+ghost use Rattle.std.specs.Prelude.{◌≡◌, ◌≤◌, ◌<◌, ◌+◌, ◌-◌, ◌^◌, length, IfOk, IfErr};
+ghost use Rattle.nor_erase.specs.Plan.{IsWindow};
+ghost use Rattle.nor_pages.specs.Runs.{unit_start};
+ghost use Rattle.nor_steps.specs.Faults.{CountsSteps};
+ghost use Rattle.nor_steps.specs.Units.{unit_size};
+ghost use Rattle.nor_steps.specs.Work.{IsPlanned, WroteStretch, StopsStretch};
+
+use crate::fault::StepsFault;
+use crate::tally::Tally;
+use crate::writer::StepWriter;
+use nor_base::ByteOut;
+use nor_erase::{PlanUnit, plan};
+use nor_work::erased_blocks;
+use std::alloc::Global;
+
+impl<'m> StepWriter<'m> {
+    /// Plans the units that start in a window of the chip, and writes their steps: `have` is what it holds from `at` on,
+    /// `want` what it must hold.
+    ///
+    /// `Plan` where an address of the window is at fault: it names the lowest, and nothing was written then. `Write` where
+    /// the writer fails; `Memory` where a growth is refused.
+    pub fn more<W: ByteOut>(
+        &mut self,
+        alloc: Global,
+        at: u32,
+        have: &[u8],
+        want: &[u8],
+        out: &mut W,
+    ) -> Result<Tally, StepsFault>
+        requires lengths { length have.now ≡ length want.now }
+        requires window { IsWindow self.old.streaming.meaning self.old.streaming.by at (length have.now) }
+        requires writer { W.count out.old < 2 ^ 64 - 1 }
+        ensures written { IfOk result (WroteStretch self.old self.new (W.held out.old) (W.held out.new) at have.now want.now) }
+        ensures stopped { IfErr result (StopsStretch self.old (W.held out.old) (W.held out.new) at have.now want.now) }
+        ensures count { CountsSteps (W.count out.old) (W.count out.new) result }
+    {
+        erased_blocks();
+        let meaning = self.lowerer.meaning();
+        meaning.is_accepted();
+        let units = plan(alloc, meaning, self.lowerer.strategy(), at, have, want)?;
+        self.write_units(alloc, at, &units, have, want, out)
+    }
+
+    /// Writes the steps of the units of a window.
+    fn write_units<W: ByteOut>(
+        &mut self,
+        alloc: Global,
+        at: u32,
+        units: &[PlanUnit],
+        have: &[u8],
+        want: &[u8],
+        out: &mut W,
+    ) -> Result<Tally, StepsFault>
+        requires planned { IsPlanned self.old at have.now want.now units.now }
+        requires writer { W.count out.old < 2 ^ 64 - 1 }
+        ensures written { IfOk result (WroteStretch self.old self.new (W.held out.old) (W.held out.new) at have.now want.now) }
+        ensures stopped { IfErr result (StopsStretch self.old (W.held out.old) (W.held out.new) at have.now want.now) }
+        ensures count { CountsSteps (W.count out.old) (W.count out.new) result }
+    {
+        let page = self.lowerer.meaning().page;
+        let mut told = Tally::none();
+        for unit in units {
+            let (low, high) = bounds(unit, at, page);
+            let one = self.write_unit(alloc, unit, &have[low..high], &want[low..high], out)?;
+            told = told.plus(one);
+        }
+        Ok(told)
+    }
+}
+
+/// The first byte of a unit and the one past its last, among those of a window that begins at an address.
+fn bounds(unit: &PlanUnit, at: u32, page: u32) -> (usize, usize)
+    requires from { at ≤ unit_start unit.now }
+    requires small { unit_start unit.now + unit_size page unit.now < 2 ^ 32 }
+    ensures low { result.0 ≡ unit_start unit.now - at }
+    ensures high { result.1 ≡ unit_start unit.now - at + unit_size page unit.now }
+{
+    let (start, size) = match unit {
+        PlanUnit::Block(block) => (block.start, block.size),
+        PlanUnit::Page { start } => (*start, page),
+    };
+    let low = (start - at) as usize;
+    (low, low + size as usize)
+}

@@ -1,0 +1,24 @@
+-- By the transactions that a run of the planned instructions shows.
+use Rattle.nor_work.proofs.Exact.{planned_erases_needed}
+use Rattle.nor_work.proofs.Once.{erases_once}
+use Rattle.nor_work.proofs.Totals.{erases_counted, programs_counted, none_verifies}
+use Rattle.nor_work.proofs.Verified.{planned_is_verified}
+use Rattle.nor_work.proofs.planned_runs.Goals as goal
+
+pub returns-clause-exact : goal.returns-clause-exact
+returns-clause-exact c = planned_erases_needed
+
+pub returns-clause-once : goal.returns-clause-once
+returns-clause-once c = erases_once
+
+pub returns-clause-erases : goal.returns-clause-erases
+returns-clause-erases c = erases_counted
+
+pub returns-clause-programs : goal.returns-clause-programs
+returns-clause-programs c = programs_counted
+
+pub returns-clause-verified : goal.returns-clause-verified
+returns-clause-verified c = planned_is_verified
+
+pub returns-clause-unverified : goal.returns-clause-unverified
+returns-clause-unverified c = none_verifies

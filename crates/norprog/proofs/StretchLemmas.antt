@@ -1,0 +1,150 @@
+-- The work of stretches side by side.
+use Rattle.std.proofs.Common.{◌≡◌, ℕ, zero, suc, ◌+◌, ◌*◌, ◌/◌, ◌%◌, ◌<◌, ◌≤◌, false, List, [], ◌∷◌, ◌++◌, length, sym, ◌∙◌, ap, subst, arith, inl, inr, length-append, append_assoc, append-nil}
+use Rattle.std.specs.Prelude.{flat_map}
+use Rattle.std.proofs.Math.Nat.{div-add-mod', mul-add-div_right, zero-div}
+use Rattle.std.proofs.lemmas.Bool.{cases_lt}
+use Rattle.std.proofs.lemmas.Grind.{flat_map-append}
+use Rattle.nor_base.specs.declared.meaning.Strategy.{Strategy}
+use Rattle.nor_base.specs.Parameters.{Parameters}
+use Rattle.nor_base.specs.Need.{is_due, erased_at, levelled, is_at_fault}
+use Rattle.nor_base.specs.Units.{pages, units_over, units_of}
+use Rattle.nor_base.specs.Operations.{Op, unit_ops}
+use Rattle.nor_erase.specs.declared.fault.PlanFault.{PlanFault}
+use Rattle.nor_erase.specs.declared.fault.PlanFault.TheVariants as plan
+use Rattle.nor_erase.specs.Plan.{IsLowestAt, IsFault, IsFaultOf}
+use Rattle.nor_select.specs.Streamed.{next, onward}
+use Rattle.nor_steps.specs.Work.{stretch_ops, IsSound, IsWork, IsWorkOf, IsBegun, IsBegunOf}
+use Rattle.nor_steps.specs.Writing.{Writing, lines_of, next_lines, written_on}
+use Rattle.nor_steps.proofs.LineLemmas.{lines_append}
+use Rattle.nor_steps.proofs.StreamLemmas.{next_joins}
+use Rattle.nor_work.proofs.Needed.{units_join}
+use Rattle.norprog.proofs.TargetLemmas.{part_left, part_right}
+
+pages_join : (page a k n : ℕ) → pages page a (k + n) ≡ pages page a k ++ pages page (a + k * page) n
+pages_join page a zero n =
+    let none : zero + n ≡ n = omega arith in
+    let here : a ≡ a + zero * page = omega arith in
+    ap (pages page a) none ∙ ap (λ s. pages page s n) here
+pages_join page a (suc k) n =
+    let count : suc k + n ≡ suc (k + n) = omega arith in
+    let there : a + page + k * page ≡ a + suc k * page = omega arith in
+    ap (pages page a) count
+    ∙ ap (λ rest. a ∷ rest) (pages_join page (a + page) k n ∙ ap (λ s. pages page (a + page) k ++ pages page s n) there)
+
+-- the pages of a stretch of whole pages, and of what follows it
+pages_split : (page at n : ℕ) → 0 < page → at % page ≡ 0 → pages page 0 ((at + n) / page) ≡ pages page 0 (at / page) ++ pages page at (n / page)
+pages_split page at n some whole =
+    let k = at / page in
+    let all : k * page + at % page ≡ at = div-add-mod' at page in
+    let start : k * page ≡ at = omega (arith, all, whole) in
+    let there : 0 + k * page ≡ at = omega (arith, start) in
+    let count : (at + n) / page ≡ k + n / page = ap (λ a. (a + n) / page) (sym start) ∙ mul-add-div_right some k n in
+    ap (pages page 0) count ∙ pages_join page 0 k (n / page) ∙ ap (λ s. pages page 0 k ++ pages page s (n / page)) there
+
+pub stretch_join : (w : Writing) (at n : ℕ) (content target : List ℕ) → 0 < w.streaming.meaning.page → at % w.streaming.meaning.page ≡ 0
+    → stretch_ops w 0 (at + n) content target ≡ stretch_ops w 0 at content target ++ stretch_ops w at n content target
+stretch_join w at n content target some whole =
+    let m = w.streaming.meaning in
+    let due = is_due m content target in
+    let level = levelled m w.streaming.by due content in
+    let erased = erased_at m w.streaming.by due in
+    let first = pages m.page 0 (at / m.page) in
+    let second = pages m.page at (n / m.page) in
+    ap (λ starts. flat_map (unit_ops m w.verify target) (units_over m level target erased starts)) (pages_split m.page at n some whole)
+    ∙ ap (flat_map (unit_ops m w.verify target)) (units_join m level target erased first second)
+    ∙ flat_map-append (unit_ops m w.verify target) (units_over m level target erased first) (units_over m level target erased second)
+
+sound_join : (w : Writing) (at n : ℕ) (content target : List ℕ) → IsSound w 0 at content target → IsSound w at n content target
+    → IsSound w 0 (at + n) content target
+sound_join w at n content target first second x from upto = elim (cases_lt x at) [
+  | inl less ↦ first x from (omega (arith, less))
+  | inr past ↦ second x past (omega (arith, upto))
+]
+
+-- two stretches
+pub work_join : (w v : Writing) (at : ℕ) (xs ys txs tys : List ℕ) (p q : List Op) → 0 < w.streaming.meaning.page → at % w.streaming.meaning.page ≡ 0
+    → length xs ≡ at → length txs ≡ at → v ≡ written_on w p → IsWork w 0 xs txs p → IsWork v at ys tys q
+    → IsWork w 0 (xs ++ ys) (txs ++ tys) (p ++ q)
+work_join w v at xs ys txs tys p q some whole upto upto' state first second content target has has' =
+    let left : IsWorkOf w 0 at content target p =
+    subst (λ n. IsWorkOf w 0 n content target p) upto (first content target (part_left content xs ys has) (part_left target txs tys has')) in
+    let right : IsWorkOf (written_on w p) at (length ys) content target q =
+    subst (λ (u : Writing). IsWorkOf u at (length ys) content target q) state
+    (second content target (part_right content xs ys at upto has) (part_right target txs tys at upto' has')) in
+    let count : at + length ys ≡ length (xs ++ ys) = omega (arith, length-append xs ys, upto) in
+    subst (λ n. IsWorkOf w 0 n content target (p ++ q)) count (record {
+      are = stretch_join w at (length ys) content target some whole ∙ ap (λ ops. ops ++ stretch_ops w at (length ys) content target) left.are
+          ∙ ap (λ ops. p ++ ops) right.are;
+      sound = sound_join w at (length ys) content target left.sound right.sound;
+    })
+
+pub lines_join : (w : Writing) (xs ys : List Op) → next_lines w (xs ++ ys) ≡ next_lines w xs ++ next_lines (written_on w xs) ys
+lines_join w xs ys = ap lines_of (next_joins w.streaming xs ys) ∙ lines_append (next w.streaming xs) (next (onward w.streaming xs) ys)
+
+-- all of one stretch is a beginning of it
+pub begun_done : (w : Writing) (at : ℕ) (have want : List ℕ) (p : List Op) → IsWork w at have want p → IsBegun w at have want (next_lines w p)
+begun_done w at have want p work content target has has' =
+    let is = work content target has has' in
+    record { rest = []; whole = ap (next_lines w) is.are ∙ sym (append-nil (next_lines w p)); sound = is.sound }
+
+-- one stretch, and the beginning of another
+pub begun_join : (w v : Writing) (at : ℕ) (xs ys txs tys : List ℕ) (p : List Op) (front : List ℕ) → 0 < w.streaming.meaning.page → at % w.streaming.meaning.page ≡ 0
+    → length xs ≡ at → length txs ≡ at → v ≡ written_on w p → IsWork w 0 xs txs p → IsBegun v at ys tys front
+    → IsBegun w 0 (xs ++ ys) (txs ++ tys) (next_lines w p ++ front)
+begun_join w v at xs ys txs tys p front some whole upto upto' state first second content target has has' =
+    let left : IsWorkOf w 0 at content target p =
+    subst (λ n. IsWorkOf w 0 n content target p) upto (first content target (part_left content xs ys has) (part_left target txs tys has')) in
+    let right : IsBegunOf (written_on w p) at (length ys) content target front =
+    subst (λ (u : Writing). IsBegunOf u at (length ys) content target front) state
+    (second content target (part_right content xs ys at upto has) (part_right target txs tys at upto' has')) in
+    let count : at + length ys ≡ length (xs ++ ys) = omega (arith, length-append xs ys, upto) in
+    let ops = stretch_ops w at (length ys) content target in
+    subst (λ n. IsBegunOf w 0 n content target (next_lines w p ++ front)) count (record {
+      rest = right.rest;
+      whole = ap (next_lines w) (stretch_join w at (length ys) content target some whole ∙ ap (λ these. these ++ ops) left.are)
+          ∙ lines_join w p ops ∙ ap (λ text. next_lines w p ++ text) right.whole ∙ sym (append_assoc (next_lines w p) front right.rest);
+      sound = sound_join w at (length ys) content target left.sound right.sound;
+    })
+
+lowest_join : (m : Parameters) (by : Strategy) (at n a : ℕ) (content target : List ℕ) → ((x : ℕ) → 0 ≤ x → x < 0 + at → is_at_fault m by content target x ≡ false)
+    → IsLowestAt m by at content target n a → IsLowestAt m by 0 content target (at + n) a
+lowest_join m by at n a content target sound is = record {
+  from = omega arith;
+  upto = omega (arith, is.upto);
+  none_below = λ x from before. elim (cases_lt x at) [
+    | inl less ↦ sound x from (omega (arith, less))
+    | inr past ↦ is.none_below x past before
+  ];
+}
+
+fault_of : (m : Parameters) (by : Strategy) (at n : ℕ) (content target : List ℕ) (why : PlanFault) → ((x : ℕ) → 0 ≤ x → x < 0 + at → is_at_fault m by content target x ≡ false)
+    → IsFaultOf m by at content target n why → IsFaultOf m by 0 content target (at + n) why
+fault_of m by at n content target (plan.NoErase a) sound is = (lowest_join m by at n a content target sound is.0, is.1)
+fault_of m by at n content target (plan.Unreachable a) sound is = (lowest_join m by at n a content target sound is.0, is.1)
+fault_of m by at n content target plan.Memory sound is = tt
+
+-- the lowest address at fault of a stretch is the lowest of all, where none before it is at fault
+pub fault_join : (w v : Writing) (at : ℕ) (xs ys txs tys : List ℕ) (p : List Op) (why : PlanFault) → length xs ≡ at → length txs ≡ at → v ≡ written_on w p
+    → IsWork w 0 xs txs p → IsFault v.streaming.meaning v.streaming.by at ys tys why
+    → IsFault w.streaming.meaning w.streaming.by 0 (xs ++ ys) (txs ++ tys) why
+fault_join w v at xs ys txs tys p why upto upto' state first second content target has has' =
+    let m = w.streaming.meaning in
+    let by = w.streaming.by in
+    let left : IsWorkOf w 0 at content target p =
+    subst (λ n. IsWorkOf w 0 n content target p) upto (first content target (part_left content xs ys has) (part_left target txs tys has')) in
+    let right : IsFaultOf m by at content target (length ys) why =
+    subst (λ (u : Writing). IsFaultOf u.streaming.meaning u.streaming.by at content target (length ys) why) state
+    (second content target (part_right content xs ys at upto has) (part_right target txs tys at upto' has')) in
+    let count : at + length ys ≡ length (xs ++ ys) = omega (arith, length-append xs ys, upto) in
+    subst (λ n. IsFaultOf m by 0 content target n why) count (fault_of m by at (length ys) content target why left.sound right)
+
+-- nothing
+pub work_none : (w : Writing) → IsWork w 0 [] [] []
+unfolding units_over
+work_none w content target has has' =
+    let m = w.streaming.meaning in
+    let none : 0 / m.page ≡ 0 = zero-div m.page in
+    record {
+      are = ap (λ n. flat_map (unit_ops m w.verify target) (units_of m w.streaming.by content target (pages m.page 0 n))) none;
+      sound = λ x from before. absurd (omega (arith, before));
+    }

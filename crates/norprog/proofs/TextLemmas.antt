@@ -1,0 +1,189 @@
+-- The text of a script, and its fronts.
+use Rattle.std.proofs.Common.{◌≡◌, ◌≢◌, ℕ, ◌+◌, ◌-◌, ◌<◌, ◌≤◌, false, List, [], ◌∷◌, ◌++◌, length, take, drop, Option, refl, sym, ◌∙◌, ap, subst, arith, append_assoc, length-append, length-drop}
+use Rattle.std.specs.Prelude.{flat_map}
+use Rattle.std.proofs.lemmas.List.{length-map, take-append-drop, length-take-le, take_all}
+use Rattle.nor_base.specs.declared.meaning.Start.{Start}
+use Rattle.nor_base.specs.declared.meaning.Strategy.{Strategy}
+use Rattle.nor_base.specs.Device.{Ahead}
+use Rattle.nor_base.specs.Operations.{Op, instructions, entering, leaving, lowered}
+use Rattle.nor_base.specs.Parameters.{Parameters}
+use Rattle.nor_base.specs.Planned.{planned, planned_ops}
+use Rattle.nor_base.specs.Script.{script_text, header, end_line}
+use Rattle.nor_base.specs.Spelling.{Instr}
+use Rattle.nor_base.specs.Units.{units}
+use Rattle.nor_erase.specs.Plan.{HasPart}
+use Rattle.nor_job.specs.declared.job.Job.{Job}
+use Rattle.nor_select.specs.Streamed.{Streaming, next, last, onward}
+use Rattle.nor_steps.specs.declared.tally.Tally.{Tally}
+use Rattle.nor_steps.specs.Lines.{step_of, steps_of}
+use Rattle.nor_steps.specs.Work.{stretch_ops, IsSound, IsBegunOf}
+use Rattle.nor_steps.specs.Writing.{Writing, lines_of, next_lines, written_on}
+use Rattle.nor_steps.proofs.LineLemmas.{lines_append}
+use Rattle.norprog.specs.Windows.{target_from, first_writing, IsDone, IsKnown, IsTextFront, IsScriptFront}
+use Rattle.norprog.specs.Written.{AreBytes}
+use Rattle.norprog.proofs.StretchLemmas.{stretch_join, lines_join}
+
+abbrev streaming : Parameters → Start → Strategy → Streaming
+streaming m start by = record { meaning = m; start = start; by = by; started = false }
+
+lowered_parts : (m : Parameters) (start : Start) (by : Strategy) (ops : List Op)
+    → lowered m start by ops ≡ next (streaming m start by) ops ++ last (onward (streaming m start by) ops)
+lowered_parts m start by [] = refl
+lowered_parts m start by (op ∷ ops) = sym (append_assoc (entering m by) (flat_map (instructions m start by) (op ∷ ops)) (leaving m by))
+
+-- the lines that leave the mode that was entered
+abbrev pub closing_lines : Writing → List Op → List ℕ
+closing_lines w ops = lines_of (last (written_on w ops).streaming)
+
+abbrev pub job_ops : Job → List ℕ → List ℕ → List Op
+job_ops job content target = planned_ops job.meaning job.start job.verify content target
+
+abbrev pub job_planned : Job → List ℕ → List ℕ → List Instr
+job_planned job content target = planned job.meaning job.start job.verify content target
+
+abbrev pub job_text : Job → List ℕ → List ℕ → List ℕ
+job_text job content target = script_text (steps_of (job_planned job content target))
+
+-- the text before the end line
+abbrev pub body : Job → List Op → List ℕ
+body job ops = header ++ (next_lines (first_writing job) ops ++ closing_lines (first_writing job) ops)
+
+pub planned_parts : (job : Job) (content target : List ℕ) (ops : List Op) → job_ops job content target ≡ ops
+    → job_planned job content target ≡ next (first_writing job).streaming ops ++ last (onward (first_writing job).streaming ops)
+planned_parts job content target ops is =
+    let w = first_writing job in
+    ap (lowered job.meaning job.start w.streaming.by) is ∙ lowered_parts job.meaning job.start w.streaming.by ops
+
+pub text_is : (job : Job) (content target : List ℕ) (ops : List Op) → job_ops job content target ≡ ops
+    → job_text job content target ≡ body job ops ++ end_line (length (job_planned job content target))
+unfolding script_text
+text_is job content target ops is =
+    let w = first_writing job in
+    let these = job_planned job content target in
+    let front = next w.streaming ops in
+    let close = last (onward w.streaming ops) in
+    let lines : lines_of these ≡ next_lines w ops ++ closing_lines w ops = ap lines_of (planned_parts job content target ops is) ∙ lines_append front close in
+    ap (λ text. header ++ (text ++ end_line (length (steps_of these)))) lines
+    ∙ ap (λ n. header ++ ((next_lines w ops ++ closing_lines w ops) ++ end_line n)) (length-map these step_of)
+    ∙ sym (append_assoc header (next_lines w ops ++ closing_lines w ops) (end_line (length these)))
+
+pub ops_are : (job : Job) (content target : List ℕ) → length content ≡ job.meaning.size
+    → job_ops job content target ≡ stretch_ops (first_writing job) 0 (length content) content target
+unfolding units
+ops_are job content target size = ap (λ n. stretch_ops (first_writing job) 0 n content target) (sym size)
+
+ended : (xs : List ℕ) (n : ℕ) → xs ++ end_line n ≢ []
+unfolding end_line
+ended xs n none = absurd (omega (arith, ap length none, length-append xs (end_line n)))
+
+-- a front of the text before the end line
+front_body : (job : Job) (content target bytes rest : List ℕ) → body job (job_ops job content target) ≡ bytes ++ rest → IsTextFront job content target bytes
+front_body job content target bytes rest is =
+    let end = end_line (length (job_planned job content target)) in
+    record {
+      rest = rest ++ end;
+      whole = text_is job content target (job_ops job content target) refl ∙ ap (λ text. text ++ end) is ∙ append_assoc bytes rest end;
+      more = ended rest (length (job_planned job content target));
+    }
+
+-- the text with some of the end line
+front_end : (job : Job) (content target : List ℕ) (ops : List Op) (n k : ℕ) → job_ops job content target ≡ ops → n ≡ length (job_planned job content target)
+    → k < length (end_line n) → IsTextFront job content target (body job ops ++ take k (end_line n))
+front_end job content target ops n k is count inside =
+    let end = end_line n in
+    record {
+      rest = drop k end;
+      whole = text_is job content target ops is ∙ ap (λ i. body job ops ++ end_line i) (sym count) ∙ ap (λ text. body job ops ++ text) (sym (take-append-drop k end))
+          ∙ sym (append_assoc (body job ops) (take k end) (drop k end));
+      more = λ none. absurd (omega (arith, ap length none, length-drop k end, inside));
+    }
+
+-- where nothing was read: some of the header
+pub header_front : (job : Job) (k : ℕ) → IsScriptFront job 0 [] (take k header)
+header_front job k = record {
+  within = omega arith;
+  small = λ i. omega arith;
+  front = λ content target size has has'.
+      let w = first_writing job in
+      let ops = job_ops job content target in
+      let text = next_lines w ops ++ closing_lines w ops in
+      front_body job content target (take k header) (drop k header ++ text)
+      (ap (λ front. front ++ text) (sym (take-append-drop k header)) ∙ append_assoc (take k header) (drop k header) text);
+  sound = λ content target has has' x from before. absurd (omega (arith, before));
+}
+
+join_texts : (xs ys front rest later close : List ℕ) → xs ++ (((front ++ rest) ++ later) ++ close) ≡ (xs ++ front) ++ (rest ++ (later ++ close))
+join_texts xs ys front rest later close =
+    ap (λ text. xs ++ text) (append_assoc (front ++ rest) later close ∙ append_assoc front rest (later ++ close)) ∙ sym (append_assoc xs front (rest ++ (later ++ close)))
+
+-- windows that were begun
+pub known_front : (job : Job) (known : ℕ) (part front : List ℕ) → 0 < job.meaning.page → length part ≤ job.meaning.size → IsKnown job known part front
+    → IsScriptFront job known part (header ++ front)
+known_front job known part front some fits is =
+    let w = first_writing job in
+    let took : length (take known part) ≡ known = length-take-le known part is.within in
+    record {
+      within = is.within;
+      small = is.bytes;
+      front = λ content target size has has'.
+          let begun : IsBegunOf w 0 known content target front = subst (λ n. IsBegunOf w 0 n content target front) took (is.begun content target has has') in
+          let p = stretch_ops w 0 known content target in
+          let q = stretch_ops w known (job.meaning.size - known) content target in
+          let all : known + (job.meaning.size - known) ≡ length content = omega (arith, is.within, fits, size) in
+          let ops : job_ops job content target ≡ p ++ q =
+          ops_are job content target size ∙ ap (λ n. stretch_ops w 0 n content target) (sym all) ∙ stretch_join w known (job.meaning.size - known) content target some is.pages in
+          let later = next_lines (written_on w p) q in
+          let close = closing_lines w (p ++ q) in
+          let lines : next_lines w (p ++ q) ≡ (front ++ begun.rest) ++ later = lines_join w p q ∙ ap (λ text. text ++ later) begun.whole in
+          front_body job content target (header ++ front) (begun.rest ++ (later ++ close))
+          (ap (body job) ops ∙ ap (λ text. header ++ (text ++ close)) lines ∙ join_texts header [] front begun.rest later close);
+      sound = λ content target has has'. subst (λ n. IsSound w 0 n content target) took (is.begun content target has has').sound;
+    }
+
+-- all windows were written
+pub record IsWhole (job : Job) (part : List ℕ) (ops : List Op) : Type 0 where
+  pub size : length part ≡ job.meaning.size
+  pub small : AreBytes (target_from job 0 part)
+  pub are : (content target : List ℕ) → length content ≡ job.meaning.size → HasPart content part 0 → HasPart target (target_from job 0 part) 0 → job_ops job content target ≡ ops
+  pub sound : (content target : List ℕ) → HasPart content part 0 → HasPart target (target_from job 0 part) 0 → IsSound (first_writing job) 0 (length part) content target
+
+pub whole_is : (job : Job) (v : Writing) (a b : Ahead) (x y : Option (List ℕ)) (told : Tally) → (done : IsDone job v job.meaning.size a b x y told) → IsWhole job done.part done.ops
+whole_is job v a b x y told done = record {
+  size = done.upto;
+  small = done.bytes;
+  are = λ content target size has has'.
+      ops_are job content target size ∙ ap (λ n. stretch_ops (first_writing job) 0 n content target) (size ∙ sym done.upto) ∙ (done.work content target has has').are;
+  sound = λ content target has has'. (done.work content target has has').sound;
+}
+
+whole_front : (job : Job) (part bytes : List ℕ) (ops : List Op) → IsWhole job part ops
+    → ((content target : List ℕ) → job_ops job content target ≡ ops → IsTextFront job content target bytes) → IsScriptFront job (length part) part bytes
+whole_front job part bytes ops is each =
+    let all : take (length part) part ≡ part = take_all (length part) part (omega arith) in
+    record {
+      within = omega arith;
+      small = subst (λ (xs : List ℕ). AreBytes (target_from job 0 xs)) (sym all) is.small;
+      front = λ content target size has has'.
+          each content target
+          (is.are content target size (subst (λ (xs : List ℕ). HasPart content xs 0) all has) (subst (λ (xs : List ℕ). HasPart target (target_from job 0 xs) 0) all has'));
+      sound = λ content target has has'.
+          is.sound content target (subst (λ (xs : List ℕ). HasPart content xs 0) all has) (subst (λ (xs : List ℕ). HasPart target (target_from job 0 xs) 0) all has');
+    }
+
+-- and some of the lines that leave the mode
+pub closing_front : (job : Job) (part front rest : List ℕ) (ops : List Op) → IsWhole job part ops → closing_lines (first_writing job) ops ≡ front ++ rest
+    → IsScriptFront job (length part) part (header ++ (next_lines (first_writing job) ops ++ front))
+closing_front job part front rest ops is cut =
+    let w = first_writing job in
+    let text = next_lines w ops in
+    whole_front job part (header ++ (text ++ front)) ops is
+    (λ content target are. front_body job content target (header ++ (text ++ front)) rest
+    (ap (body job) are ∙ ap (λ close. header ++ (text ++ close)) cut ∙ ap (λ t. header ++ t) (sym (append_assoc text front rest)) ∙ sym (append_assoc header (text ++ front) rest)))
+
+-- and some of the end line
+pub end_front : (job : Job) (part : List ℕ) (ops : List Op) (n k : ℕ) → IsWhole job part ops
+    → n ≡ length (next (first_writing job).streaming ops ++ last (onward (first_writing job).streaming ops)) → k < length (end_line n)
+    → IsScriptFront job (length part) part (body job ops ++ take k (end_line n))
+end_front job part ops n k is count inside =
+    whole_front job part (body job ops ++ take k (end_line n)) ops is
+    (λ content target are. front_end job content target ops n k are (count ∙ sym (ap length (planned_parts job content target ops are))) inside)
