@@ -5,7 +5,7 @@ use nor_base::{Meaning, Start, Strategy};
 use nor_erase::{PlanFault, PlanUnit, plan};
 use nor_geometry::{strategy, window_size};
 use nor_samples::{erased_only_chip, large_chip, mapped_chip, small_chip};
-use std::alloc::Global;
+use std::alloc::{AllocError, Global};
 use std::process::Abort;
 use std::test::Fail;
 
@@ -54,7 +54,7 @@ fn planned(
     chip: &Meaning,
     at: u32,
     changes: &[Change],
-) -> Result<Result<Vec<PlanUnit>, PlanFault>, Fail> {
+) -> Result<Result<Vec<PlanUnit>, PlanFault>, AllocError> {
     let count = count_at(rt, chip, at);
     let mut have = vec![in alloc; 0xFFu8; count as usize]?;
     let mut want = vec![in alloc; 0xFFu8; count as usize]?;
@@ -318,6 +318,34 @@ fn of_the_profile(rt: HostRuntime) -> Result<(), Fail> {
     let falls = [(0, 1, 0x30, 0x10)];
     gives(&rt, alloc, &small_chip(), 0, &falls, &[(0, 256, 0)])?;
     give(&rt, alloc, &erased_only_chip(), &OF_THE_PROFILE)
+}
+
+/// Each second page of a window of the mixed chip has a byte that falls: more units than a list has room for at first.
+fn many_pages(
+    rt: &impl Abort,
+    alloc: Global,
+) -> Result<Result<Vec<PlanUnit>, PlanFault>, AllocError> {
+    let mut changes = Vec::new(alloc);
+    for page in 0..16 {
+        changes.push((512 * page, 1, 0xFF, 0))?;
+    }
+    planned(rt, alloc, &mixed_chip(), 0, changes.as_slice())
+}
+
+/// Memory is not wanting, so the units are given.
+#[test]
+fn plans_many_pages(rt: HostRuntime) -> Result<(), Fail> {
+    let units = many_pages(&rt, rt.alloc())?.expect(&rt, "a plan");
+    assert_eq!(rt; units.len(), 16);
+    Ok(())
+}
+
+/// `tools/refused-growths` runs it with each growth refused in turn, its own ones too.
+#[test]
+fn a_refused_growth_is_memory(rt: HostRuntime) {
+    if let Ok(Err(fault)) = many_pages(&rt, rt.alloc()) {
+        assert_eq!(rt; fault, PlanFault::Memory);
+    }
 }
 
 /// Twice so many bytes, 00h and FFh by turns.

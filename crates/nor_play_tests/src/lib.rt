@@ -6,6 +6,8 @@
 #[cfg(test)]
 mod failing;
 #[cfg(test)]
+mod memory;
+#[cfg(test)]
 mod playing;
 #[cfg(test)]
 mod scripts;

@@ -23,7 +23,7 @@ pub(crate) const VERIFY: &str =
     v 00000011000000000000000000000000........ 00\nend 4\n";
 
 /// In three-byte mode, without the quad setting.
-const START: Start = Start {
+pub(crate) const START: Start = Start {
     mode4: false,
     quad: false,
 };

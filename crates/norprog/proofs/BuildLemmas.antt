@@ -27,12 +27,13 @@ use Rattle.nor_layout.specs.Chosen.{has, is_chosen}
 use Rattle.nor_spelling.specs.Laws.{HasSpelling}
 use Rattle.nor_steps.specs.declared.tally.Tally.{Tally}
 use Rattle.nor_steps.specs.Lines.{step_of, steps_of}
+use Rattle.nor_steps.specs.Tally.{tally_with}
 use Rattle.nor_work.specs.Exists.{PlannedCanBeSpelled}
 use Rattle.nor_work.specs.Laws.{IsWorkable, PlannedDoesTask, OneUnitInTheMaking}
 use Rattle.nor_work.specs.Least.{NoScriptErasesLess}
 use Rattle.nor_work.specs.Runs.{PlannedErasesNeeded, PlannedIsVerified, NoneVerifies}
 use Rattle.norprog.specs.declared.report.Report.{Report}
-use Rattle.norprog.specs.Build.{wanted, IsDoneBy, IsBuilt, IsLate, WorkCause, IsFrontOf, StopsWork}
+use Rattle.norprog.specs.Build.{wanted, report_of, IsDoneBy, IsBuilt, IsLate, WorkCause, IsFrontOf, StopsWork}
 use Rattle.norprog.specs.Windows.{target_from, CutCause, IsScripted, IsCutScript, job_report}
 use Rattle.norprog.proofs.CountLemmas.{erases_told, erased_told, programs_told}
 use Rattle.norprog.proofs.FillLemmas.{filled, filled_is}
@@ -61,7 +62,7 @@ byte_same image base c d same a old =
     ap (λ b. if b && nat_lt (base + a) (2 ^ 32) then unwrap_or (image (base + a)) old else old) (same a)
 
 -- the target of a job is that of its inputs
-target_is : (t : Task) (len : ℕ) (job : Job) (is : IsJob t len job) (part : List ℕ) → target_from job 0 part ≡ wanted t job.image is.regions part
+pub target_is : (t : Task) (len : ℕ) (job : Job) (is : IsJob t len job) (part : List ℕ) → target_from job 0 part ≡ wanted t job.image is.regions part
 unfolding target
 target_is t len job is part =
     map_same _ _ (enumerate_from 0 part) (λ p. byte_same (byte_at job.image) job.base (has job.chosen) (is_chosen is.regions t.regions) is.chosen p.0 p.1)
@@ -85,17 +86,17 @@ ignored_is t len job is =
     ∙ ap (λ base. count_by (λ pair. is_ignored base c job.meaning.size pair.0) job.image) is.base
 
 -- the steps of the planned work
-record IsSpelled (m : Parameters) (start : Start) (verify : Bool) (content goal : List ℕ) (steps : List Step) : Type 0 where
-  each : AllByRecursion IsStep steps
-  planned : ArePlanned m start verify content goal steps
+pub record IsSpelled (m : Parameters) (start : Start) (verify : Bool) (content goal : List ℕ) (steps : List Step) : Type 0 where
+  pub each : AllByRecursion IsStep steps
+  pub planned : ArePlanned m start verify content goal steps
 
-spelled_is : Laws → (m : Parameters) (start : Start) (verify : Bool) (content goal : List ℕ) → IsWorkable m start content goal
+pub spelled_is : PlannedCanBeSpelled → HasSpelling → (m : Parameters) (start : Start) (verify : Bool) (content goal : List ℕ) → IsWorkable m start content goal
     → IsSpelled m start verify content goal (steps_of (planned m start verify content goal))
-spelled_is laws m start verify content goal w =
+spelled_is spelled spelling m start verify content goal w =
     let these = planned m start verify content goal in
     let plain = plain_lowered m start (strategy m start) (planned_ops m start verify content goal) (planned_bytes m start verify content goal w.bytes) in
-    let can = laws.spelled m start verify content goal w in
-    record { each = steps_pass m (begins4 m start) these plain can; planned = steps_spell laws.has m (begins4 m start) these plain can }
+    let can = spelled m start verify content goal w in
+    record { each = steps_pass m (begins4 m start) these plain can; planned = steps_spell spelling m (begins4 m start) these plain can }
 
 -- what they do on every chip
 done_by : Laws → (m : Parameters) (start : Start) (verify : Bool) (content goal : List ℕ) (steps : List Step) → IsWorkable m start content goal
@@ -120,6 +121,35 @@ report_same by by' s s' e e' b b' p p' i i' first steps erases erased programs i
     ap (λ v. one v s e b p i) first ∙ ap (λ n. one by' n e b p i) steps ∙ ap (λ n. one by' s' n b p i) erases
     ∙ ap (λ n. one by' s' e' n p i) erased ∙ ap (λ n. one by' s' e' b' n i) programs ∙ ap (λ n. one by' s' e' b' p' n) ignored
 
+-- the work of a whole content
+pub workable_is : (job : Job) (before after : Ahead) (x y : Option (List ℕ)) (told : Tally) → IsAccepted job.meaning → (done : IsScripted job before after x y told)
+    → IsWorkable job.meaning job.start done.part (target_from job 0 done.part)
+workable_is job before after x y told accepted done = record {
+  accepted = accepted;
+  have_size = done.upto;
+  want_size = length-target job 0 done.part ∙ done.upto;
+  bytes = done.bytes;
+  sound = done.sound;
+}
+
+-- what is told of the planned work of a content is the report of its units and steps
+pub report_is : (t : Task) (len : ℕ) (job : Job) (is : IsJob t len job) (part : List ℕ) (told : Tally)
+    → told ≡ tally_with (length (planned job.meaning job.start job.verify part (target_from job 0 part))) (planned_ops job.meaning job.start job.verify part (target_from job 0 part))
+    → job_report job told ≡ report_of t job.image is.regions job.meaning (planned_units job.meaning (start_of t) part (wanted t job.image is.regions part))
+    (steps_of (planned job.meaning job.start job.verify part (target_from job 0 part)))
+report_is t len job is part told tally =
+    let m = job.meaning in
+    let own = target_from job 0 part in
+    let these = planned m job.start job.verify part own in
+    let us = planned_units m job.start part own in
+    let units : us ≡ planned_units m (start_of t) part (wanted t job.image is.regions part) =
+    ap (λ (s : Start). planned_units m s part own) is.start ∙ ap (planned_units m (start_of t) part) (target_is t len job is part) in
+    report_same _ _ _ _ _ _ _ _ _ _ _ _ (ap (strategy m) is.start) (ap (λ (v : Tally). v.steps) tally ∙ sym (length-map these step_of))
+    (ap (λ (v : Tally). v.erases) tally ∙ erases_told m job.verify own us ∙ ap (λ vs. count_by (λ u. is_some u.erase) vs) units)
+    (ap (λ (v : Tally). v.erased) tally ∙ erased_told m job.verify own us ∙ ap (λ vs. sum_by (λ u. option_map_or (λ block. block.size) u.erase 0) vs) units)
+    (ap (λ (v : Tally). v.programs) tally ∙ programs_told m job.verify own us ∙ ap (λ vs. sum_by (λ u. length u.programs) vs) units)
+    (ignored_is t len job is)
+
 pub built_is : (t : Task) (len : ℕ) (job : Job) (before after : Ahead) (x y : Option (List ℕ)) (told : Tally) → Laws → IsAccepted job.meaning → IsJob t len job
     → IsScripted job before after x y told → IsBuilt t len before after x y (job_report job told)
 built_is t len job before after x y told laws accepted is done =
@@ -129,13 +159,9 @@ built_is t len job before after x y told laws accepted is done =
     let goal = wanted t job.image is.regions part in
     let these = planned m job.start job.verify part own in
     let steps = steps_of these in
-    let us = planned_units m job.start part own in
     let same : own ≡ goal = target_is t len job is part in
-    let units : us ≡ planned_units m (start_of t) part goal = ap (λ (s : Start). planned_units m s part own) is.start ∙ ap (planned_units m (start_of t) part) same in
-    let w : IsWorkable m job.start part own =
-    record { accepted = accepted; have_size = done.upto; want_size = length-target job 0 part ∙ done.upto; bytes = done.bytes; sound = done.sound } in
-    let spelled = spelled_is laws m job.start job.verify part own w in
-    let tally = done.its_tally in
+    let w : IsWorkable m job.start part own = workable_is job before after x y told accepted done in
+    let spelled = spelled_is laws.spelled laws.has m job.start job.verify part own w in
     record {
       image = job.image;
       regions = is.regions;
@@ -151,14 +177,10 @@ built_is t len job before after x y told laws accepted is done =
       work = subst (λ (wish : List ℕ). IsDoneBy m (start_of t) t.verify part wish steps) same
           (subst (λ v. IsDoneBy m (start_of t) v part own steps) is.verify
           (subst (λ (s : Start). IsDoneBy m s job.verify part own steps) is.start (done_by laws m job.start job.verify part own steps w spelled.planned)));
-      told = report_same _ _ _ _ _ _ _ _ _ _ _ _ (ap (strategy m) is.start) (ap (λ (v : Tally). v.steps) tally ∙ sym (length-map these step_of))
-          (ap (λ (v : Tally). v.erases) tally ∙ erases_told m job.verify own us ∙ ap (λ vs. count_by (λ u. is_some u.erase) vs) units)
-          (ap (λ (v : Tally). v.erased) tally ∙ erased_told m job.verify own us ∙ ap (λ vs. sum_by (λ u. option_map_or (λ block. block.size) u.erase 0) vs) units)
-          (ap (λ (v : Tally). v.programs) tally ∙ programs_told m job.verify own us ∙ ap (λ vs. sum_by (λ u. length u.programs) vs) units)
-          (ignored_is t len job is);
+      told = report_is t len job is part told done.its_tally;
     }
 
-work_cause : (t : Task) (len : ℕ) (job : Job) (is : IsJob t len job) (part : List ℕ) (after : Ahead) (why : BuildFault)
+pub work_cause : (t : Task) (len : ℕ) (job : Job) (is : IsJob t len job) (part : List ℕ) (after : Ahead) (why : BuildFault)
     → CutCause job part after why → WorkCause t job.image is.regions job.meaning len part after why
 work_cause t len job is part after fault.ContentShort cause = (omega (arith, cause.0, is.accepted.size), cause.1)
 work_cause t len job is part after (fault.Plan why) cause =
@@ -179,7 +201,7 @@ front_is t len job before after x y why laws accepted is cut =
     let gives = image_bytes t.hex job.image is.accepted.named.imaged.spelled in
     let fill = filled_is job cut.known cut.part cut.bytes accepted gives cut.within cut.front in
     let text = cut.front.front content own fill.size fill.has fill.has' in
-    let spelled = spelled_is laws m job.start job.verify content own fill.workable in
+    let spelled = spelled_is laws.spelled laws.has m job.start job.verify content own fill.workable in
     let steps = steps_of (planned m job.start job.verify content own) in
     record {
       content = content;

@@ -13,3 +13,5 @@ pub mod OpBytes
 pub mod CountLemmas
 pub mod FillLemmas
 pub mod BuildLemmas
+pub mod OutlineLemmas
+pub mod PlanLemmas

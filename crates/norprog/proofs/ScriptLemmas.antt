@@ -136,24 +136,33 @@ told_all : (told : Tally) (ops these : List Op) (k n : ℕ) → told ≡ tally_w
 told_all told ops these k n is same m count =
     ap (λ (t : Tally). tally n t.erases t.erased t.programs) is ∙ ap (λ i. tally_with i ops) count ∙ ap (tally_with m) (sym same)
 
-pub whole_script : (job : Job) (v : Writing) (a b : Ahead) (x y z u t : Option (List ℕ)) (told : Tally) (more : ℕ)
-    → Appends x y header → IsDone job v job.meaning.size a b y z told → Appends z u (lines_of (last v.streaming)) → more ≡ length (last v.streaming)
+-- the whole script, of the part that was read
+pub whole_with : (job : Job) (v : Writing) (a b : Ahead) (x y z u t : Option (List ℕ)) (told : Tally) (more : ℕ)
+    → Appends x y header → (done : IsDone job v job.meaning.size a b y z told) → Appends z u (lines_of (last v.streaming)) → more ≡ length (last v.streaming)
     → Appends u t (end_line (told.steps + more))
-    → IsScripted job a b x t (record { steps = told.steps + more; erases = told.erases; erased = told.erased; programs = told.programs })
-whole_script job v a b x y z u t told more begun done close count ended =
+    → (whole : IsScripted job a b x t (record { steps = told.steps + more; erases = told.erases; erased = told.erased; programs = told.programs })) × (whole.part ≡ done.part)
+whole_with job v a b x y z u t told more begun done close count ended =
     let n = told.steps + more in
     let part = done.part in
     let goal = target_from job 0 part in
     let whole = whole_is job v a b y z told done in
     let are : job_ops job part goal ≡ done.ops = whole.are part goal done.upto (part_whole part) (part_whole goal) in
     let steps : n ≡ length (job_planned job part goal) = steps_are job v a b y z told more n done count refl ∙ sym (ap length (planned_parts job part goal done.ops are)) in
-    let text : body job done.ops ++ end_line n ≡ job_text job part goal = ap (λ i. body job done.ops ++ end_line i) steps ∙ sym (text_is job part goal done.ops are) in
-    record {
-      part = part;
-      upto = done.upto;
-      given = done.given;
-      bytes = done.bytes;
-      sound = λ i inside. whole.sound part goal (part_whole part) (part_whole goal) i (omega arith) (omega (arith, inside, done.upto));
-      put = subst (Appends x t) text (Appends-append x u t (body job done.ops) (end_line n) (body_put job v a b x y z u told begun done close) ended);
-      its_tally = told_all told done.ops (job_ops job part goal) _ n done.its_tally are _ steps;
-    }
+    let text : body job done.ops ++ end_line n ≡ job_text job part goal = ap (λ i. body job done.ops ++ end_line i) steps ∙ sym (text_is job part goal done.ops are) in (
+      record {
+        part = part;
+        upto = done.upto;
+        given = done.given;
+        bytes = done.bytes;
+        sound = λ i inside. whole.sound part goal (part_whole part) (part_whole goal) i (omega arith) (omega (arith, inside, done.upto));
+        put = subst (Appends x t) text (Appends-append x u t (body job done.ops) (end_line n) (body_put job v a b x y z u told begun done close) ended);
+        its_tally = told_all told done.ops (job_ops job part goal) _ n done.its_tally are _ steps;
+      },
+      refl,
+    )
+
+pub whole_script : (job : Job) (v : Writing) (a b : Ahead) (x y z u t : Option (List ℕ)) (told : Tally) (more : ℕ)
+    → Appends x y header → IsDone job v job.meaning.size a b y z told → Appends z u (lines_of (last v.streaming)) → more ≡ length (last v.streaming)
+    → Appends u t (end_line (told.steps + more))
+    → IsScripted job a b x t (record { steps = told.steps + more; erases = told.erases; erased = told.erased; programs = told.programs })
+whole_script job v a b x y z u t told more begun done close count ended = (whole_with job v a b x y z u t told more begun done close count ended).0

@@ -13,7 +13,8 @@ use Rattle.nor_erase.specs.declared.fault.PlanFault.{PlanFault}
 use Rattle.nor_erase.specs.declared.fault.PlanFault.TheVariants as plan
 use Rattle.nor_erase.specs.Plan.{IsLowestAt, IsFault, IsFaultOf}
 use Rattle.nor_select.specs.Streamed.{next, onward}
-use Rattle.nor_steps.specs.Work.{stretch_ops, IsSound, IsWork, IsWorkOf, IsBegun, IsBegunOf}
+use Rattle.nor_plan_lines.specs.Told.{IsFaultless}
+use Rattle.nor_steps.specs.Work.{stretch_units, stretch_ops, IsWork, IsWorkOf, IsBegun, IsBegunOf}
 use Rattle.nor_steps.specs.Writing.{Writing, lines_of, next_lines, written_on}
 use Rattle.nor_steps.proofs.LineLemmas.{lines_append}
 use Rattle.nor_steps.proofs.StreamLemmas.{next_joins}
@@ -41,22 +42,27 @@ pages_split page at n some whole =
     let count : (at + n) / page ≡ k + n / page = ap (λ a. (a + n) / page) (sym start) ∙ mul-add-div_right some k n in
     ap (pages page 0) count ∙ pages_join page 0 k (n / page) ∙ ap (λ s. pages page 0 k ++ pages page s (n / page)) there
 
+-- the units of two stretches side by side
+pub stretch_units_join : (m : Parameters) (by : Strategy) (at n : ℕ) (content target : List ℕ) → 0 < m.page → at % m.page ≡ 0
+    → stretch_units m by 0 (at + n) content target ≡ stretch_units m by 0 at content target ++ stretch_units m by at n content target
+stretch_units_join m by at n content target some whole =
+    let due = is_due m content target in
+    let level = levelled m by due content in
+    let erased = erased_at m by due in
+    ap (units_over m level target erased) (pages_split m.page at n some whole)
+    ∙ units_join m level target erased (pages m.page 0 (at / m.page)) (pages m.page at (n / m.page))
+
 pub stretch_join : (w : Writing) (at n : ℕ) (content target : List ℕ) → 0 < w.streaming.meaning.page → at % w.streaming.meaning.page ≡ 0
     → stretch_ops w 0 (at + n) content target ≡ stretch_ops w 0 at content target ++ stretch_ops w at n content target
 stretch_join w at n content target some whole =
     let m = w.streaming.meaning in
-    let due = is_due m content target in
-    let level = levelled m w.streaming.by due content in
-    let erased = erased_at m w.streaming.by due in
-    let first = pages m.page 0 (at / m.page) in
-    let second = pages m.page at (n / m.page) in
-    ap (λ starts. flat_map (unit_ops m w.verify target) (units_over m level target erased starts)) (pages_split m.page at n some whole)
-    ∙ ap (flat_map (unit_ops m w.verify target)) (units_join m level target erased first second)
-    ∙ flat_map-append (unit_ops m w.verify target) (units_over m level target erased first) (units_over m level target erased second)
+    let by = w.streaming.by in
+    ap (flat_map (unit_ops m w.verify target)) (stretch_units_join m by at n content target some whole)
+    ∙ flat_map-append (unit_ops m w.verify target) (stretch_units m by 0 at content target) (stretch_units m by at n content target)
 
-sound_join : (w : Writing) (at n : ℕ) (content target : List ℕ) → IsSound w 0 at content target → IsSound w at n content target
-    → IsSound w 0 (at + n) content target
-sound_join w at n content target first second x from upto = elim (cases_lt x at) [
+pub sound_join : (m : Parameters) (by : Strategy) (at n : ℕ) (content target : List ℕ) → IsFaultless m by 0 at content target → IsFaultless m by at n content target
+    → IsFaultless m by 0 (at + n) content target
+sound_join m by at n content target first second x from upto = elim (cases_lt x at) [
   | inl less ↦ first x from (omega (arith, less))
   | inr past ↦ second x past (omega (arith, upto))
 ]
@@ -75,7 +81,7 @@ work_join w v at xs ys txs tys p q some whole upto upto' state first second cont
     subst (λ n. IsWorkOf w 0 n content target (p ++ q)) count (record {
       are = stretch_join w at (length ys) content target some whole ∙ ap (λ ops. ops ++ stretch_ops w at (length ys) content target) left.are
           ∙ ap (λ ops. p ++ ops) right.are;
-      sound = sound_join w at (length ys) content target left.sound right.sound;
+      sound = sound_join w.streaming.meaning w.streaming.by at (length ys) content target left.sound right.sound;
     })
 
 pub lines_join : (w : Writing) (xs ys : List Op) → next_lines w (xs ++ ys) ≡ next_lines w xs ++ next_lines (written_on w xs) ys
@@ -103,7 +109,7 @@ begun_join w v at xs ys txs tys p front some whole upto upto' state first second
       rest = right.rest;
       whole = ap (next_lines w) (stretch_join w at (length ys) content target some whole ∙ ap (λ these. these ++ ops) left.are)
           ∙ lines_join w p ops ∙ ap (λ text. next_lines w p ++ text) right.whole ∙ sym (append_assoc (next_lines w p) front right.rest);
-      sound = sound_join w at (length ys) content target left.sound right.sound;
+      sound = sound_join w.streaming.meaning w.streaming.by at (length ys) content target left.sound right.sound;
     })
 
 lowest_join : (m : Parameters) (by : Strategy) (at n a : ℕ) (content target : List ℕ) → ((x : ℕ) → 0 ≤ x → x < 0 + at → is_at_fault m by content target x ≡ false)

@@ -14,12 +14,14 @@ use Rattle.nor_job.specs.declared.fault.BuildFault.{BuildFault}
 use Rattle.nor_job.specs.declared.fault.BuildFault.TheVariants as fault
 use Rattle.nor_job.specs.declared.job.Job.{Job}
 use Rattle.nor_select.specs.Streamed.{Streaming, next, onward}
+use Rattle.nor_steps.specs.declared.fault.StepsFault.{StepsFault}
+use Rattle.nor_steps.specs.declared.fault.StepsFault.TheVariants as steps
 use Rattle.nor_steps.specs.declared.tally.Tally.{Tally}
 use Rattle.nor_steps.specs.Tally.{tally_of, sum_of, nothing_told, IsFew, erases_of, erased_of, programs_of}
 use Rattle.nor_steps.specs.Work.{IsWork, IsBegun, HasBegun}
 use Rattle.nor_steps.specs.Writing.{Writing, next_lines, written_on}
 use Rattle.nor_steps.proofs.OpLemmas.{more_lines, more_steps, more_on}
-use Rattle.norprog.specs.Windows.{target_from, first_writing, WroteWindow, StopsWindow, IsDone, CutCause, IsKnown, IsCut}
+use Rattle.norprog.specs.Windows.{target_from, first_writing, lifted_steps, EndsWindow, WroteWindow, StopsWindow, IsDone, CutCause, IsKnown, IsCut}
 use Rattle.norprog.specs.Written.{AreBytes}
 use Rattle.norprog.proofs.TargetLemmas.{gives_none, length-target, target_of_parts, bytes_of_parts}
 use Rattle.norprog.proofs.StretchLemmas.{work_join, begun_done, begun_join, fault_join, work_none}
@@ -66,29 +68,36 @@ text_join : (w v : Writing) (x y z : Option (List ℕ)) (p q : List Op) → v �
 text_join w v x y z p q state first second =
     more_lines x y z w p q first (subst (λ (u : Writing). Appends y z (next_lines u q)) state second)
 
--- what was done up to an address, and then a window
-pub done_then : (job : Job) (v u : Writing) (at n : ℕ) (a b c : Ahead) (x y z : Option (List ℕ)) (told more : Tally) → 0 < job.meaning.page → at % job.meaning.page ≡ 0
-    → IsDone job v at a b x y told → WroteWindow job v u at n b c y z more → IsDone job u (at + n) a c x z (sum_of told more)
-done_then job v u at n a b c x y z told more some whole done window =
+-- what was done up to an address, and then a window; the part that was read is that of both
+pub done_with : (job : Job) (v u : Writing) (at n : ℕ) (a b c : Ahead) (x y z : Option (List ℕ)) (told more : Tally) → 0 < job.meaning.page → at % job.meaning.page ≡ 0
+    → (done : IsDone job v at a b x y told) → (window : WroteWindow job v u at n b c y z more)
+    → (both : IsDone job u (at + n) a c x z (sum_of told more)) × (both.part ≡ done.part ++ window.part)
+done_with job v u at n a b c x y z told more some whole done window =
     let w = first_writing job in
     let xs = done.part in
     let ys = window.part in
     let goal = target_of_parts job 0 at xs ys (omega (arith, done.upto)) in
-    let wrote = window.wrote in
-    record {
-      part = xs ++ ys;
-      upto = omega (arith, length-append xs ys, done.upto, window.size);
-      given = Gives-append a b c xs ys done.given window.given;
-      bytes = subst AreBytes (sym goal) (bytes_of_parts (target_from job 0 xs) (target_from job at ys) done.bytes window.bytes);
-      ops = done.ops ++ wrote.ops;
-      work = subst (λ (goal : List ℕ). IsWork w 0 (xs ++ ys) goal (done.ops ++ wrote.ops)) (sym goal)
-          (work_join w v at xs ys (target_from job 0 xs) (target_from job at ys) done.ops wrote.ops some whole done.upto (length-target job 0 xs ∙ done.upto) done.state done.work wrote.work);
-      put = text_join w v x y z done.ops wrote.ops done.state done.put wrote.put;
-      state = wrote.state ∙ ap (λ (t : Writing). written_on t wrote.ops) done.state ∙ more_on w done.ops wrote.ops;
-      its_tally = tally_join w.streaming done.ops wrote.ops told more done.its_tally
-          (wrote.its_tally ∙ ap (λ (t : Writing). tally_of t.streaming wrote.ops) done.state);
-      few = few_join at n told more done.few (subst (λ k. IsFew k more) window.size wrote.few);
-    }
+    let wrote = window.wrote in (
+      record {
+        part = xs ++ ys;
+        upto = omega (arith, length-append xs ys, done.upto, window.size);
+        given = Gives-append a b c xs ys done.given window.given;
+        bytes = subst AreBytes (sym goal) (bytes_of_parts (target_from job 0 xs) (target_from job at ys) done.bytes window.bytes);
+        ops = done.ops ++ wrote.ops;
+        work = subst (λ (goal : List ℕ). IsWork w 0 (xs ++ ys) goal (done.ops ++ wrote.ops)) (sym goal)
+            (work_join w v at xs ys (target_from job 0 xs) (target_from job at ys) done.ops wrote.ops some whole done.upto (length-target job 0 xs ∙ done.upto) done.state done.work wrote.work);
+        put = text_join w v x y z done.ops wrote.ops done.state done.put wrote.put;
+        state = wrote.state ∙ ap (λ (t : Writing). written_on t wrote.ops) done.state ∙ more_on w done.ops wrote.ops;
+        its_tally = tally_join w.streaming done.ops wrote.ops told more done.its_tally
+            (wrote.its_tally ∙ ap (λ (t : Writing). tally_of t.streaming wrote.ops) done.state);
+        few = few_join at n told more done.few (subst (λ k. IsFew k more) window.size wrote.few);
+      },
+      refl,
+    )
+
+pub done_then : (job : Job) (v u : Writing) (at n : ℕ) (a b c : Ahead) (x y z : Option (List ℕ)) (told more : Tally) → 0 < job.meaning.page → at % job.meaning.page ≡ 0
+    → IsDone job v at a b x y told → WroteWindow job v u at n b c y z more → IsDone job u (at + n) a c x z (sum_of told more)
+done_then job v u at n a b c x y z told more some whole done window = (done_with job v u at n a b c x y z told more some whole done window).0
 
 -- what was done is known, whatever was read after it
 known_done : (job : Job) (v : Writing) (at : ℕ) (a b : Ahead) (x y : Option (List ℕ)) (told : Tally) (ys : List ℕ) → at % job.meaning.page ≡ 0
@@ -156,6 +165,13 @@ cut_begun job v at n window a b c x y z told ys why some whole whole' fits size 
   begins = known_begun job v at n a b c x y told ys begun.front some whole whole' size small done begun.begun;
   put = Appends-append x y z _ _ done.put begun.put;
 }
+
+-- a window that was read, and ended early
+pub ended : (Ends : StepsFault → Type 0) (count : ℕ) (before after : Ahead) (x y : Option (List ℕ)) (why : StepsFault) → Ends why
+    → EndsWindow Ends count before after x y (lifted_steps why)
+ended Ends count before after x y (steps.Plan why) is = is
+ended Ends count before after x y steps.Write is = is
+ended Ends count before after x y steps.Memory is = is
 
 -- what was done up to an address, and then it ended early
 pub done_then_cut : (job : Job) (v : Writing) (at n window : ℕ) (a b c : Ahead) (x y z : Option (List ℕ)) (told : Tally) (why : BuildFault) → 0 < job.meaning.page

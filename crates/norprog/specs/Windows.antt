@@ -73,13 +73,17 @@ pub record IsUnread (count : ℕ) (before after : Ahead) (held_before held_after
   pub given : Gives before part after
   pub put : Appends held_before held_after []
 
+-- a window wasn't read, or it was, and what was to be done with it ended early
+abbrev pub EndsWindow : (StepsFault → Type 0) → ℕ → Ahead → Ahead → Option (List ℕ) → Option (List ℕ) → BuildFault → Type 0
+EndsWindow Ends count before after x y fault.ContentShort = IsUnread count before after x y × IsAtEnd after
+EndsWindow Ends count before after x y fault.Read = IsUnread count before after x y
+EndsWindow Ends count before after x y (fault.Plan why) = Ends (steps.Plan why)
+EndsWindow Ends count before after x y fault.Write = Ends steps.Write
+EndsWindow Ends count before after x y fault.Memory = Ends steps.Memory
+EndsWindow Ends count before after x y other = ⊥
+
 abbrev pub StopsWindow : Job → Writing → ℕ → ℕ → Ahead → Ahead → Option (List ℕ) → Option (List ℕ) → BuildFault → Type 0
-StopsWindow job w at count before after x y fault.ContentShort = IsUnread count before after x y × IsAtEnd after
-StopsWindow job w at count before after x y fault.Read = IsUnread count before after x y
-StopsWindow job w at count before after x y (fault.Plan why) = IsUnwritten job w at count before after x y (steps.Plan why)
-StopsWindow job w at count before after x y fault.Write = IsUnwritten job w at count before after x y steps.Write
-StopsWindow job w at count before after x y fault.Memory = IsUnwritten job w at count before after x y steps.Memory
-StopsWindow job w at count before after x y other = ⊥
+StopsWindow job w at count before after x y why = EndsWindow (IsUnwritten job w at count before after x y) count before after x y why
 
 -- the content up to an address was read, and the steps of its windows were written
 pub record IsDone (job : Job) (v : Writing) (end : ℕ) (before after : Ahead) (held_before held_after : Option (List ℕ)) (told : Tally) : Type 0 where

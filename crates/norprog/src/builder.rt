@@ -102,7 +102,7 @@ fn write_script<R: ByteIn, W: ByteOut>(
 }
 
 /// The report of a job of which so much is told.
-fn report_of(job: &Job, told: Tally) -> Report
+pub(crate) fn report_of(job: &Job, told: Tally) -> Report
     ensures { result ≡ job_report job.now told }
 {
     Report {

@@ -1,11 +1,13 @@
 //! Programs a SPI NOR flash chip by a bus script: from an Intel HEX image, a layout with chosen regions and what the
 //! chip holds now to the text of a script in which every clock of every transaction stands.
 //!
-//! [`build`] writes the script. Its contract says what running it on the chip does.
+//! [`build`] writes the script. Its contract says what running it on the chip does. [`plan`] writes lines that tell what
+//! that script erases, why, and what it programs.
 #![tactic(auto)]
 
 pub mod builder;
 mod chip_text;
+pub mod planner;
 pub mod report;
 mod windows;
 
@@ -16,4 +18,5 @@ pub use nor_hex::HexFault;
 pub use nor_job::{BuildFault, Inputs, Source};
 pub use nor_layout::LayoutFault;
 pub use nor_sfdp::SfdpFault;
+pub use planner::plan;
 pub use report::{Report, write_report};

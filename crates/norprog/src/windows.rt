@@ -93,7 +93,7 @@ fn write_window<R: ByteIn, W: ByteOut>(
 /// Reads the window of the content that begins at an address into `have`, and fills `want` with what it must hold.
 ///
 /// `ContentShort` where the reader ends before the window does, `Read` where it fails.
-fn next_window<R: ByteIn>(
+pub(crate) fn next_window<R: ByteIn>(
     job: &Job,
     at: u32,
     have: &mut [u8],

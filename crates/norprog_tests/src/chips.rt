@@ -75,7 +75,7 @@ const BOTH_SIDES: Row = Row {
 };
 
 /// The large chip as a W25Q256JV of a status.
-const W25: Row = Row {
+const WINBOND: Row = Row {
     chip: LARGE,
     part: Part::W25q256jv,
     status: Some(0),
@@ -178,19 +178,19 @@ static ROWS: [Row; 23] = [
         ..ONE
     },
     // by the status of a W25Q256JV
-    W25,
+    WINBOND,
     Row {
         status: Some(0x0001_0000),
         lines: "06 020000000000 .",
         strategy: Strategy::S1,
-        ..W25
+        ..WINBOND
     },
     Row {
         status: Some(0x0200),
         records: ":01000000A55A\n",
         lines: "06 3400000000/A5 .",
         changes: &[(0, 1, 0xA5)],
-        ..W25
+        ..WINBOND
     },
     // on four lanes, and read
     Row {

@@ -2,7 +2,7 @@
 
 use crate::jobs::{ONE_BYTE, inputs, one_name};
 use nor_base::{FromRead, IntoWrite};
-use norprog::{BuildFault, ByteIn, ByteOut, Inputs, Report, build};
+use norprog::{BuildFault, ByteIn, ByteOut, Inputs, Report, build, plan};
 use std::alloc::{AllocError, Global};
 use std::io;
 use std::process::Abort;
@@ -78,7 +78,7 @@ pub(crate) fn script(alloc: Global, most: usize) -> Result<SlowWriter, AllocErro
     })
 }
 
-/// What a build answered, its devices after it, and how often each of them failed.
+/// What a build or a plan answered, its devices after it, and how often each of them failed.
 #[derive(Drop)]
 pub(crate) struct Built<'d> {
     pub(crate) answer: Result<Report, BuildFault>,
@@ -86,6 +86,23 @@ pub(crate) struct Built<'d> {
     pub(crate) read_failures: u64,
     pub(crate) writer: SlowWriter,
     pub(crate) write_failures: u64,
+}
+
+/// An answer, and the devices after it.
+fn with_devices<'d>(
+    answer: Result<Report, BuildFault>,
+    reader: FromRead<SlowReader<'d>>,
+    writer: IntoWrite<SlowWriter>,
+) -> Built<'d> {
+    let read_failures = reader.failures();
+    let write_failures = writer.failures();
+    Built {
+        answer,
+        reader: reader.into_inner(),
+        read_failures,
+        writer: writer.into_inner(),
+        write_failures,
+    }
 }
 
 /// Builds over these devices, for a content of so many bytes.
@@ -99,15 +116,21 @@ pub(crate) fn run_build<'d>(
     let mut reader = FromRead::new(reader);
     let mut writer = IntoWrite::new(writer);
     let answer = build(alloc, inputs, &mut reader, len, &mut writer);
-    let read_failures = reader.failures();
-    let write_failures = writer.failures();
-    Built {
-        answer,
-        reader: reader.into_inner(),
-        read_failures,
-        writer: writer.into_inner(),
-        write_failures,
-    }
+    with_devices(answer, reader, writer)
+}
+
+/// Plans over these devices, for a content of so many bytes.
+pub(crate) fn run_plan<'d>(
+    alloc: Global,
+    inputs: &Inputs<'_>,
+    reader: SlowReader<'d>,
+    len: u64,
+    writer: SlowWriter,
+) -> Built<'d> {
+    let mut reader = FromRead::new(reader);
+    let mut writer = IntoWrite::new(writer);
+    let answer = plan(alloc, inputs, &mut reader, len, &mut writer);
+    with_devices(answer, reader, writer)
 }
 
 /// Whether bytes are a proper prefix of the script that programs 00h at address 0.

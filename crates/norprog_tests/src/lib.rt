@@ -1,5 +1,5 @@
 //! Tests of `norprog` over its public calls: jobs whose scripts are run on a model of a chip, refusals, devices that move
-//! few bytes at a call, end early or fail, and the lines of a report.
+//! few bytes at a call, end early or fail, the lines of a report, and those that tell a plan.
 #![tactic(auto)]
 
 #[cfg(test)]
@@ -10,6 +10,8 @@ mod chips;
 mod devices;
 #[cfg(test)]
 mod jobs;
+#[cfg(test)]
+mod plans;
 #[cfg(test)]
 mod play;
 #[cfg(test)]

@@ -1,0 +1,44 @@
+-- The whole path.
+use Rattle.std.proofs.Common.{inr, [], sym, subst, arith}
+use Rattle.norprog.specs.Build.{IsLate}
+use Rattle.norprog.specs.Plan.{IsPlanOf}
+use Rattle.norprog.proofs.BuildLemmas.{cause_is_late}
+use Rattle.norprog.proofs.FaultLemmas.{handed_on}
+use Rattle.norprog.proofs.PlanLemmas.{plan_is, plan_stops}
+use Rattle.norprog.proofs.TargetLemmas.{gives_none}
+use Rattle.norprog.proofs.planner.plan.Goals as goal
+
+pub returns-clause-planned : goal.returns-clause-planned
+returns-clause-planned g c =
+    subst (IsPlanOf c.args.inputs.now c.args.len (g.R.ByteIn.ahead c.args.content.now) (g.R.ByteIn.ahead c.tell_job.new.content)
+    (g.W.ByteOut.held c.args.out.now) (g.W.ByteOut.held c.tell_job.new.out))
+    (sym c.report_of.ensures)
+    (plan_is c.args.inputs.now c.args.len c.in_ok-job.job _ _ _ _ c.in_ok-told.told c.there_is_planned_work.ensures.spelled c.spelling.ensures.has
+    c.is_accepted.ensures c.in_ok-job.ensures.job c.in_ok-told.ensures.done)
+
+pub returns-in_err-told-clause-refused : goal.returns-in_err-told-clause-refused
+returns-in_err-told-clause-refused g c =
+    handed_on _ _ _ c.from_residual-in_err-told.ensures.1
+    (inr (plan_stops c.args.inputs.now c.args.len c.in_ok-job.job _ _ _ _ c.in_err-told.field-0.0 c.in_ok-job.ensures.job c.in_err-told.ensures.cut))
+
+pub returns-in_err-job-clause-accepted : goal.returns-in_err-job-clause-accepted
+returns-in_err-job-clause-accepted g c = λ image regions m accepted.
+    handed_on _ _ _ c.from_residual.ensures.1 (subst IsLate (sym (c.in_err-job.ensures.only_memory image regions m accepted)) tt)
+
+pub returns-in_err-told-clause-accepted : goal.returns-in_err-told-clause-accepted
+returns-in_err-told-clause-accepted g c = λ image regions m accepted.
+    let cut = c.in_err-told.ensures.cut.cut in
+    handed_on _ _ _ c.from_residual-in_err-told.ensures.1 (cause_is_late c.in_ok-job.job cut.part _ c.in_err-told.field-0.0 cut.cause)
+
+pub returns-in_err-job-clause-within : goal.returns-in_err-job-clause-within
+returns-in_err-job-clause-within g c = record { bytes = []; few = omega arith; given = gives_none (g.R.ByteIn.ahead c.args.content.now) }
+
+pub returns-in_err-told-clause-within : goal.returns-in_err-told-clause-within
+returns-in_err-told-clause-within g c =
+    let cut = c.in_err-told.ensures.cut.cut in
+    record { bytes = cut.part; few = omega (arith, cut.within, c.in_ok-job.ensures.job.accepted.size); given = cut.given }
+
+pub returns-clause-within : goal.returns-clause-within
+returns-clause-within g c =
+    let done = c.in_ok-told.ensures.done.steps in
+    record { bytes = done.part; few = omega (arith, done.upto, c.in_ok-job.ensures.job.accepted.size); given = done.given }

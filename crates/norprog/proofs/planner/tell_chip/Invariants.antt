@@ -1,0 +1,20 @@
+-- The windows so far are told.
+use Rattle.std.proofs.Common.{◌≡◌, ◌<◌, ◌≤◌, ◌%◌, ◌-◌, length}
+use Rattle.norprog.specs.PlanWindows.{IsToldUpTo}
+use Rattle.norprog.proofs.planner.tell_chip.Given as goal
+
+abbrev pub invariant-loop-at : goal.invariant-loop-at
+invariant-loop-at g l = record {
+  told : IsToldUpTo l.job l.writer l.at (g.R.ByteIn.ahead l.fn.content) (g.R.ByteIn.ahead l.content) (g.W.ByteOut.held l.fn.out) (g.W.ByteOut.held l.out) l.told;
+  room : length l.have ≡ l.window;
+  room' : length l.want ≡ l.window;
+  size : l.window ≡ length l.fn.have;
+  whole : l.at % l.job.meaning.page ≡ 0;
+  aligned : l.at < l.job.meaning.size → l.at % l.window ≡ 0;
+  within : l.at ≤ l.job.meaning.size;
+  reads : g.R.ByteIn.count l.content ≡ g.R.ByteIn.count l.fn.content;
+  writes : g.W.ByteOut.count l.out ≡ g.W.ByteOut.count l.fn.out;
+}
+
+abbrev pub decreases-loop-at : goal.decreases-loop-at
+decreases-loop-at g l = l.job.meaning.size - l.at

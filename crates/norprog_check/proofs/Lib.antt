@@ -1,0 +1,5 @@
+pub mod FaultLemmas
+pub mod LineLemmas
+pub mod CheckLemmas
+pub mod BuiltLemmas
+pub mod FaultlessLemmas

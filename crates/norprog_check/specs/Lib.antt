@@ -1,0 +1,5 @@
+pub mod Lifted
+pub mod Content
+pub mod Checked
+pub mod Line
+pub mod Laws

@@ -1,0 +1,30 @@
+-- The line that tells a verdict (this project's).
+use Rattle.std.specs.Prelude.{ℕ, List, ◌++◌, codes, decimal}
+use Rattle.nor_base.specs.declared.wrong.Wrong.{Wrong}
+use Rattle.nor_base.specs.declared.wrong.Wrong.TheVariants as wrong
+use Rattle.nor_base.specs.Script.{closed}
+use Rattle.nor_check.specs.declared.verdict.Verdict.{Verdict}
+use Rattle.nor_check.specs.declared.verdict.Verdict.TheVariants.{Yes, No}
+use Rattle.nor_check.specs.declared.verdict.Why.{Why}
+use Rattle.nor_check.specs.declared.verdict.Why.TheVariants as why
+use Rattle.nor_outline.specs.Outline.{hex_number}
+
+abbrev pub wrong_number : Wrong → ℕ
+wrong_number wrong.Ignored = 1
+wrong_number wrong.Unknown = 2
+wrong_number wrong.Raised = 3
+wrong_number wrong.OutOfRange = 4
+wrong_number wrong.Mismatch = 5
+wrong_number wrong.PollNever = 6
+wrong_number wrong.NotIdleAtEnd = 7
+wrong_number wrong.NotErased = 8
+
+-- `wrong N`, or `differs AAAAAAAA`
+abbrev pub why_text : Why → List ℕ
+why_text (why.Wrong cause) = codes "wrong " ++ decimal (wrong_number cause)
+why_text (why.Differs address) = codes "differs " ++ hex_number address
+
+-- `yes`, or `no at K` and why
+unfoldable pub verdict_text : Verdict → List ℕ
+verdict_text Yes = closed (codes "yes")
+verdict_text (No step cause) = closed (codes "no at " ++ (decimal step ++ (codes " " ++ why_text cause)))

@@ -1,0 +1,4 @@
+mod PlayLaws
+mod NumberLemmas
+mod BusyLemmas
+mod ReadLemmas

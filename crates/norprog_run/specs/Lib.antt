@@ -1,0 +1,8 @@
+pub mod Verdict
+pub mod Values
+pub mod Request
+pub mod Play
+pub mod Kind
+pub mod Refusals
+pub mod Answer
+pub mod Laws

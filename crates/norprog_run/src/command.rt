@@ -1,0 +1,149 @@
+//! `run`: from the texts of the command line to the line of a verdict.
+
+ghost use Rattle.std.specs.Prelude.{◌≡◌, ◌⊎◌, ◌<◌, ◌≤◌, ◌-◌, ◌^◌};
+ghost use Rattle.norprog_command.specs.Lines.{Tells};
+ghost use Rattle.norprog_run.specs.Answer.{PrintsVerdict, PrintsNone};
+
+use crate::nowhere::Nowhere;
+use crate::play::play_script;
+use crate::request::{Bench, GivenRun, RunRequest, request_of};
+use crate::verdict::{Verdict, status_of, write_verdict};
+use nor_base::{ByteIn, ByteOut, FromRead, IntoWrite};
+use nor_job::{Inputs, Source};
+use norprog_command::{
+    Chip, FileName, Place, Refusal, create_output, open_input, read_whole, refuse,
+};
+use std::alloc::{AllocGlobal, Global};
+use std::fs::Files;
+use std::io::Write;
+
+/// Does what the texts of a command line of `run` ask for. It opens the files that they name, writes what the chip holds
+/// after the play to the output that they name, if any, and then the verdict's line to `out`, or a refusal to `err`
+/// (docs/FORMATS.md, section 9). It answers the status: 0 played, 1 gone wrong or refused, 2 usage.
+///
+/// `given` is what stands on the command line, or why that couldn't be read.
+pub fn run<O: ByteOut, E: ByteOut>(
+    rt: &(impl Files + AllocGlobal),
+    given: Result<GivenRun<'_>, Refusal>,
+    out: &mut O,
+    err: &mut E,
+) -> u8
+    requires out { O.count out.old < 2 ^ 64 - 1 }
+    requires err { E.count err.old < 2 ^ 64 - 1 }
+    ensures status { result ≤ 2 }
+    ensures quiet { result ≡ 0 → err.new ≡ err.old }
+    ensures answer { (PrintsVerdict (O.held out.old) (O.held out.new) result × (err.new ≡ err.old))
+        ⊎ (PrintsNone (O.held out.old) (O.held out.new)
+        × (E.count err.new ≡ E.count err.old → Tells (E.held err.old) (E.held err.new) result)) }
+{
+    match verdict_of(rt, given) {
+        Ok(verdict) => tell(&verdict, out, err),
+        Err(refusal) => refuse(&refusal, err),
+    }
+}
+
+/// Writes the verdict's line or, where that fails, a refusal, and answers the status.
+fn tell<O: ByteOut, E: ByteOut>(verdict: &Verdict, out: &mut O, err: &mut E) -> u8
+    requires out { O.count out.old < 2 ^ 64 - 1 }
+    requires err { E.count err.old < 2 ^ 64 - 1 }
+    ensures status { result ≤ 1 }
+    ensures quiet { result ≡ 0 → err.new ≡ err.old }
+    ensures answer { (PrintsVerdict (O.held out.old) (O.held out.new) result × (err.new ≡ err.old))
+        ⊎ (PrintsNone (O.held out.old) (O.held out.new)
+        × (E.count err.new ≡ E.count err.old → Tells (E.held err.old) (E.held err.new) result)) }
+{
+    match write_verdict(verdict, out) {
+        Ok(()) => status_of(verdict),
+        Err(_) => refuse(&Refusal::WRITE, err),
+    }
+}
+
+/// What the files that a play reads whole hold.
+#[derive(Drop)]
+struct Texts {
+    /// Empty for a uniform chip.
+    sfdp: Vec<u8>,
+    script: Vec<u8>,
+}
+
+/// Opens the files of a request in their order, and plays.
+fn verdict_of<R: Files + AllocGlobal>(
+    rt: &R,
+    given: Result<GivenRun<'_>, Refusal>,
+) -> Result<Verdict, Refusal> {
+    let alloc = rt.alloc();
+    let request = request_of(alloc, given?)?;
+    let mut places = Vec::new(alloc);
+    let sfdp = read_sfdp(rt, alloc, request.chip, &mut places)?;
+    let (content, place, len) = open_input(rt, request.content, FileName::Content)?;
+    places.push(place)?;
+    let (script, place) = read_whole(rt, alloc, request.script, FileName::Script)?;
+    places.push(place)?;
+    let mut content = FromRead::new(content);
+    let texts = Texts { sfdp, script };
+    let path = match request.out {
+        Some(path) => path,
+        None => return play_texts(alloc, request, &texts, &mut content, len, &mut Nowhere),
+    };
+    let file = create_output(rt, path, places.as_slice())?;
+    let mut out = IntoWrite::new(file);
+    let verdict = play_texts(alloc, request, &texts, &mut content, len, &mut out)?;
+    match out.inner.flush() {
+        Ok(()) => Ok(verdict),
+        Err(_) => Err(Refusal::WRITE),
+    }
+}
+
+/// The SFDP bytes of a chip's file, none of a uniform chip, and notes which file it is.
+fn read_sfdp<R: Files>(
+    rt: &R,
+    alloc: Global,
+    chip: Chip<'_>,
+    places: &mut Vec<Place>,
+) -> Result<Vec<u8>, Refusal> {
+    match chip {
+        Chip::Sfdp { file, bits: _ } => {
+            let (bytes, place) = read_whole(rt, alloc, file, FileName::Sfdp)?;
+            places.push(place)?;
+            Ok(bytes)
+        }
+        Chip::Uniform(_) => Ok(Vec::new(alloc)),
+    }
+}
+
+/// Plays the script on the chip of a request.
+fn play_texts<R: ByteIn, W: ByteOut>(
+    alloc: Global,
+    request: RunRequest<'_>,
+    texts: &Texts,
+    content: &mut R,
+    len: u64,
+    out: &mut W,
+) -> Result<Verdict, Refusal>
+    requires limit { 0 < request.bench.limit }
+    requires reader { R.count content.old < 2 ^ 64 - 1 }
+    requires writer { W.count out.old < 2 ^ 64 - 1 }
+{
+    let chip = match request.chip {
+        Chip::Sfdp { file: _, bits } => Source::Sfdp {
+            bytes: texts.sfdp.as_slice(),
+            bits,
+        },
+        Chip::Uniform(size) => Source::Uniform(size),
+    };
+    let inputs = Inputs {
+        hex: &[],
+        layout: None,
+        regions: &[],
+        chip,
+        part: request.part,
+        status: request.status,
+        mode4: request.mode4,
+        quad: request.quad,
+        base: 0,
+        verify: false,
+        erased_only: request.erased_only,
+    };
+    let script = texts.script.as_slice();
+    play_script(alloc, &inputs, request.bench, script, content, len, out)
+}
