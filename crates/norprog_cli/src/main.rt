@@ -1,18 +1,21 @@
-//! The command line of norprog: `norprog build` writes the script that programs a chip, `norprog sfdp` prints what a chip's
-//! tables mean.
+//! The command line of norprog: `norprog build` writes the script that programs a chip, `norprog plan` prints what that
+//! would erase and program, `norprog check` says whether a script does a job, `norprog run` plays one on a chip in memory,
+//! `norprog sfdp` prints what a chip's tables mean.
 //!
-//! The options are read here; [`norprog_command::answer`] and [`norprog_command::show`] do the work behind them.
+//! The options are read here; the crates `norprog_command` and `norprog_run` do the work behind them.
 #![tactic(auto)]
 
 ghost use Rattle.std.specs.Prelude.{◌≡◌, ◌<◌, ◌≤◌, ◌-◌, ◌^◌};
-ghost use Rattle.norprog_command.specs.Lines.{Tells};
+ghost use Rattle.norprog_cli.specs.Answers.{Answers};
 
+mod arguments;
 mod options;
 #[cfg(test)]
 mod tests;
 
 use nor_base::{ByteOut, IntoWrite};
-use norprog_command::{Refusal, answer, refuse, show};
+use norprog_command::{Refusal, answer, judge, outline, refuse, show};
+use norprog_run::run;
 use options::{Asked, asked_by};
 use std::alloc::AllocGlobal;
 use std::fs::Files;
@@ -43,7 +46,8 @@ fn words_of(rt: &HostRuntime) -> Result<Vec<String>, Refusal> {
 }
 
 /// Runs the command that the words spell, the program's name not among them. It opens the files that they name, writes
-/// what goes to standard output to `out` and a refusal to `err`, and answers the status: 0 done, 1 refused, 2 usage.
+/// what goes to standard output to `out` and a refusal to `err`, and answers the status: 0 done, 1 refused or a script that
+/// goes wrong or doesn't do its job, 2 usage.
 fn command<O: ByteOut, E: ByteOut>(
     rt: &(impl Files + AllocGlobal),
     words: Vec<String>,
@@ -55,10 +59,13 @@ fn command<O: ByteOut, E: ByteOut>(
     ensures status { result ≤ 2 }
     ensures quiet { result ≡ 0 → err.new ≡ err.old }
     ensures told { 0 < result → E.count err.new ≡ E.count err.old
-        → Tells (E.held err.old) (E.held err.new) result }
+        → Answers (O.held out.old) (O.held out.new) (E.held err.old) (E.held err.new) result }
 {
     match asked_by(rt.alloc(), words.as_slice()) {
         Ok(Asked::Build(given)) => answer(rt, Ok(given), out, err),
+        Ok(Asked::Plan(given)) => outline(rt, Ok(given), out, err),
+        Ok(Asked::Check(given)) => judge(rt, Ok(given), out, err),
+        Ok(Asked::Run(given)) => run(rt, Ok(given), out, err),
         Ok(Asked::Sfdp(given)) => show(rt, Ok(given), out, err),
         Err(refusal) => answer(rt, Err(refusal), out, err),
     }

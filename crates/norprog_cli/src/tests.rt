@@ -9,17 +9,36 @@ use std::process::Abort;
 use std::test::Fail;
 
 /// Command lines that the command line library answers, and a part of its text.
-static HELPS: [(&str, &str); 12] = [
+static HELPS: [(&str, &str); 19] = [
     ("", "Usage: norprog <COMMAND>"),
     ("--help", "Usage: norprog <COMMAND>"),
     ("burn", "Usage: norprog <COMMAND>"),
-    ("--version", "Usage: norprog <COMMAND>"),
+    ("--version", "norprog 0.1.0\n"),
+    ("--help", "Prints what build would erase, why, and program"),
     (
         "build --help",
         "Usage: norprog build [OPTIONS] --hex <F> --content <F> --out <F> [REGIONS]...",
     ),
     ("help build", "--uniform <N>"),
+    ("build --help", "Example: norprog build --hex app.hex"),
+    (
+        "plan --help",
+        "Usage: norprog plan [OPTIONS] --hex <F> --content <F> [REGIONS]...",
+    ),
+    (
+        "check --help",
+        "Usage: norprog check [OPTIONS] --hex <F> --content <F> --script <F> [REGIONS]...",
+    ),
+    (
+        "run --help",
+        "Usage: norprog run [OPTIONS] --content <F> --script <F>",
+    ),
+    ("run --uniform 8192 --content chip", "--script <F>"),
     ("sfdp --help", "Usage: norprog sfdp [OPTIONS]"),
+    (
+        "check --uniform 8192 --hex one --content chip --script job --verify",
+        "unexpected argument '--verify'",
+    ),
     (
         "sfdp --uniform 8192 --mode4",
         "unexpected argument '--mode4'",
@@ -69,30 +88,31 @@ fn tells(rt: &(impl Abort + Files + AllocGlobal), line: &str, part: &str) -> Res
 /// Each option's text goes to its field.
 fn fills_each_field(rt: &(impl Abort + AllocGlobal)) -> Result<(), Fail> {
     let line =
-        "build --hex a --layout b --sfdp c --uniform d --bits e --part f --status g --mode4 --quad --base h --content i --verify --out j k l";
+        "build --hex a --layout b --sfdp c --uniform d --bits e --part f --status g --mode4 --quad --erased-only --base h --content i --verify --out j k l";
     let words = words(rt, line)?;
     let given = match asked_by(rt.alloc(), words.as_slice()) {
         Ok(Asked::Build(given)) => given,
         _ => return Err(Fail::from("no build")),
     };
     let texts = [
-        given.hex,
-        given.layout,
-        given.sfdp,
-        given.uniform,
-        given.bits,
-        given.part,
-        given.status,
-        given.base,
-        given.content,
+        given.job.hex,
+        given.job.layout,
+        given.job.sfdp,
+        given.job.uniform,
+        given.job.bits,
+        given.job.part,
+        given.job.status,
+        given.job.base,
+        given.job.content,
         given.out,
     ];
     let wants = ["a", "b", "c", "d", "e", "f", "g", "h", "i", "j"];
     for (text, want) in texts.into_iter().zip(wants) {
         assert_eq!(rt; text, Some(want));
     }
-    assert!(rt; given.mode4 && given.quad && given.verify);
-    assert_eq!(rt; given.regions.len(), 2);
+    let job = given.job;
+    assert!(rt; job.mode4 && job.quad && job.verify && job.erased_only);
+    assert_eq!(rt; job.regions.len(), 2);
     Ok(())
 }
 
@@ -101,6 +121,11 @@ fn reads_the_options(rt: HostRuntime) -> Result<(), Fail> {
     fills_each_field(&rt)?;
     tells(&rt, "sfdp --uniform 8192 --part w25q", "norprog: usage\n")?;
     tells(&rt, "sfdp --part generic", "norprog: usage\n")?;
+    tells(
+        &rt,
+        "run --uniform 8192 --content chip --script job --limit 0",
+        "norprog: usage\n",
+    )?;
     // an empty option is there
     tells(
         &rt,

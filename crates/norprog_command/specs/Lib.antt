@@ -2,3 +2,4 @@ pub mod Values
 pub mod Chip
 pub mod Request
 pub mod Lines
+pub mod Verdicts

@@ -1,7 +1,7 @@
 //! Command lines as changes of one that builds a job of one byte, and what they are answered.
 
 use nor_base::{Bytes, IntoWrite};
-use norprog_command::{Given, answer};
+use norprog_command::{Given, GivenBuild, GivenCheck, answer, judge, outline};
 use std::alloc::{AllocGlobal, Global};
 use std::fs::{self, Files};
 use std::test::Fail;
@@ -18,13 +18,45 @@ pub(crate) struct Answer {
     pub(crate) err: String,
 }
 
-/// Answers the command line of the job of one byte with these changes.
+/// Answers the command line `build` of the job of one byte with these changes.
 pub(crate) fn answer_of(rt: &(impl Files + AllocGlobal), changes: &str) -> Result<Answer, Fail> {
     let alloc = rt.alloc();
     let mut out = IntoWrite::new(Vec::new(alloc));
     let mut err = IntoWrite::new(Vec::new(alloc));
     let given = given(alloc, changes)?;
     let status = answer(rt, Ok(given), &mut out, &mut err);
+    Ok(Answer {
+        status,
+        out: text(out.into_inner())?,
+        err: text(err.into_inner())?,
+    })
+}
+
+/// Answers the command line `plan` of that job.
+pub(crate) fn plan_of(rt: &(impl Files + AllocGlobal), changes: &str) -> Result<Answer, Fail> {
+    let alloc = rt.alloc();
+    let mut out = IntoWrite::new(Vec::new(alloc));
+    let mut err = IntoWrite::new(Vec::new(alloc));
+    let given = given(alloc, changes)?;
+    let status = outline(rt, Ok(given.job), &mut out, &mut err);
+    Ok(Answer {
+        status,
+        out: text(out.into_inner())?,
+        err: text(err.into_inner())?,
+    })
+}
+
+/// Answers the command line `check` of that job, where `out` names the script.
+pub(crate) fn check_of(rt: &(impl Files + AllocGlobal), changes: &str) -> Result<Answer, Fail> {
+    let alloc = rt.alloc();
+    let mut out = IntoWrite::new(Vec::new(alloc));
+    let mut err = IntoWrite::new(Vec::new(alloc));
+    let given = given(alloc, changes)?;
+    let given = GivenCheck {
+        job: given.job,
+        script: given.out,
+    };
+    let status = judge(rt, Ok(given), &mut out, &mut err);
     Ok(Answer {
         status,
         out: text(out.into_inner())?,
@@ -41,8 +73,8 @@ pub(crate) fn text(bytes: Vec<u8>) -> Result<String, Fail> {
 
 /// `--hex one --uniform 8192 --content chip --out job` with changes between blanks: `name=value` gives an option,
 /// `no-uniform` takes that one away, `region=name` names a region, any other word sets a flag.
-pub(crate) fn given<'a>(alloc: Global, changes: &'a str) -> Result<Given<'a>, Fail> {
-    let mut given = Given {
+pub(crate) fn given<'a>(alloc: Global, changes: &'a str) -> Result<GivenBuild<'a>, Fail> {
+    let job = Given {
         hex: Some("one"),
         layout: None,
         sfdp: None,
@@ -56,8 +88,11 @@ pub(crate) fn given<'a>(alloc: Global, changes: &'a str) -> Result<Given<'a>, Fa
         content: Some("chip"),
         verify: false,
         erased_only: false,
-        out: Some("job"),
         regions: Vec::new(alloc),
+    };
+    let mut given = GivenBuild {
+        job,
+        out: Some("job"),
     };
     for word in changes.split_whitespace() {
         change(alloc, &mut given, word)?;
@@ -66,30 +101,30 @@ pub(crate) fn given<'a>(alloc: Global, changes: &'a str) -> Result<Given<'a>, Fa
 }
 
 /// Makes one change.
-fn change<'a>(alloc: Global, given: &mut Given<'a>, word: &'a str) -> Result<(), Fail> {
+fn change<'a>(alloc: Global, given: &mut GivenBuild<'a>, word: &'a str) -> Result<(), Fail> {
     let (name, value) = match word.split_once("=") {
         Some((name, value)) => (name, Some(value)),
         None => (word, None),
     };
     match name {
-        "hex" => given.hex = value,
-        "layout" => given.layout = value,
-        "sfdp" => given.sfdp = value,
-        "uniform" => given.uniform = value,
-        "no-uniform" => given.uniform = None,
-        "bits" => given.bits = value,
-        "part" => given.part = value,
-        "status" => given.status = value,
-        "mode4" => given.mode4 = true,
-        "quad" => given.quad = true,
-        "base" => given.base = value,
-        "content" => given.content = value,
-        "verify" => given.verify = true,
-        "erased-only" => given.erased_only = true,
+        "hex" => given.job.hex = value,
+        "layout" => given.job.layout = value,
+        "sfdp" => given.job.sfdp = value,
+        "uniform" => given.job.uniform = value,
+        "no-uniform" => given.job.uniform = None,
+        "bits" => given.job.bits = value,
+        "part" => given.job.part = value,
+        "status" => given.job.status = value,
+        "mode4" => given.job.mode4 = true,
+        "quad" => given.job.quad = true,
+        "base" => given.job.base = value,
+        "content" => given.job.content = value,
+        "verify" => given.job.verify = true,
+        "erased-only" => given.job.erased_only = true,
         "out" => given.out = value,
         "region" => {
             let name = Vec::from_slice(alloc, value.unwrap_or("").as_bytes())?;
-            given.regions.push(Bytes::new(name))?;
+            given.job.regions.push(Bytes::new(name))?;
         }
         _ => return Err(Fail::from("no option")),
     }

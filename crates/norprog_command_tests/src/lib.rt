@@ -2,10 +2,14 @@
 #![tactic(auto)]
 
 #[cfg(test)]
+mod checks;
+#[cfg(test)]
 mod chips;
 #[cfg(test)]
 mod files;
 #[cfg(test)]
 mod jobs;
+#[cfg(test)]
+mod plans;
 #[cfg(test)]
 mod refusals;

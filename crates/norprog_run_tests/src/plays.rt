@@ -19,6 +19,14 @@ const NO_POLL: &str =
 const ONE_READ: &str =
     "norscript 1\nx 00000110\nx 0000001000000000000000000000000000000000\nx 00000101........\nend 3\n";
 
+/// SFDP bytes of a chip of 8 KiB whose page is only known to be 64 bytes or larger.
+const OPEN_PAGE: [u8; 80] = [
+    0x53, 0x46, 0x44, 0x50, 0x06, 0x01, 0x00, 0xFF, 0x00, 0x06, 0x01, 0x09, 0x10, 0x00, 0x00, 0xFF,
+    0x05, 0x20, 0x00, 0x00, 0xFF, 0xFF, 0x00, 0x00, 0, 0, 0, 0, 0, 0, 0, 0, 0, 0, 0, 0, 0, 0, 0, 0,
+    0, 0, 0, 0, 0x0C, 0x20, 0x00, 0xFF, 0x00, 0xFF, 0x00, 0xFF, 0, 0, 0, 0, 0x80, 0, 0, 0, 0, 0, 0,
+    0, 0, 0, 0, 0, 0, 0, 0, 0, 0, 0, 0, 0, 0, 0, 0, 0,
+];
+
 /// What a command line was answered, and what was written.
 #[derive(Drop, Debug)]
 pub(crate) struct Answer {
@@ -115,6 +123,18 @@ pub(crate) fn write_files(rt: &(impl Files + AllocGlobal)) -> Result<(), Fail> {
     fs::write(rt, "one-read", ONE_READ)?;
     fs::write(rt, "nothing", "norscript 1\nend 0\n")?;
     fs::write(rt, "seven", "norscript 1\nx 0000011\nend 1\n")?;
+    fs::write(rt, "nine", "norscript 1\nx 000001101\nend 1\n")?;
+    fs::write(
+        rt,
+        "short-data",
+        "norscript 1\nx 00000110\nx 000000100000000000000000000000000000000\nend 2\n",
+    )?;
+    fs::write(
+        rt,
+        "beyond",
+        "norscript 1\nx 00000110\nx 0000001000000000001000000000000000000000\nend 2\n",
+    )?;
+    fs::write(rt, "open", &OPEN_PAGE)?;
     fs::write(
         rt,
         "no-latch",
@@ -124,7 +144,7 @@ pub(crate) fn write_files(rt: &(impl Files + AllocGlobal)) -> Result<(), Fail> {
 }
 
 /// Changes, the line that is printed, and the status.
-static ANSWERS: [(&str, &str, u8); 16] = [
+static ANSWERS: [(&str, &str, u8); 20] = [
     ("", "ok 3", 0),
     ("script=nothing", "ok 0", 0),
     ("busy=2", "ok 5", 0),
@@ -140,6 +160,10 @@ static ANSWERS: [(&str, &str, u8); 16] = [
     ("script=one-read busy=2", "wrong 7 at 3", 1),
     ("script=seven", "wrong 2 at 0", 1),
     ("script=no-latch", "wrong 1 at 0", 1),
+    ("script=nine", "wrong 1 at 0", 1),
+    ("script=short-data", "wrong 1 at 1", 1),
+    ("script=beyond", "wrong 4 at 1", 1),
+    ("no-uniform sfdp=open page=128", "ok 3", 0),
     ("uniform=008192 part=generic erased-only", "ok 3", 0),
 ];
 

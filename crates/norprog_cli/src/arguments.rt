@@ -1,0 +1,188 @@
+//! The commands and their options, with help.
+
+use clap::{Arg, ArgAction, Command};
+use std::alloc::{AllocError, Global};
+
+const VERSION: &str = "0.1.0";
+
+const BUILD_EXAMPLE: &str =
+    "Example: norprog build --hex app.hex --base 8000000 --uniform 8192 --content now.bin --out app.script";
+
+const PLAN_EXAMPLE: &str =
+    "Example: norprog plan --hex app.hex --base 8000000 --uniform 8192 --content now.bin";
+
+const CHECK_EXAMPLE: &str =
+    "Example: norprog check --hex app.hex --base 8000000 --uniform 8192 --content now.bin --script app.script";
+
+const RUN_EXAMPLE: &str =
+    "Example: norprog run --uniform 8192 --content now.bin --script app.script --busy 1,2 --out after.bin";
+
+const SFDP_EXAMPLE: &str = "Example: norprog sfdp --sfdp /sys/bus/spi/devices/spi0.0/spi-nor/sfdp";
+
+/// The program's commands.
+pub(crate) fn norprog<'a>(alloc: Global) -> Result<Command<'a>, AllocError> {
+    Command::new(alloc, "norprog")
+        .bin_name("norprog")?
+        .about("Programs a SPI NOR flash chip by a bus script")
+        .no_binary_name(true)
+        .subcommand_required(true)
+        .version(VERSION)
+        .subcommand(build(alloc)?)?
+        .subcommand(plan(alloc)?)?
+        .subcommand(check(alloc)?)?
+        .subcommand(run(alloc)?)?
+        .subcommand(sfdp(alloc)?)
+}
+
+fn build<'a>(alloc: Global) -> Result<Command<'a>, AllocError> {
+    let command = Command::new(alloc, "build")
+        .about("Writes the script that programs the chip, and prints a report of it")
+        .after_help(BUILD_EXAMPLE);
+    let out = "The script; what the file held is replaced. It can't be one of the inputs";
+    with_verify(alloc, with_job(alloc, command)?)?.arg(file(alloc, "out", out).required(true))
+}
+
+fn plan<'a>(alloc: Global) -> Result<Command<'a>, AllocError> {
+    let command = Command::new(alloc, "plan")
+        .about("Prints what build would erase, why, and program, and then its report")
+        .after_help(PLAN_EXAMPLE);
+    with_verify(alloc, with_job(alloc, command)?)
+}
+
+fn check<'a>(alloc: Global) -> Result<Command<'a>, AllocError> {
+    let command = Command::new(alloc, "check")
+        .about("Says whether a script, from anybody, does the job on every such chip")
+        .after_help(CHECK_EXAMPLE);
+    with_job(alloc, command)?.arg(script(alloc))
+}
+
+fn run<'a>(alloc: Global) -> Result<Command<'a>, AllocError> {
+    let command = Command::new(alloc, "run")
+        .about("Plays a script on such a chip in memory, and says how it ends")
+        .after_help(RUN_EXAMPLE);
+    let command = with_state(alloc, with_chip(alloc, command)?)?;
+    let out = "What the chip holds afterwards [default: not written]";
+    with_bench(alloc, command.arg(script(alloc))?)?.arg(file(alloc, "out", out))
+}
+
+fn sfdp<'a>(alloc: Global) -> Result<Command<'a>, AllocError> {
+    let command = Command::new(alloc, "sfdp")
+        .about("Prints what the chip's SFDP tables mean")
+        .after_help(SFDP_EXAMPLE);
+    with_chip(alloc, command)
+}
+
+/// The options that say what the job is.
+fn with_job<'a>(alloc: Global, command: Command<'a>) -> Result<Command<'a>, AllocError> {
+    with_state(alloc, with_chip(alloc, with_image(alloc, command)?)?)
+}
+
+/// The options that say what is to stand on the chip.
+fn with_image<'a>(alloc: Global, command: Command<'a>) -> Result<Command<'a>, AllocError> {
+    let hex = file(alloc, "hex", "The image, an Intel HEX file");
+    let layout = "A flashrom layout file, needed to name REGIONS [default: none]";
+    let base =
+        "The image's address that goes to chip address 0: 1 to 8 hexadecimal digits [default: 0]";
+    let regions = "The layout's regions to program, by name [default: the whole chip]";
+    command
+        .arg(hex.required(true))?
+        .arg(file(alloc, "layout", layout))?
+        .arg(value(alloc, "base", "H", base))?
+        .arg(
+            Arg::new(alloc, "regions")
+                .value_name("REGIONS")
+                .num_args(0..)
+                .action(ArgAction::Append)
+                .help(regions),
+        )
+}
+
+/// The options that say which chip it is.
+fn with_chip<'a>(alloc: Global, command: Command<'a>) -> Result<Command<'a>, AllocError> {
+    let sfdp = "The chip's SFDP bytes, a binary file; this or --uniform";
+    let uniform =
+        "A chip of N bytes without SFDP, with 4 KiB sectors: a decimal multiple of 4096 up to 16777216";
+    let bits =
+        "Configuration bits of the SFDP sector map, 0 or 1 each; not with --uniform [default: none]";
+    let part = "The chip's family: generic or w25q256jv [default: generic]";
+    command
+        .arg(file(alloc, "sfdp", sfdp))?
+        .arg(value(alloc, "uniform", "N", uniform))?
+        .arg(value(alloc, "bits", "T", bits))?
+        .arg(value(alloc, "part", "P", part))
+}
+
+/// The options that say how the chip stands.
+fn with_state<'a>(alloc: Global, command: Command<'a>) -> Result<Command<'a>, AllocError> {
+    let content = file(
+        alloc,
+        "content",
+        "What the chip holds now, a binary file of the chip's size in bytes",
+    );
+    let status = "Status bits S23 to S0 of a w25q256jv: six hexadecimal digits [default: not read]";
+    command
+        .arg(content.required(true))?
+        .arg(value(alloc, "status", "H", status))?
+        .arg(flag(
+            alloc,
+            "mode4",
+            "The chip is in four-byte address mode [default: it isn't]",
+        ))?
+        .arg(flag(
+            alloc,
+            "quad",
+            "The chip's quad enable bit is set [default: it isn't]",
+        ))?
+        .arg(flag(
+            alloc,
+            "erased-only",
+            "Program erased bytes alone, as some chips ask for it [default: no]",
+        ))
+}
+
+/// The options that say how the chip in memory behaves.
+fn with_bench<'a>(alloc: Global, command: Command<'a>) -> Result<Command<'a>, AllocError> {
+    let busy =
+        "For how many status reads each program or erase is busy, in turn: decimal numbers joined by commas [default: none]";
+    let keep = "A change of mode leaves the write enable latch set [default: it clears it]";
+    let limit = "How often a poll is tried at most: a decimal number from 1 [default: 1000000]";
+    let page = "Bytes of a page: a decimal number [default: what the chip says]";
+    command
+        .arg(value(alloc, "busy", "L", busy))?
+        .arg(flag(alloc, "keep", keep))?
+        .arg(value(alloc, "limit", "N", limit))?
+        .arg(value(alloc, "page", "N", page))
+}
+
+/// Whether what is written is read back.
+fn with_verify<'a>(alloc: Global, command: Command<'a>) -> Result<Command<'a>, AllocError> {
+    let verify = "Read back each byte that is written [default: no]";
+    command.arg(flag(alloc, "verify", verify))
+}
+
+/// The script's file.
+fn script<'a>(alloc: Global) -> Arg<'a> {
+    file(alloc, "script", "The script, a text file").required(true)
+}
+
+/// An option whose value is a file's name.
+fn file<'a>(alloc: Global, name: &'a str, help: &'a str) -> Arg<'a> {
+    value(alloc, name, "F", help)
+}
+
+/// An option with a value.
+fn value<'a>(alloc: Global, name: &'a str, value_name: &'a str, help: &'a str) -> Arg<'a> {
+    Arg::new(alloc, name)
+        .long(name)
+        .value_name(value_name)
+        .action(ArgAction::Set)
+        .help(help)
+}
+
+/// An option without a value.
+fn flag<'a>(alloc: Global, name: &'a str, help: &'a str) -> Arg<'a> {
+    Arg::new(alloc, name)
+        .long(name)
+        .action(ArgAction::SetTrue)
+        .help(help)
+}
