@@ -25,7 +25,8 @@ pub(crate) fn put_reasons<W: ByteOut>(
     requires count { length want.now ≡ block.size }
     requires block { MayErase meaning.now strategy block }
     requires room { W.count out.old < 2 ^ 64 - 1 }
-    ensures bytes { Writes (W.held out.old) (W.held out.new) result (reasons meaning.now (due_in meaning.now have.now want.now block.start) block.start block.size) }
+    ensures bytes { Writes (W.held out.old) (W.held out.new) result
+        (reasons meaning.now (due_in meaning.now have.now want.now block.start) block.start block.size) }
     ensures count { Counts (W.count out.old) (W.count out.new) result }
 {
     meaning.is_accepted();
@@ -55,7 +56,8 @@ fn put_reason<W: ByteOut>(
     requires lengths { length have.now ≡ length want.now }
     requires inside { start + length have.now ≤ meaning.now.size }
     requires room { W.count out.old < 2 ^ 64 - 1 }
-    ensures bytes { Writes (W.held out.old) (W.held out.new) result (reason (due_in meaning.now have.now want.now start) start (length have.now)) }
+    ensures bytes { Writes (W.held out.old) (W.held out.new) result
+        (reason (due_in meaning.now have.now want.now start) start (length have.now)) }
     ensures count { Counts (W.count out.old) (W.count out.new) result }
 {
     match first_due(meaning, start, have, want) {

@@ -36,7 +36,8 @@ pub fn write_unit<W: ByteOut>(
     requires planned { IsPlanned meaning.now strategy unit.now (length want.now) }
     requires runs { AreBetween (unit_start unit.now) (unit_start unit.now + length want.now) (length want.now) runs.now }
     requires room { W.count out.old < 2 ^ 64 - 1 }
-    ensures bytes { (text : List ℕ) × IsOutline meaning.now strategy unit.now runs.now have.now want.now text × Writes (W.held out.old) (W.held out.new) result text }
+    ensures bytes { (text : List ℕ) × IsOutline meaning.now strategy unit.now runs.now have.now want.now text
+        × Writes (W.held out.old) (W.held out.new) result text }
     ensures count { Counts (W.count out.old) (W.count out.new) result }
 {
     meaning.is_accepted();

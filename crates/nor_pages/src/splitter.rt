@@ -23,7 +23,8 @@ pub fn split(
     requires lengths { length have.now ≡ length want.now }
     requires unit { IsUnit meaning.now unit.now (length want.now) }
     ensures split { IfOk result (λ runs. IsSplit meaning.now unit.now have.now want.now runs.items) }
-    ensures within { IfOk result (λ runs. AreBetween (unit_start unit.now) (unit_start unit.now + length want.now) (length want.now) runs.items) }
+    ensures within { IfOk result (λ runs.
+        AreBetween (unit_start unit.now) (unit_start unit.now + length want.now) (length want.now) runs.items) }
 {
     meaning.is_accepted();
     match unit {

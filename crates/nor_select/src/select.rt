@@ -48,7 +48,8 @@ fn append_change<'a, A: Allocator>(
     instrs: &mut Vec<Instr<'a>, A>,
     change: Instr<'a>,
 ) -> Result<(), AllocError>
-    ensures { IfOk result (λ _. map coded_of instrs.new.items ≡ map coded_of instrs.old.items ++ (coded enable ∷ coded_of change.entry ∷ coded poll ∷ [])) }
+    ensures { IfOk result (λ _. map coded_of instrs.new.items
+        ≡ map coded_of instrs.old.items ++ (coded enable ∷ coded_of change.entry ∷ coded poll ∷ [])) }
 {
     instrs.push(Instr::bare(ENABLE))?;
     instrs.push(change)?;

@@ -2,6 +2,10 @@
 
 use crate::bytes::{LARGE, ONE_MAP, SAME, SMALL, changed, mapped};
 use nor_base::Part;
+use nor_sfdp::SfdpFault::{
+    AddressBytes, ConfigBits, Density, EraseSize, Major, MapForm, MapSize, NoBasic, NoMap,
+    PageSize, ShortTable, Signature, Truncated,
+};
 use nor_sfdp::{SfdpFault, read};
 use std::test::Fail;
 
@@ -48,67 +52,22 @@ fn two_causes(rt: HostRuntime) -> Result<(), Fail> {
             SMALL.as_slice(),
             [(0, 0x00), (6, 0xFF), SAME],
             "",
-            SfdpFault::Signature,
+            Signature,
         ),
-        (
-            &SMALL,
-            [(6, 0xFF), (5, 0x02), SAME],
-            "",
-            SfdpFault::Truncated,
-        ),
-        (&SMALL, [(5, 0x02), (8, 0x01), SAME], "", SfdpFault::Major),
-        (
-            &LARGE,
-            [(8, 0x01), (19, 0x01), SAME],
-            "",
-            SfdpFault::NoBasic,
-        ),
-        (
-            &LARGE,
-            [(19, 0x01), (12, 0xFF), SAME],
-            "",
-            SfdpFault::ShortTable,
-        ),
-        (
-            &SMALL,
-            [(11, 0x08), (12, 0x60), SAME],
-            "",
-            SfdpFault::ShortTable,
-        ),
-        (
-            &map,
-            [(20, 0xFF), (31, 0x80), SAME],
-            "",
-            SfdpFault::Truncated,
-        ),
-        (
-            &SMALL,
-            [(23, 0x80), (18, 0x06), SAME],
-            "",
-            SfdpFault::Density,
-        ),
-        (
-            &SMALL,
-            [(18, 0x06), (56, 0xD0), SAME],
-            "",
-            SfdpFault::AddressBytes,
-        ),
-        (
-            &SMALL,
-            [(56, 0xD0), (44, 0x07), SAME],
-            "",
-            SfdpFault::PageSize,
-        ),
-        (
-            &map,
-            [(52, 0x07), (19, 0x02), SAME],
-            "",
-            SfdpFault::EraseSize,
-        ),
-        (&map, [(19, 0x02), SAME, SAME], "0", SfdpFault::MapForm),
-        (&map, [(89, 0x01), SAME, SAME], "0", SfdpFault::ConfigBits),
-        (&map, [(89, 0x01), (97, 0xEE), SAME], "", SfdpFault::NoMap),
-        (&map, [(97, 0xEE), (53, 0x02), SAME], "", SfdpFault::MapSize),
+        (&SMALL, [(6, 0xFF), (5, 0x02), SAME], "", Truncated),
+        (&SMALL, [(5, 0x02), (8, 0x01), SAME], "", Major),
+        (&LARGE, [(8, 0x01), (19, 0x01), SAME], "", NoBasic),
+        (&LARGE, [(19, 0x01), (12, 0xFF), SAME], "", ShortTable),
+        (&SMALL, [(11, 0x08), (12, 0x60), SAME], "", ShortTable),
+        (&map, [(20, 0xFF), (31, 0x80), SAME], "", Truncated),
+        (&SMALL, [(23, 0x80), (18, 0x06), SAME], "", Density),
+        (&SMALL, [(18, 0x06), (56, 0xD0), SAME], "", AddressBytes),
+        (&SMALL, [(56, 0xD0), (44, 0x07), SAME], "", PageSize),
+        (&map, [(52, 0x07), (19, 0x02), SAME], "", EraseSize),
+        (&map, [(19, 0x02), SAME, SAME], "0", MapForm),
+        (&map, [(89, 0x01), SAME, SAME], "0", ConfigBits),
+        (&map, [(89, 0x01), (97, 0xEE), SAME], "", NoMap),
+        (&map, [(97, 0xEE), (53, 0x02), SAME], "", MapSize),
     ];
     for (bytes, changes, config, fault) in table {
         let bytes = changed(alloc, bytes, changes)?;

@@ -116,8 +116,10 @@ fn tell_chip<R: ByteIn, W: ByteOut>(
     requires first { writer.old ≡ first_writing job.now }
     requires reader { R.count content.old < 2 ^ 64 - 1 }
     requires out { W.count out.old < 2 ^ 64 - 1 }
-    ensures done { IfOk result (IsToldUpTo job.now writer.new job.now.meaning.size (R.ahead content.old) (R.ahead content.new) (W.held out.old) (W.held out.new)) }
-    ensures cut { IfErr result (IsCutPlan job.now (length have.old) (R.ahead content.old) (R.ahead content.new) (W.held out.old) (W.held out.new)) }
+    ensures done { IfOk result (IsToldUpTo job.now writer.new job.now.meaning.size
+        (R.ahead content.old) (R.ahead content.new) (W.held out.old) (W.held out.new)) }
+    ensures cut { IfErr result (IsCutPlan job.now (length have.old)
+        (R.ahead content.old) (R.ahead content.new) (W.held out.old) (W.held out.new)) }
     ensures reads { CountsReader (R.count content.old) (R.count content.new) result }
     ensures writes { CountsWriter (W.count out.old) (W.count out.new) result }
 {
@@ -162,8 +164,10 @@ fn tell_window<R: ByteIn, W: ByteOut>(
     requires inside { at + length have.old ≤ 2 ^ 32 }
     requires reader { R.count content.old < 2 ^ 64 - 1 }
     requires out { W.count out.old < 2 ^ 64 - 1 }
-    ensures told { IfOk result (ToldWindow job.now writer.old writer.new at (length have.old) (R.ahead content.old) (R.ahead content.new) (W.held out.old) (W.held out.new)) }
-    ensures stopped { IfErr result (StopsPlanWindow job.now at (length have.old) (R.ahead content.old) (R.ahead content.new) (W.held out.old) (W.held out.new)) }
+    ensures told { IfOk result (ToldWindow job.now writer.old writer.new at (length have.old)
+        (R.ahead content.old) (R.ahead content.new) (W.held out.old) (W.held out.new)) }
+    ensures stopped { IfErr result (StopsPlanWindow job.now at (length have.old)
+        (R.ahead content.old) (R.ahead content.new) (W.held out.old) (W.held out.new)) }
     ensures reads { CountsReader (R.count content.old) (R.count content.new) result }
     ensures writes { CountsWriter (W.count out.old) (W.count out.new) result }
 {

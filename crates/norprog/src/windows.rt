@@ -34,8 +34,10 @@ pub(crate) fn write_chip<R: ByteIn, W: ByteOut>(
     requires first { writer.old ≡ first_writing job.now }
     requires reader { R.count content.old < 2 ^ 64 - 1 }
     requires out { W.count out.old < 2 ^ 64 - 1 }
-    ensures done { IfOk result (IsDone job.now writer.new job.now.meaning.size (R.ahead content.old) (R.ahead content.new) (W.held out.old) (W.held out.new)) }
-    ensures cut { IfErr result (IsCut job.now (length have.old) (R.ahead content.old) (R.ahead content.new) (W.held out.old) (W.held out.new)) }
+    ensures done { IfOk result (IsDone job.now writer.new job.now.meaning.size
+        (R.ahead content.old) (R.ahead content.new) (W.held out.old) (W.held out.new)) }
+    ensures cut { IfErr result (IsCut job.now (length have.old)
+        (R.ahead content.old) (R.ahead content.new) (W.held out.old) (W.held out.new)) }
     ensures reads { CountsReader (R.count content.old) (R.count content.new) result }
     ensures writes { CountsWriter (W.count out.old) (W.count out.new) result }
 {
@@ -78,8 +80,10 @@ fn write_window<R: ByteIn, W: ByteOut>(
     requires inside { at + length have.old ≤ 2 ^ 32 }
     requires reader { R.count content.old < 2 ^ 64 - 1 }
     requires out { W.count out.old < 2 ^ 64 - 1 }
-    ensures wrote { IfOk result (WroteWindow job.now writer.old writer.new at (length have.old) (R.ahead content.old) (R.ahead content.new) (W.held out.old) (W.held out.new)) }
-    ensures stopped { IfErr result (StopsWindow job.now writer.old at (length have.old) (R.ahead content.old) (R.ahead content.new) (W.held out.old) (W.held out.new)) }
+    ensures wrote { IfOk result (WroteWindow job.now writer.old writer.new at (length have.old)
+        (R.ahead content.old) (R.ahead content.new) (W.held out.old) (W.held out.new)) }
+    ensures stopped { IfErr result (StopsWindow job.now writer.old at (length have.old)
+        (R.ahead content.old) (R.ahead content.new) (W.held out.old) (W.held out.new)) }
     ensures reads { CountsReader (R.count content.old) (R.count content.new) result }
     ensures writes { CountsWriter (W.count out.old) (W.count out.new) result }
 {

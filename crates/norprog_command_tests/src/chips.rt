@@ -48,72 +48,39 @@ fn prints(
     Ok(())
 }
 
+/// A chip by its tables in a file.
+fn tables(file: &'static str) -> GivenChip<'static> {
+    let sfdp = Some(file);
+    GivenChip { sfdp, ..NONE }
+}
+
+/// A chip by its size.
+fn sized(size: &'static str) -> GivenChip<'static> {
+    let uniform = Some(size);
+    GivenChip { uniform, ..NONE }
+}
+
+/// The same with configuration bits.
+fn with_bits(chip: GivenChip<'static>, bits: &'static str) -> GivenChip<'static> {
+    let bits = Some(bits);
+    GivenChip { bits, ..chip }
+}
+
 #[test]
 fn prints_a_chip(rt: HostRuntime) -> Result<(), Fail> {
     fs::write(&rt, "large.sfdp", &LARGE)?;
     fs::write(&rt, "short.sfdp", &LARGE[..95])?;
-    let large = GivenChip {
-        sfdp: Some("large.sfdp"),
-        ..NONE
-    };
-    let small = GivenChip {
-        uniform: Some("8192"),
-        ..NONE
-    };
+    let (large, small) = (tables("large.sfdp"), sized("8192"));
     let part = Some("w25q256jv");
+    let by_size = GivenChip { part, ..small };
     prints(&rt, large, LARGE_TEXT, 0)?;
     prints(&rt, GivenChip { part, ..large }, LARGE_TEXT, 0)?;
     prints(&rt, small, SMALL_TEXT, 0)?;
-    prints(
-        &rt,
-        GivenChip {
-            sfdp: Some("short.sfdp"),
-            ..NONE
-        },
-        "norprog: sfdp 2\n",
-        1,
-    )?;
-    prints(
-        &rt,
-        GivenChip {
-            bits: Some("0"),
-            ..large
-        },
-        "norprog: sfdp 11\n",
-        1,
-    )?;
-    prints(
-        &rt,
-        GivenChip {
-            uniform: Some("8193"),
-            ..NONE
-        },
-        "norprog: sfdp 6\n",
-        1,
-    )?;
-    prints(
-        &rt,
-        GivenChip { part, ..small },
-        "norprog: contradiction 4\n",
-        1,
-    )?;
-    prints(
-        &rt,
-        GivenChip {
-            sfdp: Some("none.sfdp"),
-            ..NONE
-        },
-        "norprog: file sfdp\n",
-        1,
-    )?;
-    prints(
-        &rt,
-        GivenChip {
-            bits: Some(""),
-            ..small
-        },
-        "norprog: usage\n",
-        2,
-    )?;
+    prints(&rt, tables("short.sfdp"), "norprog: sfdp 2\n", 1)?;
+    prints(&rt, with_bits(large, "0"), "norprog: sfdp 11\n", 1)?;
+    prints(&rt, sized("8193"), "norprog: sfdp 6\n", 1)?;
+    prints(&rt, by_size, "norprog: contradiction 4\n", 1)?;
+    prints(&rt, tables("none.sfdp"), "norprog: file sfdp\n", 1)?;
+    prints(&rt, with_bits(small, ""), "norprog: usage\n", 2)?;
     prints(&rt, NONE, "norprog: usage\n", 2)
 }

@@ -45,8 +45,10 @@ pub fn play_script<R: ByteIn, W: ByteOut>(
     requires limit { 0 < bench.limit }
     requires reader { R.count content.old < 2 ^ 64 - 1 }
     requires writer { W.count out.old < 2 ^ 64 - 1 }
-    ensures played { IfOk result (WasPlayed inputs.now bench script.now len (R.ahead content.old) (R.ahead content.new) (W.held out.old) (W.held out.new)) }
-    ensures refused { IfErr result (RefusesPlay inputs.now bench script.now len (R.ahead content.old) (R.ahead content.new) (W.held out.old) (W.held out.new)) }
+    ensures played { IfOk result (WasPlayed inputs.now bench script.now len
+        (R.ahead content.old) (R.ahead content.new) (W.held out.old) (W.held out.new)) }
+    ensures refused { IfErr result (RefusesPlay inputs.now bench script.now len
+        (R.ahead content.old) (R.ahead content.new) (W.held out.old) (W.held out.new)) }
     ensures unread { IfErr result (λ why. IsEarly why → content.new ≡ content.old) }
     ensures unwritten { IfErr result (λ why. why ≢ Build Write → out.new ≡ out.old) }
     ensures within { ReadsWithin len (R.ahead content.old) (R.ahead content.new) }
@@ -130,7 +132,8 @@ fn play_on<W: ByteOut>(
     requires page { may_page kind.now.meaning kind.now.page ≡ true }
     requires writer { W.count out.old < 2 ^ 64 - 1 }
     ensures played { IfOk result (λ verdict. (chip : ShownChip)
-        × EndsSo (kind_setting kind.now bench) (ready_chip (kind_setting kind.now bench) array.items).chip bench.limit steps.now verdict chip
+        × EndsSo (kind_setting kind.now bench) (ready_chip (kind_setting kind.now bench) array.items).chip
+            bench.limit steps.now verdict chip
         × Appends (W.held out.old) (W.held out.new) chip.array) }
     ensures stopped { IfErr result (StopsPlaying (kind_setting kind.now bench) (ready_chip (kind_setting kind.now bench) array.items).chip
         bench.limit steps.now (W.held out.old) (W.held out.new)) }
