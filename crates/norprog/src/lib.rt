@@ -7,6 +7,7 @@
 
 pub mod builder;
 mod chip_text;
+mod nowhere;
 pub mod planner;
 pub mod report;
 mod windows;
@@ -18,5 +19,6 @@ pub use nor_hex::HexFault;
 pub use nor_job::{BuildFault, Inputs, Source};
 pub use nor_layout::LayoutFault;
 pub use nor_sfdp::SfdpFault;
+pub use nowhere::Nowhere;
 pub use planner::plan;
 pub use report::{Report, write_report};

@@ -15,9 +15,10 @@ ghost use Rattle.norprog.specs.Windows.{first_writing};
 ghost use Rattle.norprog.specs.Written.{CountsReader, CountsWriter};
 
 use crate::builder::report_of;
+use crate::nowhere::Nowhere;
 use crate::report::Report;
 use crate::windows::{lifted, next_window};
-use nor_base::{ByteIn, ByteOut, Failed};
+use nor_base::{ByteIn, ByteOut};
 use nor_geometry::{strategy, window_size};
 use nor_job::{BuildFault, Inputs, Job, job_of};
 use nor_plan_lines::write_window;
@@ -88,7 +89,7 @@ fn tell_job<R: ByteIn, W: ByteOut>(
     let strategy = strategy(&job.meaning, &job.start);
     let mut writer = StepWriter::new(alloc, &job.meaning, &job.start, strategy, job.verify);
     let mut told = tell_chip(alloc, job, &mut have, &mut want, &mut writer, content, out)?;
-    match writer.close(alloc, &mut Sink) {
+    match writer.close(alloc, &mut Nowhere) {
         Ok(last) => told.steps += last,
         Err(fault) => return Err(lifted(fault)),
     }
@@ -172,7 +173,7 @@ fn tell_window<R: ByteIn, W: ByteOut>(
     ensures writes { CountsWriter (W.count out.old) (W.count out.new) result }
 {
     next_window(job, at, have, want, content)?;
-    let told = match writer.more(alloc, at, have, want, &mut Sink) {
+    let told = match writer.more(alloc, at, have, want, &mut Nowhere) {
         Ok(told) => told,
         Err(fault) => return Err(lifted(fault)),
     };
@@ -180,23 +181,5 @@ fn tell_window<R: ByteIn, W: ByteOut>(
     match write_window(alloc, &job.meaning, strategy, at, have, want, out) {
         Ok(()) => Ok(told),
         Err(fault) => Err(lifted(fault)),
-    }
-}
-
-/// Takes all bytes, and keeps none.
-#[derive(Drop)]
-struct Sink;
-
-impl ByteOut for Sink {
-    ghost held = { λ _. None };
-
-    ghost count = { λ _. 0 };
-
-    fn put(&mut self, bytes: &[u8]) -> Result<usize, Failed> {
-        Ok(bytes.len())
-    }
-
-    fn failures(&self) -> u64 {
-        0
     }
 }

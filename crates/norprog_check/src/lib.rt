@@ -11,7 +11,7 @@ mod line;
 pub use checker::check_script;
 pub use fault::CheckStop;
 pub use laws::{built_scripts, faultless_scripts};
-pub use line::write_verdict;
+pub use line::{write_verdict, wrong_number};
 pub use nor_base::{ByteIn, ByteOut, Failed, Wrong};
 pub use nor_check::{Verdict, Why};
 pub use nor_job::{BuildFault, Inputs};

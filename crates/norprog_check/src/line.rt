@@ -71,8 +71,9 @@ fn write_differs<W: ByteOut>(step: u64, address: u32, out: &mut W) -> Result<(),
     )
 }
 
-/// The number of what goes wrong.
-fn wrong_number(wrong: Wrong) -> u8
+/// The number by which a script's wrong is told: 1 Ignored, 2 Unknown, 3 Raised, 4 OutOfRange, 5 Mismatch, 6 PollNever,
+/// 7 NotIdleAtEnd, 8 NotErased.
+pub fn wrong_number(wrong: Wrong) -> u8
     ensures { result ≡ wrong_number wrong }
 {
     wrong as u8

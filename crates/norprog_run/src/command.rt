@@ -4,12 +4,12 @@ ghost use Rattle.std.specs.Prelude.{◌≡◌, ◌⊎◌, ◌<◌, ◌≤◌, �
 ghost use Rattle.norprog_command.specs.Lines.{Tells};
 ghost use Rattle.norprog_run.specs.Answer.{PrintsVerdict, PrintsNone};
 
-use crate::nowhere::Nowhere;
 use crate::play::play_script;
 use crate::request::{Bench, GivenRun, RunRequest, request_of};
 use crate::verdict::{Verdict, status_of, write_verdict};
 use nor_base::{ByteIn, ByteOut, FromRead, IntoWrite};
 use nor_job::{Inputs, Source};
+use norprog::Nowhere;
 use norprog_command::{
     Chip, FileName, Place, Refusal, create_output, open_input, read_whole, refuse,
 };

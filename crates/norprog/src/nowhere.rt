@@ -1,10 +1,10 @@
-//! An output that nobody asked for.
+//! An output for what nobody asked for.
 
 use nor_base::{ByteOut, Failed};
 
 /// Takes each byte and keeps none.
 #[derive(Drop)]
-pub(crate) struct Nowhere;
+pub struct Nowhere;
 
 impl ByteOut for Nowhere {
     ghost use Rattle.std.specs.Prelude.{None};
