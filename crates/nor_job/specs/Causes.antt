@@ -52,7 +52,8 @@ RefusesLayout t (layout.UnknownRegion index) =
     (regions : List Region) × LayoutSays t.layout regions × (first_unknown regions t.regions ≡ Some index)
 RefusesLayout t fault = (text : List ℕ) × (t.layout ≡ Some text) × IsFirstFault text fault
 
--- what a refusal says of the inputs that comes before anything is read or written; no earlier cause holds
+-- what a refusal says of the inputs that comes before anything is read or written; but for Memory, which says of contradictions
+-- alone that there is none, no earlier cause holds
 abbrev pub RefusesInputs : Task → ℕ → BuildFault → Type 0
 RefusesInputs t len (fault.Contradiction number) = contradiction t ≡ Some number
 RefusesInputs t len (fault.Hex why) = (contradiction t ≡ None) × (why ≢ hex.Memory) × IsFault t.hex why

@@ -1,7 +1,7 @@
 //! Why a build is refused.
 
 ghost use Rattle.std.specs.Prelude.{◌≡◌};
-ghost use Rattle.nor_job.specs.Lifted.{lifted_hex, lifted_layout, lifted_plan};
+ghost use Rattle.nor_job.specs.Lifted.{lifted_hex, lifted_layout};
 ghost use Rattle.nor_job.specs.declared.fault.BuildFault.TheVariants.{Memory, Sfdp};
 
 use nor_erase::PlanFault;
@@ -85,17 +85,6 @@ impl From<SfdpFault> for BuildFault {
 
     fn from(fault: SfdpFault) -> BuildFault {
         BuildFault::Sfdp(fault)
-    }
-}
-
-impl From<PlanFault> for BuildFault {
-    ghost from_gives = { λ fault lifted. lifted ≡ lifted_plan fault };
-
-    fn from(fault: PlanFault) -> BuildFault {
-        match fault {
-            PlanFault::Memory => BuildFault::Memory,
-            other => BuildFault::Plan(other),
-        }
     }
 }
 

@@ -9,6 +9,6 @@ use Rattle.norprog_run.specs.Verdict.{verdict_line, status_of}
 abbrev pub PrintsVerdict : Option (List ℕ) → Option (List ℕ) → ℕ → Type 0
 PrintsVerdict before after status = (verdict : Verdict) × (status ≡ status_of verdict) × Appends before after (verdict_line verdict)
 
--- nothing was printed, or a proper part of a verdict's line
+-- nothing was printed, or a proper prefix of a verdict's line
 abbrev pub PrintsNone : Option (List ℕ) → Option (List ℕ) → Type 0
 PrintsNone before after = (after ≡ before) ⊎ ((verdict : Verdict) × Cuts before after (verdict_line verdict))

@@ -22,8 +22,8 @@ use nor_play::{PlayFault, play};
 use norprog_command::Refusal;
 use std::alloc::Global;
 
-/// Plays the script that a text spells on a ready chip of the inputs, and answers how it ends. The image, the layout's
-/// regions, the base and the verifying of the inputs have no part in it.
+/// Plays the script that a text spells on a ready chip of the inputs, and answers how it ends. But for contradictions the
+/// image, the layout's regions, the base and the verifying of the inputs have no part in it.
 ///
 /// `content` gives what the chip holds, `len` bytes from address 0 on; no more are read. `out` takes what the chip holds
 /// after the play, also where it goes wrong, which isn't flushed. Memory is taken for the steps and one content.
@@ -31,8 +31,8 @@ use std::alloc::Global;
 /// The first fault is told. Before any content is read: `Contradiction`, `Sfdp`, `Status` and `ModeImpossible` as a build
 /// tells them; `Page` where a chip of this meaning may not have the page; `ContentSize` where `len` isn't the chip's size;
 /// `Script` where the text is none. Then `ContentShort` where the reader ends before `len` bytes, `Read` where it fails, and
-/// `Write` where `out` does, which has taken a proper prefix then. `Memory` comes where a growth is refused; it and all
-/// before it leave `out` as it was.
+/// `Write` where `out` does, which has taken a proper prefix then. `Memory` comes where a growth is refused. All but `Write`
+/// leave `out` as it was.
 pub fn play_script<R: ByteIn, W: ByteOut>(
     alloc: Global,
     inputs: &Inputs<'_>,
