@@ -1,6 +1,6 @@
 //! What a program does to the array.
 
-ghost use Rattle.std.specs.Prelude.{◌≡◌, ◌<◌, ◌≤◌, ◌+◌, ◌-◌, length, true};
+ghost use Rattle.std.specs.Prelude.{◌≡◌, ◌<◌, ◌≤◌, ◌+◌, ◌-◌, ◌%◌, length, true};
 ghost use Rattle.nor_base.specs.Effect.{is_program, place as place_of, may_program, is_barred as is_barred_of, barred, programmed, page_start};
 ghost use Rattle.nor_chip.specs.Sent.{sent};
 
@@ -14,8 +14,16 @@ pub fn place(page: u32, address: u32, index: usize) -> usize
     ensures upto { result < page_start page address + page }
 {
     let start = address - address % page;
-    let offset = (address % page) as usize + index % page as usize;
-    start as usize + offset % page as usize
+    let offset = (address % page) as usize + remainder(index, page as usize);
+    start as usize + remainder(offset, page as usize)
+}
+
+/// The remainder of a number by a page. Most numbers are below it, and a division for each byte would be what takes longest.
+fn remainder(number: usize, page: usize) -> usize
+    requires { 0 < page }
+    ensures { result ≡ number % page }
+{
+    if number < page { number } else { number % page }
 }
 
 /// Of so many bytes the first that isn't overwritten by a later one: a page has room for the last ones.

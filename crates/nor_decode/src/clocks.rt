@@ -2,82 +2,81 @@
 
 ghost use Rattle.std.specs.Prelude.{◌≡◌, ◌<◌, ◌≤◌, ◌^◌, length};
 ghost use Rattle.std.specs.List.{list_all};
-ghost use Rattle.nor_base.specs.Decoding.{has_lanes, is_bit_sent, is_nibble_sent, is_bit_sampled, is_nibble_sampled, is_idle, level_at, number};
-
-use nor_base::{clock_of, sample_of};
-
-/// All lanes, as a mask.
-const ALL: u8 = 15;
-
-/// The lanes driven where a bit is sent: IO0, and IO2 and IO3 held high.
-const BIT: u8 = 13;
-
-/// The lanes driven where a bit is sampled from IO1: IO2 and IO3, held high.
-const HELD: u8 = 12;
-
-/// Lane IO1, as a mask.
-const OUTPUT: u8 = 2;
+ghost use Rattle.nor_base.specs.Decoding.{is_bit_sent, is_nibble_sent, is_bit_sampled, is_nibble_sampled, is_idle, level_at, bit, number};
 
 /// Whether each clock sends a bit on IO0.
-#[tactic(auto, unfolding(nor_base::specs::Decoding::is_bit_sent))]
 pub(crate) fn are_bits_sent(clocks: &[u8]) -> bool
     ensures { result ≡ list_all is_bit_sent clocks.now }
 {
-    have_lanes(clocks, BIT, 0)
+    clocks.iter().all(|symbol| is_bit_sent(*symbol))
 }
 
 /// Whether each clock sends a nibble on all four lanes.
-#[tactic(auto, unfolding(nor_base::specs::Decoding::is_nibble_sent))]
 pub(crate) fn are_nibbles_sent(clocks: &[u8]) -> bool
     ensures { result ≡ list_all is_nibble_sent clocks.now }
 {
-    have_lanes(clocks, ALL, 0)
+    clocks.iter().all(|symbol| is_nibble_sent(*symbol))
 }
 
 /// Whether each clock samples a bit from IO1.
-#[tactic(auto, unfolding(nor_base::specs::Decoding::is_bit_sampled))]
 pub(crate) fn are_bits_sampled(clocks: &[u8]) -> bool
     ensures { result ≡ list_all is_bit_sampled clocks.now }
 {
-    have_lanes(clocks, HELD, OUTPUT)
+    clocks.iter().all(|symbol| is_bit_sampled(*symbol))
 }
 
 /// Whether each clock samples a nibble from all four lanes.
-#[tactic(auto, unfolding(nor_base::specs::Decoding::is_nibble_sampled))]
 pub(crate) fn are_nibbles_sampled(clocks: &[u8]) -> bool
     ensures { result ≡ list_all is_nibble_sampled clocks.now }
 {
-    have_lanes(clocks, 0, ALL)
+    clocks.iter().all(|symbol| is_nibble_sampled(*symbol))
 }
 
 /// Whether no lane is driven or sampled at each clock.
-#[tactic(auto, unfolding(nor_base::specs::Decoding::is_idle))]
 pub(crate) fn are_idle(clocks: &[u8]) -> bool
     ensures { result ≡ list_all is_idle clocks.now }
 {
-    have_lanes(clocks, 0, 0)
+    clocks.iter().all(|symbol| is_idle(*symbol))
 }
 
-/// Whether each clock drives just these lanes and samples just those.
-fn have_lanes(clocks: &[u8], driven: u8, sampled: u8) -> bool
-    ensures { result ≡ list_all (has_lanes driven sampled) clocks.now }
+/// IO0, IO2 and IO3 are driven, and no lane is sampled.
+#[tactic(auto, unfolding(nor_base::specs::Decoding::is_bit_sent))]
+fn is_bit_sent(symbol: u8) -> bool
+    ensures { result ≡ is_bit_sent symbol }
 {
-    clocks
-        .iter()
-        .all(|symbol| has_lanes(*symbol, driven, sampled))
+    matches!(symbol, b'0' | b'1')
 }
 
-/// Whether the clock drives just these lanes and samples just those.
-fn has_lanes(symbol: u8, driven: u8, sampled: u8) -> bool
-    ensures { result ≡ has_lanes driven sampled symbol }
+/// All four lanes are driven, and none is sampled.
+#[tactic(auto, unfolding(nor_base::specs::Decoding::is_nibble_sent))]
+fn is_nibble_sent(symbol: u8) -> bool
+    ensures { result ≡ is_nibble_sent symbol }
 {
-    match clock_of(symbol) {
-        Some(clock) => {
-            let sample = sample_of(clock);
-            sample.driven == driven && sample.sampled == sampled
-        }
-        None => false,
-    }
+    matches!(symbol, b'a'..=b'p')
+}
+
+/// IO2 and IO3 are driven, and IO1 is sampled.
+#[tactic(auto, unfolding(nor_base::specs::Decoding::is_bit_sampled))]
+fn is_bit_sampled(symbol: u8) -> bool
+    ensures { result ≡ is_bit_sampled symbol }
+{
+    matches!(symbol, b'.')
+}
+
+/// No lane is driven, and all four are sampled.
+#[tactic(auto, unfolding(nor_base::specs::Decoding::is_nibble_sampled))]
+fn is_nibble_sampled(symbol: u8) -> bool
+    ensures { result ≡ is_nibble_sampled symbol }
+{
+    matches!(symbol, b'=')
+}
+
+/// No lane is driven, and none is sampled.
+#[tactic(auto, unfolding(nor_base::specs::Decoding::is_idle))]
+fn is_idle(symbol: u8) -> bool
+    ensures { result ≡ is_idle symbol }
+{
+    matches!(symbol, b'-')
 }
 
 /// The lanes that a clock drives high, as a mask: of a nibble its value.
@@ -85,9 +84,24 @@ pub(crate) fn level(symbol: u8) -> u8
     ensures level { result ≡ level_at symbol }
     ensures lanes { result < 16 }
 {
-    match clock_of(symbol) {
-        Some(clock) => sample_of(clock).level,
-        None => 0,
+    match symbol {
+        b'a'..=b'p' => symbol - b'a',
+        b'0' | b'.' => 12,
+        b'1' => 13,
+        _ => 0,
+    }
+}
+
+/// The level of IO0.
+// no branch between the two bits, which come in no order that a processor can learn
+#[tactic(auto, unfolding(nor_base::specs::Decoding::bit))]
+fn bit(symbol: u8) -> u8
+    ensures bit { result ≡ bit symbol }
+    ensures small { result < 2 }
+{
+    match symbol {
+        b'a'..=b'p' => (symbol - b'a') % 2,
+        _ => u8::from(symbol == b'1'),
     }
 }
 
@@ -99,7 +113,7 @@ pub(crate) fn number(bits: &[u8]) -> u32
 {
     let mut sum = 0;
     for symbol in bits {
-        sum = sum * 2 + u32::from(level(*symbol) % 2);
+        sum = sum * 2 + u32::from(bit(*symbol));
     }
     sum
 }

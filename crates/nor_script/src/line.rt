@@ -9,7 +9,7 @@ ghost use Rattle.nor_script.specs.declared.fault.ScriptFault.TheVariants.{Memory
 
 use crate::fault::ScriptFault;
 use itoa::Buffer;
-use nor_base::{Bytes, Step, clock_of};
+use nor_base::{Bytes, Step};
 use std::alloc::Global;
 
 /// The step on a line that is no end line, or why it has none.
@@ -114,7 +114,14 @@ fn count_blanks(rest: &[u8]) -> usize
 fn are_symbols(clocks: &[u8]) -> bool
     ensures { result ≡ list_all is_symbol clocks.now }
 {
-    clocks.iter().all(|symbol| clock_of(*symbol).is_some())
+    clocks.iter().all(|symbol| is_symbol(*symbol))
+}
+
+// written out, so that it is inlined: a call of `nor_base` for each clock took most of the time
+fn is_symbol(byte: u8) -> bool
+    ensures { result ≡ is_symbol byte }
+{
+    matches!(byte, b'0' | b'1' | b'a'..=b'p' | b'.' | b'=' | b'-')
 }
 
 /// Whether these are pairs of lower-case hexadecimal digits.

@@ -159,10 +159,26 @@ fn ends(rt: &impl Abort, played: &Played) {
     holds_one_byte(rt, played.writer.held.as_slice());
 }
 
+/// Memory is not wanting.
 #[test]
 fn plays_from_bytes_to_bytes(rt: HostRuntime) -> Result<(), Fail> {
     ends(&rt, &play(rt.alloc(), 8193, 0, 0)?);
     Ok(())
+}
+
+/// `tools/refused-growths` runs it with each growth refused in turn, its own ones too.
+#[test]
+fn a_refused_growth_is_memory(rt: HostRuntime) {
+    if let Ok(played) = play(rt.alloc(), 8193, 0, 0) {
+        match played.fault {
+            Some(fault) => {
+                assert_eq!(rt; fault, BuildFault::Memory);
+                assert!(rt; played.writer.held.is_empty());
+                assert_eq!(rt; (played.read_failures, played.write_failures), (0, 0));
+            }
+            None => ends(&rt, &played),
+        }
+    }
 }
 
 #[test]

@@ -27,6 +27,18 @@ const OPEN_PAGE: [u8; 80] = [
     0, 0, 0, 0, 0, 0, 0, 0, 0, 0, 0, 0, 0, 0, 0, 0, 0,
 ];
 
+/// SFDP bytes of a chip of 8 KiB with three address bytes or four, which changes its mode after a write enable.
+const LATCHED: [u8; 80] = [
+    0x53, 0x46, 0x44, 0x50, 0x06, 0x01, 0x00, 0xFF, 0x00, 0x06, 0x01, 0x10, 0x10, 0x00, 0x00, 0xFF,
+    0x05, 0x20, 0x42, 0x00, 0xFF, 0xFF, 0x00, 0x00, 0x00, 0x00, 0x08, 0x6B, 0, 0, 0, 0, 0, 0, 0, 0,
+    0, 0, 0, 0, 0, 0, 0, 0, 0x0C, 0x20, 0x0F, 0x52, 0x10, 0xD8, 0x00, 0xFF, 0, 0, 0, 0, 0x80, 0, 0,
+    0, 0, 0, 0, 0, 0, 0, 0, 0, 0, 0, 0, 0, 0, 0, 0, 0, 0x00, 0x80, 0x00, 0x02,
+];
+
+/// The mode entered and left, each after a write enable, round a program of 00h at 0; all but the last write disable.
+const CHANGES_MODE: &str = "norscript 1\nx 00000110\nx 10110111\nx 00000100\nx 00000110\n\
+    x 000000100000000000000000000000000000000000000000\np 00000101........\nx 00000110\nx 11101001\n";
+
 /// What a command line was answered, and what was written.
 #[derive(Drop, Debug)]
 pub(crate) struct Answer {
@@ -176,6 +188,32 @@ fn plays_scripts(rt: HostRuntime) -> Result<(), Fail> {
         assert_eq!(rt; answer.out.as_str(), want.as_str(), "{changes}: {answer:?}");
         assert_eq!(rt; answer.err.as_str(), "", "{changes}");
         assert_eq!(rt; answer.status, status, "{changes}");
+    }
+    Ok(())
+}
+
+/// A script that ends with the write disable is right whether the latch is kept over a change of mode or not; one that
+/// doesn't is right where it isn't kept.
+#[test]
+fn changes_modes(rt: HostRuntime) -> Result<(), Fail> {
+    let alloc = rt.alloc();
+    write_files(&rt)?;
+    fs::write(&rt, "latched", &LATCHED)?;
+    let whole = format!(in alloc; "{CHANGES_MODE}x 00000100\nend 9\n")?;
+    fs::write(&rt, "whole", whole.as_str())?;
+    let cut = format!(in alloc; "{CHANGES_MODE}end 8\n")?;
+    fs::write(&rt, "cut", cut.as_str())?;
+    for (changes, line) in [
+        ("script=whole", "ok 9\n"),
+        ("script=whole keep", "ok 9\n"),
+        ("script=whole busy=3", "ok 12\n"),
+        ("script=whole busy=3 keep", "ok 12\n"),
+        ("script=cut", "ok 8\n"),
+        ("script=cut keep", "wrong 7 at 8\n"),
+    ] {
+        let changes = format!(in alloc; "no-uniform sfdp=latched {changes}")?;
+        let answer = answer_of(&rt, changes.as_str())?;
+        assert_eq!(rt; answer.out.as_str(), line, "{changes}: {answer:?}");
     }
     Ok(())
 }

@@ -1,7 +1,7 @@
 -- One more bit: twice the sum and the bit.
 use Rattle.std.proofs.Common.{◌≡◌, ◌∙◌, ap, take, arith}
 use Rattle.std.proofs.lemmas.List.{take_more, take_all, length-take-le}
-use Rattle.nor_base.specs.Decoding.{number, bit}
+use Rattle.nor_base.specs.Decoding.{number}
 use Rattle.nor_decode.proofs.NumberLemmas.{number_below, number_fits, number_push}
 use Rattle.nor_decode.proofs.clocks.number.Goals as goal
 
@@ -16,7 +16,6 @@ overflow_add-sum c =
     omega (arith, number_fits 31 (take c.loop-symbol.symbol-index c.args.bits.now) (omega arith))
 
 pub loop-symbol-preserved : goal.loop-symbol-preserved
-unfolding bit
 loop-symbol-preserved c =
     let one_more = take_more c.args.bits.now c.loop-symbol.symbol-index 0 (omega arith) in
     rw (one_more, number_push) (cc)
