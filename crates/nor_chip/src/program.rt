@@ -18,7 +18,8 @@ pub fn place(page: u32, address: u32, index: usize) -> usize
     start as usize + remainder(offset, page as usize)
 }
 
-/// The remainder of a number by a page. Most numbers are below it, and a division for each byte would be what takes longest.
+/// The remainder of a number by a page.
+// most numbers are below it, and a division for each byte takes long
 fn remainder(number: usize, page: usize) -> usize
     requires { 0 < page }
     ensures { result ≡ number % page }

@@ -1,4 +1,5 @@
-//! What the lanes do at each of some clocks.
+//! What the lanes do at each of some clocks, by the symbols alone: a look at one is a compare or two, since a script has
+//! millions of them.
 
 ghost use Rattle.std.specs.Prelude.{◌≡◌, ◌<◌, ◌≤◌, ◌^◌, length};
 ghost use Rattle.std.specs.List.{list_all};

@@ -117,7 +117,7 @@ fn are_symbols(clocks: &[u8]) -> bool
     clocks.iter().all(|symbol| is_symbol(*symbol))
 }
 
-// written out, so that it is inlined: a call of `nor_base` for each clock took most of the time
+// by the symbols alone, with no clock made of each: a script has millions of them
 fn is_symbol(byte: u8) -> bool
     ensures { result ≡ is_symbol byte }
 {

@@ -102,7 +102,7 @@ const BESIDE: Row = Row {
 };
 
 /// Jobs, their scripts, and what these change.
-static ROWS: [Row; 23] = [
+static ROWS: [Row; 27] = [
     ONE,
     Row {
         records: ":0100000000FF\n:0100000000FF\n",
@@ -129,6 +129,22 @@ static ROWS: [Row; 23] = [
         erased: 8192,
         programs: 2,
         ..ONE
+    },
+    // of bytes that stay one in their midst changes: it is sent and read alone, but with all of them where it has to rise
+    Row {
+        asked: "verify",
+        records: ":010018000ADD\n",
+        holds: &[(0x10, 16, 0x5A)],
+        lines: "06 020000180A . 03000018?0A",
+        changes: &[(0x18, 1, 0x0A)],
+        ..ONE
+    },
+    Row {
+        records: ":010018005B8C\n",
+        holds: &[(0x10, 16, 0x5A)],
+        lines: "06 20000000 . 06 020000105A5A5A5A5A5A5A5A5B5A5A5A5A5A5A5A .",
+        changes: &[(0x18, 1, 0x5B)],
+        ..RISES
     },
     // two kinds of blocks
     Row {
@@ -248,6 +264,21 @@ static ROWS: [Row; 23] = [
         asked: "erased",
         lines: "06 0200000000 . 06 0200000200 .",
         programs: 2,
+        ..BESIDE
+    },
+    // the image gives the kept byte too
+    Row {
+        asked: "erased",
+        records: ":03000000005500A8\n",
+        lines: "06 0200000000 . 06 0200000200 .",
+        programs: 2,
+        ..BESIDE
+    },
+    // a kept byte that is erased lies between
+    Row {
+        asked: "erased",
+        holds: &[],
+        lines: "06 0200000000FF00 .",
         ..BESIDE
     },
 ];

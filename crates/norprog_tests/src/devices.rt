@@ -1,8 +1,9 @@
 //! Builds over devices that move few bytes at a call, end early or fail, and with little memory.
 
 use crate::jobs::{ONE_BYTE, inputs, one_name};
+use crate::play::{script_of, with_bytes};
 use nor_base::{FromRead, IntoWrite};
-use norprog::{BuildFault, ByteIn, ByteOut, Inputs, Report, build, plan};
+use norprog::{BuildFault, ByteIn, ByteOut, Inputs, Report, Strategy, build, plan};
 use std::alloc::{AllocError, Global};
 use std::io;
 use std::process::Abort;
@@ -11,49 +12,74 @@ use std::test::Fail;
 /// The image with 00h at address 0.
 pub(crate) const IMAGE: &str = ":0100000000FF\n:00000001FF\n";
 
-/// A reader that gives so many bytes at a call at most, and fails at the call of its number; 0 is no call's.
+/// The call of this number moves as many bytes at most; with `None` it fails. No call has the number 0.
+#[derive(Clone, Copy)]
+pub(crate) struct OddCall {
+    pub(crate) number: usize,
+    pub(crate) moves: Option<usize>,
+}
+
+impl OddCall {
+    /// How many bytes a call moves at most where another one moves `most`.
+    fn most(self, call: usize, most: usize) -> io::Result<usize> {
+        if call != self.number {
+            return Ok(most);
+        }
+        match self.moves {
+            Some(moves) => Ok(moves.min(most)),
+            None => Err(io::ErrorKind::Other.into()),
+        }
+    }
+}
+
+/// The call of this number fails.
+pub(crate) fn failing(number: usize) -> OddCall {
+    OddCall {
+        number,
+        moves: None,
+    }
+}
+
+/// A reader that gives so many bytes at a call at most.
 #[derive(Drop)]
 pub(crate) struct SlowReader<'d> {
     pub(crate) ahead: &'d [u8],
     pub(crate) most: usize,
     pub(crate) call: usize,
-    pub(crate) fails_at: usize,
+    pub(crate) odd: OddCall,
 }
 
 impl io::Read for SlowReader<'_> {
     fn read(&mut self, buf: &mut [u8]) -> io::Result<usize> {
         self.call = self.call.saturating_add(1);
-        if self.call == self.fails_at {
-            return Err(io::ErrorKind::Other.into());
-        }
-        let count = buf.len().min(self.ahead.len()).min(self.most);
+        let most = self.odd.most(self.call, self.most)?;
+        let count = buf.len().min(self.ahead.len()).min(most);
         buf[..count].copy_from_slice(&self.ahead[..count]);
         self.ahead = &self.ahead[count..];
         Ok(count)
     }
 }
 
-/// A writer that takes so many bytes at a call at most, and fails at the call of its number; 0 is no call's.
+/// A writer that takes so many bytes at a call at most. A flush is a call too.
 #[derive(Drop)]
 pub(crate) struct SlowWriter {
     pub(crate) held: Vec<u8>,
     pub(crate) most: usize,
     pub(crate) call: usize,
-    pub(crate) fails_at: usize,
+    pub(crate) odd: OddCall,
 }
 
 impl io::Write for SlowWriter {
     fn write(&mut self, buf: &[u8]) -> io::Result<usize> {
         self.call = self.call.saturating_add(1);
-        if self.call == self.fails_at {
-            return Err(io::ErrorKind::Other.into());
-        }
-        let count = buf.len().min(self.most);
+        let most = self.odd.most(self.call, self.most)?;
+        let count = buf.len().min(most);
         self.held.extend_from_slice(&buf[..count])?;
         Ok(count)
     }
 
     fn flush(&mut self) -> io::Result<()> {
+        self.call = self.call.saturating_add(1);
         Ok(())
     }
 }
@@ -64,7 +90,7 @@ pub(crate) fn content(ahead: &[u8], most: usize) -> SlowReader<'_> {
         ahead,
         most,
         call: 0,
-        fails_at: 0,
+        odd: failing(0),
     }
 }
 
@@ -74,7 +100,7 @@ pub(crate) fn script(alloc: Global, most: usize) -> Result<SlowWriter, AllocErro
         held: Vec::with_capacity(alloc, 128)?,
         most,
         call: 0,
-        fails_at: 0,
+        odd: failing(0),
     })
 }
 
@@ -133,25 +159,43 @@ pub(crate) fn run_plan<'d>(
     with_devices(answer, reader, writer)
 }
 
-/// Whether bytes are a proper prefix of the script that programs 00h at address 0.
-fn is_cut(held: &[u8]) -> bool {
-    ONE_BYTE.as_bytes().starts_with(held) && held.len() < ONE_BYTE.len()
-}
+/// The report of the job of one byte.
+const ONE_PROGRAM: Report = Report {
+    strategy: Strategy::S2,
+    steps: 3,
+    erases: 0,
+    erased: 0,
+    programs: 1,
+    ignored: 0,
+};
 
-/// The script of one byte, whole where the build answers Ok and cut at a fault. Answers the fault.
-fn fault_beside_script(rt: &impl Abort, built: &Built<'_>) -> Option<BuildFault> {
+/// A script, whole and with its report where the build answers Ok, and cut at a fault. Answers the fault.
+fn fault_beside_script(
+    rt: &impl Abort,
+    built: &Built<'_>,
+    text: &[u8],
+    want: Report,
+) -> Option<BuildFault> {
     let held = built.writer.held.as_slice();
     match built.answer {
         Ok(report) => {
-            assert_eq!(rt; held, ONE_BYTE.as_bytes());
-            assert_eq!(rt; report.programs, 1);
+            assert_eq!(rt; held, text);
+            assert_eq!(rt; report, want);
             None
         }
         Err(fault) => {
-            assert!(rt; is_cut(held), "{held:?}");
+            assert!(rt;
+                text.starts_with(held) && held.len() < text.len(),
+                "{held:?}"
+            );
             Some(fault)
         }
     }
+}
+
+/// The same for the script of one byte.
+fn fault_beside_one_byte(rt: &impl Abort, built: &Built<'_>) -> Option<BuildFault> {
+    fault_beside_script(rt, built, ONE_BYTE.as_bytes(), ONE_PROGRAM)
 }
 
 /// Builds the script of one byte by a layout. Answers the fault; the script is whole without one, and cut at one.
@@ -169,7 +213,7 @@ fn one_byte_job(rt: &impl Abort, alloc: Global) -> Result<Option<BuildFault>, Al
     let built = run_build(alloc, &inputs, content(&blank, 8192), 8192, writer);
     assert_eq!(rt; built.read_failures, 0);
     assert_eq!(rt; built.write_failures, 0);
-    Ok(fault_beside_script(rt, &built))
+    Ok(fault_beside_one_byte(rt, &built))
 }
 
 /// Memory is not wanting, so each growth is granted and the whole script is there.
@@ -249,10 +293,10 @@ fn try_reading(rt: &impl Abort, alloc: Global, row: Reading) -> Result<(), Fail>
     let bytes = [0xFF; 8200];
     let given = bytes.get(..has).expect(rt, "so many bytes");
     let mut reader = content(given, most);
-    reader.fails_at = fails_at;
+    reader.odd = failing(fails_at);
     let writer = script(alloc, 128)?;
     let built = run_build(alloc, &inputs(IMAGE), reader, 8192, writer);
-    let fault = fault_beside_script(rt, &built);
+    let fault = fault_beside_one_byte(rt, &built);
     assert_eq!(rt; fault, row.want, "{has}, {most}, {fails_at}");
     let failures = if fault == Some(BuildFault::Read) {
         1
@@ -267,35 +311,202 @@ fn try_reading(rt: &impl Abort, alloc: Global, row: Reading) -> Result<(), Fail>
     Ok(())
 }
 
+/// A job, its script's lines, and its report.
+struct Job {
+    image: &'static str,
+    verify: bool,
+    /// What the chip holds; elsewhere it holds FFh.
+    holds: &'static [(usize, usize, u8)],
+    lines: &'static str,
+    report: Report,
+}
+
+static JOBS: [Job; 3] = [
+    Job {
+        image: IMAGE,
+        verify: false,
+        holds: &[],
+        lines: "06 0200000000 .",
+        report: ONE_PROGRAM,
+    },
+    // a bit has to rise: its sector is erased, and a byte beside it is restored
+    Job {
+        image: ":0100000001FE\n:00000001FF\n",
+        verify: false,
+        holds: &[(0, 1, 0), (5, 1, 0xA5)],
+        lines: "06 20000000 . 06 0200000001FFFFFFFFA5 .",
+        report: Report {
+            steps: 6,
+            erases: 1,
+            erased: 4096,
+            ..ONE_PROGRAM
+        },
+    },
+    // what was written is read
+    Job {
+        image: IMAGE,
+        verify: true,
+        holds: &[],
+        lines: "06 0200000000 . 03000000?00",
+        report: Report {
+            steps: 4,
+            ..ONE_PROGRAM
+        },
+    },
+];
+
+/// A job's content and the text of its script.
+#[derive(Drop)]
+struct Prepared<'j> {
+    job: &'j Job,
+    held: Vec<u8>,
+    text: Vec<u8>,
+}
+
+fn prepare<'j>(rt: &impl Abort, alloc: Global, job: &'j Job) -> Result<Prepared<'j>, Fail> {
+    Ok(Prepared {
+        job,
+        held: with_bytes(rt, alloc, &[0xFF; 8192], job.holds)?,
+        text: script_of(alloc, job.lines)?,
+    })
+}
+
+impl Prepared<'_> {
+    /// Builds the job over devices of which one moves so many bytes at a call at most and has this odd call.
+    fn build(
+        &self,
+        alloc: Global,
+        side: Side,
+        most: usize,
+        odd: OddCall,
+    ) -> Result<Built<'_>, AllocError> {
+        let inputs = Inputs {
+            verify: self.job.verify,
+            ..inputs(self.job.image)
+        };
+        let mut reader = content(self.held.as_slice(), usize::MAX);
+        let mut writer = script(alloc, usize::MAX)?;
+        match side {
+            Side::Reader => {
+                reader.most = most;
+                reader.odd = odd;
+            }
+            Side::Writer => {
+                writer.most = most;
+                writer.odd = odd;
+            }
+        }
+        Ok(run_build(alloc, &inputs, reader, 8192, writer))
+    }
+
+    /// The build's fault; its script is whole or cut, and its devices failed as the fault says.
+    fn fault_of(&self, rt: &impl Abort, built: &Built<'_>) -> Option<BuildFault> {
+        let fault = fault_beside_script(rt, built, self.text.as_slice(), self.job.report);
+        let failures = |why| u64::from(fault == Some(why));
+        assert_eq!(rt; built.read_failures, failures(BuildFault::Read));
+        assert_eq!(rt; built.write_failures, failures(BuildFault::Write));
+        fault
+    }
+}
+
+/// Whose calls are odd.
+#[derive(Clone, Copy)]
+enum Side {
+    Reader,
+    Writer,
+}
+
+impl Side {
+    /// How many bytes an odd call moves, and what a build over it answers: it fails, it moves nothing, it moves one byte.
+    fn ways(self) -> [(Option<usize>, Option<BuildFault>); 3] {
+        let (fails, stops) = match self {
+            Side::Reader => (BuildFault::Read, BuildFault::ContentShort),
+            Side::Writer => (BuildFault::Write, BuildFault::Write),
+        };
+        [(None, Some(fails)), (Some(0), Some(stops)), (Some(1), None)]
+    }
+
+    /// How often the device was called.
+    fn calls(self, built: &Built<'_>) -> usize {
+        match self {
+            Side::Reader => built.reader.call,
+            Side::Writer => built.writer.call,
+        }
+    }
+}
+
 #[test]
-fn a_failing_writer_holds_a_prefix(rt: HostRuntime) -> Result<(), Fail> {
-    for most in [1usize, 128] {
-        for fails_at in 1..=92usize {
-            try_writing(&rt, rt.alloc(), most, fails_at)?;
+fn any_call_of_a_device_is_odd(rt: HostRuntime) -> Result<(), Fail> {
+    let alloc = rt.alloc();
+    for job in &JOBS {
+        let job = prepare(&rt, alloc, job)?;
+        assert!(rt; each_is_odd(&rt, alloc, &job, Side::Reader, 64)? >= 128);
+        assert!(rt; each_is_odd(&rt, alloc, &job, Side::Reader, 1000)? >= 9);
+        assert!(rt; each_is_odd(&rt, alloc, &job, Side::Reader, usize::MAX)? > 0);
+        // it gives one byte at a call: the first and the last call of both windows
+        for number in [1, 4096, 4097, 8192] {
+            is_odd(&rt, alloc, &job, Side::Reader, 1, number)?;
+        }
+        let calls = each_is_odd(&rt, alloc, &job, Side::Writer, 1)?;
+        // a flush would be one call more
+        assert_eq!(rt; calls, job.text.len());
+        assert!(rt; each_is_odd(&rt, alloc, &job, Side::Writer, usize::MAX)? > 0);
+    }
+    Ok(())
+}
+
+/// Over a device that moves so many bytes at a call the job is done; so many calls that takes. Each of them is odd once.
+fn each_is_odd(
+    rt: &impl Abort,
+    alloc: Global,
+    job: &Prepared<'_>,
+    side: Side,
+    most: usize,
+) -> Result<usize, Fail> {
+    let built = job.build(alloc, side, most, failing(0))?;
+    assert_eq!(rt; job.fault_of(rt, &built), None);
+    let calls = side.calls(&built);
+    for number in 1..=calls {
+        is_odd(rt, alloc, job, side, most, number)?;
+    }
+    Ok(calls)
+}
+
+/// The call of this number is odd in each way. One that fails or moves nothing is the device's last.
+fn is_odd(
+    rt: &impl Abort,
+    alloc: Global,
+    job: &Prepared<'_>,
+    side: Side,
+    most: usize,
+    number: usize,
+) -> Result<(), Fail> {
+    for (moves, want) in side.ways() {
+        let built = job.build(alloc, side, most, OddCall { number, moves })?;
+        assert_eq!(rt; job.fault_of(rt, &built), want, "{most}, {number}");
+        if want.is_some() {
+            assert_eq!(rt; side.calls(&built), number, "{most}");
+            let held = built.writer.held.as_slice();
+            match side {
+                Side::Reader => assert!(rt; held == front_after(job, &built), "{most}, {number}"),
+                Side::Writer => assert!(rt;
+                    most != 1 || held.len() == number.saturating_sub(1),
+                    "{number}"
+                ),
+            }
         }
     }
     Ok(())
 }
 
-/// The build answers Write exactly where the writer comes to the call at which it fails.
-fn try_writing(rt: &impl Abort, alloc: Global, most: usize, fails_at: usize) -> Result<(), Fail> {
-    let blank = [0xFF; 8192];
-    let mut writer = script(alloc, most)?;
-    writer.fails_at = fails_at;
-    let reader = content(&blank, 8192);
-    let built = run_build(alloc, &inputs(IMAGE), reader, 8192, writer);
-    let failed = built.writer.call == fails_at;
-    let want = if failed {
-        Some(BuildFault::Write)
+/// What stands of the script once the reader failed or ended: a window of 4096 bytes is read before its steps are written,
+/// and no steps are left for the second one.
+fn front_after<'a>(job: &'a Prepared<'_>, built: &Built<'_>) -> &'a [u8] {
+    let given = 8192usize.saturating_sub(built.reader.ahead.len());
+    let end = if given < 4096 {
+        "norscript 1\n".len()
     } else {
-        None
+        job.text.len().saturating_sub("end 0\n".len())
     };
-    assert_eq!(rt; fault_beside_script(rt, &built), want, "call {fails_at}");
-    assert!(rt; !failed || fails_at < 92, "call {fails_at}");
-    assert_eq!(rt; built.write_failures, if failed { 1 } else { 0 });
-    assert_eq!(rt; built.read_failures, 0);
-    if most == 1 {
-        assert_eq!(rt; built.writer.held.len(), fails_at.saturating_sub(1));
-    }
-    Ok(())
+    job.text.as_slice().get(..end).unwrap_or(&[])
 }

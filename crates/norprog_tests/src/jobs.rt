@@ -1,6 +1,6 @@
 //! From the bytes of the inputs to the text of a script, and to what the chip holds after it.
 
-use crate::devices::{SlowWriter, content, run_build};
+use crate::devices::{SlowWriter, content, failing, run_build};
 use crate::play::{play, script_of, with_bytes};
 use nor_base::{Meaning, Start};
 use norprog::{Bytes, Inputs, Part, Report, Source, Strategy};
@@ -78,7 +78,7 @@ const BLANK: Case = Case {
 const FAR: &str = ":0100100000EF\n:0100200000DF\n";
 
 /// Jobs, the programs of their scripts, and what these change.
-static CASES: [Case; 16] = [
+static CASES: [Case; 19] = [
     Case {
         records: ":0100000000FF\n",
         programs: "0200000000",
@@ -188,6 +188,28 @@ static CASES: [Case; 16] = [
         changes: &[(0x10, 1, 0), (0x20, 1, 0)],
         ..BLANK
     },
+    // the image gives bytes that the chip holds: one in their midst changes, two do, or one on each side of a page's end
+    Case {
+        holds: &[(0x10, 16, 0x5A)],
+        records: ":100010005A5A5A5A5A5A5A5A0A5A5A5A5A5A5A5A90\n",
+        programs: "020000180A",
+        changes: &[(0x18, 1, 0x0A)],
+        ..BLANK
+    },
+    Case {
+        holds: &[(0x10, 16, 0x5A)],
+        records: ":100010005A5A5A5A0A5A5A5A5A5A5A0A5A5A5A5AE0\n",
+        programs: "020000140A5A5A5A5A5A5A0A",
+        changes: &[(0x14, 1, 0x0A), (0x1B, 1, 0x0A)],
+        ..BLANK
+    },
+    Case {
+        holds: &[(0xF8, 16, 0x5A)],
+        records: ":1000F8005A5A5A5A5A5A0A5A5A0A5A5A5A5A5A5AF8\n",
+        programs: "020000FE0A 020001010A",
+        changes: &[(0xFE, 1, 0x0A), (0x101, 1, 0x0A)],
+        ..BLANK
+    },
 ];
 
 /// The report and the script of a build for a chip that holds these bytes.
@@ -200,7 +222,7 @@ pub(crate) fn script_for(
         held: Vec::new(alloc),
         most: usize::MAX,
         call: 0,
-        fails_at: 0,
+        odd: failing(0),
     };
     let reader = content(before, usize::MAX);
     let built = run_build(alloc, inputs, reader, before.len() as u64, writer);

@@ -1,7 +1,7 @@
 //! The lines that tell plans, the reports beside them, and what stands of the lines after a refusal.
 
 use crate::bytes::{BLOCKS, LARGE, LEGACY, LONE_BLOCK, SMALL, patched};
-use crate::devices::{Built, IMAGE, content, run_build, run_plan, script};
+use crate::devices::{Built, IMAGE, content, failing, run_build, run_plan, script};
 use crate::jobs::inputs;
 use crate::play::with_bytes;
 use nor_erase::PlanFault;
@@ -195,7 +195,7 @@ fn try_row(rt: &impl Abort, alloc: Global, row: &Row) -> Result<(), Fail> {
         ..inputs(hex.as_str())
     };
     let mut reader = content(given, usize::MAX);
-    reader.fails_at = row.fails_at;
+    reader.odd = failing(row.fails_at);
     let told = run_plan(
         alloc,
         &inputs,
@@ -209,7 +209,7 @@ fn try_row(rt: &impl Abort, alloc: Global, row: &Row) -> Result<(), Fail> {
         "{records}"
     );
     let mut reader = content(given, usize::MAX);
-    reader.fails_at = row.fails_at;
+    reader.odd = failing(row.fails_at);
     let built = run_build(
         alloc,
         &inputs,
@@ -241,7 +241,7 @@ fn one_byte_plan(
     fails_at: usize,
 ) -> Result<Built<'static>, AllocError> {
     let mut writer = script(alloc, most)?;
-    writer.fails_at = fails_at;
+    writer.odd = failing(fails_at);
     let reader = content(&[0xFF; 8192], 8192);
     Ok(run_plan(alloc, &inputs(IMAGE), reader, 8192, writer))
 }

@@ -1,6 +1,6 @@
 //! The lines of a report, and a writer that fails at each of its bytes.
 
-use crate::devices::SlowWriter;
+use crate::devices::{SlowWriter, failing};
 use norprog::{ByteOut, IntoWrite, Report, Strategy, write_report};
 use std::test::Fail;
 
@@ -51,7 +51,7 @@ fn a_failing_writer_holds_a_proper_prefix(rt: HostRuntime) {
             held: Vec::new(rt.alloc()),
             most: 1,
             call: 0,
-            fails_at,
+            odd: failing(fails_at),
         };
         let mut writer = IntoWrite::new(inner);
         let whole = write_report(&report(), &mut writer).is_ok();

@@ -1,7 +1,7 @@
 //! Builds that are refused in the work: what was written by then is a front of the job's script.
 
 use crate::bytes::{LARGE, LONE_BLOCK, MAPPED, SMALL, patched};
-use crate::devices::{content, run_build, script};
+use crate::devices::{content, failing, run_build, script};
 use crate::jobs::{ONE_BYTE, inputs};
 use crate::play::with_bytes;
 use nor_erase::PlanFault;
@@ -178,7 +178,7 @@ fn try_row(rt: &impl Abort, alloc: Global, row: &Refused) -> Result<(), Fail> {
         ..inputs(hex.as_str())
     };
     let mut reader = content(given, usize::MAX);
-    reader.fails_at = row.fails_at;
+    reader.odd = failing(row.fails_at);
     let built = run_build(alloc, &inputs, reader, row.len as u64, script(alloc, 128)?);
     assert_eq!(rt; built.answer.err(), Some(row.want), "{records}");
     assert!(rt;
