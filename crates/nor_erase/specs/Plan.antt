@@ -1,5 +1,5 @@
 -- What a plan of a window promises (this project's).
-use Rattle.std.specs.Prelude.{◌≡◌, ◌⊎◌, ℕ, true, false, ◌+◌, ◌/◌, ◌%◌, ◌<◌, ◌≤◌, List, length, map, Option, Some, None, slice_index}
+use Rattle.std.specs.Prelude.{◌≡◌, ◌⊎◌, ⊤, ℕ, true, false, ◌+◌, ◌/◌, ◌%◌, ◌<◌, ◌≤◌, List, length, map, Option, Some, None, slice_index}
 use Rattle.nor_base.specs.declared.meaning.Start.{Start}
 use Rattle.nor_base.specs.declared.meaning.Strategy.{Strategy}
 use Rattle.nor_base.specs.Parameters.{Parameters}
@@ -52,11 +52,19 @@ pub record IsLowestAt (m : Parameters) (by : Strategy) (at : ℕ) (content targe
   pub upto : a < at + count
   pub none_below : (x : ℕ) → at ≤ x → x < a → is_at_fault m by content target x ≡ false
 
+-- the fault of a chip with that content and target; that memory was refused is none
 abbrev pub IsFaultOf : Parameters → Strategy → ℕ → List ℕ → List ℕ → ℕ → PlanFault → Type 0
 IsFaultOf m by at content target count (fault.NoErase a) = IsLowestAt m by at content target count a × (lacks_erase m by content target a ≡ true)
 IsFaultOf m by at content target count (fault.Unreachable a) = IsLowestAt m by at content target count a × (is_unreachable by content target a ≡ true)
-IsFaultOf m by at content target count fault.Memory = Unit {0}
+IsFaultOf m by at content target count fault.Memory = ⊥
 
+-- so it is whatever the rest of the chip holds and must hold
 abbrev pub IsFault : Parameters → Strategy → ℕ → List ℕ → List ℕ → PlanFault → Type 0
+IsFault m by at have want fault.Memory = ⊥
 IsFault m by at have want why =
     (content target : List ℕ) → HasPart content have at → HasPart target want at → IsFaultOf m by at content target (length have) why
+
+-- why there is no plan: an address is at fault, or memory was refused
+abbrev pub Refuses : Parameters → Strategy → ℕ → List ℕ → List ℕ → PlanFault → Type 0
+Refuses m by at have want fault.Memory = ⊤
+Refuses m by at have want why = IsFault m by at have want why

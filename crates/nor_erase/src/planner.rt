@@ -3,7 +3,7 @@
 ghost use Rattle.std.specs.Prelude.{◌≡◌, ◌≤◌, ◌<◌, ◌+◌, ◌^◌, length, IfOk, IfErr, MatchOption};
 ghost use Rattle.nor_base.specs.Need.{is_beyond};
 ghost use Rattle.nor_erase.specs.Bytes.{IsFirstBeyond, NoneBeyond};
-ghost use Rattle.nor_erase.specs.Plan.{IsWindow, IsPlan, IsFault};
+ghost use Rattle.nor_erase.specs.Plan.{IsWindow, IsPlan, Refuses};
 
 use crate::bytes::next_due;
 use crate::fault::PlanFault;
@@ -28,7 +28,7 @@ pub fn plan(
     requires lengths { length have.now ≡ length want.now }
     requires window { IsWindow meaning.now strategy at (length have.now) }
     ensures plan { IfOk result (λ units. IsPlan meaning.now strategy at have.now want.now units.items) }
-    ensures fault { IfErr result (IsFault meaning.now strategy at have.now want.now) }
+    ensures fault { IfErr result (Refuses meaning.now strategy at have.now want.now) }
 {
     meaning.is_accepted();
     if let Some(address) = first_beyond(strategy, at, have, want) {

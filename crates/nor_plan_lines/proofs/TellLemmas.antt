@@ -14,7 +14,7 @@ use Rattle.nor_erase.specs.declared.unit.PlanUnit.{PlanUnit}
 use Rattle.nor_erase.specs.declared.unit.PlanUnit.TheVariants as unit
 use Rattle.nor_erase.specs.declared.fault.PlanFault.{PlanFault}
 use Rattle.nor_erase.specs.declared.fault.PlanFault.TheVariants as plan
-use Rattle.nor_erase.specs.Plan.{HasPart, IsFault, plan_unit}
+use Rattle.nor_erase.specs.Plan.{HasPart, Refuses, plan_unit}
 use Rattle.nor_outline.specs.Outline.{unit_lines, with_programs, IsOutline, IsPlanned}
 use Rattle.nor_pages.specs.declared.run.Run.{Run}
 use Rattle.nor_pages.specs.Runs.{IsUnit, IsSplit, run_program, unit_start}
@@ -215,7 +215,7 @@ told_all m by a b at have want units k p s past = record {
 }
 
 -- no plan
-pub no_plan : (m : Parameters) (by : Strategy) (a : Option (List ℕ)) (at : ℕ) (have want : List ℕ) (why : PlanFault) → IsFault m by at have want why
+pub no_plan : (m : Parameters) (by : Strategy) (a : Option (List ℕ)) (at : ℕ) (have want : List ℕ) (why : PlanFault) → Refuses m by at have want why
     → StopsTelling m by a a at have want (lifted_plan why)
 no_plan m by a at have want plan.Memory is = inr (Appends-none a)
 no_plan m by a at have want (plan.NoErase x) is = (is, Appends-none a)

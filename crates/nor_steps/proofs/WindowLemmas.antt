@@ -17,7 +17,7 @@ use Rattle.nor_erase.specs.declared.unit.PlanUnit.{PlanUnit}
 use Rattle.nor_erase.specs.declared.unit.PlanUnit.TheVariants as unit
 use Rattle.nor_erase.specs.declared.fault.PlanFault.{PlanFault}
 use Rattle.nor_erase.specs.declared.fault.PlanFault.TheVariants as plan
-use Rattle.nor_erase.specs.Plan.{HasPart, IsWindow, IsPlan, IsFault, plan_unit}
+use Rattle.nor_erase.specs.Plan.{HasPart, IsWindow, IsPlan, Refuses, plan_unit}
 use Rattle.nor_pages.specs.Runs.{IsUnit, unit_start}
 use Rattle.nor_work.proofs.Ranges.{length-range, range_at}
 use Rattle.nor_work.proofs.Wider.{some_page}
@@ -317,7 +317,7 @@ sofar_all w v a b at have want units k told some p s past upto =
     }
 
 -- no plan
-pub no_plan : (w : Writing) (a : Option (List ℕ)) (at : ℕ) (have want : List ℕ) (why : PlanFault) → IsFault w.streaming.meaning w.streaming.by at have want why
+pub no_plan : (w : Writing) (a : Option (List ℕ)) (at : ℕ) (have want : List ℕ) (why : PlanFault) → Refuses w.streaming.meaning w.streaming.by at have want why
     → StopsStretch w a a at have want (lifted_plan why)
 no_plan w a at have want plan.Memory is = inr (Appends-none a)
 no_plan w a at have want (plan.NoErase x) is = (is, Appends-none a)

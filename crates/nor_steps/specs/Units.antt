@@ -58,7 +58,8 @@ abbrev pub work_unit : Parameters → List ℕ → List ℕ → PlanUnit → Wor
 work_unit m level target (unit.Block b) = block_unit m level target b
 work_unit m level target (unit.Page start) = record { erase = None; start = start; size = m.page; programs = page_programs m level target start }
 
--- content and target of the chip have these bytes in the unit
+-- the target of the chip has these bytes in the unit; its levelled content has those in a page, and is blank in a block,
+-- whatever was held there
 abbrev pub HasBytes : PlanUnit → List ℕ → List ℕ → List ℕ → List ℕ → Type 0
 HasBytes (unit.Block b) have want level target = IsBlank level b.start b.size × HasPart target want b.start
 HasBytes (unit.Page start) have want level target = HasPart level have start × HasPart target want start

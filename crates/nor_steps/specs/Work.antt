@@ -55,12 +55,13 @@ pub record WroteStretch (w v : Writing) (before after : Option (List ℕ)) (at :
   pub its_tally : told ≡ tally_of w.streaming ops
   pub few : IsFew (length have) told
 
--- why they were not: an address is at fault, and nothing was written; or the writer failed, or a growth was refused
+-- some of them were, from their beginning on
 pub record HasBegun (w : Writing) (before after : Option (List ℕ)) (at : ℕ) (have want : List ℕ) : Type 0 where
   pub front : List ℕ
   pub begun : IsBegun w at have want front
   pub put : Appends before after front
 
+-- why they were not: an address is at fault, and nothing was written; or the writer failed, or a growth was refused
 abbrev pub StopsStretch : Writing → Option (List ℕ) → Option (List ℕ) → ℕ → List ℕ → List ℕ → StepsFault → Type 0
 StopsStretch w before after at have want (fault.Plan why) = IsFault w.streaming.meaning w.streaming.by at have want why × Appends before after []
 StopsStretch w before after at have want fault.Write = HasBegun w before after at have want

@@ -11,7 +11,7 @@ use Rattle.nor_base.specs.Units.{pages, units_over, units_of}
 use Rattle.nor_base.specs.Operations.{Op, unit_ops}
 use Rattle.nor_erase.specs.declared.fault.PlanFault.{PlanFault}
 use Rattle.nor_erase.specs.declared.fault.PlanFault.TheVariants as plan
-use Rattle.nor_erase.specs.Plan.{IsLowestAt, IsFault, IsFaultOf}
+use Rattle.nor_erase.specs.Plan.{HasPart, IsLowestAt, IsFault, IsFaultOf}
 use Rattle.nor_select.specs.Streamed.{next, onward}
 use Rattle.nor_plan_lines.specs.Told.{IsFaultless}
 use Rattle.nor_steps.specs.Work.{stretch_units, stretch_ops, IsWork, IsWorkOf, IsBegun, IsBegunOf}
@@ -127,13 +127,17 @@ fault_of : (m : Parameters) (by : Strategy) (at n : ℕ) (content target : List 
     → IsFaultOf m by at content target n why → IsFaultOf m by 0 content target (at + n) why
 fault_of m by at n content target (plan.NoErase a) sound is = (lowest_join m by at n a content target sound is.0, is.1)
 fault_of m by at n content target (plan.Unreachable a) sound is = (lowest_join m by at n a content target sound is.0, is.1)
-fault_of m by at n content target plan.Memory sound is = tt
+fault_of m by at n content target plan.Memory sound is = absurd is
 
--- the lowest address at fault of a stretch is the lowest of all, where none before it is at fault
-pub fault_join : (w v : Writing) (at : ℕ) (xs ys txs tys : List ℕ) (p : List Op) (why : PlanFault) → length xs ≡ at → length txs ≡ at → v ≡ written_on w p
-    → IsWork w 0 xs txs p → IsFault v.streaming.meaning v.streaming.by at ys tys why
-    → IsFault w.streaming.meaning w.streaming.by 0 (xs ++ ys) (txs ++ tys) why
-fault_join w v at xs ys txs tys p why upto upto' state first second content target has has' =
+-- the fault of a stretch, whatever the rest of the chip holds and must hold
+abbrev IsFaultOfAll : Writing → ℕ → List ℕ → List ℕ → PlanFault → Type 0
+IsFaultOfAll w at have want why =
+    (content target : List ℕ) → HasPart content have at → HasPart target want at
+    → IsFaultOf w.streaming.meaning w.streaming.by at content target (length have) why
+
+fault_join_all : (w v : Writing) (at : ℕ) (xs ys txs tys : List ℕ) (p : List Op) (why : PlanFault) → length xs ≡ at → length txs ≡ at → v ≡ written_on w p
+    → IsWork w 0 xs txs p → IsFaultOfAll v at ys tys why → IsFaultOfAll w 0 (xs ++ ys) (txs ++ tys) why
+fault_join_all w v at xs ys txs tys p why upto upto' state first second content target has has' =
     let m = w.streaming.meaning in
     let by = w.streaming.by in
     let left : IsWorkOf w 0 at content target p =
@@ -143,6 +147,14 @@ fault_join w v at xs ys txs tys p why upto upto' state first second content targ
     (second content target (part_right content xs ys at upto has) (part_right target txs tys at upto' has')) in
     let count : at + length ys ≡ length (xs ++ ys) = omega (arith, length-append xs ys, upto) in
     subst (λ n. IsFaultOf m by 0 content target n why) count (fault_of m by at (length ys) content target why left.sound right)
+
+-- the lowest address at fault of a stretch is the lowest of all, where none before it is at fault
+pub fault_join : (w v : Writing) (at : ℕ) (xs ys txs tys : List ℕ) (p : List Op) (why : PlanFault) → length xs ≡ at → length txs ≡ at → v ≡ written_on w p
+    → IsWork w 0 xs txs p → IsFault v.streaming.meaning v.streaming.by at ys tys why
+    → IsFault w.streaming.meaning w.streaming.by 0 (xs ++ ys) (txs ++ tys) why
+fault_join w v at xs ys txs tys p (plan.NoErase a) upto upto' state first second = fault_join_all w v at xs ys txs tys p (plan.NoErase a) upto upto' state first second
+fault_join w v at xs ys txs tys p (plan.Unreachable a) upto upto' state first second = fault_join_all w v at xs ys txs tys p (plan.Unreachable a) upto upto' state first second
+fault_join w v at xs ys txs tys p plan.Memory upto upto' state first second = absurd second
 
 -- nothing
 pub work_none : (w : Writing) → IsWork w 0 [] [] []

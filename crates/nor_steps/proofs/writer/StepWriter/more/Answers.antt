@@ -3,7 +3,7 @@ use Rattle.std.proofs.Common.{sym, ◌∙◌, ap, subst}
 use Rattle.nor_base.specs.declared.meaning.Strategy.{Strategy}
 use Rattle.nor_base.specs.Accepted.{IsAccepted}
 use Rattle.nor_base.specs.Parameters.{Parameters}
-use Rattle.nor_erase.specs.Plan.{IsPlan, IsFault}
+use Rattle.nor_erase.specs.Plan.{IsPlan, Refuses}
 use Rattle.nor_steps.specs.Faults.{lifted_plan}
 use Rattle.nor_steps.specs.Writing.{Writing}
 use Rattle.nor_steps.proofs.WindowLemmas.{no_plan, handed_on}
@@ -12,9 +12,9 @@ use Rattle.nor_steps.proofs.writer.StepWriter.more.Goals as goal
 pub returns-in_err-units-clause-stopped : goal.returns-in_err-units-clause-stopped
 returns-in_err-units-clause-stopped g c =
     handed_on _ _ (lifted_plan c.in_err-units.field-0.0) c.from_residual.ensures.1 (no_plan c.args.self.now _ c.args.at c.args.have.now c.args.want.now c.in_err-units.field-0.0
-    (subst (λ (m : Parameters). IsFault m c.args.self.now.streaming.by c.args.at c.args.have.now c.args.want.now c.in_err-units.field-0.0)
+    (subst (λ (m : Parameters). Refuses m c.args.self.now.streaming.by c.args.at c.args.have.now c.args.want.now c.in_err-units.field-0.0)
     (c.meaning-meaning.ensures ∙ ap (λ (w : Writing). w.streaming.meaning) c.self.view_is)
-    (subst (λ (by : Strategy). IsFault c.meaning-meaning.result.now by c.args.at c.args.have.now c.args.want.now c.in_err-units.field-0.0)
+    (subst (λ (by : Strategy). Refuses c.meaning-meaning.result.now by c.args.at c.args.have.now c.args.want.now c.in_err-units.field-0.0)
     (c.strategy.ensures ∙ ap (λ (w : Writing). w.streaming.by) c.self.view_is) c.in_err-units.ensures.fault)))
 
 pub write_units-requires-clause-planned : goal.write_units-requires-clause-planned
