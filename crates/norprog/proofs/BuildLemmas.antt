@@ -192,7 +192,7 @@ work_cause t len job is part after fault.Memory cause = tt
 work_cause t len job is part after other cause = absurd cause
 
 front_is : (t : Task) (len : ℕ) (job : Job) (before after : Ahead) (x y : Option (List ℕ)) (why : BuildFault) → Laws → IsAccepted job.meaning → (is : IsJob t len job)
-    → (cut : IsCutScript job before after x y why) → IsFrontOf job.meaning (start_of t) t.verify (wanted t job.image is.regions) cut.part cut.bytes
+    → (cut : IsCutScript job before after x y why) → IsFrontOf job.meaning (start_of t) t.verify (wanted t job.image is.regions) cut.part cut.bytes why
 front_is t len job before after x y why laws accepted is cut =
     let m = job.meaning in
     let content = filled job cut.known cut.part in
@@ -205,11 +205,10 @@ front_is t len job before after x y why laws accepted is cut =
     let steps = steps_of (planned m job.start job.verify content own) in
     record {
       content = content;
-      known = cut.known;
-      within = cut.front.within;
       window = cut.window;
       its_size = cut.its_size;
-      recent = cut.recent;
+      known = cut.known;
+      windows = cut.windows;
       begins = fill.begins;
       workable = subst (IsWorkable m (start_of t) content) same (subst (λ (s : Start). IsWorkable m s content own) is.start fill.workable);
       steps = steps;

@@ -35,6 +35,7 @@ pub record IsPlace (m : Parameters) (w at count : ℕ) : Type 0 where
   pub whole : (at + count) % m.page ≡ 0
   pub aligned : at + count < m.size → (at + count) % w ≡ 0
   pub ends : (count ≡ w) ⊎ ((count ≤ w) × (at + count ≡ m.size))
+  pub upto : at + count ≡ min (at + w) m.size
 
 pub place_is : (m : Parameters) (w at count : ℕ) → IsAccepted m → IsWindowSize m w → at < m.size → at % w ≡ 0 → count ≡ min w (m.size - at) → IsPlace m w at count
 place_is m w at count accepted size before aligned is = elim (cases_lt (m.size - at) w) [
@@ -47,6 +48,7 @@ place_is m w at count accepted size before aligned is = elim (cases_lt (m.size -
         whole = ap (λ n. n % m.page) last ∙ chip_pages m accepted;
         aligned = λ more. absurd (omega (arith, more, last));
         ends = inr (omega (arith, rest, is), last);
+        upto = omega (arith, last, rest, before);
       }
   | inr full ↦
       let all : count ≡ w = omega (arith, full, is) in
@@ -58,5 +60,6 @@ place_is m w at count accepted size before aligned is = elim (cases_lt (m.size -
         whole = multiple_of (at + count) w m.page (window_pages m w accepted size) next;
         aligned = λ more. next;
         ends = inl all;
+        upto = omega (arith, all, full, before);
       }
 ]

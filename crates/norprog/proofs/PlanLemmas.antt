@@ -34,14 +34,14 @@ use Rattle.nor_work.specs.Exists.{PlannedCanBeSpelled}
 use Rattle.nor_work.specs.Laws.{IsWorkable}
 use Rattle.norprog.specs.Build.{wanted}
 use Rattle.norprog.specs.Plan.{IsPlanOf, StopsPlan}
-use Rattle.norprog.specs.PlanWindows.{plan_text, driven_by, ToldWindow, IsUntold, StopsPlanWindow, IsToldUpTo, AreRecent, TellsWindows, IsCutPlan, IsCutPlanOf, IsToldWhole}
-use Rattle.norprog.specs.Windows.{target_from, first_writing, CutCause, job_report}
+use Rattle.norprog.specs.PlanWindows.{plan_text, driven_by, ToldWindow, IsUntold, StopsPlanWindow, IsToldUpTo, TellsWindows, IsCutPlan, IsCutPlanOf, IsToldWhole}
+use Rattle.norprog.specs.Windows.{target_from, first_writing, CutCause, AreRecent, job_report}
 use Rattle.norprog.proofs.BuildLemmas.{target_is, workable_is, spelled_is, report_is, work_cause}
 use Rattle.norprog.proofs.OutlineLemmas.{two_told, told_begun, all_begun, none_lines, whole_lines}
 use Rattle.norprog.proofs.ScriptLemmas.{whole_with}
 use Rattle.norprog.proofs.StretchLemmas.{fault_join}
 use Rattle.norprog.proofs.TargetLemmas.{gives_none, length-target, target_of_parts}
-use Rattle.norprog.proofs.WindowLemmas.{none_done, done_with}
+use Rattle.norprog.proofs.WindowLemmas.{IsNext, none_done, done_with}
 
 -- what never fails didn't
 pub never_failed : (why : StepsFault) → 0 ≡ 0 + of_writer why → IsOfWriting why → why ≡ steps.Memory
@@ -104,19 +104,9 @@ told_then job v u at n a b c x y z told more some whole s window =
       put = Appends-append x y z s.text window.lines.text s.put window.lines.put;
     }
 
--- where a window lies among the others
-pub record IsNext (job : Job) (at n window : ℕ) : Type 0 where
-  pub page : 0 < job.meaning.page
-  pub whole : at % job.meaning.page ≡ 0
-  pub aligned : at < job.meaning.size → at % window ≡ 0
-  pub then : at + n < job.meaning.size → (at + n) % window ≡ 0
-  pub some : 0 < n
-  pub few : n ≤ window
-  pub fits : at + n ≤ job.meaning.size
-
 -- what was told, and then nothing more was written
 cut_between : (job : Job) (v : Writing) (at n window : ℕ) (a b c : Ahead) (x y z : Option (List ℕ)) (told : Tally) (ys : List ℕ) (why : BuildFault) → IsNext job at n window
-    → length ys ≤ n → (s : IsToldUpTo job v at a b x y told) → Gives b ys c → Appends y z [] → CutCause job (s.steps.part ++ ys) c why → AreRecent window at (at + length ys) why
+    → length ys ≤ n → (s : IsToldUpTo job v at a b x y told) → Gives b ys c → Appends y z [] → CutCause job (s.steps.part ++ ys) c why → AreRecent job.meaning.size window at (at + length ys) why
     → ((have want : List ℕ) → AreLines job.meaning (driven_by job) 0 have want s.text → TellsWindows job.meaning (driven_by job) have want s.text why)
     → IsCutPlan job window a c x z why
 cut_between job v at n window a b c x y z told ys why place size s given put cause recent tells =
@@ -129,7 +119,7 @@ cut_between job v at n window a b c x y z told ys why place size s given put cau
       given = Gives-append a b c xs ys s.steps.given given;
       cause = cause;
       known = at;
-      windows = record { within = omega (arith, count); whole = place.aligned; recent = subst (λ k. AreRecent window at k why) count recent };
+      windows = record { within = omega (arith, count); whole = place.aligned; recent = subst (λ k. AreRecent job.meaning.size window at k why) count recent };
       bytes = s.text;
       lines = subst (λ (part : List ℕ). TellsWindows job.meaning (driven_by job) part (target_from job 0 part) s.text why) (sym front) (tells xs (target_from job 0 xs) s.lines);
       put = subst (Appends x z) (append-nil s.text) (Appends-append x y z s.text [] s.put put);
@@ -138,7 +128,7 @@ cut_between job v at n window a b c x y z told ys why place size s given put cau
 -- or some of the window's lines were
 cut_within : (job : Job) (v : Writing) (at n window : ℕ) (a b c : Ahead) (x y z : Option (List ℕ)) (told : Tally) (ys : List ℕ) (why : BuildFault) → IsNext job at n window
     → length ys ≡ n → (s : IsToldUpTo job v at a b x y told) → Gives b ys c → (begun : BeginsStretch job.meaning (driven_by job) y z at ys (target_from job at ys))
-    → CutCause job (s.steps.part ++ ys) c why → AreRecent window (at + n) (at + n) why
+    → CutCause job (s.steps.part ++ ys) c why → AreRecent job.meaning.size window (at + n) (at + n) why
     → ((have want bytes : List ℕ) → AreBegun job.meaning (driven_by job) 0 have want bytes → TellsWindows job.meaning (driven_by job) have want bytes why)
     → IsCutPlan job window a c x z why
 cut_within job v at n window a b c x y z told ys why place size s given begun cause recent tells =
@@ -158,7 +148,7 @@ cut_within job v at n window a b c x y z told ys why place size s given begun ca
       given = Gives-append a b c xs ys s.steps.given given;
       cause = cause;
       known = at + n;
-      windows = record { within = omega (arith, count); whole = place.then; recent = subst (λ k. AreRecent window (at + n) k why) count recent };
+      windows = record { within = omega (arith, count); whole = place.then; recent = subst (λ k. AreRecent m.size window (at + n) k why) count recent };
       bytes = text;
       lines = subst (λ (part : List ℕ). TellsWindows m by part (target_from job 0 part) text why) (sym all) (tells (xs ++ ys) (target_from job 0 (xs ++ ys)) text lines);
       put = Appends-append x y z s.text begun.front s.put begun.put;
@@ -170,9 +160,9 @@ pub told_then_cut : (job : Job) (v : Writing) (at n window : ℕ) (a b c : Ahead
 told_then_cut job v at n window a b c x y z told fault.ContentShort place s stops =
     let unread = stops.0 in
     cut_between job v at n window a b c x y z told unread.part fault.ContentShort place (omega (arith, unread.few)) s unread.given unread.put
-    (omega (arith, length-append s.steps.part unread.part, s.steps.upto, unread.few, place.fits), stops.1) (omega (arith, unread.few, place.few)) (λ have want lines. lines)
+    (omega (arith, length-append s.steps.part unread.part, s.steps.upto, unread.few, place.fits), stops.1) (omega (arith, unread.few, place.upto)) (λ have want lines. lines)
 told_then_cut job v at n window a b c x y z told fault.Read place s unread =
-    cut_between job v at n window a b c x y z told unread.part fault.Read place (omega (arith, unread.few)) s unread.given unread.put tt (omega (arith, unread.few, place.few)) (λ have want lines. lines)
+    cut_between job v at n window a b c x y z told unread.part fault.Read place (omega (arith, unread.few)) s unread.given unread.put tt (omega (arith, unread.few, place.upto)) (λ have want lines. lines)
 told_then_cut job v at n window a b c x y z told (fault.Plan why) place s stops =
     let w = first_writing job in
     let xs = s.steps.part in
@@ -183,13 +173,13 @@ told_then_cut job v at n window a b c x y z told (fault.Plan why) place s stops 
     cut_between job v at n window a b c x y z told ys (fault.Plan why) place (omega (arith, stops.size)) s stops.given stops.stops.1
     (subst (λ (goal : List ℕ). IsFault job.meaning (driven_by job) 0 (xs ++ ys) goal why) (sym goal)
     (fault_join w v at xs ys (target_from job 0 xs) (target_from job at ys) s.steps.ops why s.steps.upto (length-target job 0 xs ∙ s.steps.upto) s.steps.state s.steps.work its))
-    (omega (arith, stops.size, place.some), omega (arith, stops.size, place.few)) (λ have want lines. lines)
+    (omega (arith, stops.size, place.some), omega (arith, stops.size, place.upto)) (λ have want lines. lines)
 told_then_cut job v at n window a b c x y z told fault.Write place s stops =
     cut_within job v at n window a b c x y z told stops.part fault.Write place stops.size s stops.given stops.stops tt refl (λ have want bytes begun. begun)
 told_then_cut job v at n window a b c x y z told fault.Memory place s stops = elim stops.stops [
-  | inl begun ↦ cut_within job v at n window a b c x y z told stops.part fault.Memory place stops.size s stops.given begun tt (omega arith) (λ have want bytes begun. begun)
+  | inl begun ↦ cut_within job v at n window a b c x y z told stops.part fault.Memory place stops.size s stops.given begun tt (inl refl) (λ have want bytes begun. begun)
   | inr put ↦ cut_between job v at n window a b c x y z told stops.part fault.Memory place (omega (arith, stops.size)) s stops.given put tt
-      (omega (arith, stops.size, place.few)) (λ have want lines. all_begun job.meaning (driven_by job) have want s.text lines)
+      (inr (omega (arith, stops.size, place.upto))) (λ have want lines. all_begun job.meaning (driven_by job) have want s.text lines)
 ]
 told_then_cut job v at n window a b c x y z told other place s stops = absurd stops
 
@@ -204,7 +194,7 @@ nothing_told_of job window a x size = record {
     given = gives_none a;
     cause = tt;
     known = 0;
-    windows = record { within = omega arith; whole = λ some. zero-mod window; recent = omega arith };
+    windows = record { within = omega arith; whole = λ some. zero-mod window; recent = inl refl };
     bytes = [];
     lines = all_begun job.meaning (driven_by job) [] [] [] (none_lines job.meaning (driven_by job));
     put = Appends-none x;
@@ -225,7 +215,7 @@ close_untold job v window a b x y told size s =
         given = s.steps.given;
         cause = tt;
         known = length xs;
-        windows = record { within = omega arith; whole = λ less. absurd (omega (arith, less, s.steps.upto)); recent = omega arith };
+        windows = record { within = omega arith; whole = λ less. absurd (omega (arith, less, s.steps.upto)); recent = inl refl };
         bytes = s.text;
         lines = subst (λ (part : List ℕ). AreBegun job.meaning (driven_by job) 0 part (target_from job 0 part) s.text) (sym (take_all (length xs) xs (omega arith)))
             (all_begun job.meaning (driven_by job) xs (target_from job 0 xs) s.text s.lines);

@@ -1,6 +1,7 @@
 -- How far the text of a script was written.
-use Rattle.std.proofs.Common.{◌≡◌, ℕ, ◌+◌, List, [], ◌++◌, length, take, Option, refl, sym, ◌∙◌, ap, subst, arith, length-append}
+use Rattle.std.proofs.Common.{◌≡◌, ℕ, ◌+◌, List, [], ◌++◌, length, take, Option, refl, sym, ◌∙◌, ap, subst, arith, inl, length-append}
 use Rattle.std.specs.Io.KnownBytes.{Appends}
+use Rattle.std.proofs.Math.Nat.{zero-mod}
 use Rattle.nor_base.specs.Accepted.{IsAccepted}
 use Rattle.nor_base.specs.Device.{Ahead, Cuts}
 use Rattle.nor_base.specs.Operations.{Op}
@@ -17,7 +18,7 @@ use Rattle.nor_steps.specs.declared.tally.Tally.{Tally}
 use Rattle.nor_steps.specs.Faults.{IsOfWriting}
 use Rattle.nor_steps.specs.Tally.{tally_with}
 use Rattle.nor_steps.specs.Writing.{Writing, Begins, lines_of, next_lines}
-use Rattle.norprog.specs.Windows.{target_from, first_writing, lifted_steps, IsDone, CutCause, IsCut, IsScripted, IsCutScript}
+use Rattle.norprog.specs.Windows.{target_from, first_writing, lifted_steps, IsDone, CutCause, AreRecent, AreWindows, IsCut, IsScripted, IsCutScript}
 use Rattle.norprog.proofs.PlaceLemmas.{some_page}
 use Rattle.norprog.proofs.TargetLemmas.{gives_none, part_whole}
 use Rattle.norprog.proofs.TextLemmas.{closing_lines, job_ops, job_planned, job_text, body, planned_parts, text_is, header_front, known_front, whole_is, closing_front, end_front}
@@ -29,10 +30,10 @@ memory_cut job w a x size = record {
   within = omega arith;
   given = gives_none a;
   cause = tt;
-  known = 0;
   window = w;
   its_size = size;
-  recent = omega arith;
+  known = 0;
+  windows = record { within = omega arith; whole = λ some. zero-mod w; recent = inl refl };
   bytes = take 0 header;
   front = header_front job 0;
   put = Appends-none x;
@@ -45,10 +46,10 @@ header_cut job w a x y size cut = record {
   within = omega arith;
   given = gives_none a;
   cause = tt;
-  known = 0;
   window = w;
   its_size = size;
-  recent = omega arith;
+  known = 0;
+  windows = record { within = omega arith; whole = λ some. zero-mod w; recent = refl };
   bytes = take cut.0 header;
   front = header_front job cut.0;
   put = cut.2;
@@ -62,10 +63,10 @@ windows_cut job w n a b x y z why accepted size same begun cut = record {
   within = cut.within;
   given = cut.given;
   cause = cut.cause;
-  known = cut.known;
   window = w;
   its_size = size;
-  recent = omega (arith, cut.recent, same);
+  known = cut.known;
+  windows = subst (λ k. AreWindows job.meaning.size k cut.known (length cut.part) why) same cut.windows;
   bytes = header ++ cut.front;
   front = known_front job cut.known cut.part cut.front (some_page job.meaning accepted) cut.within cut.begins;
   put = Appends-append x y z header cut.front begun cut.put;
@@ -75,6 +76,15 @@ of_writing : (job : Job) (part : List ℕ) (after : Ahead) (why : StepsFault) �
 of_writing job part after steps.Write is = tt
 of_writing job part after steps.Memory is = tt
 of_writing job part after (steps.Plan why) is = absurd is
+
+-- all that was read
+whole_windows : (size window read : ℕ) (why : BuildFault) → read ≡ size → AreRecent size window read read why → AreWindows size window read read why
+whole_windows size window read why is recent = record { within = omega arith; whole = λ less. absurd (omega (arith, less, is)); recent = recent }
+
+closed : (size window read : ℕ) (why : StepsFault) → IsOfWriting why → AreRecent size window read read (lifted_steps why)
+closed size window read steps.Write is = refl
+closed size window read steps.Memory is = inl refl
+closed size window read (steps.Plan why) is = absurd is
 
 pub closing_cut : (job : Job) (v : Writing) (w : ℕ) (a b : Ahead) (x y z u : Option (List ℕ)) (told : Tally) (why : StepsFault) → IsWindowSize job.meaning w
     → Appends x y header → IsDone job v job.meaning.size a b y z told → Begins z u (lines_of (last v.streaming)) → IsOfWriting why
@@ -86,10 +96,10 @@ closing_cut job v w a b x y z u told why size begun done close is =
       within = omega (arith, done.upto);
       given = done.given;
       cause = of_writing job done.part b why is;
-      known = length done.part;
       window = w;
       its_size = size;
-      recent = omega arith;
+      known = length done.part;
+      windows = whole_windows job.meaning.size w (length done.part) (lifted_steps why) done.upto (closed job.meaning.size w (length done.part) why is);
       bytes = header ++ (next_lines (first_writing job) done.ops ++ close.front);
       front = closing_front job done.part close.front close.rest done.ops (whole_is job v a b y z told done) lines;
       put = Appends-append x y u header _ begun (Appends-append y z u _ close.front done.put close.put);
@@ -119,10 +129,10 @@ end_cut job v w a b x y z u t told more n size begun done close count sum cut = 
   within = omega (arith, done.upto);
   given = done.given;
   cause = tt;
-  known = length done.part;
   window = w;
   its_size = size;
-  recent = omega arith;
+  known = length done.part;
+  windows = whole_windows job.meaning.size w (length done.part) fault.Write done.upto refl;
   bytes = body job done.ops ++ take cut.0 (end_line n);
   front = end_front job done.part done.ops n cut.0 (whole_is job v a b y z told done) (steps_are job v a b y z told more n done count sum) cut.1;
   put = Appends-append x u t (body job done.ops) _ (body_put job v a b x y z u told begun done close) cut.2;

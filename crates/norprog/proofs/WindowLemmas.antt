@@ -1,5 +1,5 @@
 -- The windows of a content, one after another.
-use Rattle.std.proofs.Common.{◌≡◌, ℕ, ◌+◌, ◌%◌, ◌<◌, ◌≤◌, List, [], ◌++◌, length, take, Option, refl, sym, ◌∙◌, ap, subst, arith, inl, inr, length-append}
+use Rattle.std.proofs.Common.{◌≡◌, ℕ, ◌+◌, ◌%◌, ◌<◌, ◌≤◌, List, [], ◌++◌, length, take, Option, refl, sym, ◌∙◌, ap, subst, arith, inl, inr, min, length-append}
 use Rattle.std.specs.Io.KnownBytes.{Appends}
 use Rattle.std.proofs.lemmas.List.{append-nil, take_all}
 use Rattle.std.proofs.Math.Seq.{take-append_seam}
@@ -21,7 +21,7 @@ use Rattle.nor_steps.specs.Tally.{tally_of, sum_of, nothing_told, IsFew, erases_
 use Rattle.nor_steps.specs.Work.{IsWork, IsBegun, HasBegun}
 use Rattle.nor_steps.specs.Writing.{Writing, next_lines, written_on}
 use Rattle.nor_steps.proofs.OpLemmas.{more_lines, more_steps, more_on}
-use Rattle.norprog.specs.Windows.{target_from, first_writing, lifted_steps, EndsWindow, WroteWindow, StopsWindow, IsDone, CutCause, IsKnown, IsCut}
+use Rattle.norprog.specs.Windows.{target_from, first_writing, lifted_steps, EndsWindow, WroteWindow, StopsWindow, IsDone, CutCause, AreRecent, IsKnown, IsCut}
 use Rattle.norprog.specs.Written.{AreBytes}
 use Rattle.norprog.proofs.TargetLemmas.{gives_none, length-target, target_of_parts, bytes_of_parts}
 use Rattle.norprog.proofs.StretchLemmas.{work_join, begun_done, begun_join, fault_join, work_none}
@@ -133,38 +133,53 @@ known_begun job v at n a b c x y told ys front some whole whole' size small done
           (begun_join w v at xs ys (target_from job 0 xs) (target_from job at ys) done.ops front some whole done.upto (length-target job 0 xs ∙ done.upto) done.state done.work begun));
     }
 
+-- where a window lies among the others
+pub record IsNext (job : Job) (at n window : ℕ) : Type 0 where
+  pub page : 0 < job.meaning.page
+  pub whole : at % job.meaning.page ≡ 0
+  pub over : (at + n) % job.meaning.page ≡ 0
+  pub aligned : at < job.meaning.size → at % window ≡ 0
+  pub then : at + n < job.meaning.size → (at + n) % window ≡ 0
+  pub some : 0 < n
+  pub few : n ≤ window
+  pub fits : at + n ≤ job.meaning.size
+  pub upto : at + n ≡ min (at + window) job.meaning.size
+
 -- what was done, and then nothing more was written
-cut_unwritten : (job : Job) (v : Writing) (at n window : ℕ) (a b c : Ahead) (x y z : Option (List ℕ)) (told : Tally) (ys : List ℕ) (why : BuildFault) → at % job.meaning.page ≡ 0
-    → n ≤ window → at + n ≤ job.meaning.size → length ys ≤ n → (done : IsDone job v at a b x y told) → Gives b ys c × Appends y z [] → CutCause job (done.part ++ ys) c why
-    → IsCut job window a c x z why
-cut_unwritten job v at n window a b c x y z told ys why whole few fits size done next cause = record {
-  part = done.part ++ ys;
-  within = omega (arith, length-append done.part ys, done.upto, size, fits);
-  given = Gives-append a b c done.part ys done.given next.0;
-  cause = cause;
-  known = at;
-  recent = omega (arith, length-append done.part ys, done.upto, size, few);
-  front = next_lines (first_writing job) done.ops;
-  begins = known_done job v at a b x y told ys whole done;
-  put = subst (Appends x z) (append-nil (next_lines (first_writing job) done.ops)) (Appends-append x y z _ [] done.put next.1);
-}
+cut_unwritten : (job : Job) (v : Writing) (at n window : ℕ) (a b c : Ahead) (x y z : Option (List ℕ)) (told : Tally) (ys : List ℕ) (why : BuildFault) → IsNext job at n window
+    → length ys ≤ n → (done : IsDone job v at a b x y told) → Gives b ys c × Appends y z [] → CutCause job (done.part ++ ys) c why
+    → AreRecent job.meaning.size window at (at + length ys) why → IsCut job window a c x z why
+cut_unwritten job v at n window a b c x y z told ys why place size done next cause recent =
+    let count : at + length ys ≡ length (done.part ++ ys) = omega (arith, length-append done.part ys, done.upto) in
+    record {
+      part = done.part ++ ys;
+      within = omega (arith, count, size, place.fits);
+      given = Gives-append a b c done.part ys done.given next.0;
+      cause = cause;
+      known = at;
+      windows = record { within = omega (arith, count); whole = place.aligned; recent = subst (λ k. AreRecent job.meaning.size window at k why) count recent };
+      front = next_lines (first_writing job) done.ops;
+      begins = known_done job v at a b x y told ys place.whole done;
+      put = subst (Appends x z) (append-nil (next_lines (first_writing job) done.ops)) (Appends-append x y z _ [] done.put next.1);
+    }
 
 -- or some of the window's text was
-cut_begun : (job : Job) (v : Writing) (at n window : ℕ) (a b c : Ahead) (x y z : Option (List ℕ)) (told : Tally) (ys : List ℕ) (why : BuildFault) → 0 < job.meaning.page
-    → at % job.meaning.page ≡ 0 → (at + n) % job.meaning.page ≡ 0 → at + n ≤ job.meaning.size → length ys ≡ n → AreBytes (target_from job at ys)
-    → (done : IsDone job v at a b x y told) → Gives b ys c → HasBegun v y z at ys (target_from job at ys) → CutCause job (done.part ++ ys) c why
-    → IsCut job window a c x z why
-cut_begun job v at n window a b c x y z told ys why some whole whole' fits size small done given begun cause = record {
-  part = done.part ++ ys;
-  within = omega (arith, length-append done.part ys, done.upto, size, fits);
-  given = Gives-append a b c done.part ys done.given given;
-  cause = cause;
-  known = at + n;
-  recent = omega (arith, length-append done.part ys, done.upto, size);
-  front = next_lines (first_writing job) done.ops ++ begun.front;
-  begins = known_begun job v at n a b c x y told ys begun.front some whole whole' size small done begun.begun;
-  put = Appends-append x y z _ _ done.put begun.put;
-}
+cut_begun : (job : Job) (v : Writing) (at n window : ℕ) (a b c : Ahead) (x y z : Option (List ℕ)) (told : Tally) (ys : List ℕ) (why : BuildFault) → IsNext job at n window
+    → length ys ≡ n → AreBytes (target_from job at ys) → (done : IsDone job v at a b x y told) → Gives b ys c → HasBegun v y z at ys (target_from job at ys)
+    → CutCause job (done.part ++ ys) c why → AreRecent job.meaning.size window (at + n) (at + n) why → IsCut job window a c x z why
+cut_begun job v at n window a b c x y z told ys why place size small done given begun cause recent =
+    let count : at + n ≡ length (done.part ++ ys) = omega (arith, length-append done.part ys, done.upto, size) in
+    record {
+      part = done.part ++ ys;
+      within = omega (arith, count, place.fits);
+      given = Gives-append a b c done.part ys done.given given;
+      cause = cause;
+      known = at + n;
+      windows = record { within = omega (arith, count); whole = place.then; recent = subst (λ k. AreRecent job.meaning.size window (at + n) k why) count recent };
+      front = next_lines (first_writing job) done.ops ++ begun.front;
+      begins = known_begun job v at n a b c x y told ys begun.front place.page place.whole place.over size small done begun.begun;
+      put = Appends-append x y z _ _ done.put begun.put;
+    }
 
 -- a window that was read, and ended early
 pub ended : (Ends : StepsFault → Type 0) (count : ℕ) (before after : Ahead) (x y : Option (List ℕ)) (why : StepsFault) → Ends why
@@ -174,27 +189,29 @@ ended Ends count before after x y steps.Write is = is
 ended Ends count before after x y steps.Memory is = is
 
 -- what was done up to an address, and then it ended early
-pub done_then_cut : (job : Job) (v : Writing) (at n window : ℕ) (a b c : Ahead) (x y z : Option (List ℕ)) (told : Tally) (why : BuildFault) → 0 < job.meaning.page
-    → at % job.meaning.page ≡ 0 → (at + n) % job.meaning.page ≡ 0 → n ≤ window → at + n ≤ job.meaning.size → IsDone job v at a b x y told
-    → StopsWindow job v at n b c y z why → IsCut job window a c x z why
-done_then_cut job v at n window a b c x y z told fault.ContentShort some whole whole' few fits done stops =
+pub done_then_cut : (job : Job) (v : Writing) (at n window : ℕ) (a b c : Ahead) (x y z : Option (List ℕ)) (told : Tally) (why : BuildFault) → IsNext job at n window
+    → IsDone job v at a b x y told → StopsWindow job v at n b c y z why → IsCut job window a c x z why
+done_then_cut job v at n window a b c x y z told fault.ContentShort place done stops =
     let unread = stops.0 in
-    cut_unwritten job v at n window a b c x y z told unread.part fault.ContentShort whole few fits (omega (arith, unread.few)) done (unread.given, unread.put)
-    (omega (arith, length-append done.part unread.part, done.upto, unread.few, fits), stops.1)
-done_then_cut job v at n window a b c x y z told fault.Read some whole whole' few fits done unread =
-    cut_unwritten job v at n window a b c x y z told unread.part fault.Read whole few fits (omega (arith, unread.few)) done (unread.given, unread.put) tt
-done_then_cut job v at n window a b c x y z told (fault.Plan why) some whole whole' few fits done stops =
+    cut_unwritten job v at n window a b c x y z told unread.part fault.ContentShort place (omega (arith, unread.few)) done (unread.given, unread.put)
+    (omega (arith, length-append done.part unread.part, done.upto, unread.few, place.fits), stops.1) (omega (arith, unread.few, place.upto))
+done_then_cut job v at n window a b c x y z told fault.Read place done unread =
+    cut_unwritten job v at n window a b c x y z told unread.part fault.Read place (omega (arith, unread.few)) done (unread.given, unread.put) tt
+    (omega (arith, unread.few, place.upto))
+done_then_cut job v at n window a b c x y z told (fault.Plan why) place done stops =
     let w = first_writing job in
     let xs = done.part in
     let ys = stops.part in
     let goal = target_of_parts job 0 at xs ys (omega (arith, done.upto)) in
-    cut_unwritten job v at n window a b c x y z told ys (fault.Plan why) whole few fits (omega (arith, stops.size)) done (stops.given, stops.stops.1)
+    cut_unwritten job v at n window a b c x y z told ys (fault.Plan why) place (omega (arith, stops.size)) done (stops.given, stops.stops.1)
     (subst (λ (goal : List ℕ). IsFault job.meaning (strategy job.meaning job.start) 0 (xs ++ ys) goal why) (sym goal)
     (fault_join w v at xs ys (target_from job 0 xs) (target_from job at ys) done.ops why done.upto (length-target job 0 xs ∙ done.upto) done.state done.work stops.stops.0))
-done_then_cut job v at n window a b c x y z told fault.Write some whole whole' few fits done stops =
-    cut_begun job v at n window a b c x y z told stops.part fault.Write some whole whole' fits stops.size stops.bytes done stops.given stops.stops tt
-done_then_cut job v at n window a b c x y z told fault.Memory some whole whole' few fits done stops = elim stops.stops [
-  | inl begun ↦ cut_begun job v at n window a b c x y z told stops.part fault.Memory some whole whole' fits stops.size stops.bytes done stops.given begun tt
-  | inr put ↦ cut_unwritten job v at n window a b c x y z told stops.part fault.Memory whole few fits (omega (arith, stops.size)) done (stops.given, put) tt
+    (omega (arith, stops.size, place.some), omega (arith, stops.size, place.upto))
+done_then_cut job v at n window a b c x y z told fault.Write place done stops =
+    cut_begun job v at n window a b c x y z told stops.part fault.Write place stops.size stops.bytes done stops.given stops.stops tt refl
+done_then_cut job v at n window a b c x y z told fault.Memory place done stops = elim stops.stops [
+  | inl begun ↦ cut_begun job v at n window a b c x y z told stops.part fault.Memory place stops.size stops.bytes done stops.given begun tt (inl refl)
+  | inr put ↦ cut_unwritten job v at n window a b c x y z told stops.part fault.Memory place (omega (arith, stops.size)) done (stops.given, put) tt
+      (inr (omega (arith, stops.size, place.upto)))
 ]
-done_then_cut job v at n window a b c x y z told other some whole whole' few fits done stops = absurd stops
+done_then_cut job v at n window a b c x y z told other place done stops = absurd stops

@@ -1,5 +1,5 @@
 -- What a build promises (this project's).
-use Rattle.std.specs.Prelude.{◌≡◌, ◌≢◌, ℕ, true, false, ◌+◌, ◌<◌, ◌≤◌, ⊤, List, [], ◌++◌, Bool, length, take, count_by, sum_by, Option, is_some}
+use Rattle.std.specs.Prelude.{◌≡◌, ◌≢◌, ℕ, true, false, ◌<◌, ◌≤◌, ⊤, List, [], ◌++◌, Bool, length, take, count_by, sum_by, Option, is_some}
 use Rattle.std.specs.List.{list_any, AllByRecursion}
 use Rattle.std.specs.Option.{option_map_or}
 use Rattle.std.specs.Io.KnownBytes.{Appends}
@@ -29,6 +29,7 @@ use Rattle.nor_job.specs.Task.{Task}
 use Rattle.nor_work.specs.Laws.{IsWorkable}
 use Rattle.nor_work.specs.Runs.{verifies}
 use Rattle.norprog.specs.declared.report.Report.{Report}
+use Rattle.norprog.specs.Windows.{AreWindows}
 
 -- what the chip must hold in the end
 abbrev pub wanted : Task → Pairs → List Region → List ℕ → List ℕ
@@ -106,14 +107,14 @@ WorkCause t image regions m len part after fault.Memory = ⊤
 WorkCause t image regions m len part after other = ⊥
 
 -- bytes that a build wrote which then was refused, of a part of the content that it read: with some more they are the script
--- of the planned work of a content that begins as that part does, but for the last window of the part at most
-pub record IsFrontOf (m : Parameters) (start : Start) (verify : Bool) (goal : List ℕ → List ℕ) (part bytes : List ℕ) : Type 0 where
+-- of the planned work of a content that begins with the windows of that part that were planned; no address of these is at
+-- fault
+pub record IsFrontOf (m : Parameters) (start : Start) (verify : Bool) (goal : List ℕ → List ℕ) (part bytes : List ℕ) (why : BuildFault) : Type 0 where
   pub content : List ℕ
-  pub known : ℕ
-  pub within : known ≤ length part
   pub window : ℕ
   pub its_size : IsWindowSize m window
-  pub recent : length part ≤ known + window
+  pub known : ℕ
+  pub windows : AreWindows m.size window known (length part) why
   pub begins : take known content ≡ take known part
   pub workable : IsWorkable m start content (goal content)
   pub steps : List Step
@@ -133,7 +134,7 @@ pub record StopsWork (t : Task) (len : ℕ) (before after : Ahead) (held_before 
   pub given : Gives before part after
   pub cause : WorkCause t image regions m len part after why
   pub bytes : List ℕ
-  pub front : IsFrontOf m (start_of t) t.verify (wanted t image regions) part bytes
+  pub front : IsFrontOf m (start_of t) t.verify (wanted t image regions) part bytes why
   pub put : Appends held_before held_after bytes
 
 -- no more than so many bytes were read

@@ -16,7 +16,8 @@ use Rattle.nor_job.specs.Task.{Task}
 use Rattle.nor_work.specs.Laws.{IsWorkable}
 use Rattle.norprog.specs.declared.report.Report.{Report}
 use Rattle.norprog.specs.Build.{wanted, report_of, WorkCause}
-use Rattle.norprog.specs.PlanWindows.{plan_text, AreWindows, TellsWindows}
+use Rattle.norprog.specs.PlanWindows.{plan_text, TellsWindows}
+use Rattle.norprog.specs.Windows.{AreWindows}
 
 -- the inputs are accepted, the reader gave the whole content, work can be done on it, and what was appended is the lines of
 -- the units of the planned work; the report is of these units and of the steps of that work

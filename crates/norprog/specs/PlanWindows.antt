@@ -1,5 +1,5 @@
 -- What a part of a plan has done: content was read, and the lines of its windows were written (this project's).
-use Rattle.std.specs.Prelude.{◌≡◌, ℕ, ◌+◌, ◌%◌, ◌<◌, ◌≤◌, List, length, take, Option, None, flat_map}
+use Rattle.std.specs.Prelude.{◌≡◌, ℕ, ◌≤◌, List, length, take, Option, None, flat_map}
 use Rattle.std.specs.Io.KnownBytes.{Appends}
 use Rattle.nor_base.specs.declared.meaning.Start.{Start}
 use Rattle.nor_base.specs.declared.meaning.Strategy.{Strategy}
@@ -16,7 +16,7 @@ use Rattle.nor_plan_lines.specs.Told.{AreLines, AreBegun, TellsStretch, StopsTel
 use Rattle.nor_steps.specs.declared.fault.StepsFault.{StepsFault}
 use Rattle.nor_steps.specs.declared.tally.Tally.{Tally}
 use Rattle.nor_steps.specs.Writing.{Writing}
-use Rattle.norprog.specs.Windows.{target_from, WroteWindow, EndsWindow, IsDone, CutCause, IsScripted}
+use Rattle.norprog.specs.Windows.{target_from, WroteWindow, EndsWindow, IsDone, CutCause, AreWindows, IsScripted}
 
 -- the lines of the units of the planned work of a content and its target
 abbrev pub plan_text : Parameters → Start → List ℕ → List ℕ → List ℕ
@@ -47,23 +47,6 @@ pub record IsToldUpTo (job : Job) (v : Writing) (end : ℕ) (before after : Ahea
   pub text : List ℕ
   pub lines : AreLines job.meaning (driven_by job) 0 steps.part (target_from job 0 steps.part) text
   pub put : Appends held_before held_after text
-
--- whole windows of what was read, by where it ended: the last of them is the last before the one that wasn't filled, or
--- has an address at fault; or it is the one of which a line couldn't be written; or any of the last two, where a growth was
--- refused
-abbrev pub AreRecent : ℕ → ℕ → ℕ → BuildFault → Type 0
-AreRecent window known read fault.ContentShort = read < known + window
-AreRecent window known read fault.Read = read < known + window
-AreRecent window known read (fault.Plan why) = (known < read) × (read ≤ known + window)
-AreRecent window known read fault.Write = read ≡ known
-AreRecent window known read fault.Memory = read ≤ known + window
-AreRecent window known read other = ⊥
-
--- so many bytes of what was read are whole windows of a chip of a size
-pub record AreWindows (size window known read : ℕ) (why : BuildFault) : Type 0 where
-  pub within : known ≤ read
-  pub whole : known < size → known % window ≡ 0
-  pub recent : AreRecent window known read why
 
 -- all their lines; some of them, from their beginning on, where the writer failed or a growth was refused. No address of
 -- them is at fault

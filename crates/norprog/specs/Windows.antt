@@ -1,5 +1,5 @@
 -- What a part of a build has done: content was read, and the steps of its windows were written (this project's).
-use Rattle.std.specs.Prelude.{◌≡◌, ◌≢◌, ℕ, false, ◌+◌, ◌%◌, ◌<◌, ◌≤◌, ⊤, List, [], ◌++◌, length, map, take, count_by, Option, Result, Ok, Err}
+use Rattle.std.specs.Prelude.{◌≡◌, ◌≢◌, ◌⊎◌, ℕ, false, ◌+◌, ◌%◌, ◌<◌, ◌≤◌, min, ⊤, List, [], ◌++◌, length, map, take, count_by, Option, Result, Ok, Err}
 use Rattle.std.specs.List.{enumerate_from}
 use Rattle.std.specs.Io.KnownBytes.{Appends}
 use Rattle.nor_base.specs.Device.{Ahead, Gives, IsAtEnd}
@@ -107,21 +107,39 @@ CutCause job part after fault.Write = ⊤
 CutCause job part after fault.Memory = ⊤
 CutCause job part after other = ⊥
 
--- so much of what was read was whole windows, and some of the text of their steps was written, from its beginning on
+-- by where the work ended, what was read of a chip of a size beside the windows that were planned: a part of the next window,
+-- where the reader ended or failed; all of it, where it has an address at fault; nothing, where the writer failed; nothing or
+-- all of it, where a growth was refused
+abbrev pub AreRecent : ℕ → ℕ → ℕ → ℕ → BuildFault → Type 0
+AreRecent size window known read fault.ContentShort = read < min (known + window) size
+AreRecent size window known read fault.Read = read < min (known + window) size
+AreRecent size window known read (fault.Plan why) = (known < read) × (read ≡ min (known + window) size)
+AreRecent size window known read fault.Write = read ≡ known
+AreRecent size window known read fault.Memory = (read ≡ known) ⊎ (read ≡ min (known + window) size)
+AreRecent size window known read other = ⊥
+
+-- so many bytes of what was read are whole windows of a chip of a size, and were planned
+pub record AreWindows (size window known read : ℕ) (why : BuildFault) : Type 0 where
+  pub within : known ≤ read
+  pub whole : known < size → known % window ≡ 0
+  pub recent : AreRecent size window known read why
+
+-- so much of what was read is whole pages, and some of the text of the steps of their units was written, from its beginning
+-- on
 pub record IsKnown (job : Job) (known : ℕ) (part front : List ℕ) : Type 0 where
   pub within : known ≤ length part
   pub pages : known % job.meaning.page ≡ 0
   pub bytes : AreBytes (target_from job 0 (take known part))
   pub begun : IsBegun (first_writing job) 0 (take known part) (target_from job 0 (take known part)) front
 
--- some of the content was read, and no more than a window of it isn't in what was written
+-- some of the content was read, and some of the text of the steps of its windows was written
 pub record IsCut (job : Job) (window : ℕ) (before after : Ahead) (held_before held_after : Option (List ℕ)) (why : BuildFault) : Type 0 where
   pub part : List ℕ
   pub within : length part ≤ job.meaning.size
   pub given : Gives before part after
   pub cause : CutCause job part after why
   pub known : ℕ
-  pub recent : length part ≤ known + window
+  pub windows : AreWindows job.meaning.size window known (length part) why
   pub front : List ℕ
   pub begins : IsKnown job known part front
   pub put : Appends held_before held_after front
@@ -151,15 +169,16 @@ pub record IsScriptFront (job : Job) (known : ℕ) (part bytes : List ℕ) : Typ
   pub sound : (content target : List ℕ) → HasPart content (take known part) 0 → HasPart target (target_from job 0 (take known part)) 0
       → IsSound (first_writing job) 0 known content target
 
+-- some of the content was read, and what was written is a front of the script of its windows
 pub record IsCutScript (job : Job) (before after : Ahead) (held_before held_after : Option (List ℕ)) (why : BuildFault) : Type 0 where
   pub part : List ℕ
   pub within : length part ≤ job.meaning.size
   pub given : Gives before part after
   pub cause : CutCause job part after why
-  pub known : ℕ
   pub window : ℕ
   pub its_size : IsWindowSize job.meaning window
-  pub recent : length part ≤ known + window
+  pub known : ℕ
+  pub windows : AreWindows job.meaning.size window known (length part) why
   pub bytes : List ℕ
   pub front : IsScriptFront job known part bytes
   pub put : Appends held_before held_after bytes

@@ -32,7 +32,8 @@ returns-in_err-more-clause-cut g c =
     let took : length (take c.min-count.result c.loop-at.have) ≡ c.min-count.result = length-take-le c.min-count.result c.loop-at.have (omega (arith, place.few, c.loop-at.invariant.room)) in
     handed_on _ _ _ c.from_residual.ensures.1
     (done_then_cut c.args.job.now c.loop-at.writer c.loop-at.at c.min-count.result (length c.args.have.now) _ _ _ _ _ _ c.loop-at.told c.in_err-more.field-0.0
-    (some_page m c.requires.accepted) c.loop-at.invariant.whole place.whole place.few place.inside c.loop-at.invariant.done
+    (record { page = some_page m c.requires.accepted; whole = c.loop-at.invariant.whole; over = place.whole; aligned = c.loop-at.invariant.aligned; then = place.aligned; some = place.some; few = place.few; fits = place.inside; upto = place.upto })
+    c.loop-at.invariant.done
     (subst (λ n. StopsWindow c.args.job.now c.loop-at.writer c.loop-at.at n (g.R.ByteIn.ahead c.loop-at.content) (g.R.ByteIn.ahead c.write_window.new.content) (g.W.ByteOut.held c.loop-at.out) (g.W.ByteOut.held c.write_window.new.out) c.in_err-more.field-0.0)
     took c.in_err-more.ensures.stopped))
 
