@@ -57,7 +57,7 @@ enable = bare what.Enable 0x06
 abbrev pub disable : Instr
 disable = bare what.Disable 0x04
 
--- a status read, until it says 00h: idle, and the latch clear
+-- a status read, until it says idle
 abbrev pub poll : Instr
 poll = record (bare what.Status 0x05) { bytes = 0 ∷ [] }
 

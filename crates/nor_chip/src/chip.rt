@@ -142,7 +142,8 @@ impl<'a> Chip<'a> {
     fn is_barred(&self, seen: &Seen<'_>) -> bool
         requires program { is_program seen.now.what ≡ true }
         requires inside { seen.now.address < length self.now.chip.array }
-        ensures { result ≡ is_barred_of self.now.setting.meaning self.now.setting.page seen.now.address (sent seen.now) self.now.chip.array }
+        ensures { result
+            ≡ is_barred_of self.now.setting.meaning self.now.setting.page seen.now.address (sent seen.now) self.now.chip.array }
     {
         let meaning = self.meaning;
         meaning.is_accepted();
@@ -216,7 +217,8 @@ impl<'a> Chip<'a> {
     /// FFh over a legal block.
     fn erase(&mut self, kind: u8, start: u32)
         requires { is_legal_block self.old.setting.meaning kind start ≡ true }
-        ensures chip { self.new.chip ≡ accepting self.old.setting self.old.chip (erased start (block_size self.old.setting.meaning kind) self.old.chip.array) }
+        ensures chip { self.new.chip
+            ≡ accepting self.old.setting self.old.chip (erased start (block_size self.old.setting.meaning kind) self.old.chip.array) }
         ensures stays { self.new.setting ≡ self.old.setting }
     {
         let meaning = self.meaning;
@@ -230,7 +232,8 @@ impl<'a> Chip<'a> {
     fn program(&mut self, seen: &Seen<'_>)
         requires program { is_program seen.now.what ≡ true }
         requires inside { seen.now.address < length self.old.chip.array }
-        ensures chip { self.new.chip ≡ accepting self.old.setting self.old.chip (programmed self.old.setting.page seen.now.address (sent seen.now) self.old.chip.array) }
+        ensures chip { self.new.chip
+            ≡ accepting self.old.setting self.old.chip (programmed self.old.setting.page seen.now.address (sent seen.now) self.old.chip.array) }
         ensures stays { self.new.setting ≡ self.old.setting }
     {
         let meaning = self.meaning;

@@ -1,14 +1,14 @@
 -- From one unit of a window to the next.
-use Rattle.std.proofs.Common.{◌≡◌, ◌⊎◌, ℕ, suc, ◌+◌, ◌-◌, ◌/◌, ◌^◌, ◌<◌, ◌≤◌, List, [], ◌∷◌, ◌++◌, length, map, take, drop, get_or, Option, Result, Ok, Err, refl, sym, ◌∙◌, ap, subst, arith, inl, inr}
-use Rattle.std.specs.Prelude.{flat_map, IfErr, IsErrAnd}
-use Rattle.std.specs.List.{slice_range, AllByRecursion}
+use Rattle.std.proofs.Common.{◌≡◌, ℕ, suc, ◌+◌, ◌-◌, ◌^◌, ◌<◌, ◌≤◌, List, [], ◌∷◌, ◌++◌, length, take, drop, get_or, Option, Result, Ok, Err, refl, sym, ◌∙◌, ap, subst, arith, inl, inr}
+use Rattle.std.specs.Prelude.{flat_map, IsErrAnd}
+use Rattle.std.specs.List.{slice_range}
 use Rattle.std.specs.Io.KnownBytes.{Appends}
 use Rattle.std.proofs.lemmas.List.{append_assoc, append-nil, length-map, take-append-drop, take_all}
 use Rattle.std.proofs.lemmas.Grind.{flat_map-append}
 use Rattle.nor_base.specs.declared.meaning.Strategy.{Strategy}
 use Rattle.nor_base.specs.Device.{Cuts}
 use Rattle.nor_base.specs.Parameters.{Parameters}
-use Rattle.nor_base.specs.Units.{WorkUnit, pages, units_of}
+use Rattle.nor_base.specs.Units.{WorkUnit}
 use Rattle.nor_base.proofs.DeviceLaws.{Appends-none, Appends-append}
 use Rattle.nor_erase.specs.declared.unit.PlanUnit.{PlanUnit}
 use Rattle.nor_erase.specs.declared.unit.PlanUnit.TheVariants as unit
@@ -17,7 +17,7 @@ use Rattle.nor_erase.specs.declared.fault.PlanFault.TheVariants as plan
 use Rattle.nor_erase.specs.Plan.{HasPart, Refuses, plan_unit}
 use Rattle.nor_outline.specs.Outline.{unit_lines, with_programs, IsOutline, IsPlanned}
 use Rattle.nor_pages.specs.declared.run.Run.{Run}
-use Rattle.nor_pages.specs.Runs.{IsUnit, IsSplit, run_program, unit_start}
+use Rattle.nor_pages.specs.Runs.{IsUnit, IsSplit, unit_start}
 use Rattle.nor_steps.specs.declared.fault.StepsFault.{StepsFault}
 use Rattle.nor_steps.specs.declared.fault.StepsFault.TheVariants as fault
 use Rattle.nor_steps.specs.Faults.{lifted_plan, IsOfWriting}
@@ -26,7 +26,7 @@ use Rattle.nor_steps.specs.Work.{stretch_units}
 use Rattle.nor_steps.proofs.OpLemmas.{take_one, all_one, all_at}
 use Rattle.nor_steps.proofs.Placed.{IsPlaced, level_of, length-level, units_placed, window_stretch}
 use Rattle.nor_steps.proofs.WindowLemmas.{get_or_map, some_unit, part_of_part, has_bytes, lies_at}
-use Rattle.nor_plan_lines.specs.Told.{stretch_lines, AreUnitLines, AreUnitBegun, TellsUnit, TellsStretch, BeginsStretch, StopsTelling, IsWindowPlan}
+use Rattle.nor_plan_lines.specs.Told.{AreUnitLines, AreUnitBegun, TellsUnit, TellsStretch, BeginsStretch, StopsTelling, IsWindowPlan}
 use Rattle.nor_plan_lines.proofs.Reached.{reached_at, reached_planned}
 
 -- the lines of a unit, by its runs

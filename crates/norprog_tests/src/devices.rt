@@ -160,7 +160,7 @@ pub(crate) fn run_plan<'d>(
 }
 
 /// The report of the job of one byte.
-const ONE_PROGRAM: Report = Report {
+pub(crate) const ONE_PROGRAM: Report = Report {
     strategy: Strategy::S2,
     steps: 3,
     erases: 0,

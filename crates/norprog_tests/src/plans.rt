@@ -1,7 +1,7 @@
 //! The lines that tell plans, the reports beside them, and what stands of the lines after a refusal.
 
 use crate::bytes::{BLOCKS, LARGE, LEGACY, LONE_BLOCK, SMALL, patched};
-use crate::devices::{Built, IMAGE, content, failing, run_build, run_plan, script};
+use crate::devices::{Built, IMAGE, ONE_PROGRAM, content, failing, run_build, run_plan, script};
 use crate::jobs::inputs;
 use crate::play::with_bytes;
 use nor_erase::PlanFault;
@@ -28,16 +28,6 @@ struct Row {
     /// The lines that are written.
     lines: &'static str,
 }
-
-/// The report of one program.
-const ONE_PROGRAM: Report = Report {
-    strategy: Strategy::S2,
-    steps: 3,
-    erases: 0,
-    erased: 0,
-    programs: 1,
-    ignored: 0,
-};
 
 /// The line of the program of one byte at address 0.
 const ONE_LINE: &str = "program 00000000 1\n";
