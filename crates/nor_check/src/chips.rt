@@ -13,13 +13,12 @@ ghost use Rattle.nor_check.specs.declared.chips.Latches.TheVariants.{Clear};
 ghost use Rattle.nor_check.specs.Judged.{StepsAll, all_does, all_refusal, accepted, is_other_page};
 ghost use Rattle.nor_check.specs.Outcome.{at_end, first_difference};
 
-use crate::clocks::{POLL, is_verify};
 use crate::verdict::{Verdict, Why};
 use nor_base::{Meaning, Start, Step, What, Wrong};
 use nor_chip::erase::fill_block;
 use nor_chip::program::{barred, is_barred, program};
 use nor_chip::rules::{is_broken, is_out_of_range, is_program, is_quad, is_status, needs_latch};
-use nor_decode::{Seen, decode};
+use nor_decode::{POLL, Seen, decode, is_verify};
 use nor_spelling::verifying_reads;
 use std::marker::Model;
 

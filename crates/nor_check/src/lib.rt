@@ -7,7 +7,6 @@
 
 mod checker;
 mod chips;
-mod clocks;
 mod laws;
 mod verdict;
 

@@ -5,7 +5,9 @@ use Rattle.std.specs.List.{slice_index}
 use Rattle.std.specs.Option.{option_map_or}
 use Rattle.std.proofs.lemmas.Bool.{cases_lt}
 use Rattle.std.proofs.lemmas.Bool.Decides.{eqb_tells}
-use Rattle.std.proofs.lemmas.Grind.{same_number_lists}
+use Rattle.std.proofs.lemmas.Grind.{and_numeral, same_number_lists}
+use Rattle.std.proofs.lemmas.Nat.{and_comm}
+use Rattle.std.proofs.Math.Nat.{mod-eq_of_lt}
 use Rattle.std.proofs.Math.ListN.{length-set}
 use Rattle.nor_base.specs.Parameters.{Parameters}
 use Rattle.nor_base.specs.Effect.{place, last_byte_for, written, may_program, is_barred, programmed}
@@ -44,6 +46,16 @@ last_is_kept page address n x j some h = elim (cases_lt j (n - page)) [
   | inl early ↦ absurd (h.last (j + page) (omega arith) (omega arith) (place_again page address j ∙ h.here))
   | inr kept ↦ kept
 ]
+
+-- over an erased byte any byte may be programmed
+pub may_over_erased : (m : Parameters) (byte : ℕ) → byte < 256 → may_program m 255 byte ≡ true
+may_over_erased m byte small = over m.erased_only refl
+  where
+    over : (b : Bool) → m.erased_only ≡ b → may_program m 255 byte ≡ true
+    over true is = rw is refl
+    over false is =
+        let same : bit_and 255 byte ≡ byte = and_comm 255 byte ∙ and_numeral byte 254 refl ∙ mod-eq_of_lt small in
+        rw is (eq-eqb (bit_and 255 byte) byte same)
 
 -- each byte from the first kept one up to a place may be programmed where it goes
 abbrev pub MayAllUpTo : Parameters → ℕ → ℕ → List ℕ → List ℕ → ℕ → Type 0

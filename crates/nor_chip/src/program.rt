@@ -1,6 +1,6 @@
 //! What a program does to the array.
 
-ghost use Rattle.std.specs.Prelude.{◌≡◌, ◌<◌, ◌≤◌, ◌+◌, ◌-◌, ◌%◌, length, true};
+ghost use Rattle.std.specs.Prelude.{◌≡◌, ◌<◌, ◌≤◌, ◌+◌, ◌-◌, ◌%◌, length, slice_index, true};
 ghost use Rattle.nor_base.specs.Effect.{is_program, place as place_of, may_program, is_barred as is_barred_of, barred, programmed, page_start};
 ghost use Rattle.nor_chip.specs.Sent.{sent};
 
@@ -67,6 +67,16 @@ pub fn barred(meaning: &Meaning) -> Wrong
     }
 }
 
+/// Whether byte `index` of a program may be programmed over the one that the array has there.
+// over an erased byte any may, so its clocks aren't looked at: most programs go over erased bytes
+fn may_send(meaning: &Meaning, seen: &Seen<'_>, index: usize, old: u8) -> bool
+    requires program { is_program seen.now.what ≡ true }
+    requires sent { index < length (sent seen.now) }
+    ensures { result ≡ may_program meaning.now old (slice_index (sent seen.now) index) }
+{
+    old == 0xFF || may_program(meaning, old, seen.byte(index))
+}
+
 /// Whether some byte of the program may not be programmed where it goes.
 pub fn is_barred(meaning: &Meaning, page: u32, seen: &Seen<'_>, array: &[u8]) -> bool
     requires program { is_program seen.now.what ≡ true }
@@ -77,7 +87,7 @@ pub fn is_barred(meaning: &Meaning, page: u32, seen: &Seen<'_>, array: &[u8]) ->
     let count = count_sent(seen);
     for index in first_kept(page, count)..count {
         let old = array[place(page, seen.address, index)];
-        if !may_program(meaning, old, seen.byte(index)) {
+        if !may_send(meaning, seen, index, old) {
             return true;
         }
     }

@@ -1,7 +1,7 @@
 //! Rows of the table, broken transactions and unknown opcodes, worked out by hand.
 
 use nor_base::Meaning;
-use nor_decode::{Seen, What, decode};
+use nor_decode::{Seen, What, decode, is_verify};
 use nor_samples::{
     large_chip, latched_chip, legacy_chip, legacy_latched_chip, mapped_chip, small_chip,
     w25q256jv_chip,
@@ -267,6 +267,16 @@ const UNKNOWN: [&[u8]; 10] = [
     b"000000000000",
 ];
 
+/// Clocks, and whether a verify may have them.
+const VERIFYING: [(&[u8], bool); 6] = [
+    (b"00000011000000000000000000000000........", true),
+    (b"01101011000000000000000000000000--------==", true),
+    (b"0000011.", true),
+    (b"00000101........", false),
+    (b"00000010000000000000000000000000", false),
+    (b"", false),
+];
+
 /// Each of these clocks is broken to a chip.
 fn are_broken(rt: &impl Abort, chip: &Meaning, table: &[(&[u8], bool)]) {
     for (clocks, mode4) in table {
@@ -290,6 +300,9 @@ fn tells_broken_from_unknown(rt: HostRuntime) {
     are_broken(&rt, &chip, &WRONG_ADDRESS);
     for clocks in UNKNOWN {
         assert!(rt; decode(clocks, &chip, false).is_none(), "in {clocks:?}");
+    }
+    for (clocks, may) in VERIFYING {
+        assert_eq!(rt; is_verify(clocks), may, "in {clocks:?}");
     }
     // Opcodes that another chip has.
     let dedicated = b"0010000110000001000000100000001100000100".as_slice();

@@ -1,3 +1,4 @@
 mod NumberLemmas
 mod ByteLemmas
 mod TableLemmas
+pub mod SmallLemmas

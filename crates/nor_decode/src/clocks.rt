@@ -1,9 +1,36 @@
 //! What the lanes do at each of some clocks, by the symbols alone: a look at one is a compare or two, since a script has
 //! millions of them.
 
-ghost use Rattle.std.specs.Prelude.{◌≡◌, ◌<◌, ◌≤◌, ◌^◌, length};
+ghost use Rattle.std.specs.Prelude.{◌≡◌, ◌||◌, ◌<◌, ◌≤◌, ◌^◌, length};
 ghost use Rattle.std.specs.List.{list_all};
 ghost use Rattle.nor_base.specs.Decoding.{is_bit_sent, is_nibble_sent, is_bit_sampled, is_nibble_sampled, is_idle, level_at, bit, number};
+ghost use Rattle.nor_base.specs.Run.{samples_some, is_verify};
+
+/// The clocks of a poll: read status (05h), and one byte sampled.
+pub const POLL: &[u8; 16] = b"00000101........";
+
+/// Whether a verify may have these clocks: they sample something, and aren't those of a status read (05h).
+#[tactic(auto, unfolding(nor_base::specs::Run::is_verify))]
+pub fn is_verify(clocks: &[u8]) -> bool
+    ensures { result ≡ is_verify clocks.now }
+{
+    samples_some(clocks) && !clocks.starts_with(b"00000101")
+}
+
+/// Whether some clock samples IO1, with IO2 and IO3 high, or all four lanes.
+fn samples_some(clocks: &[u8]) -> bool
+    ensures { result ≡ samples_some clocks.now }
+{
+    clocks.iter().any(|symbol| samples(*symbol))
+}
+
+/// Whether a clock samples a bit or a nibble.
+#[tactic(auto, unfolding(nor_base::specs::Decoding::is_bit_sampled, nor_base::specs::Decoding::is_nibble_sampled))]
+fn samples(symbol: u8) -> bool
+    ensures { result ≡ is_bit_sampled symbol || is_nibble_sampled symbol }
+{
+    matches!(symbol, b'.' | b'=')
+}
 
 /// Whether each clock sends a bit on IO0.
 pub(crate) fn are_bits_sent(clocks: &[u8]) -> bool

@@ -9,6 +9,7 @@ mod seen;
 mod table;
 mod transaction;
 
+pub use clocks::{POLL, is_verify};
 pub use nor_base::What;
 pub use seen::Seen;
 pub use transaction::decode;

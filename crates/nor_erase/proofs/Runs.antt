@@ -14,11 +14,11 @@ use Rattle.nor_base.specs.Need.{is_due, is_needed, lies_in_needed, erasable, era
 use Rattle.nor_base.proofs.RegionLaws.{legal_in_region, region_legal}
 use Rattle.nor_laws.proofs.BlockLaws.{blocks_nest}
 use Rattle.nor_geometry.specs.Legal.{IsReachedAt}
-use Rattle.nor_geometry.proofs.KindLemmas.{placed, size_of}
+use Rattle.nor_geometry.proofs.KindLemmas.{placed, size_of, legal_kind}
 use Rattle.nor_geometry.proofs.WindowLemmas.{divides, multiple_of}
 use Rattle.nor_work.proofs.Best.{Best, best_is, picked, Among}
 use Rattle.nor_work.proofs.Ranges.{aligned_le}
-use Rattle.nor_work.proofs.Erasing.{there, can_erase, erasable_is, is_block, floor_aligned, legal_kind, moved}
+use Rattle.nor_work.proofs.Erasing.{there, can_erase, erasable_is, is_block, floor_aligned, moved}
 use Rattle.nor_work.proofs.Reached.{any_at, four, small, holds_true}
 use Rattle.nor_work.proofs.Needed.{block_here, all_at}
 

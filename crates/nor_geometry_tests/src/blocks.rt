@@ -1,9 +1,8 @@
 //! The blocks at an address.
 
-use crate::chips::twin_chip;
 use nor_base::{Meaning, Strategy, Switch};
 use nor_geometry::{Block, is_legal, legal, smallest};
-use nor_samples::{large_chip, mapped_chip, small_chip};
+use nor_samples::{large_chip, mapped_chip, small_chip, twin_chip};
 use std::process::Abort;
 
 /// An address, and the blocks wanted there: start, size and kind of each, a size of 0 being none.

@@ -6,6 +6,4 @@
 #[cfg(test)]
 mod blocks;
 #[cfg(test)]
-mod chips;
-#[cfg(test)]
 mod strategies;

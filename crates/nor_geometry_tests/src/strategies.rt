@@ -1,11 +1,10 @@
 //! The strategies of chips, and their windows.
 
-use crate::chips::twin_chip;
 use nor_base::{Meaning, Start, Strategy, Switch};
 use nor_geometry::{strategy, window_size};
 use nor_samples::{
     erased_only_chip, large_chip, latched_chip, legacy_chip, legacy_latched_chip, mapped_chip,
-    open_page_chip, small_chip, w25q256jv_chip,
+    open_page_chip, small_chip, twin_chip, w25q256jv_chip,
 };
 
 /// Each chip with its strategy where it begins in three-byte mode, and its window.

@@ -15,8 +15,6 @@ mod reader;
 mod record;
 mod record_iter;
 mod segments;
-#[cfg(test)]
-mod tests;
 
 pub use fault::HexFault;
 pub use image::{Image, ImageIter};

@@ -1,8 +1,9 @@
 //! Chips by bytes, sizes and statuses.
 
-use crate::inputs::{LARGE, SMALL, by_bytes, inputs, plain};
+use crate::inputs::{by_bytes, inputs, plain};
 use nor_base::{Part, Start};
 use nor_job::{BuildFault, Inputs, Source, chip_of};
+use nor_samples::sfdp::{LARGE, SMALL};
 use nor_samples::{erased_only_chip, large_chip, small_chip, w25q256jv_chip};
 use nor_sfdp::SfdpFault;
 use std::process::Abort;

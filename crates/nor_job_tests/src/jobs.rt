@@ -1,8 +1,9 @@
 //! Inputs that are accepted, and memory that is refused.
 
-use crate::inputs::{IMAGE, LARGE, SMALL_CHIP, by_bytes, inputs, made, one_name};
+use crate::inputs::{IMAGE, SMALL_CHIP, by_bytes, inputs, made, one_name};
 use nor_base::{Part, Start};
 use nor_job::{BuildFault, Inputs, Job, job_of};
+use nor_samples::sfdp::LARGE;
 use nor_samples::{small_chip, w25q256jv_chip};
 use std::alloc::{AllocError, Global};
 use std::test::Fail;

@@ -1,10 +1,11 @@
 //! Inputs that are refused, and the order in which that is looked at.
 
-use crate::inputs::{IMAGE, LARGE, SMALL, SMALL_CHIP, by_bytes, inputs, made, one_name, plain};
+use crate::inputs::{IMAGE, SMALL_CHIP, by_bytes, inputs, made, one_name, plain};
 use nor_base::{Bytes, Part};
 use nor_hex::HexFault;
 use nor_job::{BuildFault, Inputs, Source, contradiction, job_of};
 use nor_layout::LayoutFault;
+use nor_samples::sfdp::{LARGE, SMALL};
 use nor_sfdp::SfdpFault;
 use std::alloc::Global;
 use std::process::Abort;

@@ -14,7 +14,7 @@ use Rattle.nor_geometry.specs.Legal.{IsReachedAt, IsSmallestAt}
 use Rattle.nor_geometry.specs.Window.{IsUncrossed}
 use Rattle.nor_work.specs.Able.{BlocksStay}
 use Rattle.nor_work.proofs.Best.{none_small}
-use Rattle.nor_work.proofs.Erasing.{legal_kind}
+use Rattle.nor_geometry.proofs.KindLemmas.{legal_kind}
 use Rattle.nor_work.proofs.Reached.{four, small}
 use Rattle.nor_work.proofs.Needed.{holds_smallest}
 use Rattle.nor_erase.proofs.Runs.{same_smallest, at_address}

@@ -118,7 +118,7 @@ fn of_page(
 fn reasons(rt: HostRuntime) -> Result<(), Fail> {
     let alloc = rt.alloc();
     let small = small_chip();
-    let mixed = mixed_chip()?;
+    let mixed = mixed_chip(alloc)?;
     // 00h at 0, A5h at 5, and 01h is wanted at 0
     let first = [(0, 1, 0, 1), (5, 1, 0xA5, 0xA5)];
     of_block(

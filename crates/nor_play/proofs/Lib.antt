@@ -1,3 +1,4 @@
+mod SampledLemmas
 mod StepLemmas
 mod PollLemmas
 mod PlayLemmas

@@ -1,20 +1,18 @@
 //! One step, on a port.
 
-ghost use Rattle.std.specs.Prelude.{◌≡◌, ◌<◌, ◌-◌, ◌^◌, ◌||◌};
-ghost use Rattle.std.specs.List.{list_any, starts_with};
+ghost use Rattle.std.specs.Prelude.{◌≡◌, ◌<◌, ◌-◌, ◌^◌};
 ghost use Rattle.nor_base.specs.declared.step.Step.TheVariants.{Send, Poll, Verify};
-ghost use Rattle.nor_base.specs.Decoding.{has_lanes, is_bit_sampled, is_nibble_sampled};
-ghost use Rattle.nor_base.specs.Run.{poll_clocks, samples_some, is_verify};
+ghost use Rattle.nor_base.specs.Run.{poll_clocks};
+ghost use Rattle.nor_base.specs.Sample.{sampled_count};
 ghost use Rattle.nor_play.specs.Turns.{Gives, PlaysStep, CountsHalt};
 
 use crate::fault::Halt;
-use nor_base::{Step, Wrong, clock_of, sample_of, sampled};
+use memchr::memchr2;
+use nor_base::{Step, Wrong, sampled};
 use nor_chip::Port;
+use nor_decode::{POLL, is_verify};
 use nor_spelling::verifying_reads;
 use std::alloc::Global;
-
-/// The clocks of a poll: read status, and one byte sampled.
-const POLL: &[u8; 16] = b"00000101........";
 
 /// Plays one step, with at most so many transactions where it polls: how many there were.
 pub(crate) fn play_step<P: Port>(
@@ -99,40 +97,18 @@ fn transact<P: Port>(alloc: Global, clocks: &[u8], port: &mut P) -> Result<Vec<u
     ensures given { Gives (λ v. v.items) (P.shown port.old) (P.shown port.new) clocks.now result }
     ensures count { CountsHalt (P.count port.old) (P.count port.new) result }
 {
-    let mut out = vec![in alloc; 0u8; sampled(clocks)]?;
+    let mut out = vec![in alloc; 0u8; count_sampled(clocks)]?;
     port.transact(clocks, out.as_mut_slice())?;
     Ok(out)
 }
 
-/// Whether a verify may have these clocks: they sample something, and aren't a status read.
-#[tactic(auto, unfolding(nor_base::specs::Run::is_verify))]
-fn is_verify(clocks: &[u8]) -> bool
-    ensures { result ≡ is_verify clocks.now }
+/// How many bytes the clocks sample.
+// most transactions sample none, which a search tells sooner than a count
+fn count_sampled(clocks: &[u8]) -> usize
+    ensures { result ≡ sampled_count clocks.now }
 {
-    samples_some(clocks) && !clocks.starts_with(b"00000101")
-}
-
-fn samples_some(clocks: &[u8]) -> bool
-    ensures { result ≡ samples_some clocks.now }
-{
-    clocks.iter().any(|symbol| samples(*symbol))
-}
-
-/// Whether a clock samples IO1 with the held lanes high, or all four lanes.
-#[tactic(auto, unfolding(nor_base::specs::Decoding::is_bit_sampled, nor_base::specs::Decoding::is_nibble_sampled))]
-fn samples(symbol: u8) -> bool
-    ensures { result ≡ is_bit_sampled symbol || is_nibble_sampled symbol }
-{
-    has_lanes(symbol, 12, 2) || has_lanes(symbol, 0, 15)
-}
-
-/// Whether the clock drives just these lanes and samples just those.
-fn has_lanes(symbol: u8, driven: u8, sampled: u8) -> bool
-    ensures { result ≡ has_lanes driven sampled symbol }
-{
-    let Some(clock) = clock_of(symbol) else {
-        return false;
-    };
-    let sample = sample_of(clock);
-    sample.driven == driven && sample.sampled == sampled
+    match memchr2(b'.', b'=', clocks) {
+        Some(_) => sampled(clocks),
+        None => 0,
+    }
 }

@@ -1,10 +1,11 @@
 //! A port that fails, through the same generic player as a chip.
 
-use crate::scripts::{ERASE, PROGRAM, VERIFY, blank, played};
+use crate::scripts::{ERASE, VERIFY, blank, played};
 use nor_base::PortFault;
 use nor_chip::{Chip, Port};
 use nor_play::PlayFault;
 use nor_samples::small_chip;
+use nor_samples::texts::ONE_BYTE;
 use std::alloc::Global;
 use std::process::Abort;
 use std::test::Fail;
@@ -67,7 +68,7 @@ fn fails_at_each(rt: &impl Abort, alloc: Global, text: &str, steps: &[u64]) -> R
 
 #[test]
 fn each_transaction_fails(rt: HostRuntime) -> Result<(), Fail> {
-    fails_at_each(&rt, rt.alloc(), PROGRAM, &[0, 1, 2, 2, 2])?;
+    fails_at_each(&rt, rt.alloc(), ONE_BYTE, &[0, 1, 2, 2, 2])?;
     fails_at_each(&rt, rt.alloc(), ERASE, &[0, 1, 2, 2, 2, 3, 4, 5, 5, 5])?;
     fails_at_each(&rt, rt.alloc(), VERIFY, &[0, 1, 2, 2, 2, 3])
 }

@@ -1,8 +1,9 @@
 //! Scripts, played on chips.
 
-use crate::scripts::{ERASE, PROGRAM, VERIFY, blank, played};
+use crate::scripts::{ERASE, VERIFY, blank, played};
 use nor_base::Wrong;
 use nor_play::PlayFault;
+use nor_samples::texts::ONE_BYTE;
 use nor_samples::{legacy_latched_chip, small_chip};
 use std::test::Fail;
 
@@ -23,11 +24,11 @@ const LATCH_LEFT: &str = "norscript 1\nx 00000110\nx 10110111\nx 00000100\nx 000
 fn polls(rt: HostRuntime) -> Result<(), Fail> {
     let meaning = small_chip();
     for (text, busy, limit, want) in [
-        (PROGRAM, [2, 0], 10, Ok(5)),
-        (PROGRAM, [2, 0], 3, Ok(5)),
-        (PROGRAM, [2, 0], 2, wrong(2, Wrong::PollNever)),
-        (PROGRAM, [0, 0], 1, Ok(3)),
-        (PROGRAM, [1, 0], 1, wrong(2, Wrong::PollNever)),
+        (ONE_BYTE, [2, 0], 10, Ok(5)),
+        (ONE_BYTE, [2, 0], 3, Ok(5)),
+        (ONE_BYTE, [2, 0], 2, wrong(2, Wrong::PollNever)),
+        (ONE_BYTE, [0, 0], 1, Ok(3)),
+        (ONE_BYTE, [1, 0], 1, wrong(2, Wrong::PollNever)),
         (ERASE, [0, 0], 1, Ok(6)),
         (ERASE, [3, 5], 6, Ok(14)),
         (ERASE, [3, 5], 5, wrong(5, Wrong::PollNever)),
@@ -58,7 +59,7 @@ fn leaves_the_chip(rt: HostRuntime) -> Result<(), Fail> {
     );
     let mut busy = blank(&rt, rt.alloc(), &meaning, &[5], false)?;
     assert_eq!(rt;
-        played(&rt, rt.alloc(), PROGRAM, &mut busy, 2)?,
+        played(&rt, rt.alloc(), ONE_BYTE, &mut busy, 2)?,
         wrong(2, Wrong::PollNever)
     );
     assert_eq!(rt; busy.content().first(), Some(&0x00));

@@ -8,10 +8,6 @@ use std::alloc::Global;
 use std::process::Abort;
 use std::test::Fail;
 
-/// One byte programmed: write enable, a program of 00h at 0, a poll.
-pub(crate) const PROGRAM: &str =
-    "norscript 1\nx 00000110\nx 0000001000000000000000000000000000000000\np 00000101........\nend 3\n";
-
 /// An erase of the sector at 0, then a program of 00h at 0 and A5h at 5.
 pub(crate) const ERASE: &str = "norscript 1\nx 00000110\nx 00100000000000000000000000000000\n\
     p 00000101........\nx 00000110\nx 00000010000000000000000000000000\

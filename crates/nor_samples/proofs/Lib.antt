@@ -1,1 +1,3 @@
+pub mod Acceptance
 mod ChipsAccepted
+mod PatchLemmas

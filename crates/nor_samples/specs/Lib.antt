@@ -1,1 +1,2 @@
 pub mod Chips
+pub mod Patches

@@ -1,9 +1,13 @@
-//! Chips for tests: what SFDP says of a few sample chips, each with its literal parameters as contract.
+//! Chips for tests: what SFDP says of a few sample chips, each with its literal parameters as contract, and their SFDP
+//! bytes.
 #![tactic(auto)]
 
-ghost use Rattle.std.specs.Prelude.{◌≡◌, [], ◌∷◌};
-ghost use Rattle.nor_base.specs.declared.meaning.Switch.TheVariants.{Plain, Latched};
-ghost use Rattle.nor_samples.specs.Chips.{small, small_open_page, small_erased_only, mapped, large_by, large, large_w25q256jv, large_latched, large_legacy, large_legacy_w25q256jv, large_legacy_latched};
+pub mod sfdp;
+pub mod texts;
+
+ghost use Rattle.std.specs.Prelude.{◌≡◌, ◌≤◌, length};
+ghost use Rattle.nor_base.specs.Accepted.{IsAccepted};
+ghost use Rattle.nor_samples.specs.Chips.{small, small_open_page, small_erased_only, plain, mapped, large_by, large, large_w25q256jv, large_latched, large_legacy, large_legacy_w25q256jv, large_legacy_latched, twin};
 
 use arrayvec::ArrayVec;
 use nor_base::{Erase, Meaning, QuadRead, Region, Switch, Width};
@@ -33,20 +37,25 @@ pub fn erased_only_chip() -> Meaning
     small_chip().erased_only_set()
 }
 
+/// A chip of so many bytes with these erase kinds and this map of regions, and in all else the small chip.
+pub fn plain_chip(size: u32, erases: [Option<Erase>; 4], map: &[Region]) -> Meaning
+    requires few { length map.now ≤ 256 }
+    requires accepted { IsAccepted (plain size erases map.now) }
+    ensures { result ≡ plain size erases map.now }
+{
+    Meaning {
+        size,
+        erases,
+        regions: regions_of(map),
+        ..small_chip()
+    }
+}
+
 /// 64 KiB with a sector map: the first 4 KiB allow kind 1 alone, and the other 60 KiB kind 2, whose blocks of 64 KiB fit
 /// nowhere.
 pub fn mapped_chip() -> Meaning
     ensures { result ≡ mapped }
 {
-    let mut regions = ArrayVec::new();
-    regions.push(Region {
-        size: 4096,
-        kinds: 1,
-    });
-    regions.push(Region {
-        size: 61440,
-        kinds: 2,
-    });
     let sectors = Erase {
         size: 4096,
         op: 0x20,
@@ -57,23 +66,17 @@ pub fn mapped_chip() -> Meaning
         op: 0xD8,
         op4: None,
     };
-    Meaning {
-        size: 65536,
-        page: 256,
-        open_page: false,
-        width: Width::Three,
-        erases: [Some(sectors), Some(blocks), None, None],
-        regions,
-        enter: Switch::Absent,
-        leave: Switch::Absent,
-        quad_read: None,
-        read4: false,
-        quad_read4: false,
-        program4: false,
-        quad4: false,
-        quad3: false,
-        erased_only: false,
-    }
+    let map = [
+        Region {
+            size: 4096,
+            kinds: 1,
+        },
+        Region {
+            size: 61440,
+            kinds: 2,
+        },
+    ];
+    plain_chip(65536, [Some(sectors), Some(blocks), None, None], &map)
 }
 
 /// 32 MiB with all that the four-byte address instruction table (FF84h) offers, and both address modes.
@@ -145,7 +148,10 @@ fn large_with(switch: Switch, dedicated: bool, quad3: bool) -> Meaning
         open_page: false,
         width: Width::Both,
         erases: [Some(sectors), Some(half_blocks), Some(blocks), None],
-        regions: one_region(0x200_0000),
+        regions: regions_of(&[Region {
+            size: 0x200_0000,
+            kinds: 15,
+        }]),
         enter: switch,
         leave: switch,
         quad_read: Some(QuadRead {
@@ -161,11 +167,59 @@ fn large_with(switch: Switch, dedicated: bool, quad3: bool) -> Meaning
     }
 }
 
-/// A map of one region of so many bytes that allows each kind.
-fn one_region(size: u32) -> ArrayVec<Region, 256>
-    ensures { result.items ≡ record { size = size; kinds = 15 } ∷ [] }
+/// 32 MiB of two regions whose border is 4 KiB below 2^24; 4 KiB sectors by two kinds and 64 KiB blocks by a third. The
+/// blocks have an opcode of four address bytes; the second kind of sectors has one where `dedicated` says so. Four-byte
+/// mode can be entered, and left as `leave` says.
+pub fn twin_chip(dedicated: bool, leave: Switch) -> Meaning
+    ensures { result ≡ twin dedicated leave }
 {
-    let mut regions = ArrayVec::new();
-    regions.push(Region { size, kinds: 15 });
-    regions
+    let sectors = Erase {
+        size: 4096,
+        op: 0x20,
+        op4: None,
+    };
+    let twins = Erase {
+        size: 4096,
+        op: 0xD7,
+        op4: dedicated.then_some(0x21),
+    };
+    let blocks = Erase {
+        size: 65536,
+        op: 0xD8,
+        op4: Some(0xDC),
+    };
+    Meaning {
+        size: 0x200_0000,
+        page: 256,
+        open_page: false,
+        width: Width::Both,
+        erases: [Some(sectors), Some(twins), Some(blocks), None],
+        regions: regions_of(&[
+            Region {
+                size: 0xFF_F000,
+                kinds: 15,
+            },
+            Region {
+                size: 0x100_1000,
+                kinds: 15,
+            },
+        ]),
+        enter: Switch::Plain,
+        leave,
+        quad_read: None,
+        read4: true,
+        quad_read4: false,
+        program4: true,
+        quad4: false,
+        quad3: false,
+        erased_only: false,
+    }
+}
+
+/// The map of these regions.
+pub fn regions_of(map: &[Region]) -> ArrayVec<Region, 256>
+    requires { length map.now ≤ 256 }
+    ensures { result.items ≡ map.now }
+{
+    ArrayVec::try_from(map).unwrap()
 }

@@ -1,3 +1,4 @@
+mod PlaceLemmas
 mod HexLemmas
 mod VerifyLemmas
 mod DigitLemmas

@@ -9,6 +9,7 @@ ghost use Rattle.nor_script.specs.declared.fault.ScriptFault.TheVariants.{Memory
 
 use crate::fault::ScriptFault;
 use itoa::Buffer;
+use memchr::memchr;
 use nor_base::{Bytes, Step};
 use std::alloc::Global;
 
@@ -102,7 +103,7 @@ fn two_parts(rest: &[u8]) -> Option<(&[u8], &[u8])>
 pub(crate) fn place_of(wanted: u8, bytes: &[u8]) -> Option<usize>
     ensures { result ≡ position (λ byte. byte == wanted) bytes.now }
 {
-    bytes.iter().position(|byte| *byte == wanted)
+    memchr(wanted, bytes)
 }
 
 fn count_blanks(rest: &[u8]) -> usize

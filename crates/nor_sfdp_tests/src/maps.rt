@@ -1,8 +1,9 @@
 //! Sector maps: which map is taken, its form, and its numbers.
 
-use crate::bytes::{ONE_MAP, SAME, TWO_MAPS, changed, mapped};
+use crate::bytes::{SAME, TWO_MAPS, mapped};
 use nor_base::{Part, Region};
 use nor_samples::mapped_chip;
+use nor_samples::sfdp::{MAPPED, patched};
 use nor_sfdp::{SfdpFault, read};
 use std::process::Abort;
 use std::test::Fail;
@@ -36,7 +37,7 @@ fn wanted_maps(rt: HostRuntime) -> Result<(), Fail> {
         ([(19, 0x00), SAME, SAME], "0", SfdpFault::ConfigBits),
     ];
     for (changes, config, fault) in table {
-        let bytes = changed(alloc, &bytes, changes)?;
+        let bytes = patched(alloc, &bytes, &changes)?;
         assert_eq!(rt; read(&bytes, config, Part::Generic).err(), Some(fault));
     }
     Ok(())
@@ -45,7 +46,6 @@ fn wanted_maps(rt: HostRuntime) -> Result<(), Fail> {
 #[test]
 fn dead_kinds(rt: HostRuntime) -> Result<(), Fail> {
     let alloc = rt.alloc();
-    let bytes = mapped(alloc, &ONE_MAP)?;
     // kind 2 dead: its opcode a fixed one, or that of kind 1; then the same of a live kind
     let table = [
         ([(96, 0x01), (55, 0x02), SAME], None),
@@ -54,7 +54,7 @@ fn dead_kinds(rt: HostRuntime) -> Result<(), Fail> {
         ([(55, 0x20), SAME, SAME], Some(SfdpFault::Opcode)),
     ];
     for (changes, fault) in table {
-        let bytes = changed(alloc, &bytes, changes)?;
+        let bytes = patched(alloc, &MAPPED, &changes)?;
         assert_eq!(rt; read(&bytes, "", Part::Generic).err(), fault);
     }
     Ok(())

@@ -1,7 +1,8 @@
 //! The sample chips are those that their bytes give.
 
-use crate::bytes::{LARGE, ONE_MAP, SAME, SMALL, changed, mapped};
+use crate::bytes::SAME;
 use nor_base::{Meaning, Part};
+use nor_samples::sfdp::{LARGE, MAPPED, SMALL, patched};
 use nor_samples::{
     large_chip, latched_chip, legacy_chip, legacy_latched_chip, mapped_chip, open_page_chip,
     small_chip, w25q256jv_chip,
@@ -20,10 +21,7 @@ fn sample_chips(rt: HostRuntime) -> Result<(), Fail> {
     );
     assert_eq!(rt; read(&LARGE, "", Part::Generic), Ok(large_chip()));
     assert_eq!(rt; read(&LARGE, "", Part::W25q256jv), Ok(w25q256jv_chip()));
-    assert_eq!(rt;
-        read(&mapped(alloc, &ONE_MAP)?, "", Part::Generic),
-        Ok(mapped_chip())
-    );
+    assert_eq!(rt; read(&MAPPED, "", Part::Generic), Ok(mapped_chip()));
     let table = [
         // a basic table of nine DWORDs
         (SMALL.as_slice(), [(11, 9), SAME, SAME], open_page_chip()),
@@ -38,7 +36,7 @@ fn sample_chips(rt: HostRuntime) -> Result<(), Fail> {
     ];
     for (bytes, changes, chip) in table {
         assert_eq!(rt;
-            read(&changed(alloc, bytes, changes)?, "", Part::Generic),
+            read(&patched(alloc, bytes, &changes)?, "", Part::Generic),
             Ok(chip)
         );
     }
@@ -48,9 +46,9 @@ fn sample_chips(rt: HostRuntime) -> Result<(), Fail> {
 #[test]
 fn latched_chips(rt: HostRuntime) -> Result<(), Fail> {
     let alloc = rt.alloc();
-    let latched = changed(alloc, &LARGE, [(85, 0x80), (87, 0x02), SAME])?;
+    let latched = patched(alloc, &LARGE, &[(85, 0x80), (87, 0x02), SAME])?;
     assert_eq!(rt; read(&latched, "", Part::Generic), Ok(latched_chip()));
-    let legacy = changed(alloc, &latched, [(16, 0), (23, 0), SAME])?;
+    let legacy = patched(alloc, &latched, &[(16, 0), (23, 0), SAME])?;
     assert_eq!(rt; read(&legacy, "", Part::Generic), Ok(legacy_latched_chip()));
     Ok(())
 }

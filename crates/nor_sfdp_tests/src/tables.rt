@@ -1,6 +1,7 @@
 //! Tables and their DWORDs.
 
-use crate::bytes::{LARGE, SAME, changed};
+use crate::bytes::SAME;
+use nor_samples::sfdp::{LARGE, patched};
 use nor_sfdp::{SfdpFault, table};
 use std::process::Abort;
 use std::test::Fail;
@@ -20,7 +21,7 @@ fn dwords(rt: HostRuntime) -> Result<(), Fail> {
         assert_eq!(rt; basic.dword(i), dword);
     }
     assert!(rt; matches!(table(&LARGE, 0xFF81), Ok(None)));
-    let empty = changed(alloc, &LARGE, [(19, 0), SAME, SAME])?;
+    let empty = patched(alloc, &LARGE, &[(19, 0), SAME, SAME])?;
     let empty = table(&empty, 0xFF84).ok().flatten().expect(&rt, "a table");
     assert_eq!(rt; empty.dword(1), None);
     Ok(())
@@ -36,7 +37,7 @@ fn refusals(rt: HostRuntime) -> Result<(), Fail> {
         ([(19, 0), (20, 0x61), SAME], SfdpFault::Truncated),
     ];
     for (changes, fault) in table_rows {
-        let bytes = changed(rt.alloc(), &LARGE, changes)?;
+        let bytes = patched(rt.alloc(), &LARGE, &changes)?;
         assert_eq!(rt; table(&bytes, 0xFF84).err(), Some(fault));
     }
     Ok(())

@@ -14,9 +14,6 @@ ghost use Rattle.nor_layout.specs.Chosen.{has};
 ghost use Rattle.nor_target.specs.Ignored.{HasNoPlace, ignored_below};
 ghost use Rattle.nor_target.specs.Runs.{HasNoChosen, IsNextChosen, HasNoRun, IsNextRun, IsLaid};
 
-#[cfg(test)]
-mod tests;
-
 pub use nor_hex::Image;
 pub use nor_layout::Chosen;
 

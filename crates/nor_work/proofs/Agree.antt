@@ -14,7 +14,9 @@ use Rattle.nor_base.specs.Operations.{does, instructions}
 use Rattle.nor_work.specs.Able.{OperationIsDone, SmallestAgree, BlocksStay, PagesStay}
 use Rattle.nor_work.proofs.Steps.{leads_runs}
 use Rattle.nor_work.proofs.Ops.{op_moves}
-use Rattle.nor_work.proofs.Erasing.{there, can_erase, legal_kind, legal_parts, size_of, divides}
+use Rattle.nor_geometry.proofs.KindLemmas.{legal_kind, size_of}
+use Rattle.nor_geometry.proofs.WindowLemmas.{divides}
+use Rattle.nor_work.proofs.Erasing.{there, can_erase, legal_parts}
 use Rattle.nor_work.proofs.Reached.{small, has_block}
 use Rattle.nor_work.proofs.Needed.{all_at, needed_caused}
 use Rattle.nor_work.proofs.Sent.{ends_before, power_small}

@@ -1,18 +1,20 @@
 -- Erased blocks: legal, of whole pages, each that of all addresses that it holds.
-use Rattle.std.proofs.Common.{◌≡◌, ℕ, suc, ◌+◌, ◌-◌, ◌*◌, ◌/◌, ◌%◌, ◌^◌, ◌<◌, ◌≤◌, ◌==◌, Bool, true, false, ◌&&◌, if◌then◌else◌, Option, Some, None, option_map, refl, sym, ◌∙◌, ap, subst, arith, inl, inr, eq-eqb, eqb-true, pow-add}
+use Rattle.std.proofs.Common.{◌≡◌, ℕ, ◌+◌, ◌-◌, ◌*◌, ◌/◌, ◌%◌, ◌^◌, ◌<◌, ◌≤◌, ◌==◌, Bool, true, false, ◌&&◌, if◌then◌else◌, Option, Some, None, option_map, refl, sym, ◌∙◌, ap, subst, arith, inl, inr, eq-eqb, eqb-true}
 use Rattle.std.specs.Option.{option_map_or}
-use Rattle.std.proofs.Math.Nat.{mod-lt, div-add-mod, mul-mod_right, mod-mod_of_dvd, dvd_of_mod-eq-zero, mod-add-mod, pow-suc, pow-le-pow_right, zero-mod}
+use Rattle.std.proofs.Math.Nat.{mod-lt, div-add-mod, mul-mod_right, mod-add-mod}
 use Rattle.std.proofs.lemmas.Nat.{pow_pos}
-use Rattle.std.proofs.lemmas.Bool.{and_parts, cases_lt}
+use Rattle.std.proofs.lemmas.Bool.{and_parts}
 use Rattle.nor_base.specs.declared.meaning.Erase.{Erase}
 use Rattle.nor_base.specs.declared.meaning.Strategy.{Strategy}
 use Rattle.nor_base.specs.Parameters.{Parameters, erase_kind, block_size}
-use Rattle.nor_base.specs.Accepted.{IsAccepted, IsPowerOfTwo}
+use Rattle.nor_base.specs.Accepted.{IsAccepted}
 use Rattle.nor_base.specs.Blocks.{Block, IsLegalBlock, is_legal, lies_in_one, block_at, kinds}
 use Rattle.nor_base.specs.Need.{lies_in_needed, kept_if, erasable, erased_at}
 use Rattle.nor_base.specs.Strategies.{reaches}
 use Rattle.nor_base.proofs.RegionLaws.{legal_on_chip}
 use Rattle.nor_laws.proofs.BlockLaws.{blocks_nest}
+use Rattle.nor_geometry.proofs.KindLemmas.{IsKind, legal_kind, size_of}
+use Rattle.nor_geometry.proofs.WindowLemmas.{divides, multiple_of}
 use Rattle.nor_work.proofs.Ranges.{aligned_le}
 use Rattle.nor_work.proofs.Best.{picked, best_is, is_best, best_moves}
 use Rattle.nor_work.proofs.Walk.{IsErasedFor}
@@ -36,23 +38,6 @@ pub is_block : (m : Parameters) (a k : ℕ) → is_legal m k (a - a % block_size
     → block_at m a k ≡ Some (record { start = a - a % block_size m k; size = block_size m k; kind = k })
 unfolding block_at
 is_block m a k legal = rw legal refl
-
--- a kind with a legal block is there
-pub record IsKind (m : Parameters) (k : ℕ) : Type 0 where
-  pub erase : Erase
-  pub there : erase_kind m k ≡ Some erase
-
-kind_if : (m : Parameters) (k start : ℕ) (o : Option Erase) → erase_kind m k ≡ o
-    → option_map_or (λ (erase : Erase). (start % erase.size == 0) && lies_in_one 0 m.regions k start erase.size) o false ≡ true → IsKind m k
-kind_if m k start None is h = cc
-kind_if m k start (Some erase) is h = record { erase = erase; there = is }
-
-pub legal_kind : (m : Parameters) (k start : ℕ) → is_legal m k start ≡ true → IsKind m k
-unfolding is_legal
-legal_kind m k start h = kind_if m k start (erase_kind m k) refl h
-
-pub size_of : (m : Parameters) (k : ℕ) (erase : Erase) → erase_kind m k ≡ Some erase → block_size m k ≡ erase.size
-size_of m k erase is = ap (λ o. option_map_or (λ (e : Erase). e.size) o 0) is
 
 pub legal_parts : (m : Parameters) (k start : ℕ) → is_legal m k start ≡ true → (start % block_size m k ≡ 0) × (lies_in_one 0 m.regions k start (block_size m k) ≡ true)
 unfolding is_legal
@@ -194,25 +179,6 @@ erased_all m by due a x b accepted h from upto =
     let a_in = held m a x b c accepted t.legal_block u.legal_block t.low t.high from upto u.low u.high larger in
     erasable_moves m by due x a k c accepted is a_in.0 a_in.1)
     best)
-
--- powers of two: the smaller divides the larger
-power_divides : (i j : ℕ) → i ≤ j → 2 ^ j % 2 ^ i ≡ 0
-power_divides i j rises =
-    let sum : i + (j - i) ≡ j = omega arith in
-    ap (λ n. n % 2 ^ i) (ap (λ n. 2 ^ n) (sym sum) ∙ pow-add 2 i (j - i)) ∙ mul-mod_right (2 ^ i) (2 ^ (j - i))
-
-pub divides : (low high low' high' a b : ℕ) → IsPowerOfTwo low high a → IsPowerOfTwo low' high' b → a ≤ b → b % a ≡ 0
-divides low high low' high' a b p q fits = elim (cases_lt q.exponent p.exponent) [
-  | inl less ↦
-      let more : 2 ^ suc q.exponent ≤ 2 ^ p.exponent = pow-le-pow_right (omega arith) less in
-      let twice : 2 ^ suc q.exponent ≡ 2 ^ q.exponent * 2 = pow-suc 2 q.exponent in
-      let some : 0 < 2 ^ q.exponent = pow_pos q.exponent in
-      absurd (omega (arith, more, twice, some, p.value, q.value, fits))
-  | inr more ↦ ap (λ n. n % a) q.value ∙ ap (λ n. 2 ^ q.exponent % n) p.value ∙ power_divides p.exponent q.exponent more
-]
-
-pub multiple_of : (x b a : ℕ) → b % a ≡ 0 → x % b ≡ 0 → x % a ≡ 0
-multiple_of x b a divides whole = sym (mod-mod_of_dvd a x (dvd_of_mod-eq-zero a divides)) ∙ ap (λ n. n % a) whole ∙ zero-mod a
 
 -- an erased block is legal, of whole pages, and the block of each address that it holds
 pub erased_for : (m : Parameters) (by : Strategy) (due : ℕ → Bool) (a : ℕ) (b : Block) → IsAccepted m → erased_at m by due a ≡ Some b

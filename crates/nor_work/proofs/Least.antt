@@ -28,7 +28,8 @@ use Rattle.nor_base.specs.Need.{is_due, is_needed}
 use Rattle.nor_base.specs.Events.{Event, event_on, polled_events, step_events, events_after, events_from, events, erases_address, is_erased_by}
 use Rattle.nor_base.proofs.ArrayLaws.{length-each, slice_index-each, some-false, erased_keeps}
 use Rattle.nor_laws.proofs.EffectLaws.{taken}
-use Rattle.nor_work.proofs.Erasing.{legal_kind, size_of, moved}
+use Rattle.nor_geometry.proofs.KindLemmas.{legal_kind, size_of}
+use Rattle.nor_work.proofs.Erasing.{moved}
 use Rattle.nor_work.proofs.Needed.{needed_caused, holds_smallest, block_here}
 
 -- a byte that has to change and that no program may change

@@ -17,7 +17,8 @@ use Rattle.nor_laws.proofs.BlockLaws.{blocks_nest}
 use Rattle.nor_work.specs.Laws.{IsWorkable}
 use Rattle.nor_work.specs.Least.{IsErased}
 use Rattle.nor_work.proofs.Best.{best_is, best_bounds, NoneLarger, Among, picked, some_best}
-use Rattle.nor_work.proofs.Erasing.{there, can_erase, erased_all, erasable_is, legal_kind, size_of, is_block, legal_parts}
+use Rattle.nor_geometry.proofs.KindLemmas.{legal_kind, size_of}
+use Rattle.nor_work.proofs.Erasing.{there, can_erase, erased_all, erasable_is, is_block, legal_parts}
 use Rattle.nor_work.proofs.Reached.{all_over, four, small, erased_where_due}
 
 -- an address at which a test over a stretch passes

@@ -21,7 +21,9 @@ use Rattle.nor_base.specs.Need.{differs, is_due, is_needed, lies_in_needed, eras
 use Rattle.nor_work.proofs.Ranges.{aligned_le}
 use Rattle.nor_work.proofs.Walk.{next_aligned}
 use Rattle.nor_work.proofs.Best.{Among, some_best, smallest_of}
-use Rattle.nor_work.proofs.Erasing.{IsThere, there, block_is, is_block, legal_kind, legal_parts, legal_of, size_of, some_size, IsKind, floor_aligned, erasable_is, divides, multiple_of}
+use Rattle.nor_geometry.proofs.KindLemmas.{legal_kind, size_of, IsKind}
+use Rattle.nor_geometry.proofs.WindowLemmas.{divides, multiple_of}
+use Rattle.nor_work.proofs.Erasing.{IsThere, there, block_is, is_block, legal_parts, legal_of, some_size, floor_aligned, erasable_is}
 
 -- tests over a stretch of addresses
 pub any_at : (test : ℕ → Bool) (n start x : ℕ) → start ≤ x → x < start + n → test x ≡ true → list_any test (range_with_len start n) ≡ true

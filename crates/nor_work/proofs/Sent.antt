@@ -25,7 +25,9 @@ use Rattle.nor_work.specs.Laws.{IsWorkable}
 use Rattle.nor_work.proofs.Ranges.{length-range, aligned_le}
 use Rattle.nor_work.proofs.Driven.{CanBeErased, CanBeWritten, CanBeDone, within}
 use Rattle.nor_work.proofs.Made.{ArePut, EndBy, IsSoundBy, IsSoundUnit, AreSoundUnits}
-use Rattle.nor_work.proofs.Erasing.{legal_kind, legal_parts, size_of, divides, erased_for}
+use Rattle.nor_geometry.proofs.KindLemmas.{legal_kind, size_of}
+use Rattle.nor_geometry.proofs.WindowLemmas.{divides}
+use Rattle.nor_work.proofs.Erasing.{legal_parts, erased_for}
 use Rattle.nor_work.proofs.Reached.{four}
 use Rattle.nor_work.proofs.Needed.{erases_blocks}
 use Rattle.nor_work.proofs.Wider.{some_page}

@@ -9,7 +9,8 @@ use Rattle.nor_base.specs.Accepted.{IsAccepted, IsPowerOfTwo}
 use Rattle.nor_base.specs.Chip.{may_page, page_sizes}
 use Rattle.nor_work.proofs.Ranges.{aligned_le}
 use Rattle.nor_work.proofs.Pages.{IsInOne}
-use Rattle.nor_work.proofs.Erasing.{divides, multiple_of, floor_aligned}
+use Rattle.nor_geometry.proofs.WindowLemmas.{divides, multiple_of}
+use Rattle.nor_work.proofs.Erasing.{floor_aligned}
 use Rattle.nor_work.proofs.Walk.{next_aligned}
 
 one_step : (P : ℕ → Type 0) (page size : ℕ) (sizes : List ℕ) → AllByRecursion P (size ∷ sizes) → (list_any (λ s. page == s) sizes ≡ true → P page)

@@ -2,8 +2,10 @@ pub mod FaultLemmas
 pub mod ReportLemmas
 pub mod TargetLemmas
 pub mod StretchLemmas
-pub mod WindowLemmas
 pub mod PlaceLemmas
+pub mod OutlineLemmas
+pub mod KindLemmas
+pub mod WindowLemmas
 pub mod TextLemmas
 pub mod ScriptLemmas
 pub mod StepLemmas
@@ -13,5 +15,4 @@ pub mod OpBytes
 pub mod CountLemmas
 pub mod FillLemmas
 pub mod BuildLemmas
-pub mod OutlineLemmas
 pub mod PlanLemmas

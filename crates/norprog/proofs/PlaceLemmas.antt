@@ -1,5 +1,5 @@
 -- Where windows lie.
-use Rattle.std.proofs.Common.{◌≡◌, ◌⊎◌, ℕ, ◌+◌, ◌-◌, ◌%◌, ◌^◌, ◌<◌, ◌≤◌, refl, ◌∙◌, ap, arith, inl, inr, min}
+use Rattle.std.proofs.Common.{◌≡◌, ℕ, ◌+◌, ◌-◌, ◌%◌, ◌^◌, ◌<◌, ◌≤◌, refl, ◌∙◌, ap, arith, inl, inr, min}
 use Rattle.std.proofs.Math.Nat.{add-mod_right, pow-le-pow_right}
 use Rattle.std.proofs.lemmas.Bool.{cases_lt}
 use Rattle.std.proofs.lemmas.Nat.{pow_pos}
@@ -29,37 +29,32 @@ chip_pages m accepted =
 
 -- the place of a window, and the one after it
 pub record IsPlace (m : Parameters) (w at count : ℕ) : Type 0 where
+  pub page : 0 < m.page
+  pub window : IsWindowSize m w
+  pub here : at % w ≡ 0
+  pub pages : at % m.page ≡ 0
   pub inside : at + count ≤ m.size
   pub some : 0 < count
   pub few : count ≤ w
   pub whole : (at + count) % m.page ≡ 0
   pub aligned : at + count < m.size → (at + count) % w ≡ 0
-  pub ends : (count ≡ w) ⊎ ((count ≤ w) × (at + count ≡ m.size))
   pub upto : at + count ≡ min (at + w) m.size
 
 pub place_is : (m : Parameters) (w at count : ℕ) → IsAccepted m → IsWindowSize m w → at < m.size → at % w ≡ 0 → count ≡ min w (m.size - at) → IsPlace m w at count
-place_is m w at count accepted size before aligned is = elim (cases_lt (m.size - at) w) [
-  | inl rest ↦
-      let last : at + count ≡ m.size = omega (arith, rest, before, is) in
-      record {
-        inside = omega (arith, last);
-        some = omega (arith, last, before);
-        few = omega (arith, rest, is);
-        whole = ap (λ n. n % m.page) last ∙ chip_pages m accepted;
-        aligned = λ more. absurd (omega (arith, more, last));
-        ends = inr (omega (arith, rest, is), last);
-        upto = omega (arith, last, rest, before);
-      }
-  | inr full ↦
-      let all : count ≡ w = omega (arith, full, is) in
-      let next : (at + count) % w ≡ 0 = ap (λ n. (at + n) % w) all ∙ add-mod_right at w ∙ aligned in
-      record {
-        inside = omega (arith, full, before, all);
-        some = omega (arith, all, size.least);
-        few = omega (arith, all);
-        whole = multiple_of (at + count) w m.page (window_pages m w accepted size) next;
-        aligned = λ more. next;
-        ends = inl all;
-        upto = omega (arith, all, full, before);
-      }
-]
+place_is m w at count accepted size before aligned is =
+    let next : count ≡ w → (at + count) % w ≡ 0 = λ all. ap (λ n. (at + n) % w) all ∙ add-mod_right at w ∙ aligned in
+    record {
+      page = some_page m accepted;
+      window = size;
+      here = aligned;
+      pages = multiple_of at w m.page (window_pages m w accepted size) aligned;
+      inside = omega (arith, is, before);
+      some = omega (arith, is, before, size.least);
+      few = omega (arith, is);
+      whole = elim (cases_lt (m.size - at) w) [
+        | inl rest ↦ let last : at + count ≡ m.size = omega (arith, rest, before, is) in ap (λ n. n % m.page) last ∙ chip_pages m accepted
+        | inr full ↦ multiple_of (at + count) w m.page (window_pages m w accepted size) (next (omega (arith, full, is)))
+      ];
+      aligned = λ more. next (omega (arith, more, is));
+      upto = omega (arith, is, before);
+    }

@@ -1,7 +1,6 @@
 -- How far the text of a script was written.
-use Rattle.std.proofs.Common.{◌≡◌, ℕ, ◌+◌, List, [], ◌++◌, length, take, Option, refl, sym, ◌∙◌, ap, subst, arith, inl, length-append}
+use Rattle.std.proofs.Common.{◌≡◌, ℕ, ◌+◌, List, ◌++◌, length, take, Option, refl, sym, ◌∙◌, ap, subst, arith, length-append}
 use Rattle.std.specs.Io.KnownBytes.{Appends}
-use Rattle.std.proofs.Math.Nat.{zero-mod}
 use Rattle.nor_base.specs.Accepted.{IsAccepted}
 use Rattle.nor_base.specs.Device.{Ahead, Cuts}
 use Rattle.nor_base.specs.Operations.{Op}
@@ -18,125 +17,79 @@ use Rattle.nor_steps.specs.declared.tally.Tally.{Tally}
 use Rattle.nor_steps.specs.Faults.{IsOfWriting}
 use Rattle.nor_steps.specs.Tally.{tally_with}
 use Rattle.nor_steps.specs.Writing.{Writing, Begins, lines_of, next_lines}
-use Rattle.norprog.specs.Windows.{target_from, first_writing, lifted_steps, IsDone, CutCause, AreRecent, AreWindows, IsCut, IsScripted, IsCutScript}
+use Rattle.norprog.specs.declared.windows.Text.TheVariants.{Steps}
+use Rattle.norprog.specs.Windows.{target_from, first_writing, lifted_steps, IsAllDone, IsKnown, IsCut, IsScripted, IsScriptFront, IsCutScript}
 use Rattle.norprog.proofs.PlaceLemmas.{some_page}
-use Rattle.norprog.proofs.TargetLemmas.{gives_none, part_whole}
+use Rattle.norprog.proofs.TargetLemmas.{part_whole}
 use Rattle.norprog.proofs.TextLemmas.{closing_lines, job_ops, job_planned, job_text, body, planned_parts, text_is, header_front, known_front, whole_is, closing_front, end_front}
+use Rattle.norprog.proofs.WindowLemmas.{cut_before, cut_after}
 
 -- before anything was written
 pub memory_cut : (job : Job) (w : ℕ) (a : Ahead) (x : Option (List ℕ)) → IsWindowSize job.meaning w → IsCutScript job a a x x fault.Memory
-memory_cut job w a x size = record {
-  part = [];
-  within = omega arith;
-  given = gives_none a;
-  cause = tt;
-  window = w;
-  its_size = size;
-  known = 0;
-  windows = record { within = omega arith; whole = λ some. zero-mod w; recent = inl refl };
-  bytes = take 0 header;
-  front = header_front job 0;
-  put = Appends-none x;
-}
+memory_cut job w a x size =
+    cut_before (λ known part bytes why. IsScriptFront job known part bytes) job w a x x (take 0 header) steps.Memory size tt (header_front job 0) (Appends-none x)
 
 -- in the header
 pub header_cut : (job : Job) (w : ℕ) (a : Ahead) (x y : Option (List ℕ)) → IsWindowSize job.meaning w → Cuts x y header → IsCutScript job a a x y fault.Write
-header_cut job w a x y size cut = record {
-  part = [];
-  within = omega arith;
-  given = gives_none a;
-  cause = tt;
-  window = w;
-  its_size = size;
-  known = 0;
-  windows = record { within = omega arith; whole = λ some. zero-mod w; recent = refl };
-  bytes = take cut.0 header;
-  front = header_front job cut.0;
-  put = cut.2;
-}
+header_cut job w a x y size cut =
+    cut_before (λ known part bytes why. IsScriptFront job known part bytes) job w a x y (take cut.0 header) steps.Write size tt (header_front job cut.0) cut.2
 
 -- in the windows
-pub windows_cut : (job : Job) (w n : ℕ) (a b : Ahead) (x y z : Option (List ℕ)) (why : BuildFault) → IsAccepted job.meaning → IsWindowSize job.meaning w → n ≡ w
-    → Appends x y header → IsCut job n a b y z why → IsCutScript job a b x z why
-windows_cut job w n a b x y z why accepted size same begun cut = record {
+pub windows_cut : (job : Job) (a b : Ahead) (x y z : Option (List ℕ)) (why : BuildFault) → IsAccepted job.meaning → Appends x y header
+    → IsCut (IsKnown Steps job) job a b y z why → IsCutScript job a b x z why
+windows_cut job a b x y z why accepted begun cut = record {
   part = cut.part;
   within = cut.within;
   given = cut.given;
   cause = cut.cause;
-  window = w;
-  its_size = size;
+  window = cut.window;
+  its_size = cut.its_size;
   known = cut.known;
-  windows = subst (λ k. AreWindows job.meaning.size k cut.known (length cut.part) why) same cut.windows;
-  bytes = header ++ cut.front;
-  front = known_front job cut.known cut.part cut.front (some_page job.meaning accepted) cut.within cut.begins;
-  put = Appends-append x y z header cut.front begun cut.put;
+  windows = cut.windows;
+  bytes = header ++ cut.bytes;
+  front = known_front job cut.known cut.part cut.bytes why (some_page job.meaning accepted) cut.windows.within cut.within cut.front;
+  put = Appends-append x y z header cut.bytes begun cut.put;
 }
 
-of_writing : (job : Job) (part : List ℕ) (after : Ahead) (why : StepsFault) → IsOfWriting why → CutCause job part after (lifted_steps why)
-of_writing job part after steps.Write is = tt
-of_writing job part after steps.Memory is = tt
-of_writing job part after (steps.Plan why) is = absurd is
-
--- all that was read
-whole_windows : (size window read : ℕ) (why : BuildFault) → read ≡ size → AreRecent size window read read why → AreWindows size window read read why
-whole_windows size window read why is recent = record { within = omega arith; whole = λ less. absurd (omega (arith, less, is)); recent = recent }
-
-closed : (size window read : ℕ) (why : StepsFault) → IsOfWriting why → AreRecent size window read read (lifted_steps why)
-closed size window read steps.Write is = refl
-closed size window read steps.Memory is = inl refl
-closed size window read (steps.Plan why) is = absurd is
+-- the lines of the windows
+steps_put : (job : Job) (v : Writing) (a b : Ahead) (x y : Option (List ℕ)) (told : Tally) → (done : IsAllDone Steps job v a b x y told)
+    → Appends x y (next_lines (first_writing job) done.wrote.steps.ops)
+steps_put job v a b x y told done = subst (Appends x y) done.wrote.is done.wrote.put
 
 pub closing_cut : (job : Job) (v : Writing) (w : ℕ) (a b : Ahead) (x y z u : Option (List ℕ)) (told : Tally) (why : StepsFault) → IsWindowSize job.meaning w
-    → Appends x y header → IsDone job v job.meaning.size a b y z told → Begins z u (lines_of (last v.streaming)) → IsOfWriting why
-    → IsCutScript job a b x u (lifted_steps why)
+    → Appends x y header → IsAllDone Steps job v a b y z told → Begins z u (lines_of (last v.streaming)) → IsOfWriting why → IsCutScript job a b x u (lifted_steps why)
 closing_cut job v w a b x y z u told why size begun done close is =
-    let lines : closing_lines (first_writing job) done.ops ≡ close.front ++ close.rest = ap (λ (t : Writing). lines_of (last t.streaming)) (sym done.state) ∙ close.whole in
-    record {
-      part = done.part;
-      within = omega (arith, done.upto);
-      given = done.given;
-      cause = of_writing job done.part b why is;
-      window = w;
-      its_size = size;
-      known = length done.part;
-      windows = whole_windows job.meaning.size w (length done.part) (lifted_steps why) done.upto (closed job.meaning.size w (length done.part) why is);
-      bytes = header ++ (next_lines (first_writing job) done.ops ++ close.front);
-      front = closing_front job done.part close.front close.rest done.ops (whole_is job v a b y z told done) lines;
-      put = Appends-append x y u header _ begun (Appends-append y z u _ close.front done.put close.put);
-    }
+    let its = done.wrote.steps in
+    let lines : closing_lines (first_writing job) its.ops ≡ close.front ++ close.rest = ap (λ (t : Writing). lines_of (last t.streaming)) (sym its.state) ∙ close.whole in
+    cut_after (λ known part bytes why. IsScriptFront job known part bytes) Steps job v w a b y z x u told (header ++ (next_lines (first_writing job) its.ops ++ close.front)) why size done is
+    (closing_front job done.part close.front close.rest its.ops (whole_is Steps job v a b y z told done) lines)
+    (Appends-append x y u header _ begun (Appends-append y z u _ close.front (steps_put job v a b y z told done) close.put))
 
 -- all that stands before the end line
-body_put : (job : Job) (v : Writing) (a b : Ahead) (x y z u : Option (List ℕ)) (told : Tally) → Appends x y header → (done : IsDone job v job.meaning.size a b y z told)
-    → Appends z u (lines_of (last v.streaming)) → Appends x u (body job done.ops)
+body_put : (job : Job) (v : Writing) (a b : Ahead) (x y z u : Option (List ℕ)) (told : Tally) → Appends x y header → (done : IsAllDone Steps job v a b y z told)
+    → Appends z u (lines_of (last v.streaming)) → Appends x u (body job done.wrote.steps.ops)
 body_put job v a b x y z u told begun done close =
     Appends-append x y u header _ begun
-    (Appends-append y z u _ _ done.put (subst (λ (t : Writing). Appends z u (lines_of (last t.streaming))) done.state close))
+    (Appends-append y z u _ _ (steps_put job v a b y z told done) (subst (λ (t : Writing). Appends z u (lines_of (last t.streaming))) done.wrote.steps.state close))
 
-steps_are : (job : Job) (v : Writing) (a b : Ahead) (y z : Option (List ℕ)) (told : Tally) (more n : ℕ) → (done : IsDone job v job.meaning.size a b y z told)
+steps_are : (job : Job) (v : Writing) (a b : Ahead) (y z : Option (List ℕ)) (told : Tally) (more n : ℕ) → (done : IsAllDone Steps job v a b y z told)
     → more ≡ length (last v.streaming) → n ≡ told.steps + more
-    → n ≡ length (next (first_writing job).streaming done.ops ++ last (onward (first_writing job).streaming done.ops))
+    → n ≡ length (next (first_writing job).streaming done.wrote.steps.ops ++ last (onward (first_writing job).streaming done.wrote.steps.ops))
 steps_are job v a b y z told more n done count sum =
     let s = (first_writing job).streaming in
-    let first : told.steps ≡ length (next s done.ops) = ap (λ (t : Tally). t.steps) done.its_tally in
-    let second : more ≡ length (last (onward s done.ops)) = count ∙ ap (λ (t : Writing). length (last t.streaming)) done.state in
-    omega (arith, sum, first, second, length-append (next s done.ops) (last (onward s done.ops)))
+    let its = done.wrote.steps in
+    let first : told.steps ≡ length (next s its.ops) = ap (λ (t : Tally). t.steps) its.its_tally in
+    let second : more ≡ length (last (onward s its.ops)) = count ∙ ap (λ (t : Writing). length (last t.streaming)) its.state in
+    omega (arith, sum, first, second, length-append (next s its.ops) (last (onward s its.ops)))
 
 pub end_cut : (job : Job) (v : Writing) (w : ℕ) (a b : Ahead) (x y z u t : Option (List ℕ)) (told : Tally) (more n : ℕ) → IsWindowSize job.meaning w
-    → Appends x y header → IsDone job v job.meaning.size a b y z told → Appends z u (lines_of (last v.streaming)) → more ≡ length (last v.streaming)
+    → Appends x y header → IsAllDone Steps job v a b y z told → Appends z u (lines_of (last v.streaming)) → more ≡ length (last v.streaming)
     → n ≡ told.steps + more → Cuts u t (end_line n) → IsCutScript job a b x t fault.Write
-end_cut job v w a b x y z u t told more n size begun done close count sum cut = record {
-  part = done.part;
-  within = omega (arith, done.upto);
-  given = done.given;
-  cause = tt;
-  window = w;
-  its_size = size;
-  known = length done.part;
-  windows = whole_windows job.meaning.size w (length done.part) fault.Write done.upto refl;
-  bytes = body job done.ops ++ take cut.0 (end_line n);
-  front = end_front job done.part done.ops n cut.0 (whole_is job v a b y z told done) (steps_are job v a b y z told more n done count sum) cut.1;
-  put = Appends-append x u t (body job done.ops) _ (body_put job v a b x y z u told begun done close) cut.2;
-}
+end_cut job v w a b x y z u t told more n size begun done close count sum cut =
+    let ops = done.wrote.steps.ops in
+    cut_after (λ known part bytes why. IsScriptFront job known part bytes) Steps job v w a b y z x t told (body job ops ++ take cut.0 (end_line n)) steps.Write size done tt
+    (end_front job done.part ops n cut.0 (whole_is Steps job v a b y z told done) (steps_are job v a b y z told more n done count sum) cut.1)
+    (Appends-append x u t (body job ops) _ (body_put job v a b x y z u told begun done close) cut.2)
 
 abbrev tally : ℕ → ℕ → ℕ → ℕ → Tally
 tally a b c d = record { steps = a; erases = b; erased = c; programs = d }
@@ -148,31 +101,32 @@ told_all told ops these k n is same m count =
 
 -- the whole script, of the part that was read
 pub whole_with : (job : Job) (v : Writing) (a b : Ahead) (x y z u t : Option (List ℕ)) (told : Tally) (more : ℕ)
-    → Appends x y header → (done : IsDone job v job.meaning.size a b y z told) → Appends z u (lines_of (last v.streaming)) → more ≡ length (last v.streaming)
+    → Appends x y header → (done : IsAllDone Steps job v a b y z told) → Appends z u (lines_of (last v.streaming)) → more ≡ length (last v.streaming)
     → Appends u t (end_line (told.steps + more))
     → (whole : IsScripted job a b x t (record { steps = told.steps + more; erases = told.erases; erased = told.erased; programs = told.programs })) × (whole.part ≡ done.part)
 whole_with job v a b x y z u t told more begun done close count ended =
     let n = told.steps + more in
     let part = done.part in
+    let ops = done.wrote.steps.ops in
     let goal = target_from job 0 part in
-    let whole = whole_is job v a b y z told done in
-    let are : job_ops job part goal ≡ done.ops = whole.are part goal done.upto (part_whole part) (part_whole goal) in
-    let steps : n ≡ length (job_planned job part goal) = steps_are job v a b y z told more n done count refl ∙ sym (ap length (planned_parts job part goal done.ops are)) in
-    let text : body job done.ops ++ end_line n ≡ job_text job part goal = ap (λ i. body job done.ops ++ end_line i) steps ∙ sym (text_is job part goal done.ops are) in (
+    let whole = whole_is Steps job v a b y z told done in
+    let are : job_ops job part goal ≡ ops = whole.are part goal done.size (part_whole part) (part_whole goal) in
+    let steps : n ≡ length (job_planned job part goal) = steps_are job v a b y z told more n done count refl ∙ sym (ap length (planned_parts job part goal ops are)) in
+    let text : body job ops ++ end_line n ≡ job_text job part goal = ap (λ i. body job ops ++ end_line i) steps ∙ sym (text_is job part goal ops are) in (
       record {
         part = part;
-        upto = done.upto;
+        upto = done.size;
         given = done.given;
         bytes = done.bytes;
-        sound = λ i inside. whole.sound part goal (part_whole part) (part_whole goal) i (omega arith) (omega (arith, inside, done.upto));
-        put = subst (Appends x t) text (Appends-append x u t (body job done.ops) (end_line n) (body_put job v a b x y z u told begun done close) ended);
-        its_tally = told_all told done.ops (job_ops job part goal) _ n done.its_tally are _ steps;
+        sound = λ i inside. whole.sound part goal (part_whole part) (part_whole goal) i (omega arith) (omega (arith, inside, done.size));
+        put = subst (Appends x t) text (Appends-append x u t (body job ops) (end_line n) (body_put job v a b x y z u told begun done close) ended);
+        its_tally = told_all told ops (job_ops job part goal) _ n done.wrote.steps.its_tally are _ steps;
       },
       refl,
     )
 
 pub whole_script : (job : Job) (v : Writing) (a b : Ahead) (x y z u t : Option (List ℕ)) (told : Tally) (more : ℕ)
-    → Appends x y header → IsDone job v job.meaning.size a b y z told → Appends z u (lines_of (last v.streaming)) → more ≡ length (last v.streaming)
+    → Appends x y header → IsAllDone Steps job v a b y z told → Appends z u (lines_of (last v.streaming)) → more ≡ length (last v.streaming)
     → Appends u t (end_line (told.steps + more))
     → IsScripted job a b x t (record { steps = told.steps + more; erases = told.erases; erased = told.erased; programs = told.programs })
 whole_script job v a b x y z u t told more begun done close count ended = (whole_with job v a b x y z u t told more begun done close count ended).0

@@ -12,12 +12,10 @@ use Rattle.nor_base.specs.Operations.{Op, unit_ops}
 use Rattle.nor_erase.specs.declared.fault.PlanFault.{PlanFault}
 use Rattle.nor_erase.specs.declared.fault.PlanFault.TheVariants as plan
 use Rattle.nor_erase.specs.Plan.{HasPart, IsLowestAt, IsFault, IsFaultOf}
-use Rattle.nor_select.specs.Streamed.{next, onward}
 use Rattle.nor_plan_lines.specs.Told.{IsFaultless}
 use Rattle.nor_steps.specs.Work.{stretch_units, stretch_ops, IsWork, IsWorkOf, IsBegun, IsBegunOf}
-use Rattle.nor_steps.specs.Writing.{Writing, lines_of, next_lines, written_on}
-use Rattle.nor_steps.proofs.LineLemmas.{lines_append}
-use Rattle.nor_steps.proofs.StreamLemmas.{next_joins}
+use Rattle.nor_steps.specs.Writing.{Writing, next_lines, written_on}
+use Rattle.nor_steps.proofs.OpLemmas.{lines_join}
 use Rattle.nor_work.proofs.Needed.{units_join}
 use Rattle.norprog.proofs.TargetLemmas.{part_left, part_right}
 
@@ -83,9 +81,6 @@ work_join w v at xs ys txs tys p q some whole upto upto' state first second cont
           ∙ ap (λ ops. p ++ ops) right.are;
       sound = sound_join w.streaming.meaning w.streaming.by at (length ys) content target left.sound right.sound;
     })
-
-pub lines_join : (w : Writing) (xs ys : List Op) → next_lines w (xs ++ ys) ≡ next_lines w xs ++ next_lines (written_on w xs) ys
-lines_join w xs ys = ap lines_of (next_joins w.streaming xs ys) ∙ lines_append (next w.streaming xs) (next (onward w.streaming xs) ys)
 
 -- all of one stretch is a beginning of it
 pub begun_done : (w : Writing) (at : ℕ) (have want : List ℕ) (p : List Op) → IsWork w at have want p → IsBegun w at have want (next_lines w p)

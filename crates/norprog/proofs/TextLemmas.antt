@@ -12,6 +12,7 @@ use Rattle.nor_base.specs.Script.{script_text, header, end_line}
 use Rattle.nor_base.specs.Spelling.{Instr}
 use Rattle.nor_base.specs.Units.{units}
 use Rattle.nor_erase.specs.Plan.{HasPart}
+use Rattle.nor_job.specs.declared.fault.BuildFault.{BuildFault}
 use Rattle.nor_job.specs.declared.job.Job.{Job}
 use Rattle.nor_select.specs.Streamed.{Streaming, next, last, onward}
 use Rattle.nor_steps.specs.declared.tally.Tally.{Tally}
@@ -19,9 +20,12 @@ use Rattle.nor_steps.specs.Lines.{step_of, steps_of}
 use Rattle.nor_steps.specs.Work.{stretch_ops, IsSound, IsBegunOf}
 use Rattle.nor_steps.specs.Writing.{Writing, lines_of, next_lines, written_on}
 use Rattle.nor_steps.proofs.LineLemmas.{lines_append}
-use Rattle.norprog.specs.Windows.{target_from, first_writing, IsDone, IsKnown, IsTextFront, IsScriptFront}
+use Rattle.nor_steps.proofs.OpLemmas.{lines_join}
+use Rattle.norprog.specs.declared.windows.Text.{Text}
+use Rattle.norprog.specs.declared.windows.Text.TheVariants.{Steps}
+use Rattle.norprog.specs.Windows.{target_from, first_writing, IsAllDone, IsKnown, IsTextFront, IsScriptFront}
 use Rattle.norprog.specs.Written.{AreBytes}
-use Rattle.norprog.proofs.StretchLemmas.{stretch_join, lines_join}
+use Rattle.norprog.proofs.StretchLemmas.{stretch_join}
 
 abbrev streaming : Parameters → Start → Strategy → Streaming
 streaming m start by = record { meaning = m; start = start; by = by; started = false }
@@ -117,19 +121,19 @@ join_texts xs ys front rest later close =
     ap (λ text. xs ++ text) (append_assoc (front ++ rest) later close ∙ append_assoc front rest (later ++ close)) ∙ sym (append_assoc xs front (rest ++ (later ++ close)))
 
 -- windows that were begun
-pub known_front : (job : Job) (known : ℕ) (part front : List ℕ) → 0 < job.meaning.page → length part ≤ job.meaning.size → IsKnown job known part front
-    → IsScriptFront job known part (header ++ front)
-known_front job known part front some fits is =
+pub known_front : (job : Job) (known : ℕ) (part front : List ℕ) (why : BuildFault) → 0 < job.meaning.page → known ≤ length part → length part ≤ job.meaning.size
+    → IsKnown Steps job known part front why → IsScriptFront job known part (header ++ front)
+known_front job known part front why some within fits is =
     let w = first_writing job in
-    let took : length (take known part) ≡ known = length-take-le known part is.within in
+    let took : length (take known part) ≡ known = length-take-le known part within in
     record {
-      within = is.within;
+      within = within;
       small = is.bytes;
       front = λ content target size has has'.
           let begun : IsBegunOf w 0 known content target front = subst (λ n. IsBegunOf w 0 n content target front) took (is.begun content target has has') in
           let p = stretch_ops w 0 known content target in
           let q = stretch_ops w known (job.meaning.size - known) content target in
-          let all : known + (job.meaning.size - known) ≡ length content = omega (arith, is.within, fits, size) in
+          let all : known + (job.meaning.size - known) ≡ length content = omega (arith, within, fits, size) in
           let ops : job_ops job content target ≡ p ++ q =
           ops_are job content target size ∙ ap (λ n. stretch_ops w 0 n content target) (sym all) ∙ stretch_join w known (job.meaning.size - known) content target some is.pages in
           let later = next_lines (written_on w p) q in
@@ -147,13 +151,14 @@ pub record IsWhole (job : Job) (part : List ℕ) (ops : List Op) : Type 0 where
   pub are : (content target : List ℕ) → length content ≡ job.meaning.size → HasPart content part 0 → HasPart target (target_from job 0 part) 0 → job_ops job content target ≡ ops
   pub sound : (content target : List ℕ) → HasPart content part 0 → HasPart target (target_from job 0 part) 0 → IsSound (first_writing job) 0 (length part) content target
 
-pub whole_is : (job : Job) (v : Writing) (a b : Ahead) (x y : Option (List ℕ)) (told : Tally) → (done : IsDone job v job.meaning.size a b x y told) → IsWhole job done.part done.ops
-whole_is job v a b x y told done = record {
-  size = done.upto;
+pub whole_is : (kind : Text) (job : Job) (v : Writing) (a b : Ahead) (x y : Option (List ℕ)) (told : Tally) → (done : IsAllDone kind job v a b x y told)
+    → IsWhole job done.part done.wrote.steps.ops
+whole_is kind job v a b x y told done = record {
+  size = done.size;
   small = done.bytes;
   are = λ content target size has has'.
-      ops_are job content target size ∙ ap (λ n. stretch_ops (first_writing job) 0 n content target) (size ∙ sym done.upto) ∙ (done.work content target has has').are;
-  sound = λ content target has has'. (done.work content target has has').sound;
+      ops_are job content target size ∙ ap (λ n. stretch_ops (first_writing job) 0 n content target) (size ∙ sym done.size) ∙ (done.wrote.steps.work content target has has').are;
+  sound = λ content target has has'. (done.wrote.steps.work content target has has').sound;
 }
 
 whole_front : (job : Job) (part bytes : List ℕ) (ops : List Op) → IsWhole job part ops

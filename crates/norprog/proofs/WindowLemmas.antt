@@ -1,45 +1,57 @@
 -- The windows of a content, one after another.
-use Rattle.std.proofs.Common.{◌≡◌, ℕ, ◌+◌, ◌%◌, ◌<◌, ◌≤◌, List, [], ◌++◌, length, take, Option, refl, sym, ◌∙◌, ap, subst, arith, inl, inr, min, length-append}
+use Rattle.std.proofs.Common.{◌≡◌, ℕ, ◌+◌, ◌%◌, ◌<◌, ◌≤◌, List, [], ◌++◌, length, take, Option, None, refl, sym, ◌∙◌, ap, subst, arith, inl, inr, length-append}
 use Rattle.std.specs.Io.KnownBytes.{Appends}
 use Rattle.std.proofs.lemmas.List.{append-nil, take_all}
+use Rattle.std.proofs.Math.Nat.{zero-mod}
 use Rattle.std.proofs.Math.Seq.{take-append_seam}
 use Rattle.std.proofs.lemmas.List.Sums.{sum_by-append}
 use Rattle.nor_base.specs.Device.{Ahead, Gives}
 use Rattle.nor_base.specs.Operations.{Op}
-use Rattle.nor_base.specs.Script.{step_lines}
 use Rattle.nor_base.specs.Strategies.{strategy}
 use Rattle.nor_base.proofs.DeviceLaws.{Appends-append, Appends-none, Gives-append}
 use Rattle.nor_erase.specs.Plan.{IsFault}
+use Rattle.nor_geometry.specs.Window.{IsWindowSize}
 use Rattle.nor_job.specs.declared.fault.BuildFault.{BuildFault}
 use Rattle.nor_job.specs.declared.fault.BuildFault.TheVariants as fault
 use Rattle.nor_job.specs.declared.job.Job.{Job}
-use Rattle.nor_select.specs.Streamed.{Streaming, next, onward}
+use Rattle.nor_select.specs.Streamed.{Streaming, onward}
 use Rattle.nor_steps.specs.declared.fault.StepsFault.{StepsFault}
 use Rattle.nor_steps.specs.declared.fault.StepsFault.TheVariants as steps
 use Rattle.nor_steps.specs.declared.tally.Tally.{Tally}
+use Rattle.nor_steps.specs.Faults.{IsOfWriting}
 use Rattle.nor_steps.specs.Tally.{tally_of, sum_of, nothing_told, IsFew, erases_of, erased_of, programs_of}
-use Rattle.nor_steps.specs.Work.{IsWork, IsBegun, HasBegun}
-use Rattle.nor_steps.specs.Writing.{Writing, next_lines, written_on}
-use Rattle.nor_steps.proofs.OpLemmas.{more_lines, more_steps, more_on}
-use Rattle.norprog.specs.Windows.{target_from, first_writing, lifted_steps, EndsWindow, WroteWindow, StopsWindow, IsDone, CutCause, AreRecent, IsKnown, IsCut}
+use Rattle.nor_steps.specs.Work.{WroteStretch}
+use Rattle.nor_steps.specs.Writing.{Writing, written_on}
+use Rattle.nor_steps.proofs.OpLemmas.{more_steps, more_on}
+use Rattle.norprog.specs.declared.windows.Text.{Text}
+use Rattle.norprog.specs.Windows.{target_from, first_writing, lifted_steps, WroteText, HasText, StopsWindow, IsUndone, IsDone, IsAllDone, CutCause, AreRecent, BeginsText, IsKnown, IsCut}
 use Rattle.norprog.specs.Written.{AreBytes}
+use Rattle.norprog.proofs.KindLemmas.{none_text, text_join, begun_join, text_begins, begun_begins}
+use Rattle.norprog.proofs.PlaceLemmas.{IsPlace}
+use Rattle.norprog.proofs.StretchLemmas.{work_join, fault_join, work_none}
 use Rattle.norprog.proofs.TargetLemmas.{gives_none, length-target, target_of_parts, bytes_of_parts}
-use Rattle.norprog.proofs.StretchLemmas.{work_join, begun_done, begun_join, fault_join, work_none}
 
 -- at the beginning nothing has been read or written
-pub none_done : (job : Job) (v : Writing) (before : Ahead) (held : Option (List ℕ)) → v ≡ first_writing job → IsDone job v 0 before before held held nothing_told
-unfolding step_lines
-none_done job v before held is = record {
+pub none_done : (kind : Text) (job : Job) (v : Writing) (before : Ahead) (held : Option (List ℕ)) → v ≡ first_writing job
+    → IsDone kind job (first_writing job) v 0 0 before before held held nothing_told
+none_done kind job v before held is = record {
   part = [];
-  upto = refl;
+  size = refl;
   given = gives_none before;
   bytes = λ k. omega arith;
-  ops = [];
-  work = work_none (first_writing job);
-  put = Appends-none held;
-  state = is;
-  its_tally = refl;
-  few = record { steps = omega arith; erases = omega arith; erased = omega arith; programs = omega arith };
+  wrote = record {
+    steps = record {
+      ops = [];
+      work = work_none (first_writing job);
+      put = tt;
+      state = is;
+      its_tally = refl;
+      few = record { steps = omega arith; erases = omega arith; erased = omega arith; programs = omega arith };
+    };
+    text = [];
+    is = none_text kind (first_writing job);
+    put = Appends-none held;
+  };
 }
 
 abbrev tally : ℕ → ℕ → ℕ → ℕ → Tally
@@ -62,156 +74,206 @@ few_join n k one other first second = record {
   programs = omega (arith, first.programs, second.programs);
 }
 
--- the text of two parts
-text_join : (w v : Writing) (x y z : Option (List ℕ)) (p q : List Op) → v ≡ written_on w p → Appends x y (next_lines w p) → Appends y z (next_lines v q)
-    → Appends x z (next_lines w (p ++ q))
-text_join w v x y z p q state first second =
-    more_lines x y z w p q first (subst (λ (u : Writing). Appends y z (next_lines u q)) state second)
+-- the steps of two parts
+steps_join : (w v u : Writing) (at : ℕ) (xs ys txs tys : List ℕ) (told more : Tally) → 0 < w.streaming.meaning.page → at % w.streaming.meaning.page ≡ 0
+    → length xs ≡ at → length txs ≡ at → WroteStretch w v None None 0 xs txs told → WroteStretch v u None None at ys tys more
+    → WroteStretch w u None None 0 (xs ++ ys) (txs ++ tys) (sum_of told more)
+steps_join w v u at xs ys txs tys told more some whole upto upto' first second = record {
+  ops = first.ops ++ second.ops;
+  work = work_join w v at xs ys txs tys first.ops second.ops some whole upto upto' first.state first.work second.work;
+  put = tt;
+  state = second.state ∙ ap (λ (t : Writing). written_on t second.ops) first.state ∙ more_on w first.ops second.ops;
+  its_tally = tally_join w.streaming first.ops second.ops told more first.its_tally (second.its_tally ∙ ap (λ (t : Writing). tally_of t.streaming second.ops) first.state);
+  few = subst (λ n. IsFew n (sum_of told more)) (sym (length-append xs ys)) (few_join (length xs) (length ys) told more first.few second.few);
+}
 
--- what was done up to an address, and then a window; the part that was read is that of both
-pub done_with : (job : Job) (v u : Writing) (at n : ℕ) (a b c : Ahead) (x y z : Option (List ℕ)) (told more : Tally) → 0 < job.meaning.page → at % job.meaning.page ≡ 0
-    → (done : IsDone job v at a b x y told) → (window : WroteWindow job v u at n b c y z more)
-    → (both : IsDone job u (at + n) a c x z (sum_of told more)) × (both.part ≡ done.part ++ window.part)
-done_with job v u at n a b c x y z told more some whole done window =
+-- what was done up to an address, and then a window
+pub done_then : (kind : Text) (job : Job) (v u : Writing) (at n window : ℕ) (a b c : Ahead) (x y z : Option (List ℕ)) (told more : Tally) → IsPlace job.meaning window at n
+    → IsDone kind job (first_writing job) v 0 at a b x y told → IsDone kind job v u at n b c y z more
+    → IsDone kind job (first_writing job) u 0 (at + n) a c x z (sum_of told more)
+unfolding steps_join
+done_then kind job v u at n window a b c x y z told more place done next =
     let w = first_writing job in
     let xs = done.part in
-    let ys = window.part in
-    let goal = target_of_parts job 0 at xs ys (omega (arith, done.upto)) in
-    let wrote = window.wrote in (
-      record {
-        part = xs ++ ys;
-        upto = omega (arith, length-append xs ys, done.upto, window.size);
-        given = Gives-append a b c xs ys done.given window.given;
-        bytes = subst AreBytes (sym goal) (bytes_of_parts (target_from job 0 xs) (target_from job at ys) done.bytes window.bytes);
-        ops = done.ops ++ wrote.ops;
-        work = subst (λ (goal : List ℕ). IsWork w 0 (xs ++ ys) goal (done.ops ++ wrote.ops)) (sym goal)
-            (work_join w v at xs ys (target_from job 0 xs) (target_from job at ys) done.ops wrote.ops some whole done.upto (length-target job 0 xs ∙ done.upto) done.state done.work wrote.work);
-        put = text_join w v x y z done.ops wrote.ops done.state done.put wrote.put;
-        state = wrote.state ∙ ap (λ (t : Writing). written_on t wrote.ops) done.state ∙ more_on w done.ops wrote.ops;
-        its_tally = tally_join w.streaming done.ops wrote.ops told more done.its_tally
-            (wrote.its_tally ∙ ap (λ (t : Writing). tally_of t.streaming wrote.ops) done.state);
-        few = few_join at n told more done.few (subst (λ k. IsFew k more) window.size wrote.few);
-      },
-      refl,
-    )
-
-pub done_then : (job : Job) (v u : Writing) (at n : ℕ) (a b c : Ahead) (x y z : Option (List ℕ)) (told more : Tally) → 0 < job.meaning.page → at % job.meaning.page ≡ 0
-    → IsDone job v at a b x y told → WroteWindow job v u at n b c y z more → IsDone job u (at + n) a c x z (sum_of told more)
-done_then job v u at n a b c x y z told more some whole done window = (done_with job v u at n a b c x y z told more some whole done window).0
-
--- what was done is known, whatever was read after it
-known_done : (job : Job) (v : Writing) (at : ℕ) (a b : Ahead) (x y : Option (List ℕ)) (told : Tally) (ys : List ℕ) → at % job.meaning.page ≡ 0
-    → (done : IsDone job v at a b x y told) → IsKnown job at (done.part ++ ys) (next_lines (first_writing job) done.ops)
-known_done job v at a b x y told ys whole done =
-    let w = first_writing job in
-    let xs = done.part in
-    let front : take at (xs ++ ys) ≡ xs = ap (λ n. take n (xs ++ ys)) (sym done.upto) ∙ take-append_seam xs ys in
+    let ys = next.part in
+    let txs = target_from job 0 xs in
+    let tys = target_from job at ys in
+    let first = done.wrote in
+    let second = next.wrote in
+    let goal = target_of_parts job 0 at xs ys (omega (arith, done.size)) in
+    let upto' : length txs ≡ at = length-target job 0 xs ∙ done.size in
     record {
-      within = omega (arith, length-append xs ys, done.upto);
-      pages = whole;
-      bytes = subst (λ (part : List ℕ). AreBytes (target_from job 0 part)) (sym front) done.bytes;
-      begun = subst (λ (part : List ℕ). IsBegun w 0 part (target_from job 0 part) (next_lines w done.ops)) (sym front) (begun_done w 0 xs (target_from job 0 xs) done.ops done.work);
+      part = xs ++ ys;
+      size = omega (arith, length-append xs ys, done.size, next.size);
+      given = Gives-append a b c xs ys done.given next.given;
+      bytes = subst AreBytes (sym goal) (bytes_of_parts txs tys done.bytes next.bytes);
+      wrote = subst (λ (goal : List ℕ). WroteText kind w u x z 0 (xs ++ ys) goal (sum_of told more)) (sym goal) (record {
+        steps = steps_join w v u at xs ys txs tys told more place.page place.pages done.size upto' first.steps second.steps;
+        text = first.text ++ second.text;
+        is = text_join kind w v at xs ys txs tys first.steps.ops second.steps.ops first.text second.text place.page place.pages done.size upto' first.steps.state first.is second.is;
+        put = Appends-append x y z first.text second.text first.put second.put;
+      });
     }
-
--- and so is a window that was begun
-known_begun : (job : Job) (v : Writing) (at n : ℕ) (a b c : Ahead) (x y : Option (List ℕ)) (told : Tally) (ys front : List ℕ) → 0 < job.meaning.page → at % job.meaning.page ≡ 0
-    → (at + n) % job.meaning.page ≡ 0 → length ys ≡ n → AreBytes (target_from job at ys) → (done : IsDone job v at a b x y told)
-    → IsBegun v at ys (target_from job at ys) front → IsKnown job (at + n) (done.part ++ ys) (next_lines (first_writing job) done.ops ++ front)
-known_begun job v at n a b c x y told ys front some whole whole' size small done begun =
-    let w = first_writing job in
-    let xs = done.part in
-    let goal = target_of_parts job 0 at xs ys (omega (arith, done.upto)) in
-    let all : take (at + n) (xs ++ ys) ≡ xs ++ ys = take_all (at + n) (xs ++ ys) (omega (arith, length-append xs ys, done.upto, size)) in
-    let text = next_lines w done.ops ++ front in
-    record {
-      within = omega (arith, length-append xs ys, done.upto, size);
-      pages = whole';
-      bytes = subst (λ (part : List ℕ). AreBytes (target_from job 0 part)) (sym all)
-          (subst AreBytes (sym goal) (bytes_of_parts (target_from job 0 xs) (target_from job at ys) done.bytes small));
-      begun = subst (λ (part : List ℕ). IsBegun w 0 part (target_from job 0 part) text) (sym all)
-          (subst (λ (goal : List ℕ). IsBegun w 0 (xs ++ ys) goal text) (sym goal)
-          (begun_join w v at xs ys (target_from job 0 xs) (target_from job at ys) done.ops front some whole done.upto (length-target job 0 xs ∙ done.upto) done.state done.work begun));
-    }
-
--- where a window lies among the others
-pub record IsNext (job : Job) (at n window : ℕ) : Type 0 where
-  pub page : 0 < job.meaning.page
-  pub whole : at % job.meaning.page ≡ 0
-  pub over : (at + n) % job.meaning.page ≡ 0
-  pub aligned : at < job.meaning.size → at % window ≡ 0
-  pub then : at + n < job.meaning.size → (at + n) % window ≡ 0
-  pub some : 0 < n
-  pub few : n ≤ window
-  pub fits : at + n ≤ job.meaning.size
-  pub upto : at + n ≡ min (at + window) job.meaning.size
 
 -- what was done, and then nothing more was written
-cut_unwritten : (job : Job) (v : Writing) (at n window : ℕ) (a b c : Ahead) (x y z : Option (List ℕ)) (told : Tally) (ys : List ℕ) (why : BuildFault) → IsNext job at n window
-    → length ys ≤ n → (done : IsDone job v at a b x y told) → Gives b ys c × Appends y z [] → CutCause job (done.part ++ ys) c why
-    → AreRecent job.meaning.size window at (at + length ys) why → IsCut job window a c x z why
-cut_unwritten job v at n window a b c x y z told ys why place size done next cause recent =
-    let count : at + length ys ≡ length (done.part ++ ys) = omega (arith, length-append done.part ys, done.upto) in
+cut_between : (kind : Text) (job : Job) (v : Writing) (at n window : ℕ) (a b c : Ahead) (x y z : Option (List ℕ)) (told : Tally) (ys : List ℕ) (why : BuildFault)
+    → IsPlace job.meaning window at n → length ys ≤ n → (done : IsDone kind job (first_writing job) v 0 at a b x y told) → Gives b ys c × Appends y z []
+    → CutCause job (done.part ++ ys) c why → AreRecent job.meaning.size window at (at + length ys) why → IsCut (IsKnown kind job) job a c x z why
+cut_between kind job v at n window a b c x y z told ys why place size done next cause recent =
+    let w = first_writing job in
+    let xs = done.part in
+    let first = done.wrote in
+    let count : at + length ys ≡ length (xs ++ ys) = omega (arith, length-append xs ys, done.size) in
+    let front : take at (xs ++ ys) ≡ xs = ap (λ k. take k (xs ++ ys)) (sym done.size) ∙ take-append_seam xs ys in
     record {
-      part = done.part ++ ys;
-      within = omega (arith, count, size, place.fits);
-      given = Gives-append a b c done.part ys done.given next.0;
+      part = xs ++ ys;
+      within = omega (arith, count, size, place.inside);
+      given = Gives-append a b c xs ys done.given next.0;
       cause = cause;
+      window = window;
+      its_size = place.window;
       known = at;
-      windows = record { within = omega (arith, count); whole = place.aligned; recent = subst (λ k. AreRecent job.meaning.size window at k why) count recent };
-      front = next_lines (first_writing job) done.ops;
-      begins = known_done job v at a b x y told ys place.whole done;
-      put = subst (Appends x z) (append-nil (next_lines (first_writing job) done.ops)) (Appends-append x y z _ [] done.put next.1);
+      windows = record { within = omega (arith, count); whole = λ less. place.here; recent = subst (λ k. AreRecent job.meaning.size window at k why) count recent };
+      bytes = first.text;
+      front = record {
+        pages = place.pages;
+        bytes = subst (λ (part : List ℕ). AreBytes (target_from job 0 part)) (sym front) done.bytes;
+        begun = subst (λ (part : List ℕ). BeginsText kind w part (target_from job 0 part) first.text why) (sym front)
+            (text_begins kind w xs (target_from job 0 xs) first.steps.ops first.text why first.steps.work first.is);
+      };
+      put = subst (Appends x z) (append-nil first.text) (Appends-append x y z first.text [] first.put next.1);
     }
 
 -- or some of the window's text was
-cut_begun : (job : Job) (v : Writing) (at n window : ℕ) (a b c : Ahead) (x y z : Option (List ℕ)) (told : Tally) (ys : List ℕ) (why : BuildFault) → IsNext job at n window
-    → length ys ≡ n → AreBytes (target_from job at ys) → (done : IsDone job v at a b x y told) → Gives b ys c → HasBegun v y z at ys (target_from job at ys)
-    → CutCause job (done.part ++ ys) c why → AreRecent job.meaning.size window (at + n) (at + n) why → IsCut job window a c x z why
-cut_begun job v at n window a b c x y z told ys why place size small done given begun cause recent =
-    let count : at + n ≡ length (done.part ++ ys) = omega (arith, length-append done.part ys, done.upto, size) in
+cut_within : (kind : Text) (job : Job) (v : Writing) (at n window : ℕ) (a b c : Ahead) (x y z : Option (List ℕ)) (told : Tally) (ys : List ℕ) (why : StepsFault)
+    → IsPlace job.meaning window at n → length ys ≡ n → AreBytes (target_from job at ys) → (done : IsDone kind job (first_writing job) v 0 at a b x y told) → Gives b ys c
+    → HasText kind v y z at ys (target_from job at ys) → IsOfWriting why → CutCause job (done.part ++ ys) c (lifted_steps why)
+    → AreRecent job.meaning.size window (at + n) (at + n) (lifted_steps why) → IsCut (IsKnown kind job) job a c x z (lifted_steps why)
+cut_within kind job v at n window a b c x y z told ys why place size small done given has of cause recent =
+    let w = first_writing job in
+    let xs = done.part in
+    let txs = target_from job 0 xs in
+    let tys = target_from job at ys in
+    let first = done.wrote in
+    let text = first.text ++ has.front in
+    let count : at + n ≡ length (xs ++ ys) = omega (arith, length-append xs ys, done.size, size) in
+    let goal = target_of_parts job 0 at xs ys (omega (arith, done.size)) in
+    let all : take (at + n) (xs ++ ys) ≡ xs ++ ys = take_all (at + n) (xs ++ ys) (omega (arith, count)) in
+    let begun = begun_join kind w v at xs ys txs tys first.steps.ops first.text has.front place.page place.pages done.size (length-target job 0 xs ∙ done.size) first.steps.state
+    first.steps.work first.is has.begun in
     record {
-      part = done.part ++ ys;
-      within = omega (arith, count, place.fits);
-      given = Gives-append a b c done.part ys done.given given;
+      part = xs ++ ys;
+      within = omega (arith, count, place.inside);
+      given = Gives-append a b c xs ys done.given given;
       cause = cause;
+      window = window;
+      its_size = place.window;
       known = at + n;
-      windows = record { within = omega (arith, count); whole = place.then; recent = subst (λ k. AreRecent job.meaning.size window (at + n) k why) count recent };
-      front = next_lines (first_writing job) done.ops ++ begun.front;
-      begins = known_begun job v at n a b c x y told ys begun.front place.page place.whole place.over size small done begun.begun;
-      put = Appends-append x y z _ _ done.put begun.put;
+      windows = record {
+        within = omega (arith, count);
+        whole = place.aligned;
+        recent = subst (λ k. AreRecent job.meaning.size window (at + n) k (lifted_steps why)) count recent;
+      };
+      bytes = text;
+      front = record {
+        pages = place.whole;
+        bytes = subst (λ (part : List ℕ). AreBytes (target_from job 0 part)) (sym all) (subst AreBytes (sym goal) (bytes_of_parts txs tys done.bytes small));
+        begun = subst (λ (part : List ℕ). BeginsText kind w part (target_from job 0 part) text (lifted_steps why)) (sym all)
+            (subst (λ (goal : List ℕ). BeginsText kind w (xs ++ ys) goal text (lifted_steps why)) (sym goal) (begun_begins kind w (xs ++ ys) (txs ++ tys) text why of begun));
+      };
+      put = Appends-append x y z first.text has.front first.put has.put;
     }
 
 -- a window that was read, and ended early
-pub ended : (Ends : StepsFault → Type 0) (count : ℕ) (before after : Ahead) (x y : Option (List ℕ)) (why : StepsFault) → Ends why
-    → EndsWindow Ends count before after x y (lifted_steps why)
-ended Ends count before after x y (steps.Plan why) is = is
-ended Ends count before after x y steps.Write is = is
-ended Ends count before after x y steps.Memory is = is
+pub ended : (kind : Text) (job : Job) (w : Writing) (at count : ℕ) (before after : Ahead) (x y : Option (List ℕ)) (why : StepsFault)
+    → IsUndone kind job w at count before after x y why → StopsWindow kind job w at count before after x y (lifted_steps why)
+ended kind job w at count before after x y (steps.Plan why) is = is
+ended kind job w at count before after x y steps.Write is = is
+ended kind job w at count before after x y steps.Memory is = is
 
 -- what was done up to an address, and then it ended early
-pub done_then_cut : (job : Job) (v : Writing) (at n window : ℕ) (a b c : Ahead) (x y z : Option (List ℕ)) (told : Tally) (why : BuildFault) → IsNext job at n window
-    → IsDone job v at a b x y told → StopsWindow job v at n b c y z why → IsCut job window a c x z why
-done_then_cut job v at n window a b c x y z told fault.ContentShort place done stops =
+pub done_then_cut : (kind : Text) (job : Job) (v : Writing) (at n window : ℕ) (a b c : Ahead) (x y z : Option (List ℕ)) (told : Tally) (why : BuildFault)
+    → IsPlace job.meaning window at n → IsDone kind job (first_writing job) v 0 at a b x y told → StopsWindow kind job v at n b c y z why
+    → IsCut (IsKnown kind job) job a c x z why
+done_then_cut kind job v at n window a b c x y z told fault.ContentShort place done stops =
     let unread = stops.0 in
-    cut_unwritten job v at n window a b c x y z told unread.part fault.ContentShort place (omega (arith, unread.few)) done (unread.given, unread.put)
-    (omega (arith, length-append done.part unread.part, done.upto, unread.few, place.fits), stops.1) (omega (arith, unread.few, place.upto))
-done_then_cut job v at n window a b c x y z told fault.Read place done unread =
-    cut_unwritten job v at n window a b c x y z told unread.part fault.Read place (omega (arith, unread.few)) done (unread.given, unread.put) tt
+    cut_between kind job v at n window a b c x y z told unread.part fault.ContentShort place (omega (arith, unread.few)) done (unread.given, unread.put)
+    (omega (arith, length-append done.part unread.part, done.size, unread.few, place.inside), stops.1) (omega (arith, unread.few, place.upto))
+done_then_cut kind job v at n window a b c x y z told fault.Read place done unread =
+    cut_between kind job v at n window a b c x y z told unread.part fault.Read place (omega (arith, unread.few)) done (unread.given, unread.put) tt
     (omega (arith, unread.few, place.upto))
-done_then_cut job v at n window a b c x y z told (fault.Plan why) place done stops =
+done_then_cut kind job v at n window a b c x y z told (fault.Plan why) place done stops =
     let w = first_writing job in
     let xs = done.part in
     let ys = stops.part in
-    let goal = target_of_parts job 0 at xs ys (omega (arith, done.upto)) in
-    cut_unwritten job v at n window a b c x y z told ys (fault.Plan why) place (omega (arith, stops.size)) done (stops.given, stops.stops.1)
+    let first = done.wrote.steps in
+    let goal = target_of_parts job 0 at xs ys (omega (arith, done.size)) in
+    cut_between kind job v at n window a b c x y z told ys (fault.Plan why) place (omega (arith, stops.size)) done (stops.given, stops.stops.1)
     (subst (λ (goal : List ℕ). IsFault job.meaning (strategy job.meaning job.start) 0 (xs ++ ys) goal why) (sym goal)
-    (fault_join w v at xs ys (target_from job 0 xs) (target_from job at ys) done.ops why done.upto (length-target job 0 xs ∙ done.upto) done.state done.work stops.stops.0))
+    (fault_join w v at xs ys (target_from job 0 xs) (target_from job at ys) first.ops why done.size (length-target job 0 xs ∙ done.size) first.state first.work stops.stops.0))
     (omega (arith, stops.size, place.some), omega (arith, stops.size, place.upto))
-done_then_cut job v at n window a b c x y z told fault.Write place done stops =
-    cut_begun job v at n window a b c x y z told stops.part fault.Write place stops.size stops.bytes done stops.given stops.stops tt refl
-done_then_cut job v at n window a b c x y z told fault.Memory place done stops = elim stops.stops [
-  | inl begun ↦ cut_begun job v at n window a b c x y z told stops.part fault.Memory place stops.size stops.bytes done stops.given begun tt (inl refl)
-  | inr put ↦ cut_unwritten job v at n window a b c x y z told stops.part fault.Memory place (omega (arith, stops.size)) done (stops.given, put) tt
+done_then_cut kind job v at n window a b c x y z told fault.Write place done stops =
+    cut_within kind job v at n window a b c x y z told stops.part steps.Write place stops.size stops.bytes done stops.given stops.stops tt tt refl
+done_then_cut kind job v at n window a b c x y z told fault.Memory place done stops = elim stops.stops [
+  | inl has ↦ cut_within kind job v at n window a b c x y z told stops.part steps.Memory place stops.size stops.bytes done stops.given has tt tt (inl refl)
+  | inr put ↦ cut_between kind job v at n window a b c x y z told stops.part fault.Memory place (omega (arith, stops.size)) done (stops.given, put) tt
       (inr (omega (arith, stops.size, place.upto)))
 ]
-done_then_cut job v at n window a b c x y z told other place done stops = absurd stops
+done_then_cut kind job v at n window a b c x y z told other place done stops = absurd stops
+
+of_writing : (job : Job) (part : List ℕ) (after : Ahead) (why : StepsFault) → IsOfWriting why → CutCause job part after (lifted_steps why)
+of_writing job part after steps.Write is = tt
+of_writing job part after steps.Memory is = tt
+of_writing job part after (steps.Plan why) is = absurd is
+
+recent_none : (size window read : ℕ) (why : StepsFault) → IsOfWriting why → AreRecent size window read read (lifted_steps why)
+recent_none size window read steps.Write is = refl
+recent_none size window read steps.Memory is = inl refl
+recent_none size window read (steps.Plan why) is = absurd is
+
+-- it ended before anything was read
+pub cut_before : (IsFront : ℕ → List ℕ → List ℕ → BuildFault → Type 0) (job : Job) (window : ℕ) (a : Ahead) (x y : Option (List ℕ)) (bytes : List ℕ) (why : StepsFault)
+    → IsWindowSize job.meaning window → IsOfWriting why → IsFront 0 [] bytes (lifted_steps why) → Appends x y bytes → IsCut IsFront job a a x y (lifted_steps why)
+cut_before IsFront job window a x y bytes why size of front put = record {
+  part = [];
+  within = omega arith;
+  given = gives_none a;
+  cause = of_writing job [] a why of;
+  window = window;
+  its_size = size;
+  known = 0;
+  windows = record { within = omega arith; whole = λ some. zero-mod window; recent = recent_none job.meaning.size window 0 why of };
+  bytes = bytes;
+  front = front;
+  put = put;
+}
+
+-- nor was anything written
+pub none_cut : (kind : Text) (job : Job) (window : ℕ) (a : Ahead) (x : Option (List ℕ)) → IsWindowSize job.meaning window → IsCut (IsKnown kind job) job a a x x fault.Memory
+none_cut kind job window a x size =
+    let w = first_writing job in
+    cut_before (IsKnown kind job) job window a x x [] steps.Memory size tt (record {
+      pages = zero-mod job.meaning.page;
+      bytes = λ k. omega arith;
+      begun = text_begins kind w [] [] [] [] fault.Memory (work_none w) (none_text kind w);
+    }) (Appends-none x)
+
+-- it ended after all windows
+pub cut_after : (IsFront : ℕ → List ℕ → List ℕ → BuildFault → Type 0) (kind : Text) (job : Job) (v : Writing) (window : ℕ) (a b : Ahead) (x y s t : Option (List ℕ)) (told : Tally)
+    (bytes : List ℕ) (why : StepsFault) → IsWindowSize job.meaning window → (done : IsAllDone kind job v a b x y told) → IsOfWriting why
+    → IsFront (length done.part) done.part bytes (lifted_steps why) → Appends s t bytes → IsCut IsFront job a b s t (lifted_steps why)
+cut_after IsFront kind job v window a b x y s t told bytes why size done of front put =
+    let read = length done.part in
+    record {
+      part = done.part;
+      within = omega (arith, done.size);
+      given = done.given;
+      cause = of_writing job done.part b why of;
+      window = window;
+      its_size = size;
+      known = read;
+      windows = record { within = omega arith; whole = λ less. absurd (omega (arith, less, done.size)); recent = recent_none job.meaning.size window read why of };
+      bytes = bytes;
+      front = front;
+      put = put;
+    }

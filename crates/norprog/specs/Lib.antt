@@ -1,7 +1,7 @@
 pub mod Written
+pub mod PlanWindows
 pub mod Windows
 pub mod Build
-pub mod PlanWindows
 pub mod Plan
 pub mod Report
 pub mod ChipText

@@ -1,5 +1,6 @@
--- What a part of a build has done: content was read, and the steps of its windows were written (this project's).
-use Rattle.std.specs.Prelude.{◌≡◌, ◌≢◌, ◌⊎◌, ℕ, false, ◌+◌, ◌%◌, ◌<◌, ◌≤◌, min, ⊤, List, [], ◌++◌, length, map, take, count_by, Option, Result, Ok, Err}
+-- What a part of the work has done: content was read, and of its windows the steps were written, or the lines that tell
+-- their plan (this project's).
+use Rattle.std.specs.Prelude.{◌≡◌, ◌≢◌, ◌⊎◌, ℕ, false, ◌+◌, ◌%◌, ◌<◌, ◌≤◌, min, ⊤, List, [], ◌++◌, length, map, take, count_by, Option, None, Result, Ok, Err}
 use Rattle.std.specs.List.{enumerate_from}
 use Rattle.std.specs.Io.KnownBytes.{Appends}
 use Rattle.nor_base.specs.Device.{Ahead, Gives, IsAtEnd}
@@ -16,14 +17,18 @@ use Rattle.nor_job.specs.declared.fault.BuildFault.{BuildFault}
 use Rattle.nor_job.specs.declared.fault.BuildFault.TheVariants as fault
 use Rattle.nor_job.specs.declared.job.Job.{Job}
 use Rattle.nor_layout.specs.Chosen.{has}
+use Rattle.nor_plan_lines.specs.Told.{AreLines, AreBegun}
 use Rattle.nor_steps.specs.declared.fault.StepsFault.{StepsFault}
 use Rattle.nor_steps.specs.declared.fault.StepsFault.TheVariants as steps
 use Rattle.nor_steps.specs.declared.tally.Tally.{Tally}
 use Rattle.nor_steps.specs.Lines.{steps_of}
-use Rattle.nor_steps.specs.Tally.{tally_of, tally_with, IsFew}
-use Rattle.nor_steps.specs.Work.{IsSound, IsWork, IsBegun, WroteStretch, StopsStretch}
-use Rattle.nor_steps.specs.Writing.{Writing, fresh, next_lines, written_on}
+use Rattle.nor_steps.specs.Tally.{tally_with}
+use Rattle.nor_steps.specs.Work.{IsSound, IsBegun, WroteStretch}
+use Rattle.nor_steps.specs.Writing.{Writing, fresh, next_lines}
 use Rattle.norprog.specs.declared.report.Report.{Report}
+use Rattle.norprog.specs.declared.windows.Text.{Text}
+use Rattle.norprog.specs.declared.windows.Text.TheVariants.{Steps, Lines}
+use Rattle.norprog.specs.PlanWindows.{plan_text, TellsWindows}
 use Rattle.norprog.specs.Written.{AreBytes}
 
 -- the target of a part of the content that begins at an address
@@ -50,21 +55,54 @@ abbrev pub FillsWindow : Ahead → Ahead → Result (Unit {0}) BuildFault → Li
 FillsWindow before after (Ok u) window = Gives before window after
 FillsWindow before after (Err why) window = (part : List ℕ) × (length part < length window) × Gives before part after × WindowCause after why
 
--- a window of so many bytes was read, and its steps were written
-pub record WroteWindow (job : Job) (w v : Writing) (at count : ℕ) (before after : Ahead) (held_before held_after : Option (List ℕ)) (told : Tally) : Type 0 where
-  pub part : List ℕ
-  pub size : length part ≡ count
-  pub given : Gives before part after
-  pub bytes : AreBytes (target_from job at part)
-  pub wrote : WroteStretch w v held_before held_after at part (target_from job at part) told
+-- the text of the operations of a stretch: the lines of their steps, or those that tell the plan of the stretch
+abbrev pub IsText : Text → Writing → ℕ → List ℕ → List ℕ → List Op → List ℕ → Type 0
+IsText Steps w at have want ops text = text ≡ next_lines w ops
+IsText Lines w at have want ops text = AreLines w.streaming.meaning w.streaming.by at have want text
 
--- it was read, and its steps were not all written
-pub record IsUnwritten (job : Job) (w : Writing) (at count : ℕ) (before after : Ahead) (held_before held_after : Option (List ℕ)) (why : StepsFault) : Type 0 where
+-- a text with which that of a stretch begins, of which no address is at fault
+abbrev pub IsBegunText : Text → Writing → ℕ → List ℕ → List ℕ → List ℕ → Type 0
+IsBegunText Steps w at have want front = IsBegun w at have want front
+IsBegunText Lines w at have want front = AreBegun w.streaming.meaning w.streaming.by at have want front
+
+-- how much the steps of a stretch are is told, and its text was written
+pub record WroteText (kind : Text) (w v : Writing) (before after : Option (List ℕ)) (at : ℕ) (have want : List ℕ) (told : Tally) : Type 0 where
+  pub steps : WroteStretch w v None None at have want told
+  pub text : List ℕ
+  pub is : IsText kind w at have want steps.ops text
+  pub put : Appends before after text
+
+-- some of it was, from its beginning on
+pub record HasText (kind : Text) (w : Writing) (before after : Option (List ℕ)) (at : ℕ) (have want : List ℕ) : Type 0 where
+  pub front : List ℕ
+  pub begun : IsBegunText kind w at have want front
+  pub put : Appends before after front
+
+-- why it was not: an address is at fault, and nothing was written; or the writer failed, or a growth was refused
+abbrev pub StopsText : Text → Writing → Option (List ℕ) → Option (List ℕ) → ℕ → List ℕ → List ℕ → StepsFault → Type 0
+StopsText kind w before after at have want (steps.Plan why) = IsFault w.streaming.meaning w.streaming.by at have want why × Appends before after []
+StopsText kind w before after at have want steps.Write = HasText kind w before after at have want
+StopsText kind w before after at have want steps.Memory = HasText kind w before after at have want ⊎ Appends before after []
+
+-- so many bytes of the content from an address on were read, and the text of the work on them was written
+pub record IsDone (kind : Text) (job : Job) (w v : Writing) (at count : ℕ) (before after : Ahead) (held_before held_after : Option (List ℕ)) (told : Tally) : Type 0 where
   pub part : List ℕ
   pub size : length part ≡ count
   pub given : Gives before part after
   pub bytes : AreBytes (target_from job at part)
-  pub stops : StopsStretch w held_before held_after at part (target_from job at part) why
+  pub wrote : WroteText kind w v held_before held_after at part (target_from job at part) told
+
+-- all of it was
+abbrev pub IsAllDone : Text → Job → Writing → Ahead → Ahead → Option (List ℕ) → Option (List ℕ) → Tally → Type 0
+IsAllDone kind job v before after x y told = IsDone kind job (first_writing job) v 0 job.meaning.size before after x y told
+
+-- a window of so many bytes was read, and its text was not all written
+pub record IsUndone (kind : Text) (job : Job) (w : Writing) (at count : ℕ) (before after : Ahead) (held_before held_after : Option (List ℕ)) (why : StepsFault) : Type 0 where
+  pub part : List ℕ
+  pub size : length part ≡ count
+  pub given : Gives before part after
+  pub bytes : AreBytes (target_from job at part)
+  pub stops : StopsText kind w held_before held_after at part (target_from job at part) why
 
 -- less than a window was read, and nothing was written
 pub record IsUnread (count : ℕ) (before after : Ahead) (held_before held_after : Option (List ℕ)) : Type 0 where
@@ -73,30 +111,14 @@ pub record IsUnread (count : ℕ) (before after : Ahead) (held_before held_after
   pub given : Gives before part after
   pub put : Appends held_before held_after []
 
--- a window wasn't read, or it was, and what was to be done with it ended early
-abbrev pub EndsWindow : (StepsFault → Type 0) → ℕ → Ahead → Ahead → Option (List ℕ) → Option (List ℕ) → BuildFault → Type 0
-EndsWindow Ends count before after x y fault.ContentShort = IsUnread count before after x y × IsAtEnd after
-EndsWindow Ends count before after x y fault.Read = IsUnread count before after x y
-EndsWindow Ends count before after x y (fault.Plan why) = Ends (steps.Plan why)
-EndsWindow Ends count before after x y fault.Write = Ends steps.Write
-EndsWindow Ends count before after x y fault.Memory = Ends steps.Memory
-EndsWindow Ends count before after x y other = ⊥
-
-abbrev pub StopsWindow : Job → Writing → ℕ → ℕ → Ahead → Ahead → Option (List ℕ) → Option (List ℕ) → BuildFault → Type 0
-StopsWindow job w at count before after x y why = EndsWindow (IsUnwritten job w at count before after x y) count before after x y why
-
--- the content up to an address was read, and the steps of its windows were written
-pub record IsDone (job : Job) (v : Writing) (end : ℕ) (before after : Ahead) (held_before held_after : Option (List ℕ)) (told : Tally) : Type 0 where
-  pub part : List ℕ
-  pub upto : length part ≡ end
-  pub given : Gives before part after
-  pub bytes : AreBytes (target_from job 0 part)
-  pub ops : List Op
-  pub work : IsWork (first_writing job) 0 part (target_from job 0 part) ops
-  pub put : Appends held_before held_after (next_lines (first_writing job) ops)
-  pub state : v ≡ written_on (first_writing job) ops
-  pub its_tally : told ≡ tally_of (first_writing job).streaming ops
-  pub few : IsFew end told
+-- a window wasn't read, or it was, and its text was not all written
+abbrev pub StopsWindow : Text → Job → Writing → ℕ → ℕ → Ahead → Ahead → Option (List ℕ) → Option (List ℕ) → BuildFault → Type 0
+StopsWindow kind job w at count before after x y fault.ContentShort = IsUnread count before after x y × IsAtEnd after
+StopsWindow kind job w at count before after x y fault.Read = IsUnread count before after x y
+StopsWindow kind job w at count before after x y (fault.Plan why) = IsUndone kind job w at count before after x y (steps.Plan why)
+StopsWindow kind job w at count before after x y fault.Write = IsUndone kind job w at count before after x y steps.Write
+StopsWindow kind job w at count before after x y fault.Memory = IsUndone kind job w at count before after x y steps.Memory
+StopsWindow kind job w at count before after x y other = ⊥
 
 -- why the work on a part of the content ended early
 abbrev pub CutCause : Job → List ℕ → Ahead → BuildFault → Type 0
@@ -124,25 +146,31 @@ pub record AreWindows (size window known read : ℕ) (why : BuildFault) : Type 0
   pub whole : known < size → known % window ≡ 0
   pub recent : AreRecent size window known read why
 
--- so much of what was read is whole pages, and some of the text of the steps of their units was written, from its beginning
--- on
-pub record IsKnown (job : Job) (known : ℕ) (part front : List ℕ) : Type 0 where
-  pub within : known ≤ length part
+-- some of the text of a beginning of the content, from the text's beginning on: of steps any, of lines as many as why it
+-- ended early says
+abbrev pub BeginsText : Text → Writing → List ℕ → List ℕ → List ℕ → BuildFault → Type 0
+BeginsText Steps w have want front why = IsBegun w 0 have want front
+BeginsText Lines w have want front why = TellsWindows w.streaming.meaning w.streaming.by have want front why
+
+-- so much of what was read is whole pages, and some of their text was written, from its beginning on
+pub record IsKnown (kind : Text) (job : Job) (known : ℕ) (part front : List ℕ) (why : BuildFault) : Type 0 where
   pub pages : known % job.meaning.page ≡ 0
   pub bytes : AreBytes (target_from job 0 (take known part))
-  pub begun : IsBegun (first_writing job) 0 (take known part) (target_from job 0 (take known part)) front
+  pub begun : BeginsText kind (first_writing job) (take known part) (target_from job 0 (take known part)) front why
 
--- some of the content was read, and some of the text of the steps of its windows was written
-pub record IsCut (job : Job) (window : ℕ) (before after : Ahead) (held_before held_after : Option (List ℕ)) (why : BuildFault) : Type 0 where
+-- some of the content was read, and what was written is such a front of the text of its windows
+pub record IsCut (IsFront : ℕ → List ℕ → List ℕ → BuildFault → Type 0) (job : Job) (before after : Ahead) (held_before held_after : Option (List ℕ)) (why : BuildFault) : Type 0 where
   pub part : List ℕ
   pub within : length part ≤ job.meaning.size
   pub given : Gives before part after
   pub cause : CutCause job part after why
+  pub window : ℕ
+  pub its_size : IsWindowSize job.meaning window
   pub known : ℕ
   pub windows : AreWindows job.meaning.size window known (length part) why
-  pub front : List ℕ
-  pub begins : IsKnown job known part front
-  pub put : Appends held_before held_after front
+  pub bytes : List ℕ
+  pub front : IsFront known part bytes why
+  pub put : Appends held_before held_after bytes
 
 -- no address of a chip is at fault, and the text of the steps of the work on it was written, with what is told of them
 pub record IsScripted (job : Job) (before after : Ahead) (held_before held_after : Option (List ℕ)) (told : Tally) : Type 0 where
@@ -170,18 +198,17 @@ pub record IsScriptFront (job : Job) (known : ℕ) (part bytes : List ℕ) : Typ
       → IsSound (first_writing job) 0 known content target
 
 -- some of the content was read, and what was written is a front of the script of its windows
-pub record IsCutScript (job : Job) (before after : Ahead) (held_before held_after : Option (List ℕ)) (why : BuildFault) : Type 0 where
-  pub part : List ℕ
-  pub within : length part ≤ job.meaning.size
-  pub given : Gives before part after
-  pub cause : CutCause job part after why
-  pub window : ℕ
-  pub its_size : IsWindowSize job.meaning window
-  pub known : ℕ
-  pub windows : AreWindows job.meaning.size window known (length part) why
-  pub bytes : List ℕ
-  pub front : IsScriptFront job known part bytes
-  pub put : Appends held_before held_after bytes
+abbrev pub IsCutScript : Job → Ahead → Ahead → Option (List ℕ) → Option (List ℕ) → BuildFault → Type 0
+IsCutScript job before after x y why = IsCut (λ known part bytes why. IsScriptFront job known part bytes) job before after x y why
+
+-- some of the content was read, and what was written is lines of its windows, as many as why it ended early says
+abbrev pub IsCutPlan : Job → Ahead → Ahead → Option (List ℕ) → Option (List ℕ) → BuildFault → Type 0
+IsCutPlan job before after x y why = IsCut (IsKnown Lines job) job before after x y why
+
+-- no address of a chip is at fault, the steps of the work on it are told, and the lines of its units were written
+pub record IsToldWhole (job : Job) (before after : Ahead) (held_before held_after : Option (List ℕ)) (told : Tally) : Type 0 where
+  pub steps : IsScripted job before after None None told
+  pub put : Appends held_before held_after (plan_text job.meaning job.start steps.part (target_from job 0 steps.part))
 
 -- the report of a job of which so much is told
 abbrev pub job_report : Job → Tally → Report

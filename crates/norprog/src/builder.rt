@@ -11,13 +11,13 @@ ghost use Rattle.norprog.specs.Windows.{IsScripted, IsCutScript, job_report};
 ghost use Rattle.norprog.specs.Written.{CountsReader, CountsWriter};
 
 use crate::report::Report;
-use crate::windows::{lifted, write_chip};
+use crate::windows::{Text, lifted, room, write_windows};
 use nor_base::{ByteIn, ByteOut};
 use nor_geometry::{strategy, window_size};
 use nor_job::{BuildFault, Inputs, Job, job_of};
 use nor_script::{begin, finish};
 use nor_spelling::spelling;
-use nor_steps::{StepWriter, Tally};
+use nor_steps::Tally;
 use nor_target::ignored;
 use nor_work::{least_erasure, planned_runs, planned_work, there_is_planned_work};
 use std::alloc::Global;
@@ -82,15 +82,20 @@ fn write_script<R: ByteIn, W: ByteOut>(
     ensures writes { CountsWriter (W.count out.old) (W.count out.new) result }
 {
     let window = window_size(&job.meaning) as usize;
-    let mut have = vec![in alloc; 0; window]?;
-    let mut want = vec![in alloc; 0; window]?;
-    let strategy = strategy(&job.meaning, &job.start);
-    let mut writer = StepWriter::new(alloc, &job.meaning, &job.start, strategy, job.verify);
+    let (mut have, mut want) = room(alloc, window)?;
     match begin(out) {
         Ok(()) => {}
         Err(_) => return Err(BuildFault::Write),
     }
-    let mut told = write_chip(alloc, job, &mut have, &mut want, &mut writer, content, out)?;
+    let (writer, mut told) = write_windows(
+        alloc,
+        job,
+        Text::Steps,
+        &mut have,
+        &mut want,
+        content,
+        out,
+    )?;
     match writer.close(alloc, out) {
         Ok(last) => told.steps += last,
         Err(fault) => return Err(lifted(fault)),

@@ -3,45 +3,69 @@
 ghost use Rattle.std.specs.Prelude.{◌≡◌, ◌<◌, ◌≤◌, ◌+◌, ◌-◌, ◌*◌, ◌^◌, length, map, IfOk, IfErr};
 ghost use Rattle.std.specs.List.{enumerate_from};
 ghost use Rattle.nor_base.specs.Accepted.{IsAccepted};
+ghost use Rattle.nor_base.specs.Strategies.{strategy as driven_by};
 ghost use Rattle.nor_erase.specs.Plan.{IsWindow};
 ghost use Rattle.nor_geometry.specs.Window.{IsWindowSize};
-ghost use Rattle.norprog.specs.Windows.{first_writing, target_from, lifted_steps, WroteWindow, StopsWindow, IsDone, IsCut, FillsWindow};
-ghost use Rattle.norprog.specs.Written.{AreBytes, CountsReader, CountsWriter};
+ghost use Rattle.nor_steps.specs.Faults.{CountsSteps};
+ghost use Rattle.norprog.specs.Windows.{lifted_steps, WroteText, StopsText, StopsWindow, IsDone, IsAllDone, IsKnown, IsCut, FillsWindow};
+ghost use Rattle.norprog.specs.Written.{CountsReader, CountsWriter};
 
+use crate::nowhere::Nowhere;
 use nor_base::{ByteIn, ByteOut, fill_from};
+use nor_geometry::strategy;
 use nor_job::{BuildFault, Job};
+use nor_plan_lines::write_window as write_lines;
 use nor_steps::{StepWriter, StepsFault, Tally};
 use nor_target::fill;
-use std::alloc::Global;
+use std::alloc::{AllocError, Global};
 
-/// Reads the content, and writes the steps of each window as soon as it is read. Answers how much was written.
+/// What is written of the work.
+#[derive(Clone, Copy)]
+pub(crate) enum Text {
+    /// The steps that do it.
+    Steps,
+    /// The lines that tell its plan.
+    Lines,
+}
+
+/// Room for what a window of so many bytes holds, and for what it must hold.
+pub(crate) fn room(alloc: Global, window: usize) -> Result<(Vec<u8>, Vec<u8>), AllocError>
+    ensures have { IfOk result (λ room. length room.0.items ≡ window) }
+    ensures want { IfOk result (λ room. length room.1.items ≡ window) }
+{
+    Ok((vec![in alloc; 0; window]?, vec![in alloc; 0; window]?))
+}
+
+/// Reads the content, and writes the text of each window as soon as it is read. Answers how much the steps of all windows
+/// are, beside what writes the steps that follow them.
 ///
 /// `have` and `want` have room for a window of the chip each. `ContentShort` where the reader ends before the chip's
 /// size, `Read` and `Write` where that device fails, `Plan` where an address of a window that was read is at fault,
 /// `Memory` where a growth is refused: the first of these that the work meets.
-pub(crate) fn write_chip<R: ByteIn, W: ByteOut>(
+pub(crate) fn write_windows<'a, R: ByteIn, W: ByteOut>(
     alloc: Global,
-    job: &Job,
+    job: &'a Job,
+    kind: Text,
     have: &mut [u8],
     want: &mut [u8],
-    writer: &mut StepWriter<'_>,
     content: &mut R,
     out: &mut W,
-) -> Result<Tally, BuildFault>
+) -> Result<(StepWriter<'a>, Tally), BuildFault>
     requires accepted { IsAccepted job.now.meaning }
     requires window { IsWindowSize job.now.meaning (length have.old) }
     requires lengths { length want.old ≡ length have.old }
-    requires first { writer.old ≡ first_writing job.now }
     requires reader { R.count content.old < 2 ^ 64 - 1 }
     requires out { W.count out.old < 2 ^ 64 - 1 }
-    ensures done { IfOk result (IsDone job.now writer.new job.now.meaning.size
-        (R.ahead content.old) (R.ahead content.new) (W.held out.old) (W.held out.new)) }
-    ensures cut { IfErr result (IsCut job.now (length have.old)
+    ensures done { IfOk result (λ r. IsAllDone kind job.now r.0
+        (R.ahead content.old) (R.ahead content.new) (W.held out.old) (W.held out.new) r.1) }
+    ensures cut { IfErr result (IsCut (IsKnown kind job.now) job.now
         (R.ahead content.old) (R.ahead content.new) (W.held out.old) (W.held out.new)) }
     ensures reads { CountsReader (R.count content.old) (R.count content.new) result }
     ensures writes { CountsWriter (W.count out.old) (W.count out.new) result }
 {
     let window = have.len();
+    let strategy = strategy(&job.meaning, &job.start);
+    let mut writer = StepWriter::new(alloc, &job.meaning, &job.start, strategy, job.verify);
     let mut at = 0;
     let mut told = Tally::none();
     while at < job.meaning.size {
@@ -49,25 +73,27 @@ pub(crate) fn write_chip<R: ByteIn, W: ByteOut>(
         let more = write_window(
             alloc,
             job,
+            kind,
             at,
             &mut have[..count],
             &mut want[..count],
-            writer,
+            &mut writer,
             content,
             out,
         )?;
         told = told.plus(more);
         at += count as u32;
     }
-    Ok(told)
+    Ok((writer, told))
 }
 
-/// Reads a window of the content that begins at an address, and writes its steps. Answers how much was written.
+/// Reads a window of the content that begins at an address, and writes its text. Answers how much its steps are.
 ///
-/// Its faults are those of [`write_chip`].
+/// Its faults are those of [`write_windows`].
 fn write_window<R: ByteIn, W: ByteOut>(
     alloc: Global,
     job: &Job,
+    kind: Text,
     at: u32,
     have: &mut [u8],
     want: &mut [u8],
@@ -76,45 +102,67 @@ fn write_window<R: ByteIn, W: ByteOut>(
     out: &mut W,
 ) -> Result<Tally, BuildFault>
     requires lengths { length want.old ≡ length have.old }
-    requires window { IsWindow writer.old.streaming.meaning writer.old.streaming.by at (length have.old) }
+    requires meaning { writer.old.streaming.meaning ≡ job.now.meaning }
+    requires by { writer.old.streaming.by ≡ driven_by job.now.meaning job.now.start }
+    requires window { IsWindow job.now.meaning (driven_by job.now.meaning job.now.start) at (length have.old) }
     requires inside { at + length have.old ≤ 2 ^ 32 }
     requires reader { R.count content.old < 2 ^ 64 - 1 }
     requires out { W.count out.old < 2 ^ 64 - 1 }
-    ensures wrote { IfOk result (WroteWindow job.now writer.old writer.new at (length have.old)
+    ensures done { IfOk result (IsDone kind job.now writer.old writer.new at (length have.old)
         (R.ahead content.old) (R.ahead content.new) (W.held out.old) (W.held out.new)) }
-    ensures stopped { IfErr result (StopsWindow job.now writer.old at (length have.old)
+    ensures stopped { IfErr result (StopsWindow kind job.now writer.old at (length have.old)
         (R.ahead content.old) (R.ahead content.new) (W.held out.old) (W.held out.new)) }
     ensures reads { CountsReader (R.count content.old) (R.count content.new) result }
     ensures writes { CountsWriter (W.count out.old) (W.count out.new) result }
 {
-    next_window(job, at, have, want, content)?;
-    match writer.more(alloc, at, have, want, out) {
+    read_window(content, have)?;
+    fill(&job.image, job.base, &job.chosen, at, have, want);
+    match write_text(alloc, job, kind, at, have, want, writer, out) {
         Ok(told) => Ok(told),
         Err(fault) => Err(lifted(fault)),
     }
 }
 
-/// Reads the window of the content that begins at an address into `have`, and fills `want` with what it must hold.
+/// Writes the text of a window that begins at an address: `have` is what it holds, `want` what it must hold. Answers how
+/// much its steps are.
 ///
-/// `ContentShort` where the reader ends before the window does, `Read` where it fails.
-pub(crate) fn next_window<R: ByteIn>(
+/// `Plan` where an address of the window is at fault, and nothing was written then. `Write` where the writer fails; `Memory`
+/// where a growth is refused.
+fn write_text<W: ByteOut>(
+    alloc: Global,
     job: &Job,
+    kind: Text,
     at: u32,
-    have: &mut [u8],
-    want: &mut [u8],
-    content: &mut R,
-) -> Result<(), BuildFault>
-    requires lengths { length want.old ≡ length have.old }
-    requires inside { at + length have.old ≤ 2 ^ 32 }
-    requires reader { R.count content.old < 2 ^ 64 - 1 }
-    ensures bytes { FillsWindow (R.ahead content.old) (R.ahead content.new) result have.new }
-    ensures target { IfOk result (λ _. want.new ≡ target_from job.now at have.new) }
-    ensures data { AreBytes want.new }
-    ensures count { CountsReader (R.count content.old) (R.count content.new) result }
+    have: &[u8],
+    want: &[u8],
+    writer: &mut StepWriter<'_>,
+    out: &mut W,
+) -> Result<Tally, StepsFault>
+    requires lengths { length have.now ≡ length want.now }
+    requires meaning { writer.old.streaming.meaning ≡ job.now.meaning }
+    requires by { writer.old.streaming.by ≡ driven_by job.now.meaning job.now.start }
+    requires window { IsWindow job.now.meaning (driven_by job.now.meaning job.now.start) at (length have.now) }
+    requires out { W.count out.old < 2 ^ 64 - 1 }
+    ensures wrote { IfOk result (WroteText kind writer.old writer.new (W.held out.old) (W.held out.new) at have.now want.now) }
+    ensures stopped { IfErr result (StopsText kind writer.old (W.held out.old) (W.held out.new) at have.now want.now) }
+    ensures count { CountsSteps (W.count out.old) (W.count out.new) result }
 {
-    read_window(content, have)?;
-    fill(&job.image, job.base, &job.chosen, at, have, want);
-    Ok(())
+    match kind {
+        Text::Steps => writer.more(alloc, at, have, want, out),
+        Text::Lines => {
+            let told = writer.more(alloc, at, have, want, &mut Nowhere)?;
+            write_lines(
+                alloc,
+                &job.meaning,
+                strategy(&job.meaning, &job.start),
+                at,
+                have,
+                want,
+                out,
+            )?;
+            Ok(told)
+        }
+    }
 }
 
 /// Fills a window from the reader.

@@ -1,7 +1,9 @@
 //! Of what a build writes a check says yes, also for chips by their SFDP bytes.
 
-use crate::bytes::{BLOCKS, LARGE, LEGACY, LONE_BLOCK, MAPPED, SMALL, patched};
 use crate::jobs::{inputs, line_of, script_for};
+use nor_samples::sfdp::{
+    BLOCKS, LARGE, LEGACY, LEGACY_LATCHED, LONE_BLOCK, MAPPED, SMALL, patched,
+};
 use norprog::{Part, Source};
 use norprog_check::Inputs;
 use std::alloc::Global;
@@ -27,7 +29,7 @@ struct Row {
 
 /// 00h at address 0 of the small chip.
 const ONE: Row = Row {
-    chip: SMALL,
+    chip: &SMALL,
     patches: &[],
     size: 8192,
     part: Part::Generic,
@@ -39,22 +41,11 @@ const ONE: Row = Row {
 
 /// 00h on both sides of 16 MiB of the large chip.
 const FAR: Row = Row {
-    chip: LARGE,
+    chip: &LARGE,
     size: 0x0200_0000,
     records: ":0200000400FFFB\n:01FFFF000001\n:020000040100F9\n:0100000000FF\n",
     ..ONE
 };
-
-/// The large chip leaves its first mode and enters it again after a write enable, and has no table of four-byte
-/// instructions.
-const LATCHED: &[(usize, u8)] = &[
-    (16, 0),
-    (23, 0),
-    (84, 0x00),
-    (85, 0x80),
-    (86, 0x00),
-    (87, 0x02),
-];
 
 /// Jobs for chips of 8 KiB to 68 KiB.
 static SMALL_ROWS: [Row; 9] = [
@@ -86,7 +77,7 @@ static SMALL_ROWS: [Row; 9] = [
     },
     // a sector map
     Row {
-        chip: MAPPED,
+        chip: &MAPPED,
         size: 0x1_0000,
         holds: &[(0, 0)],
         records: ":0100000001FE\n",
@@ -120,7 +111,7 @@ static LARGE_ROWS: [Row; 4] = [
         ..FAR
     },
     Row {
-        patches: LATCHED,
+        patches: LEGACY_LATCHED,
         ..FAR
     },
     Row {

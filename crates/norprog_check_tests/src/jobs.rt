@@ -2,17 +2,11 @@
 
 use crate::readers::{content, run_check};
 use nor_base::FromRead;
+use nor_samples::texts::{IMAGE, ONE_BYTE};
 use norprog::{Bytes, IntoWrite, Part, Source, build};
 use norprog_check::{BuildFault, CheckStop, Inputs, Verdict, write_verdict};
 use std::alloc::{AllocError, Global};
 use std::test::Fail;
-
-/// The image with 00h at address 0.
-pub(crate) const IMAGE: &str = ":0100000000FF\n:00000001FF\n";
-
-/// The script that programs 00h at address 0.
-pub(crate) const ONE_BYTE: &str =
-    "norscript 1\nx 00000110\nx 0000001000000000000000000000000000000000\np 00000101........\nend 3\n";
 
 /// The inputs of an image for a uniform chip of 8 KiB.
 pub(crate) fn inputs(hex: &str) -> Inputs<'_> {

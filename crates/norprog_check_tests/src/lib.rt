@@ -5,8 +5,6 @@
 #[cfg(test)]
 mod built;
 #[cfg(test)]
-mod bytes;
-#[cfg(test)]
 mod jobs;
 #[cfg(test)]
 mod lines;

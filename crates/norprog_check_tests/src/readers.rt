@@ -1,7 +1,8 @@
 //! Checks over readers that give what they like, end early or fail.
 
-use crate::jobs::{IMAGE, ONE_BYTE, inputs};
+use crate::jobs::inputs;
 use nor_base::FromRead;
+use nor_samples::texts::{IMAGE, ONE_BYTE};
 use norprog_check::{BuildFault, ByteIn, CheckStop, Inputs, Verdict, check_script};
 use std::alloc::Global;
 use std::io;

@@ -1,7 +1,9 @@
 //! Checks that are refused before a byte of the content is read, and the order in which that is looked at.
 
-use crate::jobs::{IMAGE, ONE_BYTE, inputs, one_name};
+use crate::jobs::{inputs, one_name};
 use crate::readers::{content, run_check};
+use nor_samples::sfdp::LARGE;
+use nor_samples::texts::{IMAGE, ONE_BYTE};
 use norprog::{HexFault, LayoutFault, Part, SfdpFault, Source};
 use norprog_check::{BuildFault, CheckStop, Inputs, ScriptFault, Verdict};
 use std::alloc::Global;
@@ -39,7 +41,7 @@ fn each_fault_of_the_inputs_is_told(rt: HostRuntime) -> Result<(), Fail> {
     let plain = inputs(IMAGE);
     let w25 = Inputs {
         chip: Source::Sfdp {
-            bytes: crate::bytes::LARGE,
+            bytes: &LARGE,
             bits: "",
         },
         part: Part::W25q256jv,

@@ -58,7 +58,7 @@ fn command<O: ByteOut, E: ByteOut>(
     requires err { E.count err.old < 2 ^ 64 - 1 }
     ensures status { result ≤ 2 }
     ensures quiet { result ≡ 0 → err.new ≡ err.old }
-    ensures told { 0 < result → E.count err.new ≡ E.count err.old
+    ensures told { E.count err.new ≡ E.count err.old
         → Answers (O.held out.old) (O.held out.new) (E.held err.old) (E.held err.new) result }
 {
     match asked_by(rt.alloc(), words.as_slice()) {

@@ -1,7 +1,7 @@
 //! `build`: from the texts of the command line to the script in its file.
 
-ghost use Rattle.std.specs.Prelude.{◌≡◌, ◌<◌, ◌≤◌, ◌-◌, ◌^◌};
-ghost use Rattle.norprog_command.specs.Lines.{Tells};
+ghost use Rattle.std.specs.Prelude.{◌≡◌, ◌<◌, ◌≤◌, ◌-◌, ◌^◌, IfOk, IfErr};
+ghost use Rattle.norprog_command.specs.Reports.{IsBuildReport, PrintsReport, CutsReport, Answers};
 
 use crate::faults::{FileName, Refusal, refuse};
 use crate::files::{create_output, open_input};
@@ -37,8 +37,9 @@ pub fn answer<O: ByteOut, E: ByteOut>(
     requires err { E.count err.old < 2 ^ 64 - 1 }
     ensures status { result ≤ 2 }
     ensures quiet { result ≡ 0 → err.new ≡ err.old }
-    ensures told { 0 < result → E.count err.new ≡ E.count err.old
-        → Tells (E.held err.old) (E.held err.new) result }
+    ensures told { E.count err.new ≡ E.count err.old
+        → Answers PrintsReport (O.held out.old) (O.held out.new) (E.held err.old) (E.held err.new) result }
+    ensures unprinted { 0 < result → CutsReport (O.held out.old) (O.held out.new) }
 {
     match report_build(rt, given, out) {
         Ok(()) => 0,
@@ -53,12 +54,17 @@ fn report_build<O: ByteOut>(
     out: &mut O,
 ) -> Result<(), Refusal>
     requires { O.count out.old < 2 ^ 64 - 1 }
+    ensures printed { IfOk result (λ _. PrintsReport (O.held out.old) (O.held out.new)) }
+    ensures unprinted { IfErr result (λ _. CutsReport (O.held out.old) (O.held out.new)) }
 {
     let given = given?;
     let request = request_of(given.job).ok_or(Refusal::Usage)?;
     let path = given.out.ok_or(Refusal::Usage)?;
     let report = run_build(rt, &request, path)?;
-    write_report(&report, out).map_err(|_| Refusal::WRITE)
+    match write_report(&report, out) {
+        Ok(()) => Ok(()),
+        Err(_) => Err(Refusal::WRITE),
+    }
 }
 
 /// Opens the files of a request in their order, and builds into the file of that name.
@@ -66,7 +72,9 @@ fn run_build<R: Files + AllocGlobal>(
     rt: &R,
     request: &Request<'_>,
     path: &str,
-) -> Result<Report, Refusal> {
+) -> Result<Report, Refusal>
+    ensures { IfOk result IsBuildReport }
+{
     let alloc = rt.alloc();
     let mut places = Vec::new(alloc);
     let texts = read_texts(rt, alloc, request, &mut places)?;

@@ -1,7 +1,7 @@
 //! `sfdp`: from the texts of the command line to the lines that tell what a chip's tables mean.
 
-ghost use Rattle.std.specs.Prelude.{◌≡◌, ◌<◌, ◌≤◌, ◌-◌, ◌^◌};
-ghost use Rattle.norprog_command.specs.Lines.{Tells};
+ghost use Rattle.std.specs.Prelude.{◌≡◌, ◌<◌, ◌≤◌, ◌-◌, ◌^◌, IfOk, IfErr};
+ghost use Rattle.norprog_command.specs.Reports.{PrintsMeaning, CutsMeaning, Answers};
 
 use crate::faults::{FileName, Refusal, refuse};
 use crate::files::read_whole;
@@ -36,8 +36,9 @@ pub fn show<O: ByteOut, E: ByteOut>(
     requires err { E.count err.old < 2 ^ 64 - 1 }
     ensures status { result ≤ 2 }
     ensures quiet { result ≡ 0 → err.new ≡ err.old }
-    ensures told { 0 < result → E.count err.new ≡ E.count err.old
-        → Tells (E.held err.old) (E.held err.new) result }
+    ensures told { E.count err.new ≡ E.count err.old
+        → Answers PrintsMeaning (O.held out.old) (O.held out.new) (E.held err.old) (E.held err.new) result }
+    ensures unprinted { 0 < result → CutsMeaning (O.held out.old) (O.held out.new) }
 {
     match show_meaning(rt, given, out) {
         Ok(()) => 0,
@@ -52,12 +53,17 @@ fn show_meaning<O: ByteOut>(
     out: &mut O,
 ) -> Result<(), Refusal>
     requires { O.count out.old < 2 ^ 64 - 1 }
+    ensures printed { IfOk result (λ _. PrintsMeaning (O.held out.old) (O.held out.new)) }
+    ensures unprinted { IfErr result (λ _. CutsMeaning (O.held out.old) (O.held out.new)) }
 {
     let given = given?;
     let chip = chip_of(given.sfdp, given.uniform, given.bits).ok_or(Refusal::Usage)?;
     let part = part(given.part.unwrap_or("generic")).ok_or(Refusal::Usage)?;
     let meaning = meaning_of(rt, chip, part)?;
-    sfdp_text(&meaning, out).map_err(|_| Refusal::WRITE)
+    match sfdp_text(&meaning, out) {
+        Ok(()) => Ok(()),
+        Err(_) => Err(Refusal::WRITE),
+    }
 }
 
 /// The meaning of the chip's file, or of its size.

@@ -1,7 +1,7 @@
 //! `plan`: from the texts of the command line to the lines that tell what a build would erase and program, and why.
 
 ghost use Rattle.std.specs.Prelude.{◌≡◌, ◌<◌, ◌≤◌, ◌-◌, ◌^◌, IfOk};
-ghost use Rattle.norprog_command.specs.Lines.{Tells};
+ghost use Rattle.norprog_command.specs.Reports.{PrintsLines, PrintsPlan, Answers};
 
 use crate::faults::{FileName, Refusal, refuse};
 use crate::files::open_input;
@@ -27,8 +27,8 @@ pub fn outline<O: ByteOut, E: ByteOut>(
     requires err { E.count err.old < 2 ^ 64 - 1 }
     ensures status { result ≤ 2 }
     ensures quiet { result ≡ 0 → err.new ≡ err.old }
-    ensures told { 0 < result → E.count err.new ≡ E.count err.old
-        → Tells (E.held err.old) (E.held err.new) result }
+    ensures told { E.count err.new ≡ E.count err.old
+        → Answers PrintsPlan (O.held out.old) (O.held out.new) (E.held err.old) (E.held err.new) result }
 {
     match report_plan(rt, given, out) {
         Ok(()) => 0,
@@ -43,10 +43,14 @@ fn report_plan<O: ByteOut>(
     out: &mut O,
 ) -> Result<(), Refusal>
     requires { O.count out.old < 2 ^ 64 - 1 }
+    ensures { IfOk result (λ _. PrintsPlan (O.held out.old) (O.held out.new)) }
 {
     let request = request_of(given?).ok_or(Refusal::Usage)?;
     let report = run_plan(rt, &request, out)?;
-    write_report(&report, out).map_err(|_| Refusal::WRITE)
+    match write_report(&report, out) {
+        Ok(()) => Ok(()),
+        Err(_) => Err(Refusal::WRITE),
+    }
 }
 
 /// Opens the files of a request in their order, and plans.
@@ -56,7 +60,8 @@ fn run_plan<R: Files + AllocGlobal, O: ByteOut>(
     out: &mut O,
 ) -> Result<Report, Refusal>
     requires { O.count out.old < 2 ^ 64 - 1 }
-    ensures { IfOk result (λ _. O.count out.new ≡ O.count out.old) }
+    ensures count { IfOk result (λ _. O.count out.new ≡ O.count out.old) }
+    ensures lines { IfOk result (PrintsLines (O.held out.old) (O.held out.new)) }
 {
     let alloc = rt.alloc();
     let mut places = Vec::new(alloc);
@@ -64,5 +69,8 @@ fn run_plan<R: Files + AllocGlobal, O: ByteOut>(
     let (content, _place, len) = open_input(rt, request.content, FileName::Content)?;
     let mut reader = FromRead::new(content);
     let inputs = inputs_of(request, &texts);
-    plan(alloc, &inputs, &mut reader, len, out).map_err(Refusal::Build)
+    match plan(alloc, &inputs, &mut reader, len, out) {
+        Ok(report) => Ok(report),
+        Err(fault) => Err(Refusal::Build(fault)),
+    }
 }

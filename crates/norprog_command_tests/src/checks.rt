@@ -1,6 +1,7 @@
 //! What `check` says.
 
-use crate::jobs::{ONE_BYTE, answer_of, check_of, write_job};
+use crate::jobs::{answer_of, check_of, write_job};
+use nor_samples::texts::ONE_BYTE;
 use std::alloc::AllocGlobal;
 use std::fs::{self, Files};
 use std::process::Abort;

@@ -1,14 +1,11 @@
 //! Command lines as changes of one that builds a job of one byte, and what they are answered.
 
 use nor_base::{Bytes, IntoWrite};
+use nor_samples::texts::{IMAGE, ONE_BYTE};
 use norprog_command::{Given, GivenBuild, GivenCheck, answer, judge, outline};
 use std::alloc::{AllocGlobal, Global};
 use std::fs::{self, Files};
 use std::test::Fail;
-
-/// The script of the job of one byte.
-pub(crate) const ONE_BYTE: &str =
-    "norscript 1\nx 00000110\nx 0000001000000000000000000000000000000000\np 00000101........\nend 3\n";
 
 /// What a command line was answered, and what was written.
 #[derive(Drop, Debug)]
@@ -136,7 +133,7 @@ pub(crate) fn write_job(rt: &(impl Files + AllocGlobal)) -> Result<(), Fail> {
     let mut content = Vec::new(rt.alloc());
     content.resize(8192, 255)?;
     fs::write(rt, "chip", content.as_slice())?;
-    fs::write(rt, "one", ":0100000000FF\n:00000001FF\n")?;
+    fs::write(rt, "one", IMAGE)?;
     Ok(())
 }
 

@@ -1,8 +1,9 @@
 //! Each refusal, its line and its status.
 
-use crate::jobs::{ONE_BYTE, answer_of, given, write_job, write_zeros};
+use crate::jobs::{answer_of, given, write_job, write_zeros};
 use nor_base::IntoWrite;
 use nor_erase::PlanFault;
+use nor_samples::texts::ONE_BYTE;
 use norprog::{BuildFault, HexFault, LayoutFault, SfdpFault};
 use norprog_command::{Refusal, answer, refuse};
 use std::alloc::AllocGlobal;

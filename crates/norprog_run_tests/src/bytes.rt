@@ -2,16 +2,13 @@
 
 use nor_base::{ByteIn, ByteOut, FromRead, IntoWrite, Part};
 use nor_job::{BuildFault, Inputs, Source};
+use nor_samples::texts::ONE_BYTE;
 use norprog_command::Refusal;
 use norprog_run::{Bench, Verdict, play_script};
 use std::alloc::{AllocError, Global};
 use std::io;
 use std::process::Abort;
 use std::test::Fail;
-
-/// One byte programmed.
-const SCRIPT: &[u8] =
-    b"norscript 1\nx 00000110\nx 0000001000000000000000000000000000000000\np 00000101........\nend 3\n";
 
 /// A reader that gives so many bytes at a call at most, and fails at the call of its number; 0 is no call's.
 #[derive(Drop)]
@@ -114,7 +111,7 @@ fn play(
         alloc,
         &inputs,
         bench,
-        SCRIPT,
+        ONE_BYTE.as_bytes(),
         &mut reader,
         8192,
         &mut writer,

@@ -1,15 +1,13 @@
 //! Command lines as changes of one that plays the script of one byte, and what they are answered.
 
 use nor_base::IntoWrite;
+use nor_samples::sfdp::{SMALL, patched};
+use nor_samples::texts::ONE_BYTE;
 use norprog_run::{GivenRun, run};
 use std::alloc::AllocGlobal;
 use std::fs::{self, Files};
 use std::process::Abort;
 use std::test::Fail;
-
-/// One byte programmed: write enable, a program of 00h at 0, a poll.
-const ONE_BYTE: &str =
-    "norscript 1\nx 00000110\nx 0000001000000000000000000000000000000000\np 00000101........\nend 3\n";
 
 /// The same without its poll.
 const NO_POLL: &str =
@@ -19,20 +17,17 @@ const NO_POLL: &str =
 const ONE_READ: &str =
     "norscript 1\nx 00000110\nx 0000001000000000000000000000000000000000\nx 00000101........\nend 3\n";
 
-/// SFDP bytes of a chip of 8 KiB whose page is only known to be 64 bytes or larger.
-const OPEN_PAGE: [u8; 80] = [
-    0x53, 0x46, 0x44, 0x50, 0x06, 0x01, 0x00, 0xFF, 0x00, 0x06, 0x01, 0x09, 0x10, 0x00, 0x00, 0xFF,
-    0x05, 0x20, 0x00, 0x00, 0xFF, 0xFF, 0x00, 0x00, 0, 0, 0, 0, 0, 0, 0, 0, 0, 0, 0, 0, 0, 0, 0, 0,
-    0, 0, 0, 0, 0x0C, 0x20, 0x00, 0xFF, 0x00, 0xFF, 0x00, 0xFF, 0, 0, 0, 0, 0x80, 0, 0, 0, 0, 0, 0,
-    0, 0, 0, 0, 0, 0, 0, 0, 0, 0, 0, 0, 0, 0, 0, 0, 0,
-];
-
-/// SFDP bytes of a chip of 8 KiB with three address bytes or four, which changes its mode after a write enable.
-const LATCHED: [u8; 80] = [
-    0x53, 0x46, 0x44, 0x50, 0x06, 0x01, 0x00, 0xFF, 0x00, 0x06, 0x01, 0x10, 0x10, 0x00, 0x00, 0xFF,
-    0x05, 0x20, 0x42, 0x00, 0xFF, 0xFF, 0x00, 0x00, 0x00, 0x00, 0x08, 0x6B, 0, 0, 0, 0, 0, 0, 0, 0,
-    0, 0, 0, 0, 0, 0, 0, 0, 0x0C, 0x20, 0x0F, 0x52, 0x10, 0xD8, 0x00, 0xFF, 0, 0, 0, 0, 0x80, 0, 0,
-    0, 0, 0, 0, 0, 0, 0, 0, 0, 0, 0, 0, 0, 0, 0, 0, 0, 0x00, 0x80, 0x00, 0x02,
+/// Over the bytes of the chip of 8 KiB: three address bytes or four, and the mode is changed after a write enable.
+const LATCHED: &[(usize, u8)] = &[
+    (18, 0x42),
+    (26, 0x08),
+    (27, 0x6B),
+    (46, 0x0F),
+    (47, 0x52),
+    (48, 0x10),
+    (49, 0xD8),
+    (77, 0x80),
+    (79, 0x02),
 ];
 
 /// The mode entered and left, each after a write enable, round a program of 00h at 0; all but the last write disable.
@@ -146,7 +141,9 @@ pub(crate) fn write_files(rt: &(impl Files + AllocGlobal)) -> Result<(), Fail> {
         "beyond",
         "norscript 1\nx 00000110\nx 0000001000000000001000000000000000000000\nend 2\n",
     )?;
-    fs::write(rt, "open", &OPEN_PAGE)?;
+    // a basic table of nine DWORDs: the page is only known to be 64 bytes or larger
+    let open = patched(rt.alloc(), &SMALL, &[(11, 9)])?;
+    fs::write(rt, "open", open.as_slice())?;
     fs::write(
         rt,
         "no-latch",
@@ -198,7 +195,8 @@ fn plays_scripts(rt: HostRuntime) -> Result<(), Fail> {
 fn changes_modes(rt: HostRuntime) -> Result<(), Fail> {
     let alloc = rt.alloc();
     write_files(&rt)?;
-    fs::write(&rt, "latched", &LATCHED)?;
+    let latched = patched(alloc, &SMALL, LATCHED)?;
+    fs::write(&rt, "latched", latched.as_slice())?;
     let whole = format!(in alloc; "{CHANGES_MODE}x 00000100\nend 9\n")?;
     fs::write(&rt, "whole", whole.as_str())?;
     let cut = format!(in alloc; "{CHANGES_MODE}end 8\n")?;

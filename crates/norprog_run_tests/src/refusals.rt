@@ -2,6 +2,7 @@
 
 use crate::plays::{answer_of, given, write_files};
 use nor_base::{IntoWrite, Wrong};
+use nor_samples::sfdp::LARGE;
 use norprog_command::Refusal;
 use norprog_run::{Verdict, request_of, run, write_verdict};
 use std::alloc::AllocGlobal;
@@ -121,15 +122,6 @@ fn write_faulty(rt: &(impl Files + AllocGlobal)) -> Result<(), Fail> {
     fs::create_dir(rt, "folder")?;
     Ok(())
 }
-
-/// A chip of 32 MiB: header, two parameter headers, basic table, four-byte address instruction table.
-const LARGE: [u8; 96] = [
-    0x53, 0x46, 0x44, 0x50, 0x06, 0x01, 0x01, 0xFF, 0x00, 0x06, 0x01, 0x10, 0x18, 0x00, 0x00, 0xFF,
-    0x84, 0x00, 0x01, 0x02, 0x58, 0x00, 0x00, 0xFF, 0x05, 0x20, 0x42, 0x00, 0xFF, 0xFF, 0xFF, 0x0F,
-    0x00, 0x00, 0x08, 0x6B, 0, 0, 0, 0, 0, 0, 0, 0, 0, 0, 0, 0, 0, 0, 0, 0, 0x0C, 0x20, 0x0F, 0x52,
-    0x10, 0xD8, 0x00, 0xFF, 0, 0, 0, 0, 0x80, 0, 0, 0, 0, 0, 0, 0, 0, 0, 0, 0, 0, 0, 0, 0, 0, 0, 0,
-    0, 0x00, 0x40, 0x00, 0x01, 0xD1, 0x0A, 0x00, 0x00, 0x21, 0xFF, 0xDC, 0xFF,
-];
 
 /// The command line with these changes is refused with this line and status, and nothing is printed.
 fn refuses(

@@ -1,9 +1,9 @@
 //! Builds for chips by their SFDP bytes: the scripts, the reports, and what chips hold after them.
 
-use crate::bytes::{BLOCKS, LARGE, LEGACY, MAPPED, SMALL, patched};
 use crate::jobs::{inputs, script_for};
 use crate::play::{play, script_of, with_bytes};
 use nor_base::{Meaning, Start};
+use nor_samples::sfdp::{BLOCKS, LARGE, LEGACY, LEGACY_LATCHED, MAPPED, SMALL, patched};
 use norprog::{Inputs, Part, Report, Source, Strategy};
 use std::alloc::Global;
 use std::process::Abort;
@@ -34,7 +34,7 @@ struct Row {
 
 /// 00h at address 0 of the small chip.
 const ONE: Row = Row {
-    chip: SMALL,
+    chip: &SMALL,
     patches: &[],
     part: Part::Generic,
     status: None,
@@ -65,7 +65,7 @@ const FAR: &str = ":0200000400FFFB\n:01FFFF000001\n:020000040100F9\n:0100000000F
 
 /// On the large chip.
 const BOTH_SIDES: Row = Row {
-    chip: LARGE,
+    chip: &LARGE,
     records: FAR,
     lines: "06 02FFFFFF00 . 06 120100000000 .",
     changes: &[(0x00FF_FFFF, 2, 0)],
@@ -76,22 +76,12 @@ const BOTH_SIDES: Row = Row {
 
 /// The large chip as a W25Q256JV of a status.
 const WINBOND: Row = Row {
-    chip: LARGE,
+    chip: &LARGE,
     part: Part::W25q256jv,
     status: Some(0),
     strategy: Strategy::S3,
     ..ONE
 };
-
-/// The large chip's first mode is left and entered after a write enable, and it has no table of four-byte instructions.
-const LATCHED: &[(usize, u8)] = &[
-    (16, 0),
-    (23, 0),
-    (84, 0x00),
-    (85, 0x80),
-    (86, 0x00),
-    (87, 0x02),
-];
 
 /// The profile that programs erased bytes alone, over what the chip holds at 1.
 const BESIDE: Row = Row {
@@ -165,7 +155,7 @@ static ROWS: [Row; 27] = [
     },
     // a sector map
     Row {
-        chip: MAPPED,
+        chip: &MAPPED,
         ..RISES
     },
     // past 16 MiB, by opcodes with four address bytes or in four-byte mode
@@ -177,14 +167,14 @@ static ROWS: [Row; 27] = [
         ..BOTH_SIDES
     },
     Row {
-        chip: LARGE,
-        patches: LATCHED,
+        chip: &LARGE,
+        patches: LEGACY_LATCHED,
         lines: "06 B7 04 06 020000000000 . 06 E9 04",
         strategy: Strategy::S4,
         ..ONE
     },
     Row {
-        chip: LARGE,
+        chip: &LARGE,
         patches: LEGACY,
         records: "",
         lines: "",
@@ -210,7 +200,7 @@ static ROWS: [Row; 27] = [
     },
     // on four lanes, and read
     Row {
-        chip: LARGE,
+        chip: &LARGE,
         asked: "quad verify",
         records: ":020000040100F9\n:0100000000FF\n",
         lines: "06 3401000000/00 . 6C01000000!00",
@@ -219,7 +209,7 @@ static ROWS: [Row; 27] = [
         ..ONE
     },
     Row {
-        chip: LARGE,
+        chip: &LARGE,
         asked: "mode4",
         lines: "06 020000000000 .",
         strategy: Strategy::S1,
@@ -368,11 +358,11 @@ fn each_chip_has_its_script(rt: HostRuntime) -> Result<(), Fail> {
 fn three_pages_have_nine_steps(rt: HostRuntime) -> Result<(), Fail> {
     let near = ":0100000000FF\n:0100FF000000\n:0101000000FE\n";
     let chips: [(&[u8], &[(usize, u8)], &str, u64); 5] = [
-        (SMALL, &[], ":011FFF0000E1\n", 9),
-        (SMALL, BLOCKS, ":01FFFF000001\n", 9),
-        (MAPPED, &[], ":01FFFF000001\n", 9),
-        (LARGE, &[], ":0200000401FFFA\n:01FFFF000001\n", 9),
-        (LARGE, LEGACY, ":0200000401FFFA\n:01FFFF000001\n", 11),
+        (SMALL.as_slice(), &[], ":011FFF0000E1\n", 9),
+        (&SMALL, BLOCKS, ":01FFFF000001\n", 9),
+        (&MAPPED, &[], ":01FFFF000001\n", 9),
+        (&LARGE, &[], ":0200000401FFFA\n:01FFFF000001\n", 9),
+        (&LARGE, LEGACY, ":0200000401FFFA\n:01FFFF000001\n", 11),
     ];
     let alloc = rt.alloc();
     for (chip, patches, last, steps) in chips {

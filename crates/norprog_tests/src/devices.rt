@@ -1,16 +1,14 @@
 //! Builds over devices that move few bytes at a call, end early or fail, and with little memory.
 
-use crate::jobs::{ONE_BYTE, inputs, one_name};
+use crate::jobs::{inputs, one_name};
 use crate::play::{script_of, with_bytes};
 use nor_base::{FromRead, IntoWrite};
+use nor_samples::texts::{IMAGE, ONE_BYTE};
 use norprog::{BuildFault, ByteIn, ByteOut, Inputs, Report, Strategy, build, plan};
 use std::alloc::{AllocError, Global};
 use std::io;
 use std::process::Abort;
 use std::test::Fail;
-
-/// The image with 00h at address 0.
-pub(crate) const IMAGE: &str = ":0100000000FF\n:00000001FF\n";
 
 /// The call of this number moves as many bytes at most; with `None` it fails. No call has the number 0.
 #[derive(Clone, Copy)]

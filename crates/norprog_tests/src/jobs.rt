@@ -3,14 +3,11 @@
 use crate::devices::{SlowWriter, content, failing, run_build};
 use crate::play::{play, script_of, with_bytes};
 use nor_base::{Meaning, Start};
+use nor_samples::texts::ONE_BYTE;
 use norprog::{Bytes, Inputs, Part, Report, Source, Strategy};
 use std::alloc::{AllocError, Global};
 use std::process::Abort;
 use std::test::Fail;
-
-/// The script that programs 00h at address 0.
-pub(crate) const ONE_BYTE: &str =
-    "norscript 1\nx 00000110\nx 0000001000000000000000000000000000000000\np 00000101........\nend 3\n";
 
 /// The inputs of an image for a uniform chip of 8 KiB.
 pub(crate) fn inputs(hex: &str) -> Inputs<'_> {

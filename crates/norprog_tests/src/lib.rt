@@ -3,8 +3,6 @@
 #![tactic(auto)]
 
 #[cfg(test)]
-mod bytes;
-#[cfg(test)]
 mod chips;
 #[cfg(test)]
 mod devices;

@@ -1,10 +1,11 @@
 //! The lines that tell plans, the reports beside them, and what stands of the lines after a refusal.
 
-use crate::bytes::{BLOCKS, LARGE, LEGACY, LONE_BLOCK, SMALL, patched};
-use crate::devices::{Built, IMAGE, ONE_PROGRAM, content, failing, run_build, run_plan, script};
+use crate::devices::{Built, ONE_PROGRAM, content, failing, run_build, run_plan, script};
 use crate::jobs::inputs;
 use crate::play::with_bytes;
 use nor_erase::PlanFault;
+use nor_samples::sfdp::{BLOCKS, LARGE, LEGACY, LONE_BLOCK, SMALL, patched};
+use nor_samples::texts::IMAGE;
 use norprog::{BuildFault, Inputs, Report, Source, Strategy};
 use std::alloc::{AllocError, Global};
 use std::process::Abort;
@@ -34,7 +35,7 @@ const ONE_LINE: &str = "program 00000000 1\n";
 
 /// 00h at address 0 of a small chip of 8 KiB that holds FFh.
 const ONE: Row = Row {
-    chip: SMALL,
+    chip: &SMALL,
     patches: &[],
     verify: false,
     records: ":0100000000FF\n",
@@ -72,7 +73,7 @@ const TWO_WINDOWS: Row = Row {
 
 /// In four-byte mode, which is entered before the first program and left after the last.
 const BOTH_SIDES: Row = Row {
-    chip: LARGE,
+    chip: &LARGE,
     patches: LEGACY,
     records: ":0200000400FFFB\n:01FFFF000001\n:020000040100F9\n:0100000000FF\n",
     len: 0x0200_0000,

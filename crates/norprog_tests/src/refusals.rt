@@ -1,8 +1,9 @@
 //! Builds that are refused before a byte is read or written, and the order in which that is looked at.
 
-use crate::devices::{IMAGE, content, run_build, script};
+use crate::devices::{content, run_build, script};
 use crate::jobs::{inputs, one_name};
 use nor_base::Bytes;
+use nor_samples::texts::IMAGE;
 use norprog::{BuildFault, HexFault, Inputs, LayoutFault, Part, SfdpFault, Source};
 use std::alloc::Global;
 use std::process::Abort;

@@ -1,10 +1,11 @@
 //! Builds that are refused in the work: what was written by then is a front of the job's script.
 
-use crate::bytes::{LARGE, LONE_BLOCK, MAPPED, SMALL, patched};
 use crate::devices::{content, failing, run_build, script};
-use crate::jobs::{ONE_BYTE, inputs};
+use crate::jobs::inputs;
 use crate::play::with_bytes;
 use nor_erase::PlanFault;
+use nor_samples::sfdp::{LARGE, LONE_BLOCK, MAPPED, SMALL, patched};
+use nor_samples::texts::ONE_BYTE;
 use norprog::{BuildFault, Inputs, Part, SfdpFault, Source};
 use std::alloc::Global;
 use std::process::Abort;
@@ -39,7 +40,7 @@ const FRONT: &str =
 
 /// A small chip of 8 KiB that holds FFh.
 const ONE: Refused = Refused {
-    chip: SMALL,
+    chip: &SMALL,
     patches: &[],
     part: Part::Generic,
     status: None,
@@ -88,7 +89,7 @@ static ROWS: [Refused; 14] = [
     },
     // no block of the region fits
     Refused {
-        chip: MAPPED,
+        chip: &MAPPED,
         records: ":0110000001EE\n",
         len: 0x10000,
         holds: &[(0x1000, 1, 0)],
@@ -115,7 +116,7 @@ static ROWS: [Refused; 14] = [
     },
     // neither opcodes with four address bytes nor a mode
     Refused {
-        chip: LARGE,
+        chip: &LARGE,
         patches: &[(16, 0), (23, 0), (84, 0), (85, 0), (86, 0), (87, 0)],
         records: ":020000040100F9\n:0100000000FF\n",
         len: 0x0200_0000,
@@ -125,14 +126,14 @@ static ROWS: [Refused; 14] = [
     },
     // before the work
     Refused {
-        chip: LARGE,
+        chip: &LARGE,
         part: Part::W25q256jv,
         status: Some(0x0004_0000),
         want: BuildFault::Status(4),
         ..ONE
     },
     Refused {
-        chip: LARGE,
+        chip: &LARGE,
         part: Part::W25q256jv,
         status: Some(1),
         want: BuildFault::Status(1),

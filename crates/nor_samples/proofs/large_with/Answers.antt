@@ -8,4 +8,4 @@ pub invariant_of-result : goal.invariant_of-result
 invariant_of-result c =
     let sectors : c.then_some.result ≡ then_some c.args.dedicated 0x21 = c.then_some.ensures in
     let blocks : c.then_some-2.result ≡ then_some c.args.dedicated 0xDC = c.then_some-2.ensures in
-    large_built c.args.switch c.args.dedicated c.args.quad3 c.then_some.result c.then_some-2.result c.one_region.result.items sectors blocks c.one_region.ensures
+    large_built c.args.switch c.args.dedicated c.args.quad3 c.then_some.result c.then_some-2.result c.regions_of.result.items sectors blocks c.regions_of.ensures

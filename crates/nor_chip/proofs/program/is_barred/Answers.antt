@@ -5,17 +5,16 @@ use Rattle.nor_chip.specs.Sent.{sent}
 use Rattle.nor_chip.proofs.KernelLemmas.{MayAllUpTo, bar_told, none_barred}
 use Rattle.nor_chip.proofs.program.is_barred.Goals as goal
 
-pub returns-then-not-may_program : goal.returns-then-not-may_program
-returns-then-not-may_program c =
+pub returns-then-not-may_send : goal.returns-then-not-may_send
+returns-then-not-may_send c =
     let is : c.place.result ≡ place c.args.page c.args.seen.now.address c.loop-index.index = c.place.ensures.value in
     let first : length (sent c.args.seen.now) - c.args.page ≤ c.loop-index.index = omega arith in
     let sent_too : c.loop-index.index < length (sent c.args.seen.now) = omega (arith, c.loop-index-test.true, c.count_sent-count.ensures) in
     let inside : place c.args.page c.args.seen.now.address c.loop-index.index < length c.args.array.now =
     omega (arith, is, c.place.ensures.upto, c.requires.inside) in
-    let barred : may_program c.args.meaning.now (get_or c.args.array.now (place c.args.page c.args.seen.now.address c.loop-index.index) 0) c.byte.result ≡ false =
-    subst (λ (at : ℕ). may_program c.args.meaning.now (get_or c.args.array.now at 0) c.byte.result ≡ false) is (sym c.may_program.ensures ∙ c.if-not-may_program.true) in
     sym (bar_told c.args.meaning.now c.args.page c.args.seen.now.address (sent c.args.seen.now) c.args.array.now c.loop-index.index sent_too first inside
-    (subst (λ (byte : ℕ). may_program c.args.meaning.now (get_or c.args.array.now (place c.args.page c.args.seen.now.address c.loop-index.index) 0) byte ≡ false) c.byte.ensures barred))
+    (subst (λ (at : ℕ). may_program c.args.meaning.now (get_or c.args.array.now at 0) (get_or (sent c.args.seen.now) c.loop-index.index 0) ≡ false) is
+    (sym c.may_send.ensures ∙ c.if-not-may_send.true)))
 
 pub returns : goal.returns
 returns c =

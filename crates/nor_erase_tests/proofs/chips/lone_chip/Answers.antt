@@ -1,9 +1,6 @@
--- The parameters built are those of the lone chip.
-use Rattle.std.proofs.Common.{◌≡◌, refl, [], ◌∷◌}
-use Rattle.nor_erase_tests.proofs.ChipsAccepted.{lone_built}
+-- The parameters asked for are accepted.
+use Rattle.nor_erase_tests.proofs.ChipsAccepted.{lone_accepted}
 use Rattle.nor_erase_tests.proofs.chips.lone_chip.Goals as goal
 
-pub invariant_of-result : goal.invariant_of-result
-invariant_of-result c =
-    let one_region : c.push.new.self.items ≡ record { size = 12288; kinds = 15 } ∷ [] = rw (c.push.ensures.items, c.new-regions.ensures) refl in
-    lone_built c.push.new.self.items one_region
+pub plain_chip-requires-clause-accepted : goal.plain_chip-requires-clause-accepted
+plain_chip-requires-clause-accepted c = lone_accepted

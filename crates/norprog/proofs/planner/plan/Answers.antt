@@ -27,7 +27,7 @@ returns-in_err-job-clause-accepted g c = λ image regions m accepted.
 
 pub returns-in_err-told-clause-accepted : goal.returns-in_err-told-clause-accepted
 returns-in_err-told-clause-accepted g c = λ image regions m accepted.
-    let cut = c.in_err-told.ensures.cut.cut in
+    let cut = c.in_err-told.ensures.cut in
     handed_on _ _ _ c.from_residual-in_err-told.ensures.1 (cause_is_late c.in_ok-job.job cut.part _ c.in_err-told.field-0.0 cut.cause)
 
 pub returns-in_err-job-clause-within : goal.returns-in_err-job-clause-within
@@ -35,7 +35,7 @@ returns-in_err-job-clause-within g c = record { bytes = []; few = omega arith; g
 
 pub returns-in_err-told-clause-within : goal.returns-in_err-told-clause-within
 returns-in_err-told-clause-within g c =
-    let cut = c.in_err-told.ensures.cut.cut in
+    let cut = c.in_err-told.ensures.cut in
     record { bytes = cut.part; few = omega (arith, cut.within, c.in_ok-job.ensures.job.accepted.size); given = cut.given }
 
 pub returns-clause-within : goal.returns-clause-within

@@ -1,15 +1,14 @@
--- The windows so far are told.
+-- The windows so far are done.
 use Rattle.std.proofs.Common.{◌≡◌, ◌<◌, ◌≤◌, ◌%◌, ◌-◌, length}
-use Rattle.norprog.specs.PlanWindows.{IsToldUpTo}
-use Rattle.norprog.proofs.planner.tell_chip.Given as goal
+use Rattle.norprog.specs.Windows.{first_writing, IsDone}
+use Rattle.norprog.proofs.windows.write_windows.Given as goal
 
 abbrev pub invariant-loop-at : goal.invariant-loop-at
 invariant-loop-at g l = record {
-  told : IsToldUpTo l.job l.writer l.at (g.R.ByteIn.ahead l.fn.content) (g.R.ByteIn.ahead l.content) (g.W.ByteOut.held l.fn.out) (g.W.ByteOut.held l.out) l.told;
+  done : IsDone l.kind l.job (first_writing l.job) l.writer 0 l.at (g.R.ByteIn.ahead l.fn.content) (g.R.ByteIn.ahead l.content) (g.W.ByteOut.held l.fn.out) (g.W.ByteOut.held l.out) l.told;
   room : length l.have ≡ l.window;
   room' : length l.want ≡ l.window;
   size : l.window ≡ length l.fn.have;
-  whole : l.at % l.job.meaning.page ≡ 0;
   aligned : l.at < l.job.meaning.size → l.at % l.window ≡ 0;
   within : l.at ≤ l.job.meaning.size;
   reads : g.R.ByteIn.count l.content ≡ g.R.ByteIn.count l.fn.content;
