@@ -3,10 +3,11 @@ use Rattle.std.specs.Prelude.{◌≡◌, ◌⊎◌, ◌<◌, ℕ, List, Option}
 use Rattle.std.specs.Io.KnownBytes.{Appends}
 use Rattle.nor_base.specs.Device.{Ahead, Cuts}
 use Rattle.nor_base.specs.Parameters.{Parameters}
+use Rattle.nor_job.specs.declared.fault.BuildFault.{BuildFault}
 use Rattle.nor_job.specs.Task.{Task}
 use Rattle.norprog.specs.Build.{IsBuilt}
 use Rattle.norprog.specs.ChipText.{meaning_text}
-use Rattle.norprog.specs.Plan.{IsPlanOf}
+use Rattle.norprog.specs.Plan.{IsPlanOf, StopsPlan}
 use Rattle.norprog.specs.Report.{report_text}
 use Rattle.norprog.specs.declared.report.Report.{Report}
 use Rattle.norprog_command.specs.Lines.{Tells}
@@ -42,6 +43,22 @@ pub record PrintsPlan (before after : Option (List ℕ)) : Type 0 where
   pub lines : PrintsLines before between report
   pub put : Appends between after (report_text report)
 
+-- the plan of some job was refused, and what was printed is the lines that had been before
+pub record PrintsSome (before after : Option (List ℕ)) : Type 0 where
+  pub task : Task
+  pub len : ℕ
+  pub ahead : Ahead
+  pub behind : Ahead
+  pub why : BuildFault
+  pub stops : StopsPlan task len ahead behind before after why
+
+-- the lines of the plan of some job were printed, and a proper prefix of its report behind them
+pub record PrintsHalf (before after : Option (List ℕ)) : Type 0 where
+  pub report : Report
+  pub between : Option (List ℕ)
+  pub lines : PrintsLines before between report
+  pub put : Cuts between after (report_text report)
+
 -- the lines of some meaning were printed, and nothing else
 pub record PrintsMeaning (before after : Option (List ℕ)) : Type 0 where
   pub meaning : Parameters
@@ -50,6 +67,10 @@ pub record PrintsMeaning (before after : Option (List ℕ)) : Type 0 where
 -- nothing was printed, or a proper prefix of a report, or of the lines of a meaning
 abbrev pub CutsReport : Option (List ℕ) → Option (List ℕ) → Type 0
 CutsReport before after = (after ≡ before) ⊎ ((report : Report) × Cuts before after (report_text report))
+
+-- nothing was printed, or some lines of a plan, or all with a proper prefix of its report
+abbrev pub CutsPlan : Option (List ℕ) → Option (List ℕ) → Type 0
+CutsPlan before after = (after ≡ before) ⊎ (PrintsSome before after ⊎ PrintsHalf before after)
 
 abbrev pub CutsMeaning : Option (List ℕ) → Option (List ℕ) → Type 0
 CutsMeaning before after = (after ≡ before) ⊎ ((meaning : Parameters) × Cuts before after (meaning_text meaning))

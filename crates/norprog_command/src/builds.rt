@@ -1,6 +1,7 @@
 //! `build`: from the texts of the command line to the script in its file.
 
-ghost use Rattle.std.specs.Prelude.{◌≡◌, ◌<◌, ◌≤◌, ◌-◌, ◌^◌, IfOk, IfErr};
+ghost use Rattle.std.specs.Prelude.{◌≡◌, ◌<◌, ◌≤◌, ◌-◌, ◌^◌, None, IfOk, IfErr};
+ghost use Rattle.norprog_command.specs.Asked.{asks_build, line_fault, IsOfWork, IsFirst, TellsFault};
 ghost use Rattle.norprog_command.specs.Reports.{IsBuildReport, PrintsReport, CutsReport, Answers};
 
 use crate::faults::{FileName, Refusal, refuse};
@@ -26,7 +27,8 @@ pub struct GivenBuild<'a> {
 /// Does what the texts of a command line ask for. It opens the files that they name, writes the report to `out` and a
 /// refusal to `err` (docs/FORMATS.md, section 9), and answers the status: 0 done, 1 refused, 2 usage.
 ///
-/// `given` is what stands on the command line, or why that couldn't be read.
+/// `given` is what stands on the command line, or why that couldn't be read, which is told. Usage is told where the texts
+/// ask for no build.
 pub fn answer<O: ByteOut, E: ByteOut>(
     rt: &(impl Files + AllocGlobal),
     given: Result<GivenBuild<'_>, Refusal>,
@@ -40,6 +42,8 @@ pub fn answer<O: ByteOut, E: ByteOut>(
     ensures told { E.count err.new ≡ E.count err.old
         → Answers PrintsReport (O.held out.old) (O.held out.new) (E.held err.old) (E.held err.new) result }
     ensures unprinted { 0 < result → CutsReport (O.held out.old) (O.held out.new) }
+    ensures line { E.count err.new ≡ E.count err.old
+        → TellsFault (line_fault asks_build given.entry) (E.held err.old) (E.held err.new) result }
 {
     match report_build(rt, given, out) {
         Ok(()) => 0,
@@ -56,6 +60,8 @@ fn report_build<O: ByteOut>(
     requires { O.count out.old < 2 ^ 64 - 1 }
     ensures printed { IfOk result (λ _. PrintsReport (O.held out.old) (O.held out.new)) }
     ensures unprinted { IfErr result (λ _. CutsReport (O.held out.old) (O.held out.new)) }
+    ensures asked { IfOk result (λ _. line_fault asks_build given.entry ≡ None) }
+    ensures first { IfErr result (IsFirst (line_fault asks_build given.entry)) }
 {
     let given = given?;
     let request = request_of(given.job).ok_or(Refusal::Usage)?;
@@ -73,7 +79,8 @@ fn run_build<R: Files + AllocGlobal>(
     request: &Request<'_>,
     path: &str,
 ) -> Result<Report, Refusal>
-    ensures { IfOk result IsBuildReport }
+    ensures built { IfOk result IsBuildReport }
+    ensures work { IfErr result IsOfWork }
 {
     let alloc = rt.alloc();
     let mut places = Vec::new(alloc);

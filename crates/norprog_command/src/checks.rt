@@ -1,7 +1,9 @@
 //! `check`: from the texts of the command line to the verdict on a script.
 
-ghost use Rattle.std.specs.Prelude.{◌≡◌, ◌<◌, ◌≤◌, ◌-◌, ◌^◌, IfOk};
-ghost use Rattle.norprog_command.specs.Verdicts.{verdict_status, Judges, WroteVerdict};
+ghost use Rattle.std.specs.Prelude.{◌≡◌, ◌⊎◌, ◌<◌, ◌≤◌, ◌-◌, ◌^◌, None, IfOk, IfErr};
+ghost use Rattle.norprog_command.specs.Asked.{asks_check, line_fault, IsOfWork, IsFirst, TellsFault};
+ghost use Rattle.norprog_command.specs.Lines.{Tells};
+ghost use Rattle.norprog_command.specs.Verdicts.{verdict_status, IsCheckVerdict, PrintsVerdict, PrintsJudgement, CutsVerdict};
 
 use crate::faults::{FileName, Refusal, refuse};
 use crate::files::{open_input, read_whole};
@@ -22,7 +24,8 @@ pub struct GivenCheck<'a> {
 /// Writes to `out` whether a script does the job on a command line, or a refusal to `err` (docs/FORMATS.md, section 9), and
 /// answers the status: 0 it does, 1 it doesn't or is refused, 2 usage.
 ///
-/// `given` is what stands on the command line, or why that couldn't be read.
+/// `given` is what stands on the command line, or why that couldn't be read, which is told. Usage is told where the texts
+/// ask for no check.
 pub fn judge<O: ByteOut, E: ByteOut>(
     rt: &(impl Files + AllocGlobal),
     given: Result<GivenCheck<'_>, Refusal>,
@@ -33,8 +36,11 @@ pub fn judge<O: ByteOut, E: ByteOut>(
     requires err { E.count err.old < 2 ^ 64 - 1 }
     ensures status { result ≤ 2 }
     ensures quiet { result ≡ 0 → err.new ≡ err.old }
-    ensures told { E.count err.new ≡ E.count err.old
-        → Judges (O.held out.old) (O.held out.new) (E.held err.old) (E.held err.new) result }
+    ensures answer { (PrintsJudgement (O.held out.old) (O.held out.new) result × (err.new ≡ err.old))
+        ⊎ (CutsVerdict (O.held out.old) (O.held out.new)
+        × (E.count err.new ≡ E.count err.old → Tells (E.held err.old) (E.held err.new) result)) }
+    ensures line { E.count err.new ≡ E.count err.old
+        → TellsFault (line_fault asks_check given.entry) (E.held err.old) (E.held err.new) result }
 {
     match report_check(rt, given, out) {
         Ok(verdict) => exit_status(verdict),
@@ -59,7 +65,10 @@ fn report_check<O: ByteOut>(
     out: &mut O,
 ) -> Result<Verdict, Refusal>
     requires { O.count out.old < 2 ^ 64 - 1 }
-    ensures { IfOk result (WroteVerdict (O.held out.old) (O.held out.new)) }
+    ensures printed { IfOk result (PrintsVerdict (O.held out.old) (O.held out.new)) }
+    ensures unprinted { IfErr result (λ _. CutsVerdict (O.held out.old) (O.held out.new)) }
+    ensures asked { IfOk result (λ _. line_fault asks_check given.entry ≡ None) }
+    ensures first { IfErr result (IsFirst (line_fault asks_check given.entry)) }
 {
     let given = given?;
     let request = request_of(given.job).ok_or(Refusal::Usage)?;
@@ -76,7 +85,10 @@ fn run_check<R: Files + AllocGlobal>(
     rt: &R,
     request: &Request<'_>,
     path: &str,
-) -> Result<Verdict, Refusal> {
+) -> Result<Verdict, Refusal>
+    ensures checked { IfOk result IsCheckVerdict }
+    ensures work { IfErr result IsOfWork }
+{
     let alloc = rt.alloc();
     let mut places = Vec::new(alloc);
     let texts = read_texts(rt, alloc, request, &mut places)?;
@@ -88,7 +100,9 @@ fn run_check<R: Files + AllocGlobal>(
 }
 
 /// Why there is no verdict, as a refusal.
-fn refused(stop: CheckStop) -> Refusal {
+fn refused(stop: CheckStop) -> Refusal
+    ensures { IsOfWork result }
+{
     match stop {
         CheckStop::Build(fault) => Refusal::Build(fault),
         CheckStop::Script(fault) => Refusal::from(fault),

@@ -1,6 +1,7 @@
 //! `sfdp`: from the texts of the command line to the lines that tell what a chip's tables mean.
 
-ghost use Rattle.std.specs.Prelude.{◌≡◌, ◌<◌, ◌≤◌, ◌-◌, ◌^◌, IfOk, IfErr};
+ghost use Rattle.std.specs.Prelude.{◌≡◌, ◌<◌, ◌≤◌, ◌-◌, ◌^◌, None, IfOk, IfErr};
+ghost use Rattle.norprog_command.specs.Asked.{asks_chip, line_fault, IsOfWork, IsFirst, TellsFault};
 ghost use Rattle.norprog_command.specs.Reports.{PrintsMeaning, CutsMeaning, Answers};
 
 use crate::faults::{FileName, Refusal, refuse};
@@ -25,7 +26,8 @@ pub struct GivenChip<'a> {
 /// Writes to `out` what the tables of the chip on a command line mean, or a refusal to `err` (docs/FORMATS.md, section
 /// 9), and answers the status: 0 done, 1 refused, 2 usage.
 ///
-/// `given` is what stands on the command line, or why that couldn't be read.
+/// `given` is what stands on the command line, or why that couldn't be read, which is told. Usage is told where the texts
+/// ask for no chip.
 pub fn show<O: ByteOut, E: ByteOut>(
     rt: &(impl Files + AllocGlobal),
     given: Result<GivenChip<'_>, Refusal>,
@@ -39,6 +41,8 @@ pub fn show<O: ByteOut, E: ByteOut>(
     ensures told { E.count err.new ≡ E.count err.old
         → Answers PrintsMeaning (O.held out.old) (O.held out.new) (E.held err.old) (E.held err.new) result }
     ensures unprinted { 0 < result → CutsMeaning (O.held out.old) (O.held out.new) }
+    ensures line { E.count err.new ≡ E.count err.old
+        → TellsFault (line_fault asks_chip given.entry) (E.held err.old) (E.held err.new) result }
 {
     match show_meaning(rt, given, out) {
         Ok(()) => 0,
@@ -55,6 +59,8 @@ fn show_meaning<O: ByteOut>(
     requires { O.count out.old < 2 ^ 64 - 1 }
     ensures printed { IfOk result (λ _. PrintsMeaning (O.held out.old) (O.held out.new)) }
     ensures unprinted { IfErr result (λ _. CutsMeaning (O.held out.old) (O.held out.new)) }
+    ensures asked { IfOk result (λ _. line_fault asks_chip given.entry ≡ None) }
+    ensures first { IfErr result (IsFirst (line_fault asks_chip given.entry)) }
 {
     let given = given?;
     let chip = chip_of(given.sfdp, given.uniform, given.bits).ok_or(Refusal::Usage)?;
@@ -71,7 +77,9 @@ fn meaning_of<R: Files + AllocGlobal>(
     rt: &R,
     chip: Chip<'_>,
     part: Part,
-) -> Result<Meaning, Refusal> {
+) -> Result<Meaning, Refusal>
+    ensures { IfErr result IsOfWork }
+{
     match chip {
         Chip::Sfdp { file, bits } => {
             let (bytes, _place) = read_whole(rt, rt.alloc(), file, FileName::Sfdp)?;
@@ -85,6 +93,8 @@ fn meaning_of<R: Files + AllocGlobal>(
 }
 
 /// A fault of the tables as a refusal.
-fn refused(fault: SfdpFault) -> Refusal {
+fn refused(fault: SfdpFault) -> Refusal
+    ensures { IsOfWork result }
+{
     Refusal::Build(BuildFault::Sfdp(fault))
 }

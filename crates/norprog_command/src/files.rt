@@ -1,5 +1,10 @@
 //! The files that a command line names.
 
+ghost use Rattle.std.specs.Prelude.{◌≤◌, ◌^◌, length, IfOk, IfErr};
+ghost use Rattle.norprog_command.specs.declared.faults.FileName.TheVariants.{Out};
+ghost use Rattle.norprog_command.specs.Asked.{IsOfWork};
+ghost use Rattle.norprog_command.specs.Files.{RefusesFile};
+
 use crate::faults::{FileName, Refusal};
 use std::alloc::Global;
 use std::fs::{self, Files, OpenFile};
@@ -16,13 +21,20 @@ pub struct Place {
     inode: u64,
 }
 
-/// Opens a file and reads it whole.
+/// Opens a file and reads it whole; answers its bytes, at most 2^36, and which file it is.
+///
+/// Where it can't be opened, is a folder or has more bytes, and where a read fails, `File` of `name`; `Memory` where a growth
+/// is refused.
 pub fn read_whole<R: Files>(
     rt: &R,
     alloc: Global,
     path: &str,
     name: FileName,
-) -> Result<(Vec<u8>, Place), Refusal> {
+) -> Result<(Vec<u8>, Place), Refusal>
+    ensures length { IfOk result (λ read. length read.0.items ≤ 2 ^ 36) }
+    ensures refused { IfErr result (RefusesFile name) }
+    ensures work { IfErr result IsOfWork }
+{
     let (mut file, place, len) = open_input(rt, path, name)?;
     if len > MOST_BYTES {
         return Err(Refusal::File(name));
@@ -38,12 +50,18 @@ pub fn read_whole<R: Files>(
     Ok((bytes, place))
 }
 
-/// Opens a file that isn't a folder, and answers which one it is and its length.
+/// Opens a file that isn't a folder, and answers which one it is and its length in bytes.
+///
+/// Where it can't be opened or asked, and where it is a folder, `File` of `name`; `Memory` where the system says that it lacks
+/// that.
 pub fn open_input<R: Files>(
     rt: &R,
     path: &str,
     name: FileName,
-) -> Result<(R::File, Place, u64), Refusal> {
+) -> Result<(R::File, Place, u64), Refusal>
+    ensures refused { IfErr result (RefusesFile name) }
+    ensures work { IfErr result IsOfWork }
+{
     let file = match fs::open(rt, path) {
         Ok(file) => file,
         Err(error) => return Err(refusal_of(&error, name)),
@@ -64,7 +82,12 @@ pub fn open_input<R: Files>(
 }
 
 /// Makes the output file, or empties the one that is there, unless it is one of the inputs.
-pub fn create_output<R: Files>(rt: &R, path: &str, inputs: &[Place]) -> Result<R::File, Refusal> {
+///
+/// Where it is, and where it can't be made, `File` of `Out`; `Memory` where the system says that it lacks that.
+pub fn create_output<R: Files>(rt: &R, path: &str, inputs: &[Place]) -> Result<R::File, Refusal>
+    ensures refused { IfErr result (RefusesFile Out) }
+    ensures work { IfErr result IsOfWork }
+{
     if is_input(rt, path, inputs) {
         return Err(Refusal::File(FileName::Out));
     }
@@ -86,7 +109,10 @@ fn is_input<R: Files>(rt: &R, path: &str, inputs: &[Place]) -> bool {
 }
 
 /// Want of memory is that; any other error says that the file can't be used.
-fn refusal_of(error: &io::Error, name: FileName) -> Refusal {
+fn refusal_of(error: &io::Error, name: FileName) -> Refusal
+    ensures refused { RefusesFile name result }
+    ensures work { IsOfWork result }
+{
     if error.kind() == io::ErrorKind::OutOfMemory {
         Refusal::MEMORY
     } else {

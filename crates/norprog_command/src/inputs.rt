@@ -1,5 +1,8 @@
 //! From the files of a job to the library's inputs.
 
+ghost use Rattle.std.specs.Prelude.{IfErr};
+ghost use Rattle.norprog_command.specs.Asked.{IsOfWork};
+
 use crate::faults::{FileName, Refusal};
 use crate::files::{Place, read_whole};
 use crate::request::{Chip, Request};
@@ -21,7 +24,9 @@ pub(crate) fn read_texts<R: Files>(
     alloc: Global,
     request: &Request<'_>,
     places: &mut Vec<Place>,
-) -> Result<Texts, Refusal> {
+) -> Result<Texts, Refusal>
+    ensures { IfErr result IsOfWork }
+{
     let (hex, place) = read_whole(rt, alloc, request.hex, FileName::Hex)?;
     places.push(place)?;
     let layout = read_optional(rt, alloc, request.layout, FileName::Layout, places)?;
@@ -40,7 +45,9 @@ fn read_optional<R: Files>(
     path: Option<&str>,
     name: FileName,
     places: &mut Vec<Place>,
-) -> Result<Option<Vec<u8>>, Refusal> {
+) -> Result<Option<Vec<u8>>, Refusal>
+    ensures { IfErr result IsOfWork }
+{
     let path = match path {
         Some(path) => path,
         None => return Ok(None),

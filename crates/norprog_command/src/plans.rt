@@ -1,7 +1,9 @@
 //! `plan`: from the texts of the command line to the lines that tell what a build would erase and program, and why.
 
-ghost use Rattle.std.specs.Prelude.{◌≡◌, ◌<◌, ◌≤◌, ◌-◌, ◌^◌, IfOk};
-ghost use Rattle.norprog_command.specs.Reports.{PrintsLines, PrintsPlan, Answers};
+ghost use Rattle.std.specs.Prelude.{◌≡◌, ◌<◌, ◌≤◌, ◌-◌, ◌^◌, ◌⊎◌, None, IfOk, IfErr};
+ghost use Rattle.norprog_command.specs.Asked.{line_fault, IsOfWork, IsFirst, TellsFault};
+ghost use Rattle.norprog_command.specs.Request.{is_well_formed};
+ghost use Rattle.norprog_command.specs.Reports.{PrintsLines, PrintsSome, PrintsPlan, CutsPlan, Answers};
 
 use crate::faults::{FileName, Refusal, refuse};
 use crate::files::open_input;
@@ -16,7 +18,8 @@ use std::fs::Files;
 /// refusal to `err` (docs/FORMATS.md, section 9). Answers the status: 0 done, 1 refused, 2 usage. Lines of windows before
 /// the one at fault stand in `out` also where the job is refused.
 ///
-/// `given` is what stands on the command line, or why that couldn't be read.
+/// `given` is what stands on the command line, or why that couldn't be read, which is told. Usage is told where the texts
+/// ask for no plan.
 pub fn outline<O: ByteOut, E: ByteOut>(
     rt: &(impl Files + AllocGlobal),
     given: Result<Given<'_>, Refusal>,
@@ -29,6 +32,9 @@ pub fn outline<O: ByteOut, E: ByteOut>(
     ensures quiet { result ≡ 0 → err.new ≡ err.old }
     ensures told { E.count err.new ≡ E.count err.old
         → Answers PrintsPlan (O.held out.old) (O.held out.new) (E.held err.old) (E.held err.new) result }
+    ensures unprinted { 0 < result → CutsPlan (O.held out.old) (O.held out.new) }
+    ensures line { E.count err.new ≡ E.count err.old
+        → TellsFault (line_fault is_well_formed given.entry) (E.held err.old) (E.held err.new) result }
 {
     match report_plan(rt, given, out) {
         Ok(()) => 0,
@@ -43,7 +49,10 @@ fn report_plan<O: ByteOut>(
     out: &mut O,
 ) -> Result<(), Refusal>
     requires { O.count out.old < 2 ^ 64 - 1 }
-    ensures { IfOk result (λ _. PrintsPlan (O.held out.old) (O.held out.new)) }
+    ensures printed { IfOk result (λ _. PrintsPlan (O.held out.old) (O.held out.new)) }
+    ensures unprinted { IfErr result (λ _. CutsPlan (O.held out.old) (O.held out.new)) }
+    ensures asked { IfOk result (λ _. line_fault is_well_formed given.entry ≡ None) }
+    ensures first { IfErr result (IsFirst (line_fault is_well_formed given.entry)) }
 {
     let request = request_of(given?).ok_or(Refusal::Usage)?;
     let report = run_plan(rt, &request, out)?;
@@ -62,6 +71,8 @@ fn run_plan<R: Files + AllocGlobal, O: ByteOut>(
     requires { O.count out.old < 2 ^ 64 - 1 }
     ensures count { IfOk result (λ _. O.count out.new ≡ O.count out.old) }
     ensures lines { IfOk result (PrintsLines (O.held out.old) (O.held out.new)) }
+    ensures cut { IfErr result (λ _. (O.held out.new ≡ O.held out.old) ⊎ PrintsSome (O.held out.old) (O.held out.new)) }
+    ensures work { IfErr result IsOfWork }
 {
     let alloc = rt.alloc();
     let mut places = Vec::new(alloc);

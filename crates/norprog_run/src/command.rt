@@ -1,8 +1,10 @@
 //! `run`: from the texts of the command line to the line of a verdict.
 
-ghost use Rattle.std.specs.Prelude.{◌≡◌, ◌⊎◌, ◌<◌, ◌≤◌, ◌-◌, ◌^◌};
+ghost use Rattle.std.specs.Prelude.{◌≡◌, ◌⊎◌, ◌<◌, ◌≤◌, ◌-◌, ◌^◌, None, IfOk, IfErr};
+ghost use Rattle.norprog_command.specs.Asked.{line_fault, IsOfWork};
 ghost use Rattle.norprog_command.specs.Lines.{Tells};
-ghost use Rattle.norprog_run.specs.Answer.{PrintsVerdict, PrintsNone};
+ghost use Rattle.norprog_run.specs.Answer.{IsPlayVerdict, PrintsVerdict, PrintsNone, RefusesLine, TellsLine};
+ghost use Rattle.norprog_run.specs.Request.{is_well_formed};
 
 use crate::play::play_script;
 use crate::request::{Bench, GivenRun, RunRequest, request_of};
@@ -21,7 +23,8 @@ use std::io::Write;
 /// after the play to the output that they name, if any, and then the verdict's line to `out`, or a refusal to `err`
 /// (docs/FORMATS.md, section 9). It answers the status: 0 played, 1 gone wrong or refused, 2 usage.
 ///
-/// `given` is what stands on the command line, or why that couldn't be read.
+/// `given` is what stands on the command line, or why that couldn't be read, which is told. Usage is told where the texts
+/// ask for no play.
 pub fn run<O: ByteOut, E: ByteOut>(
     rt: &(impl Files + AllocGlobal),
     given: Result<GivenRun<'_>, Refusal>,
@@ -35,6 +38,8 @@ pub fn run<O: ByteOut, E: ByteOut>(
     ensures answer { (PrintsVerdict (O.held out.old) (O.held out.new) result × (err.new ≡ err.old))
         ⊎ (PrintsNone (O.held out.old) (O.held out.new)
         × (E.count err.new ≡ E.count err.old → Tells (E.held err.old) (E.held err.new) result)) }
+    ensures line { E.count err.new ≡ E.count err.old
+        → TellsLine (line_fault is_well_formed given.entry) (E.held err.old) (E.held err.new) result }
 {
     match verdict_of(rt, given) {
         Ok(verdict) => tell(&verdict, out, err),
@@ -44,6 +49,7 @@ pub fn run<O: ByteOut, E: ByteOut>(
 
 /// Writes the verdict's line or, where that fails, a refusal, and answers the status.
 fn tell<O: ByteOut, E: ByteOut>(verdict: &Verdict, out: &mut O, err: &mut E) -> u8
+    requires played { IsPlayVerdict verdict.now }
     requires out { O.count out.old < 2 ^ 64 - 1 }
     requires err { E.count err.old < 2 ^ 64 - 1 }
     ensures status { result ≤ 1 }
@@ -70,7 +76,11 @@ struct Texts {
 fn verdict_of<R: Files + AllocGlobal>(
     rt: &R,
     given: Result<GivenRun<'_>, Refusal>,
-) -> Result<Verdict, Refusal> {
+) -> Result<Verdict, Refusal>
+    ensures played { IfOk result IsPlayVerdict }
+    ensures asked { IfOk result (λ _. line_fault is_well_formed given.entry ≡ None) }
+    ensures first { IfErr result (RefusesLine (line_fault is_well_formed given.entry)) }
+{
     let alloc = rt.alloc();
     let request = request_of(alloc, given?)?;
     let mut places = Vec::new(alloc);
@@ -100,7 +110,9 @@ fn read_sfdp<R: Files>(
     alloc: Global,
     chip: Chip<'_>,
     places: &mut Vec<Place>,
-) -> Result<Vec<u8>, Refusal> {
+) -> Result<Vec<u8>, Refusal>
+    ensures { IfErr result IsOfWork }
+{
     match chip {
         Chip::Sfdp { file, bits: _ } => {
             let (bytes, place) = read_whole(rt, alloc, file, FileName::Sfdp)?;
@@ -123,6 +135,8 @@ fn play_texts<R: ByteIn, W: ByteOut>(
     requires limit { 0 < request.bench.limit }
     requires reader { R.count content.old < 2 ^ 64 - 1 }
     requires writer { W.count out.old < 2 ^ 64 - 1 }
+    ensures played { IfOk result IsPlayVerdict }
+    ensures work { IfErr result IsOfWork }
 {
     let chip = match request.chip {
         Chip::Sfdp { file: _, bits } => Source::Sfdp {

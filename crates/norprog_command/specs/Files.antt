@@ -1,0 +1,12 @@
+-- Why a file of the command line can't be used (this project's).
+use Rattle.std.specs.Prelude.{◌≡◌, ⊤}
+use Rattle.nor_job.specs.declared.fault.BuildFault.TheVariants.{Memory}
+use Rattle.norprog_command.specs.declared.faults.FileName.{FileName}
+use Rattle.norprog_command.specs.declared.faults.Refusal.{Refusal}
+use Rattle.norprog_command.specs.declared.faults.Refusal.TheVariants.{File, Build}
+
+-- this file is told, or want of memory
+abbrev pub RefusesFile : FileName → Refusal → Type 0
+RefusesFile name (File told) = told ≡ name
+RefusesFile name (Build Memory) = ⊤
+RefusesFile name other = ⊥
