@@ -1,13 +1,16 @@
 # README.md says what each target is for.
 
-.PHONY: build test refusals demo
+.PHONY: build test edits refusals demo
 
 # the sample job of one byte, for the program in crates/norprog_cli
 job = build --hex data/one.hex --uniform 8192 --content data/chip.bin --out
 
-# proves every crate that the program stands on, runs the program once on the sample job, and leaves it at ./norprog
+# proves every crate that the program stands on, side by side, runs the program once on the sample job, and leaves it at
+# ./norprog
 build:
 	@rm -f norprog crates/norprog_cli/out/norprog_cli
+	@$(MAKE) --no-print-directory -j$$(nproc) -f tools/libraries.mk
+	@echo "proving the program itself"
 	@dir=$$(mktemp -d) && (cd crates/norprog_cli && rt run -- $(job) $$dir/one.script); status=$$?; rm -rf "$$dir"; exit $$status
 	@cp crates/norprog_cli/out/norprog_cli norprog
 	@echo "proved and built: ./norprog"
@@ -15,6 +18,10 @@ build:
 # the merge gate: every proof, must-fail edit and test, from nothing
 test:
 	rt ci
+
+# tries every must-fail edit, also those that the gate doesn't: make edits, or make edits CRATES="nor_hex nor_sfdp"
+edits:
+	tools/try-edits $(CRATES)
 
 # refuses each growth of memory of small jobs in turn, which the gate can't; it proves nothing
 refusals:
