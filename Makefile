@@ -15,8 +15,9 @@ build:
 	@cp crates/norprog_cli/out/norprog_cli norprog
 	@echo "proved and built: ./norprog"
 
-# the merge gate: every proof, must-fail edit and test, from nothing
+# the merge gate: that docs/ARCHITECTURE.md says what is so; then every proof, must-fail edit and test, from nothing
 test:
+	@tools/architecture
 	rt ci
 
 # tries every must-fail edit, also those that the gate doesn't: make edits, or make edits CRATES="nor_hex nor_sfdp"
