@@ -5,12 +5,10 @@
 # the sample job of one byte, for the program in crates/norprog_cli
 job = build --hex data/one.hex --uniform 8192 --content data/chip.bin --out
 
-# proves every crate that the program stands on, side by side, runs the program once on the sample job, and leaves it at
-# ./norprog
+# proves the program and every crate that it stands on, side by side, runs it once on the sample job, and leaves it at ./norprog
 build:
 	@rm -f norprog crates/norprog_cli/out/norprog_cli
-	@$(MAKE) --no-print-directory -j$$(nproc) -f tools/libraries.mk
-	@echo "proving the program itself"
+	@tools/build
 	@dir=$$(mktemp -d) && (cd crates/norprog_cli && rt run -- $(job) $$dir/one.script); status=$$?; rm -rf "$$dir"; exit $$status
 	@cp crates/norprog_cli/out/norprog_cli norprog
 	@echo "proved and built: ./norprog"

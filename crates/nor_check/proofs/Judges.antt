@@ -6,7 +6,7 @@ use Rattle.nor_base.specs.declared.wrong.Wrong.TheVariants as wrong
 use Rattle.nor_base.specs.Chip.{Setting, Chip, is_busy, is_settled, is_mode, first_mode4}
 use Rattle.nor_base.specs.Run.{Stop, one_later, go_on, run, step}
 use Rattle.nor_laws.specs.Laws.{PollEnds}
-use Rattle.nor_spelling.specs.Laws.{VerifyKeeps}
+use Rattle.nor_laws.specs.Spelling.{VerifyKeeps}
 use Rattle.nor_check.specs.declared.chips.Latches.{Latches}
 use Rattle.nor_check.specs.declared.chips.Latches.TheVariants.{Clear, Set, Either}
 use Rattle.nor_check.specs.declared.verdict.Verdict.{Verdict}

@@ -8,7 +8,7 @@ use Rattle.nor_base.specs.declared.step.Step.{Step}
 use Rattle.nor_base.specs.Parameters.{Parameters}
 use Rattle.nor_base.specs.Chip.{Setting, IsChipOf, may_page, page_sizes}
 use Rattle.nor_laws.specs.Laws.{PollEnds}
-use Rattle.nor_spelling.specs.Laws.{VerifyKeeps}
+use Rattle.nor_laws.specs.Spelling.{VerifyKeeps}
 use Rattle.nor_check.specs.declared.verdict.Verdict.{Verdict}
 use Rattle.nor_check.specs.Order.{is_before, earlier}
 use Rattle.nor_check.specs.Outcome.{outcome_from, outcome}

@@ -18,7 +18,7 @@ use Rattle.nor_base.specs.Effect.{after, answer, effect, effect_if, effect_of, i
 use Rattle.nor_base.specs.Run.{done, matched, poll_clocks, polled, is_verify, step}
 use Rattle.nor_laws.specs.Laws.{PollEnds}
 use Rattle.nor_laws.proofs.EffectLaws.{taken}
-use Rattle.nor_spelling.specs.Laws.{VerifyKeeps}
+use Rattle.nor_laws.specs.Spelling.{VerifyKeeps}
 use Rattle.nor_check.specs.Order.{rank_of}
 use Rattle.nor_check.specs.Chips.{Kind, Chips, one_like, MayBeLeft, one_of, some_left, least_able, all_after}
 use Rattle.nor_check.specs.Judged.{all_taken, all_effect, all_done, all_matched, all_step}

@@ -10,8 +10,7 @@ ghost use Rattle.nor_check.specs.Worst.{IsWorst};
 use crate::chips::AllChips;
 use crate::verdict::{CheckFault, Verdict, Why, earlier};
 use nor_base::{Meaning, Start, Step};
-use nor_laws::{effects, polls};
-use nor_spelling::verifying_reads;
+use nor_laws::{effects, polls, verifying_reads};
 use std::alloc::Global;
 
 /// The sizes that a page may have.

@@ -19,7 +19,7 @@ use nor_chip::erase::fill_block;
 use nor_chip::program::{barred, is_barred, program};
 use nor_chip::rules::{is_broken, is_out_of_range, is_program, is_quad, is_status, needs_latch};
 use nor_decode::{POLL, Seen, decode, is_verify};
-use nor_spelling::verifying_reads;
+use nor_laws::verifying_reads;
 use std::marker::Model;
 
 /// The write enable latches of all chips of a page.

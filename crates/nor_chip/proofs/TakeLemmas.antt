@@ -8,8 +8,7 @@ use Rattle.nor_base.specs.Parameters.{Parameters}
 use Rattle.nor_base.specs.Instructions.{form_of}
 use Rattle.nor_base.specs.Decoding.{Instruction, bytes_asked, decode, instruction, transaction}
 use Rattle.nor_base.specs.Chip.{Setting, Chip, is_busy}
-use Rattle.nor_base.specs.Effect.{after, answer, effect, effect_if, effect_of, is_broken, is_out_of_range, is_program, is_quad, is_status, needs_latch, is_barred, barred}
-use Rattle.nor_base.specs.Effect.{wrong_of}
+use Rattle.nor_base.specs.Effect.{after, answer, effect, effect_if, effect_of, is_broken, is_out_of_range, is_program, is_quad, is_status, needs_latch, is_barred, barred, wrong_of}
 use Rattle.nor_decode.specs.declared.seen.Seen.{Seen}
 use Rattle.nor_decode.specs.Seen.{transaction_of}
 use Rattle.nor_chip.specs.Sent.{instruction_of}

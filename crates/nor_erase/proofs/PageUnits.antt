@@ -9,9 +9,9 @@ use Rattle.nor_base.specs.Need.{differs, is_due, erased_at, levelled}
 use Rattle.nor_base.specs.Programs.{Program, span, is_closed, page_programs}
 use Rattle.nor_base.specs.Units.{page_unit}
 use Rattle.nor_base.proofs.ArrayLaws.{slice_index-each}
-use Rattle.nor_erase.specs.declared.unit.PlanUnit.{PlanUnit}
-use Rattle.nor_erase.specs.declared.unit.PlanUnit.TheVariants as unit
-use Rattle.nor_erase.specs.Plan.{plan_unit}
+use Rattle.nor_geometry.specs.declared.unit.PlanUnit.{PlanUnit}
+use Rattle.nor_geometry.specs.declared.unit.PlanUnit.TheVariants as unit
+use Rattle.nor_geometry.specs.Plan.{plan_unit}
 
 abbrev has : List Program → Bool
 has [] = false

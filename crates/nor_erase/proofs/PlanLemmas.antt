@@ -17,34 +17,15 @@ use Rattle.nor_geometry.specs.Legal.{IsReachedAt, IsSmallestAt}
 use Rattle.nor_geometry.specs.Window.{IsWindowSize}
 use Rattle.nor_geometry.proofs.KindLemmas.{placed}
 use Rattle.nor_geometry.proofs.WindowLemmas.{divides, multiple_of, steps, window_power, blocks_uncrossed}
-use Rattle.nor_erase.specs.declared.unit.PlanUnit.{PlanUnit}
-use Rattle.nor_erase.specs.declared.fault.PlanFault.TheVariants as fault
+use Rattle.nor_geometry.specs.declared.unit.PlanUnit.{PlanUnit}
+use Rattle.nor_geometry.specs.declared.fault.PlanFault.TheVariants as fault
 use Rattle.nor_erase.specs.Bytes.{IsFirstDue, NoneDue, IsFirstBeyond, NoneBeyond}
-use Rattle.nor_erase.specs.Plan.{plan_unit, IsWindow, HasPart, IsPlan, IsPlanOf, IsFault}
+use Rattle.nor_geometry.specs.Plan.{plan_unit, IsWindow, HasPart, IsPlan, IsPlanOf, IsFault}
 use Rattle.nor_erase.specs.Tiles.{AddsTiles, IsTiling, page_if}
 use Rattle.nor_erase.proofs.Tiling.{IsIn, IsRunTo, none_smallest}
 use Rattle.nor_erase.proofs.Steps.{IsStep, step_of, step_on, step_over, first_run, last_gap, last_sound, no_fault, near_where_due}
 use Rattle.nor_erase.proofs.Planning.{ArePlanned, none_planned, tiles_planned, gap_planned, part_differs, page_some}
-
--- what the window gives
-page_size : (m : Parameters) → IsAccepted m → m.page ≤ 4096
-page_size m accepted =
-    let p = accepted.page in
-    let few : 2 ^ p.exponent ≤ 2 ^ 12 = up p.exponent 12 p.at_most in
-    omega (arith, p.value, few)
-  where
-    up : (i j : ℕ) → i ≤ j → 2 ^ i ≤ 2 ^ j
-    up i j fits = pow-le-pow_right (omega arith) fits
-
-page_divides : (m : Parameters) (size : ℕ) → IsAccepted m → IsWindowSize m size → size % m.page ≡ 0
-page_divides m size accepted is =
-    let few = page_size m accepted in
-    divides 4 12 12 24 m.page size accepted.page (window_power m size accepted is) (omega (arith, is.least))
-
-sum_whole : (a b n : ℕ) → a % n ≡ 0 → b % n ≡ 0 → (a + b) % n ≡ 0
-sum_whole a b n first second =
-    let none : 0 + b ≡ b = omega arith in
-    sym (mod-add-mod a n b) ∙ ap (λ x. (x + b) % n) first ∙ ap (λ x. x % n) none ∙ second
+use Rattle.nor_geometry.proofs.PageLemmas.{sum_whole, starts_page, ends_page}
 
 pub is_in : (m : Parameters) (by : Strategy) (at count : ℕ) → IsAccepted m → IsWindow m by at count → IsIn m at (at + count)
 is_in m by at count accepted w = record {
@@ -62,19 +43,6 @@ is_in m by at count accepted w = record {
   where
     whole_itself : (n : ℕ) → n % n ≡ 0
     whole_itself n = mod_self n
-
-pub starts_page : (m : Parameters) (by : Strategy) (at count : ℕ) → IsAccepted m → IsWindow m by at count → at % m.page ≡ 0
-starts_page m by at count accepted w = multiple_of at w.size m.page (page_divides m w.size accepted w.its_size) w.whole
-
-pub ends_page : (m : Parameters) (by : Strategy) (at count : ℕ) → IsAccepted m → IsWindow m by at count → (at + count) % m.page ≡ 0
-ends_page m by at count accepted w = elim w.ends [
-  | inl full ↦
-      ap (λ n. (at + n) % m.page) full
-      ∙ sum_whole at w.size m.page (starts_page m by at count accepted w) (page_divides m w.size accepted w.its_size)
-  | inr last ↦
-      let chip : m.size % m.page ≡ 0 = multiple_of m.size 4096 m.page (divides 4 12 12 12 m.page 4096 accepted.page (record { exponent = 12; at_least = omega arith; at_most = omega arith; value = refl }) (page_size m accepted)) accepted.size_whole in
-      ap (λ n. n % m.page) last.1 ∙ chip
-]
 
 pub edge : (m : Parameters) (by : Strategy) (at count : ℕ) → IsAccepted m → IsWindow m by at count → at < 2 ^ 24 → at + count ≤ 2 ^ 24
 edge m by at count accepted w near =

@@ -17,9 +17,9 @@ use Rattle.nor_base.specs.Need.{differs, is_due, is_needed, erased_at, levelled}
 use Rattle.nor_base.specs.Units.{WorkUnit, pages, block_unit, unit_by, units_over, units_of}
 use Rattle.nor_geometry.proofs.KindLemmas.{placed}
 use Rattle.nor_geometry.proofs.WindowLemmas.{divides}
-use Rattle.nor_erase.specs.declared.unit.PlanUnit.{PlanUnit}
-use Rattle.nor_erase.specs.declared.unit.PlanUnit.TheVariants as unit
-use Rattle.nor_erase.specs.Plan.{plan_unit, HasPart}
+use Rattle.nor_geometry.specs.declared.unit.PlanUnit.{PlanUnit}
+use Rattle.nor_geometry.specs.declared.unit.PlanUnit.TheVariants as unit
+use Rattle.nor_geometry.specs.Plan.{plan_unit, HasPart}
 use Rattle.nor_erase.specs.Tiles.{IsTiling, page_differs, page_if}
 use Rattle.nor_work.proofs.Erasing.{erased_all}
 use Rattle.nor_work.proofs.Needed.{erased_needed}

@@ -19,8 +19,8 @@ use Rattle.nor_base.specs.Accepted.{IsAccepted}
 use Rattle.nor_base.specs.Blocks.{Block}
 use Rattle.nor_geometry.specs.Legal.{IsListedAt, AreLegalAt}
 use Rattle.nor_geometry.proofs.KindLemmas.{same_place}
-use Rattle.nor_erase.specs.declared.unit.PlanUnit.{PlanUnit}
-use Rattle.nor_erase.specs.declared.unit.PlanUnit.TheVariants as unit
+use Rattle.nor_geometry.specs.declared.unit.PlanUnit.{PlanUnit}
+use Rattle.nor_geometry.specs.declared.unit.PlanUnit.TheVariants as unit
 use Rattle.nor_erase.specs.Tiles.{IsLargestAt, NoneFits, IsTiling, AddsTiles, page_if}
 
 -- it starts at an address and ends by another

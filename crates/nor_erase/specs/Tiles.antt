@@ -7,8 +7,8 @@ use Rattle.nor_base.specs.Blocks.{Block}
 use Rattle.nor_base.specs.Need.{differs}
 use Rattle.nor_base.specs.Units.{pages}
 use Rattle.nor_geometry.specs.Legal.{IsReachedAt, IsListedAt}
-use Rattle.nor_erase.specs.declared.unit.PlanUnit.{PlanUnit}
-use Rattle.nor_erase.specs.declared.unit.PlanUnit.TheVariants as unit
+use Rattle.nor_geometry.specs.declared.unit.PlanUnit.{PlanUnit}
+use Rattle.nor_geometry.specs.declared.unit.PlanUnit.TheVariants as unit
 
 -- of the strategy's blocks that start at an address and end by another the largest, of those of its size the lowest kind
 pub record IsLargestAt (m : Parameters) (by : Strategy) (low high : ℕ) (b : Block) : Type 0 where

@@ -9,14 +9,11 @@
 #![tactic(auto)]
 
 mod bytes;
-mod fault;
 mod lanes;
 mod planner;
 mod tiles;
-mod unit;
 
 pub use bytes::{dirty, first_due, rises};
-pub use fault::PlanFault;
 pub use lanes::rises_lanes;
+pub use nor_geometry::{PlanFault, PlanUnit};
 pub use planner::plan;
-pub use unit::PlanUnit;

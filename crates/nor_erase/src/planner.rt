@@ -3,14 +3,12 @@
 ghost use Rattle.std.specs.Prelude.{◌≡◌, ◌≤◌, ◌<◌, ◌+◌, ◌^◌, length, IfOk, IfErr, MatchOption};
 ghost use Rattle.nor_base.specs.Need.{is_beyond};
 ghost use Rattle.nor_erase.specs.Bytes.{IsFirstBeyond, NoneBeyond};
-ghost use Rattle.nor_erase.specs.Plan.{IsWindow, IsPlan, Refuses};
+ghost use Rattle.nor_geometry.specs.Plan.{IsWindow, IsPlan, Refuses};
 
 use crate::bytes::next_due;
-use crate::fault::PlanFault;
 use crate::tiles::{push_blocks, push_pages};
-use crate::unit::PlanUnit;
 use nor_base::{Meaning, Strategy};
-use nor_geometry::smallest;
+use nor_geometry::{PlanFault, PlanUnit, smallest};
 use std::alloc::Global;
 
 /// The first address that three bytes can't say.

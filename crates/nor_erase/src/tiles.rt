@@ -4,9 +4,8 @@ ghost use Rattle.std.specs.Prelude.{◌≡◌, ◌≤◌, ◌+◌, ◌-◌, ◌/
 ghost use Rattle.nor_base.specs.Units.{pages};
 ghost use Rattle.nor_erase.specs.Tiles.{IsLargestAt, NoneFits, AddsTiles, AddsPages, differs_from};
 
-use crate::unit::PlanUnit;
 use nor_base::{Meaning, Strategy};
-use nor_geometry::{Block, legal};
+use nor_geometry::{Block, PlanUnit, legal};
 use std::alloc::AllocError;
 
 /// Appends the blocks that tile a stretch from its low end: each the largest of the strategy that starts there and ends

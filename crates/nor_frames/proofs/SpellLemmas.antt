@@ -6,7 +6,7 @@ use Rattle.nor_base.specs.declared.instruction.What.TheVariants as what
 use Rattle.nor_base.specs.Instructions.{form_of}
 use Rattle.nor_base.specs.Spelling.{Instr, Spells}
 use Rattle.nor_base.specs.Clocks.{bits, head_bytes, body_clocks, clocks_of}
-use Rattle.nor_spelling.specs.Laws.{HasSpelling}
+use Rattle.nor_laws.specs.Spelling.{HasSpelling}
 use Rattle.nor_select.specs.Coded.{load_of, Coded, coded}
 use Rattle.nor_frames.specs.Frames.{load_clocks, frame, SpellsCoded}
 

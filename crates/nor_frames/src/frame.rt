@@ -7,8 +7,8 @@ ghost use Rattle.nor_frames.specs.Frames.{load_clocks, load_len, head_of, frame,
 use crate::fault::FramesFault;
 use crate::spread::{spread1, spread4};
 use arrayvec::ArrayVec;
+use nor_laws::spelling;
 use nor_select::{Body, Instr};
-use nor_spelling::spelling;
 use std::alloc::{AllocError, Allocator};
 
 /// The opcode of an instruction and its address bytes, the highest first. It has at most four of them.

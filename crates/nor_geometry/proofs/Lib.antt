@@ -2,3 +2,4 @@ pub mod KindLemmas
 pub mod PlaceLemmas
 pub mod ListLemmas
 pub mod WindowLemmas
+pub mod PageLemmas

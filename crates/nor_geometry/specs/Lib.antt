@@ -2,3 +2,4 @@ pub mod View
 pub mod Legal
 pub mod Takes
 pub mod Window
+pub mod Plan

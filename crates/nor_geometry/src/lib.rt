@@ -11,10 +11,14 @@
 
 mod block;
 mod blocks;
+mod fault;
 mod strategies;
+mod unit;
 mod windows;
 
 pub use block::Block;
 pub use blocks::{is_legal, legal, smallest};
+pub use fault::PlanFault;
 pub use strategies::strategy;
+pub use unit::PlanUnit;
 pub use windows::window_size;

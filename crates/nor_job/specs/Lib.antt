@@ -4,3 +4,6 @@ pub mod Chip
 pub mod Causes
 pub mod Job
 pub mod Lifted
+pub mod Written
+pub mod Wanted
+pub mod Filled

@@ -4,7 +4,7 @@ ghost use Rattle.std.specs.Prelude.{◌≡◌};
 ghost use Rattle.nor_job.specs.Lifted.{lifted_hex, lifted_layout};
 ghost use Rattle.nor_job.specs.declared.fault.BuildFault.TheVariants.{Memory, Sfdp};
 
-use nor_erase::PlanFault;
+use nor_geometry::PlanFault;
 use nor_hex::HexFault;
 use nor_layout::LayoutFault;
 use nor_sfdp::SfdpFault;

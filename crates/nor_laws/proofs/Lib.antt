@@ -11,3 +11,8 @@ mod RunLaws
 mod TargetLaws
 pub mod BoundedLaws
 mod EventLaws
+mod BitLemmas
+mod SpelledLaws
+mod SymbolLemmas
+mod SingleLaws
+mod VerifyLaws

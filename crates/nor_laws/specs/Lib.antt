@@ -3,3 +3,4 @@ pub mod Worked
 pub mod Stops
 pub mod Planning
 pub mod Seen
+pub mod Spelling

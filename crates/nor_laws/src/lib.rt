@@ -4,6 +4,7 @@
 
 pub mod worked;
 
+ghost use Rattle.nor_laws.specs.Spelling.{HasSpelling, OneSpelling, SameSpelling, PollIsFixed, VerifyKeeps};
 ghost use Rattle.nor_laws.specs.Laws.{SymbolsFound, SamplesApart, OneText, OneList, TextsApart, NoProperPrefix, OneRow, FindsRow, RowFound, LegalInRegion, LegalOnChip, RegionLegal, BlocksNest, KeepsSize, AsksSampled, GivesSampled, PollEnds, PollCount, PollNeedsAll, BoundedIsRun, EventsAreTrail, RunEndsTrail, ProgramPutsByte, RaisedForByte, NotErasedForByte, ProgramKeepsOthers, ProgramJudgedByPage, EraseFills, EraseKeepsOthers, EraseNeverJudged, TargetKeeps, TargetGives, FirstInParts, GivesInParts};
 
 /// A clock is found by its symbol, and no two clocks have the same lanes: a list of samples means its instruction.
@@ -94,4 +95,18 @@ pub fn targets()
 pub fn readers()
     ensures parts { GivesInParts }
     ensures first { FirstInParts }
+{}
+
+/// An instruction whose opcode has a row of the table that agrees with it is spelled by its clocks, and by no others. A poll
+/// has just its clocks on every chip.
+pub fn spelling()
+    ensures has { HasSpelling }
+    ensures one { OneSpelling }
+    ensures same { SameSpelling }
+    ensures poll { PollIsFixed }
+{}
+
+/// A verifying read leaves the chip as it was: what samples and isn't a status read is a read of the array.
+pub fn verifying_reads()
+    ensures { VerifyKeeps }
 {}

@@ -10,9 +10,9 @@ use Rattle.nor_base.specs.Effect.{may_program}
 use Rattle.nor_base.specs.Need.{is_due}
 use Rattle.nor_work.proofs.Ranges.{length-range, range_at}
 use Rattle.nor_work.proofs.Needed.{holds_smallest}
-use Rattle.nor_erase.specs.declared.unit.PlanUnit.{PlanUnit}
-use Rattle.nor_erase.specs.declared.unit.PlanUnit.TheVariants as unit
-use Rattle.nor_erase.specs.Plan.{HasPart}
+use Rattle.nor_geometry.specs.declared.unit.PlanUnit.{PlanUnit}
+use Rattle.nor_geometry.specs.declared.unit.PlanUnit.TheVariants as unit
+use Rattle.nor_geometry.specs.Plan.{HasPart}
 use Rattle.nor_erase.proofs.Runs.{at_address}
 use Rattle.nor_pages.specs.declared.run.Run.{Run}
 use Rattle.nor_pages.specs.Runs.{run_program, unit_start, LiesBetween, AreBetween}

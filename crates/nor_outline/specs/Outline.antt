@@ -12,9 +12,9 @@ use Rattle.nor_base.specs.Programs.{Program}
 use Rattle.nor_base.specs.Script.{hex_digit, hex_pair}
 use Rattle.nor_base.specs.Strategies.{strategy, reaches}
 use Rattle.nor_base.specs.Units.{WorkUnit}
-use Rattle.nor_erase.specs.declared.unit.PlanUnit.{PlanUnit}
-use Rattle.nor_erase.specs.declared.unit.PlanUnit.TheVariants as unit
-use Rattle.nor_erase.specs.Plan.{HasPart}
+use Rattle.nor_geometry.specs.declared.unit.PlanUnit.{PlanUnit}
+use Rattle.nor_geometry.specs.declared.unit.PlanUnit.TheVariants as unit
+use Rattle.nor_geometry.specs.Plan.{HasPart}
 use Rattle.nor_pages.specs.declared.run.Run.{Run}
 use Rattle.nor_pages.specs.Runs.{run_program, unit_start}
 

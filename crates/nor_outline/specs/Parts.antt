@@ -4,8 +4,8 @@ use Rattle.nor_base.specs.declared.meaning.Strategy.{Strategy}
 use Rattle.nor_base.specs.Parameters.{Parameters}
 use Rattle.nor_base.specs.Blocks.{Block}
 use Rattle.nor_base.specs.Need.{is_due}
-use Rattle.nor_erase.specs.declared.unit.PlanUnit.{PlanUnit}
-use Rattle.nor_erase.specs.declared.unit.PlanUnit.TheVariants as unit
+use Rattle.nor_geometry.specs.declared.unit.PlanUnit.{PlanUnit}
+use Rattle.nor_geometry.specs.declared.unit.PlanUnit.TheVariants as unit
 use Rattle.nor_pages.specs.declared.run.Run.{Run}
 use Rattle.nor_outline.specs.Outline.{hex_number, erase_line, reasons}
 

@@ -11,8 +11,7 @@ use crate::opcode::erase_opcode;
 use crate::reasons::put_reasons;
 use itoa::Buffer;
 use nor_base::{ByteOut, Failed, Meaning, Strategy, put_parts};
-use nor_erase::PlanUnit;
-use nor_geometry::Block;
+use nor_geometry::{Block, PlanUnit};
 use nor_pages::Run;
 
 /// Writes the lines of a unit, each closed by LF: where a block is erased `erase SSSSSSSS ZZZZZZZZ OO`, its start, its

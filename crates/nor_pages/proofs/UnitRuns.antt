@@ -10,9 +10,9 @@ use Rattle.nor_base.specs.Need.{differs}
 use Rattle.nor_base.specs.Programs.{Program, target_bytes, last_of, span, is_closed, page_programs}
 use Rattle.nor_base.specs.Units.{pages}
 use Rattle.nor_base.specs.Accepted.{IsPowerOfTwo}
-use Rattle.nor_erase.specs.declared.unit.PlanUnit.{PlanUnit}
-use Rattle.nor_erase.specs.declared.unit.PlanUnit.TheVariants as unit
-use Rattle.nor_erase.specs.Plan.{HasPart}
+use Rattle.nor_geometry.specs.declared.unit.PlanUnit.{PlanUnit}
+use Rattle.nor_geometry.specs.declared.unit.PlanUnit.TheVariants as unit
+use Rattle.nor_geometry.specs.Plan.{HasPart}
 use Rattle.std.proofs.Math.Pow.{pow_pos}
 use Rattle.nor_pages.specs.declared.run.Run.{Run}
 use Rattle.nor_pages.specs.Runs.{IsUnit, IsSplit, IsBlank, run_program, extended, some_run, reaches_back, ended, onward, runs_on, old_over, closed_at, differs_at, page_runs, pages_runs}

@@ -4,9 +4,9 @@ use Rattle.std.specs.List.{range_with_len, AllByRecursion}
 use Rattle.nor_base.specs.Parameters.{Parameters}
 use Rattle.nor_base.specs.Programs.{Program, target_bytes, page_programs}
 use Rattle.nor_base.specs.Units.{pages}
-use Rattle.nor_erase.specs.declared.unit.PlanUnit.{PlanUnit}
-use Rattle.nor_erase.specs.declared.unit.PlanUnit.TheVariants as unit
-use Rattle.nor_erase.specs.Plan.{HasPart}
+use Rattle.nor_geometry.specs.declared.unit.PlanUnit.{PlanUnit}
+use Rattle.nor_geometry.specs.declared.unit.PlanUnit.TheVariants as unit
+use Rattle.nor_geometry.specs.Plan.{HasPart}
 use Rattle.nor_pages.specs.declared.run.Run.{Run}
 
 -- whole pages of the chip: a block, or a page

@@ -6,7 +6,7 @@ ghost use Rattle.nor_pages.specs.Runs.{IsUnit, IsSplit, AreBetween, unit_start, 
 use crate::fault::PagesFault;
 use crate::run::Run;
 use nor_base::Meaning;
-use nor_erase::PlanUnit;
+use nor_geometry::PlanUnit;
 use std::alloc::{AllocError, Allocator, Global};
 
 /// The runs of a unit, rising: `have` and `want` are its bytes, what the chip holds there and what it must hold. Each

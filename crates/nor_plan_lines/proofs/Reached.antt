@@ -10,9 +10,9 @@ use Rattle.nor_base.specs.Parameters.{Parameters}
 use Rattle.nor_base.specs.Programs.{Program, page_programs}
 use Rattle.nor_base.specs.Strategies.{reaches}
 use Rattle.nor_base.specs.Units.{WorkUnit, pages, page_unit, block_unit, unit_by, units_over, units_of}
-use Rattle.nor_erase.specs.declared.unit.PlanUnit.{PlanUnit}
-use Rattle.nor_erase.specs.declared.unit.PlanUnit.TheVariants as unit
-use Rattle.nor_erase.specs.Plan.{IsWindow, IsPlan, plan_unit}
+use Rattle.nor_geometry.specs.declared.unit.PlanUnit.{PlanUnit}
+use Rattle.nor_geometry.specs.declared.unit.PlanUnit.TheVariants as unit
+use Rattle.nor_geometry.specs.Plan.{IsWindow, IsPlan, plan_unit}
 use Rattle.nor_outline.specs.Outline.{IsPlanned}
 use Rattle.nor_pages.specs.Runs.{IsUnit}
 use Rattle.nor_steps.proofs.OpLemmas.{all_at}

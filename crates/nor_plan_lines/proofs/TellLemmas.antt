@@ -10,11 +10,11 @@ use Rattle.nor_base.specs.Device.{Cuts}
 use Rattle.nor_base.specs.Parameters.{Parameters}
 use Rattle.nor_base.specs.Units.{WorkUnit}
 use Rattle.nor_base.proofs.DeviceLaws.{Appends-none, Appends-append}
-use Rattle.nor_erase.specs.declared.unit.PlanUnit.{PlanUnit}
-use Rattle.nor_erase.specs.declared.unit.PlanUnit.TheVariants as unit
-use Rattle.nor_erase.specs.declared.fault.PlanFault.{PlanFault}
-use Rattle.nor_erase.specs.declared.fault.PlanFault.TheVariants as plan
-use Rattle.nor_erase.specs.Plan.{HasPart, Refuses, plan_unit}
+use Rattle.nor_geometry.specs.declared.unit.PlanUnit.{PlanUnit}
+use Rattle.nor_geometry.specs.declared.unit.PlanUnit.TheVariants as unit
+use Rattle.nor_geometry.specs.declared.fault.PlanFault.{PlanFault}
+use Rattle.nor_geometry.specs.declared.fault.PlanFault.TheVariants as plan
+use Rattle.nor_geometry.specs.Plan.{HasPart, Refuses, plan_unit}
 use Rattle.nor_outline.specs.Outline.{unit_lines, with_programs, IsOutline, IsPlanned}
 use Rattle.nor_pages.specs.declared.run.Run.{Run}
 use Rattle.nor_pages.specs.Runs.{IsUnit, IsSplit, unit_start}

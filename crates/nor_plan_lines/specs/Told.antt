@@ -5,8 +5,8 @@ use Rattle.nor_base.specs.declared.meaning.Strategy.{Strategy}
 use Rattle.nor_base.specs.Accepted.{IsAccepted}
 use Rattle.nor_base.specs.Need.{is_at_fault}
 use Rattle.nor_base.specs.Parameters.{Parameters}
-use Rattle.nor_erase.specs.Plan.{HasPart, IsFault, IsWindow, IsPlan}
-use Rattle.nor_erase.specs.declared.unit.PlanUnit.{PlanUnit}
+use Rattle.nor_geometry.specs.Plan.{HasPart, IsFault, IsWindow, IsPlan}
+use Rattle.nor_geometry.specs.declared.unit.PlanUnit.{PlanUnit}
 use Rattle.nor_outline.specs.Outline.{unit_lines}
 use Rattle.nor_pages.specs.Runs.{unit_start}
 use Rattle.nor_steps.specs.declared.fault.StepsFault.{StepsFault}

@@ -1,7 +1,7 @@
 //! The lines of a window's units.
 
 ghost use Rattle.std.specs.Prelude.{◌≡◌, ◌≤◌, ◌<◌, ◌+◌, ◌-◌, ◌^◌, length, IfOk, IfErr};
-ghost use Rattle.nor_erase.specs.Plan.{IsWindow};
+ghost use Rattle.nor_geometry.specs.Plan.{IsWindow};
 ghost use Rattle.nor_outline.specs.Outline.{IsPlanned};
 ghost use Rattle.nor_pages.specs.Runs.{IsUnit, unit_start};
 ghost use Rattle.nor_plan_lines.specs.Told.{IsWindowPlan, TellsStretch, StopsTelling, TellsUnit};
@@ -9,7 +9,8 @@ ghost use Rattle.nor_steps.specs.Faults.{CountsSteps, IsOfWriting};
 ghost use Rattle.nor_steps.specs.Units.{unit_size};
 
 use nor_base::{ByteOut, Meaning, Strategy};
-use nor_erase::{PlanUnit, plan};
+use nor_erase::plan;
+use nor_geometry::PlanUnit;
 use nor_outline::write_unit;
 use nor_pages::split;
 use nor_steps::StepsFault;

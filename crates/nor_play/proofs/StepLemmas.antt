@@ -10,7 +10,7 @@ use Rattle.nor_base.specs.Chip.{Setting, Chip}
 use Rattle.nor_base.specs.Effect.{effect}
 use Rattle.nor_base.specs.Port.{Shown}
 use Rattle.nor_base.specs.Run.{poll_clocks, is_verify, done, matched, step, halt_on, polled_for, step_for, trail_on, step_trail}
-use Rattle.nor_spelling.specs.Laws.{VerifyKeeps}
+use Rattle.nor_laws.specs.Spelling.{VerifyKeeps}
 use Rattle.nor_play.specs.declared.fault.Halt.TheVariants as halt
 use Rattle.nor_play.specs.declared.fault.Halt.{Halt as Stopped}
 use Rattle.nor_play.specs.Turns.{Gives, EndsStep, StopsStep, PlaysStep}

@@ -11,7 +11,7 @@ use memchr::memchr2;
 use nor_base::{Step, Wrong, sampled};
 use nor_chip::Port;
 use nor_decode::{POLL, is_verify};
-use nor_spelling::verifying_reads;
+use nor_laws::verifying_reads;
 use std::alloc::Global;
 
 /// Plays one step, with at most so many transactions where it polls: how many there were.

@@ -2,6 +2,7 @@
 //! bytes.
 #![tactic(auto)]
 
+pub mod rows;
 pub mod sfdp;
 pub mod texts;
 

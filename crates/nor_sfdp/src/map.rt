@@ -5,8 +5,7 @@ ghost use Rattle.std.specs.List.{list_all, AllByRecursion};
 ghost use Rattle.std.specs.Option.{option_map};
 ghost use Rattle.nor_base.specs.Accepted.{IsRegion};
 ghost use Rattle.nor_sfdp.specs.Bits.{dword_count};
-ghost use Rattle.nor_sfdp.specs.SectorMap.{is_command, command_count_of, checked_map, found_or, first_map_of, is_binary_digit};
-ghost use Rattle.nor_sfdp.specs.SectorMap.{bit_of, id_of, wanted_id, region_of, bytes_of, regions_at, mapped_regions, regions_of};
+ghost use Rattle.nor_sfdp.specs.SectorMap.{is_command, command_count_of, checked_map, found_or, first_map_of, is_binary_digit, bit_of, id_of, wanted_id, region_of, bytes_of, regions_at, mapped_regions, regions_of};
 
 use crate::bits::{bits, is_set};
 use crate::fault::SfdpFault;

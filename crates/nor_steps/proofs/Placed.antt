@@ -14,10 +14,10 @@ use Rattle.nor_base.specs.Units.{WorkUnit, pages, page_unit, block_unit, unit_by
 use Rattle.nor_base.proofs.ArrayLaws.{slice_index-each, length-each}
 use Rattle.nor_geometry.specs.Window.{IsWindowSize}
 use Rattle.nor_geometry.proofs.WindowLemmas.{steps, window_power, blocks_uncrossed}
-use Rattle.nor_erase.proofs.PlanLemmas.{starts_page, ends_page}
-use Rattle.nor_erase.specs.declared.unit.PlanUnit.{PlanUnit}
-use Rattle.nor_erase.specs.declared.unit.PlanUnit.TheVariants as unit
-use Rattle.nor_erase.specs.Plan.{IsWindow, plan_unit}
+use Rattle.nor_geometry.proofs.PageLemmas.{starts_page, ends_page}
+use Rattle.nor_geometry.specs.declared.unit.PlanUnit.{PlanUnit}
+use Rattle.nor_geometry.specs.declared.unit.PlanUnit.TheVariants as unit
+use Rattle.nor_geometry.specs.Plan.{IsWindow, plan_unit}
 use Rattle.nor_pages.specs.Runs.{IsUnit, IsBlank, unit_start}
 use Rattle.nor_work.proofs.Erasing.{erased_for}
 use Rattle.nor_work.proofs.Ranges.{aligned_le}

@@ -7,9 +7,9 @@ use Rattle.nor_base.specs.Blocks.{Block}
 use Rattle.nor_base.specs.Programs.{Program, target_bytes, page_programs}
 use Rattle.nor_base.specs.Units.{pages}
 use Rattle.nor_base.specs.Operations.{Op, erases, writes, reads}
-use Rattle.nor_erase.specs.declared.unit.PlanUnit.{PlanUnit}
-use Rattle.nor_erase.specs.declared.unit.PlanUnit.TheVariants as unit
-use Rattle.nor_erase.specs.Plan.{HasPart}
+use Rattle.nor_geometry.specs.declared.unit.PlanUnit.{PlanUnit}
+use Rattle.nor_geometry.specs.declared.unit.PlanUnit.TheVariants as unit
+use Rattle.nor_geometry.specs.Plan.{HasPart}
 use Rattle.nor_pages.specs.declared.run.Run.{Run}
 use Rattle.nor_pages.specs.Runs.{IsUnit, IsSplit, LiesBetween, AreBetween, run_program, unit_start}
 use Rattle.nor_steps.specs.declared.tally.Tally.{Tally}

@@ -13,11 +13,11 @@ use Rattle.nor_base.specs.Parameters.{Parameters}
 use Rattle.nor_base.specs.Units.{WorkUnit, pages, units_of}
 use Rattle.nor_base.specs.Operations.{Op, unit_ops}
 use Rattle.nor_base.proofs.DeviceLaws.{Appends-none, Appends-append}
-use Rattle.nor_erase.specs.declared.unit.PlanUnit.{PlanUnit}
-use Rattle.nor_erase.specs.declared.unit.PlanUnit.TheVariants as unit
-use Rattle.nor_erase.specs.declared.fault.PlanFault.{PlanFault}
-use Rattle.nor_erase.specs.declared.fault.PlanFault.TheVariants as plan
-use Rattle.nor_erase.specs.Plan.{HasPart, IsWindow, IsPlan, Refuses, plan_unit}
+use Rattle.nor_geometry.specs.declared.unit.PlanUnit.{PlanUnit}
+use Rattle.nor_geometry.specs.declared.unit.PlanUnit.TheVariants as unit
+use Rattle.nor_geometry.specs.declared.fault.PlanFault.{PlanFault}
+use Rattle.nor_geometry.specs.declared.fault.PlanFault.TheVariants as plan
+use Rattle.nor_geometry.specs.Plan.{HasPart, IsWindow, IsPlan, Refuses, plan_unit}
 use Rattle.nor_pages.specs.Runs.{IsUnit, unit_start}
 use Rattle.nor_work.proofs.Ranges.{length-range, range_at}
 use Rattle.nor_work.proofs.Wider.{some_page}

@@ -1,7 +1,7 @@
 -- Why steps were not written, and which device's count of failures rose.
 use Rattle.std.specs.Prelude.{◌≡◌, ◌+◌, ⊤, ℕ, Result, Ok, Err}
-use Rattle.nor_erase.specs.declared.fault.PlanFault.{PlanFault}
-use Rattle.nor_erase.specs.declared.fault.PlanFault.TheVariants as plan
+use Rattle.nor_geometry.specs.declared.fault.PlanFault.{PlanFault}
+use Rattle.nor_geometry.specs.declared.fault.PlanFault.TheVariants as plan
 use Rattle.nor_steps.specs.declared.fault.StepsFault.{StepsFault}
 use Rattle.nor_steps.specs.declared.fault.StepsFault.TheVariants as fault
 

@@ -7,8 +7,8 @@ use Rattle.nor_base.specs.Need.{is_at_fault}
 use Rattle.nor_base.specs.Units.{WorkUnit, pages, units_of}
 use Rattle.nor_base.specs.Operations.{Op, unit_ops}
 use Rattle.nor_base.specs.Accepted.{IsAccepted}
-use Rattle.nor_erase.specs.Plan.{HasPart, IsFault, IsWindow, IsPlan}
-use Rattle.nor_erase.specs.declared.unit.PlanUnit.{PlanUnit}
+use Rattle.nor_geometry.specs.Plan.{HasPart, IsFault, IsWindow, IsPlan}
+use Rattle.nor_geometry.specs.declared.unit.PlanUnit.{PlanUnit}
 use Rattle.nor_work.specs.Least.{ErasesBlocks}
 use Rattle.nor_steps.specs.declared.tally.Tally.{Tally}
 use Rattle.nor_steps.specs.declared.fault.StepsFault.{StepsFault}

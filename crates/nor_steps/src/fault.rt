@@ -5,8 +5,8 @@ ghost use Rattle.nor_steps.specs.declared.fault.StepsFault.TheVariants.{Memory, 
 ghost use Rattle.nor_steps.specs.Faults.{lifted_plan};
 
 use nor_base::Failed;
-use nor_erase::PlanFault;
 use nor_frames::FramesFault;
+use nor_geometry::PlanFault;
 use nor_pages::PagesFault;
 use nor_select::SelectFault;
 use std::alloc::AllocError;

@@ -1,7 +1,7 @@
 //! The steps of a window's units.
 
 ghost use Rattle.std.specs.Prelude.{◌≡◌, ◌≤◌, ◌<◌, ◌+◌, ◌-◌, ◌^◌, length, IfOk, IfErr};
-ghost use Rattle.nor_erase.specs.Plan.{IsWindow};
+ghost use Rattle.nor_geometry.specs.Plan.{IsWindow};
 ghost use Rattle.nor_pages.specs.Runs.{unit_start};
 ghost use Rattle.nor_steps.specs.Faults.{CountsSteps};
 ghost use Rattle.nor_steps.specs.Units.{unit_size};
@@ -11,7 +11,8 @@ use crate::fault::StepsFault;
 use crate::tally::Tally;
 use crate::writer::StepWriter;
 use nor_base::ByteOut;
-use nor_erase::{PlanUnit, plan};
+use nor_erase::plan;
+use nor_geometry::PlanUnit;
 use nor_work::erased_blocks;
 use std::alloc::Global;
 

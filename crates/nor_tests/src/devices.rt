@@ -1,5 +1,6 @@
 //! Readers and writers that fail.
 
+use std::alloc::Global;
 use std::io;
 
 /// A reader and writer that moves one byte at a call, and fails at the call of its number.
@@ -8,6 +9,17 @@ pub(crate) struct OneByOne {
     pub(crate) held: Vec<u8>,
     pub(crate) call: usize,
     pub(crate) fails_at: usize,
+}
+
+impl OneByOne {
+    /// One that fails at the call of this number.
+    pub(crate) fn new(alloc: Global, fails_at: usize) -> OneByOne {
+        OneByOne {
+            held: Vec::new(alloc),
+            call: 0,
+            fails_at,
+        }
+    }
 }
 
 impl io::Read for OneByOne {

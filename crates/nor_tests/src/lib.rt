@@ -1,13 +1,30 @@
-//! Runs of `nor_base`, `nor_layout` and `nor_script`, with values from outside.
+//! Tests, over public calls, of all below the program's commands that no row of data can say: devices that fail, refused growths
+//! of memory, and kernels beside plain loops. `nor_chip_rows` and `nor_plan_rows` have the rest.
 //!
-//! They stand apart, over public calls, so that none of these crates is proved a second time with its tests.
+//! They stand apart, so that no crate is proved a second time with its tests.
 #![tactic(auto)]
 
 #[cfg(test)]
-mod base;
+mod bytes;
+#[cfg(test)]
+mod check;
 #[cfg(test)]
 mod devices;
 #[cfg(test)]
+mod lanes;
+#[cfg(test)]
 mod layout;
 #[cfg(test)]
+mod planners;
+#[cfg(test)]
+mod play;
+#[cfg(test)]
+mod ports;
+#[cfg(test)]
+mod readers;
+#[cfg(test)]
+mod same;
+#[cfg(test)]
 mod script;
+#[cfg(test)]
+mod symbols;

@@ -10,7 +10,7 @@ use Rattle.nor_base.specs.Run.{poll_clocks}
 use Rattle.nor_base.specs.Spelling.{Instr, Spells, IsSentBy, IsReadBy, IsStepBy, AreStepsOf, mode_after}
 use Rattle.nor_base.specs.Clocks.{clocks_of, HasRow, CanAllBeSpelled}
 use Rattle.nor_laws.specs.Laws.{RowFound}
-use Rattle.nor_spelling.specs.Laws.{HasSpelling, SameSpelling}
+use Rattle.nor_laws.specs.Spelling.{HasSpelling, SameSpelling}
 use Rattle.nor_work.specs.Exists.{PlannedCanBeSpelled, ThereIsPlannedWork, OnePlannedWork}
 use Rattle.nor_work.proofs.Driven.{lowered_spelled}
 use Rattle.nor_work.proofs.Sent.{planned_done}

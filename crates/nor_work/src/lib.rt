@@ -6,12 +6,10 @@ ghost use Rattle.nor_work.specs.Laws.{PlannedDoesTask, OneUnitInTheMaking};
 ghost use Rattle.nor_work.specs.Able.{OperationIsDone, SmallestAgree, BlocksStay, PagesStay};
 ghost use Rattle.nor_work.specs.Exists.{PlannedCanBeSpelled, ThereIsPlannedWork, OnePlannedWork};
 ghost use Rattle.nor_work.specs.Least.{ErasesNeeded, ErasesBlocks, ErasesApart, ErasesLargest, UnitsJoin, NoScriptErasesLess};
-ghost use Rattle.nor_work.specs.Runs.{PlannedErasesNeeded, ErasesOnce, ErasesCounted, ProgramsCounted};
-ghost use Rattle.nor_work.specs.Runs.{PlannedIsVerified, NoneVerifies, ErasedBytes};
+ghost use Rattle.nor_work.specs.Runs.{PlannedErasesNeeded, ErasesOnce, ErasesCounted, ProgramsCounted, PlannedIsVerified, NoneVerifies, ErasedBytes};
 ghost use Rattle.nor_work.specs.Small.{SmallIsWorkable, SmallWorkErases};
 
-use nor_laws::instruction_rows;
-use nor_spelling::spelling;
+use nor_laws::{instruction_rows, spelling};
 
 /// Planned work does the task on every chip, and after each of its transactions at most one unit is in the making.
 pub fn planned_work()

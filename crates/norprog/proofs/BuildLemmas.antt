@@ -15,7 +15,7 @@ use Rattle.nor_base.specs.Planned.{planned, planned_ops, planned_units, ArePlann
 use Rattle.nor_base.specs.Step.{IsStep}
 use Rattle.nor_base.specs.Strategies.{strategy}
 use Rattle.nor_base.specs.Target.{target, target_byte, is_ignored}
-use Rattle.nor_erase.specs.Plan.{IsFault}
+use Rattle.nor_geometry.specs.Plan.{IsFault}
 use Rattle.nor_hex.specs.Image.{byte_at}
 use Rattle.nor_job.specs.declared.fault.BuildFault.{BuildFault}
 use Rattle.nor_job.specs.declared.fault.BuildFault.TheVariants as fault
@@ -24,7 +24,7 @@ use Rattle.nor_job.specs.Job.{IsJob}
 use Rattle.nor_job.specs.Status.{start_of}
 use Rattle.nor_job.specs.Task.{Task}
 use Rattle.nor_layout.specs.Chosen.{has, is_chosen}
-use Rattle.nor_spelling.specs.Laws.{HasSpelling}
+use Rattle.nor_laws.specs.Spelling.{HasSpelling}
 use Rattle.nor_steps.specs.declared.tally.Tally.{Tally}
 use Rattle.nor_steps.specs.Lines.{step_of, steps_of}
 use Rattle.nor_steps.specs.Tally.{tally_with}
@@ -33,14 +33,16 @@ use Rattle.nor_work.specs.Laws.{IsWorkable, PlannedDoesTask, OneUnitInTheMaking}
 use Rattle.nor_work.specs.Least.{NoScriptErasesLess}
 use Rattle.nor_work.specs.Runs.{PlannedErasesNeeded, PlannedIsVerified, NoneVerifies}
 use Rattle.norprog.specs.declared.report.Report.{Report}
-use Rattle.norprog.specs.Build.{wanted, report_of, IsDoneBy, IsBuilt, IsLate, WorkCause, IsFrontOf, StopsWork}
-use Rattle.norprog.specs.Windows.{target_from, CutCause, IsScripted, IsCutScript, job_report}
+use Rattle.nor_job.specs.Wanted.{wanted}
+use Rattle.norprog.specs.Build.{report_of, IsDoneBy, IsBuilt, IsLate, WorkCause, IsFrontOf, StopsWork}
+use Rattle.nor_job.specs.Filled.{target_from}
+use Rattle.norprog.specs.Windows.{CutCause, IsScripted, IsCutScript, job_report}
 use Rattle.norprog.proofs.CountLemmas.{erases_told, erased_told, programs_told}
 use Rattle.norprog.proofs.FillLemmas.{filled, filled_is}
 use Rattle.norprog.proofs.ImageLemmas.{image_bytes}
 use Rattle.norprog.proofs.OpBytes.{planned_bytes}
 use Rattle.norprog.proofs.StepLemmas.{plain_lowered, steps_spell, steps_pass}
-use Rattle.norprog.proofs.TargetLemmas.{length-target}
+use Rattle.nor_job.proofs.TargetLemmas.{length-target, target_is}
 
 -- what holds of planned work
 pub record Laws : Type 0 where
@@ -52,21 +54,6 @@ pub record Laws : Type 0 where
   pub least : NoScriptErasesLess
   pub spelled : PlannedCanBeSpelled
   pub has : HasSpelling
-
-map_same : {X Y : Type 0} (f g : X → Y) (xs : List X) → ((x : X) → f x ≡ g x) → map f xs ≡ map g xs
-map_same f g [] same = refl
-map_same f g (x ∷ xs) same = ap (λ y. y ∷ map f xs) (same x) ∙ ap (λ ys. g x ∷ ys) (map_same f g xs same)
-
-byte_same : (image : ℕ → Option ℕ) (base : ℕ) (c d : ℕ → Bool) → ((a : ℕ) → c a ≡ d a) → (a old : ℕ) → target_byte image base c a old ≡ target_byte image base d a old
-byte_same image base c d same a old =
-    ap (λ b. if b && nat_lt (base + a) (2 ^ 32) then unwrap_or (image (base + a)) old else old) (same a)
-
--- the target of a job is that of its inputs
-pub target_is : (t : Task) (len : ℕ) (job : Job) (is : IsJob t len job) (part : List ℕ) → target_from job 0 part ≡ wanted t job.image is.regions part
-unfolding target
-target_is t len job is part =
-    map_same _ _ (enumerate_from 0 part) (λ p. byte_same (byte_at job.image) job.base (has job.chosen) (is_chosen is.regions t.regions) is.chosen p.0 p.1)
-    ∙ ap (λ base. map (λ p. target_byte (byte_at job.image) base (is_chosen is.regions t.regions) p.0 p.1) (enumerate_from 0 part)) is.base
 
 counts_same : {X : Type 0} (f g : X → Bool) (n : ℕ) (xs : List X) → ((x : X) → f x ≡ g x)
     → fold (λ m x. m + cond (f x) 1 0) n xs ≡ fold (λ m x. m + cond (g x) 1 0) n xs

@@ -3,7 +3,7 @@ use Rattle.std.proofs.Common.{◌≡◌, ℕ, zero, suc, ◌-◌, true, List, []
 use Rattle.std.specs.List.{slice_range}
 use Rattle.std.proofs.lemmas.Bool.{lt-ltb}
 use Rattle.nor_base.specs.Array.{are_bytes}
-use Rattle.norprog.specs.Written.{AreBytes}
+use Rattle.nor_job.specs.Written.{AreBytes}
 
 pub all_small : (xs : List ℕ) → AreBytes xs → are_bytes xs ≡ true
 all_small [] small = refl

@@ -11,15 +11,17 @@ use Rattle.nor_base.specs.Need.{differs, lacks_erase, is_at_fault}
 use Rattle.nor_base.specs.Parameters.{Parameters}
 use Rattle.nor_base.specs.Strategies.{strategy}
 use Rattle.nor_base.specs.Target.{target_byte}
-use Rattle.nor_erase.specs.Plan.{HasPart}
+use Rattle.nor_geometry.specs.Plan.{HasPart}
 use Rattle.nor_hex.specs.Image.{byte_at}
 use Rattle.nor_job.specs.declared.job.Job.{Job}
 use Rattle.nor_layout.specs.Chosen.{has}
 use Rattle.nor_work.specs.Laws.{IsWorkable}
-use Rattle.norprog.specs.Windows.{target_from, IsScriptFront}
-use Rattle.norprog.specs.Written.{AreBytes}
+use Rattle.nor_job.specs.Filled.{target_from}
+use Rattle.norprog.specs.Windows.{IsScriptFront}
+use Rattle.nor_job.specs.Written.{AreBytes}
 use Rattle.norprog.proofs.ImageLemmas.{GivesBytes}
-use Rattle.norprog.proofs.TargetLemmas.{length-target, target_of_parts, bytes_of_parts, part_front}
+use Rattle.nor_job.proofs.TargetLemmas.{length-target}
+use Rattle.norprog.proofs.TargetLemmas.{target_of_parts, bytes_of_parts, part_front}
 
 byte_by : (b : Bool) (o : Option ℕ) (old : ℕ) → (if b then unwrap_or o (if b then unwrap_or o old else old) else (if b then unwrap_or o old else old)) ≡ (if b then unwrap_or o old else old)
 byte_by true (Some byte) old = refl

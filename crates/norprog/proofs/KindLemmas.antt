@@ -16,8 +16,7 @@ use Rattle.norprog.specs.declared.windows.Text.{Text}
 use Rattle.norprog.specs.declared.windows.Text.TheVariants.{Steps, Lines}
 use Rattle.norprog.specs.Windows.{lifted_steps, IsText, IsBegunText, WroteText, StopsText, BeginsText}
 use Rattle.norprog.proofs.OutlineLemmas.{two_told, told_begun, all_begun, none_lines}
-use Rattle.norprog.proofs.StretchLemmas.{begun_done}
-use Rattle.norprog.proofs.StretchLemmas.{begun_join as steps_begun}
+use Rattle.norprog.proofs.StretchLemmas.{begun_done, begun_join as steps_begun}
 
 -- nothing
 pub none_text : (kind : Text) (w : Writing) → IsText kind w 0 [] [] [] []

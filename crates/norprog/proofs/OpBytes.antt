@@ -11,7 +11,7 @@ use Rattle.nor_base.specs.Parameters.{Parameters}
 use Rattle.nor_base.specs.Planned.{planned_units, planned_ops}
 use Rattle.nor_base.specs.Programs.{Program, target_bytes, last_of, span, is_closed, page_programs}
 use Rattle.nor_base.specs.Units.{WorkUnit, pages, page_unit, unit_by, units_over, units}
-use Rattle.norprog.specs.Written.{AreBytes}
+use Rattle.nor_job.specs.Written.{AreBytes}
 use Rattle.norprog.proofs.ByteLemmas.{all_small, small_range}
 use Rattle.norprog.proofs.StepLemmas.{AreOpBytes}
 

@@ -15,7 +15,7 @@ use Rattle.nor_job.specs.Job.{IsJob}
 use Rattle.nor_job.specs.Status.{start_of}
 use Rattle.nor_job.specs.Task.{Task}
 use Rattle.nor_select.specs.Streamed.{last}
-use Rattle.nor_spelling.specs.Laws.{HasSpelling}
+use Rattle.nor_laws.specs.Spelling.{HasSpelling}
 use Rattle.nor_steps.specs.declared.fault.StepsFault.{StepsFault}
 use Rattle.nor_steps.specs.declared.fault.StepsFault.TheVariants as steps
 use Rattle.nor_steps.specs.declared.tally.Tally.{Tally}
@@ -25,12 +25,14 @@ use Rattle.nor_steps.specs.Writing.{Writing, next_lines}
 use Rattle.nor_work.specs.Exists.{PlannedCanBeSpelled}
 use Rattle.nor_work.specs.Laws.{IsWorkable}
 use Rattle.norprog.specs.declared.windows.Text.TheVariants.{Steps, Lines}
-use Rattle.norprog.specs.Build.{wanted}
+use Rattle.nor_job.specs.Wanted.{wanted}
 use Rattle.norprog.specs.Plan.{IsPlanOf, StopsPlan}
 use Rattle.norprog.specs.PlanWindows.{plan_text, TellsWindows}
-use Rattle.norprog.specs.Windows.{target_from, first_writing, IsAllDone, BeginsText, IsKnown, IsCut, IsToldWhole, job_report}
-use Rattle.norprog.specs.Written.{AreBytes}
-use Rattle.norprog.proofs.BuildLemmas.{target_is, workable_is, spelled_is, report_is, work_cause}
+use Rattle.nor_job.specs.Filled.{target_from}
+use Rattle.norprog.specs.Windows.{first_writing, IsAllDone, BeginsText, IsKnown, IsCut, IsToldWhole, job_report}
+use Rattle.nor_job.specs.Written.{AreBytes}
+use Rattle.nor_job.proofs.TargetLemmas.{target_is}
+use Rattle.norprog.proofs.BuildLemmas.{workable_is, spelled_is, report_is, work_cause}
 use Rattle.norprog.proofs.KindLemmas.{text_begins}
 use Rattle.norprog.proofs.OutlineLemmas.{whole_lines}
 use Rattle.norprog.proofs.PlaceLemmas.{chip_pages}

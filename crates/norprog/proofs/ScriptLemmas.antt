@@ -18,7 +18,8 @@ use Rattle.nor_steps.specs.Faults.{IsOfWriting}
 use Rattle.nor_steps.specs.Tally.{tally_with}
 use Rattle.nor_steps.specs.Writing.{Writing, Begins, lines_of, next_lines}
 use Rattle.norprog.specs.declared.windows.Text.TheVariants.{Steps}
-use Rattle.norprog.specs.Windows.{target_from, first_writing, lifted_steps, IsAllDone, IsKnown, IsCut, IsScripted, IsScriptFront, IsCutScript}
+use Rattle.nor_job.specs.Filled.{target_from}
+use Rattle.norprog.specs.Windows.{first_writing, lifted_steps, IsAllDone, IsKnown, IsCut, IsScripted, IsScriptFront, IsCutScript}
 use Rattle.norprog.proofs.PlaceLemmas.{some_page}
 use Rattle.norprog.proofs.TargetLemmas.{part_whole}
 use Rattle.norprog.proofs.TextLemmas.{closing_lines, job_ops, job_planned, job_text, body, planned_parts, text_is, header_front, known_front, whole_is, closing_front, end_front}

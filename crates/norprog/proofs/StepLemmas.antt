@@ -21,7 +21,7 @@ use Rattle.nor_base.specs.Run.{poll_clocks}
 use Rattle.nor_base.specs.Sample.{is_symbol}
 use Rattle.nor_base.specs.Spelling.{Instr, Spells, IsStepBy, AreStepsOf, mode_after}
 use Rattle.nor_base.specs.Step.{are_clocks, is_filled, IsStep}
-use Rattle.nor_spelling.specs.Laws.{HasSpelling}
+use Rattle.nor_laws.specs.Spelling.{HasSpelling}
 use Rattle.nor_steps.specs.Lines.{step_by, steps_of}
 
 -- a status read is the poll, and what is sent or read are bytes

@@ -9,9 +9,9 @@ use Rattle.nor_base.specs.Parameters.{Parameters}
 use Rattle.nor_base.specs.Need.{is_due, erased_at, levelled, is_at_fault}
 use Rattle.nor_base.specs.Units.{pages, units_over, units_of}
 use Rattle.nor_base.specs.Operations.{Op, unit_ops}
-use Rattle.nor_erase.specs.declared.fault.PlanFault.{PlanFault}
-use Rattle.nor_erase.specs.declared.fault.PlanFault.TheVariants as plan
-use Rattle.nor_erase.specs.Plan.{HasPart, IsLowestAt, IsFault, IsFaultOf}
+use Rattle.nor_geometry.specs.declared.fault.PlanFault.{PlanFault}
+use Rattle.nor_geometry.specs.declared.fault.PlanFault.TheVariants as plan
+use Rattle.nor_geometry.specs.Plan.{HasPart, IsLowestAt, IsFault, IsFaultOf}
 use Rattle.nor_plan_lines.specs.Told.{IsFaultless}
 use Rattle.nor_steps.specs.Work.{stretch_units, stretch_ops, IsWork, IsWorkOf, IsBegun, IsBegunOf}
 use Rattle.nor_steps.specs.Writing.{Writing, next_lines, written_on}

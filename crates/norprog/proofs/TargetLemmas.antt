@@ -8,26 +8,18 @@ use Rattle.std.proofs.lemmas.List.{map-append, length-map, get_or-append-add}
 use Rattle.std.proofs.lemmas.List.FromFn.{length-enumerate_from}
 use Rattle.nor_base.specs.Device.{Ahead, Unknown, Finite, Endless, Gives}
 use Rattle.nor_base.specs.Target.{target_byte}
-use Rattle.nor_erase.specs.Plan.{HasPart}
+use Rattle.nor_geometry.specs.Plan.{HasPart}
 use Rattle.nor_hex.specs.Image.{byte_at}
 use Rattle.nor_job.specs.declared.job.Job.{Job}
 use Rattle.nor_layout.specs.Chosen.{has}
-use Rattle.norprog.specs.Windows.{target_from}
-use Rattle.norprog.specs.Written.{AreBytes}
-
-pub gives_none : (before : Ahead) → Gives before [] before
-gives_none Unknown = tt
-gives_none (Finite bytes) = refl
-gives_none (Endless byte_at) = ((λ k inside. absurd (omega (arith, inside))), (λ k. ap byte_at (omega arith)))
+use Rattle.nor_job.specs.Filled.{target_from}
+use Rattle.nor_job.specs.Written.{AreBytes}
 
 enumerate_from-append : {X : Type 0} (n : ℕ) (xs ys : List X) → enumerate_from n (xs ++ ys) ≡ enumerate_from n xs ++ enumerate_from (n + length xs) ys
 enumerate_from-append n [] ys = let none : n ≡ n + 0 = omega arith in ap (λ m. enumerate_from m ys) none
 enumerate_from-append n (x ∷ xs) ys =
     let later : n + 1 + length xs ≡ n + suc (length xs) = omega arith in
     ap (λ rest. (n, x) ∷ rest) (enumerate_from-append (n + 1) xs ys ∙ ap (λ m. enumerate_from (n + 1) xs ++ enumerate_from m ys) later)
-
-pub length-target : (job : Job) (at : ℕ) (part : List ℕ) → length (target_from job at part) ≡ length part
-length-target job at part = length-map (enumerate_from at part) _ ∙ length-enumerate_from at part
 
 -- the target of a content is that of its parts
 pub target_of_parts : (job : Job) (at end : ℕ) (xs ys : List ℕ) → at + length xs ≡ end

@@ -11,7 +11,7 @@ use Rattle.nor_base.specs.Planned.{planned, planned_ops}
 use Rattle.nor_base.specs.Script.{script_text, header, end_line}
 use Rattle.nor_base.specs.Spelling.{Instr}
 use Rattle.nor_base.specs.Units.{units}
-use Rattle.nor_erase.specs.Plan.{HasPart}
+use Rattle.nor_geometry.specs.Plan.{HasPart}
 use Rattle.nor_job.specs.declared.fault.BuildFault.{BuildFault}
 use Rattle.nor_job.specs.declared.job.Job.{Job}
 use Rattle.nor_select.specs.Streamed.{Streaming, next, last, onward}
@@ -23,8 +23,9 @@ use Rattle.nor_steps.proofs.LineLemmas.{lines_append}
 use Rattle.nor_steps.proofs.OpLemmas.{lines_join}
 use Rattle.norprog.specs.declared.windows.Text.{Text}
 use Rattle.norprog.specs.declared.windows.Text.TheVariants.{Steps}
-use Rattle.norprog.specs.Windows.{target_from, first_writing, IsAllDone, IsKnown, IsTextFront, IsScriptFront}
-use Rattle.norprog.specs.Written.{AreBytes}
+use Rattle.nor_job.specs.Filled.{target_from}
+use Rattle.norprog.specs.Windows.{first_writing, IsAllDone, IsKnown, IsTextFront, IsScriptFront}
+use Rattle.nor_job.specs.Written.{AreBytes}
 use Rattle.norprog.proofs.StretchLemmas.{stretch_join}
 
 abbrev streaming : Parameters → Start → Strategy → Streaming

@@ -9,7 +9,7 @@ use Rattle.nor_base.specs.Device.{Ahead, Gives}
 use Rattle.nor_base.specs.Operations.{Op}
 use Rattle.nor_base.specs.Strategies.{strategy}
 use Rattle.nor_base.proofs.DeviceLaws.{Appends-append, Appends-none, Gives-append}
-use Rattle.nor_erase.specs.Plan.{IsFault}
+use Rattle.nor_geometry.specs.Plan.{IsFault}
 use Rattle.nor_geometry.specs.Window.{IsWindowSize}
 use Rattle.nor_job.specs.declared.fault.BuildFault.{BuildFault}
 use Rattle.nor_job.specs.declared.fault.BuildFault.TheVariants as fault
@@ -24,12 +24,14 @@ use Rattle.nor_steps.specs.Work.{WroteStretch}
 use Rattle.nor_steps.specs.Writing.{Writing, written_on}
 use Rattle.nor_steps.proofs.OpLemmas.{more_steps, more_on}
 use Rattle.norprog.specs.declared.windows.Text.{Text}
-use Rattle.norprog.specs.Windows.{target_from, first_writing, lifted_steps, WroteText, HasText, StopsWindow, IsUndone, IsDone, IsAllDone, CutCause, AreRecent, BeginsText, IsKnown, IsCut}
-use Rattle.norprog.specs.Written.{AreBytes}
+use Rattle.nor_job.specs.Filled.{target_from}
+use Rattle.norprog.specs.Windows.{first_writing, lifted_steps, WroteText, HasText, StopsWindow, IsUndone, IsDone, IsAllDone, CutCause, AreRecent, BeginsText, IsKnown, IsCut}
+use Rattle.nor_job.specs.Written.{AreBytes}
 use Rattle.norprog.proofs.KindLemmas.{none_text, text_join, begun_join, text_begins, begun_begins}
 use Rattle.norprog.proofs.PlaceLemmas.{IsPlace}
 use Rattle.norprog.proofs.StretchLemmas.{work_join, fault_join, work_none}
-use Rattle.norprog.proofs.TargetLemmas.{gives_none, length-target, target_of_parts, bytes_of_parts}
+use Rattle.nor_job.proofs.TargetLemmas.{gives_none, length-target}
+use Rattle.norprog.proofs.TargetLemmas.{target_of_parts, bytes_of_parts}
 
 -- at the beginning nothing has been read or written
 pub none_done : (kind : Text) (job : Job) (v : Writing) (before : Ahead) (held : Option (List ℕ)) → v ≡ first_writing job

@@ -16,7 +16,7 @@ use Rattle.nor_base.specs.Need.{is_due, is_needed}
 use Rattle.nor_base.specs.Units.{WorkUnit}
 use Rattle.nor_base.specs.Events.{events, is_erased_by, IsVerified}
 use Rattle.nor_base.specs.Planned.{ArePlanned, planned_units, IsInTheMaking}
-use Rattle.nor_erase.specs.Plan.{IsFault}
+use Rattle.nor_geometry.specs.Plan.{IsFault}
 use Rattle.nor_geometry.specs.Window.{IsWindowSize}
 use Rattle.nor_hex.specs.Image.{Pairs, byte_at}
 use Rattle.nor_layout.specs.Region.{Region}
@@ -30,10 +30,7 @@ use Rattle.nor_work.specs.Laws.{IsWorkable}
 use Rattle.nor_work.specs.Runs.{verifies}
 use Rattle.norprog.specs.declared.report.Report.{Report}
 use Rattle.norprog.specs.Windows.{AreWindows}
-
--- what the chip must hold in the end
-abbrev pub wanted : Task → Pairs → List Region → List ℕ → List ℕ
-wanted t image regions content = target (byte_at image) t.base (is_chosen regions t.regions) content
+use Rattle.nor_job.specs.Wanted.{wanted}
 
 -- the report of the units of the work and of its steps; what of the image is ignored
 abbrev pub report_of : Task → Pairs → List Region → Parameters → List WorkUnit → List Step → Report
@@ -136,12 +133,6 @@ pub record StopsWork (t : Task) (len : ℕ) (before after : Ahead) (held_before 
   pub bytes : List ℕ
   pub front : IsFrontOf m (start_of t) t.verify (wanted t image regions) part bytes why
   pub put : Appends held_before held_after bytes
-
--- no more than so many bytes were read
-pub record ReadsWithin (len : ℕ) (before after : Ahead) : Type 0 where
-  pub bytes : List ℕ
-  pub few : length bytes ≤ len
-  pub given : Gives before bytes after
 
 -- a fault that accepted inputs can meet
 abbrev pub IsLate : BuildFault → Type 0

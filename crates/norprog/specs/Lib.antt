@@ -1,4 +1,3 @@
-pub mod Written
 pub mod PlanWindows
 pub mod Windows
 pub mod Build

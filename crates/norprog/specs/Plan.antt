@@ -15,7 +15,8 @@ use Rattle.nor_job.specs.Status.{start_of}
 use Rattle.nor_job.specs.Task.{Task}
 use Rattle.nor_work.specs.Laws.{IsWorkable}
 use Rattle.norprog.specs.declared.report.Report.{Report}
-use Rattle.norprog.specs.Build.{wanted, report_of, WorkCause}
+use Rattle.nor_job.specs.Wanted.{wanted}
+use Rattle.norprog.specs.Build.{report_of, WorkCause}
 use Rattle.norprog.specs.PlanWindows.{plan_text, TellsWindows}
 use Rattle.norprog.specs.Windows.{AreWindows}
 

@@ -10,7 +10,7 @@ use Rattle.nor_base.specs.Planned.{planned, planned_ops}
 use Rattle.nor_base.specs.Script.{script_text}
 use Rattle.nor_base.specs.Strategies.{strategy}
 use Rattle.nor_base.specs.Target.{target_byte, is_ignored}
-use Rattle.nor_erase.specs.Plan.{HasPart, IsFault}
+use Rattle.nor_geometry.specs.Plan.{HasPart, IsFault}
 use Rattle.nor_geometry.specs.Window.{IsWindowSize}
 use Rattle.nor_hex.specs.Image.{byte_at}
 use Rattle.nor_job.specs.declared.fault.BuildFault.{BuildFault}
@@ -29,11 +29,8 @@ use Rattle.norprog.specs.declared.report.Report.{Report}
 use Rattle.norprog.specs.declared.windows.Text.{Text}
 use Rattle.norprog.specs.declared.windows.Text.TheVariants.{Steps, Lines}
 use Rattle.norprog.specs.PlanWindows.{plan_text, TellsWindows}
-use Rattle.norprog.specs.Written.{AreBytes}
-
--- the target of a part of the content that begins at an address
-abbrev pub target_from : Job → ℕ → List ℕ → List ℕ
-target_from job at part = map (λ p. target_byte (byte_at job.image) job.base (has job.chosen) p.0 p.1) (enumerate_from at part)
+use Rattle.nor_job.specs.Written.{AreBytes}
+use Rattle.nor_job.specs.Filled.{target_from}
 
 -- the work of a job before its first operation
 abbrev pub first_writing : Job → Writing
@@ -43,17 +40,6 @@ abbrev pub lifted_steps : StepsFault → BuildFault
 lifted_steps (steps.Plan why) = fault.Plan why
 lifted_steps steps.Write = fault.Write
 lifted_steps steps.Memory = fault.Memory
-
--- why a window wasn't filled: the reader ended, or it failed
-abbrev pub WindowCause : Ahead → BuildFault → Type 0
-WindowCause after fault.ContentShort = IsAtEnd after
-WindowCause after fault.Read = ⊤
-WindowCause after other = ⊥
-
--- a window was filled; or fewer bytes were read
-abbrev pub FillsWindow : Ahead → Ahead → Result (Unit {0}) BuildFault → List ℕ → Type 0
-FillsWindow before after (Ok u) window = Gives before window after
-FillsWindow before after (Err why) window = (part : List ℕ) × (length part < length window) × Gives before part after × WindowCause after why
 
 -- the text of the operations of a stretch: the lines of their steps, or those that tell the plan of the stretch
 abbrev pub IsText : Text → Writing → ℕ → List ℕ → List ℕ → List Op → List ℕ → Type 0

@@ -7,18 +7,16 @@
 
 pub mod builder;
 mod chip_text;
-mod nowhere;
 pub mod planner;
 pub mod report;
 mod windows;
 
 pub use builder::build;
 pub use chip_text::sfdp_text;
-pub use nor_base::{ByteIn, ByteOut, Bytes, Failed, FromRead, IntoWrite, Part, Strategy};
+pub use nor_base::{ByteIn, ByteOut, Bytes, Failed, FromRead, IntoWrite, Nowhere, Part, Strategy};
 pub use nor_hex::HexFault;
 pub use nor_job::{BuildFault, Inputs, Source};
 pub use nor_layout::LayoutFault;
 pub use nor_sfdp::SfdpFault;
-pub use nowhere::Nowhere;
 pub use planner::plan;
 pub use report::{Report, write_report};

@@ -4,14 +4,14 @@ ghost use Rattle.std.specs.Prelude.{◌≡◌, ◌<◌, ◌≤◌, ◌+◌, ◌-
 ghost use Rattle.std.specs.List.{enumerate_from};
 ghost use Rattle.nor_base.specs.Accepted.{IsAccepted};
 ghost use Rattle.nor_base.specs.Strategies.{strategy as driven_by};
-ghost use Rattle.nor_erase.specs.Plan.{IsWindow};
+ghost use Rattle.nor_geometry.specs.Plan.{IsWindow};
 ghost use Rattle.nor_geometry.specs.Window.{IsWindowSize};
 ghost use Rattle.nor_steps.specs.Faults.{CountsSteps};
-ghost use Rattle.norprog.specs.Windows.{lifted_steps, WroteText, StopsText, StopsWindow, IsDone, IsAllDone, IsKnown, IsCut, FillsWindow};
-ghost use Rattle.norprog.specs.Written.{CountsReader, CountsWriter};
+ghost use Rattle.nor_job.specs.Filled.{FillsWindow};
+ghost use Rattle.norprog.specs.Windows.{lifted_steps, WroteText, StopsText, StopsWindow, IsDone, IsAllDone, IsKnown, IsCut};
+ghost use Rattle.nor_job.specs.Written.{CountsReader, CountsWriter};
 
-use crate::nowhere::Nowhere;
-use nor_base::{ByteIn, ByteOut, fill_from};
+use nor_base::{ByteIn, ByteOut, Nowhere, fill_from};
 use nor_geometry::strategy;
 use nor_job::{BuildFault, Job};
 use nor_plan_lines::write_window as write_lines;

@@ -19,26 +19,11 @@ use Rattle.nor_job.specs.Job.{IsJob}
 use Rattle.nor_job.specs.Status.{start_of}
 use Rattle.nor_job.specs.Task.{Task}
 use Rattle.nor_layout.specs.Chosen.{has, is_chosen}
-use Rattle.norprog.specs.Build.{wanted}
-use Rattle.norprog.specs.Windows.{target_from}
-use Rattle.norprog.proofs.TargetLemmas.{length-target}
+use Rattle.nor_job.specs.Wanted.{wanted}
+use Rattle.nor_job.specs.Filled.{target_from}
+use Rattle.nor_job.proofs.TargetLemmas.{length-target, target_is}
 use Rattle.norprog_check.specs.Checked.{IsChecked, AreTaken, StopsContent}
 use Rattle.norprog_check.specs.Content.{IsRead, StopsRead}
-
-pub map_same : {X Y : Type 0} (f g : X → Y) (xs : List X) → ((x : X) → f x ≡ g x) → map f xs ≡ map g xs
-map_same f g [] same = refl
-map_same f g (x ∷ xs) same = ap (λ y. y ∷ map f xs) (same x) ∙ ap (λ ys. g x ∷ ys) (map_same f g xs same)
-
-byte_same : (image : ℕ → Option ℕ) (base : ℕ) (c d : ℕ → Bool) → ((a : ℕ) → c a ≡ d a) → (a old : ℕ) → target_byte image base c a old ≡ target_byte image base d a old
-byte_same image base c d same a old =
-    ap (λ b. if b && nat_lt (base + a) (2 ^ 32) then unwrap_or (image (base + a)) old else old) (same a)
-
--- the target of a job is that of its inputs
-target_is : (t : Task) (len : ℕ) (job : Job) (is : IsJob t len job) (part : List ℕ) → target_from job 0 part ≡ wanted t job.image is.regions part
-unfolding target
-target_is t len job is part =
-    map_same _ _ (enumerate_from 0 part) (λ p. byte_same (byte_at job.image) job.base (has job.chosen) (is_chosen is.regions t.regions) is.chosen p.0 p.1)
-    ∙ ap (λ base. map (λ p. target_byte (byte_at job.image) base (is_chosen is.regions t.regions) p.0 p.1) (enumerate_from 0 part)) is.base
 
 pub is_possible : (t : Task) (len : ℕ) (job : Job) → IsJob t len job → IsPossible job.meaning job.start
 is_possible t len job is = subst (λ (s : Start). IsPossible job.meaning s) (sym is.start) is.accepted.possible

@@ -11,7 +11,7 @@ use Rattle.nor_job.specs.Task.{Task}
 use Rattle.nor_script.specs.declared.fault.ScriptFault.{ScriptFault}
 use Rattle.nor_script.specs.declared.fault.ScriptFault.TheVariants as script
 use Rattle.nor_script.specs.Faults.{Refuses}
-use Rattle.norprog.specs.Written.{of_reader}
+use Rattle.nor_job.specs.Written.{of_reader}
 use Rattle.norprog_check.specs.declared.fault.CheckStop.{CheckStop}
 use Rattle.norprog_check.specs.Checked.{AreTaken, RefusesTexts, IsLate, IsLateFault, IsOfContent, failures_of}
 use Rattle.norprog_check.specs.Content.{ReadCause}

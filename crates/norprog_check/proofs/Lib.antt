@@ -1,5 +1,4 @@
 pub mod FaultLemmas
 pub mod LineLemmas
 pub mod CheckLemmas
-pub mod BuiltLemmas
 pub mod FaultlessLemmas

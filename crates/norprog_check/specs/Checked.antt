@@ -16,8 +16,8 @@ use Rattle.nor_job.specs.Status.{start_of}
 use Rattle.nor_job.specs.Task.{Task}
 use Rattle.nor_layout.specs.Region.{Region}
 use Rattle.nor_script.specs.Faults.{IsFault}
-use Rattle.norprog.specs.Build.{wanted}
-use Rattle.norprog.specs.Written.{of_reader}
+use Rattle.nor_job.specs.Wanted.{wanted}
+use Rattle.nor_job.specs.Written.{of_reader}
 use Rattle.norprog_check.specs.declared.fault.CheckStop.{CheckStop}
 use Rattle.norprog_check.specs.declared.fault.CheckStop.TheVariants as stop
 use Rattle.norprog_check.specs.Content.{StopsRead}

@@ -4,7 +4,7 @@ use Rattle.nor_base.specs.Device.{Ahead, Gives, IsAtEnd}
 use Rattle.nor_job.specs.declared.fault.BuildFault.{BuildFault}
 use Rattle.nor_job.specs.declared.fault.BuildFault.TheVariants as fault
 use Rattle.nor_job.specs.declared.job.Job.{Job}
-use Rattle.norprog.specs.Windows.{target_from}
+use Rattle.nor_job.specs.Filled.{target_from}
 
 -- a reader gave what a job's chip holds, and this is what the chip must hold
 pub record IsRead (job : Job) (before after : Ahead) (have want : List ℕ) : Type 0 where

@@ -8,16 +8,7 @@ use Rattle.nor_check.specs.declared.verdict.Verdict.TheVariants.{Yes, No}
 use Rattle.nor_check.specs.declared.verdict.Why.{Why}
 use Rattle.nor_check.specs.declared.verdict.Why.TheVariants as why
 use Rattle.nor_outline.specs.Outline.{hex_number}
-
-abbrev pub wrong_number : Wrong → ℕ
-wrong_number wrong.Ignored = 1
-wrong_number wrong.Unknown = 2
-wrong_number wrong.Raised = 3
-wrong_number wrong.OutOfRange = 4
-wrong_number wrong.Mismatch = 5
-wrong_number wrong.PollNever = 6
-wrong_number wrong.NotIdleAtEnd = 7
-wrong_number wrong.NotErased = 8
+use Rattle.norprog_words.specs.Wrongs.{wrong_number}
 
 -- `wrong N`, or `differs AAAAAAAA`
 abbrev pub why_text : Why → List ℕ

@@ -7,9 +7,9 @@ ghost use Rattle.nor_base.specs.Script.{IsScript};
 ghost use Rattle.nor_hex.specs.Image.{Pairs};
 ghost use Rattle.nor_job.specs.Causes.{AreAccepted};
 ghost use Rattle.nor_layout.specs.Region.{Region};
-ghost use Rattle.norprog.specs.Build.{ReadsWithin};
-ghost use Rattle.norprog.specs.Windows.{FillsWindow};
-ghost use Rattle.norprog.specs.Written.{CountsReader as CountsRead};
+ghost use Rattle.nor_job.specs.Wanted.{ReadsWithin};
+ghost use Rattle.nor_job.specs.Filled.{FillsWindow};
+ghost use Rattle.nor_job.specs.Written.{CountsReader as CountsRead};
 ghost use Rattle.norprog_check.specs.Checked.{IsChecked, RefusesTexts, StopsCheck, IsLate, IsOfContent, CountsReader};
 ghost use Rattle.norprog_check.specs.Content.{IsRead, StopsRead};
 

@@ -10,8 +10,8 @@ mod line;
 
 pub use checker::check_script;
 pub use fault::CheckStop;
-pub use laws::{built_scripts, faultless_scripts};
-pub use line::{write_verdict, wrong_number};
+pub use laws::faultless_scripts;
+pub use line::write_verdict;
 pub use nor_base::{ByteIn, ByteOut, Failed, Wrong};
 pub use nor_check::{Verdict, Why};
 pub use nor_job::{BuildFault, Inputs};

@@ -4,12 +4,13 @@ ghost use Rattle.std.specs.Prelude.{◌≡◌, ◌<◌, ◌-◌, ◌^◌};
 ghost use Rattle.nor_base.specs.Device.{Writes, Counts};
 ghost use Rattle.nor_check.specs.declared.verdict.Verdict.TheVariants.{No};
 ghost use Rattle.nor_check.specs.declared.verdict.Why.TheVariants as why;
-ghost use Rattle.norprog_check.specs.Line.{verdict_text, wrong_number};
+ghost use Rattle.norprog_check.specs.Line.{verdict_text};
 
 use itoa::Buffer;
 use nor_base::{ByteOut, Failed, Wrong, put_all, put_parts};
 use nor_check::{Verdict, Why};
 use nor_outline::hex_number;
+use norprog_words::wrong_number;
 
 /// Writes a verdict's line, closed by LF: `yes`; or `no at K wrong N`, where K is the step, counted from 0, and N the number
 /// of what goes wrong there ([`Wrong`]), both in decimal; or `no at K differs A`, where A is the address in eight lower-case
@@ -69,12 +70,4 @@ fn write_differs<W: ByteOut>(step: u64, address: u32, out: &mut W) -> Result<(),
             b"\n",
         ],
     )
-}
-
-/// The number by which a script's wrong is told: 1 Ignored, 2 Unknown, 3 Raised, 4 OutOfRange, 5 Mismatch, 6 PollNever,
-/// 7 NotIdleAtEnd, 8 NotErased.
-pub fn wrong_number(wrong: Wrong) -> u8
-    ensures { result ≡ wrong_number wrong }
-{
-    wrong as u8
 }

@@ -1,15 +1,32 @@
--- What the program has told with its status (this project's).
-use Rattle.std.specs.Prelude.{◌≡◌, ◌⊎◌, ℕ, List, Option}
-use Rattle.norprog_command.specs.Reports.{PrintsReport, PrintsPlan, PrintsMeaning, Answers as AnswersBy}
-use Rattle.norprog_command.specs.Verdicts.{PrintsJudgement}
-use Rattle.norprog_run.specs.Answer.{PrintsVerdict}
+-- What the program answers (this project's).
+use Rattle.std.specs.Prelude.{◌≡◌, ℕ, List, Option, Result, Ok, Err, IfOk}
+use Rattle.norprog_words.specs.declared.faults.Refusal.{Refusal}
+use Rattle.norprog_words.specs.Told.{TellsOf}
+use Rattle.norprog_options.specs.declared.options.Asked.{Asked}
+use Rattle.norprog_options.specs.declared.options.Asked.TheVariants.{Build, Plan, Check, Run, Sfdp}
+use Rattle.norprog_options.specs.Options.{IsAskedBySome}
+use Rattle.norprog_command.specs.Builds.{AnswersBuild}
+use Rattle.norprog_command.specs.Plans.{AnswersPlan}
+use Rattle.norprog_command.specs.Verdicts.{AnswersCheck}
+use Rattle.norprog_command.specs.Meanings.{AnswersChip}
+use Rattle.norprog_run.specs.Answer.{AnswersRun}
 
--- what a build, a plan or a look at a chip prints is in the output, or the other has the text of a refusal that ends so; or
--- the line of a check or of a play is in the output, whose status it is, and nothing on the other
-abbrev pub Answers : Option (List ℕ) → Option (List ℕ) → Option (List ℕ) → Option (List ℕ) → ℕ → Type 0
-Answers before after err_before err_after status =
-    AnswersBy PrintsReport before after err_before err_after status
-    ⊎ (AnswersBy PrintsPlan before after err_before err_after status
-    ⊎ (AnswersBy PrintsMeaning before after err_before err_after status
-    ⊎ ((PrintsJudgement before after status × (err_after ≡ err_before))
-    ⊎ (PrintsVerdict before after status × (err_after ≡ err_before)))))
+-- to what is asked for, each command its answer; to words that couldn't be read, why
+abbrev pub AnswersTo : Result Asked Refusal → Option (List ℕ) → Option (List ℕ) → Type 0 → Type 0 → Option (List ℕ) → Option (List ℕ) → ℕ → Type 0
+AnswersTo (Ok (Build given)) before after Quiet Works told_before told_after status =
+    AnswersBuild (Ok given) before after Quiet Works told_before told_after status
+AnswersTo (Ok (Plan given)) before after Quiet Works told_before told_after status =
+    AnswersPlan (Ok given) before after Quiet Works told_before told_after status
+AnswersTo (Ok (Check given)) before after Quiet Works told_before told_after status =
+    AnswersCheck (Ok given) before after Quiet Works told_before told_after status
+AnswersTo (Ok (Run given)) before after Quiet Works told_before told_after status =
+    AnswersRun (Ok given) before after Quiet Works told_before told_after status
+AnswersTo (Ok (Sfdp given)) before after Quiet Works told_before told_after status =
+    AnswersChip (Ok given) before after Quiet Works told_before told_after status
+AnswersTo (Err why) before after Quiet Works told_before told_after status =
+    (after ≡ before) × TellsOf (λ told. told ≡ why) Works told_before told_after status
+
+-- to what some matches of the words ask for, each value by the option of its name
+abbrev pub AnswersSome : Option (List ℕ) → Option (List ℕ) → Type 0 → Type 0 → Option (List ℕ) → Option (List ℕ) → ℕ → Type 0
+AnswersSome before after Quiet Works told_before told_after status =
+    (asked : Result Asked Refusal) × IfOk asked IsAskedBySome × AnswersTo asked before after Quiet Works told_before told_after status

@@ -2,21 +2,17 @@
 //! would erase and program, `norprog check` says whether a script does a job, `norprog run` plays one on a chip in memory,
 //! `norprog sfdp` prints what a chip's tables mean.
 //!
-//! The options are read here; the crates `norprog_command` and `norprog_run` do the work behind them.
+//! The crate `norprog_options` reads the options; `norprog_command` and `norprog_run` do the work behind them.
 #![tactic(auto)]
 
 ghost use Rattle.std.specs.Prelude.{◌≡◌, ◌<◌, ◌≤◌, ◌-◌, ◌^◌};
-ghost use Rattle.norprog_cli.specs.Answers.{Answers};
-
-mod arguments;
-mod options;
-#[cfg(test)]
-mod tests;
+ghost use Rattle.norprog_cli.specs.Answers.{AnswersTo, AnswersSome};
 
 use nor_base::{ByteOut, IntoWrite};
-use norprog_command::{Refusal, answer, judge, outline, refuse, show};
+use norprog_command::{build, check, plan, sfdp};
+use norprog_options::{Asked, asked_by};
 use norprog_run::run;
-use options::{Asked, asked_by};
+use norprog_words::{Refusal, refuse};
 use std::alloc::AllocGlobal;
 use std::fs::Files;
 use std::io::ErrorKind;
@@ -58,15 +54,32 @@ fn command<O: ByteOut, E: ByteOut>(
     requires err { E.count err.old < 2 ^ 64 - 1 }
     ensures status { result ≤ 2 }
     ensures quiet { result ≡ 0 → err.new ≡ err.old }
-    ensures told { E.count err.new ≡ E.count err.old
-        → Answers (O.held out.old) (O.held out.new) (E.held err.old) (E.held err.new) result }
+    ensures answer { AnswersSome (O.held out.old) (O.held out.new) (err.new ≡ err.old) (E.count err.new ≡ E.count err.old)
+        (E.held err.old) (E.held err.new) result }
 {
-    match asked_by(rt.alloc(), words.as_slice()) {
-        Ok(Asked::Build(given)) => answer(rt, Ok(given), out, err),
-        Ok(Asked::Plan(given)) => outline(rt, Ok(given), out, err),
-        Ok(Asked::Check(given)) => judge(rt, Ok(given), out, err),
+    answer_to(rt, asked_by(rt.alloc(), words.as_slice()), out, err)
+}
+
+/// Does what is asked for, or tells why it couldn't be read.
+fn answer_to<O: ByteOut, E: ByteOut>(
+    rt: &(impl Files + AllocGlobal),
+    asked: Result<Asked<'_>, Refusal>,
+    out: &mut O,
+    err: &mut E,
+) -> u8
+    requires out { O.count out.old < 2 ^ 64 - 1 }
+    requires err { E.count err.old < 2 ^ 64 - 1 }
+    ensures status { result ≤ 2 }
+    ensures quiet { result ≡ 0 → err.new ≡ err.old }
+    ensures answer { AnswersTo asked.entry (O.held out.old) (O.held out.new) (err.new ≡ err.old)
+        (E.count err.new ≡ E.count err.old) (E.held err.old) (E.held err.new) result }
+{
+    match asked {
+        Ok(Asked::Build(given)) => build(rt, Ok(given), out, err),
+        Ok(Asked::Plan(given)) => plan(rt, Ok(given), out, err),
+        Ok(Asked::Check(given)) => check(rt, Ok(given), out, err),
         Ok(Asked::Run(given)) => run(rt, Ok(given), out, err),
-        Ok(Asked::Sfdp(given)) => show(rt, Ok(given), out, err),
-        Err(refusal) => answer(rt, Err(refusal), out, err),
+        Ok(Asked::Sfdp(given)) => sfdp(rt, Ok(given), out, err),
+        Err(refusal) => refuse(&refusal, err),
     }
 }

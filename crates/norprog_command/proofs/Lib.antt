@@ -1,2 +1,2 @@
-mod NumberLemmas
-mod LineLemmas
+mod ServedLemmas
+mod AskedLemmas

@@ -1,8 +1,7 @@
-pub mod Values
-pub mod Chip
 pub mod Request
-pub mod Lines
-pub mod Files
 pub mod Asked
-pub mod Reports
+pub mod Served
+pub mod Builds
+pub mod Plans
 pub mod Verdicts
+pub mod Meanings

@@ -1,34 +1,28 @@
 //! `sfdp`: from the texts of the command line to the lines that tell what a chip's tables mean.
 
 ghost use Rattle.std.specs.Prelude.{◌≡◌, ◌<◌, ◌≤◌, ◌-◌, ◌^◌, None, IfOk, IfErr};
-ghost use Rattle.norprog_command.specs.Asked.{asks_chip, line_fault, IsOfWork, IsFirst, TellsFault};
-ghost use Rattle.norprog_command.specs.Reports.{PrintsMeaning, CutsMeaning, Answers};
+ghost use Rattle.norprog_words.specs.Chip.{origin_of};
+ghost use Rattle.norprog_words.specs.Files.{IsOfFiles};
+ghost use Rattle.norprog_words.specs.Told.{line_fault, Refuses};
+ghost use Rattle.norprog_command.specs.Asked.{asks_chip};
+ghost use Rattle.norprog_command.specs.Meanings.{IsMeaning, RefusesMeaning, PrintsMeaning, CutsMeaning, AnswersChip};
+ghost use Rattle.norprog_command.specs.Served.{IsChipTask, OfChip};
 
-use crate::faults::{FileName, Refusal, refuse};
-use crate::files::read_whole;
-use crate::request::{Chip, chip_of};
-use crate::values::part;
 use nor_base::{ByteOut, Meaning, Part};
-use nor_sfdp::{SfdpFault, read};
+use nor_job::{Inputs, contradiction};
 use norprog::{BuildFault, sfdp_text};
+use norprog_words::{
+    Chip, FileName, GivenChip, Refusal, chip_of, part, read_whole, refuse, source_of,
+};
 use std::alloc::AllocGlobal;
 use std::fs::Files;
-
-/// What stands on the command line of `sfdp`: the texts of the values, as they were written.
-#[derive(Clone, Copy, Debug)]
-pub struct GivenChip<'a> {
-    pub sfdp: Option<&'a str>,
-    pub uniform: Option<&'a str>,
-    pub bits: Option<&'a str>,
-    pub part: Option<&'a str>,
-}
 
 /// Writes to `out` what the tables of the chip on a command line mean, or a refusal to `err` (docs/FORMATS.md, section
 /// 9), and answers the status: 0 done, 1 refused, 2 usage.
 ///
 /// `given` is what stands on the command line, or why that couldn't be read, which is told. Usage is told where the texts
 /// ask for no chip.
-pub fn show<O: ByteOut, E: ByteOut>(
+pub fn sfdp<O: ByteOut, E: ByteOut>(
     rt: &(impl Files + AllocGlobal),
     given: Result<GivenChip<'_>, Refusal>,
     out: &mut O,
@@ -38,63 +32,86 @@ pub fn show<O: ByteOut, E: ByteOut>(
     requires err { E.count err.old < 2 ^ 64 - 1 }
     ensures status { result ≤ 2 }
     ensures quiet { result ≡ 0 → err.new ≡ err.old }
-    ensures told { E.count err.new ≡ E.count err.old
-        → Answers PrintsMeaning (O.held out.old) (O.held out.new) (E.held err.old) (E.held err.new) result }
-    ensures unprinted { 0 < result → CutsMeaning (O.held out.old) (O.held out.new) }
-    ensures line { E.count err.new ≡ E.count err.old
-        → TellsFault (line_fault asks_chip given.entry) (E.held err.old) (E.held err.new) result }
+    ensures answer { AnswersChip given.entry (O.held out.old) (O.held out.new) (err.new ≡ err.old)
+        (E.count err.new ≡ E.count err.old) (E.held err.old) (E.held err.new) result }
 {
-    match show_meaning(rt, given, out) {
+    match report_meaning(rt, given, out) {
         Ok(()) => 0,
         Err(refusal) => refuse(&refusal, err),
     }
 }
 
 /// Writes what the tables mean.
-fn show_meaning<O: ByteOut>(
+fn report_meaning<O: ByteOut>(
     rt: &(impl Files + AllocGlobal),
     given: Result<GivenChip<'_>, Refusal>,
     out: &mut O,
 ) -> Result<(), Refusal>
     requires { O.count out.old < 2 ^ 64 - 1 }
-    ensures printed { IfOk result (λ _. PrintsMeaning (O.held out.old) (O.held out.new)) }
-    ensures unprinted { IfErr result (λ _. CutsMeaning (O.held out.old) (O.held out.new)) }
+    ensures printed { IfOk result (λ _. PrintsMeaning (OfChip given.entry) (O.held out.old) (O.held out.new)) }
+    ensures unprinted { IfErr result (λ _. CutsMeaning (OfChip given.entry) (O.held out.old) (O.held out.new)) }
     ensures asked { IfOk result (λ _. line_fault asks_chip given.entry ≡ None) }
-    ensures first { IfErr result (IsFirst (line_fault asks_chip given.entry)) }
+    ensures first { IfErr result (Refuses (line_fault asks_chip given.entry) (RefusesMeaning (OfChip given.entry))) }
 {
     let given = given?;
     let chip = chip_of(given.sfdp, given.uniform, given.bits).ok_or(Refusal::Usage)?;
     let part = part(given.part.unwrap_or("generic")).ok_or(Refusal::Usage)?;
-    let meaning = meaning_of(rt, chip, part)?;
+    let meaning = run_meaning(rt, chip, part)?;
     match sfdp_text(&meaning, out) {
         Ok(()) => Ok(()),
         Err(_) => Err(Refusal::WRITE),
     }
 }
 
-/// The meaning of the chip's file, or of its size.
-fn meaning_of<R: Files + AllocGlobal>(
+/// Opens the chip's file, if it has one, and answers the chip's meaning.
+fn run_meaning<R: Files + AllocGlobal>(
     rt: &R,
     chip: Chip<'_>,
     part: Part,
 ) -> Result<Meaning, Refusal>
-    ensures { IfErr result IsOfWork }
+    ensures means { IfOk result (IsMeaning (IsChipTask (origin_of chip.entry) part)) }
+    ensures refused { IfErr result (RefusesMeaning (IsChipTask (origin_of chip.entry) part)) }
+{
+    let tables = read_tables(rt, chip)?;
+    chip_alone(chip, part, tables.as_slice())
+}
+
+/// What the file of a chip's tables holds; nothing of a uniform chip.
+fn read_tables<R: Files + AllocGlobal>(rt: &R, chip: Chip<'_>) -> Result<Vec<u8>, Refusal>
+    ensures { IfErr result IsOfFiles }
 {
     match chip {
-        Chip::Sfdp { file, bits } => {
+        Chip::Sfdp { file, bits: _ } => {
             let (bytes, _place) = read_whole(rt, rt.alloc(), file, FileName::Sfdp)?;
-            read(bytes.as_slice(), bits, part).map_err(refused)
+            Ok(bytes)
         }
-        Chip::Uniform(_) if part == Part::W25q256jv => {
-            Err(Refusal::Build(BuildFault::Contradiction(4)))
-        }
-        Chip::Uniform(size) => Meaning::uniform(size).ok_or(refused(SfdpFault::Density)),
+        Chip::Uniform(_) => Ok(Vec::new(rt.alloc())),
     }
 }
 
-/// A fault of the tables as a refusal.
-fn refused(fault: SfdpFault) -> Refusal
-    ensures { IsOfWork result }
+/// The meaning of a chip of which nothing else is known.
+fn chip_alone<'a>(chip: Chip<'a>, part: Part, tables: &'a [u8]) -> Result<Meaning, Refusal>
+    ensures means { IfOk result (IsMeaning (IsChipTask (origin_of chip.entry) part)) }
+    ensures refused { IfErr result (RefusesMeaning (IsChipTask (origin_of chip.entry) part)) }
 {
-    Refusal::Build(BuildFault::Sfdp(fault))
+    let inputs = Inputs {
+        hex: &[],
+        layout: None,
+        regions: &[],
+        chip: source_of(chip, tables),
+        part,
+        status: None,
+        mode4: false,
+        quad: false,
+        base: 0,
+        verify: false,
+        erased_only: false,
+    };
+    if let Some(number) = contradiction(&inputs) {
+        return Err(Refusal::Build(BuildFault::Contradiction(number)));
+    }
+    match nor_job::chip_of(&inputs) {
+        Ok((meaning, _start)) => Ok(meaning),
+        Err(fault) => Err(Refusal::Build(fault)),
+    }
 }

@@ -1,12 +1,12 @@
 //! From the files of a job to the library's inputs.
 
-ghost use Rattle.std.specs.Prelude.{IfErr};
-ghost use Rattle.norprog_command.specs.Asked.{IsOfWork};
+ghost use Rattle.std.specs.Prelude.{◌≡◌, IfOk, IfErr, is_some, option_map, unwrap_or, []};
+ghost use Rattle.norprog_words.specs.Files.{IsOfFiles};
+ghost use Rattle.norprog_command.specs.Served.{task_by, held_in, IsTaskOf};
 
-use crate::faults::{FileName, Refusal};
-use crate::files::{Place, read_whole};
-use crate::request::{Chip, Request};
-use norprog::{Inputs, Source};
+use crate::request::Request;
+use norprog::Inputs;
+use norprog_words::{Chip, FileName, Place, Refusal, read_whole, source_of};
 use std::alloc::Global;
 use std::fs::Files;
 
@@ -25,7 +25,8 @@ pub(crate) fn read_texts<R: Files>(
     request: &Request<'_>,
     places: &mut Vec<Place>,
 ) -> Result<Texts, Refusal>
-    ensures { IfErr result IsOfWork }
+    ensures layout { IfOk result (λ texts. is_some texts.layout ≡ is_some request.now.layout) }
+    ensures refused { IfErr result IsOfFiles }
 {
     let (hex, place) = read_whole(rt, alloc, request.hex, FileName::Hex)?;
     places.push(place)?;
@@ -46,7 +47,8 @@ fn read_optional<R: Files>(
     name: FileName,
     places: &mut Vec<Place>,
 ) -> Result<Option<Vec<u8>>, Refusal>
-    ensures { IfErr result IsOfWork }
+    ensures named { IfOk result (λ bytes. is_some bytes ≡ is_some path.entry) }
+    ensures refused { IfErr result IsOfFiles }
 {
     let path = match path {
         Some(path) => path,
@@ -58,19 +60,17 @@ fn read_optional<R: Files>(
 }
 
 /// The library's inputs.
-pub(crate) fn inputs_of<'a>(request: &'a Request<'_>, texts: &'a Texts) -> Inputs<'a> {
-    let chip = match request.chip {
-        Chip::Sfdp { file: _, bits } => Source::Sfdp {
-            bytes: bytes_or_none(&texts.sfdp).unwrap_or(&[]),
-            bits,
-        },
-        Chip::Uniform(size) => Source::Uniform(size),
-    };
+pub(crate) fn inputs_of<'a>(request: &'a Request<'_>, texts: &'a Texts) -> Inputs<'a>
+    requires { is_some texts.now.layout ≡ is_some request.now.layout }
+    ensures exact { result ≡ task_by request.entry.now (held_in texts.entry.now) }
+    ensures task { IsTaskOf request.entry.now result }
+{
+    let tables = bytes_or_empty(&texts.sfdp);
     Inputs {
         hex: texts.hex.as_slice(),
         layout: bytes_or_none(&texts.layout),
         regions: request.regions.as_slice(),
-        chip,
+        chip: source_of(request.chip, tables),
         part: request.part,
         status: request.status,
         mode4: request.mode4,
@@ -81,7 +81,18 @@ pub(crate) fn inputs_of<'a>(request: &'a Request<'_>, texts: &'a Texts) -> Input
     }
 }
 
-fn bytes_or_none(bytes: &Option<Vec<u8>>) -> Option<&[u8]> {
+fn bytes_or_empty(bytes: &Option<Vec<u8>>) -> &[u8]
+    ensures { result.now ≡ unwrap_or (option_map (λ held. held.items) bytes.entry.now) [] }
+{
+    match bytes {
+        Some(bytes) => bytes.as_slice(),
+        None => &[],
+    }
+}
+
+fn bytes_or_none(bytes: &Option<Vec<u8>>) -> Option<&[u8]>
+    ensures { option_map (λ text. text.now) result ≡ option_map (λ held. held.items) bytes.entry.now }
+{
     match bytes {
         Some(bytes) => Some(bytes.as_slice()),
         None => None,

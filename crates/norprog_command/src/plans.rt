@@ -1,16 +1,16 @@
 //! `plan`: from the texts of the command line to the lines that tell what a build would erase and program, and why.
 
-ghost use Rattle.std.specs.Prelude.{◌≡◌, ◌<◌, ◌≤◌, ◌-◌, ◌^◌, ◌⊎◌, None, IfOk, IfErr};
-ghost use Rattle.norprog_command.specs.Asked.{line_fault, IsOfWork, IsFirst, TellsFault};
+ghost use Rattle.std.specs.Prelude.{◌≡◌, ◌⊎◌, ◌<◌, ◌≤◌, ◌-◌, ◌^◌, None, IfOk, IfErr};
+ghost use Rattle.norprog_words.specs.Told.{line_fault, Refuses};
+ghost use Rattle.norprog_command.specs.Plans.{PrintsLines, PrintsSome, PrintsPlan, CutsPlan, RefusesPlan, AnswersPlan};
 ghost use Rattle.norprog_command.specs.Request.{is_well_formed};
-ghost use Rattle.norprog_command.specs.Reports.{PrintsLines, PrintsSome, PrintsPlan, CutsPlan, Answers};
+ghost use Rattle.norprog_command.specs.Served.{IsTaskOf, OfPlan};
 
-use crate::faults::{FileName, Refusal, refuse};
-use crate::files::open_input;
 use crate::inputs::{inputs_of, read_texts};
-use crate::request::{Given, Request, request_of};
+use crate::request::{Request, request_of};
 use nor_base::{ByteOut, FromRead};
-use norprog::{Report, plan, write_report};
+use norprog::{Report, write_report};
+use norprog_words::{FileName, Given, Refusal, open_input, refuse};
 use std::alloc::AllocGlobal;
 use std::fs::Files;
 
@@ -20,7 +20,7 @@ use std::fs::Files;
 ///
 /// `given` is what stands on the command line, or why that couldn't be read, which is told. Usage is told where the texts
 /// ask for no plan.
-pub fn outline<O: ByteOut, E: ByteOut>(
+pub fn plan<O: ByteOut, E: ByteOut>(
     rt: &(impl Files + AllocGlobal),
     given: Result<Given<'_>, Refusal>,
     out: &mut O,
@@ -30,11 +30,8 @@ pub fn outline<O: ByteOut, E: ByteOut>(
     requires err { E.count err.old < 2 ^ 64 - 1 }
     ensures status { result ≤ 2 }
     ensures quiet { result ≡ 0 → err.new ≡ err.old }
-    ensures told { E.count err.new ≡ E.count err.old
-        → Answers PrintsPlan (O.held out.old) (O.held out.new) (E.held err.old) (E.held err.new) result }
-    ensures unprinted { 0 < result → CutsPlan (O.held out.old) (O.held out.new) }
-    ensures line { E.count err.new ≡ E.count err.old
-        → TellsFault (line_fault is_well_formed given.entry) (E.held err.old) (E.held err.new) result }
+    ensures answer { AnswersPlan given.entry (O.held out.old) (O.held out.new) (err.new ≡ err.old)
+        (E.count err.new ≡ E.count err.old) (E.held err.old) (E.held err.new) result }
 {
     match report_plan(rt, given, out) {
         Ok(()) => 0,
@@ -49,10 +46,10 @@ fn report_plan<O: ByteOut>(
     out: &mut O,
 ) -> Result<(), Refusal>
     requires { O.count out.old < 2 ^ 64 - 1 }
-    ensures printed { IfOk result (λ _. PrintsPlan (O.held out.old) (O.held out.new)) }
-    ensures unprinted { IfErr result (λ _. CutsPlan (O.held out.old) (O.held out.new)) }
+    ensures printed { IfOk result (λ _. PrintsPlan (OfPlan given.entry) (O.held out.old) (O.held out.new)) }
+    ensures unprinted { IfErr result (λ _. CutsPlan (OfPlan given.entry) (O.held out.old) (O.held out.new)) }
     ensures asked { IfOk result (λ _. line_fault is_well_formed given.entry ≡ None) }
-    ensures first { IfErr result (IsFirst (line_fault is_well_formed given.entry)) }
+    ensures first { IfErr result (Refuses (line_fault is_well_formed given.entry) (RefusesPlan (OfPlan given.entry))) }
 {
     let request = request_of(given?).ok_or(Refusal::Usage)?;
     let report = run_plan(rt, &request, out)?;
@@ -70,9 +67,9 @@ fn run_plan<R: Files + AllocGlobal, O: ByteOut>(
 ) -> Result<Report, Refusal>
     requires { O.count out.old < 2 ^ 64 - 1 }
     ensures count { IfOk result (λ _. O.count out.new ≡ O.count out.old) }
-    ensures lines { IfOk result (PrintsLines (O.held out.old) (O.held out.new)) }
-    ensures cut { IfErr result (λ _. (O.held out.new ≡ O.held out.old) ⊎ PrintsSome (O.held out.old) (O.held out.new)) }
-    ensures work { IfErr result IsOfWork }
+    ensures lines { IfOk result (PrintsLines (IsTaskOf request.now) (O.held out.old) (O.held out.new)) }
+    ensures cut { IfErr result (λ _. (O.held out.new ≡ O.held out.old) ⊎ PrintsSome (IsTaskOf request.now) (O.held out.old) (O.held out.new)) }
+    ensures refused { IfErr result (RefusesPlan (IsTaskOf request.now)) }
 {
     let alloc = rt.alloc();
     let mut places = Vec::new(alloc);
@@ -80,7 +77,7 @@ fn run_plan<R: Files + AllocGlobal, O: ByteOut>(
     let (content, _place, len) = open_input(rt, request.content, FileName::Content)?;
     let mut reader = FromRead::new(content);
     let inputs = inputs_of(request, &texts);
-    match plan(alloc, &inputs, &mut reader, len, out) {
+    match norprog::plan(alloc, &inputs, &mut reader, len, out) {
         Ok(report) => Ok(report),
         Err(fault) => Err(Refusal::Build(fault)),
     }

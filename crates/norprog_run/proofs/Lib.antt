@@ -1,4 +1,4 @@
-mod PlayLaws
 mod NumberLemmas
 mod BusyLemmas
 mod ReadLemmas
+mod ServedLemmas

@@ -1,44 +1,69 @@
--- What is printed of a play, and of a command line that asks for none (this project's).
-use Rattle.std.specs.Prelude.{◌≡◌, ℕ, ◌⊎◌, List, Option}
+-- What is told of a play (this project's).
+use Rattle.std.specs.Prelude.{◌≡◌, ◌⊎◌, ℕ, List, Option, Result}
 use Rattle.std.specs.Io.KnownBytes.{Appends}
 use Rattle.nor_base.specs.Device.{Ahead, Cuts}
-use Rattle.nor_job.specs.Task.{Task}
 use Rattle.nor_job.specs.declared.fault.BuildFault.TheVariants.{Memory}
-use Rattle.norprog_command.specs.declared.faults.Refusal.{Refusal}
-use Rattle.norprog_command.specs.declared.faults.Refusal.TheVariants.{Build}
-use Rattle.norprog_command.specs.Asked.{IsFirst, TellsFault}
-use Rattle.norprog_command.specs.Lines.{printed}
-use Rattle.norprog_run.specs.declared.request.Bench.{Bench}
+use Rattle.norprog_words.specs.declared.faults.Refusal.{Refusal}
+use Rattle.norprog_words.specs.declared.faults.Refusal.TheVariants.{Build}
+use Rattle.norprog_words.specs.declared.given.GivenRun.{GivenRun}
+use Rattle.norprog_words.specs.Told.{ForAsked, RefusesFor, Refuses, line_fault, Answers}
+use Rattle.norprog_run.specs.Request.{is_well_formed}
 use Rattle.norprog_run.specs.declared.verdict.Verdict.{Verdict}
 use Rattle.norprog_run.specs.Play.{WasPlayed}
+use Rattle.norprog_run.specs.Refusals.{RefusesPlay}
+use Rattle.norprog_run.specs.Served.{PlayTask, OfRun}
 use Rattle.norprog_run.specs.Verdict.{verdict_line, status_of}
 
--- some text was played on the chip of some inputs, and this is how it ended
-pub record IsPlayVerdict (verdict : Verdict) : Type 0 where
-  pub task : Task
-  pub bench : Bench
+-- some text was played on that chip, on that bench, and this is how it ended
+pub record IsVerdictOf (verdict : Verdict) (t : PlayTask) : Type 0 where
   pub text : List ℕ
   pub len : ℕ
   pub before : Ahead
   pub after : Ahead
   pub held_before : Option (List ℕ)
   pub held_after : Option (List ℕ)
-  pub played : WasPlayed task bench text len before after held_before held_after verdict
+  pub played : WasPlayed t.chip t.bench text len before after held_before held_after verdict
 
--- the line of the verdict of a play was printed, whose status it is
-abbrev pub PrintsVerdict : Option (List ℕ) → Option (List ℕ) → ℕ → Type 0
-PrintsVerdict before after status =
-    (verdict : Verdict) × IsPlayVerdict verdict × (status ≡ status_of verdict) × Appends before after (verdict_line verdict)
+abbrev pub IsPlayVerdict : (PlayTask → Type 0) → Verdict → Type 0
+IsPlayVerdict Asked verdict = ForAsked PlayTask Asked (IsVerdictOf verdict)
 
--- nothing was printed, or a proper prefix of a verdict's line
-abbrev pub PrintsNone : Option (List ℕ) → Option (List ℕ) → Type 0
-PrintsNone before after = (after ≡ before) ⊎ ((verdict : Verdict) × Cuts before after (verdict_line verdict))
+-- why some text isn't played on that chip, on that bench
+pub record IsStopOf (why : Refusal) (t : PlayTask) : Type 0 where
+  pub text : List ℕ
+  pub len : ℕ
+  pub before : Ahead
+  pub after : Ahead
+  pub held_before : Option (List ℕ)
+  pub held_after : Option (List ℕ)
+  pub refused : RefusesPlay t.chip t.bench text len before after held_before held_after why
 
--- the fault of the command line where there is one, else a refusal of the work; or want of memory
-abbrev pub RefusesLine : Option Refusal → Refusal → Type 0
-RefusesLine fault why = IsFirst fault why ⊎ (why ≡ Build Memory)
+abbrev pub IsPlayFault : (PlayTask → Type 0) → Refusal → Type 0
+IsPlayFault Asked why = ForAsked PlayTask Asked (IsStopOf why)
 
--- the fault of the command line is told, with its status; where there is none, the status isn't that of usage; or want of
--- memory is told
-abbrev pub TellsLine : Option Refusal → Option (List ℕ) → Option (List ℕ) → ℕ → Type 0
-TellsLine fault before after status = TellsFault fault before after status ⊎ ((status ≡ 1) × Appends before after (printed (Build Memory)))
+-- why a play that was asked for has no verdict
+abbrev pub RefusesRun : (PlayTask → Type 0) → Refusal → Type 0
+RefusesRun Asked = RefusesFor (IsPlayFault Asked) ((verdict : Verdict) × IsPlayVerdict Asked verdict)
+
+-- the line of the verdict of a play that was asked for was printed, whose status it is
+abbrev pub PrintsVerdict : (PlayTask → Type 0) → Option (List ℕ) → Option (List ℕ) → ℕ → Type 0
+PrintsVerdict Asked before after status =
+    (verdict : Verdict) × (status ≡ status_of verdict) × IsPlayVerdict Asked verdict × Appends before after (verdict_line verdict)
+
+-- nothing was printed, or a proper prefix of such a line
+abbrev pub CutsVerdict : (PlayTask → Type 0) → Option (List ℕ) → Option (List ℕ) → Type 0
+CutsVerdict Asked before after =
+    (after ≡ before) ⊎ ((verdict : Verdict) × IsPlayVerdict Asked verdict × Cuts before after (verdict_line verdict))
+
+-- the fault of the command line where there is one, else a refusal of its work; or want of memory, which the busy times may
+-- meet while they are read
+abbrev pub RefusesLine : Option Refusal → (Refusal → Type 0) → Refusal → Type 0
+RefusesLine cause Work why = Refuses cause Work why ⊎ (why ≡ Build Memory)
+
+-- what `run` answers to a command line: the line of the verdict, whose status it is, or a refusal
+abbrev pub AnswersRun : Result GivenRun Refusal → Option (List ℕ) → Option (List ℕ) → Type 0 → Type 0 → Option (List ℕ) → Option (List ℕ) → ℕ → Type 0
+AnswersRun line before after Quiet Works told_before told_after status =
+    Answers (line_fault is_well_formed line)
+    (PrintsVerdict (OfRun line) before after status × Quiet)
+    (CutsVerdict (OfRun line) before after)
+    (RefusesLine (line_fault is_well_formed line) (RefusesRun (OfRun line)))
+    Works told_before told_after status

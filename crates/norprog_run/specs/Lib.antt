@@ -4,5 +4,5 @@ pub mod Request
 pub mod Play
 pub mod Kind
 pub mod Refusals
+pub mod Served
 pub mod Answer
-pub mod Laws

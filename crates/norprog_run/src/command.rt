@@ -1,19 +1,22 @@
 //! `run`: from the texts of the command line to the line of a verdict.
 
-ghost use Rattle.std.specs.Prelude.{◌≡◌, ◌⊎◌, ◌<◌, ◌≤◌, ◌-◌, ◌^◌, None, IfOk, IfErr};
-ghost use Rattle.norprog_command.specs.Asked.{line_fault, IsOfWork};
-ghost use Rattle.norprog_command.specs.Lines.{Tells};
-ghost use Rattle.norprog_run.specs.Answer.{IsPlayVerdict, PrintsVerdict, PrintsNone, RefusesLine, TellsLine};
+ghost use Rattle.std.specs.Prelude.{◌≡◌, ◌<◌, ◌≤◌, ◌-◌, ◌^◌, None, IfOk, IfErr};
+ghost use Rattle.std.specs.Io.KnownBytes.{Appends};
+ghost use Rattle.norprog_words.specs.Files.{IsOfFiles};
+ghost use Rattle.norprog_words.specs.Told.{line_fault};
+ghost use Rattle.norprog_run.specs.Answer.{IsPlayVerdict, CutsVerdict, RefusesRun, RefusesLine, AnswersRun};
 ghost use Rattle.norprog_run.specs.Request.{is_well_formed};
+ghost use Rattle.norprog_run.specs.Served.{IsTaskOf, OfRun};
+ghost use Rattle.norprog_run.specs.Verdict.{verdict_line};
 
 use crate::play::play_script;
-use crate::request::{Bench, GivenRun, RunRequest, request_of};
+use crate::request::{RunRequest, request_of};
 use crate::verdict::{Verdict, status_of, write_verdict};
-use nor_base::{ByteIn, ByteOut, FromRead, IntoWrite};
-use nor_job::{Inputs, Source};
-use norprog::Nowhere;
-use norprog_command::{
-    Chip, FileName, Place, Refusal, create_output, open_input, read_whole, refuse,
+use nor_base::{ByteIn, ByteOut, FromRead, IntoWrite, Nowhere};
+use nor_job::Inputs;
+use norprog_words::{
+    Chip, FileName, GivenRun, Place, Refusal, create_output, open_input, read_whole, refuse,
+    source_of,
 };
 use std::alloc::{AllocGlobal, Global};
 use std::fs::Files;
@@ -35,32 +38,32 @@ pub fn run<O: ByteOut, E: ByteOut>(
     requires err { E.count err.old < 2 ^ 64 - 1 }
     ensures status { result ≤ 2 }
     ensures quiet { result ≡ 0 → err.new ≡ err.old }
-    ensures answer { (PrintsVerdict (O.held out.old) (O.held out.new) result × (err.new ≡ err.old))
-        ⊎ (PrintsNone (O.held out.old) (O.held out.new)
-        × (E.count err.new ≡ E.count err.old → Tells (E.held err.old) (E.held err.new) result)) }
-    ensures line { E.count err.new ≡ E.count err.old
-        → TellsLine (line_fault is_well_formed given.entry) (E.held err.old) (E.held err.new) result }
+    ensures answer { AnswersRun given.entry (O.held out.old) (O.held out.new) (err.new ≡ err.old)
+        (E.count err.new ≡ E.count err.old) (E.held err.old) (E.held err.new) result }
 {
-    match verdict_of(rt, given) {
-        Ok(verdict) => tell(&verdict, out, err),
+    match report_run(rt, given, out) {
+        Ok(verdict) => status_of(&verdict),
         Err(refusal) => refuse(&refusal, err),
     }
 }
 
-/// Writes the verdict's line or, where that fails, a refusal, and answers the status.
-fn tell<O: ByteOut, E: ByteOut>(verdict: &Verdict, out: &mut O, err: &mut E) -> u8
-    requires played { IsPlayVerdict verdict.now }
-    requires out { O.count out.old < 2 ^ 64 - 1 }
-    requires err { E.count err.old < 2 ^ 64 - 1 }
-    ensures status { result ≤ 1 }
-    ensures quiet { result ≡ 0 → err.new ≡ err.old }
-    ensures answer { (PrintsVerdict (O.held out.old) (O.held out.new) result × (err.new ≡ err.old))
-        ⊎ (PrintsNone (O.held out.old) (O.held out.new)
-        × (E.count err.new ≡ E.count err.old → Tells (E.held err.old) (E.held err.new) result)) }
+/// Plays what is asked for, and writes the verdict's line.
+fn report_run<O: ByteOut>(
+    rt: &(impl Files + AllocGlobal),
+    given: Result<GivenRun<'_>, Refusal>,
+    out: &mut O,
+) -> Result<Verdict, Refusal>
+    requires { O.count out.old < 2 ^ 64 - 1 }
+    ensures played { IfOk result (IsPlayVerdict (OfRun given.entry)) }
+    ensures printed { IfOk result (λ verdict. Appends (O.held out.old) (O.held out.new) (verdict_line verdict)) }
+    ensures unprinted { IfErr result (λ _. CutsVerdict (OfRun given.entry) (O.held out.old) (O.held out.new)) }
+    ensures asked { IfOk result (λ _. line_fault is_well_formed given.entry ≡ None) }
+    ensures first { IfErr result (RefusesLine (line_fault is_well_formed given.entry) (RefusesRun (OfRun given.entry))) }
 {
-    match write_verdict(verdict, out) {
-        Ok(()) => status_of(verdict),
-        Err(_) => refuse(&Refusal::WRITE, err),
+    let verdict = verdict_of(rt, given)?;
+    match write_verdict(&verdict, out) {
+        Ok(()) => Ok(verdict),
+        Err(_) => Err(Refusal::WRITE),
     }
 }
 
@@ -77,9 +80,9 @@ fn verdict_of<R: Files + AllocGlobal>(
     rt: &R,
     given: Result<GivenRun<'_>, Refusal>,
 ) -> Result<Verdict, Refusal>
-    ensures played { IfOk result IsPlayVerdict }
+    ensures played { IfOk result (IsPlayVerdict (OfRun given.entry)) }
     ensures asked { IfOk result (λ _. line_fault is_well_formed given.entry ≡ None) }
-    ensures first { IfErr result (RefusesLine (line_fault is_well_formed given.entry)) }
+    ensures first { IfErr result (RefusesLine (line_fault is_well_formed given.entry) (RefusesRun (OfRun given.entry))) }
 {
     let alloc = rt.alloc();
     let request = request_of(alloc, given?)?;
@@ -111,7 +114,7 @@ fn read_sfdp<R: Files>(
     chip: Chip<'_>,
     places: &mut Vec<Place>,
 ) -> Result<Vec<u8>, Refusal>
-    ensures { IfErr result IsOfWork }
+    ensures { IfErr result IsOfFiles }
 {
     match chip {
         Chip::Sfdp { file, bits: _ } => {
@@ -124,10 +127,10 @@ fn read_sfdp<R: Files>(
 }
 
 /// Plays the script on the chip of a request.
-fn play_texts<R: ByteIn, W: ByteOut>(
+fn play_texts<'a, R: ByteIn, W: ByteOut>(
     alloc: Global,
-    request: RunRequest<'_>,
-    texts: &Texts,
+    request: RunRequest<'a>,
+    texts: &'a Texts,
     content: &mut R,
     len: u64,
     out: &mut W,
@@ -135,21 +138,14 @@ fn play_texts<R: ByteIn, W: ByteOut>(
     requires limit { 0 < request.bench.limit }
     requires reader { R.count content.old < 2 ^ 64 - 1 }
     requires writer { W.count out.old < 2 ^ 64 - 1 }
-    ensures played { IfOk result IsPlayVerdict }
-    ensures work { IfErr result IsOfWork }
+    ensures played { IfOk result (IsPlayVerdict (IsTaskOf request.entry)) }
+    ensures refused { IfErr result (RefusesRun (IsTaskOf request.entry)) }
 {
-    let chip = match request.chip {
-        Chip::Sfdp { file: _, bits } => Source::Sfdp {
-            bytes: texts.sfdp.as_slice(),
-            bits,
-        },
-        Chip::Uniform(size) => Source::Uniform(size),
-    };
     let inputs = Inputs {
         hex: &[],
         layout: None,
         regions: &[],
-        chip,
+        chip: source_of(request.chip, texts.sfdp.as_slice()),
         part: request.part,
         status: request.status,
         mode4: request.mode4,

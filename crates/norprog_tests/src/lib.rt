@@ -1,20 +1,22 @@
-//! Tests of `norprog` over its public calls: jobs whose scripts are run on a model of a chip, refusals, devices that move
-//! few bytes at a call, end early or fail, the lines of a report, and those that tell a plan.
+//! Tests of the commands' libraries that no row of `norprog_rows` can say: devices that move few bytes at a call, end early or
+//! fail, refused growths, and lines of numbers that no job here reaches.
 #![tactic(auto)]
 
 #[cfg(test)]
-mod chips;
+mod builds;
+#[cfg(test)]
+mod checks;
 #[cfg(test)]
 mod devices;
 #[cfg(test)]
-mod jobs;
+mod lines;
 #[cfg(test)]
 mod plans;
 #[cfg(test)]
-mod play;
+mod plays;
 #[cfg(test)]
 mod refusals;
 #[cfg(test)]
-mod reports;
+mod same;
 #[cfg(test)]
 mod windows;

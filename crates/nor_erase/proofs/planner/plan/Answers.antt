@@ -5,9 +5,10 @@ use Rattle.nor_base.specs.declared.meaning.Strategy.{Strategy}
 use Rattle.nor_base.specs.Parameters.{Parameters}
 use Rattle.nor_base.specs.Blocks.{Block}
 use Rattle.nor_base.specs.Units.{pages}
-use Rattle.nor_erase.specs.declared.unit.PlanUnit.{PlanUnit}
+use Rattle.nor_geometry.specs.declared.unit.PlanUnit.{PlanUnit}
 use Rattle.nor_erase.specs.Tiles.{page_if}
-use Rattle.nor_erase.proofs.PlanLemmas.{IsPlannedTo, edge, ends_page, first_planned, next_is, planned_on, planned_over, planned_all, no_erase, unreachable}
+use Rattle.nor_geometry.proofs.PageLemmas.{ends_page}
+use Rattle.nor_erase.proofs.PlanLemmas.{IsPlannedTo, edge, first_planned, next_is, planned_on, planned_over, planned_all, no_erase, unreachable}
 use Rattle.nor_erase.proofs.planner.plan.Goals as goal
 use Rattle.nor_erase.proofs.planner.plan.Goals.{then-block-high+in_ok-push_blocks+in_ok-push_pages, else-block-high}
 

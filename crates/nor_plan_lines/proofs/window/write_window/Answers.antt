@@ -1,6 +1,6 @@
 -- The plan, and the lines of its units.
 use Rattle.std.proofs.Common.{sym, subst}
-use Rattle.nor_erase.specs.Plan.{IsPlan}
+use Rattle.nor_geometry.specs.Plan.{IsPlan}
 use Rattle.nor_plan_lines.proofs.TellLemmas.{no_plan}
 use Rattle.nor_steps.specs.Faults.{lifted_plan}
 use Rattle.nor_steps.proofs.WindowLemmas.{handed_on}

@@ -5,7 +5,7 @@ use Rattle.norprog.specs.Plan.{IsPlanOf}
 use Rattle.norprog.proofs.BuildLemmas.{cause_is_late}
 use Rattle.norprog.proofs.FaultLemmas.{handed_on}
 use Rattle.norprog.proofs.PlanLemmas.{plan_is, plan_stops}
-use Rattle.norprog.proofs.TargetLemmas.{gives_none}
+use Rattle.nor_job.proofs.TargetLemmas.{gives_none}
 use Rattle.norprog.proofs.planner.plan.Goals as goal
 
 pub returns-clause-planned : goal.returns-clause-planned

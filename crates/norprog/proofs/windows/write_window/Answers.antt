@@ -1,7 +1,7 @@
 -- A window that was read, and its text.
 use Rattle.std.proofs.Common.{List, ℕ, rules, length, sym, subst}
 use Rattle.norprog.specs.Windows.{StopsText, StopsWindow}
-use Rattle.norprog.specs.Written.{AreBytes}
+use Rattle.nor_job.specs.Written.{AreBytes}
 use Rattle.norprog.proofs.WindowLemmas.{ended}
 use Rattle.norprog.proofs.windows.write_window.Goals as goal
 

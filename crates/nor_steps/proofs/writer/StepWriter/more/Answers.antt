@@ -3,7 +3,7 @@ use Rattle.std.proofs.Common.{sym, ◌∙◌, ap, subst}
 use Rattle.nor_base.specs.declared.meaning.Strategy.{Strategy}
 use Rattle.nor_base.specs.Accepted.{IsAccepted}
 use Rattle.nor_base.specs.Parameters.{Parameters}
-use Rattle.nor_erase.specs.Plan.{IsPlan, Refuses}
+use Rattle.nor_geometry.specs.Plan.{IsPlan, Refuses}
 use Rattle.nor_steps.specs.Faults.{lifted_plan}
 use Rattle.nor_steps.specs.Writing.{Writing}
 use Rattle.nor_steps.proofs.WindowLemmas.{no_plan, handed_on}

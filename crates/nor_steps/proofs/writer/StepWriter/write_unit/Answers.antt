@@ -1,7 +1,7 @@
 -- By the unit.
 use Rattle.std.proofs.Common.{length, ◌∙◌, ap, subst, arith}
 use Rattle.nor_base.specs.Parameters.{Parameters}
-use Rattle.nor_erase.specs.declared.unit.PlanUnit.{PlanUnit}
+use Rattle.nor_geometry.specs.declared.unit.PlanUnit.{PlanUnit}
 use Rattle.nor_pages.specs.Runs.{IsUnit, IsSplit}
 use Rattle.nor_steps.specs.Writing.{Writing}
 use Rattle.nor_steps.proofs.UnitLemmas.{block_writes, page_writes}

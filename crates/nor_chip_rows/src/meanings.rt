@@ -1,0 +1,107 @@
+//! What chips are, and what may be done with them.
+
+use crate::samples::{Sample, meaning_of};
+use crate::words::{ODD, byte, hexadecimal, number};
+use nor_base::{Meaning, Start};
+use nor_chip::may_program;
+use nor_geometry::is_legal;
+use std::alloc::AllocError;
+use std::fmt::Write;
+use std::io;
+
+/// Says what the uniform chip of a size is, if there is one.
+pub(crate) fn tell_uniform(words: &str, out: &mut String) -> io::Result<()> {
+    match Meaning::uniform(number(words)?) {
+        Some(meaning) => tell(&meaning, out),
+        None => Ok(writeln!(out, "none")?),
+    }
+}
+
+/// Says what a chip is, nearly as `norprog sfdp` does.
+pub(crate) fn tell(meaning: &Meaning, out: &mut String) -> io::Result<()> {
+    let more = if meaning.open_page { " or more" } else { "" };
+    writeln!(out, "size {}\npage {}{more}", meaning.size, meaning.page)?;
+    let fours = [false, true].map(|mode4| meaning.begins4(&Start { mode4, quad: false }));
+    let width = meaning.width;
+    writeln!(out, "address {width:?}, four-byte first {fours:?}")?;
+    tell_kinds(meaning, out)?;
+    writeln!(out, "enter {:?}\nleave {:?}", meaning.enter, meaning.leave)?;
+    match meaning.quad_read {
+        Some(read) => writeln!(out, "quadread {:02x} {}", read.op, read.dummies)?,
+        None => writeln!(out, "quadread none")?,
+    }
+    tell_offered(meaning, out)?;
+    for region in meaning.regions.iter() {
+        write!(out, "region {} {} of", region.size, region.kinds)?;
+        end_with_kinds(|kind| region.allows(kind), out)?;
+    }
+    Ok(())
+}
+
+/// The erase kinds that are there: the bytes of a block, the opcode and the dedicated one. Then all that some region allows.
+fn tell_kinds(meaning: &Meaning, out: &mut String) -> Result<(), AllocError> {
+    for kind in 0..=255u8 {
+        let size = meaning.block_size(kind);
+        match meaning.erase_kind(kind) {
+            Some(erase) => {
+                write!(out, "erase {kind} {size} {:02x} ", erase.op)?;
+                match erase.op4 {
+                    Some(opcode) => writeln!(out, "{opcode:02x}")?,
+                    None => writeln!(out, "--")?,
+                }
+            }
+            None if size > 0 => writeln!(out, "erase {kind} {size} of none")?,
+            None => {}
+        }
+    }
+    write!(out, "allowed")?;
+    end_with_kinds(|kind| meaning.is_allowed(kind), out)
+}
+
+/// Ends a line with the erase kinds for which something is so.
+fn end_with_kinds<Is: Fn(u8) -> bool>(is: Is, out: &mut String) -> Result<(), AllocError>
+    requires { Is.IsAlwaysCallable is }
+{
+    for kind in 0..=255u8 {
+        if is(kind) {
+            write!(out, " {kind}")?;
+        }
+    }
+    writeln!(out)
+}
+
+/// The opcodes that are offered, and the profile of erased bytes.
+fn tell_offered(meaning: &Meaning, out: &mut String) -> Result<(), AllocError> {
+    write!(out, "offered")?;
+    for (is, word) in [
+        (meaning.read4, " 13"),
+        (meaning.quad_read4, " 6c"),
+        (meaning.program4, " 12"),
+        (meaning.quad4, " 34"),
+        (meaning.quad3, " 32"),
+        (meaning.erased_only, "\nerased only"),
+    ] {
+        out.push_str(if is { word } else { "" })?;
+    }
+    writeln!(out)
+}
+
+/// Says which of the words behind `of` are pages that a chip may have, addresses at which a legal block of a kind starts, or
+/// bytes that may be programmed over a byte.
+pub(crate) fn filter(all: &[Sample], kind: &str, words: &str, out: &mut String) -> io::Result<()> {
+    let (subject, words) = words.split_once(" of ").ok_or(ODD)?;
+    let (name, over) = subject.split_once(' ').unwrap_or((subject, ""));
+    let meaning = meaning_of(all, name)?;
+    out.push_str(kind)?;
+    for word in words.split_whitespace() {
+        let is_so = match kind {
+            "pages" => meaning.may_page(number(word)?),
+            "legal" => is_legal(meaning, byte(over)?, hexadecimal(word)?),
+            _ => may_program(meaning, byte(over)?, byte(word)?),
+        };
+        if is_so {
+            write!(out, " {word}")?;
+        }
+    }
+    Ok(writeln!(out)?)
+}

@@ -1,0 +1,110 @@
+//! Scripts as texts.
+
+use crate::steps::steps_of;
+use crate::words::{ODD, byte, end_with, handed};
+use nor_base::{ByteOut, IntoWrite, Step, is_step};
+use nor_samples::rows::Row;
+use nor_script::{begin, finish, read, write_step};
+use std::alloc::Global;
+use std::fmt::Write;
+use std::io;
+
+/// The steps of the text that the lines are, or its fault.
+pub(crate) fn read_text(alloc: Global, given: &[&str], out: &mut String) -> io::Result<()> {
+    let steps = match read(alloc, text_of(alloc, given)?.as_slice()) {
+        Ok(steps) => steps,
+        Err(fault) => return Ok(writeln!(out, "{fault:?}")?),
+    };
+    writeln!(out, "{} steps", steps.len())?;
+    for step in steps.iter() {
+        match step {
+            Step::Send { clocks } => writeln!(out, "send {}", text(clocks.as_slice()))?,
+            Step::Poll { clocks } => writeln!(out, "poll {}", text(clocks.as_slice()))?,
+            Step::Verify { clocks, expect } => {
+                write!(out, "verify {} for ", text(clocks.as_slice()))?;
+                end_with(expect.as_slice(), out)?;
+            }
+        }
+    }
+    Ok(())
+}
+
+/// Bytes as text.
+fn text<'b>(bytes: &'b [u8]) -> &'b str {
+    str::from_utf8(bytes).unwrap_or("no text")
+}
+
+/// The length of each front of the text that is answered otherwise than the one before it, and its answer: the number of
+/// steps or its fault.
+pub(crate) fn read_fronts(alloc: Global, given: &[&str], out: &mut String) -> io::Result<()> {
+    let text = text_of(alloc, given)?;
+    let mut before = String::new(alloc);
+    for taken in 0..=text.len() {
+        let answer = match read(alloc, text.get(..taken).unwrap_or(&[])) {
+            Ok(steps) => format!(in alloc; "{} steps", steps.len())?,
+            Err(fault) => format!(in alloc; "{fault:?}")?,
+        };
+        if answer.as_str() != before.as_str() {
+            writeln!(out, "{taken} {answer}")?;
+        }
+        before = answer;
+    }
+    Ok(())
+}
+
+/// The text of the lines: an LF behind each that doesn't end with a backslash.
+fn text_of(alloc: Global, given: &[&str]) -> io::Result<Vec<u8>> {
+    let mut text = Vec::new(alloc);
+    for line in given {
+        let line = handed(line)?;
+        push_line(&mut text, line.strip_suffix('\\').unwrap_or(line))?;
+        if !line.ends_with('\\') {
+            text.push(b'\n')?;
+        }
+    }
+    Ok(text)
+}
+
+/// A line, in which `\xHH` is a byte.
+fn push_line(text: &mut Vec<u8>, line: &str) -> io::Result<()> {
+    let mut parts = line.split('\\');
+    text.extend_from_slice(parts.next().unwrap_or("").as_bytes())?;
+    for part in parts {
+        let escaped = part
+            .strip_prefix('x')
+            .and_then(|part| part.split_at_checked(2));
+        let (digits, rest) = escaped.ok_or(ODD)?;
+        text.push(byte(digits)?)?;
+        text.extend_from_slice(rest.as_bytes())?;
+    }
+    Ok(())
+}
+
+/// Whether each step has a line in a script.
+pub(crate) fn tell_writable(alloc: Global, given: &[&str], out: &mut String) -> io::Result<()> {
+    for step in steps_of(alloc, given)?.iter() {
+        writeln!(out, "{}", is_step(step))?;
+    }
+    Ok(())
+}
+
+/// The text of steps that have a line; where a word says so, with another number in its end line.
+pub(crate) fn write_all(alloc: Global, row: &Row<'_>, out: &mut String) -> io::Result<()> {
+    let steps = steps_of(alloc, row.given)?;
+    let count = match row.asked {
+        "" => steps.len() as u64,
+        word => word.parse::<u64>().ok().ok_or(ODD)?,
+    };
+    let mut writer = IntoWrite::new(Vec::new(alloc));
+    let mut well = begin(&mut writer).is_ok();
+    for step in steps.iter() {
+        well = well
+            && is_step(step)
+            && writer.failures() == 0
+            && write_step(step, &mut writer).is_ok();
+    }
+    if !well || writer.failures() > 0 || finish(count, &mut writer).is_err() {
+        return Err(ODD.into());
+    }
+    Ok(out.push_str(text(writer.into_inner().as_slice()))?)
+}

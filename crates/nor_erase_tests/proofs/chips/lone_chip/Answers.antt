@@ -1,6 +1,0 @@
--- The parameters asked for are accepted.
-use Rattle.nor_erase_tests.proofs.ChipsAccepted.{lone_accepted}
-use Rattle.nor_erase_tests.proofs.chips.lone_chip.Goals as goal
-
-pub plain_chip-requires-clause-accepted : goal.plain_chip-requires-clause-accepted
-plain_chip-requires-clause-accepted c = lone_accepted

@@ -1,0 +1,68 @@
+//! Rows of data on what is read and planned, each with the answer that it is to have.
+//!
+//! Standard input names files of rows, one a line. A row that has another answer is told with its file and line, and each
+//! file with the number of its rows that are as they say. README.md has the words of the rows.
+#![tactic(auto)]
+
+mod bench;
+mod clocks;
+mod faults;
+mod geometry;
+mod images;
+mod jobs;
+mod layouts;
+mod meanings;
+mod plans;
+mod sfdp;
+mod targets;
+mod words;
+
+use crate::bench::Bench;
+use nor_samples::rows::{Row, row_at};
+use std::{fs, io};
+
+fn main(rt: HostRuntime) -> io::Result<()> {
+    for name in rt.lines(rt.alloc()) {
+        do_file(&rt, name?.as_str())?;
+    }
+    Ok(())
+}
+
+/// Does the rows of a file in turn.
+fn do_file(rt: &HostRuntime, name: &str) -> io::Result<()> {
+    let text = fs::read_to_string(rt, name)?;
+    let lines: Vec<&str> = text.lines().collect(rt.alloc())?;
+    let mut bench = Bench::new(rt.alloc())?;
+    let (mut right, mut next) = (0u32, 0usize);
+    for (at, line) in lines.iter().enumerate() {
+        if at < next || line.is_empty() || line.starts_with('#') {
+            continue;
+        }
+        if let Some(row) = row_at(lines.as_slice(), at) {
+            let more = row.given.len().saturating_add(row.answer.len());
+            next = row.line.saturating_add(more);
+            right = right.saturating_add(u32::from(is_right(rt, &mut bench, &row, name)?));
+        } else {
+            println!(rt; "{name} line {}: of no row", at.saturating_add(1))?;
+        }
+    }
+    println!(rt; "{name} {right} rows")
+}
+
+/// Whether a row has the answer that it says; otherwise both are told.
+fn is_right(rt: &HostRuntime, bench: &mut Bench, row: &Row<'_>, name: &str) -> io::Result<bool> {
+    let mut found = String::new(rt.alloc());
+    if let Err(fault) = bench.answer(row, &mut found) {
+        writeln!(found, "not done: {fault}")?;
+    }
+    let mut want = String::new(rt.alloc());
+    for line in row.answer {
+        want.push_str(line)?;
+        want.push_str("\n")?;
+    }
+    let right = found.as_str() == want.as_str();
+    if !right {
+        print!(rt; "{name} line {}: found\n{found}and not\n{want}", row.line)?;
+    }
+    Ok(right)
+}

@@ -1,6 +1,0 @@
--- By the form of its row.
-use Rattle.nor_spelling.proofs.Verifying.{verify_keeps}
-use Rattle.nor_spelling.proofs.verifying_reads.Goals as goal
-
-pub returns : goal.returns
-returns c = verify_keeps

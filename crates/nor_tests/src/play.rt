@@ -1,0 +1,77 @@
+//! Plays at a port that fails, and where memory is refused.
+
+use crate::ports::Unplugged;
+use crate::same::{holds, same};
+use nor_base::Meaning;
+use nor_chip::Port;
+use nor_play::{PlayFault, play};
+use nor_samples::small_chip;
+use nor_samples::texts::ONE_BYTE;
+use nor_script::read;
+use std::alloc::Global;
+use std::process::Abort;
+use std::test::Fail;
+
+/// An erase of the sector at 0, then a program of 00h at 0 and A5h at 5.
+const ERASE: &str = "norscript 1\nx 00000110\nx 00100000000000000000000000000000\n\
+    p 00000101........\nx 00000110\nx 00000010000000000000000000000000\
+    000000001111111111111111111111111111111110100101\np 00000101........\nend 6\n";
+
+/// A program of 00h at 0, and a read of it.
+const VERIFY: &str =
+    "norscript 1\nx 00000110\nx 0000001000000000000000000000000000000000\np 00000101........\n\
+    v 00000011000000000000000000000000........ 00\nend 4\n";
+
+/// Plays a script on a chip that is busy for two status reads after each program or erase, and is unplugged after each
+/// number of transactions: the play fails at the step of the next, and a port that failed isn't asked again.
+fn fails_at_each(
+    rt: &impl Abort,
+    alloc: Global,
+    text: &str,
+    steps_of_all: &[u64],
+) -> Result<(), Fail> {
+    let (meaning, steps) = (small_chip(), read(alloc, text.as_bytes())?);
+    for done in 0..=steps_of_all.len() {
+        let mut port = Unplugged::new(rt, alloc, &meaning, &[2, 2], done as u64)?;
+        let step = steps_of_all.get(done).copied();
+        let want = match step {
+            Some(step) => Err(PlayFault::PortFailed { step }),
+            None => Ok(done as u128),
+        };
+        holds(rt, "no failure yet", port.failures() == 0);
+        let played = play(alloc, steps.as_slice(), &mut port, 10);
+        same(rt, text, played, want);
+        same(rt, "failures", port.failures(), u64::from(step.is_some()));
+    }
+    Ok(())
+}
+
+#[test]
+fn each_transaction_fails(rt: HostRuntime) -> Result<(), Fail> {
+    fails_at_each(&rt, rt.alloc(), ONE_BYTE, &[0, 1, 2, 2, 2])?;
+    fails_at_each(&rt, rt.alloc(), ERASE, &[0, 1, 2, 2, 2, 3, 4, 5, 5, 5])?;
+    fails_at_each(&rt, rt.alloc(), VERIFY, &[0, 1, 2, 2, 2, 3])
+}
+
+/// Plays the script with its read, for which bytes are gathered. None where its own memory is refused.
+fn plays(rt: &impl Abort, alloc: Global, meaning: &Meaning) -> Option<Result<u128, PlayFault>> {
+    let steps = read(alloc, VERIFY.as_bytes()).ok()?;
+    let mut port = Unplugged::new(rt, alloc, meaning, &[], u64::MAX).ok()?;
+    holds(rt, "no failure yet", port.failures() == 0);
+    Some(play(alloc, steps.as_slice(), &mut port, 10))
+}
+
+/// Memory is not wanting, so there are four transactions.
+#[test]
+fn plays_each_step(rt: HostRuntime) {
+    let played = plays(&rt, rt.alloc(), &small_chip());
+    same(&rt, "played", played, Some(Ok(4)));
+}
+
+/// With each growth refused in turn, as `tools/refused-growths` does, the fault is Memory.
+#[test]
+fn a_refused_growth_is_memory(rt: HostRuntime) {
+    let played = plays(&rt, rt.alloc(), &small_chip());
+    let fine = matches!(played, None | Some(Ok(4) | Err(PlayFault::Memory)));
+    holds(&rt, "played", fine);
+}

@@ -1,0 +1,132 @@
+-- Of what a build wrote, a check says yes.
+use Rattle.std.proofs.Common.{◌≡◌, ℕ, zero, suc, ◌+◌, ◌^◌, Bool, false, not, ◌&&◌, if◌then◌else◌, nat_lt, List, [], ◌∷◌, ◌++◌, length, map, take, Option, Some, None, Result, Ok, refl, sym, ◌∙◌, ap, subst, arith, eq-eqb}
+use Rattle.std.specs.Prelude.{unwrap_or}
+use Rattle.std.specs.List.{slice_index, find, range_with_len, enumerate_from}
+use Rattle.std.proofs.Math.Seq.{take-append_seam}
+use Rattle.std.proofs.lemmas.Grind.{same_number_lists}
+use Rattle.nor_base.specs.declared.step.Step.{Step}
+use Rattle.nor_base.specs.declared.wrong.Wrong.TheVariants as wrong
+use Rattle.nor_base.specs.Chip.{Setting}
+use Rattle.nor_base.specs.Device.{Ahead, Unknown, Finite, Endless, Gives}
+use Rattle.nor_base.specs.Parameters.{Parameters}
+use Rattle.nor_base.specs.Run.{DoesTask}
+use Rattle.nor_base.specs.Target.{target, target_byte}
+use Rattle.nor_check.specs.declared.verdict.Verdict.TheVariants.{Yes, No}
+use Rattle.nor_check.specs.declared.verdict.Why.TheVariants as why
+use Rattle.nor_check.specs.Outcome.{differs, first_difference, at_difference, ended, outcome_from, outcome}
+use Rattle.nor_check.specs.Worst.{IsWorst}
+use Rattle.nor_hex.specs.declared.fault.HexFault.{HexFault}
+use Rattle.nor_hex.specs.Faults.{IsImage}
+use Rattle.nor_hex.specs.Image.{Pairs, Puts, byte_at}
+use Rattle.nor_hex.specs.Record.{Record}
+use Rattle.nor_job.specs.Causes.{LayoutSays}
+use Rattle.nor_job.specs.Status.{start_of}
+use Rattle.nor_job.specs.Task.{Task}
+use Rattle.nor_laws.specs.Laws.{OneList}
+use Rattle.nor_layout.specs.Chosen.{is_chosen}
+use Rattle.nor_layout.specs.Region.{Region}
+use Rattle.nor_sfdp.specs.declared.fault.SfdpFault.{SfdpFault}
+use Rattle.nor_job.specs.Wanted.{wanted}
+use Rattle.norprog_laws.specs.Checked.{Tells, BuiltIsRight, BuiltIsChecked}
+use Rattle.nor_job.proofs.TargetLemmas.{map_same}
+
+find_none : (p : ℕ → Bool) (b n : ℕ) → ((a : ℕ) → p a ≡ false) → find p (range_with_len b n) ≡ None
+find_none p b zero none = refl
+find_none p b (suc n) none = let here : p b ≡ false = none b in rw here (find_none p (b + 1) n none)
+
+-- an array is itself
+no_difference : (array : List ℕ) → first_difference array array ≡ None
+unfolding first_difference
+no_difference array =
+    find_none (differs array array) 0 (length array) (λ a. ap not (eq-eqb (slice_index array a) (slice_index array a) refl))
+
+-- steps that do the task come out so
+does_yes : (s : Setting) (content goal : List ℕ) (steps : List Step) → DoesTask s content goal steps → outcome s content goal steps ≡ Yes
+unfolding outcome_from
+does_yes s content goal steps task =
+    ap (ended s goal (length steps)) task.good.runs
+    ∙ ap (λ b. if b then at_difference (length steps) (first_difference task.final.array goal) else No (length steps) (why.Wrong wrong.NotIdleAtEnd)) task.good.settled
+    ∙ ap (λ array. at_difference (length steps) (first_difference array goal)) task.array
+    ∙ ap (at_difference (length steps)) (no_difference goal)
+
+pub built_is_right : OneList → BuiltIsRight
+built_is_right one t len before after x y report built steps v script worst =
+    let goal = wanted t built.image built.regions built.content in
+    let same : built.steps ≡ steps = one built.text built.steps steps built.script script in
+    let task : DoesTask worst.chip built.content goal steps =
+    subst (λ (xs : List Step). DoesTask worst.chip built.content goal xs) same (built.work.task worst.chip worst.is) in
+    sym worst.so ∙ does_yes worst.chip built.content goal steps task
+
+-- records are told by their list
+records_same : (xs ys : List Record) → ◌≡◌ {A = List (Result Record HexFault)} (map Ok xs) (map Ok ys) → xs ≡ ys
+records_same [] [] h = refl
+records_same [] (y ∷ ys) h = cc
+records_same (x ∷ xs) [] h = cc
+records_same (x ∷ xs) (y ∷ ys) h =
+    let head : x ≡ y = cc in
+    let tails : ◌≡◌ {A = List (Result Record HexFault)} (map Ok xs) (map Ok ys) = cc in
+    ap (λ z. z ∷ xs) head ∙ ap (λ zs. y ∷ zs) (records_same xs ys tails)
+
+option_same : (o p : Option ℕ) → ((x : ℕ) → o ≡ Some x → p ≡ Some x) → ((x : ℕ) → p ≡ Some x → o ≡ Some x) → o ≡ p
+option_same (Some x) p f g = sym (f x refl)
+option_same None None f g = refl
+option_same None (Some y) f g = g y refl
+
+-- a text has one image
+image_same : (text : List ℕ) (a b : Pairs) → IsImage text a → IsImage text b → (address : ℕ) → byte_at a address ≡ byte_at b address
+image_same text a b is_a is_b address =
+    let same : is_a.records ≡ is_b.records = records_same is_a.records is_b.records (sym is_a.accepted.each ∙ is_b.accepted.each) in
+    option_same (byte_at a address) (byte_at b address)
+    (λ byte is. is_b.put address byte (subst (λ (records : List Record). Puts records address byte) same (is_a.given address byte is)))
+    (λ byte is. is_a.put address byte (subst (λ (records : List Record). Puts records address byte) (sym same) (is_b.given address byte is)))
+
+-- and one list of regions
+regions_same : (o : Option (List ℕ)) (a b : List Region) → LayoutSays o a → LayoutSays o b → a ≡ b
+regions_same None a b is_a is_b = is_a ∙ sym is_b
+regions_same (Some text) a b is_a is_b = is_a.spelled ∙ sym is_b.spelled
+
+meaning_same : (r : Result Parameters SfdpFault) (m n : Parameters) → r ≡ Ok m → r ≡ Ok n → m ≡ n
+meaning_same r m n is_m is_n = cc
+
+byte_same : (f g : ℕ → Option ℕ) (base : ℕ) (c : ℕ → Bool) → ((a : ℕ) → f a ≡ g a) → (a old : ℕ) → target_byte f base c a old ≡ target_byte g base c a old
+byte_same f g base c same a old = ap (λ o. if c a && nat_lt (base + a) (2 ^ 32) then unwrap_or o old else old) (same (base + a))
+
+wanted_same : (t : Task) (a b : Pairs) (p q : List Region) (content : List ℕ) → ((address : ℕ) → byte_at a address ≡ byte_at b address) → p ≡ q
+    → wanted t a p content ≡ wanted t b q content
+unfolding target
+wanted_same t a b p q content bytes regions =
+    map_same _ _ (enumerate_from 0 content) (λ pair. byte_same (byte_at a) (byte_at b) t.base (is_chosen p t.regions) bytes pair.0 pair.1)
+    ∙ ap (λ (these : List Region). target (byte_at b) t.base (is_chosen these t.regions) content) regions
+
+-- so many bytes that a reader gives which tells them are one list
+given_same : (before after rest : Ahead) (xs ys : List ℕ) → Tells before → Gives before xs after → Gives before ys rest → length xs ≡ length ys → xs ≡ ys
+given_same Unknown after rest xs ys tells p q sizes = absurd tells
+given_same (Finite bytes) (Finite a) (Finite b) xs ys tells p q sizes =
+    sym (take-append_seam xs a) ∙ ap (take (length xs)) (sym p ∙ q) ∙ ap (λ n. take n (ys ++ b)) sizes ∙ take-append_seam ys b
+given_same (Finite bytes) (Finite a) Unknown xs ys tells p q sizes = absurd q
+given_same (Finite bytes) (Finite a) (Endless g) xs ys tells p q sizes = absurd q
+given_same (Finite bytes) Unknown rest xs ys tells p q sizes = absurd p
+given_same (Finite bytes) (Endless f) rest xs ys tells p q sizes = absurd p
+given_same (Endless byte_at) (Endless f) (Endless g) xs ys tells p q sizes =
+    same_number_lists xs ys sizes (λ k inside. p.0 k inside ∙ sym (q.0 k (omega (arith, inside, sizes))))
+given_same (Endless byte_at) (Endless f) Unknown xs ys tells p q sizes = absurd q
+given_same (Endless byte_at) (Endless f) (Finite b) xs ys tells p q sizes = absurd q
+given_same (Endless byte_at) Unknown rest xs ys tells p q sizes = absurd p
+given_same (Endless byte_at) (Finite a) rest xs ys tells p q sizes = absurd p
+
+pub built_is_checked : OneList → BuiltIsChecked
+built_is_checked one t len before after rest x y report v built tells checked =
+    let start = start_of t in
+    let named = checked.accepted.named in
+    let own = built.accepted.named in
+    let m : checked.m ≡ built.m = meaning_same _ _ _ checked.accepted.means built.accepted.means in
+    let content : checked.content ≡ built.content =
+    given_same before rest after checked.content built.content tells checked.given built.given (checked.whole ∙ sym built.whole) in
+    let goal : wanted t checked.image checked.regions built.content ≡ wanted t built.image built.regions built.content =
+    wanted_same t checked.image built.image checked.regions built.regions built.content
+    (image_same t.hex checked.image built.image named.imaged.spelled own.imaged.spelled)
+    (regions_same t.layout checked.regions built.regions named.layout own.layout) in
+    built_is_right one t len before after x y report built checked.steps v checked.script
+    (subst (λ (wish : List ℕ). IsWorst built.m start built.content wish checked.steps v) goal
+    (subst (λ (holds : List ℕ). IsWorst built.m start holds (wanted t checked.image checked.regions holds) checked.steps v) content
+    (subst (λ (n : Parameters). IsWorst n start checked.content (wanted t checked.image checked.regions checked.content) checked.steps v) m checked.worst)))

@@ -1,0 +1,2 @@
+pub mod BuiltLemmas
+pub mod PlayLemmas

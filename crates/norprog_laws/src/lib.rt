@@ -1,0 +1,27 @@
+//! What a build, a check and a play say of each other. Each function asks for laws of the definitions and does nothing else:
+//! its contract is the law.
+#![tactic(auto)]
+
+ghost use Rattle.norprog_laws.specs.Checked.{BuiltIsRight, BuiltIsChecked};
+ghost use Rattle.norprog_laws.specs.Played.{BuiltPlays};
+
+use nor_laws::script_texts;
+
+/// Of what a build wrote, a check says yes: whatever steps the text that it appended spells, the worst verdict on them, on the
+/// chips, content and target of the build, is Yes; and Yes is what a check says of that text, for the same inputs, on a reader
+/// that has the same bytes ahead and tells them.
+pub fn built_scripts()
+    ensures right { BuiltIsRight }
+    ensures checked { BuiltIsChecked }
+{
+    script_texts();
+}
+
+/// The script of a build reads back and plays: its text spells just the built steps, and a play of them with any limit on
+/// polls, on any chip of the inputs that has the content that was read, leaves the target. Or it stops because a poll said
+/// busy up to the limit, and for no other cause.
+pub fn built_plays()
+    ensures { BuiltPlays }
+{
+    script_texts();
+}

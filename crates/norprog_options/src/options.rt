@@ -1,0 +1,142 @@
+//! What stands on a command line, read by the command line library.
+
+ghost use Rattle.std.specs.Prelude.{IfOk};
+ghost use Rattle.clap.specs.Words.{found_of};
+ghost use Rattle.norprog_options.specs.Options.{IsJobIn, IsChipIn, IsRunIn, IsAsked, IsAskedBySome};
+
+use crate::arguments::norprog;
+use clap::error::ErrorKind;
+use clap::{ArgMatches, Error};
+use nor_base::Bytes;
+use norprog_words::{Given, GivenBuild, GivenCheck, GivenChip, GivenRun, Refusal};
+use std::alloc::Global;
+
+/// What stands on a command line, by its command.
+#[derive(Drop)]
+pub enum Asked<'a> {
+    Build(GivenBuild<'a>),
+    Plan(Given<'a>),
+    Check(GivenCheck<'a>),
+    Run(GivenRun<'a>),
+    Sfdp(GivenChip<'a>),
+}
+
+/// Reads the words behind the program's name, by the command line library. Each value is the text of the option of its name.
+///
+/// A fault of the words, and a request for help, is `Text` of that library; where it names no command, `Usage`; `Memory` where
+/// a growth is refused.
+pub fn asked_by<'a>(alloc: Global, words: &'a [String]) -> Result<Asked<'a>, Refusal>
+    ensures { IfOk result IsAskedBySome }
+{
+    let command = norprog(alloc)?;
+    match command.try_get_matches_from(words) {
+        Ok(matches) => asked_in(alloc, &matches),
+        Err(error) => Err(refusal_of(alloc, &error)),
+    }
+}
+
+/// What the matches of a command line ask for.
+fn asked_in<'a>(alloc: Global, matches: &ArgMatches<'a>) -> Result<Asked<'a>, Refusal>
+    ensures { IfOk result (IsAsked matches.now) }
+{
+    if let Some(build) = matches.subcommand_matches("build") {
+        return Ok(Asked::Build(GivenBuild {
+            job: given_in(alloc, build)?,
+            out: build.get_str("out"),
+        }));
+    }
+    if let Some(plan) = matches.subcommand_matches("plan") {
+        return Ok(Asked::Plan(given_in(alloc, plan)?));
+    }
+    if let Some(check) = matches.subcommand_matches("check") {
+        return Ok(Asked::Check(GivenCheck {
+            job: given_in(alloc, check)?,
+            script: check.get_str("script"),
+        }));
+    }
+    if let Some(run) = matches.subcommand_matches("run") {
+        return Ok(Asked::Run(run_in(run)));
+    }
+    match matches.subcommand_matches("sfdp") {
+        Some(chip) => Ok(Asked::Sfdp(chip_in(chip))),
+        None => Err(Refusal::Usage),
+    }
+}
+
+/// The library's text, or want of memory.
+fn refusal_of(alloc: Global, error: &Error) -> Refusal {
+    if error.kind() == ErrorKind::OutOfMemory {
+        return Refusal::MEMORY;
+    }
+    match format!(in alloc; "{error}") {
+        Ok(text) => Refusal::Text(text),
+        Err(_) => Refusal::MEMORY,
+    }
+}
+
+/// The job. An option that the command doesn't have isn't given.
+fn given_in<'a>(alloc: Global, job: &ArgMatches<'a>) -> Result<Given<'a>, Refusal>
+    ensures { IfOk result (IsJobIn (found_of job.now)) }
+{
+    Ok(Given {
+        hex: job.get_str("hex"),
+        layout: job.get_str("layout"),
+        sfdp: job.get_str("sfdp"),
+        uniform: job.get_str("uniform"),
+        bits: job.get_str("bits"),
+        part: job.get_str("part"),
+        status: job.get_str("status"),
+        mode4: job.get_flag("mode4"),
+        quad: job.get_flag("quad"),
+        base: job.get_str("base"),
+        content: job.get_str("content"),
+        verify: job.get_flag("verify"),
+        erased_only: job.get_flag("erased-only"),
+        regions: regions_in(alloc, job)?,
+    })
+}
+
+/// The chip.
+fn chip_in<'a>(chip: &ArgMatches<'a>) -> GivenChip<'a>
+    ensures { IsChipIn (found_of chip.now) result }
+{
+    GivenChip {
+        sfdp: chip.get_str("sfdp"),
+        uniform: chip.get_str("uniform"),
+        bits: chip.get_str("bits"),
+        part: chip.get_str("part"),
+    }
+}
+
+/// The play.
+fn run_in<'a>(run: &ArgMatches<'a>) -> GivenRun<'a>
+    ensures { IsRunIn (found_of run.now) result }
+{
+    GivenRun {
+        sfdp: run.get_str("sfdp"),
+        uniform: run.get_str("uniform"),
+        bits: run.get_str("bits"),
+        part: run.get_str("part"),
+        status: run.get_str("status"),
+        mode4: run.get_flag("mode4"),
+        quad: run.get_flag("quad"),
+        erased_only: run.get_flag("erased-only"),
+        content: run.get_str("content"),
+        script: run.get_str("script"),
+        busy: run.get_str("busy"),
+        keep: run.get_flag("keep"),
+        limit: run.get_str("limit"),
+        page: run.get_str("page"),
+        out: run.get_str("out"),
+    }
+}
+
+/// The names of regions, in their order.
+fn regions_in(alloc: Global, job: &ArgMatches<'_>) -> Result<Vec<Bytes>, Refusal> {
+    let mut regions = Vec::new(alloc);
+    for name in job.get_strs("regions").unwrap_or(&[]) {
+        let bytes = Vec::from_slice(alloc, name.as_bytes())?;
+        regions.push(Bytes::new(bytes))?;
+    }
+    Ok(regions)
+}

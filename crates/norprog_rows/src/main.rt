@@ -1,0 +1,25 @@
+//! Command lines of norprog as rows of data, each with the answer that it is to have.
+//!
+//! Standard input names files of rows, one a line, in the form of `nor_samples::rows`. A row is one of norprog's commands
+//! ([`commands`]), a job from its image to what chips hold after it ([`jobs`]), or makes or shows a file ([`files`]). A row
+//! that isn't answered as it says is told with its line, and of each file the number of those that are.
+#![tactic(auto)]
+
+mod commands;
+mod files;
+mod jobs;
+mod line;
+mod order;
+mod program;
+mod rows;
+mod scripts;
+
+use std::io;
+
+fn main(rt: HostRuntime) -> io::Result<()> {
+    for name in rt.lines(rt.alloc()) {
+        let name = name?;
+        rows::do_file(&rt, name.as_str())?;
+    }
+    Ok(())
+}

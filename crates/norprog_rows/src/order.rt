@@ -1,0 +1,65 @@
+//! The order in which the causes of a refusal are looked at.
+
+use crate::commands::command;
+use std::alloc::AllocError;
+use std::io;
+
+/// Does a command with each set of causes, of which the first is to be told: the words are its line without these causes.
+///
+/// Each line that is handed over is a cause, in the order of looking, in three parts with `|` between them: the refusal that
+/// tells it, the words that are given without it, and those with it. Found is for how many sets that is told, and what is
+/// answered in another's place.
+pub(crate) fn order(
+    rt: &HostRuntime,
+    words: &str,
+    given: &[&str],
+    found: &mut String,
+) -> io::Result<()> {
+    let sets = given.iter().fold(1u64, |sets, _| sets.saturating_mul(2));
+    let mut good = 0u64;
+    for set in 1..sets {
+        if tells_first(rt, words, given, set, found)? {
+            good = good.saturating_add(1);
+        }
+    }
+    Ok(writeln!(found, "{good} sets")?)
+}
+
+/// Whether the first cause of a set is told, whose lowest bit is the first line's.
+fn tells_first(
+    rt: &HostRuntime,
+    words: &str,
+    given: &[&str],
+    set: u64,
+    found: &mut String,
+) -> io::Result<bool> {
+    let alloc = rt.alloc();
+    let mut line = String::from_str(alloc, words)?;
+    let told = push_causes(&mut line, given, set)?;
+    let want = format!(in alloc; "norprog: {told}\nstatus 1\n")?;
+    let (word, rest) = line.as_str().split_once(' ').unwrap_or(("", ""));
+    let mut answer = String::new(alloc);
+    command(rt, word, rest, &mut answer)?;
+    if answer.as_str() == want.as_str() {
+        return Ok(true);
+    }
+    write!(found, "{line}: {answer}")?;
+    Ok(false)
+}
+
+/// Pushes the words of each cause, as it is in the set or not. Answers what tells the first that is.
+fn push_causes<'a>(line: &mut String, given: &[&'a str], set: u64) -> Result<&'a str, AllocError> {
+    let mut told = None;
+    let mut left = set;
+    for cause in given {
+        let (refusal, ways) = cause.split_once('|').unwrap_or(("", ""));
+        let (without, with) = ways.split_once('|').unwrap_or(("", ""));
+        let is_there = left % 2 == 1;
+        left /= 2;
+        line.push_str(if is_there { with } else { without })?;
+        if is_there && told.is_none() {
+            told = refusal.strip_prefix("> ");
+        }
+    }
+    Ok(told.unwrap_or("").trim())
+}

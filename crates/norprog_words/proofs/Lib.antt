@@ -1,0 +1,3 @@
+mod NumberLemmas
+mod LineLemmas
+pub mod ToldLemmas

@@ -1,0 +1,6 @@
+pub mod Values
+pub mod Chip
+pub mod Lines
+pub mod Files
+pub mod Told
+pub mod Wrongs

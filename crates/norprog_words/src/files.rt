@@ -1,0 +1,120 @@
+//! The files that a command line names.
+
+ghost use Rattle.std.specs.Prelude.{◌≤◌, ◌^◌, length, IfOk, IfErr};
+ghost use Rattle.norprog_words.specs.declared.faults.FileName.TheVariants.{Out};
+ghost use Rattle.norprog_words.specs.Files.{RefusesFile, IsOfFiles};
+
+use crate::faults::{FileName, Refusal};
+use std::alloc::Global;
+use std::fs::{self, Files, OpenFile};
+use std::io::{self, Read};
+use std::os::unix::fs::MetadataExt;
+
+/// A file of more bytes counts as one that couldn't be read.
+const MOST_BYTES: u64 = 1 << 36;
+
+/// Which file of the system it is, by whatever name it was opened.
+#[derive(Clone, Copy, Debug, PartialEq, Eq)]
+pub struct Place {
+    device: u64,
+    inode: u64,
+}
+
+/// Opens a file and reads it whole; answers its bytes, at most 2^36, and which file it is.
+///
+/// Where it can't be opened, is a folder or has more bytes, and where a read fails, `File` of `name`; `Memory` where a growth
+/// is refused.
+pub fn read_whole<R: Files>(
+    rt: &R,
+    alloc: Global,
+    path: &str,
+    name: FileName,
+) -> Result<(Vec<u8>, Place), Refusal>
+    ensures length { IfOk result (λ read. length read.0.items ≤ 2 ^ 36) }
+    ensures refused { IfErr result (RefusesFile name) }
+    ensures files { IfErr result IsOfFiles }
+{
+    let (mut file, place, len) = open_input(rt, path, name)?;
+    if len > MOST_BYTES {
+        return Err(Refusal::File(name));
+    }
+    let mut bytes = Vec::new(alloc);
+    match (&mut file).take(MOST_BYTES + 1).read_to_end(&mut bytes) {
+        Ok(_) => {}
+        Err(error) => return Err(refusal_of(&error, name)),
+    }
+    if bytes.len() as u64 > MOST_BYTES {
+        return Err(Refusal::File(name));
+    }
+    Ok((bytes, place))
+}
+
+/// Opens a file that isn't a folder, and answers which one it is and its length in bytes.
+///
+/// Where it can't be opened or asked, and where it is a folder, `File` of `name`; `Memory` where the system says that it lacks
+/// that.
+pub fn open_input<R: Files>(
+    rt: &R,
+    path: &str,
+    name: FileName,
+) -> Result<(R::File, Place, u64), Refusal>
+    ensures refused { IfErr result (RefusesFile name) }
+    ensures files { IfErr result IsOfFiles }
+{
+    let file = match fs::open(rt, path) {
+        Ok(file) => file,
+        Err(error) => return Err(refusal_of(&error, name)),
+    };
+    let metadata = match file.metadata() {
+        Ok(metadata) => metadata,
+        Err(error) => return Err(refusal_of(&error, name)),
+    };
+    if metadata.is_dir() {
+        return Err(Refusal::File(name));
+    }
+    let place = Place {
+        device: metadata.dev(),
+        inode: metadata.ino(),
+    };
+    let len = metadata.len();
+    Ok((file, place, len))
+}
+
+/// Makes the output file, or empties the one that is there, unless it is one of the inputs.
+///
+/// Where it is, and where it can't be made, `File` of `Out`; `Memory` where the system says that it lacks that.
+pub fn create_output<R: Files>(rt: &R, path: &str, inputs: &[Place]) -> Result<R::File, Refusal>
+    ensures refused { IfErr result (RefusesFile Out) }
+    ensures files { IfErr result IsOfFiles }
+{
+    if is_input(rt, path, inputs) {
+        return Err(Refusal::File(FileName::Out));
+    }
+    match fs::create(rt, path) {
+        Ok(file) => Ok(file),
+        Err(error) => Err(refusal_of(&error, FileName::Out)),
+    }
+}
+
+/// Whether the file of this name is there and is one of the inputs.
+fn is_input<R: Files>(rt: &R, path: &str, inputs: &[Place]) -> bool {
+    match fs::metadata(rt, path) {
+        Ok(metadata) => inputs.contains(&Place {
+            device: metadata.dev(),
+            inode: metadata.ino(),
+        }),
+        Err(_) => false,
+    }
+}
+
+/// Want of memory is that; any other error says that the file can't be used.
+fn refusal_of(error: &io::Error, name: FileName) -> Refusal
+    ensures refused { RefusesFile name result }
+    ensures files { IsOfFiles result }
+{
+    if error.kind() == io::ErrorKind::OutOfMemory {
+        Refusal::MEMORY
+    } else {
+        Refusal::File(name)
+    }
+}

@@ -1,0 +1,65 @@
+//! What stands on a command line: the texts of its values, as they were written.
+
+use nor_base::Bytes;
+
+/// Of the job to be done, of whichever command.
+#[derive(Drop)]
+pub struct Given<'a> {
+    pub hex: Option<&'a str>,
+    pub layout: Option<&'a str>,
+    pub sfdp: Option<&'a str>,
+    pub uniform: Option<&'a str>,
+    pub bits: Option<&'a str>,
+    pub part: Option<&'a str>,
+    pub status: Option<&'a str>,
+    pub mode4: bool,
+    pub quad: bool,
+    pub base: Option<&'a str>,
+    pub content: Option<&'a str>,
+    pub verify: bool,
+    pub erased_only: bool,
+    pub regions: Vec<Bytes>,
+}
+
+/// Of `build`: the job, and the name of the script's file.
+#[derive(Drop)]
+pub struct GivenBuild<'a> {
+    pub job: Given<'a>,
+    pub out: Option<&'a str>,
+}
+
+/// Of `check`: the job, and the name of the script's file.
+#[derive(Drop)]
+pub struct GivenCheck<'a> {
+    pub job: Given<'a>,
+    pub script: Option<&'a str>,
+}
+
+/// Of `sfdp`.
+#[derive(Clone, Copy)]
+pub struct GivenChip<'a> {
+    pub sfdp: Option<&'a str>,
+    pub uniform: Option<&'a str>,
+    pub bits: Option<&'a str>,
+    pub part: Option<&'a str>,
+}
+
+/// Of `run`.
+#[derive(Clone, Copy)]
+pub struct GivenRun<'a> {
+    pub sfdp: Option<&'a str>,
+    pub uniform: Option<&'a str>,
+    pub bits: Option<&'a str>,
+    pub part: Option<&'a str>,
+    pub status: Option<&'a str>,
+    pub mode4: bool,
+    pub quad: bool,
+    pub erased_only: bool,
+    pub content: Option<&'a str>,
+    pub script: Option<&'a str>,
+    pub busy: Option<&'a str>,
+    pub keep: bool,
+    pub limit: Option<&'a str>,
+    pub page: Option<&'a str>,
+    pub out: Option<&'a str>,
+}

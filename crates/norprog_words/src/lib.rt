@@ -1,0 +1,17 @@
+//! What the commands of norprog have in common: what stands on a command line, the forms of its values, the chip and the files
+//! that it names, refusals with their lines and statuses, and the numbers of what goes wrong (docs/FORMATS.md, section 9).
+#![tactic(auto)]
+
+mod chip;
+mod faults;
+mod files;
+mod given;
+mod values;
+mod wrongs;
+
+pub use chip::{Chip, chip_of, optional_status, source_of};
+pub use faults::{FileName, Refusal, refuse};
+pub use files::{Place, create_output, open_input, read_whole};
+pub use given::{Given, GivenBuild, GivenCheck, GivenChip, GivenRun};
+pub use values::{base, decimal, part};
+pub use wrongs::wrong_number;
