@@ -2,7 +2,7 @@
 
 use crate::samples::{Sample, meaning_of};
 use crate::words::ODD;
-use crate::{chips, clocks, meanings, scripts, verdicts};
+use crate::{chips, clocks, listings, meanings, scripts, verdicts};
 use nor_chip::Chip;
 use nor_samples::rows::Row;
 use std::alloc::Global;
@@ -43,6 +43,7 @@ impl<'a> Bench<'a> {
             "fronts" => scripts::read_fronts(self.alloc, row.given, out),
             "writable" => scripts::tell_writable(self.alloc, row.given, out),
             "written" => scripts::write_all(self.alloc, row, out),
+            "listing" => listings::tell(self, row, out),
             "chip" => chips::transact(self, row, out),
             "play" => chips::play_on(self, row, out),
             "check" => verdicts::tell(self, row, out),

@@ -1,4 +1,4 @@
-//! Rows of data on symbols, meanings, instructions, scripts, chips, plays and verdicts, each with the answer that it is to
+//! Rows of data on symbols, meanings, instructions, scripts, listings, chips, plays and verdicts, each with the answer that it is to
 //! have.
 //!
 //! Standard input names files of rows, one a line. Of each file it is printed how many of its rows are answered as they
@@ -8,6 +8,7 @@
 mod bench;
 mod chips;
 mod clocks;
+mod listings;
 mod meanings;
 mod samples;
 mod scripts;

@@ -30,7 +30,7 @@ pub(crate) fn read_text(alloc: Global, given: &[&str], out: &mut String) -> io::
 }
 
 /// Bytes as text.
-fn text<'b>(bytes: &'b [u8]) -> &'b str {
+pub(crate) fn text<'b>(bytes: &'b [u8]) -> &'b str {
     str::from_utf8(bytes).unwrap_or("no text")
 }
 

@@ -1,0 +1,65 @@
+//! Numbers and bytes in lower-case hexadecimal digits.
+
+ghost use Rattle.std.specs.Prelude.{◌≡◌, ◌*◌, ◌<◌, ◌≤◌, ◌-◌, ◌^◌, length, flat_map};
+ghost use Rattle.nor_base.specs.Device.{Writes, Counts};
+ghost use Rattle.nor_base.specs.Script.{hex_pair};
+ghost use Rattle.nor_listing.specs.Listing.{hex_number};
+
+use nor_base::{ByteOut, Failed, put_all};
+
+/// How many bytes' digits go out at a time.
+pub(crate) const PART: usize = 128;
+
+/// A byte in two digits.
+pub(crate) fn hex_pair(byte: u8) -> [u8; 2]
+    ensures { result ≡ hex_pair byte }
+{
+    let mut digits = [0; 2];
+    encode(&[byte], &mut digits);
+    digits
+}
+
+/// A number in eight digits, the highest first.
+#[tactic(auto, unfolding(crate::specs::Listing::hex_number))]
+pub(crate) fn hex_number(number: u32) -> [u8; 8]
+    ensures { result ≡ hex_number number }
+{
+    let mut digits = [0; 8];
+    encode(&number.to_be_bytes(), &mut digits);
+    digits
+}
+
+/// Puts two digits for each byte.
+pub(crate) fn put_hexadecimal<W: ByteOut>(bytes: &[u8], out: &mut W) -> Result<(), Failed>
+    requires { W.count out.old < 2 ^ 64 - 1 }
+    ensures bytes { Writes (W.held out.old) (W.held out.new) result (flat_map hex_pair bytes.now) }
+    ensures count { Counts (W.count out.old) (W.count out.new) result }
+{
+    let mut done = 0;
+    while done < bytes.len() {
+        let count = (bytes.len() - done).min(PART);
+        put_part(&bytes[done..done + count], out)?;
+        done += count;
+    }
+    Ok(())
+}
+
+/// Puts two digits for each of at most [`PART`] bytes.
+pub(crate) fn put_part<W: ByteOut>(bytes: &[u8], out: &mut W) -> Result<(), Failed>
+    requires few { length bytes.now ≤ 128 }
+    requires room { W.count out.old < 2 ^ 64 - 1 }
+    ensures bytes { Writes (W.held out.old) (W.held out.new) result (flat_map hex_pair bytes.now) }
+    ensures count { Counts (W.count out.old) (W.count out.new) result }
+{
+    let mut digits = [0; 2 * PART];
+    let digits = &mut digits[..2 * bytes.len()];
+    encode(bytes, digits);
+    put_all(out, digits)
+}
+
+fn encode(bytes: &[u8], digits: &mut [u8])
+    requires { length digits.old ≡ 2 * length bytes.now }
+    ensures { digits.new ≡ flat_map hex_pair bytes.now }
+{
+    let _ = hex::encode_to_slice(bytes, digits);
+}

@@ -1,0 +1,17 @@
+//! The listing of a bus script, which a person can read: the chip and the address mode that it is read with, a line for each
+//! step, an end line with the number of steps, each closed by one LF. A line tells its step exactly. `docs/FORMATS.md`,
+//! "Listing", has the format.
+//!
+//! [`write_listing`] writes the listing of steps that are at hand. [`begin`], then [`write_line`] for each step as it comes,
+//! then [`finish`] with their number write the same. None of them takes memory.
+#![tactic(auto)]
+
+mod hexadecimal;
+mod line;
+mod sent;
+mod verified;
+mod writer;
+
+pub use line::write_line;
+pub use nor_script::finish;
+pub use writer::{begin, write_listing};

@@ -1,0 +1,68 @@
+//! The writer of listings.
+
+ghost use Rattle.std.specs.Prelude.{◌≡◌, ◌<◌, ◌-◌, ◌^◌};
+ghost use Rattle.nor_base.specs.Chip.{begins4};
+ghost use Rattle.nor_base.specs.Device.{Writes, Counts};
+ghost use Rattle.nor_listing.specs.Listing.{chip_line, lines_from, listing};
+
+use crate::line::write_line;
+use itoa::Buffer;
+use nor_base::{ByteOut, Failed, Meaning, Start, Step, put_parts};
+use nor_script::finish;
+
+/// Writes the listing of steps: the chip and its first address mode, a line for each step, and `end N` with their number. The
+/// mode is that of the start until an Enter (B7h) or Leave (E9h) that is sent. It takes no memory.
+///
+/// At `Failed` a proper prefix was taken; it comes from the writer alone, whose count of failures rose by one.
+pub fn write_listing<W: ByteOut>(
+    meaning: &Meaning,
+    start: &Start,
+    steps: &[Step],
+    out: &mut W,
+) -> Result<(), Failed>
+    requires { W.count out.old < 2 ^ 64 - 1 }
+    ensures bytes { Writes (W.held out.old) (W.held out.new) result (listing meaning.now (begins4 meaning.now start.now) steps.now) }
+    ensures count { Counts (W.count out.old) (W.count out.new) result }
+{
+    let mode4 = meaning.begins4(start);
+    begin(meaning, mode4, out)?;
+    put_lines(meaning, mode4, steps, out)?;
+    finish(steps.len() as u64, out)
+}
+
+/// Writes the first line: `chip N three`, or `chip N four` where the chip begins in four-byte address mode. N is its size in
+/// bytes.
+///
+/// At `Failed` a proper prefix was taken; it comes from the writer alone, whose count of failures rose by one.
+#[tactic(auto, unfolding(crate::specs::Listing::chip_line))]
+pub fn begin<W: ByteOut>(meaning: &Meaning, mode4: bool, out: &mut W) -> Result<(), Failed>
+    requires { W.count out.old < 2 ^ 64 - 1 }
+    ensures bytes { Writes (W.held out.old) (W.held out.new) result (chip_line meaning.now mode4) }
+    ensures count { Counts (W.count out.old) (W.count out.new) result }
+{
+    let mut digits = Buffer::new();
+    let size = digits.format(meaning.size).as_bytes();
+    if mode4 {
+        put_parts(out, &[b"chip ", size, b" four\n"])
+    } else {
+        put_parts(out, &[b"chip ", size, b" three\n"])
+    }
+}
+
+/// Writes the lines of steps, from an address mode on.
+fn put_lines<W: ByteOut>(
+    meaning: &Meaning,
+    mode4: bool,
+    steps: &[Step],
+    out: &mut W,
+) -> Result<(), Failed>
+    requires { W.count out.old < 2 ^ 64 - 1 }
+    ensures bytes { Writes (W.held out.old) (W.held out.new) result (lines_from meaning.now 0 mode4 steps.now) }
+    ensures count { Counts (W.count out.old) (W.count out.new) result }
+{
+    let mut mode4 = mode4;
+    for (number, step) in steps.iter().enumerate() {
+        mode4 = write_line(meaning, number as u64, mode4, step, out)?;
+    }
+    Ok(())
+}
