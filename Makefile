@@ -13,9 +13,11 @@ build:
 	@cp crates/norprog_cli/out/norprog_cli norprog
 	@echo "proved and built: ./norprog"
 
-# the merge gate: that docs/ARCHITECTURE.md says what is so; then every proof, must-fail edit and test, from nothing
+# the merge gate: that docs/ARCHITECTURE.md and docs/HEADLINE.md say what is so; then every proof, must-fail edit and test, from
+# nothing
 test:
 	@tools/architecture
+	@tools/headline
 	rt ci
 
 # tries every must-fail edit, also those that the gate doesn't: make edits, or make edits CRATES="nor_hex nor_sfdp"

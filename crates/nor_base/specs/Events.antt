@@ -1,5 +1,5 @@
 -- What was seen in a run: each transaction with its step, the instruction that it was, and the chip after it (this project's).
-use Rattle.std.specs.Prelude.{◌≡◌, ℕ, zero, suc, Bool, true, false, ◌+◌, ◌<◌, nat_le, nat_lt, ◌&&◌, ◌||◌, if◌then◌else◌, List, [], ◌∷◌, ◌++◌, Option, Some, Result, Ok, Err, slice_get, slice_range}
+use Rattle.std.specs.Prelude.{◌≡◌, ℕ, zero, suc, Bool, true, false, ◌+◌, ◌<◌, nat_le, nat_lt, ◌&&◌, ◌||◌, if◌then◌else◌, List, [], ◌∷◌, ◌++◌, Option, Some, Result, Ok, Err, slice_get, slice_range, count_by}
 use Rattle.std.specs.List.{list_any}
 use Rattle.std.specs.Option.{option_map_or}
 use Rattle.std.specs.Str.{bytes_eq}
@@ -11,7 +11,7 @@ use Rattle.nor_base.specs.declared.wrong.Wrong.{Wrong}
 use Rattle.nor_base.specs.Parameters.{Parameters, block_size}
 use Rattle.nor_base.specs.Decoding.{Instruction, decode}
 use Rattle.nor_base.specs.Chip.{Setting, Chip, ready}
-use Rattle.nor_base.specs.Effect.{effect, is_read, written}
+use Rattle.nor_base.specs.Effect.{effect, is_program, is_read, written}
 use Rattle.nor_base.specs.Run.{poll_clocks, says_busy, is_verify, step}
 
 pub record Event : Type 0 where
@@ -66,6 +66,21 @@ reads_address a i = is_read i.what && (nat_le i.address a && nat_lt a (i.address
 -- an address that a run erased
 abbrev pub is_erased_by : Setting → List Event → ℕ → Bool
 is_erased_by s seen a = list_any (λ e. option_map_or (λ i. erases_address s.meaning a i i.what) e.seen false) seen
+
+-- how many transactions erase an address
+abbrev pub times_erased : Setting → List Event → ℕ → ℕ
+times_erased s seen a = count_by (λ e. option_map_or (λ i. erases_address s.meaning a i i.what) e.seen false) seen
+
+abbrev pub is_erase : What → Bool
+is_erase (what.Erase kind) = true
+is_erase other = false
+
+-- how many transactions are erases, and how many programs, on one lane or on four
+abbrev pub erases_seen : List Event → ℕ
+erases_seen seen = count_by (λ e. option_map_or (λ i. is_erase i.what) e.seen false) seen
+
+abbrev pub programs_seen : List Event → ℕ
+programs_seen seen = count_by (λ e. option_map_or (λ i. is_program i.what) e.seen false) seen
 
 -- the event erases or programs the address
 abbrev pub changes_address : Setting → ℕ → Event → Bool

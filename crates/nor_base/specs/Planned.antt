@@ -1,13 +1,23 @@
 -- The planned work of a content and its target (this project's).
-use Rattle.std.specs.Prelude.{◌≡◌, ◌⊎◌, ℕ, Bool, ◌+◌, ◌<◌, ◌≤◌, List, [], ◌∷◌, flat_map, slice_index}
+use Rattle.std.specs.Prelude.{◌≡◌, ◌⊎◌, ℕ, Bool, false, ◌+◌, ◌<◌, ◌≤◌, List, [], ◌∷◌, length, flat_map, slice_index}
 use Rattle.nor_base.specs.declared.meaning.Start.{Start}
 use Rattle.nor_base.specs.declared.step.Step.{Step}
 use Rattle.nor_base.specs.Parameters.{Parameters}
+use Rattle.nor_base.specs.Accepted.{IsAccepted}
 use Rattle.nor_base.specs.Chip.{begins4}
+use Rattle.nor_base.specs.Need.{is_at_fault}
 use Rattle.nor_base.specs.Strategies.{strategy}
 use Rattle.nor_base.specs.Units.{WorkUnit, units}
 use Rattle.nor_base.specs.Spelling.{Instr, AreStepsOf}
 use Rattle.nor_base.specs.Operations.{Op, unit_ops, lowered}
+
+-- a content and a target of a chip's size, the target of bytes, and no address at fault
+pub record IsWorkable (m : Parameters) (start : Start) (have want : List ℕ) : Type 0 where
+  pub accepted : IsAccepted m
+  pub have_size : length have ≡ m.size
+  pub want_size : length want ≡ m.size
+  pub bytes : (a : ℕ) → slice_index want a < 256
+  pub sound : (a : ℕ) → a < m.size → is_at_fault m (strategy m start) have want a ≡ false
 
 -- the units, the operations unit after unit, and the instructions of the planned work
 abbrev pub planned_units : Parameters → Start → List ℕ → List ℕ → List WorkUnit

@@ -27,6 +27,12 @@ expected (Send clocks) = []
 expected (Poll clocks) = []
 expected (Verify clocks expect) = expect
 
+-- a step that reads
+abbrev pub verifies : Step → Bool
+verifies (Send clocks) = false
+verifies (Poll clocks) = false
+verifies (Verify clocks expect) = true
+
 -- a step that a script may have; what it expects are bytes
 pub record IsStep (step : Step) : Type 0 where
   pub passes : is_step step ≡ true

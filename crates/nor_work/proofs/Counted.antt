@@ -19,9 +19,8 @@ use Rattle.nor_base.specs.Effect.{has_address}
 use Rattle.nor_base.specs.Strategies.{strategy}
 use Rattle.nor_base.specs.Spelling.{Instr, seen}
 use Rattle.nor_base.specs.Operations.{Op, erases, writes, reads, enable, disable, poll, bare, erasing, programming, reading, instructions, switching_by, entering, leaving, lowered}
-use Rattle.nor_base.specs.Planned.{planned_ops, planned, ArePlanned}
+use Rattle.nor_base.specs.Planned.{planned_ops, planned, ArePlanned, IsWorkable}
 use Rattle.nor_base.specs.Events.{events}
-use Rattle.nor_work.specs.Laws.{IsWorkable}
 use Rattle.nor_work.proofs.Whole.{planned_works}
 use Rattle.nor_work.proofs.Shown.{AreShown, run_shown, IsAddressed, passes, count_none, shown_count}
 

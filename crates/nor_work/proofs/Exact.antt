@@ -20,9 +20,8 @@ use Rattle.nor_base.specs.Programs.{target_bytes}
 use Rattle.nor_base.specs.Units.{WorkUnit, pages, units}
 use Rattle.nor_base.specs.Spelling.{seen}
 use Rattle.nor_base.specs.Operations.{Op, erases, writes, reads, programming, reading, unit_reads, unit_erases, unit_ops}
-use Rattle.nor_base.specs.Planned.{planned_units, planned_ops, ArePlanned}
+use Rattle.nor_base.specs.Planned.{planned_units, planned_ops, ArePlanned, IsWorkable}
 use Rattle.nor_base.specs.Events.{events, erases_address, is_erased_by}
-use Rattle.nor_work.specs.Laws.{IsWorkable}
 use Rattle.nor_work.specs.Runs.{PlannedErasesNeeded}
 use Rattle.nor_work.proofs.Whole.{planned_works}
 use Rattle.nor_work.proofs.Erasing.{erased_for}

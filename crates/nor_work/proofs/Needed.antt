@@ -13,8 +13,8 @@ use Rattle.nor_base.specs.Blocks.{Block, Holds, AreDisjoint, LiesIn, IsLegalBloc
 use Rattle.nor_base.specs.Strategies.{strategy, reaches}
 use Rattle.nor_base.specs.Need.{is_due, is_needed, lies_in_needed, erasable, erased_at}
 use Rattle.nor_base.specs.Units.{unit_by, units_over}
+use Rattle.nor_base.specs.Planned.{IsWorkable}
 use Rattle.nor_laws.proofs.BlockLaws.{blocks_nest}
-use Rattle.nor_work.specs.Laws.{IsWorkable}
 use Rattle.nor_work.specs.Least.{IsErased}
 use Rattle.nor_work.proofs.Best.{best_is, best_bounds, NoneLarger, Among, picked, some_best}
 use Rattle.nor_geometry.proofs.KindLemmas.{legal_kind, size_of}

@@ -15,9 +15,8 @@ use Rattle.nor_base.specs.Need.{is_due, is_needed, levelled}
 use Rattle.nor_base.specs.Units.{WorkUnit}
 use Rattle.nor_base.specs.Spelling.{seen}
 use Rattle.nor_base.specs.Operations.{Op, erases, writes, reads, programming, reading, unit_reads, unit_erases, unit_ops}
-use Rattle.nor_base.specs.Planned.{planned_units, ArePlanned}
+use Rattle.nor_base.specs.Planned.{planned_units, ArePlanned, IsWorkable}
 use Rattle.nor_base.specs.Events.{events}
-use Rattle.nor_work.specs.Laws.{IsWorkable}
 use Rattle.nor_work.specs.Runs.{ErasesOnce}
 use Rattle.nor_work.proofs.Made.{IsSoundBy, AreSoundUnits}
 use Rattle.nor_work.proofs.Whole.{units_sound}

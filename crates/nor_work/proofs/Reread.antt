@@ -12,9 +12,8 @@ use Rattle.nor_base.specs.Need.{is_due, erased_at, levelled}
 use Rattle.nor_base.specs.Programs.{Program, program_end, target_bytes}
 use Rattle.nor_base.specs.Units.{WorkUnit, pages, units}
 use Rattle.nor_base.specs.Operations.{Op, erases, writes, reads, unit_reads, unit_erases, unit_ops}
-use Rattle.nor_base.specs.Planned.{planned_units, planned_ops}
+use Rattle.nor_base.specs.Planned.{planned_units, planned_ops, IsWorkable}
 use Rattle.nor_work.specs.Able.{IsInPage}
-use Rattle.nor_work.specs.Laws.{IsWorkable}
 use Rattle.nor_work.proofs.Ranges.{length-range}
 use Rattle.nor_work.proofs.Made.{ArePut, IsSoundBy, AreSoundUnits}
 use Rattle.nor_work.proofs.Walk.{EndsAt, within, block_ends}

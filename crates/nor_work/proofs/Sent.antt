@@ -20,8 +20,7 @@ use Rattle.nor_base.specs.Need.{differs, is_due, is_beyond, lacks_erase, erased_
 use Rattle.nor_base.specs.Programs.{Program, program_end, target_bytes, span, is_closed, page_programs}
 use Rattle.nor_base.specs.Units.{WorkUnit, pages, page_unit, block_unit, unit_by, units_over, units}
 use Rattle.nor_base.specs.Operations.{writes, reads, takes_dedicated, unit_reads, unit_erases, unit_ops}
-use Rattle.nor_base.specs.Planned.{planned_units, planned_ops}
-use Rattle.nor_work.specs.Laws.{IsWorkable}
+use Rattle.nor_base.specs.Planned.{planned_units, planned_ops, IsWorkable}
 use Rattle.nor_work.proofs.Ranges.{length-range, aligned_le}
 use Rattle.nor_work.proofs.Driven.{CanBeErased, CanBeWritten, CanBeDone, within}
 use Rattle.nor_work.proofs.Made.{ArePut, EndBy, IsSoundBy, IsSoundUnit, AreSoundUnits}

@@ -11,8 +11,8 @@ use Rattle.nor_base.specs.Accepted.{IsAccepted}
 use Rattle.nor_base.specs.Blocks.{Block, block_holds, block_at, is_legal, smallest}
 use Rattle.nor_base.specs.Strategies.{strategy}
 use Rattle.nor_base.specs.Need.{differs, is_due, is_needed, lacks_erase, is_at_fault}
+use Rattle.nor_base.specs.Planned.{IsWorkable}
 use Rattle.nor_base.proofs.UniformAccepted.{uniform_accepted}
-use Rattle.nor_work.specs.Laws.{IsWorkable}
 use Rattle.nor_work.specs.Exists.{ThereIsPlannedWork}
 use Rattle.nor_work.specs.Small.{small_chip, small_start, small_have, small_want, SmallIsWorkable, SmallWorkErases}
 use Rattle.nor_work.proofs.Whole.{planned_works}

@@ -20,7 +20,9 @@ use Rattle.nor_base.specs.Units.{WorkUnit}
 use Rattle.nor_base.specs.Spelling.{Instr, seen, IsStepBy, AreStepsOf, mode_after}
 use Rattle.nor_base.specs.Operations.{Op, erases, writes, reads, programming, reading, unit_reads, unit_erases, unit_ops}
 use Rattle.nor_base.specs.Planned.{planned_units, planned_ops, planned}
-use Rattle.nor_work.specs.Runs.{verifies, is_erase, NoneVerifies, ErasesCounted, ProgramsCounted}
+use Rattle.nor_base.specs.Step.{verifies}
+use Rattle.nor_base.specs.Events.{is_erase}
+use Rattle.nor_work.specs.Runs.{NoneVerifies, ErasesCounted, ProgramsCounted}
 use Rattle.nor_work.proofs.Lists.{all_flat, all_of, all_each, any_none, sum_flat, sum_same}
 use Rattle.nor_work.proofs.Shown.{count_none}
 use Rattle.nor_work.proofs.Chosen.{programming_programs, reading_reads}

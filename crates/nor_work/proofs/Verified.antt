@@ -15,9 +15,8 @@ use Rattle.nor_base.specs.Effect.{is_status, is_read}
 use Rattle.nor_base.specs.Strategies.{strategy}
 use Rattle.nor_base.specs.Spelling.{Instr, seen, IsReadBy, IsStepBy, AreStepsOf, mode_after}
 use Rattle.nor_base.specs.Operations.{poll}
-use Rattle.nor_base.specs.Planned.{planned, planned_ops, ArePlanned}
+use Rattle.nor_base.specs.Planned.{planned, planned_ops, ArePlanned, IsWorkable}
 use Rattle.nor_base.specs.Events.{Event, events, erases_address, programs_address, changes_address, VerifiesAddress, IsReadLater, IsVerified}
-use Rattle.nor_work.specs.Laws.{IsWorkable}
 use Rattle.nor_work.specs.Runs.{PlannedIsVerified}
 use Rattle.nor_work.proofs.Shown.{ShownBy, AreShown}
 use Rattle.nor_work.proofs.Counted.{planned_shown}

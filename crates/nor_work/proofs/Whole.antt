@@ -11,9 +11,8 @@ use Rattle.nor_base.specs.Chip.{Setting, IsChipOf, may_page}
 use Rattle.nor_base.specs.Strategies.{strategy}
 use Rattle.nor_base.specs.Need.{is_due, erased_at, levelled}
 use Rattle.nor_base.specs.Units.{WorkUnit, units}
-use Rattle.nor_base.specs.Planned.{planned_units, planned_ops, ArePlanned, IsInTheMaking}
+use Rattle.nor_base.specs.Planned.{planned_units, planned_ops, ArePlanned, IsInTheMaking, IsWorkable}
 use Rattle.nor_base.proofs.ArrayLaws.{slice_index-each}
-use Rattle.nor_work.specs.Laws.{IsWorkable}
 use Rattle.nor_work.proofs.Lowered.{Works, lowered_works}
 use Rattle.nor_work.proofs.Made.{AreSoundUnits, units_lead}
 use Rattle.nor_work.proofs.Walk.{IsSetting, EndsAt, ends_at, all_sound}

@@ -4,9 +4,8 @@ use Rattle.nor_base.specs.declared.meaning.Start.{Start}
 use Rattle.nor_base.specs.declared.step.Step.{Step}
 use Rattle.nor_base.specs.Parameters.{Parameters}
 use Rattle.nor_base.specs.Chip.{begins4}
-use Rattle.nor_base.specs.Planned.{planned, ArePlanned}
+use Rattle.nor_base.specs.Planned.{planned, ArePlanned, IsWorkable}
 use Rattle.nor_base.specs.Clocks.{CanAllBeSpelled}
-use Rattle.nor_work.specs.Laws.{IsWorkable}
 
 -- the chip has each planned instruction, in the mode at its place, and each fits its clocks
 abbrev pub PlannedCanBeSpelled : Type 0

@@ -1,23 +1,12 @@
 -- Laws of the planned work.
-use Rattle.std.specs.Prelude.{◌≡◌, ℕ, Bool, false, ◌<◌, List, length, slice_index}
+use Rattle.std.specs.Prelude.{ℕ, Bool, List}
 use Rattle.std.specs.List.{AllByRecursion}
 use Rattle.nor_base.specs.declared.meaning.Start.{Start}
 use Rattle.nor_base.specs.declared.step.Step.{Step}
 use Rattle.nor_base.specs.Parameters.{Parameters}
-use Rattle.nor_base.specs.Accepted.{IsAccepted}
 use Rattle.nor_base.specs.Chip.{Setting, IsChipOf, ready}
 use Rattle.nor_base.specs.Run.{trail, DoesTaskOnEvery}
-use Rattle.nor_base.specs.Strategies.{strategy}
-use Rattle.nor_base.specs.Need.{is_at_fault}
-use Rattle.nor_base.specs.Planned.{ArePlanned, planned_units, IsInTheMaking}
-
--- a content and a target of a chip's size, the target of bytes, and no address at fault
-pub record IsWorkable (m : Parameters) (start : Start) (have want : List ℕ) : Type 0 where
-  pub accepted : IsAccepted m
-  pub have_size : length have ≡ m.size
-  pub want_size : length want ≡ m.size
-  pub bytes : (a : ℕ) → slice_index want a < 256
-  pub sound : (a : ℕ) → a < m.size → is_at_fault m (strategy m start) have want a ≡ false
+use Rattle.nor_base.specs.Planned.{IsWorkable, ArePlanned, planned_units, IsInTheMaking}
 
 -- planned work does the task on every chip
 abbrev pub PlannedDoesTask : Type 0

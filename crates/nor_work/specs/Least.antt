@@ -12,7 +12,7 @@ use Rattle.nor_base.specs.Strategies.{strategy, reaches}
 use Rattle.nor_base.specs.Need.{is_due, is_needed, erased_at}
 use Rattle.nor_base.specs.Units.{units_over}
 use Rattle.nor_base.specs.Events.{events, is_erased_by}
-use Rattle.nor_work.specs.Laws.{IsWorkable}
+use Rattle.nor_base.specs.Planned.{IsWorkable}
 
 -- an address is erased exactly where it is needed
 abbrev pub ErasesNeeded : Type 0

@@ -2,28 +2,20 @@
 use Rattle.std.specs.Prelude.{◌≡◌, ℕ, Bool, true, false, if◌then◌else◌, List, length, is_some}
 use Rattle.std.specs.List.{list_any, count_by, sum_by, range_with_len}
 use Rattle.std.specs.Option.{option_map_or}
-use Rattle.nor_base.specs.declared.instruction.What.{What}
-use Rattle.nor_base.specs.declared.instruction.What.TheVariants as what
 use Rattle.nor_base.specs.declared.meaning.Start.{Start}
 use Rattle.nor_base.specs.declared.step.Step.{Step}
-use Rattle.nor_base.specs.declared.step.Step.TheVariants.{Send, Poll, Verify}
 use Rattle.nor_base.specs.Parameters.{Parameters}
+use Rattle.nor_base.specs.Step.{verifies}
 use Rattle.nor_base.specs.Chip.{Setting, IsChipOf, ready}
-use Rattle.nor_base.specs.Effect.{is_program}
 use Rattle.nor_base.specs.Need.{is_due, is_needed}
-use Rattle.nor_base.specs.Planned.{planned_units, ArePlanned}
-use Rattle.nor_base.specs.Events.{Event, events, erases_address, is_erased_by, IsVerified}
-use Rattle.nor_work.specs.Laws.{IsWorkable}
+use Rattle.nor_base.specs.Planned.{planned_units, ArePlanned, IsWorkable}
+use Rattle.nor_base.specs.Events.{events, is_erased_by, times_erased, erases_seen, programs_seen, IsVerified}
 
 -- on every chip a run of planned work erases just the needed area
 abbrev pub PlannedErasesNeeded : Type 0
 PlannedErasesNeeded = (m : Parameters) (start : Start) (verify : Bool) (have want : List ℕ) (steps : List Step)
     → IsWorkable m start have want → ArePlanned m start verify have want steps → (s : Setting) → IsChipOf m start s → (a : ℕ)
     → is_erased_by s (events s (ready s have) steps) a ≡ is_needed m (is_due m have want) a
-
--- how many transactions erase an address
-abbrev pub times_erased : Setting → List Event → ℕ → ℕ
-times_erased s seen a = count_by (λ e. option_map_or (λ i. erases_address s.meaning a i i.what) e.seen false) seen
 
 -- each needed address once
 abbrev pub ErasesOnce : Type 0
@@ -36,26 +28,10 @@ abbrev pub PlannedIsVerified : Type 0
 PlannedIsVerified = (m : Parameters) (start : Start) (have want : List ℕ) (steps : List Step) → IsWorkable m start have want
     → ArePlanned m start true have want steps → (s : Setting) → IsChipOf m start s → IsVerified s have want steps
 
-abbrev pub verifies : Step → Bool
-verifies (Send clocks) = false
-verifies (Poll clocks) = false
-verifies (Verify clocks expect) = true
-
 -- else no step verifies, whatever the content and the target
 abbrev pub NoneVerifies : Type 0
 NoneVerifies = (m : Parameters) (start : Start) (have want : List ℕ) (steps : List Step) → ArePlanned m start false have want steps
     → list_any verifies steps ≡ false
-
-abbrev pub is_erase : What → Bool
-is_erase (what.Erase kind) = true
-is_erase other = false
-
--- how many transactions are erases, and how many programs, on one lane or on four
-abbrev pub erases_seen : List Event → ℕ
-erases_seen seen = count_by (λ e. option_map_or (λ i. is_erase i.what) e.seen false) seen
-
-abbrev pub programs_seen : List Event → ℕ
-programs_seen seen = count_by (λ e. option_map_or (λ i. is_program i.what) e.seen false) seen
 
 -- on every chip a run of planned work erases as often as units have an erase
 abbrev pub ErasesCounted : Type 0

@@ -5,10 +5,9 @@ use Rattle.nor_base.specs.declared.step.Step.{Step}
 use Rattle.nor_base.specs.Parameters.{Parameters}
 use Rattle.nor_base.specs.Chip.{Setting, IsChipOf, ready}
 use Rattle.nor_base.specs.Run.{DoesTask}
-use Rattle.nor_base.specs.Planned.{ArePlanned}
+use Rattle.nor_base.specs.Planned.{ArePlanned, IsWorkable}
 use Rattle.nor_base.specs.Events.{events, is_erased_by}
 use Rattle.nor_base.specs.Uniform.{uniform_of}
-use Rattle.nor_work.specs.Laws.{IsWorkable}
 
 abbrev pub small_chip : Parameters
 small_chip = uniform_of 8192

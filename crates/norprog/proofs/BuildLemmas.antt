@@ -1,22 +1,24 @@
 -- From a job to what a build promises of its inputs.
-use Rattle.std.proofs.Common.{◌≡◌, ℕ, ◌+◌, ◌-◌, ◌^◌, Bool, not, ◌&&◌, if◌then◌else◌, cond, nat_lt, nat_le, List, [], ◌∷◌, length, map, Option, refl, sym, ◌∙◌, ap, subst, arith}
-use Rattle.std.specs.Prelude.{count_by, sum_by, is_some, unwrap_or}
+use Rattle.std.proofs.Common.{◌≡◌, ℕ, ◌+◌, ◌-◌, Bool, not, ◌&&◌, cond, nat_lt, nat_le, List, [], ◌∷◌, length, map, Option, refl, sym, ◌∙◌, ap, subst, arith}
+use Rattle.std.specs.Prelude.{count_by, sum_by, is_some}
 use Rattle.std.specs.Option.{option_map_or}
-use Rattle.std.specs.List.{fold, enumerate_from, AllByRecursion}
+use Rattle.std.specs.List.{fold, AllByRecursion}
 use Rattle.std.proofs.lemmas.List.{length-map}
 use Rattle.nor_base.specs.declared.meaning.Start.{Start}
 use Rattle.nor_base.specs.declared.meaning.Strategy.{Strategy}
 use Rattle.nor_base.specs.declared.step.Step.{Step}
 use Rattle.nor_base.specs.Accepted.{IsAccepted}
-use Rattle.nor_base.specs.Chip.{begins4}
+use Rattle.nor_base.specs.Chip.{Setting, IsChipOf, begins4, ready}
 use Rattle.nor_base.specs.Device.{Ahead}
+use Rattle.nor_base.specs.Events.{events}
+use Rattle.nor_base.specs.Need.{is_due}
 use Rattle.nor_base.specs.Parameters.{Parameters}
-use Rattle.nor_base.specs.Planned.{planned, planned_ops, planned_units, ArePlanned}
+use Rattle.nor_base.specs.Planned.{planned, planned_ops, planned_units, ArePlanned, IsInTheMaking, IsWorkable}
 use Rattle.nor_base.specs.Step.{IsStep}
 use Rattle.nor_base.specs.Strategies.{strategy}
-use Rattle.nor_base.specs.Target.{target, target_byte, is_ignored}
+use Rattle.nor_base.specs.Target.{is_ignored}
 use Rattle.nor_geometry.specs.Plan.{IsFault}
-use Rattle.nor_hex.specs.Image.{byte_at}
+use Rattle.nor_hex.specs.Image.{Pairs}
 use Rattle.nor_job.specs.declared.fault.BuildFault.{BuildFault}
 use Rattle.nor_job.specs.declared.fault.BuildFault.TheVariants as fault
 use Rattle.nor_job.specs.declared.job.Job.{Job}
@@ -24,17 +26,19 @@ use Rattle.nor_job.specs.Job.{IsJob}
 use Rattle.nor_job.specs.Status.{start_of}
 use Rattle.nor_job.specs.Task.{Task}
 use Rattle.nor_layout.specs.Chosen.{has, is_chosen}
+use Rattle.nor_layout.specs.Region.{Region}
+use Rattle.nor_laws.specs.Laws.{EventsAreTrail}
 use Rattle.nor_laws.specs.Spelling.{HasSpelling}
 use Rattle.nor_steps.specs.declared.tally.Tally.{Tally}
 use Rattle.nor_steps.specs.Lines.{step_of, steps_of}
 use Rattle.nor_steps.specs.Tally.{tally_with}
 use Rattle.nor_work.specs.Exists.{PlannedCanBeSpelled}
-use Rattle.nor_work.specs.Laws.{IsWorkable, PlannedDoesTask, OneUnitInTheMaking}
-use Rattle.nor_work.specs.Least.{NoScriptErasesLess}
-use Rattle.nor_work.specs.Runs.{PlannedErasesNeeded, PlannedIsVerified, NoneVerifies}
+use Rattle.nor_work.specs.Laws.{PlannedDoesTask, OneUnitInTheMaking}
+use Rattle.nor_work.specs.Least.{ErasesBlocks, ErasesApart, ErasesLargest, NoScriptErasesLess}
+use Rattle.nor_work.specs.Runs.{PlannedErasesNeeded, ErasesOnce, ErasesCounted, ProgramsCounted, PlannedIsVerified, NoneVerifies}
 use Rattle.norprog.specs.declared.report.Report.{Report}
 use Rattle.nor_job.specs.Wanted.{wanted}
-use Rattle.norprog.specs.Build.{report_of, IsDoneBy, IsBuilt, IsLate, WorkCause, IsFrontOf, StopsWork}
+use Rattle.norprog.specs.Build.{report_of, AreLargest, RunsAsPlanned, IsBuilt, IsLate, WorkCause, IsFrontOf, StopsWork}
 use Rattle.nor_job.specs.Filled.{target_from}
 use Rattle.norprog.specs.Windows.{CutCause, IsScripted, IsCutScript, job_report}
 use Rattle.norprog.proofs.CountLemmas.{erases_told, erased_told, programs_told}
@@ -48,7 +52,14 @@ use Rattle.nor_job.proofs.TargetLemmas.{length-target, target_is}
 pub record Laws : Type 0 where
   pub done : PlannedDoesTask
   pub making : OneUnitInTheMaking
+  pub trail : EventsAreTrail
   pub exact : PlannedErasesNeeded
+  pub once : ErasesOnce
+  pub erases : ErasesCounted
+  pub programs : ProgramsCounted
+  pub blocks : ErasesBlocks
+  pub apart : ErasesApart
+  pub largest : ErasesLargest
   pub verified : PlannedIsVerified
   pub unverified : NoneVerifies
   pub least : NoScriptErasesLess
@@ -85,19 +96,36 @@ spelled_is spelled spelling m start verify content goal w =
     let can = spelled m start verify content goal w in
     record { each = steps_pass m (begins4 m start) these plain can; planned = steps_spell spelling m (begins4 m start) these plain can }
 
--- what they do on every chip
-done_by : Laws → (m : Parameters) (start : Start) (verify : Bool) (content goal : List ℕ) (steps : List Step) → IsWorkable m start content goal
-    → ArePlanned m start verify content goal steps → IsDoneBy m start verify content goal steps
-done_by laws m start verify content goal steps w are = record {
-  workable = w;
-  planned = are;
-  task = laws.done m start verify content goal steps w are;
-  rising = laws.making m start verify content goal steps w are;
-  verified = λ asked. laws.verified m start content goal steps w (subst (λ v. ArePlanned m start v content goal steps) asked are);
-  unverified = λ asked. laws.unverified m start content goal steps (subst (λ v. ArePlanned m start v content goal steps) asked are);
-  erased = λ s is a. laws.exact m start verify content goal steps w are s is a;
-  least = λ s other others a is is' does erased.
-      laws.least m start other content goal others a w.accepted is' does (sym (laws.exact m start verify content goal steps w are s is a) ∙ erased);
+-- what is so of each is so of what they are mapped to
+mapped_all : {X Y : Type 0} (P : Y → Type 0) (f : X → Y) (xs : List X) → AllByRecursion P (map f xs) → AllByRecursion (λ x. P (f x)) xs
+mapped_all P f [] all = tt
+mapped_all P f (x ∷ xs) all = (all.0, mapped_all P f xs all.1)
+
+-- what is seen of them on every chip
+runs_so : Laws → (t : Task) (image : Pairs) (regions : List Region) (m : Parameters) (content goal : List ℕ) (steps : List Step) (report : Report)
+    → IsWorkable m (start_of t) content goal → ArePlanned m (start_of t) t.verify content goal steps
+    → report ≡ report_of t image regions m (planned_units m (start_of t) content goal) steps → (s : Setting) → IsChipOf m (start_of t) s
+    → RunsAsPlanned t m content goal steps report s (events s (ready s content) steps)
+runs_so laws t image regions m content goal steps report w are told s is = record {
+  rising = mapped_all (λ chip. IsInTheMaking (planned_units m (start_of t) content goal) content goal chip.array) (λ e. e.chip) (events s (ready s content) steps)
+      (subst (AllByRecursion (λ chip. IsInTheMaking (planned_units m (start_of t) content goal) content goal chip.array))
+      (sym (laws.trail s (ready s content) steps)) (laws.making m (start_of t) t.verify content goal steps w are s is));
+  verified = λ asked. laws.verified m (start_of t) content goal steps w (subst (λ v. ArePlanned m (start_of t) v content goal steps) asked are) s is;
+  erased = λ a. laws.exact m (start_of t) t.verify content goal steps w are s is a;
+  once = λ a. laws.once m (start_of t) t.verify content goal steps w are s is a;
+  least = λ other others a is' does erased.
+      laws.least m (start_of t) other content goal others a w.accepted is' does (sym (laws.exact m (start_of t) t.verify content goal steps w are s is a) ∙ erased);
+  erases = laws.erases m (start_of t) t.verify content goal steps w are s is ∙ sym (ap (λ (r : Report). r.erases) told);
+  programs = laws.programs m (start_of t) t.verify content goal steps w are s is ∙ sym (ap (λ (r : Report). r.programs) told);
+}
+
+largest_so : Laws → (m : Parameters) (by : Strategy) (due : ℕ → Bool) → IsAccepted m → AreLargest m by due
+largest_so laws m by due accepted = record {
+  legal = λ a b here.
+      let is = laws.blocks m by due a b accepted here in
+      (is.legal, is.reached, is.here);
+  apart = λ a x b c here there. laws.apart m by due a x b c accepted here there;
+  largest = λ c legal reached inside. laws.largest m by due c accepted legal reached inside;
 }
 
 report_same : (by by' : Strategy) (s s' e e' b b' p p' i i' : ℕ) → by ≡ by' → s ≡ s' → e ≡ e' → b ≡ b' → p ≡ p' → i ≡ i'
@@ -149,22 +177,34 @@ built_is t len job before after x y told laws accepted is done =
     let same : own ≡ goal = target_is t len job is part in
     let w : IsWorkable m job.start part own = workable_is job before after x y told accepted done in
     let spelled = spelled_is laws.spelled laws.has m job.start job.verify part own w in
+    let w' : IsWorkable m (start_of t) part goal =
+    subst (IsWorkable m (start_of t) part) same (subst (λ (s : Start). IsWorkable m s part own) is.start w) in
+    let are : ArePlanned m (start_of t) t.verify part goal steps =
+    subst (λ (wish : List ℕ). ArePlanned m (start_of t) t.verify part wish steps) same
+    (subst (λ v. ArePlanned m (start_of t) v part own steps) is.verify (subst (λ (s : Start). ArePlanned m s job.verify part own steps) is.start spelled.planned)) in
     record {
-      image = job.image;
-      regions = is.regions;
-      m = m;
-      accepted = is.accepted;
-      content = part;
-      whole = done.upto ∙ sym is.accepted.size;
-      given = done.given;
-      text = _;
-      put = done.put;
-      steps = steps;
-      script = record { each = spelled.each; spelled = refl };
-      work = subst (λ (wish : List ℕ). IsDoneBy m (start_of t) t.verify part wish steps) same
-          (subst (λ v. IsDoneBy m (start_of t) v part own steps) is.verify
-          (subst (λ (s : Start). IsDoneBy m s job.verify part own steps) is.start (done_by laws m job.start job.verify part own steps w spelled.planned)));
-      told = report_is t len job is part told done.its_tally;
+      wrote = record {
+        image = job.image;
+        regions = is.regions;
+        m = m;
+        accepted = is.accepted;
+        content = part;
+        whole = done.upto ∙ sym is.accepted.size;
+        given = done.given;
+        text = _;
+        put = done.put;
+        steps = steps;
+        script = record { each = spelled.each; spelled = refl };
+        task = laws.done m (start_of t) t.verify part goal steps w' are;
+      };
+      work = record {
+        workable = w';
+        planned = are;
+        runs = runs_so laws t job.image is.regions m part goal steps (job_report job told) w' are (report_is t len job is part told done.its_tally);
+        unverified = λ asked. laws.unverified m (start_of t) part goal steps (subst (λ v. ArePlanned m (start_of t) v part goal steps) asked are);
+        largest = largest_so laws m (strategy m (start_of t)) (is_due m part goal) accepted;
+        told = report_is t len job is part told done.its_tally;
+      };
     }
 
 pub work_cause : (t : Task) (len : ℕ) (job : Job) (is : IsJob t len job) (part : List ℕ) (after : Ahead) (why : BuildFault)

@@ -11,11 +11,11 @@ use Rattle.nor_base.specs.Need.{differs, lacks_erase, is_at_fault}
 use Rattle.nor_base.specs.Parameters.{Parameters}
 use Rattle.nor_base.specs.Strategies.{strategy}
 use Rattle.nor_base.specs.Target.{target_byte}
+use Rattle.nor_base.specs.Planned.{IsWorkable}
 use Rattle.nor_geometry.specs.Plan.{HasPart}
 use Rattle.nor_hex.specs.Image.{byte_at}
 use Rattle.nor_job.specs.declared.job.Job.{Job}
 use Rattle.nor_layout.specs.Chosen.{has}
-use Rattle.nor_work.specs.Laws.{IsWorkable}
 use Rattle.nor_job.specs.Filled.{target_from}
 use Rattle.norprog.specs.Windows.{IsScriptFront}
 use Rattle.nor_job.specs.Written.{AreBytes}

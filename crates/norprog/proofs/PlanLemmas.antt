@@ -5,7 +5,7 @@ use Rattle.std.proofs.lemmas.List.{take_all}
 use Rattle.nor_base.specs.declared.meaning.Start.{Start}
 use Rattle.nor_base.specs.Accepted.{IsAccepted}
 use Rattle.nor_base.specs.Device.{Ahead}
-use Rattle.nor_base.specs.Planned.{planned, ArePlanned}
+use Rattle.nor_base.specs.Planned.{planned, ArePlanned, IsWorkable}
 use Rattle.nor_base.specs.Strategies.{strategy}
 use Rattle.nor_geometry.specs.Window.{IsWindowSize}
 use Rattle.nor_job.specs.declared.fault.BuildFault.{BuildFault}
@@ -23,7 +23,6 @@ use Rattle.nor_steps.specs.Faults.{IsOfWriting, of_writer}
 use Rattle.nor_steps.specs.Lines.{steps_of}
 use Rattle.nor_steps.specs.Writing.{Writing, next_lines}
 use Rattle.nor_work.specs.Exists.{PlannedCanBeSpelled}
-use Rattle.nor_work.specs.Laws.{IsWorkable}
 use Rattle.norprog.specs.declared.windows.Text.TheVariants.{Steps, Lines}
 use Rattle.nor_job.specs.Wanted.{wanted}
 use Rattle.norprog.specs.Plan.{IsPlanOf, StopsPlan}

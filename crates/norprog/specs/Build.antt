@@ -1,24 +1,27 @@
 -- What a build promises (this project's).
-use Rattle.std.specs.Prelude.{◌≡◌, ◌≢◌, ℕ, true, false, ◌<◌, ◌≤◌, ⊤, List, [], ◌++◌, Bool, length, take, count_by, sum_by, Option, is_some}
+use Rattle.std.specs.Prelude.{◌≡◌, ◌≢◌, ℕ, true, false, ◌<◌, ◌≤◌, ⊤, List, [], ◌++◌, Bool, length, take, count_by, sum_by, Option, is_some, ◌⊎◌, Some, if◌then◌else◌}
 use Rattle.std.specs.List.{list_any, AllByRecursion}
 use Rattle.std.specs.Option.{option_map_or}
 use Rattle.std.specs.Io.KnownBytes.{Appends}
 use Rattle.nor_base.specs.declared.meaning.Start.{Start}
+use Rattle.nor_base.specs.declared.meaning.Strategy.{Strategy}
 use Rattle.nor_base.specs.declared.step.Step.{Step}
 use Rattle.nor_base.specs.Parameters.{Parameters}
 use Rattle.nor_base.specs.Device.{Ahead, Gives, IsAtEnd}
 use Rattle.nor_base.specs.Script.{IsScript}
-use Rattle.nor_base.specs.Target.{target, is_ignored}
+use Rattle.nor_base.specs.Target.{is_ignored}
 use Rattle.nor_base.specs.Chip.{Setting, IsChipOf, ready}
-use Rattle.nor_base.specs.Run.{DoesTask, DoesTaskOnEvery, trail}
-use Rattle.nor_base.specs.Strategies.{strategy}
-use Rattle.nor_base.specs.Need.{is_due, is_needed}
+use Rattle.nor_base.specs.Run.{DoesTask, DoesTaskOnEvery}
+use Rattle.nor_base.specs.Blocks.{Block, Holds, AreDisjoint, LiesIn, IsLegalBlock}
+use Rattle.nor_base.specs.Strategies.{strategy, reaches}
+use Rattle.nor_base.specs.Need.{is_due, is_needed, erased_at}
 use Rattle.nor_base.specs.Units.{WorkUnit}
-use Rattle.nor_base.specs.Events.{events, is_erased_by, IsVerified}
-use Rattle.nor_base.specs.Planned.{ArePlanned, planned_units, IsInTheMaking}
+use Rattle.nor_base.specs.Events.{Event, events, is_erased_by, times_erased, erases_seen, programs_seen, AreVerified}
+use Rattle.nor_base.specs.Planned.{ArePlanned, planned_units, IsInTheMaking, IsWorkable}
+use Rattle.nor_base.specs.Step.{verifies}
 use Rattle.nor_geometry.specs.Plan.{IsFault}
 use Rattle.nor_geometry.specs.Window.{IsWindowSize}
-use Rattle.nor_hex.specs.Image.{Pairs, byte_at}
+use Rattle.nor_hex.specs.Image.{Pairs}
 use Rattle.nor_layout.specs.Region.{Region}
 use Rattle.nor_layout.specs.Chosen.{is_chosen}
 use Rattle.nor_job.specs.declared.fault.BuildFault.{BuildFault}
@@ -26,8 +29,6 @@ use Rattle.nor_job.specs.declared.fault.BuildFault.TheVariants as fault
 use Rattle.nor_job.specs.Causes.{AreAccepted}
 use Rattle.nor_job.specs.Status.{start_of}
 use Rattle.nor_job.specs.Task.{Task}
-use Rattle.nor_work.specs.Laws.{IsWorkable}
-use Rattle.nor_work.specs.Runs.{verifies}
 use Rattle.norprog.specs.declared.report.Report.{Report}
 use Rattle.norprog.specs.Windows.{AreWindows}
 use Rattle.nor_job.specs.Wanted.{wanted}
@@ -43,42 +44,9 @@ report_of t image regions m us steps = record {
   ignored = count_by (λ pair. is_ignored t.base (is_chosen regions t.regions) m.size pair.0) image;
 }
 
--- after each transaction of the steps, on every chip of a meaning and start, at most one unit of the work is in the making
-abbrev pub ComesInOrder : Parameters → Start → List ℕ → List ℕ → List Step → Type 0
-ComesInOrder m start content goal steps = (s : Setting) → IsChipOf m start s
-    → AllByRecursion (λ chip. IsInTheMaking (planned_units m start content goal) content goal chip.array) (trail s (ready s content) steps)
-
--- on every chip of a meaning and start the steps erase just the needed area
-abbrev pub ErasesJust : Parameters → Start → List ℕ → List ℕ → List Step → Type 0
-ErasesJust m start content goal steps = (s : Setting) → IsChipOf m start s → (a : ℕ)
-    → is_erased_by s (events s (ready s content) steps) a ≡ is_needed m (is_due m content goal) a
-
--- whatever else does the task, any steps on any such chip, erases each address that these steps erase on any
-abbrev pub ErasesLeast : Parameters → Start → List ℕ → List ℕ → List Step → Type 0
-ErasesLeast m start content goal steps = (s other : Setting) (others : List Step) (a : ℕ) → IsChipOf m start s → IsChipOf m start other
-    → DoesTask other content goal others → is_erased_by s (events s (ready s content) steps) a ≡ true
-    → is_erased_by other (events other (ready other content) others) a ≡ true
-
--- on every chip of a meaning and start each address that the steps erase or program is read later, against the target
-abbrev pub IsVerifiedOnEvery : Parameters → Start → List ℕ → List ℕ → List Step → Type 0
-IsVerifiedOnEvery m start content goal steps = (s : Setting) → IsChipOf m start s → IsVerified s content goal steps
-
--- a content and a target on which work can be done, and what is so of the steps of the planned work, on every chip of a
--- meaning and start that has that content: they do the task, unit after unit; where it is asked for, what they wrote they
--- read, and else they read nothing; they erase just the needed area, and nothing that does the task erases less
-pub record IsDoneBy (m : Parameters) (start : Start) (verify : Bool) (content goal : List ℕ) (steps : List Step) : Type 0 where
-  pub workable : IsWorkable m start content goal
-  pub planned : ArePlanned m start verify content goal steps
-  pub task : DoesTaskOnEvery m start content goal steps
-  pub rising : ComesInOrder m start content goal steps
-  pub verified : verify ≡ true → IsVerifiedOnEvery m start content goal steps
-  pub unverified : verify ≡ false → list_any verifies steps ≡ false
-  pub erased : ErasesJust m start content goal steps
-  pub least : ErasesLeast m start content goal steps
-
--- the inputs are accepted, the reader gave the whole content, and what was appended is the text of the steps of the planned
--- work; on every chip of the inputs with that content they do what is asked
-pub record IsBuilt (t : Task) (len : ℕ) (before after : Ahead) (held_before held_after : Option (List ℕ)) (report : Report) : Type 0 where
+-- the sentence: the inputs are accepted, the reader gave the whole content, what was appended is the text of steps, and on
+-- every chip of the inputs with that content these do what is asked
+pub record WroteScript (t : Task) (len : ℕ) (before after : Ahead) (held_before held_after : Option (List ℕ)) : Type 0 where
   pub image : Pairs
   pub regions : List Region
   pub m : Parameters
@@ -90,8 +58,47 @@ pub record IsBuilt (t : Task) (len : ℕ) (before after : Ahead) (held_before he
   pub put : Appends held_before held_after text
   pub steps : List Step
   pub script : IsScript text steps
-  pub work : IsDoneBy m (start_of t) t.verify content (wanted t image regions content) steps
-  pub told : report ≡ report_of t image regions m (planned_units m (start_of t) content (wanted t image regions content)) steps
+  pub task : DoesTaskOnEvery m (start_of t) content (wanted t image regions content) steps
+
+-- the erased blocks: each is legal, the strategy reaches it, and it holds its address; two of them are apart, or one; and each
+-- legal block that the strategy reaches inside the needed area lies in one of them
+pub record AreLargest (m : Parameters) (by : Strategy) (due : ℕ → Bool) : Type 0 where
+  pub legal : (a : ℕ) (b : Block) → erased_at m by due a ≡ Some b → IsLegalBlock m b × (reaches by m b.kind b.start ≡ true) × Holds b a
+  pub apart : (a x : ℕ) (b c : Block) → erased_at m by due a ≡ Some b → erased_at m by due x ≡ Some c → AreDisjoint b c ⊎ (b ≡ c)
+  pub largest : (c : Block) → IsLegalBlock m c → reaches by m c.kind c.start ≡ true → ((x : ℕ) → Holds c x → is_needed m due x ≡ true)
+      → (b : Block) × (erased_at m by due c.start ≡ Some b) × LiesIn c b
+
+-- what is seen of the steps on a chip: after each transaction at most one unit of the work is in the making; where it is asked
+-- for, each address that they erase or program is read later; they erase just the needed area, each address of it once, and
+-- whatever does the task, any steps on any such chip, erases it too; erases and programs are as many as the report says
+pub record RunsAsPlanned (t : Task) (m : Parameters) (content goal : List ℕ) (steps : List Step) (report : Report) (s : Setting)
+    (seen : List Event) : Type 0 where
+  pub rising : AllByRecursion (λ e. IsInTheMaking (planned_units m (start_of t) content goal) content goal e.chip.array) seen
+  pub verified : t.verify ≡ true → AreVerified s goal steps seen
+  pub erased : (a : ℕ) → is_erased_by s seen a ≡ is_needed m (is_due m content goal) a
+  pub once : (a : ℕ) → times_erased s seen a ≡ (if is_needed m (is_due m content goal) a then 1 else 0)
+  pub least : (other : Setting) (others : List Step) (a : ℕ) → IsChipOf m (start_of t) other → DoesTask other content goal others
+      → is_erased_by s seen a ≡ true → is_erased_by other (events other (ready other content) others) a ≡ true
+  pub erases : erases_seen seen ≡ report.erases
+  pub programs : programs_seen seen ≡ report.programs
+
+-- how it is done: no address is at fault; the steps are those of the planned work, show so on every chip of a task, and read
+-- nothing where that isn't asked for; the erased blocks are the largest; the report is of that work
+pub record IsAsPlanned (t : Task) (image : Pairs) (regions : List Region) (m : Parameters) (content goal : List ℕ) (steps : List Step)
+    (report : Report) : Type 0 where
+  pub workable : IsWorkable m (start_of t) content goal
+  pub planned : ArePlanned m (start_of t) t.verify content goal steps
+  pub runs : (s : Setting) → IsChipOf m (start_of t) s
+      → RunsAsPlanned t m content goal steps report s (events s (ready s content) steps)
+  pub unverified : t.verify ≡ false → list_any verifies steps ≡ false
+  pub largest : AreLargest m (strategy m (start_of t)) (is_due m content goal)
+  pub told : report ≡ report_of t image regions m (planned_units m (start_of t) content goal) steps
+
+-- what a build promises: the sentence, which says what a user gets, and how it is done
+pub record IsBuilt (t : Task) (len : ℕ) (before after : Ahead) (held_before held_after : Option (List ℕ)) (report : Report) : Type 0 where
+  pub wrote : WroteScript t len before after held_before held_after
+  pub work : IsAsPlanned t wrote.image wrote.regions wrote.m wrote.content (wanted t wrote.image wrote.regions wrote.content)
+      wrote.steps report
 
 -- why the work on accepted inputs ended early: the reader ended before the content did; whatever the rest of the chip holds,
 -- the address that is named is the lowest at fault; a device failed (its count tells it), or a growth was refused

@@ -4,7 +4,7 @@ use Rattle.std.specs.Io.KnownBytes.{Appends}
 use Rattle.nor_base.specs.declared.step.Step.{Step}
 use Rattle.nor_base.specs.Device.{Ahead, Gives}
 use Rattle.nor_base.specs.Parameters.{Parameters}
-use Rattle.nor_base.specs.Planned.{ArePlanned, planned_units}
+use Rattle.nor_base.specs.Planned.{ArePlanned, planned_units, IsWorkable}
 use Rattle.nor_base.specs.Strategies.{strategy}
 use Rattle.nor_geometry.specs.Window.{IsWindowSize}
 use Rattle.nor_hex.specs.Image.{Pairs}
@@ -13,7 +13,6 @@ use Rattle.nor_job.specs.declared.fault.BuildFault.{BuildFault}
 use Rattle.nor_job.specs.Causes.{AreAccepted}
 use Rattle.nor_job.specs.Status.{start_of}
 use Rattle.nor_job.specs.Task.{Task}
-use Rattle.nor_work.specs.Laws.{IsWorkable}
 use Rattle.norprog.specs.declared.report.Report.{Report}
 use Rattle.nor_job.specs.Wanted.{wanted}
 use Rattle.norprog.specs.Build.{report_of, WorkCause}

@@ -16,11 +16,11 @@ use crate::windows::{Text, lifted, room, write_windows};
 use nor_base::{ByteIn, ByteOut};
 use nor_geometry::{strategy, window_size};
 use nor_job::{BuildFault, Inputs, Job, job_of};
-use nor_laws::spelling;
+use nor_laws::{run_events, spelling};
 use nor_script::{begin, finish};
 use nor_steps::Tally;
 use nor_target::ignored;
-use nor_work::{least_erasure, planned_runs, planned_work, there_is_planned_work};
+use nor_work::{erased_blocks, least_erasure, planned_runs, planned_work, there_is_planned_work};
 use std::alloc::Global;
 
 /// Writes the script that programs a chip: run on any idle, unprotected chip of the inputs with the content that the
@@ -61,7 +61,9 @@ pub fn build<R: ByteIn, W: ByteOut>(
     planned_runs();
     there_is_planned_work();
     least_erasure();
+    erased_blocks();
     spelling();
+    run_events();
     job.meaning.is_accepted();
     let told = write_script(alloc, &job, content, out)?;
     Ok(report_of(&job, told))

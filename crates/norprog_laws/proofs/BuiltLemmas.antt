@@ -50,12 +50,12 @@ does_yes s content goal steps task =
     ∙ ap (at_difference (length steps)) (no_difference goal)
 
 pub built_is_right : OneList → BuiltIsRight
-built_is_right one t len before after x y report built steps v script worst =
-    let goal = wanted t built.image built.regions built.content in
-    let same : built.steps ≡ steps = one built.text built.steps steps built.script script in
-    let task : DoesTask worst.chip built.content goal steps =
-    subst (λ (xs : List Step). DoesTask worst.chip built.content goal xs) same (built.work.task worst.chip worst.is) in
-    sym worst.so ∙ does_yes worst.chip built.content goal steps task
+built_is_right one t len before after x y wrote steps v script worst =
+    let goal = wanted t wrote.image wrote.regions wrote.content in
+    let same : wrote.steps ≡ steps = one wrote.text wrote.steps steps wrote.script script in
+    let task : DoesTask worst.chip wrote.content goal steps =
+    subst (λ (xs : List Step). DoesTask worst.chip wrote.content goal xs) same (wrote.task worst.chip worst.is) in
+    sym worst.so ∙ does_yes worst.chip wrote.content goal steps task
 
 -- records are told by their list
 records_same : (xs ys : List Record) → ◌≡◌ {A = List (Result Record HexFault)} (map Ok xs) (map Ok ys) → xs ≡ ys
@@ -115,18 +115,18 @@ given_same (Endless byte_at) Unknown rest xs ys tells p q sizes = absurd p
 given_same (Endless byte_at) (Finite a) rest xs ys tells p q sizes = absurd p
 
 pub built_is_checked : OneList → BuiltIsChecked
-built_is_checked one t len before after rest x y report v built tells checked =
+built_is_checked one t len before after rest x y v wrote tells checked =
     let start = start_of t in
     let named = checked.accepted.named in
-    let own = built.accepted.named in
-    let m : checked.m ≡ built.m = meaning_same _ _ _ checked.accepted.means built.accepted.means in
-    let content : checked.content ≡ built.content =
-    given_same before rest after checked.content built.content tells checked.given built.given (checked.whole ∙ sym built.whole) in
-    let goal : wanted t checked.image checked.regions built.content ≡ wanted t built.image built.regions built.content =
-    wanted_same t checked.image built.image checked.regions built.regions built.content
-    (image_same t.hex checked.image built.image named.imaged.spelled own.imaged.spelled)
-    (regions_same t.layout checked.regions built.regions named.layout own.layout) in
-    built_is_right one t len before after x y report built checked.steps v checked.script
-    (subst (λ (wish : List ℕ). IsWorst built.m start built.content wish checked.steps v) goal
-    (subst (λ (holds : List ℕ). IsWorst built.m start holds (wanted t checked.image checked.regions holds) checked.steps v) content
+    let own = wrote.accepted.named in
+    let m : checked.m ≡ wrote.m = meaning_same _ _ _ checked.accepted.means wrote.accepted.means in
+    let content : checked.content ≡ wrote.content =
+    given_same before rest after checked.content wrote.content tells checked.given wrote.given (checked.whole ∙ sym wrote.whole) in
+    let goal : wanted t checked.image checked.regions wrote.content ≡ wanted t wrote.image wrote.regions wrote.content =
+    wanted_same t checked.image wrote.image checked.regions wrote.regions wrote.content
+    (image_same t.hex checked.image wrote.image named.imaged.spelled own.imaged.spelled)
+    (regions_same t.layout checked.regions wrote.regions named.layout own.layout) in
+    built_is_right one t len before after x y wrote checked.steps v checked.script
+    (subst (λ (wish : List ℕ). IsWorst wrote.m start wrote.content wish checked.steps v) goal
+    (subst (λ (holds : List ℕ). IsWorst wrote.m start holds (wanted t checked.image checked.regions holds) checked.steps v) content
     (subst (λ (n : Parameters). IsWorst n start checked.content (wanted t checked.image checked.regions checked.content) checked.steps v) m checked.worst)))

@@ -90,13 +90,13 @@ end_same s n d goal (Ok e) same settled array =
 end_same s n d goal (Err stop) same settled array = same
 
 pub built_plays : OneList → BuiltPlays
-built_plays one t len before after x y report built steps script =
-    let same : steps ≡ built.steps = one built.text steps built.steps script built.script in
-    let goal = wanted t built.image built.regions built.content in (
+built_plays one t len before after x y wrote steps script =
+    let same : steps ≡ wrote.steps = one wrote.text steps wrote.steps script wrote.script in
+    let goal = wanted t wrote.image wrote.regions wrote.content in (
       same,
       λ s limit is.
-          let task = built.work.task s is in
-          subst (λ (l : List Step). EndsOrWaits goal (play s limit (ready s built.content) l)) (sym same)
-          (end_same s (length built.steps) task.final goal (played s limit (ready s built.content) built.steps)
-          (run_same s limit (ready s built.content) task.final built.steps task.good.runs) task.good.settled task.array),
+          let task = wrote.task s is in
+          subst (λ (l : List Step). EndsOrWaits goal (play s limit (ready s wrote.content) l)) (sym same)
+          (end_same s (length wrote.steps) task.final goal (played s limit (ready s wrote.content) wrote.steps)
+          (run_same s limit (ready s wrote.content) task.final wrote.steps task.good.runs) task.good.settled task.array),
     )

@@ -8,16 +8,15 @@ use Rattle.nor_check.specs.declared.verdict.Verdict.TheVariants.{Yes}
 use Rattle.nor_check.specs.Worst.{IsWorst}
 use Rattle.nor_job.specs.Status.{start_of}
 use Rattle.nor_job.specs.Task.{Task}
-use Rattle.norprog.specs.declared.report.Report.{Report}
 use Rattle.nor_job.specs.Wanted.{wanted}
-use Rattle.norprog.specs.Build.{IsBuilt}
+use Rattle.norprog.specs.Build.{WroteScript}
 use Rattle.norprog_check.specs.Checked.{IsChecked}
 
 -- whatever steps the text that was appended spells, the worst verdict on them is Yes
 abbrev pub BuiltIsRight : Type 0
-BuiltIsRight = (t : Task) (len : ℕ) (before after : Ahead) (x y : Option (List ℕ)) (report : Report)
-    → (built : IsBuilt t len before after x y report) → (steps : List Step) (v : Verdict) → IsScript built.text steps
-    → IsWorst built.m (start_of t) built.content (wanted t built.image built.regions built.content) steps v → v ≡ Yes
+BuiltIsRight = (t : Task) (len : ℕ) (before after : Ahead) (x y : Option (List ℕ))
+    → (wrote : WroteScript t len before after x y) → (steps : List Step) (v : Verdict) → IsScript wrote.text steps
+    → IsWorst wrote.m (start_of t) wrote.content (wanted t wrote.image wrote.regions wrote.content) steps v → v ≡ Yes
 
 -- the reader tells its bytes
 abbrev pub Tells : Ahead → Type 0
@@ -27,5 +26,5 @@ Tells (Endless byte_at) = ⊤
 
 -- a check of that text, for the same inputs and with the same bytes ahead, says Yes
 abbrev pub BuiltIsChecked : Type 0
-BuiltIsChecked = (t : Task) (len : ℕ) (before after rest : Ahead) (x y : Option (List ℕ)) (report : Report) (v : Verdict)
-    → (built : IsBuilt t len before after x y report) → Tells before → IsChecked t len built.text before rest v → v ≡ Yes
+BuiltIsChecked = (t : Task) (len : ℕ) (before after rest : Ahead) (x y : Option (List ℕ)) (v : Verdict)
+    → (wrote : WroteScript t len before after x y) → Tells before → IsChecked t len wrote.text before rest v → v ≡ Yes

@@ -9,9 +9,8 @@ use Rattle.nor_base.specs.Script.{IsScript}
 use Rattle.nor_job.specs.Status.{start_of}
 use Rattle.nor_job.specs.Task.{Task}
 use Rattle.nor_play.specs.Play.{play}
-use Rattle.norprog.specs.declared.report.Report.{Report}
 use Rattle.nor_job.specs.Wanted.{wanted}
-use Rattle.norprog.specs.Build.{IsBuilt}
+use Rattle.norprog.specs.Build.{WroteScript}
 
 -- a play ends with this array, or a poll runs out of turns
 abbrev pub EndsOrWaits : List ℕ → Result Chip Stop → Type 0
@@ -19,13 +18,13 @@ EndsOrWaits goal (Ok chip) = chip.array ≡ goal
 EndsOrWaits goal (Err stop) = stop.why ≡ wrong.PollNever
 
 -- what a play of these steps comes to, on each chip of a build's inputs that has the content that the build read
-abbrev pub PlaysOnEvery : (t : Task) (len : ℕ) (before after : Ahead) (held_before held_after : Option (List ℕ)) (report : Report)
-    → IsBuilt t len before after held_before held_after report → List Step → Type 0
-PlaysOnEvery t len before after held_before held_after report built steps = (s : Setting) (limit : ℕ) → IsChipOf built.m (start_of t) s
-    → EndsOrWaits (wanted t built.image built.regions built.content) (play s limit (ready s built.content) steps)
+abbrev pub PlaysOnEvery : (t : Task) (len : ℕ) (before after : Ahead) (held_before held_after : Option (List ℕ))
+    → WroteScript t len before after held_before held_after → List Step → Type 0
+PlaysOnEvery t len before after held_before held_after wrote steps = (s : Setting) (limit : ℕ) → IsChipOf wrote.m (start_of t) s
+    → EndsOrWaits (wanted t wrote.image wrote.regions wrote.content) (play s limit (ready s wrote.content) steps)
 
 -- the steps that a built text spells are the built ones, and with any limit on polls they play well
 abbrev pub BuiltPlays : Type 0
-BuiltPlays = (t : Task) (len : ℕ) (before after : Ahead) (held_before held_after : Option (List ℕ)) (report : Report)
-    (built : IsBuilt t len before after held_before held_after report) (steps : List Step) → IsScript built.text steps
-    → (steps ≡ built.steps) × PlaysOnEvery t len before after held_before held_after report built steps
+BuiltPlays = (t : Task) (len : ℕ) (before after : Ahead) (held_before held_after : Option (List ℕ))
+    (wrote : WroteScript t len before after held_before held_after) (steps : List Step) → IsScript wrote.text steps
+    → (steps ≡ wrote.steps) × PlaysOnEvery t len before after held_before held_after wrote steps
