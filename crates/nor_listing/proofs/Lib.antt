@@ -5,3 +5,9 @@ mod WordLemmas
 mod SeenLemmas
 mod StepLemmas
 mod ListLemmas
+mod ApartLemmas
+mod TakenLemmas
+mod TailLemmas
+mod ScriptLemmas
+mod ViewLemmas
+mod LawLemmas

@@ -3,15 +3,17 @@
 //! "Listing", has the format.
 //!
 //! [`write_listing`] writes the listing of steps that are at hand. [`begin`], then [`write_line`] for each step as it comes,
-//! then [`finish`] with their number write the same. None of them takes memory.
+//! then [`finish`] with their number write the same. None of them takes memory. [`one_listing`] is the law that a listing has
+//! one list of steps.
 #![tactic(auto)]
 
 mod hexadecimal;
+mod law;
 mod line;
 mod sent;
 mod verified;
 mod writer;
 
+pub use law::one_listing;
 pub use line::write_line;
-pub use nor_script::finish;
-pub use writer::{begin, write_listing};
+pub use writer::{begin, finish, write_listing};

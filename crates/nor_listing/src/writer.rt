@@ -3,12 +3,12 @@
 ghost use Rattle.std.specs.Prelude.{◌≡◌, ◌<◌, ◌-◌, ◌^◌};
 ghost use Rattle.nor_base.specs.Chip.{begins4};
 ghost use Rattle.nor_base.specs.Device.{Writes, Counts};
+ghost use Rattle.nor_base.specs.Script.{end_line};
 ghost use Rattle.nor_listing.specs.Listing.{chip_line, lines_from, listing};
 
 use crate::line::write_line;
 use itoa::Buffer;
 use nor_base::{ByteOut, Failed, Meaning, Start, Step, put_parts};
-use nor_script::finish;
 
 /// Writes the listing of steps: the chip and its first address mode, a line for each step, and `end N` with their number. The
 /// mode is that of the start until an Enter (B7h) or Leave (E9h) that is sent. It takes no memory.
@@ -47,6 +47,17 @@ pub fn begin<W: ByteOut>(meaning: &Meaning, mode4: bool, out: &mut W) -> Result<
     } else {
         put_parts(out, &[b"chip ", size, b" three\n"])
     }
+}
+
+/// Writes the last line, `end N` with the number of steps, as a script's.
+///
+/// At `Failed` a proper prefix was taken; it comes from the writer alone, whose count of failures rose by one.
+pub fn finish<W: ByteOut>(steps: u64, out: &mut W) -> Result<(), Failed>
+    requires { W.count out.old < 2 ^ 64 - 1 }
+    ensures bytes { Writes (W.held out.old) (W.held out.new) result (end_line steps) }
+    ensures count { Counts (W.count out.old) (W.count out.new) result }
+{
+    nor_script::finish(steps, out)
 }
 
 /// Writes the lines of steps, from an address mode on.

@@ -1,0 +1,177 @@
+-- Clocks that a chip takes are told by their opcode and what it sees in them.
+use Rattle.std.proofs.Common.{◌≡◌, ℕ, zero, suc, ◌+◌, ◌*◌, ◌/◌, ◌^◌, ◌<◌, ◌≤◌, ◌==◌, ◌&&◌, ◌||◌, Bool, true, false, List, [], ◌∷◌, length, take, drop, get_or, Option, Some, None, refl, sym, ◌∙◌, ap, subst, arith, eqb-true, length-take, length-drop}
+use Rattle.std.specs.Prelude.{nat_le, if◌then◌else◌, option_map, replicate}
+use Rattle.std.specs.List.{list_all, find}
+use Rattle.std.proofs.Math.Nat.{pow-succ', pow-le-pow_right}
+use Rattle.std.proofs.lemmas.Bool.{and_parts, leb-true}
+use Rattle.std.proofs.lemmas.List.{length-replicate}
+use Rattle.nor_base.specs.declared.instruction.What.{What}
+use Rattle.nor_base.specs.declared.instruction.What.TheVariants as what
+use Rattle.nor_base.specs.Parameters.{Parameters}
+use Rattle.nor_base.specs.Instructions.{Form, nothing, sends, sends4, samples, samples4, form_of, Row, row_of, table}
+use Rattle.nor_base.specs.Decoding.{Instruction, instruction, transaction, decode, by_row, broken, has_opcode, is_form, bit, number, opcode, address_clocks, data_clocks, bytes_of_bits, bytes_of_nibbles, bytes_sent, bytes_asked}
+use Rattle.nor_base.specs.Effect.{is_broken, has_address}
+use Rattle.nor_base.specs.Spelling.{Instr, seen, bytes_to_send, count_to_read}
+use Rattle.nor_laws.specs.Spelling.{SameSpelling}
+use Rattle.nor_listing.proofs.ApartLemmas.{Small}
+
+-- what is found passes the test, and each that all pass
+record Passes {A : Type 0} (p q : A → Bool) (y : A) : Type 0 where
+  its : p y ≡ true
+  all : q y ≡ true
+
+found_step : {A : Type 0} (p q : A → Bool) (x y : A) (xs : List A) (b : Bool) → p x ≡ b → q x ≡ true → (find p xs ≡ Some y → Passes p q y)
+    → (if b then Some x else find p xs) ≡ Some y → Passes p q y
+found_step p q x y xs true is whole later h = let same : x ≡ y = cc in subst (Passes p q) same (record { its = is; all = whole })
+found_step p q x y xs false is whole later h = later h
+
+found_passes : {A : Type 0} (p q : A → Bool) (xs : List A) (y : A) → list_all q xs ≡ true → find p xs ≡ Some y → Passes p q y
+found_passes p q [] y whole h = cc
+found_passes p q (x ∷ xs) y whole h =
+    let parts = and_parts (q x) (list_all q xs) whole in
+    found_step p q x y xs (p x) refl parts.0 (found_passes p q xs y parts.1) h
+
+-- at most four address bytes, and none where an instruction names no address
+row_narrow : (m : Parameters) (mode4 : Bool) (op : ℕ) (r : Row) → row_of m mode4 op ≡ Some r → nat_le r.width 4 ≡ true
+unfolding row_of
+row_narrow m true op r h = (found_passes (λ (r : Row). (op == r.opcode) && r.offered) (λ (r : Row). nat_le r.width 4) (table m true) r refl h).all
+row_narrow m false op r h = (found_passes (λ (r : Row). (op == r.opcode) && r.offered) (λ (r : Row). nat_le r.width 4) (table m false) r refl h).all
+
+row_bare : (m : Parameters) (mode4 : Bool) (op : ℕ) (r : Row) → row_of m mode4 op ≡ Some r → has_address r.what || (r.width == 0) ≡ true
+unfolding row_of
+row_bare m mode4 op r h =
+    (found_passes (λ (r : Row). (op == r.opcode) && r.offered) (λ (r : Row). has_address r.what || (r.width == 0)) (table m mode4) r refl h).all
+
+-- numbers of bits
+bit_small : (symbol : ℕ) → bit symbol < 2
+unfolding bit
+bit_small symbol = omega arith
+
+bit_before : (b n p : ℕ) → b < 2 → n < p → b * p + n < 2 * p
+bit_before zero n p small below = omega arith
+bit_before (suc zero) n p small below = omega arith
+bit_before (suc (suc b)) n p small below = absurd (omega arith)
+
+number_below : (bits : List ℕ) → number bits < 2 ^ length bits
+number_below [] = omega arith
+number_below (symbol ∷ bits) =
+    rw (pow-succ' 2 (length bits)) (bit_before (bit symbol) (number bits) (2 ^ length bits) (bit_small symbol) (number_below bits))
+
+number_fits : (n : ℕ) (bits : List ℕ) → length bits ≤ n → number bits < 2 ^ n
+number_fits n bits few =
+    let wide : 2 ^ length bits ≤ 2 ^ n = pow-le-pow_right (omega arith) few in omega (arith, number_below bits)
+
+pub opcode_small : (clocks : List ℕ) → opcode clocks < 256
+opcode_small clocks = number_fits 8 (take 8 clocks) (omega (arith, length-take 8 clocks))
+
+pub all_small : (xs : List ℕ) → ((i : ℕ) → get_or xs i 0 < 256) → Small xs
+all_small [] h = tt
+all_small (x ∷ xs) h = (h 0, all_small xs (λ i. h (suc i)))
+
+-- an instruction with data clocks
+abbrev pub taken_as : What → ℕ → List ℕ → Instruction
+taken_as w address body = instruction (record { what = w; address = address; body = body })
+
+-- clocks that a chip takes by a row
+pub record Takes (m : Parameters) (mode4 : Bool) (clocks : List ℕ) (i : Instruction) : Type 0 where
+  pub r : Row
+  pub address : ℕ
+  pub body : List ℕ
+  pub found : row_of m mode4 (opcode clocks) ≡ Some r
+  pub narrow : address < 2 ^ 32
+  pub bare : has_address r.what ≡ false → address ≡ 0
+  pub few : length body ≤ length clocks
+  pub is : taken_as r.what address body ≡ i
+
+width_none : (has : Bool) (width : ℕ) → has || (width == 0) ≡ true → has ≡ false → width ≡ 0
+width_none true width h is = cc
+width_none false width h is = eqb-true width 0 h
+
+module _ (m : Parameters) (mode4 : Bool) (clocks : List ℕ) (i : Instruction) (sound : is_broken i.what ≡ false) where
+  by_form : (r : Row) (b : Bool) → row_of m mode4 (opcode clocks) ≡ Some r
+      → instruction (if b then record { what = r.what; address = number (address_clocks r (drop 8 clocks)); body = data_clocks r (drop 8 clocks) } else broken) ≡ i
+      → Takes m mode4 clocks i
+  by_form r true found h =
+      let rest = drop 8 clocks in
+      let narrow : r.width ≤ 4 = leb-true r.width 4 (row_narrow m mode4 (opcode clocks) r found) in
+      record {
+        r = r;
+        address = number (address_clocks r rest);
+        body = data_clocks r rest;
+        found = found;
+        narrow = number_fits 32 (address_clocks r rest) (omega (arith, length-take (8 * r.width) rest));
+        bare = λ none.
+            let no_width : r.width ≡ 0 = width_none (has_address r.what) r.width (row_bare m mode4 (opcode clocks) r found) none in
+            ap (λ n. number (take (8 * n) rest)) no_width;
+        few = omega (arith, length-drop 8 clocks, length-drop (8 * r.width) rest, length-drop r.dummies (drop (8 * r.width) rest));
+        is = h;
+      }
+  by_form r false found h =
+      let same : what.Broken ≡ i.what = ap (λ (s : Instruction). s.what) h in
+      let says : true ≡ is_broken i.what = ap is_broken same in
+      let both : true ≡ false = says ∙ sound in
+      absurd (let wrong : ⊥ = cc in wrong)
+
+  by_found : (b : Bool) (o : Option Row) → row_of m mode4 (opcode clocks) ≡ o
+      → option_map instruction (if b then option_map (by_row (drop 8 clocks)) o else None) ≡ Some i → Takes m mode4 clocks i
+  unfolding by_row
+  by_found false o found h = cc
+  by_found true None found h = cc
+  by_found true (Some r) found h =
+      let is : instruction (by_row (drop 8 clocks) r) ≡ i = cc in
+      by_form r (is_form r (drop 8 clocks)) found is
+
+  pub takes : decode m mode4 clocks ≡ Some i → Takes m mode4 clocks i
+  unfolding decode transaction
+  takes h = by_found (has_opcode clocks) (row_of m mode4 (opcode clocks)) refl h
+
+-- the instruction that is spelled by clocks in which a chip sees this
+abbrev bytes_for : Form → List ℕ → List ℕ
+bytes_for nothing body = []
+bytes_for sends body = bytes_of_bits body
+bytes_for sends4 body = bytes_of_nibbles body
+bytes_for samples body = replicate (length body / 8) 0
+bytes_for samples4 body = replicate (length body / 2) 0
+
+sent_same : (form : Form) (body : List ℕ) → bytes_to_send form (bytes_for form body) ≡ bytes_sent form body
+sent_same nothing body = refl
+sent_same sends body = refl
+sent_same sends4 body = refl
+sent_same samples body = refl
+sent_same samples4 body = refl
+
+asked_same : (form : Form) (body : List ℕ) → count_to_read form (bytes_for form body) ≡ bytes_asked form body
+asked_same nothing body = refl
+asked_same sends body = refl
+asked_same sends4 body = refl
+asked_same samples body = length-replicate {A = ℕ} (length body / 8) 0
+asked_same samples4 body = length-replicate {A = ℕ} (length body / 2) 0
+
+abbrev spelled_by : Row → ℕ → ℕ → List ℕ → Instr
+spelled_by r op address body =
+    record { what = r.what; op = op; address = address; width = r.width; dummies = r.dummies; bytes = bytes_for (form_of r.what) body }
+
+seen_same : (r : Row) (op address : ℕ) (body : List ℕ) → taken_as r.what address body ≡ seen (spelled_by r op address body)
+seen_same r op address body =
+    let form = form_of r.what in
+    ap (λ (bytes : List ℕ). record { what = r.what; address = address; sent = bytes; asked = bytes_asked form body }) (sym (sent_same form body))
+    ∙ ap (λ n. record { what = r.what; address = address; sent = bytes_to_send form (bytes_for form body); asked = n }) (sym (asked_same form body))
+
+-- so no two have one opcode and are seen alike
+pub same_clocks : SameSpelling → (m : Parameters) (mode4 : Bool) (xs ys : List ℕ) (i j : Instruction) → decode m mode4 xs ≡ Some i → decode m mode4 ys ≡ Some j
+    → Takes m mode4 xs i → opcode xs ≡ opcode ys → i ≡ j → xs ≡ ys
+same_clocks law m mode4 xs ys i j first second t op same =
+    let s = spelled_by t.r (opcode xs) t.address t.body in
+    let alike : i ≡ seen s = sym t.is ∙ seen_same t.r (opcode xs) t.address t.body in
+    law m mode4 s xs ys (record { r = t.r; found = t.found; its_what = refl; its_width = refl; its_dummies = refl })
+    (record { begins = refl; decodes = first ∙ ap (λ (k : Instruction). Some k) alike })
+    (record { begins = sym op; decodes = second ∙ ap (λ (k : Instruction). Some k) (sym same ∙ alike) })
+
+-- clocks of one opcode are taken by one row
+pub same_row : (m : Parameters) (mode4 : Bool) (xs ys : List ℕ) (i j : Instruction) (s : Takes m mode4 xs i) (t : Takes m mode4 ys j) → opcode xs ≡ opcode ys → s.r ≡ t.r
+same_row m mode4 xs ys i j s t op =
+    let both : Some s.r ≡ Some t.r = sym s.found ∙ ap (row_of m mode4) op ∙ t.found in
+    some_is both
+  where
+    some_is : {a b : Row} → Some a ≡ Some b → a ≡ b
+    some_is h = cc

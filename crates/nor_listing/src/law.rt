@@ -1,0 +1,11 @@
+//! That a listing tells its steps.
+
+ghost use Rattle.nor_listing.specs.Law.{OneListing};
+
+/// A law: of one meaning and first address mode, a listing has one list of steps. They are steps that a script may have, fewer
+/// than 2^64, and each has fewer than 2^64 clocks.
+pub fn one_listing()
+    ensures { OneListing }
+{
+    nor_laws::spelling();
+}
