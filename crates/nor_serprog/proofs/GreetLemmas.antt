@@ -1,0 +1,124 @@
+-- A handshake, exchange by exchange.
+use Rattle.std.proofs.Common.{◌≡◌, ℕ, Bool, List, [], ◌∷◌, ◌++◌, length, take, Option, Err, sym, ◌∙◌, ap, subst, append-nil}
+use Rattle.std.specs.Prelude.{flat_map, replicate}
+use Rattle.std.specs.Io.KnownBytes.{Appends}
+use Rattle.std.proofs.lemmas.Grind.{flat_map-append}
+use Rattle.std.proofs.lemmas.List.{nil_from_length}
+use Rattle.nor_base.specs.Device.{Ahead, Gives}
+use Rattle.nor_serprog.specs.declared.fault.Fault.{Fault}
+use Rattle.nor_serprog.specs.declared.fault.Command.{Command}
+use Rattle.nor_serprog.specs.declared.fault.Command.TheVariants as command
+use Rattle.nor_serprog.specs.declared.fault.GreetFault.{GreetFault}
+use Rattle.nor_serprog.specs.declared.fault.GreetFault.TheVariants as refused
+use Rattle.nor_serprog.specs.Protocol.{ACK, NAK, answer}
+use Rattle.nor_serprog.specs.Exchange.{Talked}
+use Rattle.nor_serprog.specs.Greeting.{Greeting, Exchange, offers, exchange_if, exchanges, place, answer_length, command_bytes, HasExchanged, Tells, HasBegun, BeginsGreeting, StopsAt, IsWord, Reaches, Greeted}
+use Rattle.nor_serprog.proofs.FollowLemmas.{talked_more}
+
+-- the first exchange of a list
+pub exchanged_one : {h h' : Option (List ℕ)} {a a' : Ahead} (x : Exchange) → Talked h h' a a' x.put x.given → HasExchanged h h' a a' (x ∷ [])
+exchanged_one {h} {h'} {a} {a'} x p = record {
+  out = subst (Appends h h') (sym (append-nil x.put)) p.out;
+  back = subst (λ bytes. Gives a bytes a') (sym (append-nil x.given)) p.back;
+}
+
+-- and one more
+pub exchanged_more : {h m h' : Option (List ℕ)} {a b a' : Ahead} (xs : List Exchange) (x : Exchange) → HasExchanged h m a b xs → Talked m h' b a' x.put x.given
+    → HasExchanged h h' a a' (xs ++ x ∷ [])
+exchanged_more {h} {m} {h'} {a} {b} {a'} xs x p q =
+    let puts : flat_map (λ (e : Exchange). e.put) (xs ++ x ∷ []) ≡ flat_map (λ (e : Exchange). e.put) xs ++ x.put =
+    flat_map-append (λ (e : Exchange). e.put) xs (x ∷ []) ∙ ap (λ ys. flat_map (λ (e : Exchange). e.put) xs ++ ys) (append-nil x.put) in
+    let gives : flat_map (λ (e : Exchange). e.given) (xs ++ x ∷ []) ≡ flat_map (λ (e : Exchange). e.given) xs ++ x.given =
+    flat_map-append (λ (e : Exchange). e.given) xs (x ∷ []) ∙ ap (λ ys. flat_map (λ (e : Exchange). e.given) xs ++ ys) (append-nil x.given) in
+    let whole = talked_more _ _ x.put x.given p q in
+    record { out = subst (Appends h h') (sym puts) whole.out; back = subst (λ bytes. Gives a bytes a') (sym gives) whole.back }
+
+-- the words of a device so far
+abbrev pub greeting_of : {h h' : Option (List ℕ)} {a a' : Ahead} → HasBegun h h' a a' → List ℕ → List ℕ → List ℕ → List ℕ → Greeting
+greeting_of begun version commands sends gives = record {
+  tries = begun.tries;
+  noise = begun.noise;
+  late = begun.late;
+  version = version;
+  commands = commands;
+  sends = sends;
+  gives = gives;
+}
+
+-- no first word
+pub begins_not : (h h' : Option (List ℕ)) (a a' : Ahead) (e : GreetFault) → BeginsGreeting h h' a a' (Err e) → Greeted h h' a a' (Err e)
+begins_not h h' a a' (refused.Command command.SyncNop why) p = p
+begins_not h h' a a' (refused.Command command.QueryInterface why) p = absurd p
+begins_not h h' a a' (refused.Command command.QueryCommands why) p = absurd p
+begins_not h h' a a' (refused.Command command.SetBus why) p = absurd p
+begins_not h h' a a' (refused.Command command.QueryWriteMax why) p = absurd p
+begins_not h h' a a' (refused.Command command.QueryReadMax why) p = absurd p
+begins_not h h' a a' (refused.Command command.SetPins why) p = absurd p
+begins_not h h' a a' refused.Version p = absurd p
+begins_not h h' a a' refused.NoOperation p = absurd p
+
+-- a command whose exchange ends early
+pub tells_not : (h m h' : Option (List ℕ)) (a b a' : Ahead) (at : Command) (got : List ℕ) (e : GreetFault) (g : Greeting)
+    → ((why : Fault) → StopsAt h h' a a' at why → Greeted h h' a a' (Err (refused.Command at why)))
+    → IsWord g.tries g.noise g.late → Reaches g at → length got ≡ answer_length at → HasExchanged h m a b (take (place at) (exchanges g))
+    → Tells m h' b a' (Err e) at got → Greeted h h' a a' (Err e)
+tells_not h m h' a b a' at got (refused.Command here why) g goes word reaches room before p =
+    let stops : Greeted h h' a a' (Err (refused.Command at why)) = goes why (record {
+      greeting = g;
+      held = m;
+      ahead = b;
+      got = got;
+      word = word;
+      reaches = reaches;
+      room = room;
+      before = before;
+      stop = p.1;
+    }) in
+    subst (λ c. Greeted h h' a a' (Err (refused.Command c why))) (sym p.0) stops
+tells_not h m h' a b a' at got refused.Version g goes word reaches room before p = absurd p
+tells_not h m h' a b a' at got refused.NoOperation g goes word reaches room before p = absurd p
+
+-- the exchanges so far, one after another
+pub word_done : {h h' : Option (List ℕ)} {a a' : Ahead} (begun : HasBegun h h' a a') (version commands sends gives : List ℕ)
+    → HasExchanged h h' a a' (take 1 (exchanges (greeting_of begun version commands sends gives)))
+word_done begun version commands sends gives =
+    exchanged_one (record { put = replicate begun.tries 0x10; given = begun.noise ++ (NAK ∷ ACK ∷ begun.late) }) begun.talked
+
+pub version_done : {h m h' : Option (List ℕ)} {a b a' : Ahead} (g : Greeting) → HasExchanged h m a b (take 1 (exchanges g))
+    → Talked m h' b a' (command_bytes command.QueryInterface) (answer g.version) → HasExchanged h h' a a' (take 2 (exchanges g))
+version_done g p q = exchanged_more (take 1 (exchanges g)) (record { put = command_bytes command.QueryInterface; given = answer g.version }) p q
+
+pub commands_done : {h m h' : Option (List ℕ)} {a b a' : Ahead} (g : Greeting) → HasExchanged h m a b (take 2 (exchanges g))
+    → Talked m h' b a' (command_bytes command.QueryCommands) (answer g.commands) → HasExchanged h h' a a' (take 3 (exchanges g))
+commands_done g p q = exchanged_more (take 2 (exchanges g)) (record { put = command_bytes command.QueryCommands; given = answer g.commands }) p q
+
+pub bus_done : {h m h' : Option (List ℕ)} {a b a' : Ahead} (g : Greeting) (got : List ℕ) → length got ≡ 0 → HasExchanged h m a b (take 3 (exchanges g))
+    → Talked m h' b a' (command_bytes command.SetBus) (answer got) → HasExchanged h h' a a' (take 4 (exchanges g))
+bus_done {h} {m} {h'} {a} {b} {a'} g got none p q =
+    let nothing : got ≡ [] = nil_from_length got none in
+    exchanged_more (take 3 (exchanges g)) (record { put = command_bytes command.SetBus; given = answer [] }) p
+    (subst (λ xs. Talked m h' b a' (command_bytes command.SetBus) (answer xs)) nothing q)
+
+pub sends_done : {h m h' : Option (List ℕ)} {a b a' : Ahead} (g : Greeting) (offered : Bool) → offered ≡ offers g.commands 0x08 → HasExchanged h m a b (take 4 (exchanges g))
+    → Talked m h' b a' (exchange_if offered (command_bytes command.QueryWriteMax) (answer g.sends)).put (exchange_if offered (command_bytes command.QueryWriteMax) (answer g.sends)).given
+    → HasExchanged h h' a a' (take 5 (exchanges g))
+sends_done {h} {m} {h'} {a} {b} {a'} g offered is p q =
+    let x = λ (o : Bool). exchange_if o (command_bytes command.QueryWriteMax) (answer g.sends) in
+    exchanged_more (take 4 (exchanges g)) (x (offers g.commands 0x08)) p (subst (λ o. Talked m h' b a' (x o).put (x o).given) is q)
+
+pub gives_done : {h m h' : Option (List ℕ)} {a b a' : Ahead} (g : Greeting) (offered : Bool) → offered ≡ offers g.commands 0x11 → HasExchanged h m a b (take 5 (exchanges g))
+    → Talked m h' b a' (exchange_if offered (command_bytes command.QueryReadMax) (answer g.gives)).put (exchange_if offered (command_bytes command.QueryReadMax) (answer g.gives)).given
+    → HasExchanged h h' a a' (take 6 (exchanges g))
+gives_done {h} {m} {h'} {a} {b} {a'} g offered is p q =
+    let x = λ (o : Bool). exchange_if o (command_bytes command.QueryReadMax) (answer g.gives) in
+    exchanged_more (take 5 (exchanges g)) (x (offers g.commands 0x11)) p (subst (λ o. Talked m h' b a' (x o).put (x o).given) is q)
+
+pub pins_done : {h m h' : Option (List ℕ)} {a b a' : Ahead} (g : Greeting) (got : List ℕ) (offered : Bool) → length got ≡ 0 → offered ≡ offers g.commands 0x15
+    → HasExchanged h m a b (take 6 (exchanges g))
+    → Talked m h' b a' (exchange_if offered (command_bytes command.SetPins) (answer got)).put (exchange_if offered (command_bytes command.SetPins) (answer got)).given
+    → HasExchanged h h' a a' (exchanges g)
+pins_done {h} {m} {h'} {a} {b} {a'} g got offered none is p q =
+    let nothing : got ≡ [] = nil_from_length got none in
+    let x = λ (o : Bool) (xs : List ℕ). exchange_if o (command_bytes command.SetPins) (answer xs) in
+    let bare : Talked m h' b a' (x offered []).put (x offered []).given = subst (λ xs. Talked m h' b a' (x offered xs).put (x offered xs).given) nothing q in
+    exchanged_more (take 6 (exchanges g)) (x (offers g.commands 0x15) []) p (subst (λ o. Talked m h' b a' (x o []).put (x o []).given) is bare)

@@ -1,0 +1,6 @@
+mod ExchangeLemmas
+mod CarriedLemmas
+mod WordLemmas
+mod GreetLemmas
+mod FollowLemmas
+mod PieceLemmas

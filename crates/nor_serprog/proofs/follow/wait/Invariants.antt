@@ -1,0 +1,12 @@
+-- Each status so far said busy.
+use Rattle.std.proofs.Common.{◌≡◌, length}
+use Rattle.nor_serprog.proofs.FollowLemmas.{HasWaitedFor}
+use Rattle.nor_serprog.proofs.follow.wait.Given as goal
+
+abbrev pub invariant-loop : goal.invariant-loop
+invariant-loop g l = record {
+  busy : HasWaitedFor (g.W.ByteOut.held l.fn.to) (g.W.ByteOut.held l.to) (g.R.ByteIn.ahead l.fn.from) (g.R.ByteIn.ahead l.from) l.counter;
+  reads : g.R.ByteIn.count l.from ≡ g.R.ByteIn.count l.fn.from;
+  writes : g.W.ByteOut.count l.to ≡ g.W.ByteOut.count l.fn.to;
+  one : length l.status ≡ 1;
+}

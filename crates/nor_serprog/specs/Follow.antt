@@ -1,0 +1,142 @@
+-- What a device beside a chip in memory did in one transaction (this project's).
+use Rattle.std.specs.Prelude.{◌≡◌, ◌≢◌, ◌<◌, ◌%◌, ◌==◌, ◌+◌, ℕ, Bool, true, List, [], ◌∷◌, ◌++◌, length, flat_map, Option, Some, None, Result, Ok, Err}
+use Rattle.std.specs.List.{list_all}
+use Rattle.nor_base.specs.declared.wrong.PortFault.{PortFault}
+use Rattle.nor_base.specs.declared.wrong.PortFault.TheVariants as port
+use Rattle.nor_base.specs.Device.{Ahead}
+use Rattle.nor_base.specs.Port.{Shown, Transacts}
+use Rattle.nor_base.specs.Run.{poll_clocks}
+use Rattle.nor_serprog.specs.declared.fault.Fault.{Fault}
+use Rattle.nor_serprog.specs.declared.fault.Fault.TheVariants as fault
+use Rattle.nor_serprog.specs.declared.fault.Reason.{Reason}
+use Rattle.nor_serprog.specs.declared.fault.Reason.TheVariants as reason
+use Rattle.nor_serprog.specs.declared.limits.Limits.{Limits}
+use Rattle.nor_serprog.specs.Protocol.{request, answer}
+use Rattle.nor_serprog.specs.Exchange.{Talked, Answers, AnswersWith, Asks}
+use Rattle.nor_serprog.specs.Carried.{IsOperation, IsNoOperation}
+
+-- the operation of a status read: 05h goes out, one byte comes in
+abbrev pub status_request : List ℕ
+status_request = request (0x05 ∷ []) 1
+
+-- a status was read again and again, and these came
+abbrev pub HasRead : Option (List ℕ) → Option (List ℕ) → Ahead → Ahead → List ℕ → Type 0
+HasRead held_before held_after ahead_before ahead_after statuses =
+    Talked held_before held_after ahead_before ahead_after (flat_map (λ status. status_request) statuses)
+    (flat_map (λ status. answer (status ∷ [])) statuses)
+
+-- bit 0 of a status, the busy bit, is 1
+abbrev pub are_busy : List ℕ → Bool
+are_busy statuses = list_all (λ status. status % 2 == 1) statuses
+
+-- the status was read until it said idle, which it did within so many turns
+pub record HasWaited (held_before held_after : Option (List ℕ)) (ahead_before ahead_after : Ahead) (turns : ℕ) : Type 0 where
+  pub busy : List ℕ
+  pub idle : ℕ
+  pub within : length busy < turns
+  pub each : are_busy busy ≡ true
+  pub last : idle % 2 ≡ 0
+  pub read : HasRead held_before held_after ahead_before ahead_after (busy ++ idle ∷ [])
+
+-- so many turns all said busy
+pub record StaysBusy (held_before held_after : Option (List ℕ)) (ahead_before ahead_after : Ahead) (turns : ℕ) : Type 0 where
+  pub busy : List ℕ
+  pub all : length busy ≡ turns
+  pub each : are_busy busy ≡ true
+  pub read : HasRead held_before held_after ahead_before ahead_after busy
+
+-- some turns said busy, and the next one's exchange ended so
+pub record StopsWaiting (held_before held_after : Option (List ℕ)) (ahead_before ahead_after : Ahead) (turns : ℕ) (why : Fault) : Type 0
+  where
+    pub busy : List ℕ
+    pub within : length busy < turns
+    pub each : are_busy busy ≡ true
+    pub held : Option (List ℕ)
+    pub ahead : Ahead
+    pub got : List ℕ
+    pub one : length got ≡ 1
+    pub read : HasRead held_before held ahead_before ahead busy
+    pub stop : Asks held held_after ahead ahead_after (Err why) status_request (Answers ahead ahead_after (Err why) got)
+
+-- what a wait says
+abbrev pub Waits : Option (List ℕ) → Option (List ℕ) → Ahead → Ahead → Result (Unit {0}) Reason → ℕ → Type 0
+Waits held_before held_after ahead_before ahead_after (Ok u) turns = HasWaited held_before held_after ahead_before ahead_after turns
+Waits held_before held_after ahead_before ahead_after (Err reason.Busy) turns = StaysBusy held_before held_after ahead_before ahead_after
+    turns
+Waits held_before held_after ahead_before ahead_after (Err (reason.Exchange why)) turns =
+    StopsWaiting held_before held_after ahead_before ahead_after turns why
+Waits held_before held_after ahead_before ahead_after (Err reason.Carried) turns = ⊥
+
+-- the device did the operation of these clocks, and gave these bytes
+pub record HasOperated (held_before held_after : Option (List ℕ)) (ahead_before ahead_after : Ahead) (limits : Limits)
+    (clocks want : List ℕ) : Type 0 where
+  pub sent : List ℕ
+  pub spelled : IsOperation limits clocks sent (length want)
+  pub talked : Talked held_before held_after ahead_before ahead_after (request sent (length want)) (answer want)
+
+-- the exchange of that operation ended so
+pub record StopsOperating (held_before held_after : Option (List ℕ)) (ahead_before ahead_after : Ahead) (limits : Limits)
+    (clocks want : List ℕ) (why : Fault) : Type 0 where
+  pub sent : List ℕ
+  pub spelled : IsOperation limits clocks sent (length want)
+  pub stop : Asks held_before held_after ahead_before ahead_after (Err why) (request sent (length want))
+      (AnswersWith ahead_before ahead_after (Err why) want)
+
+-- no device can do these clocks, and nothing was asked of it
+pub record IsNotCarried (held_before held_after : Option (List ℕ)) (ahead_before ahead_after : Ahead) (limits : Limits) (clocks : List ℕ)
+    : Type 0 where
+  pub none : IsNoOperation limits clocks
+  pub held : held_after ≡ held_before
+  pub ahead : ahead_after ≡ ahead_before
+
+-- what one operation says
+abbrev pub Operates : Option (List ℕ) → Option (List ℕ) → Ahead → Ahead → Result (Unit {0}) Reason → Limits → List ℕ → List ℕ → Type 0
+Operates held_before held_after ahead_before ahead_after (Ok u) limits clocks want = HasOperated held_before held_after ahead_before
+    ahead_after limits clocks want
+Operates held_before held_after ahead_before ahead_after (Err reason.Busy) limits clocks want = ⊥
+Operates held_before held_after ahead_before ahead_after (Err (reason.Exchange why)) limits clocks want =
+    StopsOperating held_before held_after ahead_before ahead_after limits clocks want why
+Operates held_before held_after ahead_before ahead_after (Err reason.Carried) limits clocks want =
+    IsNotCarried held_before held_after ahead_before ahead_after limits clocks
+
+-- a transaction with the device, whose chip is to give these bytes: a poll is a wait, all else one operation
+pub record Follows (held_before held_after : Option (List ℕ)) (ahead_before ahead_after : Ahead) (result : Result (Unit {0}) Reason)
+    (limits : Limits) (turns : ℕ) (clocks want : List ℕ) : Type 0 where
+  pub poll : clocks ≡ poll_clocks → Waits held_before held_after ahead_before ahead_after result turns
+  pub other : clocks ≢ poll_clocks → Operates held_before held_after ahead_before ahead_after result limits clocks want
+
+-- the reader's count of failures rises by one exactly where the reason is Read, the writer's where it is Write
+abbrev pub CountsReason : Fault → ℕ → ℕ → Result (Unit {0}) Reason → Type 0
+CountsReason device before after (Ok u) = after ≡ before
+CountsReason device before after (Err reason.Busy) = after ≡ before
+CountsReason device before after (Err reason.Carried) = after ≡ before
+CountsReason fault.Read before after (Err (reason.Exchange fault.Read)) = after ≡ before + 1
+CountsReason fault.Write before after (Err (reason.Exchange fault.Write)) = after ≡ before + 1
+CountsReason device before after (Err (reason.Exchange why)) = after ≡ before
+
+-- the device was left alone
+pub record IsUntouched (held_before held_after : Option (List ℕ)) (ahead_before ahead_after : Ahead) : Type 0 where
+  pub held : held_after ≡ held_before
+  pub ahead : ahead_after ≡ ahead_before
+
+-- a failed transaction: a port that has failed fails again, and asks nothing of the device. One that hadn't fails by the device, and
+-- keeps the reason; its chip in memory took the instruction
+abbrev pub Fails : Shown → Shown → Option (List ℕ) → Option (List ℕ) → Ahead → Ahead → Option Reason → Option Reason → Limits → ℕ → List
+    ℕ → List ℕ → Type 0
+Fails before after held_before held_after ahead_before ahead_after (Some why) reason_after limits turns clocks out =
+    (reason_after ≡ Some why) × IsUntouched held_before held_after ahead_before ahead_after
+Fails before after held_before held_after ahead_before ahead_after None reason_after limits turns clocks out =
+    (why : Reason) × (reason_after ≡ Some why) × Transacts before after (Ok tt) clocks out
+    × Follows held_before held_after ahead_before ahead_after (Err why) limits turns clocks out
+
+-- what a transaction is to the device beside the chip: done as the chip does it; never asked for where the chip refuses it
+abbrev pub Accompanies : Shown → Shown → Option (List ℕ) → Option (List ℕ) → Ahead → Ahead → Option Reason → Option Reason → Result
+    (Unit {0}) PortFault → Limits → ℕ → List ℕ → List ℕ → Type 0
+Accompanies before after held_before held_after ahead_before ahead_after reason_before reason_after (Ok u) limits turns clocks out =
+    (reason_before ≡ None) × (reason_after ≡ None) × Follows held_before held_after ahead_before ahead_after (Ok tt) limits turns clocks out
+Accompanies before after held_before held_after ahead_before ahead_after reason_before reason_after (Err (port.Wrong why)) limits turns
+    clocks out =
+    (reason_before ≡ None) × (reason_after ≡ None) × IsUntouched held_before held_after ahead_before ahead_after
+Accompanies before after held_before held_after ahead_before ahead_after reason_before reason_after (Err port.Failed) limits turns clocks
+    out =
+    Fails before after held_before held_after ahead_before ahead_after reason_before reason_after limits turns clocks out

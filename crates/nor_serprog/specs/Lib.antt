@@ -1,0 +1,5 @@
+pub mod Protocol
+pub mod Exchange
+pub mod Carried
+pub mod Greeting
+pub mod Follow

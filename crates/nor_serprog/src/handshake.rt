@@ -1,0 +1,139 @@
+//! The handshake with a device.
+
+ghost use Rattle.std.specs.Prelude.{◌≡◌, ◌<◌, ◌-◌, ◌^◌, length};
+ghost use Rattle.nor_serprog.specs.Greeting.{Greeted, BeginsGreeting, Tells, TellsIf, CountsGreetReads, CountsGreetWrites, offers, most};
+
+use crate::exchange::ask;
+use crate::fault::{Command, GreetFault};
+use crate::limits::Limits;
+use crate::word::synchronize;
+use nor_base::{ByteIn, ByteOut};
+
+/// The command of an SPI operation.
+const O_SPIOP: u8 = 0x13;
+
+/// The commands that are asked only of a device that offers them.
+const Q_WRNMAXLEN: u8 = 0x08;
+
+const Q_RDNMAXLEN: u8 = 0x11;
+
+const S_PIN_STATE: u8 = 0x15;
+
+/// The most bytes of an operation, where the device doesn't tell: what its request has room for.
+const MOST: u32 = (1 << 24) - 1;
+
+/// Begins with a device, and answers how much it can do in one operation.
+///
+/// It is asked for its first word (10h) until NAK and ACK come, again at each silence, up to eight times: some boards reset
+/// when they are opened. Then follow the version of its interface (01h), the commands that it offers (02h), the SPI bus
+/// (12h 08h) and, where it offers them, the most bytes that an operation sends (08h) and gives (11h), and the chip's pins
+/// (15h 01h). A reader that waits for bytes has to end where the device is silent.
+///
+/// `Command` tells the first command whose exchange ended early, and how: the reader or the writer failed, the device was
+/// silent, answered NAK, or another byte than ACK; of the first word `Silent` after the last try, and `Differs` where it
+/// stood in none of 4096 bytes. `Version` where that isn't 1, `NoOperation` where 13h isn't offered.
+pub fn greet<R: ByteIn, W: ByteOut>(from: &mut R, to: &mut W) -> Result<Limits, GreetFault>
+    requires reader { R.count from.old < 2 ^ 64 - 1 }
+    requires writer { W.count to.old < 2 ^ 64 - 1 }
+    ensures greeted { Greeted (W.held to.old) (W.held to.new) (R.ahead from.old) (R.ahead from.new) result }
+    ensures reads { CountsGreetReads (R.count from.old) (R.count from.new) result }
+    ensures writes { CountsGreetWrites (W.count to.old) (W.count to.new) result }
+{
+    begin(from, to)?;
+    let mut version = [0; 2];
+    tell(from, to, Command::QueryInterface, &mut version)?;
+    if version != [1, 0] {
+        return Err(GreetFault::Version);
+    }
+    let mut commands = [0; 32];
+    tell(from, to, Command::QueryCommands, &mut commands)?;
+    if !offers(&commands, O_SPIOP) {
+        return Err(GreetFault::NoOperation);
+    }
+    tell(from, to, Command::SetBus, &mut [])?;
+    let mut sends = [0; 3];
+    let has_sends = offers(&commands, Q_WRNMAXLEN);
+    tell_if(from, to, has_sends, Command::QueryWriteMax, &mut sends)?;
+    let mut gives = [0; 3];
+    let has_gives = offers(&commands, Q_RDNMAXLEN);
+    tell_if(from, to, has_gives, Command::QueryReadMax, &mut gives)?;
+    let has_pins = offers(&commands, S_PIN_STATE);
+    tell_if(from, to, has_pins, Command::SetPins, &mut [])?;
+    Ok(Limits {
+        sent: most(has_sends, &sends),
+        asked: most(has_gives, &gives),
+    })
+}
+
+/// Has the device say its first word.
+fn begin<R: ByteIn, W: ByteOut>(from: &mut R, to: &mut W) -> Result<(), GreetFault>
+    requires reader { R.count from.old < 2 ^ 64 - 1 }
+    requires writer { W.count to.old < 2 ^ 64 - 1 }
+    ensures begins { BeginsGreeting (W.held to.old) (W.held to.new) (R.ahead from.old) (R.ahead from.new) result }
+    ensures reads { CountsGreetReads (R.count from.old) (R.count from.new) result }
+    ensures writes { CountsGreetWrites (W.count to.old) (W.count to.new) result }
+{
+    let at = Command::SyncNop;
+    match synchronize(from, to) {
+        Ok(()) => Ok(()),
+        Err(why) => Err(GreetFault::Command { at, why }),
+    }
+}
+
+/// Does a command, whose answer fills a buffer.
+fn tell<R: ByteIn, W: ByteOut>(
+    from: &mut R,
+    to: &mut W,
+    at: Command,
+    got: &mut [u8],
+) -> Result<(), GreetFault>
+    requires reader { R.count from.old < 2 ^ 64 - 1 }
+    requires writer { W.count to.old < 2 ^ 64 - 1 }
+    ensures tells { Tells (W.held to.old) (W.held to.new) (R.ahead from.old) (R.ahead from.new) result at got.new }
+    ensures reads { CountsGreetReads (R.count from.old) (R.count from.new) result }
+    ensures writes { CountsGreetWrites (W.count to.old) (W.count to.new) result }
+{
+    match ask(from, to, &[at.bytes()], got) {
+        Ok(()) => Ok(()),
+        Err(why) => Err(GreetFault::Command { at, why }),
+    }
+}
+
+/// Does a command where it is offered.
+fn tell_if<R: ByteIn, W: ByteOut>(
+    from: &mut R,
+    to: &mut W,
+    offered: bool,
+    at: Command,
+    got: &mut [u8],
+) -> Result<(), GreetFault>
+    requires reader { R.count from.old < 2 ^ 64 - 1 }
+    requires writer { W.count to.old < 2 ^ 64 - 1 }
+    ensures tells { TellsIf offered (W.held to.old) (W.held to.new) (R.ahead from.old) (R.ahead from.new) result at got.new }
+    ensures reads { CountsGreetReads (R.count from.old) (R.count from.new) result }
+    ensures writes { CountsGreetWrites (W.count to.old) (W.count to.new) result }
+{
+    if offered {
+        tell(from, to, at, got)
+    } else {
+        Ok(())
+    }
+}
+
+/// Whether the device offers a command: its bit, the lowest of each byte the first.
+fn offers(commands: &[u8; 32], command: u8) -> bool
+    ensures { result ≡ offers commands.now command }
+{
+    commands[usize::from(command / 8)] >> (command % 8) & 1 == 1
+}
+
+/// The most bytes of an operation, by what a device tells: 0 stands for 2^24, of which a request has room for one less.
+fn most(offered: bool, told: &[u8; 3]) -> u32
+    ensures most { result ≡ most offered told.now }
+    ensures some { 0 < result }
+    ensures few { result < 2 ^ 24 }
+{
+    let [low, middle, high] = *told;
+    let number = u32::from_le_bytes([low, middle, high, 0]);
+    if offered && number != 0 { number } else { MOST }
+}

@@ -1,0 +1,16 @@
+//! What a device can do in one operation.
+
+ghost use Rattle.std.specs.Prelude.{◌<◌, ◌^◌};
+
+/// The most bytes of one SPI operation of a device.
+#[derive(Clone, Copy, Debug, PartialEq, Eq)]
+pub struct Limits {
+    /// That go out, from 1 to 2^24 - 1.
+    pub sent: u32,
+    /// That come in, likewise.
+    pub asked: u32,
+    ghost some_sent: { 0 < sent },
+    ghost few_sent: { sent < 2 ^ 24 },
+    ghost some_asked: { 0 < asked },
+    ghost few_asked: { asked < 2 ^ 24 },
+}

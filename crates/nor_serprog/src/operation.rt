@@ -1,0 +1,50 @@
+//! One SPI operation of a device.
+
+ghost use Rattle.std.specs.Prelude.{◌≡◌, ◌<◌, ◌-◌, ◌^◌, length};
+ghost use Rattle.nor_base.specs.Decoding.{bytes_of_bits};
+ghost use Rattle.nor_serprog.specs.Protocol.{head, request};
+ghost use Rattle.nor_serprog.specs.Exchange.{Answers, AnswersWith, Asks, CountsReads, CountsWrites};
+
+use crate::exchange::ask;
+use crate::fault::Fault;
+use nor_base::{ByteIn, ByteOut};
+
+/// The command of an SPI operation.
+const O_SPIOP: u8 = 0x13;
+
+/// Has the device send bytes and then take bytes, under one chip select (O_SPIOP, 13h). Of both there are less than 2^24.
+///
+/// On Ok just that request went out, and just ACK and the bytes in `got` came. `Write` where the writer failed in the
+/// request, of which a proper prefix went out; else it went out whole. `Nak` and `Differs` where the first byte that came
+/// was NAK, or neither NAK nor ACK; `Silent` and `Read` where the reader ended or failed before all came. Of these `Nak`
+/// alone leaves known where in its answers the device is.
+pub fn operate<R: ByteIn, W: ByteOut>(
+    from: &mut R,
+    to: &mut W,
+    sent: &[u8],
+    got: &mut [u8],
+) -> Result<(), Fault>
+    requires sent { length sent.now < 2 ^ 24 }
+    requires asked { length got.old < 2 ^ 24 }
+    requires reader { R.count from.old < 2 ^ 64 - 1 }
+    requires writer { W.count to.old < 2 ^ 64 - 1 }
+    ensures asked { Asks (W.held to.old) (W.held to.new) (R.ahead from.old) (R.ahead from.new) result
+        (request sent.now (length got.old)) (Answers (R.ahead from.old) (R.ahead from.new) result got.new) }
+    ensures reads { CountsReads (R.count from.old) (R.count from.new) result }
+    ensures writes { CountsWrites (W.count to.old) (W.count to.new) result }
+{
+    let head = head(sent.len() as u32, got.len() as u32);
+    ask(from, to, &[&head, sent], got)
+}
+
+/// The command, and how many bytes go out and come in, lowest byte first.
+#[tactic(auto, unfolding(crate::specs::Protocol::head))]
+pub(crate) fn head(sent: u32, asked: u32) -> [u8; 7]
+    requires sent { sent < 2 ^ 24 }
+    requires asked { asked < 2 ^ 24 }
+    ensures { result ≡ head sent asked }
+{
+    let [sent0, sent1, sent2, _] = sent.to_le_bytes();
+    let [asked0, asked1, asked2, _] = asked.to_le_bytes();
+    [O_SPIOP, sent0, sent1, sent2, asked0, asked1, asked2]
+}

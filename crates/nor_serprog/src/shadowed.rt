@@ -1,0 +1,108 @@
+//! A chip in memory that the chip behind a device is to go along with.
+
+ghost use Rattle.std.specs.Prelude.{◌≡◌, ◌≤◌, ◌<◌, ◌-◌, ◌^◌, None, length};
+ghost use Rattle.nor_base.specs.Device.{ahead_of};
+ghost use Rattle.nor_base.specs.Port.{Transacts, CountsTransact};
+ghost use Rattle.nor_base.specs.Sample.{sampled_count};
+ghost use Rattle.nor_serprog.specs.Follow.{Accompanies};
+
+use crate::fault::Reason;
+use crate::follow::follow;
+use crate::limits::Limits;
+use nor_base::{FromRead, IntoWrite, PortFault};
+use nor_chip::{Chip, Port};
+use std::io::{Read, Write};
+
+/// A chip in memory, and a device that is to do the same transactions.
+///
+/// What the chip refuses is never sent. Where the device answers other bytes than the chip, or none, or can't do the
+/// clocks, the port has failed, and fails from then on: `reason` tells why. The device's busy time is waited out inside
+/// a poll, so the chip in memory is to have none; of the status a poll looks at the busy bit alone.
+#[derive(Drop)]
+pub struct Shadowed<'a, R: Read + Drop, W: Write + Drop> {
+    /// The chip in memory.
+    pub chip: Chip<'a>,
+    /// What comes from the device.
+    pub from: FromRead<R>,
+    /// What goes to it.
+    pub to: IntoWrite<W>,
+    /// What it can do.
+    pub limits: Limits,
+    /// Most status reads of one poll.
+    pub turns: u64,
+    /// How often it has failed.
+    pub failed: u64,
+    /// Why it failed first.
+    pub reason: Option<Reason>,
+    ghost reader: { from.failed ≤ failed },
+    ghost writer: { to.failed ≤ failed },
+}
+
+impl<'a, R: Read + Drop, W: Write + Drop> Shadowed<'a, R, W> {
+    /// A chip in memory, and the device of a reader and a writer, after its handshake.
+    pub fn new(chip: Chip<'a>, from: R, to: W, limits: Limits, turns: u64) -> Shadowed<'a, R, W>
+        ensures chip { result.chip ≡ chip.entry }
+        ensures from { result.from.inner ≡ from }
+        ensures to { result.to.inner ≡ to }
+        ensures limits { result.limits ≡ limits }
+        ensures turns { result.turns ≡ turns }
+        ensures failed { result.failed ≡ 0 }
+        ensures reason { result.reason ≡ None }
+    {
+        Shadowed {
+            chip,
+            from: FromRead::new(from),
+            to: IntoWrite::new(to),
+            limits,
+            turns,
+            failed: 0,
+            reason: None,
+        }
+    }
+}
+
+impl<'a, R: Read + Drop, W: Write + Drop> Port for Shadowed<'a, R, W> {
+    ghost shown = { λ port. port.chip };
+
+    ghost count = { λ port. port.failed };
+
+    fn transact(&mut self, clocks: &[u8], out: &mut [u8]) -> Result<(), PortFault>
+        requires out { length out.old ≡ sampled_count clocks.now }
+        requires room { self.old.failed < 2 ^ 64 - 1 }
+        ensures effect { Transacts self.old.chip self.new.chip result clocks.now out.new }
+        ensures count { CountsTransact self.old.failed self.new.failed result }
+        ensures device { Accompanies self.old.chip self.new.chip (W.contents self.old.to.inner) (W.contents self.new.to.inner)
+            (ahead_of (R.remaining self.old.from.inner)) (ahead_of (R.remaining self.new.from.inner)) self.old.reason self.new.reason
+            result self.old.limits self.old.turns clocks.now out.new }
+    {
+        if self.reason.is_some() {
+            self.failed += 1;
+            return Err(PortFault::Failed);
+        }
+        self.chip.transact(clocks, out)?;
+        let followed = follow(
+            &mut self.from,
+            &mut self.to,
+            &self.limits,
+            self.turns,
+            clocks,
+            out,
+        );
+        match followed {
+            Ok(()) => Ok(()),
+            Err(why) => {
+                self.failed += 1;
+                self.reason = Some(why);
+                Err(PortFault::Failed)
+            }
+        }
+    }
+
+    fn settled(&self) -> bool {
+        self.chip.settled()
+    }
+
+    fn failures(&self) -> u64 {
+        self.failed
+    }
+}
