@@ -19,7 +19,7 @@ use Rattle.norprog_words.specs.Told.{OfFault}
 use Rattle.norprog_words.proofs.ToldLemmas.{asked_wider, fault_wider, by_fault, refuses_wider}
 use Rattle.norprog_command.specs.Builds.{IsReportOf, IsBuildReport, IsFaultOf, IsBuildFault, RefusesBuild, done}
 use Rattle.norprog_command.specs.Meanings.{MeansThis, IsMeaning, MeansNone, IsChipFault, RefusesMeaning}
-use Rattle.norprog_command.specs.Plans.{TellsLines, PrintsLines, TellsSome, PrintsSome, CutsPlan, StopsPlanOf, IsPlanFault, RefusesPlan}
+use Rattle.norprog_command.specs.Plans.{TellsLines, PrintsLines, TellsSome, CutsLines, CutsPlan, StopsPlanOf, IsPlanFault, RefusesPlan}
 use Rattle.norprog_command.specs.Verdicts.{IsVerdictOf, IsCheckVerdict, IsStopOf, IsCheckFault, RefusesCheck, stop_refusal}
 
 -- a build, whose file was flushed or wasn't
@@ -83,7 +83,7 @@ plan_wider A B wider =
     (fault_wider (IsPlanFault A) (IsPlanFault B) (λ why of. asked_wider Task A B (StopsPlanOf why) wider of))
     (λ late. (late.0, late.1, late.2, asked_wider Task A B (TellsLines late.0 late.1 late.2) wider late.3))
 
-pub cut_wider : (A B : Task → Type 0) → ((t : Task) → A t → B t) → (before after : Option (List ℕ)) → (after ≡ before) ⊎ PrintsSome A before after → CutsPlan B before after
+pub cut_wider : (A B : Task → Type 0) → ((t : Task) → A t → B t) → (before after : Option (List ℕ)) → CutsLines A before after → CutsPlan B before after
 cut_wider A B wider before after (inl same) = inl same
 cut_wider A B wider before after (inr some) = inr (inl (some.0, asked_wider Task A B (TellsSome before after some.0) wider some.1))
 

@@ -41,6 +41,10 @@ pub record TellsSome (before after : Option (List ℕ)) (why : BuildFault) (t : 
 abbrev pub PrintsSome : (Task → Type 0) → Option (List ℕ) → Option (List ℕ) → Type 0
 PrintsSome Asked before after = (why : BuildFault) × ForAsked Task Asked (TellsSome before after why)
 
+-- nothing was printed, or some lines of such a plan
+abbrev pub CutsLines : (Task → Type 0) → Option (List ℕ) → Option (List ℕ) → Type 0
+CutsLines Asked before after = (after ≡ before) ⊎ PrintsSome Asked before after
+
 -- the lines of the plan of a task that was asked for were printed, and a proper prefix of its report behind them
 pub record PrintsHalf (Asked : Task → Type 0) (before after : Option (List ℕ)) : Type 0 where
   pub report : Report

@@ -1,8 +1,8 @@
 //! `plan`: from the texts of the command line to the lines that tell what a build would erase and program, and why.
 
-ghost use Rattle.std.specs.Prelude.{◌≡◌, ◌⊎◌, ◌<◌, ◌≤◌, ◌-◌, ◌^◌, None, IfOk, IfErr};
+ghost use Rattle.std.specs.Prelude.{◌≡◌, ◌<◌, ◌≤◌, ◌-◌, ◌^◌, None, IfOk, IfErr};
 ghost use Rattle.norprog_words.specs.Told.{line_fault, Refuses};
-ghost use Rattle.norprog_command.specs.Plans.{PrintsLines, PrintsSome, PrintsPlan, CutsPlan, RefusesPlan, AnswersPlan};
+ghost use Rattle.norprog_command.specs.Plans.{PrintsLines, PrintsPlan, CutsLines, CutsPlan, RefusesPlan, AnswersPlan};
 ghost use Rattle.norprog_command.specs.Request.{is_well_formed};
 ghost use Rattle.norprog_command.specs.Served.{IsTaskOf, OfPlan};
 
@@ -68,7 +68,7 @@ fn run_plan<R: Files + AllocGlobal, O: ByteOut>(
     requires { O.count out.old < 2 ^ 64 - 1 }
     ensures count { IfOk result (λ _. O.count out.new ≡ O.count out.old) }
     ensures lines { IfOk result (PrintsLines (IsTaskOf request.now) (O.held out.old) (O.held out.new)) }
-    ensures cut { IfErr result (λ _. (O.held out.new ≡ O.held out.old) ⊎ PrintsSome (IsTaskOf request.now) (O.held out.old) (O.held out.new)) }
+    ensures cut { IfErr result (λ _. CutsLines (IsTaskOf request.now) (O.held out.old) (O.held out.new)) }
     ensures refused { IfErr result (RefusesPlan (IsTaskOf request.now)) }
 {
     let alloc = rt.alloc();
