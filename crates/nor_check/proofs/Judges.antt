@@ -84,7 +84,7 @@ judges_end k target w = record {
 }
 
 -- a step that goes wrong
-zero_first : (cause : Wrong) (v : Verdict) → IsNoLater (No 0 (why.Wrong cause)) (later v)
+pub zero_first : (cause : Wrong) (v : Verdict) → IsNoLater (No 0 (why.Wrong cause)) (later v)
 zero_first cause Yes = tt
 zero_first cause (No n b) = inl (omega arith)
 

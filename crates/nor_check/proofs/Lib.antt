@@ -6,7 +6,11 @@ mod Steps
 mod Judges
 mod Found
 mod Ends
-mod Pages
-mod Seeing
-mod Judging
 mod OneVerdict
+mod WorstPages
+mod Seeing
+mod Each
+mod Alike
+mod Spread
+mod Lockstep
+mod Feeding

@@ -1,5 +1,5 @@
 -- Two worst verdicts are one.
-use Rattle.std.proofs.Common.{◌≡◌, ℕ, ◌<◌, ◌==◌, if◌then◌else◌, false, List, refl, sym, ◌∙◌, ap, arith, inl, inr, subst}
+use Rattle.std.proofs.Common.{◌≡◌, ℕ, ◌+◌, ◌<◌, ◌==◌, if◌then◌else◌, Bool, true, false, List, length, get_or, drop, refl, sym, ◌∙◌, ap, arith, inl, inr, subst}
 use Rattle.nor_base.specs.declared.meaning.Start.{Start}
 use Rattle.nor_base.specs.declared.step.Step.{Step}
 use Rattle.nor_base.specs.declared.wrong.Wrong.{Wrong}
@@ -9,9 +9,12 @@ use Rattle.nor_check.specs.declared.verdict.Verdict.{Verdict}
 use Rattle.nor_check.specs.declared.verdict.Verdict.TheVariants.{Yes, No}
 use Rattle.nor_check.specs.declared.verdict.Why.{Why}
 use Rattle.nor_check.specs.declared.verdict.Why.TheVariants as why
-use Rattle.nor_check.specs.Order.{rank, rank_of, is_before}
+use Rattle.nor_check.specs.Order.{rank, rank_of, is_before, earlier}
+use Rattle.nor_check.specs.Chips.{Together}
+use Rattle.nor_check.specs.Pages.{worst_of}
+use Rattle.std.proofs.lemmas.List.{at_drop_more}
 use Rattle.nor_check.specs.Worst.{IsWorst}
-use Rattle.nor_check.proofs.Before.{IsNoLater, untold}
+use Rattle.nor_check.proofs.Before.{IsNoLater, untold, earlier_of, no_later_trans}
 
 -- the wrong of a rank below 8
 wrong_at : ℕ → Wrong
@@ -53,7 +56,7 @@ same_cause (why.Wrong v) (why.Differs b) h = let low = below_eight v in absurd (
 same_cause (why.Differs a) (why.Wrong w) h = let low = below_eight w in absurd (omega (arith, h))
 same_cause (why.Differs a) (why.Differs b) h = let same : a ≡ b = omega (arith, h) in ap why.Differs same
 
-same_verdict : (v u : Verdict) → IsNoLater v u → IsNoLater u v → v ≡ u
+pub same_verdict : (v u : Verdict) → IsNoLater v u → IsNoLater u v → v ≡ u
 same_verdict Yes Yes h g = refl
 same_verdict Yes (No n b) h g = absurd h
 same_verdict (No k a) Yes h g = absurd g
@@ -76,3 +79,30 @@ pub one_worst : (m : Parameters) (start : Start) (content target : List ℕ) (st
     → IsWorst m start content target steps u → v ≡ u
 one_worst m start content target steps v u first second =
     same_verdict v u (no_later m start content target steps v u first second) (no_later m start content target steps u v second first)
+
+-- the order of three
+below_both : (a v u : Verdict) → IsNoLater a v → IsNoLater a u → IsNoLater a (earlier v u)
+below_both a v u p q = by (is_before u v)
+  where
+    by : (b : Bool) → IsNoLater a (if b then u else v)
+    by true = q
+    by false = p
+
+pub earlier_assoc : (v u t : Verdict) → earlier (earlier v u) t ≡ earlier v (earlier u t)
+earlier_assoc v u t =
+    let left = earlier_of (earlier v u) t in
+    let front = earlier_of v u in
+    let right = earlier_of v (earlier u t) in
+    let back = earlier_of u t in
+    let a = earlier (earlier v u) t in
+    let b = earlier v (earlier u t) in
+    same_verdict a b
+    (below_both a v (earlier u t) (no_later_trans a (earlier v u) v left.0 front.0) (below_both a u t (no_later_trans a (earlier v u) u left.0 front.1) left.1))
+    (below_both b (earlier v u) t (below_both b v u right.0 (no_later_trans b (earlier u t) u right.1 back.0)) (no_later_trans b (earlier u t) t right.1 back.1))
+
+-- the earliest of all
+pub earliest_more : (f : Together → Verdict) (v whole : Verdict) (ts : List Together) (i : ℕ) (d : Together) (next : Verdict) → i < length ts
+    → whole ≡ earlier v (worst_of f (drop i ts)) → next ≡ earlier v (f (get_or ts i d)) → whole ≡ earlier next (worst_of f (drop (i + 1) ts))
+earliest_more f v whole ts i d next within h is =
+    h ∙ at_drop_more (λ l. earlier v (worst_of f l)) ts i d within ∙ sym (earlier_assoc v (f (get_or ts i d)) (worst_of f (drop (i + 1) ts)))
+    ∙ ap (λ u. earlier u (worst_of f (drop (i + 1) ts))) (sym is)

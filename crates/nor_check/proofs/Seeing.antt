@@ -1,5 +1,5 @@
 -- What the clocks of a step are to all chips, from what was seen.
-use Rattle.std.proofs.Common.{◌≡◌, ℕ, suc, ◌+◌, ◌==◌, Bool, true, false, if◌then◌else◌, List, [], ◌∷◌, length, Option, Some, None, option_map, Ok, Err, refl, sym, ◌∙◌, ap, arith}
+use Rattle.std.proofs.Common.{◌≡◌, ℕ, suc, ◌+◌, ◌==◌, Bool, true, false, not, ◌&&◌, if◌then◌else◌, List, [], ◌∷◌, length, Option, Some, None, option_map, Ok, Err, refl, sym, ◌∙◌, ap, arith}
 use Rattle.std.specs.Str.{bytes_eq}
 use Rattle.std.proofs.lemmas.Bool.{ne_eqb}
 use Rattle.nor_base.specs.declared.instruction.What.{What}
@@ -11,12 +11,13 @@ use Rattle.nor_base.specs.Parameters.{Parameters}
 use Rattle.nor_base.specs.Instructions.{form_of}
 use Rattle.nor_base.specs.Decoding.{Instruction, bytes_asked, bytes_sent, decode, instruction, transaction}
 use Rattle.nor_base.specs.Chip.{Chip}
-use Rattle.nor_base.specs.Effect.{answer, effect_of, is_read, is_status, wrong_of}
+use Rattle.nor_base.specs.Effect.{answer, effect_of, is_program, is_read, is_status, wrong_of}
 use Rattle.nor_base.specs.Run.{poll_clocks, is_verify}
 use Rattle.nor_decode.specs.declared.seen.Seen.{Seen}
 use Rattle.nor_decode.specs.Seen.{transaction_of}
 use Rattle.nor_chip.specs.Sent.{instruction_of}
 use Rattle.nor_chip.proofs.TakeLemmas.{taken, decoded, refused}
+use Rattle.nor_check.specs.Apart.{leaves_page, lies_in_page}
 use Rattle.nor_check.specs.Chips.{Kind, Chips, one_like, least_able}
 use Rattle.nor_check.specs.Judged.{all_does, all_taken, all_effect, all_done, all_matched, all_step}
 
@@ -121,3 +122,17 @@ gives_none c i other read quad quiet = refl
 pub empty_is : (xs : List ℕ) → (length xs == 0) ≡ bytes_eq [] xs
 empty_is [] = refl
 empty_is (x ∷ xs) = ne_eqb (suc (length xs)) 0 (λ same. omega arith)
+
+-- whether a program leaves a page
+module _ (m : Parameters) (mode4 : Bool) (clocks : List ℕ) where
+  pub leaves_none : decode m mode4 clocks ≡ None → false ≡ leaves_page m.page (decode m mode4 clocks)
+  leaves_none h = sym (ap (leaves_page m.page) h)
+
+  pub leaves_by : (i : Instruction) (page : ℕ) (lies : Bool) → decode m mode4 clocks ≡ Some i → is_program i.what ≡ true → page ≡ m.page
+      → lies ≡ lies_in_page page i.address i.sent → not lies ≡ leaves_page m.page (decode m mode4 clocks)
+  leaves_by i page lies h program same told =
+      ap not (told ∙ ap (λ n. lies_in_page n i.address i.sent) same)
+      ∙ sym (ap (leaves_page m.page) h ∙ ap (λ b. b && not (lies_in_page m.page i.address i.sent)) program)
+
+  pub leaves_not : (i : Instruction) (b : Bool) → decode m mode4 clocks ≡ Some i → b ≡ is_program i.what → b ≡ false → b ≡ leaves_page m.page (decode m mode4 clocks)
+  leaves_not i b h told other = other ∙ sym (ap (leaves_page m.page) h ∙ ap (λ b. b && not (lies_in_page m.page i.address i.sent)) (sym told ∙ other))

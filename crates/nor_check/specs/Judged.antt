@@ -16,7 +16,6 @@ use Rattle.nor_check.specs.declared.chips.Latches.TheVariants.{Clear}
 use Rattle.nor_check.specs.declared.verdict.Verdict.{Verdict}
 use Rattle.nor_check.specs.declared.verdict.Verdict.TheVariants.{Yes, No}
 use Rattle.nor_check.specs.declared.verdict.Why.TheVariants as why
-use Rattle.nor_check.specs.Order.{earlier}
 use Rattle.nor_check.specs.Outcome.{at_end}
 use Rattle.nor_check.specs.Chips.{Kind, Chips, Together, one_like, least_able, last_settled, all_after, all_ready}
 
@@ -79,15 +78,6 @@ judged_with m start content target steps page =
 -- another page than the meaning's own that a chip may have
 abbrev pub is_other_page : Parameters → ℕ → Bool
 is_other_page m page = not (page == m.page) && may_page m page
-
--- the earlier of a verdict and the one with a page, where that is another one
-abbrev pub also_with : Parameters → (ℕ → Verdict) → Verdict → ℕ → Verdict
-also_with m judge v page = if is_other_page m page then earlier v (judge page) else v
-
--- the earliest of a verdict and those with some pages
-unfoldable pub earliest : Parameters → (ℕ → Verdict) → Verdict → List ℕ → Verdict
-earliest m judge v [] = v
-earliest m judge v (page ∷ pages) = earliest m judge (also_with m judge v page) pages
 
 -- what an answer of a step says of the chips before and after
 abbrev pub StepsAll : Together → Together → Result (Unit {0}) Wrong → Step → Type 0

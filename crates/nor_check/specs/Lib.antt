@@ -3,3 +3,7 @@ pub mod Outcome
 pub mod Worst
 pub mod Chips
 pub mod Judged
+pub mod View
+pub mod Apart
+pub mod Pages
+pub mod Fed

@@ -1,20 +1,163 @@
 //! The checker.
 
-ghost use Rattle.std.specs.Prelude.{◌≡◌, ◌↔◌, length, IfOk};
+ghost use Rattle.std.specs.Prelude.{◌≡◌, ◌↔◌, ◌<◌, ◌+◌, ◌-◌, ◌^◌, ◌∷◌, [], List, length, IfOk, OnErr};
 ghost use Rattle.nor_base.specs.Chip.{IsPossible};
 ghost use Rattle.nor_base.specs.Run.{DoesTaskOnEvery};
+ghost use Rattle.nor_base.specs.declared.step.Step.{Step};
+ghost use Rattle.nor_base.specs.declared.step.Step.TheVariants.{Send, Poll, Verify};
 ghost use Rattle.nor_check.specs.declared.verdict.Verdict.TheVariants.{Yes};
-ghost use Rattle.nor_check.specs.Judged.{also_with, earliest, judged, judged_with};
+ghost use Rattle.nor_check.specs.Fed.{to_come, verdict_at};
+ghost use Rattle.nor_check.specs.View.{step_of};
 ghost use Rattle.nor_check.specs.Worst.{IsWorst};
 
-use crate::chips::AllChips;
-use crate::verdict::{CheckFault, Verdict, Why, earlier};
-use nor_base::{Meaning, Start, Step};
+use crate::pages::AllPages;
+use crate::verdict::{CheckFault, Verdict, Why};
+use crate::view::{StepView, view_of};
+use nor_base::{Meaning, Start, Step, Wrong};
 use nor_laws::{effects, polls, verifying_reads};
 use std::alloc::Global;
+use std::marker::Model;
 
-/// The sizes that a page may have.
-const PAGES: [u32; 9] = [16, 32, 64, 128, 256, 512, 1024, 2048, 4096];
+/// A checker that is fed with the steps of a script, one after another, and says at their end what [`check`] says of them all.
+///
+/// It holds no step. Its memory is one array of the meaning's size; where the page is only known to be so large or larger,
+/// and from the first program on that leaves the least page, one for each page that may be.
+#[derive(Drop)]
+pub struct StepChecker<'a> {
+    chips: AllPages<'a>,
+    want: &'a [u8],
+    number: u64,
+    stopped: Option<Verdict>,
+}
+
+impl<'a> Model for StepChecker<'a> {
+    ghost use Rattle.nor_check.specs.Fed.{Fed};
+
+    ghost Value = { Fed };
+
+    ghost use Rattle.std.specs.Prelude.{◌≡◌, length, None};
+    ghost use Rattle.nor_check.specs.Pages.{HaveSize};
+
+    ghost view = { λ c. record { target = c.want.now; number = c.number; chips = c.chips; stopped = c.stopped } };
+
+    ghost invariant = { λ c. c.stopped ≡ None → HaveSize (length c.want.now) c.chips };
+}
+
+impl<'a> StepChecker<'a> {
+    /// A checker before the first step: of the scripts on ready chips of a meaning and a start that hold `have` and, at the
+    /// end, are to hold `want`. Both go as for [`check`]. It asks for no memory: `have` becomes its array.
+    pub fn new(
+        alloc: Global,
+        meaning: &'a Meaning,
+        start: Start,
+        have: Vec<u8>,
+        want: &'a [u8],
+    ) -> StepChecker<'a>
+        requires have { length have.items ≡ meaning.now.size }
+        requires want { length want.now ≡ meaning.now.size }
+        requires mode { IsPossible meaning.now start }
+        ensures worst { (steps : List Step) → IsWorst meaning.now start have.items want.now steps (to_come result steps) }
+        ensures number { result.number ≡ 0 }
+    {
+        polls();
+        verifying_reads();
+        StepChecker {
+            chips: AllPages::new(alloc, meaning, start, have),
+            want,
+            number: 0,
+            stopped: None,
+        }
+    }
+
+    /// How many steps it was fed.
+    pub fn number(&self) -> u64
+        ensures { result ≡ self.now.number }
+    {
+        self.number
+    }
+
+    /// Takes the next step. `Memory` where a growth is refused, which only the first step asks for that tells chips of
+    /// different pages apart; the step isn't taken then, and may be given again.
+    pub fn step(&mut self, alloc: Global, step: &Step) -> Result<(), CheckFault>
+        requires { self.old.number < 2 ^ 64 - 1 }
+        ensures fed { IfOk result (λ _. (more : List Step) → to_come self.new more ≡ to_come self.old (step.now ∷ more)) }
+        ensures number { IfOk result (λ _. self.new.number ≡ self.old.number + 1) }
+        ensures refused { OnErr result (self.new ≡ self.old) }
+    {
+        self.feed(alloc, view_of(step))
+    }
+
+    /// Takes a Send of these clocks as the next step, as [`StepChecker::step`] takes it.
+    pub fn send(&mut self, alloc: Global, clocks: &[u8]) -> Result<(), CheckFault>
+        requires { self.old.number < 2 ^ 64 - 1 }
+        ensures fed { IfOk result (λ _. (more : List Step) → to_come self.new more ≡ to_come self.old (Send clocks.now ∷ more)) }
+        ensures number { IfOk result (λ _. self.new.number ≡ self.old.number + 1) }
+        ensures refused { OnErr result (self.new ≡ self.old) }
+    {
+        self.feed(alloc, StepView::Send(clocks))
+    }
+
+    /// Takes a Poll of these clocks as the next step, as [`StepChecker::step`] takes it.
+    pub fn poll(&mut self, alloc: Global, clocks: &[u8]) -> Result<(), CheckFault>
+        requires { self.old.number < 2 ^ 64 - 1 }
+        ensures fed { IfOk result (λ _. (more : List Step) → to_come self.new more ≡ to_come self.old (Poll clocks.now ∷ more)) }
+        ensures number { IfOk result (λ _. self.new.number ≡ self.old.number + 1) }
+        ensures refused { OnErr result (self.new ≡ self.old) }
+    {
+        self.feed(alloc, StepView::Poll(clocks))
+    }
+
+    /// Takes a Verify of these clocks and bytes as the next step, as [`StepChecker::step`] takes it.
+    pub fn verify(&mut self, alloc: Global, clocks: &[u8], expect: &[u8]) -> Result<(), CheckFault>
+        requires { self.old.number < 2 ^ 64 - 1 }
+        ensures fed { IfOk result (λ _. (more : List Step) →
+            to_come self.new more ≡ to_come self.old (Verify clocks.now expect.now ∷ more)) }
+        ensures number { IfOk result (λ _. self.new.number ≡ self.old.number + 1) }
+        ensures refused { OnErr result (self.new ≡ self.old) }
+    {
+        self.feed(alloc, StepView::Verify(clocks, expect))
+    }
+
+    /// Takes the next step.
+    fn feed(&mut self, alloc: Global, step: StepView<'_>) -> Result<(), CheckFault>
+        requires { self.old.number < 2 ^ 64 - 1 }
+        ensures fed { IfOk result (λ _. (more : List Step) → to_come self.new more ≡ to_come self.old (step_of step.entry ∷ more)) }
+        ensures number { IfOk result (λ _. self.new.number ≡ self.old.number + 1) }
+        ensures refused { OnErr result (self.new ≡ self.old) }
+    {
+        if self.stopped.is_some() {
+            self.number += 1;
+            return Ok(());
+        }
+        let answer = self.chips.step(alloc, step)?;
+        self.stopped = verdict_at(self.number, answer);
+        self.number += 1;
+        Ok(())
+    }
+
+    /// The verdict if no step follows.
+    pub fn verdict(&self) -> Verdict
+        ensures { result ≡ to_come self.now [] }
+    {
+        match self.stopped {
+            Some(verdict) => verdict,
+            None => self.chips.verdict(self.number, self.want),
+        }
+    }
+}
+
+/// The verdict that the answer to a step of this number brings, if one.
+fn verdict_at(step: u64, answer: Result<(), Wrong>) -> Option<Verdict>
+    ensures { result ≡ verdict_at step answer }
+{
+    match answer {
+        Ok(()) => None,
+        Err(why) => {
+            let why = Why::Wrong(why);
+            Some(Verdict::No { step, why })
+        }
+    }
+}
 
 /// Whether the steps, from anybody, do the task on every chip of a meaning and a start: a run of them on a ready chip that
 /// holds `have` has nothing wrong, and leaves it settled and holding `want`.
@@ -28,8 +171,8 @@ const PAGES: [u32; 9] = [16, 32, 64, 128, 256, 512, 1024, 2048, 4096];
 /// number of steps where none does and some chip isn't idle at the end (`NotIdleAtEnd`) or, else, holds another byte than
 /// `want` (`Differs`, at the lowest address). `Memory` where a growth is refused.
 ///
-/// It runs no chip. It takes time proportional to the steps and twice the size, for each page that may be, and memory for
-/// one array.
+/// It runs no chip. It takes time proportional to the steps and the size, and memory for one array; where the page is only
+/// known to be so large or larger, and a program leaves the least page, from there on both for each page that may be.
 pub fn check(
     alloc: Global,
     steps: &[Step],
@@ -46,71 +189,10 @@ pub fn check(
 {
     effects();
     polls();
-    verifying_reads();
     let array = Vec::from_slice(alloc, have)?;
-    let mut all = AllChips::new(meaning, *start, array);
-    let own = judge(&mut all, steps, want);
-    Ok(judge_pages(&mut all, steps, have, want, own, &PAGES))
-}
-
-/// The earliest of a verdict and those on all ready chips with each other page of some that may be.
-fn judge_pages(
-    all: &mut AllChips<'_>,
-    steps: &[Step],
-    have: &[u8],
-    want: &[u8],
-    own: Verdict,
-    pages: &[u32],
-) -> Verdict
-    requires have { length have.now ≡ all.old.kind.meaning.size }
-    requires want { length want.now ≡ all.old.kind.meaning.size }
-    ensures { result
-        ≡ earliest all.old.kind.meaning (judged_with all.old.kind.meaning all.old.kind.start have.now want.now steps.now) own pages.now }
-{
-    let mut worst = own;
-    for page in pages {
-        worst = judge_page(all, steps, have, want, worst, *page);
-    }
-    worst
-}
-
-/// The earlier of a verdict and the one on all ready chips with this page, where some chip may have it and it isn't the
-/// meaning's own.
-fn judge_page(
-    all: &mut AllChips<'_>,
-    steps: &[Step],
-    have: &[u8],
-    want: &[u8],
-    worst: Verdict,
-    page: u32,
-) -> Verdict
-    requires have { length have.now ≡ all.old.kind.meaning.size }
-    requires want { length want.now ≡ all.old.kind.meaning.size }
-    ensures verdict { result
-        ≡ also_with all.old.kind.meaning (judged_with all.old.kind.meaning all.old.kind.start have.now want.now steps.now) worst page }
-    ensures meaning { all.new.kind.meaning ≡ all.old.kind.meaning }
-    ensures start { all.new.kind.start ≡ all.old.kind.start }
-{
-    if !all.has_other_page(page) {
-        return worst;
-    }
-    all.begin(page, have);
-    earlier(worst, judge(all, steps, want))
-}
-
-/// The verdict on all chips of a page, from a moment on.
-fn judge(all: &mut AllChips<'_>, steps: &[Step], target: &[u8]) -> Verdict
-    requires { length target.now ≡ all.old.kind.meaning.size }
-    ensures verdict { result ≡ judged all.old.kind target.now all.old.chips steps.now }
-    ensures stays { all.new.kind ≡ all.old.kind }
-{
-    let mut number: u64 = 0;
+    let mut checker = StepChecker::new(alloc, meaning, *start, array, want);
     for step in steps {
-        if let Err(why) = all.step(step) {
-            let why = Why::Wrong(why);
-            return Verdict::No { step: number, why };
-        }
-        number += 1;
+        checker.step(alloc, step)?;
     }
-    all.verdict(number, target)
+    Ok(checker.verdict())
 }

@@ -1,8 +1,9 @@
 //! All chips of one page together.
 
-ghost use Rattle.std.specs.Prelude.{◌≡◌, ◌<◌, ◌≤◌, ◌+◌, true, false, [], length, slice_range, None};
+ghost use Rattle.std.specs.Prelude.{◌≡◌, ◌<◌, ◌≤◌, ◌+◌, true, false, [], length, slice_range, None, IfOk};
 ghost use Rattle.std.specs.Str.{bytes_eq};
 ghost use Rattle.nor_base.specs.declared.step.Step.TheVariants.{Send, Poll, Verify};
+ghost use Rattle.nor_base.specs.Accepted.{IsAccepted};
 ghost use Rattle.nor_base.specs.Blocks.{is_legal as is_legal_block};
 ghost use Rattle.nor_base.specs.Chip.{is_busy, is_mode, is_settled, may_page};
 ghost use Rattle.nor_base.specs.Parameters.{block_size};
@@ -12,14 +13,20 @@ ghost use Rattle.nor_check.specs.Chips.{one_like, latch_of, some_left, least_abl
 ghost use Rattle.nor_check.specs.declared.chips.Latches.TheVariants.{Clear};
 ghost use Rattle.nor_check.specs.Judged.{StepsAll, all_does, all_refusal, accepted, is_other_page};
 ghost use Rattle.nor_check.specs.Outcome.{at_end, first_difference};
+ghost use Rattle.nor_check.specs.Apart.{lies_in_page, leaves_page, tells_apart};
+ghost use Rattle.nor_check.specs.Pages.{with_page};
+ghost use Rattle.nor_check.specs.View.{step_of};
+ghost use Rattle.nor_base.specs.Decoding.{decode as decode_of};
 
 use crate::verdict::{Verdict, Why};
-use nor_base::{Meaning, Start, Step, What, Wrong};
+use crate::view::StepView;
+use nor_base::{Meaning, Start, What, Wrong};
 use nor_chip::erase::fill_block;
 use nor_chip::program::{barred, is_barred, program};
 use nor_chip::rules::{is_broken, is_out_of_range, is_program, is_quad, is_status, needs_latch};
 use nor_decode::{POLL, Seen, decode, is_verify};
 use nor_laws::verifying_reads;
+use std::alloc::{AllocError, Global};
 use std::marker::Model;
 
 /// The write enable latches of all chips of a page.
@@ -82,18 +89,21 @@ impl<'a> AllChips<'a> {
         }
     }
 
-    /// All ready chips with another page and this content.
-    pub(crate) fn begin(&mut self, page: u32, content: &[u8])
-        requires size { length content.now ≡ self.old.kind.meaning.size }
-        requires page { may_page self.old.kind.meaning page ≡ true }
-        ensures { self.new ≡ begun self.old.kind.meaning self.old.kind.start page content.now }
+    /// The same chips with a page of another size.
+    pub(crate) fn with_page(&self, alloc: Global, page: u32) -> Result<AllChips<'a>, AllocError>
+        requires { may_page self.now.kind.meaning page ≡ true }
+        ensures { IfOk result (λ chips. chips ≡ with_page self.now page) }
     {
-        let meaning = self.meaning;
-        self.page = page;
-        self.array.as_mut_slice().copy_from_slice(content);
-        self.mode4 = meaning.begins4(&self.start);
-        self.busy = false;
-        self.latches = Latches::Clear;
+        let array = Vec::from_slice(alloc, self.array.as_slice())?;
+        Ok(AllChips {
+            meaning: self.meaning,
+            start: self.start,
+            page,
+            array,
+            mode4: self.mode4,
+            busy: self.busy,
+            latches: self.latches,
+        })
     }
 
     /// Whether a page is another one than the meaning's own, and some chip may have it.
@@ -262,14 +272,39 @@ impl<'a> AllChips<'a> {
         &self.array[from..from + count] == expect
     }
 
+    /// Whether a step has a program that leaves the meaning's page: chips with a larger one may do otherwise.
+    pub(crate) fn tells_apart(&self, step: StepView<'_>) -> bool
+        ensures apart { result ≡ tells_apart self.now.kind.meaning self.now.chips.mode4 (step_of step.entry) }
+        ensures accepted { IsAccepted self.now.kind.meaning }
+    {
+        let meaning = self.meaning;
+        meaning.is_accepted();
+        match step {
+            StepView::Send(clocks) | StepView::Verify(clocks, _) => self.leaves_page(clocks),
+            StepView::Poll(_) => false,
+        }
+    }
+
+    /// Whether clocks are a program that leaves the meaning's page.
+    fn leaves_page(&self, clocks: &[u8]) -> bool
+        ensures { result ≡ leaves_page self.now.kind.meaning.page (decode_of self.now.kind.meaning self.now.chips.mode4 clocks.now) }
+    {
+        let meaning = self.meaning;
+        meaning.is_accepted();
+        match decode(clocks, meaning, self.mode4) {
+            Some(seen) => is_program(seen.what) && !lies_in_page(meaning.page, &seen),
+            None => false,
+        }
+    }
+
     /// One step of a script.
-    pub(crate) fn step(&mut self, step: &Step) -> Result<(), Wrong>
-        ensures { StepsAll self.old self.new result step.now }
+    pub(crate) fn step(&mut self, step: StepView<'_>) -> Result<(), Wrong>
+        ensures { StepsAll self.old self.new result (step_of step.entry) }
     {
         match step {
-            Step::Send { clocks } => self.send(clocks.as_slice()),
-            Step::Poll { clocks } => self.poll(clocks.as_slice()),
-            Step::Verify { clocks, expect } => self.verify(clocks.as_slice(), expect.as_slice()),
+            StepView::Send(clocks) => self.send(clocks),
+            StepView::Poll(clocks) => self.poll(clocks),
+            StepView::Verify(clocks, expect) => self.verify(clocks, expect),
         }
     }
 
@@ -375,4 +410,13 @@ fn is_mode(first: bool, mode4: bool) -> bool
     ensures { result ≡ is_mode first mode4 }
 {
     if first { mode4 } else { !mode4 }
+}
+
+/// Whether the bytes of a program lie in one page of this size.
+fn lies_in_page(page: u32, seen: &Seen<'_>) -> bool
+    requires page { 0 < page }
+    requires program { is_program seen.now.what ≡ true }
+    ensures { result ≡ lies_in_page page seen.now.address (sent seen.now) }
+{
+    seen.count() <= (page - seen.address % page) as usize
 }

@@ -2,7 +2,8 @@
 
 ghost use Rattle.std.specs.Prelude.{◌≡◌};
 ghost use Rattle.nor_check.specs.declared.verdict.CheckFault.TheVariants.{Memory};
-ghost use Rattle.nor_check.specs.Order.{rank, is_before, earlier};
+ghost use Rattle.nor_check.specs.Order.{rank_of, rank, is_before, earlier};
+ghost use Rattle.nor_check.specs.Pages.{first_of};
 
 use nor_base::Wrong;
 use std::alloc::AllocError;
@@ -48,19 +49,45 @@ impl From<AllocError> for CheckFault {
 }
 
 /// The place of a cause among those of one step.
+fn rank_of(cause: Wrong) -> u64
+    ensures { result ≡ rank_of cause }
+{
+    match cause {
+        Wrong::Unknown => 0,
+        Wrong::Ignored => 1,
+        Wrong::OutOfRange => 2,
+        Wrong::Raised => 3,
+        Wrong::NotErased => 4,
+        Wrong::Mismatch => 5,
+        Wrong::PollNever => 6,
+        Wrong::NotIdleAtEnd => 7,
+    }
+}
+
+/// The place of a cause, behind those of a step a byte that differs.
 fn rank(why: Why) -> u64
     ensures { result ≡ rank why }
 {
     match why {
-        Why::Wrong(Wrong::Unknown) => 0,
-        Why::Wrong(Wrong::Ignored) => 1,
-        Why::Wrong(Wrong::OutOfRange) => 2,
-        Why::Wrong(Wrong::Raised) => 3,
-        Why::Wrong(Wrong::NotErased) => 4,
-        Why::Wrong(Wrong::Mismatch) => 5,
-        Why::Wrong(Wrong::PollNever) => 6,
-        Why::Wrong(Wrong::NotIdleAtEnd) => 7,
+        Why::Wrong(cause) => rank_of(cause),
         Why::Differs(address) => 8 + u64::from(address),
+    }
+}
+
+/// Of two answers to one step the one told: the first cause, where some chips don't take it.
+pub(crate) fn first_of(one: Result<(), Wrong>, other: Result<(), Wrong>) -> Result<(), Wrong>
+    ensures { result ≡ first_of one other }
+{
+    match (one, other) {
+        (Ok(()), answer) => answer,
+        (Err(cause), Ok(())) => Err(cause),
+        (Err(cause), Err(because)) => {
+            if rank_of(because) < rank_of(cause) {
+                Err(because)
+            } else {
+                Err(cause)
+            }
+        }
     }
 }
 

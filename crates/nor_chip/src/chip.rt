@@ -1,6 +1,6 @@
 //! A chip in memory, which answers as the definition of an instruction's effect says.
 
-ghost use Rattle.std.specs.Prelude.{◌≡◌, ◌<◌, ◌≤◌, ◌+◌, pred, true, length, replicate, slice_range, None, Ok, OnErr};
+ghost use Rattle.std.specs.Prelude.{◌≡◌, ◌<◌, ◌≤◌, ◌+◌, ⊤, pred, true, length, replicate, slice_range, None, Ok, OnErr};
 ghost use Rattle.nor_base.specs.Sample.{sampled_count};
 ghost use Rattle.nor_base.specs.Chip.{chip_of, may_page, is_settled, is_mode, IsPossible};
 ghost use Rattle.nor_base.specs.Blocks.{is_legal as is_legal_block};
@@ -262,6 +262,8 @@ impl<'a> Port for Chip<'a> {
     ghost shown = { λ chip. chip };
 
     ghost count = { λ _. 0 };
+
+    ghost asked = { λ _ _. ⊤ };
 
     fn transact(&mut self, clocks: &[u8], out: &mut [u8]) -> Result<(), PortFault>
         requires { length out.old ≡ sampled_count clocks.now }

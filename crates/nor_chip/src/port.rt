@@ -4,6 +4,7 @@ ghost use Rattle.std.specs.Prelude.{◌≡◌, ◌<◌, ◌^◌, ◌-◌, ℕ, l
 ghost use Rattle.nor_base.specs.Sample.{sampled_count};
 ghost use Rattle.nor_base.specs.Chip.{is_settled};
 ghost use Rattle.nor_base.specs.Port.{Shown, Transacts, CountsTransact};
+ghost use Rattle.nor_chip.specs.Asked.{AsksMore};
 
 use nor_base::PortFault;
 
@@ -15,6 +16,9 @@ pub trait Port {
     /// How often it has failed.
     ghost count: { Self → ℕ };
 
+    /// That it was asked for so many transactions. A port that keeps no count may let every number hold.
+    ghost asked: { Self → ℕ → Type 0 };
+
     /// Does one transaction: select, the clocks, deselect.
     ///
     /// `clocks` are symbols of clocks, one byte each, and `out` has as many bytes as they sample. On Ok the chip and `out`
@@ -24,7 +28,8 @@ pub trait Port {
         requires out { length out.old ≡ sampled_count clocks.now }
         requires room { count self.old < 2 ^ 64 - 1 }
         ensures effect { Transacts (shown self.old) (shown self.new) result clocks.now out.new }
-        ensures count { CountsTransact (count self.old) (count self.new) result };
+        ensures count { CountsTransact (count self.old) (count self.new) result }
+        ensures asked { AsksMore (asked self.old) (asked self.new) 1 };
 
     /// Whether the chip is idle, with the latch clear, in its first address mode.
     fn settled(&self) -> bool

@@ -2,3 +2,4 @@ mod SampledLemmas
 mod StepLemmas
 mod PollLemmas
 mod PlayLemmas
+mod AskLemmas

@@ -30,7 +30,7 @@ later_one : (n : ℕ) (r : Result Chip Stop) → one_later (later n r) ≡ later
 later_one n (Ok c) = refl
 later_one n (Err stop) = let same : stop.at + n + 1 ≡ stop.at + suc n = omega arith in ap (λ n. Err (record stop { at = n })) same
 
-not_later : (r : Result Chip Stop) (d : Chip) → one_later r ≡ Ok d → r ≡ Ok d
+pub not_later : (r : Result Chip Stop) (d : Chip) → one_later r ≡ Ok d → r ≡ Ok d
 not_later (Ok c) d h = h
 not_later (Err stop) d h = cc
 

@@ -2,3 +2,4 @@ pub mod Halt
 pub mod Play
 pub mod Turns
 pub mod Numbered
+pub mod Asks

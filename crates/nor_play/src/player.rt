@@ -4,6 +4,7 @@ ghost use Rattle.std.specs.Prelude.{◌≡◌, ◌<◌, ◌-◌, ◌^◌, Ok, Er
 ghost use Rattle.nor_play.specs.Halt.{play_fault};
 ghost use Rattle.nor_play.specs.Play.{Plays, CountsPlay};
 ghost use Rattle.nor_play.specs.Numbered.{PlaysNumbered};
+ghost use Rattle.nor_play.specs.Asks.{AsksPlay, AsksNumbered};
 
 use crate::fault::{Halt, PlayFault};
 use crate::step::play_step;
@@ -19,7 +20,7 @@ use std::alloc::Global;
 /// one poll all said busy, `NotIdleAtEnd` where the chip is busy at the end, or has its latch set, or isn't in its first
 /// address mode. `PortFailed` tells the step whose transaction failed. `Memory` where a growth is refused.
 ///
-/// The port is left as the transactions done so far left it.
+/// The port is left as the transactions done so far left it, and is asked for none besides these and the one that failed.
 pub fn play<P: Port>(
     alloc: Global,
     steps: &[Step],
@@ -30,6 +31,7 @@ pub fn play<P: Port>(
     requires room { P.count port.old < 2 ^ 64 - 1 }
     ensures played { Plays (P.shown port.old) (P.shown port.new) limit steps.now result }
     ensures count { CountsPlay (P.count port.old) (P.count port.new) result }
+    ensures asked { AsksPlay (P.shown port.old) (P.asked port.old) (P.asked port.new) limit steps.now result }
 {
     let mut done: u128 = 0;
     let mut number: u64 = 0;
@@ -57,6 +59,7 @@ fn play_numbered<P: Port>(
     requires room { P.count port.old < 2 ^ 64 - 1 }
     ensures played { PlaysNumbered (P.shown port.old) (P.shown port.new) limit number step.now result }
     ensures count { CountsPlay (P.count port.old) (P.count port.new) result }
+    ensures asked { AsksNumbered (P.shown port.old) (P.asked port.old) (P.asked port.new) limit step.now result }
 {
     told_at(play_step(alloc, step, port, limit), number)
 }

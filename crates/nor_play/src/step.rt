@@ -5,6 +5,7 @@ ghost use Rattle.nor_base.specs.declared.step.Step.TheVariants.{Send, Poll, Veri
 ghost use Rattle.nor_base.specs.Run.{poll_clocks};
 ghost use Rattle.nor_base.specs.Sample.{sampled_count};
 ghost use Rattle.nor_play.specs.Turns.{Gives, PlaysStep, CountsHalt};
+ghost use Rattle.nor_play.specs.Asks.{AsksStep, AsksOnce};
 
 use crate::fault::Halt;
 use memchr::memchr2;
@@ -25,6 +26,7 @@ pub(crate) fn play_step<P: Port>(
     requires room { P.count port.old < 2 ^ 64 - 1 }
     ensures played { PlaysStep (P.shown port.old) (P.shown port.new) limit step.now result }
     ensures count { CountsHalt (P.count port.old) (P.count port.new) result }
+    ensures asked { AsksStep (P.shown port.old) (P.asked port.old) (P.asked port.new) limit step.now result }
 {
     match step {
         Step::Send { clocks } => send(alloc, clocks.as_slice(), port, limit),
@@ -41,6 +43,7 @@ fn send<P: Port>(alloc: Global, clocks: &[u8], port: &mut P, limit: u64) -> Resu
     requires room { P.count port.old < 2 ^ 64 - 1 }
     ensures played { PlaysStep (P.shown port.old) (P.shown port.new) limit (Send clocks.now) result }
     ensures count { CountsHalt (P.count port.old) (P.count port.new) result }
+    ensures asked { AsksStep (P.shown port.old) (P.asked port.old) (P.asked port.new) limit (Send clocks.now) result }
 {
     let _bytes = transact(alloc, clocks, port)?;
     Ok(1)
@@ -58,6 +61,7 @@ fn verify<P: Port>(
     requires room { P.count port.old < 2 ^ 64 - 1 }
     ensures played { PlaysStep (P.shown port.old) (P.shown port.new) limit (Verify clocks.now expect.now) result }
     ensures count { CountsHalt (P.count port.old) (P.count port.new) result }
+    ensures asked { AsksStep (P.shown port.old) (P.asked port.old) (P.asked port.new) limit (Verify clocks.now expect.now) result }
 {
     // so a chip whose bytes differ is as it was
     verifying_reads();
@@ -77,6 +81,7 @@ fn poll<P: Port>(clocks: &[u8], port: &mut P, limit: u64) -> Result<u64, Halt>
     requires room { P.count port.old < 2 ^ 64 - 1 }
     ensures played { PlaysStep (P.shown port.old) (P.shown port.new) limit (Poll clocks.now) result }
     ensures count { CountsHalt (P.count port.old) (P.count port.new) result }
+    ensures asked { AsksStep (P.shown port.old) (P.asked port.old) (P.asked port.new) limit (Poll clocks.now) result }
 {
     if clocks != POLL.as_slice() {
         return Err(Halt::Wrong(Wrong::Unknown));
@@ -96,6 +101,7 @@ fn transact<P: Port>(alloc: Global, clocks: &[u8], port: &mut P) -> Result<Vec<u
     requires { P.count port.old < 2 ^ 64 - 1 }
     ensures given { Gives (λ v. v.items) (P.shown port.old) (P.shown port.new) clocks.now result }
     ensures count { CountsHalt (P.count port.old) (P.count port.new) result }
+    ensures asked { AsksOnce (P.asked port.old) (P.asked port.new) result }
 {
     let mut out = vec![in alloc; 0u8; count_sampled(clocks)]?;
     port.transact(clocks, out.as_mut_slice())?;

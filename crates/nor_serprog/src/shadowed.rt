@@ -1,6 +1,6 @@
 //! A chip in memory that the chip behind a device is to go along with.
 
-ghost use Rattle.std.specs.Prelude.{◌≡◌, ◌≤◌, ◌<◌, ◌-◌, ◌^◌, None, length};
+ghost use Rattle.std.specs.Prelude.{◌≡◌, ◌≤◌, ◌<◌, ◌-◌, ◌^◌, ⊤, None, length};
 ghost use Rattle.nor_base.specs.Device.{ahead_of};
 ghost use Rattle.nor_base.specs.Port.{Transacts, CountsTransact};
 ghost use Rattle.nor_base.specs.Sample.{sampled_count};
@@ -65,6 +65,8 @@ impl<'a, R: Read + Drop, W: Write + Drop> Port for Shadowed<'a, R, W> {
     ghost shown = { λ port. port.chip };
 
     ghost count = { λ port. port.failed };
+
+    ghost asked = { λ _ _. ⊤ };
 
     fn transact(&mut self, clocks: &[u8], out: &mut [u8]) -> Result<(), PortFault>
         requires out { length out.old ≡ sampled_count clocks.now }

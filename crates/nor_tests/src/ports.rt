@@ -1,5 +1,7 @@
 //! A chip that is unplugged.
 
+ghost use Rattle.std.specs.Prelude.{⊤};
+
 use crate::same::{holds, same};
 use nor_base::{Meaning, PortFault, Start, Width, Wrong, sampled};
 use nor_chip::{Chip, Port};
@@ -26,6 +28,8 @@ impl<'a> Port for Unplugged<'a> {
     ghost shown = { λ port. port.chip };
 
     ghost count = { λ port. port.failed };
+
+    ghost asked = { λ _ _. ⊤ };
 
     fn transact(&mut self, clocks: &[u8], out: &mut [u8]) -> Result<(), PortFault> {
         if self.left == 0 {

@@ -3,26 +3,33 @@ use Rattle.std.specs.Prelude.{◌≡◌, ℕ, List, Option, Result, Ok, Err, IfO
 use Rattle.norprog_words.specs.declared.faults.Refusal.{Refusal}
 use Rattle.norprog_words.specs.Told.{TellsOf}
 use Rattle.norprog_options.specs.declared.options.Asked.{Asked}
-use Rattle.norprog_options.specs.declared.options.Asked.TheVariants.{Build, Plan, Check, Run, Sfdp}
+use Rattle.norprog_options.specs.declared.options.Asked.TheVariants as command
 use Rattle.norprog_options.specs.Options.{IsAskedBySome}
 use Rattle.norprog_command.specs.Builds.{AnswersBuild}
 use Rattle.norprog_command.specs.Plans.{AnswersPlan}
 use Rattle.norprog_command.specs.Verdicts.{AnswersCheck}
 use Rattle.norprog_command.specs.Meanings.{AnswersChip}
+use Rattle.norprog_explain.specs.Explained.{explained, AnswersExplain}
+use Rattle.norprog_explain.specs.Topics.{topics}
+use Rattle.norprog_list.specs.Answer.{AnswersList}
 use Rattle.norprog_run.specs.Answer.{AnswersRun}
 
 -- to what is asked for, each command its answer; to words that couldn't be read, why
 abbrev pub AnswersTo : Result Asked Refusal → Option (List ℕ) → Option (List ℕ) → Type 0 → Type 0 → Option (List ℕ) → Option (List ℕ) → ℕ → Type 0
-AnswersTo (Ok (Build given)) before after Quiet Works told_before told_after status =
+AnswersTo (Ok (command.Build given)) before after Quiet Works told_before told_after status =
     AnswersBuild (Ok given) before after Quiet Works told_before told_after status
-AnswersTo (Ok (Plan given)) before after Quiet Works told_before told_after status =
+AnswersTo (Ok (command.Plan given)) before after Quiet Works told_before told_after status =
     AnswersPlan (Ok given) before after Quiet Works told_before told_after status
-AnswersTo (Ok (Check given)) before after Quiet Works told_before told_after status =
+AnswersTo (Ok (command.Check given)) before after Quiet Works told_before told_after status =
     AnswersCheck (Ok given) before after Quiet Works told_before told_after status
-AnswersTo (Ok (Run given)) before after Quiet Works told_before told_after status =
+AnswersTo (Ok (command.Run given)) before after Quiet Works told_before told_after status =
     AnswersRun (Ok given) before after Quiet Works told_before told_after status
-AnswersTo (Ok (Sfdp given)) before after Quiet Works told_before told_after status =
+AnswersTo (Ok (command.List given)) before after Quiet Works told_before told_after status =
+    AnswersList (Ok given) before after Quiet Works told_before told_after status
+AnswersTo (Ok (command.Sfdp given)) before after Quiet Works told_before told_after status =
     AnswersChip (Ok given) before after Quiet Works told_before told_after status
+AnswersTo (Ok (command.Explain words)) before after Quiet Works told_before told_after status =
+    AnswersExplain (explained topics words.items) before after Quiet Works told_before told_after status
 AnswersTo (Err why) before after Quiet Works told_before told_after status =
     (after ≡ before) × TellsOf (λ told. told ≡ why) Works told_before told_after status
 

@@ -1,8 +1,8 @@
 //! The command line of norprog: `norprog build` writes the script that programs a chip, `norprog plan` prints what that
 //! would erase and program, `norprog check` says whether a script does a job, `norprog run` plays one on a chip in memory,
-//! `norprog sfdp` prints what a chip's tables mean.
+//! `norprog list` tells what each step of one is, `norprog sfdp` prints what a chip's tables mean.
 //!
-//! The crate `norprog_options` reads the options; `norprog_command` and `norprog_run` do the work behind them.
+//! The crate `norprog_options` reads the options; `norprog_command`, `norprog_run` and `norprog_list` do the work behind them.
 #![tactic(auto)]
 
 ghost use Rattle.std.specs.Prelude.{◌≡◌, ◌<◌, ◌≤◌, ◌-◌, ◌^◌};
@@ -10,6 +10,8 @@ ghost use Rattle.norprog_cli.specs.Answers.{AnswersTo, AnswersSome};
 
 use nor_base::{ByteOut, IntoWrite};
 use norprog_command::{build, check, plan, sfdp};
+use norprog_explain::explain;
+use norprog_list::list;
 use norprog_options::{Asked, asked_by};
 use norprog_run::run;
 use norprog_words::{Refusal, refuse};
@@ -79,7 +81,9 @@ fn answer_to<O: ByteOut, E: ByteOut>(
         Ok(Asked::Plan(given)) => plan(rt, Ok(given), out, err),
         Ok(Asked::Check(given)) => check(rt, Ok(given), out, err),
         Ok(Asked::Run(given)) => run(rt, Ok(given), out, err),
+        Ok(Asked::List(given)) => list(rt, Ok(given), out, err),
         Ok(Asked::Sfdp(given)) => sfdp(rt, Ok(given), out, err),
+        Ok(Asked::Explain(words)) => explain(words.as_slice(), out, err),
         Err(refusal) => refuse(&refusal, err),
     }
 }

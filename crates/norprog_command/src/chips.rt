@@ -2,7 +2,6 @@
 
 ghost use Rattle.std.specs.Prelude.{◌≡◌, ◌<◌, ◌≤◌, ◌-◌, ◌^◌, None, IfOk, IfErr};
 ghost use Rattle.norprog_words.specs.Chip.{origin_of};
-ghost use Rattle.norprog_words.specs.Files.{IsOfFiles};
 ghost use Rattle.norprog_words.specs.Told.{line_fault, Refuses};
 ghost use Rattle.norprog_command.specs.Asked.{asks_chip};
 ghost use Rattle.norprog_command.specs.Meanings.{IsMeaning, RefusesMeaning, PrintsMeaning, CutsMeaning, AnswersChip};
@@ -11,9 +10,7 @@ ghost use Rattle.norprog_command.specs.Served.{IsChipTask, OfChip};
 use nor_base::{ByteOut, Meaning, Part};
 use nor_job::{Inputs, contradiction};
 use norprog::{BuildFault, sfdp_text};
-use norprog_words::{
-    Chip, FileName, GivenChip, Refusal, chip_of, part, read_whole, refuse, source_of,
-};
+use norprog_words::{Chip, GivenChip, Refusal, chip_of, part, read_tables, refuse, source_of};
 use std::alloc::AllocGlobal;
 use std::fs::Files;
 
@@ -74,19 +71,6 @@ fn run_meaning<R: Files + AllocGlobal>(
 {
     let tables = read_tables(rt, chip)?;
     chip_alone(chip, part, tables.as_slice())
-}
-
-/// What the file of a chip's tables holds; nothing of a uniform chip.
-fn read_tables<R: Files + AllocGlobal>(rt: &R, chip: Chip<'_>) -> Result<Vec<u8>, Refusal>
-    ensures { IfErr result IsOfFiles }
-{
-    match chip {
-        Chip::Sfdp { file, bits: _ } => {
-            let (bytes, _place) = read_whole(rt, rt.alloc(), file, FileName::Sfdp)?;
-            Ok(bytes)
-        }
-        Chip::Uniform(_) => Ok(Vec::new(rt.alloc())),
-    }
 }
 
 /// The meaning of a chip of which nothing else is known.

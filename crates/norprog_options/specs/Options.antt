@@ -1,19 +1,24 @@
 -- Which option's text goes to which value (this project's).
-use Rattle.std.specs.Prelude.{◌≡◌, ℕ, Bool, true, false, List, Option, Some, None, option_map, codes}
-use Rattle.clap.specs.Words.{found_of, first_value, one_text, subcommand_name_of}
+use Rattle.std.specs.Prelude.{◌≡◌, ℕ, Bool, true, false, List, [], Option, Some, None, option_map, unwrap_or, codes}
+use Rattle.clap.specs.Words.{first_value, matched_of, one_text, raw_values, rows_of, subcommand_name_of, subcommand_rows_of}
 use Rattle.clap.specs.declared.parser.matches.ArgMatches.{ArgMatches}
 use Rattle.clap.specs.declared.parser.matches.Found.{Found}
 use Rattle.norprog_words.specs.declared.given.Given.{Given}
 use Rattle.norprog_words.specs.declared.given.GivenBuild.{GivenBuild}
 use Rattle.norprog_words.specs.declared.given.GivenCheck.{GivenCheck}
 use Rattle.norprog_words.specs.declared.given.GivenChip.{GivenChip}
+use Rattle.norprog_words.specs.declared.given.GivenList.{GivenList}
 use Rattle.norprog_words.specs.declared.given.GivenRun.{GivenRun}
 use Rattle.norprog_options.specs.declared.options.Asked.{Asked}
-use Rattle.norprog_options.specs.declared.options.Asked.TheVariants.{Build, Plan, Check, Run, Sfdp}
+use Rattle.norprog_options.specs.declared.options.Asked.TheVariants as command
 
 -- the option of this name has this text
 abbrev pub Has : Found → List ℕ → Option (List ℕ) → Type 0
 Has found name text = text ≡ first_value found name
+
+-- the values of the argument of this name, of all its uses, in their order
+abbrev pub texts_of : Found → List ℕ → List (List ℕ)
+texts_of found name = unwrap_or (option_map raw_values (matched_of found name)) []
 
 -- a flag is set where its option is used, and isn't where it isn't
 pub record Sets (found : Found) (name : List ℕ) (flag : Bool) : Type 0 where
@@ -41,6 +46,7 @@ pub record IsJobIn (found : Found) (given : Given) : Type 0 where
   pub quad : Sets found (codes "quad") given.quad
   pub verify : Sets found (codes "verify") given.verify
   pub erased_only : Sets found (codes "erased-only") given.erased_only
+  pub regions : given.regions.items ≡ texts_of found (codes "regions")
 
 pub record IsRunIn (found : Found) (given : GivenRun) : Type 0 where
   pub sfdp : Has found (codes "sfdp") (option_map (λ t. t.now) given.sfdp)
@@ -59,6 +65,17 @@ pub record IsRunIn (found : Found) (given : GivenRun) : Type 0 where
   pub erased_only : Sets found (codes "erased-only") given.erased_only
   pub keep : Sets found (codes "keep") given.keep
 
+pub record IsListIn (found : Found) (given : GivenList) : Type 0 where
+  pub sfdp : Has found (codes "sfdp") (option_map (λ t. t.now) given.sfdp)
+  pub uniform : Has found (codes "uniform") (option_map (λ t. t.now) given.uniform)
+  pub bits : Has found (codes "bits") (option_map (λ t. t.now) given.bits)
+  pub part : Has found (codes "part") (option_map (λ t. t.now) given.part)
+  pub status : Has found (codes "status") (option_map (λ t. t.now) given.status)
+  pub script : Has found (codes "script") (option_map (λ t. t.now) given.script)
+  pub mode4 : Sets found (codes "mode4") given.mode4
+  pub quad : Sets found (codes "quad") given.quad
+  pub erased_only : Sets found (codes "erased-only") given.erased_only
+
 pub record IsBuildIn (found : Found) (given : GivenBuild) : Type 0 where
   pub job : IsJobIn found given.job
   pub out : Has found (codes "out") (option_map (λ t. t.now) given.out)
@@ -67,17 +84,22 @@ pub record IsCheckIn (found : Found) (given : GivenCheck) : Type 0 where
   pub job : IsJobIn found given.job
   pub script : Has found (codes "script") (option_map (λ t. t.now) given.script)
 
--- the command of that name was used, with these options
-abbrev pub IsUsed : ArgMatches → List ℕ → (Found → Type 0) → Type 0
-IsUsed matches name In = (subcommand_name_of matches ≡ Some name) × ((found : Found) × In found)
+-- the command of that name was used, and this holds of its options
+pub record IsUsed (matches : ArgMatches) (name : List ℕ) (In : Found → Type 0) : Type 0 where
+  pub named : subcommand_name_of matches ≡ Some name
+  pub found : Found
+  pub behind : option_map (λ used. used.1) (subcommand_rows_of matches) ≡ Some (rows_of found)
+  pub so : In found
 
 -- what is asked for is what the command that was used says, each value by the option of its name
 abbrev pub IsAsked : ArgMatches → Asked → Type 0
-IsAsked matches (Build given) = IsUsed matches (codes "build") (λ found. IsBuildIn found given)
-IsAsked matches (Plan given) = IsUsed matches (codes "plan") (λ found. IsJobIn found given)
-IsAsked matches (Check given) = IsUsed matches (codes "check") (λ found. IsCheckIn found given)
-IsAsked matches (Run given) = IsUsed matches (codes "run") (λ found. IsRunIn found given)
-IsAsked matches (Sfdp given) = IsUsed matches (codes "sfdp") (λ found. IsChipIn found given)
+IsAsked matches (command.Build given) = IsUsed matches (codes "build") (λ found. IsBuildIn found given)
+IsAsked matches (command.Plan given) = IsUsed matches (codes "plan") (λ found. IsJobIn found given)
+IsAsked matches (command.Check given) = IsUsed matches (codes "check") (λ found. IsCheckIn found given)
+IsAsked matches (command.Run given) = IsUsed matches (codes "run") (λ found. IsRunIn found given)
+IsAsked matches (command.List given) = IsUsed matches (codes "list") (λ found. IsListIn found given)
+IsAsked matches (command.Sfdp given) = IsUsed matches (codes "sfdp") (λ found. IsChipIn found given)
+IsAsked matches (command.Explain words) = IsUsed matches (codes "explain") (λ found. words.items ≡ texts_of found (codes "words"))
 
 abbrev pub IsAskedBySome : Asked → Type 0
 IsAskedBySome asked = (matches : ArgMatches) × IsAsked matches asked

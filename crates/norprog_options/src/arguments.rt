@@ -17,6 +17,10 @@ const CHECK_EXAMPLE: &str =
 const RUN_EXAMPLE: &str =
     "Example: norprog run --uniform 8192 --content now.bin --script app.script --busy 1,2 --out after.bin";
 
+const LIST_EXAMPLE: &str = "Example: norprog list --uniform 8192 --script app.script";
+
+const EXPLAIN_EXAMPLE: &str = "Example: norprog explain hex 4";
+
 const SFDP_EXAMPLE: &str = "Example: norprog sfdp --sfdp /sys/bus/spi/devices/spi0.0/spi-nor/sfdp";
 
 /// The program's commands.
@@ -31,7 +35,9 @@ pub(crate) fn norprog<'a>(alloc: Global) -> Result<Command<'a>, AllocError> {
         .subcommand(plan(alloc)?)?
         .subcommand(check(alloc)?)?
         .subcommand(run(alloc)?)?
-        .subcommand(sfdp(alloc)?)
+        .subcommand(list(alloc)?)?
+        .subcommand(sfdp(alloc)?)?
+        .subcommand(explain(alloc)?)
 }
 
 fn build<'a>(alloc: Global) -> Result<Command<'a>, AllocError> {
@@ -65,11 +71,26 @@ fn run<'a>(alloc: Global) -> Result<Command<'a>, AllocError> {
     with_bench(alloc, command.arg(script(alloc))?)?.arg(file(alloc, "out", out))
 }
 
+fn list<'a>(alloc: Global) -> Result<Command<'a>, AllocError> {
+    let command = Command::new(alloc, "list")
+        .about("Tells what each step of a script is, for such a chip")
+        .after_help(LIST_EXAMPLE);
+    with_start(alloc, with_chip(alloc, command)?)?.arg(script(alloc))
+}
+
 fn sfdp<'a>(alloc: Global) -> Result<Command<'a>, AllocError> {
     let command = Command::new(alloc, "sfdp")
         .about("Prints what the chip's SFDP tables mean")
         .after_help(SFDP_EXAMPLE);
     with_chip(alloc, command)
+}
+
+fn explain<'a>(alloc: Global) -> Result<Command<'a>, AllocError> {
+    let words = "What norprog printed, or the beginning of it [default: all that can be asked]";
+    let command = Command::new(alloc, "explain")
+        .about("Says what a text that norprog printed means, and what to do")
+        .after_help(EXPLAIN_EXAMPLE);
+    command.arg(several(alloc, "words", "WORDS", words))
 }
 
 /// The options that say what the job is.
@@ -88,13 +109,7 @@ fn with_image<'a>(alloc: Global, command: Command<'a>) -> Result<Command<'a>, Al
         .arg(hex.required(true))?
         .arg(file(alloc, "layout", layout))?
         .arg(value(alloc, "base", "H", base))?
-        .arg(
-            Arg::new(alloc, "regions")
-                .value_name("REGIONS")
-                .num_args(0..)
-                .action(ArgAction::Append)
-                .help(regions),
-        )
+        .arg(several(alloc, "regions", "REGIONS", regions))
 }
 
 /// The options that say which chip it is.
@@ -112,16 +127,20 @@ fn with_chip<'a>(alloc: Global, command: Command<'a>) -> Result<Command<'a>, All
         .arg(value(alloc, "part", "P", part))
 }
 
-/// The options that say how the chip stands.
+/// The options that say what the chip holds and how it stands.
 fn with_state<'a>(alloc: Global, command: Command<'a>) -> Result<Command<'a>, AllocError> {
     let content = file(
         alloc,
         "content",
         "What the chip holds now, a binary file of the chip's size in bytes",
     );
+    with_start(alloc, command.arg(content.required(true))?)
+}
+
+/// The options that say how the chip stands.
+fn with_start<'a>(alloc: Global, command: Command<'a>) -> Result<Command<'a>, AllocError> {
     let status = "Status bits S23 to S0 of a w25q256jv: six hexadecimal digits [default: not read]";
     command
-        .arg(content.required(true))?
         .arg(value(alloc, "status", "H", status))?
         .arg(flag(
             alloc,
@@ -163,6 +182,15 @@ fn with_verify<'a>(alloc: Global, command: Command<'a>) -> Result<Command<'a>, A
 /// The script's file.
 fn script<'a>(alloc: Global) -> Arg<'a> {
     file(alloc, "script", "The script, a text file").required(true)
+}
+
+/// What may be named any number of times, without an option.
+fn several<'a>(alloc: Global, name: &'a str, value_name: &'a str, help: &'a str) -> Arg<'a> {
+    Arg::new(alloc, name)
+        .value_name(value_name)
+        .num_args(0..)
+        .action(ArgAction::Append)
+        .help(help)
 }
 
 /// An option whose value is a file's name.

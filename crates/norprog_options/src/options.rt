@@ -1,14 +1,14 @@
 //! What stands on a command line, read by the command line library.
 
-ghost use Rattle.std.specs.Prelude.{IfOk};
+ghost use Rattle.std.specs.Prelude.{◌≡◌, map, IfOk};
 ghost use Rattle.clap.specs.Words.{found_of};
-ghost use Rattle.norprog_options.specs.Options.{IsJobIn, IsChipIn, IsRunIn, IsAsked, IsAskedBySome};
+ghost use Rattle.norprog_options.specs.Options.{texts_of, IsJobIn, IsChipIn, IsListIn, IsRunIn, IsAsked, IsAskedBySome};
 
 use crate::arguments::norprog;
 use clap::error::ErrorKind;
 use clap::{ArgMatches, Error};
 use nor_base::Bytes;
-use norprog_words::{Given, GivenBuild, GivenCheck, GivenChip, GivenRun, Refusal};
+use norprog_words::{Given, GivenBuild, GivenCheck, GivenChip, GivenList, GivenRun, Refusal};
 use std::alloc::Global;
 
 /// What stands on a command line, by its command.
@@ -18,7 +18,10 @@ pub enum Asked<'a> {
     Plan(Given<'a>),
     Check(GivenCheck<'a>),
     Run(GivenRun<'a>),
+    List(GivenList<'a>),
     Sfdp(GivenChip<'a>),
+    /// The words that are asked about.
+    Explain(Vec<Bytes>),
 }
 
 /// Reads the words behind the program's name, by the command line library. Each value is the text of the option of its name.
@@ -57,8 +60,14 @@ fn asked_in<'a>(alloc: Global, matches: &ArgMatches<'a>) -> Result<Asked<'a>, Re
     if let Some(run) = matches.subcommand_matches("run") {
         return Ok(Asked::Run(run_in(run)));
     }
-    match matches.subcommand_matches("sfdp") {
-        Some(chip) => Ok(Asked::Sfdp(chip_in(chip))),
+    if let Some(list) = matches.subcommand_matches("list") {
+        return Ok(Asked::List(list_in(list)));
+    }
+    if let Some(chip) = matches.subcommand_matches("sfdp") {
+        return Ok(Asked::Sfdp(chip_in(chip)));
+    }
+    match matches.subcommand_matches("explain") {
+        Some(explain) => Ok(Asked::Explain(texts_in(alloc, explain, "words")?)),
         None => Err(Refusal::Usage),
     }
 }
@@ -92,7 +101,7 @@ fn given_in<'a>(alloc: Global, job: &ArgMatches<'a>) -> Result<Given<'a>, Refusa
         content: job.get_str("content"),
         verify: job.get_flag("verify"),
         erased_only: job.get_flag("erased-only"),
-        regions: regions_in(alloc, job)?,
+        regions: texts_in(alloc, job, "regions")?,
     })
 }
 
@@ -131,12 +140,41 @@ fn run_in<'a>(run: &ArgMatches<'a>) -> GivenRun<'a>
     }
 }
 
-/// The names of regions, in their order.
-fn regions_in(alloc: Global, job: &ArgMatches<'_>) -> Result<Vec<Bytes>, Refusal> {
-    let mut regions = Vec::new(alloc);
-    for name in job.get_strs("regions").unwrap_or(&[]) {
-        let bytes = Vec::from_slice(alloc, name.as_bytes())?;
-        regions.push(Bytes::new(bytes))?;
+/// The listing.
+fn list_in<'a>(list: &ArgMatches<'a>) -> GivenList<'a>
+    ensures { IsListIn (found_of list.now) result }
+{
+    GivenList {
+        sfdp: list.get_str("sfdp"),
+        uniform: list.get_str("uniform"),
+        bits: list.get_str("bits"),
+        part: list.get_str("part"),
+        status: list.get_str("status"),
+        mode4: list.get_flag("mode4"),
+        quad: list.get_flag("quad"),
+        erased_only: list.get_flag("erased-only"),
+        script: list.get_str("script"),
     }
-    Ok(regions)
+}
+
+/// The values of an argument that may have several, in their order.
+fn texts_in(alloc: Global, matches: &ArgMatches<'_>, name: &str) -> Result<Vec<Bytes>, Refusal>
+    ensures { IfOk result (λ texts. texts.items ≡ texts_of (found_of matches.now) name.now) }
+{
+    match matches.get_strs(name) {
+        Some(texts) => bytes_of(alloc, texts),
+        None => Ok(Vec::new(alloc)),
+    }
+}
+
+/// The bytes of each text.
+fn bytes_of(alloc: Global, texts: &[&str]) -> Result<Vec<Bytes>, Refusal>
+    ensures { IfOk result (λ each. each.items ≡ map (λ text. text.now) texts.now) }
+{
+    let mut each = Vec::new(alloc);
+    for text in texts {
+        let bytes = Vec::from_slice(alloc, text.as_bytes())?;
+        each.push(Bytes::new(bytes))?;
+    }
+    Ok(each)
 }

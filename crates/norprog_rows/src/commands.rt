@@ -3,8 +3,9 @@
 use crate::line::{Line, line_of};
 use nor_base::{Bytes, IntoWrite};
 use norprog_command::{build, check, plan, sfdp};
+use norprog_list::list;
 use norprog_run::run;
-use norprog_words::{Given, GivenBuild, GivenCheck, GivenChip, GivenRun};
+use norprog_words::{Given, GivenBuild, GivenCheck, GivenChip, GivenList, GivenRun};
 use std::alloc::{AllocError, Global};
 use std::{fs, io};
 
@@ -70,6 +71,9 @@ fn status_of(
     if command == "run" {
         return Ok(run(rt, Ok(run_in(line)), &mut out, &mut err));
     }
+    if command == "list" {
+        return Ok(list(rt, Ok(list_in(line)), &mut out, &mut err));
+    }
     if command == "sfdp" {
         return Ok(sfdp(rt, Ok(chip_in(line)), &mut out, &mut err));
     }
@@ -131,6 +135,21 @@ fn chip_in<'a>(line: &Line<'a>) -> GivenChip<'a> {
         uniform: line.value("--uniform"),
         bits: line.value("--bits"),
         part: line.value("--part"),
+    }
+}
+
+/// The listing of a line.
+fn list_in<'a>(line: &Line<'a>) -> GivenList<'a> {
+    GivenList {
+        sfdp: line.value("--sfdp"),
+        uniform: line.value("--uniform"),
+        bits: line.value("--bits"),
+        part: line.value("--part"),
+        status: line.value("--status"),
+        mode4: line.has("--mode4"),
+        quad: line.has("--quad"),
+        erased_only: line.has("--erased-only"),
+        script: line.value("--script"),
     }
 }
 

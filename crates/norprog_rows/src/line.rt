@@ -24,18 +24,25 @@ enum Form {
 fn form_of(command: &str, word: &str) -> Option<Form> {
     let is_job = matches!(command, "build" | "plan" | "check");
     let is_run = command == "run";
+    let is_list = command == "list";
     match word {
         "--sfdp" | "--uniform" | "--bits" | "--part" | ">" | "2>" => Some(Form::Value),
-        "--status" | "--content" if is_job || is_run => Some(Form::Value),
-        "--mode4" | "--quad" | "--erased-only" if is_job || is_run => Some(Form::Flag),
+        "--content" if is_job || is_run => Some(Form::Value),
+        "--status" if is_job || is_run || is_list => Some(Form::Value),
+        "--mode4" | "--quad" | "--erased-only" if is_job || is_run || is_list => Some(Form::Flag),
         "--hex" | "--layout" | "--base" if is_job => Some(Form::Value),
         "--verify" if is_job && command != "check" => Some(Form::Flag),
         "--out" if is_run || command == "build" => Some(Form::Value),
-        "--script" if is_run || command == "check" => Some(Form::Value),
+        "--script" if is_run || is_list || command == "check" => Some(Form::Value),
         "--busy" | "--limit" | "--page" if is_run => Some(Form::Value),
         "--keep" if is_run => Some(Form::Flag),
         _ => None,
     }
+}
+
+/// Whether names of regions may stand behind a command.
+fn has_names(command: &str) -> bool {
+    !matches!(command, "run" | "list" | "sfdp")
 }
 
 /// Takes the words behind a command apart; `''` is an empty one.
@@ -61,9 +68,7 @@ pub(crate) fn line_of<'a>(
         match form_of(command, word) {
             Some(Form::Value) => option = Some(word),
             Some(Form::Flag) => line.flags.push(word)?,
-            None if command != "run" && command != "sfdp" && !word.starts_with("--") => {
-                line.names.push(text)?
-            }
+            None if has_names(command) && !word.starts_with("--") => line.names.push(text)?,
             None => line.unknown = Some(word),
         }
     }

@@ -60,7 +60,9 @@ fn do_row(rt: &HostRuntime, row: &Row<'_>, found: &mut String) -> io::Result<()>
         None => (row.asked, ""),
     };
     match word {
-        "build" | "plan" | "check" | "run" | "sfdp" => commands::command(rt, word, rest, found),
+        "build" | "plan" | "check" | "run" | "list" | "sfdp" => {
+            commands::command(rt, word, rest, found)
+        }
         "norprog" => program::program(rt, rest, row.given, found),
         "job" => jobs::job(rt, rest, row.given, found),
         "order" => order::order(rt, rest, row.given, found),

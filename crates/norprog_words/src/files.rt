@@ -1,11 +1,12 @@
 //! The files that a command line names.
 
 ghost use Rattle.std.specs.Prelude.{◌≤◌, ◌^◌, length, IfOk, IfErr};
-ghost use Rattle.norprog_words.specs.declared.faults.FileName.TheVariants.{Out};
+ghost use Rattle.norprog_words.specs.declared.faults.FileName.TheVariants.{Sfdp, Out};
 ghost use Rattle.norprog_words.specs.Files.{RefusesFile, IsOfFiles};
 
+use crate::chip::Chip;
 use crate::faults::{FileName, Refusal};
-use std::alloc::Global;
+use std::alloc::{AllocGlobal, Global};
 use std::fs::{self, Files, OpenFile};
 use std::io::{self, Read};
 use std::os::unix::fs::MetadataExt;
@@ -47,6 +48,22 @@ pub fn read_whole<R: Files>(
         return Err(Refusal::File(name));
     }
     Ok((bytes, place))
+}
+
+/// What the file of a chip's SFDP tables holds; nothing for a uniform chip, which has none.
+///
+/// `File` of `Sfdp` and `Memory`, as [`read_whole`] answers them.
+pub fn read_tables<R: Files + AllocGlobal>(rt: &R, chip: Chip<'_>) -> Result<Vec<u8>, Refusal>
+    ensures refused { IfErr result (RefusesFile Sfdp) }
+    ensures files { IfErr result IsOfFiles }
+{
+    match chip {
+        Chip::Sfdp { file, bits: _ } => {
+            let (bytes, _place) = read_whole(rt, rt.alloc(), file, FileName::Sfdp)?;
+            Ok(bytes)
+        }
+        Chip::Uniform(_) => Ok(Vec::new(rt.alloc())),
+    }
 }
 
 /// Opens a file that isn't a folder, and answers which one it is and its length in bytes.

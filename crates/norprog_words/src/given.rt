@@ -44,6 +44,20 @@ pub struct GivenChip<'a> {
     pub part: Option<&'a str>,
 }
 
+/// Of `list`.
+#[derive(Clone, Copy)]
+pub struct GivenList<'a> {
+    pub sfdp: Option<&'a str>,
+    pub uniform: Option<&'a str>,
+    pub bits: Option<&'a str>,
+    pub part: Option<&'a str>,
+    pub status: Option<&'a str>,
+    pub mode4: bool,
+    pub quad: bool,
+    pub erased_only: bool,
+    pub script: Option<&'a str>,
+}
+
 /// Of `run`.
 #[derive(Clone, Copy)]
 pub struct GivenRun<'a> {

@@ -1,0 +1,20 @@
+-- No step yet.
+use Rattle.std.proofs.Common.{length, sym, ◌∙◌, ap, subst}
+use Rattle.nor_check.specs.Chips.{begun}
+use Rattle.nor_check.specs.Pages.{HaveSize, judged_each}
+use Rattle.nor_check.specs.Worst.{IsWorst}
+use Rattle.nor_check.proofs.Feeding.{before_any}
+use Rattle.nor_check.proofs.Spread.{size_each}
+use Rattle.nor_check.proofs.WorstPages.{worst_of_each}
+use Rattle.nor_check.proofs.checker.StepChecker.new.Goals as goal
+
+pub invariant_of-result : goal.invariant_of-result
+invariant_of-result c = λ none.
+    subst (HaveSize (length c.args.want.now)) (sym c.new.ensures)
+    (size_each (length c.args.want.now) (begun c.args.meaning.now c.args.start c.args.meaning.now.page c.args.have.items) c.requires.want)
+
+pub returns-clause-worst : goal.returns-clause-worst
+returns-clause-worst c = λ steps.
+    subst (IsWorst c.args.meaning.now c.args.start c.args.have.items c.args.want.now steps)
+    (ap (λ ts. judged_each c.args.want.now ts steps) (sym c.new.ensures) ∙ before_any c.args.want.now c.new.result steps)
+    (worst_of_each c.args.meaning.now c.args.start c.args.have.items c.args.want.now steps c.polls.ensures.ends c.verifying_reads.ensures)

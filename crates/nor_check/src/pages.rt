@@ -1,0 +1,140 @@
+//! All chips, of each page that may be.
+
+ghost use Rattle.std.specs.Prelude.{◌≡◌, ◌∷◌, [], true, length, map, IfOk, OnErr};
+ghost use Rattle.nor_base.specs.Chip.{page_sizes};
+ghost use Rattle.nor_check.specs.Chips.{one_like, last_settled};
+ghost use Rattle.nor_check.specs.Outcome.{at_end};
+ghost use Rattle.nor_check.specs.Order.{earlier};
+ghost use Rattle.nor_check.specs.Pages.{others, with_page, begun_each, StepsEach, worst_of, HaveSize};
+ghost use Rattle.nor_check.specs.View.{step_of};
+
+use crate::chips::AllChips;
+use crate::verdict::{Verdict, earlier, first_of};
+use crate::view::StepView;
+use nor_base::{Meaning, Start, Wrong};
+use std::alloc::{AllocError, Global};
+use std::marker::Model;
+
+/// The sizes that a page may have.
+const PAGES: [u32; 9] = [16, 32, 64, 128, 256, 512, 1024, 2048, 4096];
+
+/// All chips of a meaning and a start after some steps, of each page that may be.
+///
+/// A page tells nothing until a program leaves it. So where it is only known to be so large or larger, one array serves all
+/// pages until a program leaves the least, and then each page has its own.
+#[derive(Drop)]
+pub(crate) struct AllPages<'a> {
+    /// Those of the meaning's own page; while they are alike they stand for all.
+    own: AllChips<'a>,
+    /// Else those of each other page.
+    others: Vec<AllChips<'a>>,
+    alike: bool,
+}
+
+impl<'a> Model for AllPages<'a> {
+    ghost use Rattle.std.specs.Prelude.{◌≡◌, List};
+    ghost use Rattle.nor_check.specs.Chips.{Together};
+
+    ghost Value = { List Together };
+
+    ghost use Rattle.nor_check.specs.Pages.{page_by_page};
+
+    ghost view = { λ p. page_by_page p.alike p.own p.others.items };
+
+    ghost invariant = { λ p. p.own.kind.page ≡ p.own.kind.meaning.page };
+}
+
+impl<'a> AllPages<'a> {
+    /// All ready chips with this content. It asks for no memory.
+    pub(crate) fn new(
+        alloc: Global,
+        meaning: &'a Meaning,
+        start: Start,
+        content: Vec<u8>,
+    ) -> AllPages<'a>
+        requires { length content.items ≡ meaning.now.size }
+        ensures { result ≡ begun_each meaning.now start content.items }
+    {
+        AllPages {
+            own: AllChips::new(meaning, start, content),
+            others: Vec::new(alloc),
+            alike: meaning.open_page,
+        }
+    }
+
+    /// One step of all of them; why some don't take it, by the first cause. It asks for memory just where it is the first
+    /// that tells chips of different pages apart; where that is refused, nothing was done.
+    pub(crate) fn step(
+        &mut self,
+        alloc: Global,
+        step: StepView<'_>,
+    ) -> Result<Result<(), Wrong>, AllocError>
+        ensures step { IfOk result (λ answer. StepsEach self.old self.new answer (step_of step.entry)) }
+        ensures refused { OnErr result (self.new ≡ self.old) }
+    {
+        if !self.alike {
+            return Ok(step_apart(&mut self.own, &mut self.others, step));
+        }
+        if !self.own.tells_apart(step) {
+            return Ok(self.own.step(step));
+        }
+        let others = on_other_pages(alloc, &self.own)?;
+        self.others = others;
+        self.alike = false;
+        Ok(step_apart(&mut self.own, &mut self.others, step))
+    }
+
+    /// The verdict after so many steps, none of which went wrong on any chip.
+    pub(crate) fn verdict(&self, steps: u64, target: &[u8]) -> Verdict
+        requires { HaveSize (length target.now) self.now }
+        ensures { result ≡ worst_of (λ t. at_end (one_like t.kind [] true) target.now steps (last_settled t.chips)) self.now }
+    {
+        let own = self.own.verdict(steps, target);
+        if self.alike {
+            return own;
+        }
+        earliest(own, self.others.as_slice(), steps, target)
+    }
+}
+
+/// The same chips with each other page that may be.
+fn on_other_pages<'a>(alloc: Global, chips: &AllChips<'a>) -> Result<Vec<AllChips<'a>>, AllocError>
+    ensures { IfOk result (λ all. all.items ≡ map (with_page chips.now) (others chips.now.kind.meaning page_sizes)) }
+{
+    let mut all = Vec::new(alloc);
+    for page in &PAGES {
+        if chips.has_other_page(*page) {
+            all.push(chips.with_page(alloc, *page)?)?;
+        }
+    }
+    Ok(all)
+}
+
+/// One step of the chips of the meaning's own page and those of each other.
+fn step_apart<'a>(
+    own: &mut AllChips<'a>,
+    others: &mut Vec<AllChips<'a>>,
+    step: StepView<'_>,
+) -> Result<(), Wrong>
+    ensures step { StepsEach (own.old ∷ others.old.items) (own.new ∷ others.new.items) result (step_of step.entry) }
+    ensures stays { own.new.kind ≡ own.old.kind }
+{
+    let mut answer = own.step(step);
+    for chips in others.iter_mut() {
+        answer = first_of(answer, chips.step(step));
+    }
+    answer
+}
+
+/// The earliest of a verdict and those on some chips at the end.
+fn earliest(own: Verdict, all: &[AllChips<'_>], steps: u64, target: &[u8]) -> Verdict
+    requires { HaveSize (length target.now) all.now }
+    ensures { result
+        ≡ earlier own (worst_of (λ t. at_end (one_like t.kind [] true) target.now steps (last_settled t.chips)) all.now) }
+{
+    let mut worst = own;
+    for chips in all {
+        worst = earlier(worst, chips.verdict(steps, target));
+    }
+    worst
+}

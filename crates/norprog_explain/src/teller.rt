@@ -1,0 +1,68 @@
+//! `explain`: from the words of a command line to what is told of them.
+
+ghost use Rattle.std.specs.Prelude.{◌≡◌, ◌<◌, ◌≤◌, ◌-◌, ◌^◌, flat_map, IfOk, IfErr};
+ghost use Rattle.nor_base.specs.Device.{Writes, Counts};
+ghost use Rattle.norprog_explain.specs.Explained.{explained, listed, told, in_order, Tells, CutsText, RefusesText, AnswersExplain};
+ghost use Rattle.norprog_explain.specs.Topics.{topics};
+
+use crate::matching::topic_of;
+use crate::topics::{Topic, subjects};
+use nor_base::{ByteOut, Bytes, Failed, put_parts};
+use norprog_words::{Refusal, refuse};
+
+/// Writes to `out` what a text that the program prints means and what to do, a paragraph closed by LF: that of the first
+/// topic whose words the text begins with, word by word. Without words it writes the words of all topics, one a line. The text
+/// is the arguments in a row, cut at blanks. Where no topic is asked for, or `out` fails, the refusal is written to `err`.
+///
+/// Answers the status: 0 done, 1 a write failed, 2 usage: there is no such topic.
+pub fn explain<O: ByteOut, E: ByteOut>(words: &[Bytes], out: &mut O, err: &mut E) -> u8
+    requires out { O.count out.old < 2 ^ 64 - 1 }
+    requires err { E.count err.old < 2 ^ 64 - 1 }
+    ensures status { result ≤ 2 }
+    ensures quiet { result ≡ 0 → err.new ≡ err.old }
+    ensures answer { AnswersExplain (explained topics words.now) (O.held out.old) (O.held out.new) (err.new ≡ err.old)
+        (E.count err.new ≡ E.count err.old) (E.held err.old) (E.held err.new) result }
+{
+    match tell(&subjects(), words, out) {
+        Ok(()) => 0,
+        Err(refusal) => refuse(&refusal, err),
+    }
+}
+
+/// Tells what is asked for.
+fn tell<O: ByteOut>(subjects: &[&[Topic]], words: &[Bytes], out: &mut O) -> Result<(), Refusal>
+    requires { O.count out.old < 2 ^ 64 - 1 }
+    ensures told { IfOk result (λ _. Tells (explained (in_order subjects.now) words.now) (O.held out.old) (O.held out.new)) }
+    ensures untold { IfErr result (λ _. CutsText (explained (in_order subjects.now) words.now) (O.held out.old) (O.held out.new)) }
+    ensures refused { IfErr result (RefusesText (explained (in_order subjects.now) words.now)) }
+{
+    if words.is_empty() {
+        return list(subjects, out).map_err(|_| Refusal::WRITE);
+    }
+    let (_, paragraph) = topic_of(subjects, words).ok_or(Refusal::Usage)?;
+    put_parts(out, &[paragraph.as_bytes(), b"\n"]).map_err(|_| Refusal::WRITE)
+}
+
+/// Writes the words of each topic, one a line.
+fn list<O: ByteOut>(subjects: &[&[Topic]], out: &mut O) -> Result<(), Failed>
+    requires { O.count out.old < 2 ^ 64 - 1 }
+    ensures bytes { Writes (O.held out.old) (O.held out.new) result (flat_map listed (in_order subjects.now)) }
+    ensures count { Counts (O.count out.old) (O.count out.new) result }
+{
+    for topics in subjects {
+        list_some(topics, out)?;
+    }
+    Ok(())
+}
+
+/// Writes the words of some topics, one a line.
+fn list_some<O: ByteOut>(topics: &[Topic], out: &mut O) -> Result<(), Failed>
+    requires { O.count out.old < 2 ^ 64 - 1 }
+    ensures bytes { Writes (O.held out.old) (O.held out.new) result (flat_map listed (told topics.now)) }
+    ensures count { Counts (O.count out.old) (O.count out.new) result }
+{
+    for (words, _) in topics {
+        put_parts(out, &[words.as_bytes(), b"\n"])?;
+    }
+    Ok(())
+}
