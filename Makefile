@@ -1,6 +1,6 @@
 # README.md says what each target is for.
 
-.PHONY: build test edits refusals demo
+.PHONY: build test edits refusals demo docs-check install uninstall
 
 # the sample job of one byte, for the program in crates/norprog_cli
 job = build --hex data/one.hex --uniform 8192 --content data/chip.bin --out
@@ -11,6 +11,7 @@ build:
 	@tools/build
 	@dir=$$(mktemp -d) && (cd crates/norprog_cli && rt run -- $(job) $$dir/one.script); status=$$?; rm -rf "$$dir"; exit $$status
 	@cp crates/norprog_cli/out/norprog_cli norprog
+	@tools/stamp norprog
 	@echo "proved and built: ./norprog"
 
 # the merge gate: that docs/ARCHITECTURE.md and docs/HEADLINE.md say what is so; then every proof, must-fail edit and test, from
@@ -34,3 +35,22 @@ demo:
 	@dir=$$(mktemp -d) && cd crates/norprog_cli && rt try -- build --sfdp data/sfdp.bin --layout data/chip.layout \
 		--hex data/config.hex --content data/held.bin --verify --out $$dir/config.script config && cut -c 1-120 $$dir/config.script; \
 	status=$$?; rm -rf "$$dir"; exit $$status
+
+# runs each command of README.md and docs/GUIDE.md by the program that was built, and compares what it prints
+docs-check:
+	@tools/docs-check
+
+PREFIX = /usr/local
+man = $(DESTDIR)$(PREFIX)/share/man/man1/norprog.1
+completion = $(DESTDIR)$(PREFIX)/share/bash-completion/completions/norprog
+
+# puts the program that was built, its man page and its completion for bash where PREFIX says, below DESTDIR
+install:
+	@test -x norprog || { echo "first: make build" >&2; exit 1; }
+	@dir=$$(mktemp -d) && tools/manual > $$dir/man && tools/completion > $$dir/completion && \
+	install -D norprog $(DESTDIR)$(PREFIX)/bin/norprog && \
+	install -D -m 644 $$dir/man $(man) && install -D -m 644 $$dir/completion $(completion); \
+	status=$$?; rm -rf "$$dir"; exit $$status
+
+uninstall:
+	rm -f $(DESTDIR)$(PREFIX)/bin/norprog $(man) $(completion)

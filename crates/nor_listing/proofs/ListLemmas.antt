@@ -8,7 +8,7 @@ use Rattle.nor_base.specs.Script.{end_line}
 use Rattle.nor_base.specs.Device.{Cuts, Writes}
 use Rattle.nor_base.specs.Parameters.{Parameters}
 use Rattle.nor_base.proofs.DeviceLaws.{Appends-none, Appends-append, Cuts-then, Cuts-more, Writes-then}
-use Rattle.nor_listing.specs.Listing.{line, lines_from, mode_past, chip_line, listing}
+use Rattle.nor_listing.specs.Listing.{line, lines_from, mode_past, chip_line, unended_listing, listing}
 
 -- the lines of the first n steps were put, after which the mode is this
 pub record AreListed (m : Parameters) (first : Bool) (steps : List Step) (before after : Option (List ℕ)) (n : ℕ) (mode4 : Bool) : Type 0 where
@@ -48,20 +48,28 @@ module _ (m : Parameters) (first : Bool) (steps : List Step) where
   all_listed a b n mode4 listed past =
       subst (Appends a b) (sym (append-nil listed.text) ∙ ap (λ l. listed.text ++ lines_from m n mode4 l) (sym (drop_all n steps past)) ∙ listed.rest) listed.put
 
--- the first line, the lines of the steps, the end line
+-- the first line, the lines of the steps
 module _ (m : Parameters) (first mode4 : Bool) (steps : List Step) (same : mode4 ≡ first) where
-  whole : chip_line m mode4 ++ (lines_from m 0 mode4 steps ++ end_line (length steps)) ≡ listing m first steps
-  unfolding listing
-  whole = ap (λ k. chip_line m k ++ (lines_from m 0 k steps ++ end_line (length steps))) same
+  unended : chip_line m mode4 ++ lines_from m 0 mode4 steps ≡ unended_listing m first steps
+  unfolding unended_listing
+  unended = ap (λ k. chip_line m k ++ lines_from m 0 k steps) same
 
-  pub first_cut : (a b : Option (List ℕ)) → Cuts a b (chip_line m mode4) → Cuts a b (listing m first steps)
-  first_cut a b cut = subst (Cuts a b) whole (Cuts-more a b (chip_line m mode4) (lines_from m 0 mode4 steps ++ end_line (length steps)) cut)
+  pub first_cut : (a b : Option (List ℕ)) → Cuts a b (chip_line m mode4) → Cuts a b (unended_listing m first steps)
+  first_cut a b cut = subst (Cuts a b) unended (Cuts-more a b (chip_line m mode4) (lines_from m 0 mode4 steps) cut)
 
-  pub lines_cut : (a b c : Option (List ℕ)) → Appends a b (chip_line m mode4) → Cuts b c (lines_from m 0 mode4 steps) → Cuts a c (listing m first steps)
-  lines_cut a b c put cut =
-      subst (Cuts a c) whole (Cuts-then a b c (chip_line m mode4) _ put (Cuts-more b c (lines_from m 0 mode4 steps) (end_line (length steps)) cut))
+  pub lines_put : {T : Type 0} (a b c : Option (List ℕ)) (r : Result T Failed) → Appends a b (chip_line m mode4)
+      → Writes b c r (lines_from m 0 mode4 steps) → Writes a c r (unended_listing m first steps)
+  lines_put a b c r front lines = subst (Writes a c r) unended (Writes-then a b c r (chip_line m mode4) (lines_from m 0 mode4 steps) front lines)
 
-  pub all_put : {T : Type 0} (a b c d : Option (List ℕ)) (r : Result T Failed) → Appends a b (chip_line m mode4) → Appends b c (lines_from m 0 mode4 steps)
-      → Writes c d r (end_line (length steps)) → Writes a d r (listing m first steps)
-  all_put a b c d r front lines end =
-      subst (Writes a d r) whole (Writes-then a b d r (chip_line m mode4) _ front (Writes-then b c d r (lines_from m 0 mode4 steps) (end_line (length steps)) lines end))
+-- and the end line
+module _ (m : Parameters) (first : Bool) (steps : List Step) where
+  ended : unended_listing m first steps ++ end_line (length steps) ≡ listing m first steps
+  unfolding unended_listing listing
+  ended = append_assoc (chip_line m first) (lines_from m 0 first steps) (end_line (length steps))
+
+  pub unended_cut : (a b : Option (List ℕ)) → Cuts a b (unended_listing m first steps) → Cuts a b (listing m first steps)
+  unended_cut a b cut = subst (Cuts a b) ended (Cuts-more a b (unended_listing m first steps) (end_line (length steps)) cut)
+
+  pub all_put : {T : Type 0} (a b c : Option (List ℕ)) (r : Result T Failed) → Appends a b (unended_listing m first steps)
+      → Writes b c r (end_line (length steps)) → Writes a c r (listing m first steps)
+  all_put a b c r lines end = subst (Writes a c r) ended (Writes-then a b c r (unended_listing m first steps) (end_line (length steps)) lines end)

@@ -93,5 +93,9 @@ lines_from m n mode4 (x ∷ xs) = line m n mode4 x ++ lines_from m (n + 1) (mode
 unfoldable pub chip_line : Parameters → Bool → List ℕ
 chip_line m mode4 = closed (codes "chip " ++ (decimal m.size ++ (if mode4 then codes " four" else codes " three")))
 
+-- the first line and the lines of steps, without an end line
+unfoldable pub unended_listing : Parameters → Bool → List Step → List ℕ
+unended_listing m mode4 steps = chip_line m mode4 ++ lines_from m 0 mode4 steps
+
 unfoldable pub listing : Parameters → Bool → List Step → List ℕ
 listing m mode4 steps = chip_line m mode4 ++ (lines_from m 0 mode4 steps ++ end_line (length steps))

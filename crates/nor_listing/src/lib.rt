@@ -3,8 +3,8 @@
 //! "Listing", has the format.
 //!
 //! [`write_listing`] writes the listing of steps that are at hand. [`begin`], then [`write_line`] for each step as it comes,
-//! then [`finish`] with their number write the same. None of them takes memory. [`one_listing`] is the law that a listing has
-//! one list of steps.
+//! then [`finish`] with their number write the same. [`write_unended`] leaves the end line out. None of them takes memory.
+//! [`one_listing`] is the law that a listing has one list of steps.
 #![tactic(auto)]
 
 mod hexadecimal;
@@ -16,4 +16,4 @@ mod writer;
 
 pub use law::one_listing;
 pub use line::write_line;
-pub use writer::{begin, finish, write_listing};
+pub use writer::{begin, finish, write_listing, write_unended};

@@ -4,7 +4,7 @@ ghost use Rattle.std.specs.Prelude.{◌≡◌, ◌<◌, ◌-◌, ◌^◌};
 ghost use Rattle.nor_base.specs.Chip.{begins4};
 ghost use Rattle.nor_base.specs.Device.{Writes, Counts};
 ghost use Rattle.nor_base.specs.Script.{end_line};
-ghost use Rattle.nor_listing.specs.Listing.{chip_line, lines_from, listing};
+ghost use Rattle.nor_listing.specs.Listing.{chip_line, lines_from, unended_listing, listing};
 
 use crate::line::write_line;
 use itoa::Buffer;
@@ -24,10 +24,28 @@ pub fn write_listing<W: ByteOut>(
     ensures bytes { Writes (W.held out.old) (W.held out.new) result (listing meaning.now (begins4 meaning.now start.now) steps.now) }
     ensures count { Counts (W.count out.old) (W.count out.new) result }
 {
+    write_unended(meaning, start, steps, out)?;
+    finish(steps.len() as u64, out)
+}
+
+/// Writes the listing of steps without its end line, so that it is none: what is told of steps that something at fault follows.
+/// It takes no memory.
+///
+/// At `Failed` a proper prefix was taken; it comes from the writer alone, whose count of failures rose by one.
+pub fn write_unended<W: ByteOut>(
+    meaning: &Meaning,
+    start: &Start,
+    steps: &[Step],
+    out: &mut W,
+) -> Result<(), Failed>
+    requires { W.count out.old < 2 ^ 64 - 1 }
+    ensures bytes { Writes (W.held out.old) (W.held out.new) result
+        (unended_listing meaning.now (begins4 meaning.now start.now) steps.now) }
+    ensures count { Counts (W.count out.old) (W.count out.new) result }
+{
     let mode4 = meaning.begins4(start);
     begin(meaning, mode4, out)?;
-    put_lines(meaning, mode4, steps, out)?;
-    finish(steps.len() as u64, out)
+    put_lines(meaning, mode4, steps, out)
 }
 
 /// Writes the first line: `chip N three`, or `chip N four` where the chip begins in four-byte address mode. N is its size in

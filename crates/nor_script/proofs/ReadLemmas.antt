@@ -17,7 +17,7 @@ use Rattle.nor_script.specs.declared.fault.ScriptFault.{ScriptFault}
 use Rattle.nor_script.specs.declared.fault.ScriptFault.TheVariants.{Header, BadLine, BadSymbol, BadCount, NoEnd, AfterEnd, Memory}
 use Rattle.nor_script.specs.Line.{is_end, is_blank, are_two_parts, are_pairs, clocks_fault, verify_fault, step_fault, count_fault, line_fault, SpellsStep}
 use Rattle.nor_script.specs.Parts.{TellsFault, or_fault}
-use Rattle.nor_script.specs.Faults.{is_line_feed, BeginsWith, IsRight, HasBadLine, Refuses}
+use Rattle.nor_script.specs.Faults.{is_line_feed, BeginsWith, IsRight, HasBadLine, Refuses, BeginsRight, AreAbove}
 
 -- where a search finds a place, and where it finds none
 place_found : (b : Bool) (n i : ℕ) → cond b (Some n) None ≡ Some i → (b ≡ true) × (n ≡ i)
@@ -136,72 +136,92 @@ went_on text steps rest line (byte ∷ more) right first ends counted over = rec
   number = refl;
 }
 
--- the faults of a line
-abbrev pub IsOfLine : ScriptFault → Type 0
-IsOfLine (BadLine n) = Unit {0}
-IsOfLine (BadSymbol n) = Unit {0}
-IsOfLine (BadCount n) = Unit {0}
-IsOfLine (Header n) = ⊥
-IsOfLine (NoEnd n) = ⊥
-IsOfLine (AfterEnd n) = ⊥
-IsOfLine Memory = ⊥
+-- the faults of the n-th line
+abbrev pub IsOfLine : ℕ → ScriptFault → Type 0
+IsOfLine n (BadLine k) = k ≡ n
+IsOfLine n (BadSymbol k) = k ≡ n
+IsOfLine n (BadCount k) = k ≡ n
+IsOfLine n (Header k) = ⊥
+IsOfLine n (NoEnd k) = ⊥
+IsOfLine n (AfterEnd k) = ⊥
+IsOfLine n Memory = ⊥
 
-clocks_of_line : (n : ℕ) (clocks : List ℕ) → IfSome (clocks_fault n clocks) IsOfLine
+clocks_of_line : (n : ℕ) (clocks : List ℕ) → IfSome (clocks_fault n clocks) (IsOfLine n)
 clocks_of_line n clocks = symbols (not (is_filled clocks)) (not (list_all is_symbol clocks)) n
   where
-    symbols : (empty other : Bool) (n : ℕ) → IfSome (if empty then Some (BadLine n) else if other then Some (BadSymbol n) else None) IsOfLine
-    symbols true other n = tt
-    symbols false true n = tt
+    symbols : (empty other : Bool) (n : ℕ) → IfSome (if empty then Some (BadLine n) else if other then Some (BadSymbol n) else None) (IsOfLine n)
+    symbols true other n = refl
+    symbols false true n = refl
     symbols false false n = tt
 
-verify_of_line : (n : ℕ) (rest : List ℕ) → IfSome (verify_fault n rest) IsOfLine
+verify_of_line : (n : ℕ) (rest : List ℕ) → IfSome (verify_fault n rest) (IsOfLine n)
 verify_of_line n rest = parts (not (are_two_parts rest)) (not (list_all is_symbol (before_first is_blank rest))) (not (are_pairs (after_first is_blank rest))) n
   where
-    parts : (cut other odd : Bool) (n : ℕ) → IfSome (if cut then Some (BadLine n) else if other then Some (BadSymbol n) else if odd then Some (BadLine n) else None) IsOfLine
-    parts true other odd n = tt
-    parts false true odd n = tt
-    parts false false true n = tt
+    parts : (cut other odd : Bool) (n : ℕ) → IfSome (if cut then Some (BadLine n) else if other then Some (BadSymbol n) else if odd then Some (BadLine n) else None) (IsOfLine n)
+    parts true other odd n = refl
+    parts false true odd n = refl
+    parts false false true n = refl
     parts false false false n = tt
 
-step_of_line : (n : ℕ) (line : List ℕ) → IfSome (step_fault n line) IsOfLine
-step_of_line n [] = tt
-step_of_line n (letter ∷ []) = tt
+step_of_line : (n : ℕ) (line : List ℕ) → IfSome (step_fault n line) (IsOfLine n)
+step_of_line n [] = refl
+step_of_line n (letter ∷ []) = refl
 step_of_line n (letter ∷ blank ∷ rest) =
     by_letter (not (is_blank blank)) (letter == 0x78 || letter == 0x70) (letter == 0x76) n (clocks_fault n rest) (verify_fault n rest) (clocks_of_line n rest) (verify_of_line n rest)
   where
-    by_letter : (apart once other : Bool) (n : ℕ) (x y : Option ScriptFault) → IfSome x IsOfLine → IfSome y IsOfLine
-        → IfSome (if apart then Some (BadLine n) else if once then x else if other then y else Some (BadLine n)) IsOfLine
-    by_letter true once other n x y p q = tt
+    by_letter : (apart once other : Bool) (n : ℕ) (x y : Option ScriptFault) → IfSome x (IsOfLine n) → IfSome y (IsOfLine n)
+        → IfSome (if apart then Some (BadLine n) else if once then x else if other then y else Some (BadLine n)) (IsOfLine n)
+    by_letter true once other n x y p q = refl
     by_letter false true other n x y p q = p
     by_letter false false true n x y p q = q
-    by_letter false false false n x y p q = tt
+    by_letter false false false n x y p q = refl
 
-refuses_by : (text : List ℕ) (fault : ScriptFault) → IsOfLine fault → HasBadLine text fault → Refuses text fault
-refuses_by text (BadLine n) of bad = bad
-refuses_by text (BadSymbol n) of bad = bad
-refuses_by text (BadCount n) of bad = bad
-refuses_by text (Header n) of bad = absurd of
-refuses_by text (NoEnd n) of bad = absurd of
-refuses_by text (AfterEnd n) of bad = absurd of
-refuses_by text Memory of bad = absurd of
+count_of_line : (steps : ℕ) (count : List ℕ) → IfSome (count_fault steps count) (IsOfLine (steps + 2))
+count_of_line steps count = counted (bytes_eq count (decimal steps)) (steps + 2)
+  where
+    counted : (b : Bool) (n : ℕ) → IfSome (if b then None else Some (BadCount n)) (IsOfLine n)
+    counted true n = tt
+    counted false n = refl
 
-line_refused : (text : List ℕ) (steps : List Step) (rest line more : List ℕ) (fault : ScriptFault) → IsRight text steps rest → BeginsWith rest line more
-    → IsOfLine fault → line_fault (length steps) line ≡ Some fault → Refuses text fault
-line_refused text steps rest line more fault right first of here =
-    refuses_by text fault of (record { above = steps; rest = rest; line = line; more = more; right = right; first = first; here = here })
+refuses_by : (text : List ℕ) (n : ℕ) (fault : ScriptFault) → IsOfLine n fault → HasBadLine text fault → Refuses text fault
+refuses_by text n (BadLine k) of bad = bad
+refuses_by text n (BadSymbol k) of bad = bad
+refuses_by text n (BadCount k) of bad = bad
+refuses_by text n (Header k) of bad = absurd of
+refuses_by text n (NoEnd k) of bad = absurd of
+refuses_by text n (AfterEnd k) of bad = absurd of
+refuses_by text n Memory of bad = absurd of
+
+above_by : (text : List ℕ) (steps : List Step) (fault : ScriptFault) → IsOfLine (length steps + 2) fault → BeginsRight text steps → AreAbove text steps fault
+above_by text steps (BadLine k) of begins = (begins, of)
+above_by text steps (BadSymbol k) of begins = (begins, of)
+above_by text steps (BadCount k) of begins = (begins, of)
+above_by text steps (Header k) of begins = absurd of
+above_by text steps (NoEnd k) of begins = absurd of
+above_by text steps (AfterEnd k) of begins = absurd of
+above_by text steps Memory of begins = absurd of
+
+line_refused : (text : List ℕ) (steps : List Step) (rest line more : List ℕ) (n : ℕ) (fault : ScriptFault) → IsRight text steps rest → BeginsWith rest line more
+    → IsOfLine n fault → line_fault (length steps) line ≡ Some fault → Refuses text fault
+line_refused text steps rest line more n fault right first of here =
+    refuses_by text n fault of (record { above = steps; rest = rest; line = line; more = more; right = right; first = first; here = here })
 
 -- an end line with another number
+count_told : (steps : List Step) (line : List ℕ) (fault : ScriptFault) → or_fault (count_fault (length steps) (drop 4 line)) ≡ Err fault
+    → IsOfLine (length steps + 2) fault
+count_told steps line fault told =
+    subst (λ (o : Option ScriptFault). IfSome o (IsOfLine (length steps + 2))) (fault_left _ fault told) (count_of_line (length steps) (drop 4 line))
+
 pub count_refused : (text : List ℕ) (steps : List Step) (rest line more : List ℕ) (fault : ScriptFault) → IsRight text steps rest → BeginsWith rest line more → is_end line ≡ true
     → or_fault (count_fault (length steps) (drop 4 line)) ≡ Err fault → Refuses text fault
 count_refused text steps rest line more fault right first ends told =
-    let there = fault_left _ fault told in
-    let of : IfSome (count_fault (length steps) (drop 4 line)) IsOfLine = counted (bytes_eq (drop 4 line) (decimal (length steps))) (length steps + 2) in
-    line_refused text steps rest line more fault right first (subst (λ (o : Option ScriptFault). IfSome o IsOfLine) there of)
-    (ap (λ b. if b then count_fault (length steps) (drop 4 line) else step_fault (length steps + 2) line) ends ∙ there)
-  where
-    counted : (b : Bool) (n : ℕ) → IfSome (if b then None else Some (BadCount n)) IsOfLine
-    counted true n = tt
-    counted false n = tt
+    line_refused text steps rest line more (length steps + 2) fault right first (count_told steps line fault told)
+    (ap (λ b. if b then count_fault (length steps) (drop 4 line) else step_fault (length steps + 2) line) ends ∙ fault_left _ fault told)
+
+pub count_above : (text : List ℕ) (steps : List Step) (rest line : List ℕ) (fault : ScriptFault) → IsRight text steps rest
+    → or_fault (count_fault (length steps) (drop 4 line)) ≡ Err fault → AreAbove text steps fault
+count_above text steps rest line fault right told =
+    above_by text steps fault (count_told steps line fault told) (record { rest = rest; right = right })
 
 -- a line of no step
 told_or_memory : (o : Option ScriptFault) (fault : ScriptFault) → TellsFault o fault → (fault ≡ Memory) ⊎ (o ≡ Some fault)
@@ -213,20 +233,36 @@ told_or_memory o (NoEnd n) h = inr h
 told_or_memory o (AfterEnd n) h = inr h
 told_or_memory o Memory h = inl refl
 
+step_told : (n : ℕ) (line : List ℕ) (fault : ScriptFault) → step_fault n line ≡ Some fault → IsOfLine n fault
+step_told n line fault there = subst (λ (o : Option ScriptFault). IfSome o (IsOfLine n)) there (step_of_line n line)
+
 pub step_refused : (text : List ℕ) (steps : List Step) (rest line more : List ℕ) (fault : ScriptFault) → IsRight text steps rest → BeginsWith rest line more → is_end line ≡ false
     → TellsFault (step_fault (length steps + 2) line) fault → Refuses text fault
 step_refused text steps rest line more fault right first ends told =
     elim (told_or_memory (step_fault (length steps + 2) line) fault told) [
       | inl none ↦ subst (Refuses text) (sym none) tt
       | inr there ↦
-          line_refused text steps rest line more fault right first
-          (subst (λ (o : Option ScriptFault). IfSome o IsOfLine) there (step_of_line (length steps + 2) line))
+          line_refused text steps rest line more (length steps + 2) fault right first (step_told (length steps + 2) line fault there)
           (ap (λ b. if b then count_fault (length steps) (drop 4 line) else step_fault (length steps + 2) line) ends ∙ there)
+    ]
+
+pub step_above : (text : List ℕ) (steps : List Step) (rest line : List ℕ) (fault : ScriptFault) → IsRight text steps rest
+    → TellsFault (step_fault (length steps + 2) line) fault → AreAbove text steps fault
+step_above text steps rest line fault right told =
+    elim (told_or_memory (step_fault (length steps + 2) line) fault told) [
+      | inl none ↦ subst (AreAbove text steps) (sym none) tt
+      | inr there ↦ above_by text steps fault (step_told (length steps + 2) line fault there) (record { rest = rest; right = right })
     ]
 
 -- no end line
 pub end_missing : (text : List ℕ) (steps : List Step) (rest : List ℕ) → IsRight text steps rest → list_any is_line_feed rest ≡ false → Refuses text (NoEnd (length steps + 2))
 end_missing text steps rest right none = record { above = steps; rest = rest; right = right; unclosed = none; number = refl }
+
+pub end_above : (text : List ℕ) (steps : List Step) (rest : List ℕ) → IsRight text steps rest → AreAbove text steps (NoEnd (length steps + 2))
+end_above text steps rest right = (record { rest = rest; right = right }, refl)
+
+pub went_above : (text : List ℕ) (steps : List Step) (rest : List ℕ) → IsRight text steps rest → AreAbove text steps (AfterEnd (length steps + 3))
+went_above text steps rest right = (record { rest = rest; right = right }, refl)
 
 -- the header is missing
 pub header_missing : (text : List ℕ) → ((rest : List ℕ) → text ≢ header ++ rest) → Refuses text (Header 1)

@@ -1,5 +1,5 @@
 -- Why a text is no script: its first fault, line by line (this project's format).
-use Rattle.std.specs.Prelude.{◌≡◌, ℕ, Bool, false, ◌+◌, ◌==◌, ⊤, List, ◌∷◌, ◌++◌, length, Some}
+use Rattle.std.specs.Prelude.{◌≡◌, ℕ, Bool, false, ◌+◌, ◌==◌, ⊤, List, [], ◌∷◌, ◌++◌, length, Some}
 use Rattle.std.specs.List.{AllByRecursion, list_any}
 use Rattle.nor_base.specs.declared.step.Step.{Step}
 use Rattle.nor_base.specs.Step.{IsStep}
@@ -62,3 +62,19 @@ IsFault text Memory = ⊥
 abbrev pub Refuses : List ℕ → ScriptFault → Type 0
 Refuses text Memory = ⊤
 Refuses text fault = IsFault text fault
+
+-- a text begins with the header and the lines of these steps
+pub record BeginsRight (text : List ℕ) (steps : List Step) : Type 0 where
+  pub rest : List ℕ
+  pub right : IsRight text steps rest
+
+-- the steps whose lines stand above the line of a text's first fault: none above the first line, and between what follows an end
+-- line and the steps stands that line. Where memory was refused nothing is said
+abbrev pub AreAbove : List ℕ → List Step → ScriptFault → Type 0
+AreAbove text steps (Header n) = steps ≡ []
+AreAbove text steps (BadLine n) = BeginsRight text steps × (n ≡ length steps + 2)
+AreAbove text steps (BadSymbol n) = BeginsRight text steps × (n ≡ length steps + 2)
+AreAbove text steps (BadCount n) = BeginsRight text steps × (n ≡ length steps + 2)
+AreAbove text steps (NoEnd n) = BeginsRight text steps × (n ≡ length steps + 2)
+AreAbove text steps (AfterEnd n) = BeginsRight text steps × (n ≡ length steps + 3)
+AreAbove text steps Memory = ⊤

@@ -2,7 +2,8 @@
 //! one LF. `docs/FORMATS.md`, "Script text", has the format.
 //!
 //! [`begin`], then [`write_step`] for each step, then [`finish`] with their number write a script. None of them takes
-//! memory. [`write_send`], [`write_poll`] and [`write_verify`] write a step's line from borrowed clocks. [`read`] reads one back, or tells its first fault.
+//! memory. [`write_send`], [`write_poll`] and [`write_verify`] write a step's line from borrowed clocks. [`read`] reads one
+//! back, or tells its first fault; [`read_until_fault`] keeps the steps above that.
 #![tactic(auto)]
 
 mod fault;
@@ -12,5 +13,5 @@ mod reader;
 mod writer;
 
 pub use fault::ScriptFault;
-pub use reader::read;
+pub use reader::{read, read_until_fault};
 pub use writer::{begin, finish, write_poll, write_send, write_step, write_verify};

@@ -1,8 +1,8 @@
 //! The host's side of a serprog device, a programmer with a chip behind it (flashrom's Serial Flasher Protocol Specification,
 //! version 1), over any reader and writer.
 //!
-//! [`greet`] begins, [`operate`] does one SPI operation, [`is_carried`] tells which clocks are one. [`Shadowed`] is a
-//! [`nor_chip::Port`]: a chip in memory that the chip behind the device is to go along with.
+//! [`greet`] begins, [`operate`] does one SPI operation, [`operate_with`] one whose answer is known, [`is_carried`] tells which
+//! clocks are one. [`Shadowed`] is a [`nor_chip::Port`]: a chip in memory that the chip behind the device is to go along with.
 #![tactic(auto)]
 
 mod carried;
@@ -19,5 +19,5 @@ pub use carried::is_carried;
 pub use fault::{Command, Fault, GreetFault, Reason};
 pub use handshake::greet;
 pub use limits::Limits;
-pub use operation::operate;
+pub use operation::{operate, operate_with};
 pub use shadowed::Shadowed;

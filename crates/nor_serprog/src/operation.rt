@@ -5,9 +5,9 @@ ghost use Rattle.nor_base.specs.Decoding.{bytes_of_bits};
 ghost use Rattle.nor_serprog.specs.Protocol.{head, request};
 ghost use Rattle.nor_serprog.specs.Exchange.{Answers, AnswersWith, Asks, CountsReads, CountsWrites};
 
-use crate::exchange::ask;
+use crate::exchange::{answered, ask};
 use crate::fault::Fault;
-use nor_base::{ByteIn, ByteOut};
+use nor_base::{ByteIn, ByteOut, put_parts};
 
 /// The command of an SPI operation.
 const O_SPIOP: u8 = 0x13;
@@ -35,6 +35,28 @@ pub fn operate<R: ByteIn, W: ByteOut>(
 {
     let head = head(sent.len() as u32, got.len() as u32);
     ask(from, to, &[&head, sent], got)
+}
+
+/// The same where the bytes are known that are to come: they are compared as they come, and `Differs` also where one of them
+/// is another. No more is taken then.
+pub fn operate_with<R: ByteIn, W: ByteOut>(
+    from: &mut R,
+    to: &mut W,
+    sent: &[u8],
+    want: &[u8],
+) -> Result<(), Fault>
+    requires sent { length sent.now < 2 ^ 24 }
+    requires asked { length want.now < 2 ^ 24 }
+    requires reader { R.count from.old < 2 ^ 64 - 1 }
+    requires writer { W.count to.old < 2 ^ 64 - 1 }
+    ensures asked { Asks (W.held to.old) (W.held to.new) (R.ahead from.old) (R.ahead from.new) result
+        (request sent.now (length want.now)) (AnswersWith (R.ahead from.old) (R.ahead from.new) result want.now) }
+    ensures reads { CountsReads (R.count from.old) (R.count from.new) result }
+    ensures writes { CountsWrites (W.count to.old) (W.count to.new) result }
+{
+    let head = head(sent.len() as u32, want.len() as u32);
+    put_parts(to, &[&head, sent]).map_err(|_| Fault::Write)?;
+    answered(from, want)
 }
 
 /// The command, and how many bytes go out and come in, lowest byte first.

@@ -76,6 +76,8 @@ impl<'a, R: Read + Drop, W: Write + Drop> Port for Shadowed<'a, R, W> {
         ensures device { Accompanies self.old.chip self.new.chip (W.contents self.old.to.inner) (W.contents self.new.to.inner)
             (ahead_of (R.remaining self.old.from.inner)) (ahead_of (R.remaining self.new.from.inner)) self.old.reason self.new.reason
             result self.old.limits self.old.turns clocks.now out.new }
+        ensures limits { self.new.limits ≡ self.old.limits }
+        ensures turns { self.new.turns ≡ self.old.turns }
     {
         if self.reason.is_some() {
             self.failed += 1;

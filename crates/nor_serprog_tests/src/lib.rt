@@ -6,6 +6,8 @@
 #[cfg(test)]
 mod devices;
 #[cfg(test)]
+mod endings;
+#[cfg(test)]
 mod greets;
 #[cfg(test)]
 mod operations;

@@ -9,6 +9,7 @@ use Rattle.norprog_command.specs.Builds.{AnswersBuild}
 use Rattle.norprog_command.specs.Plans.{AnswersPlan}
 use Rattle.norprog_command.specs.Verdicts.{AnswersCheck}
 use Rattle.norprog_command.specs.Meanings.{AnswersChip}
+use Rattle.norprog_draw.specs.Answer.{AnswersDraw}
 use Rattle.norprog_explain.specs.Explained.{explained, AnswersExplain}
 use Rattle.norprog_explain.specs.Topics.{topics}
 use Rattle.norprog_list.specs.Answer.{AnswersList}
@@ -26,6 +27,8 @@ AnswersTo (Ok (command.Run given)) before after Quiet Works told_before told_aft
     AnswersRun (Ok given) before after Quiet Works told_before told_after status
 AnswersTo (Ok (command.List given)) before after Quiet Works told_before told_after status =
     AnswersList (Ok given) before after Quiet Works told_before told_after status
+AnswersTo (Ok (command.Draw given)) before after Quiet Works told_before told_after status =
+    (after ≡ before) × AnswersDraw (Ok given) Quiet Works told_before told_after status
 AnswersTo (Ok (command.Sfdp given)) before after Quiet Works told_before told_after status =
     AnswersChip (Ok given) before after Quiet Works told_before told_after status
 AnswersTo (Ok (command.Explain words)) before after Quiet Works told_before told_after status =

@@ -1,8 +1,10 @@
 //! The command line of norprog: `norprog build` writes the script that programs a chip, `norprog plan` prints what that
 //! would erase and program, `norprog check` says whether a script does a job, `norprog run` plays one on a chip in memory,
-//! `norprog list` tells what each step of one is, `norprog sfdp` prints what a chip's tables mean.
+//! `norprog list` tells what each step of one is, `norprog draw` draws one as a waveform, `norprog sfdp` prints what a chip's
+//! tables mean, `norprog explain` says what a printed text means.
 //!
-//! The crate `norprog_options` reads the options; `norprog_command`, `norprog_run` and `norprog_list` do the work behind them.
+//! The crate `norprog_options` reads the options; `norprog_command`, `norprog_run`, `norprog_list`, `norprog_draw` and
+//! `norprog_explain` do the work behind them.
 #![tactic(auto)]
 
 ghost use Rattle.std.specs.Prelude.{◌≡◌, ◌<◌, ◌≤◌, ◌-◌, ◌^◌};
@@ -10,6 +12,7 @@ ghost use Rattle.norprog_cli.specs.Answers.{AnswersTo, AnswersSome};
 
 use nor_base::{ByteOut, IntoWrite};
 use norprog_command::{build, check, plan, sfdp};
+use norprog_draw::draw;
 use norprog_explain::explain;
 use norprog_list::list;
 use norprog_options::{Asked, asked_by};
@@ -82,6 +85,7 @@ fn answer_to<O: ByteOut, E: ByteOut>(
         Ok(Asked::Check(given)) => check(rt, Ok(given), out, err),
         Ok(Asked::Run(given)) => run(rt, Ok(given), out, err),
         Ok(Asked::List(given)) => list(rt, Ok(given), out, err),
+        Ok(Asked::Draw(given)) => draw(rt, Ok(given), err),
         Ok(Asked::Sfdp(given)) => sfdp(rt, Ok(given), out, err),
         Ok(Asked::Explain(words)) => explain(words.as_slice(), out, err),
         Err(refusal) => refuse(&refusal, err),

@@ -1,1 +1,2 @@
 mod ServedLemmas
+mod AboveLemmas

@@ -1,10 +1,11 @@
 -- What is told of a listing (this project's).
 use Rattle.std.specs.Prelude.{◌≡◌, ◌⊎◌, ℕ, List, Option, Result}
 use Rattle.nor_job.specs.Task.{Task}
+use Rattle.nor_script.specs.declared.fault.ScriptFault.{ScriptFault}
 use Rattle.norprog_words.specs.declared.faults.Refusal.{Refusal}
 use Rattle.norprog_words.specs.declared.given.GivenList.{GivenList}
 use Rattle.norprog_words.specs.Told.{ForAsked, RefusesFor, Refuses, line_fault, Answers}
-use Rattle.norprog_list.specs.Listed.{WasListed, WasCut, RefusesListing}
+use Rattle.norprog_list.specs.Listed.{WasListed, WasCut, WasToldAbove, RefusesListing}
 use Rattle.norprog_list.specs.Request.{is_well_formed}
 use Rattle.norprog_list.specs.Served.{OfList}
 
@@ -16,11 +17,11 @@ ListsSome before after t = (text : List ℕ) × WasListed t text before after
 abbrev pub PrintsListing : (Task → Type 0) → Option (List ℕ) → Option (List ℕ) → Type 0
 PrintsListing Asked before after = ForAsked Task Asked (ListsSome before after)
 
--- a proper prefix of it was
+-- the lines above the fault of some text were, or a proper prefix of these or of the listing of some text
 abbrev pub CutsSome : Option (List ℕ) → Option (List ℕ) → Task → Type 0
-CutsSome before after t = (text : List ℕ) × WasCut t text before after
+CutsSome before after t = (text : List ℕ) × (WasCut t text before after ⊎ ((why : ScriptFault) × WasToldAbove t text why before after))
 
--- nothing was printed, or a proper prefix of such a listing
+-- nothing was printed, or no more than such a part, by the chip that was asked for
 abbrev pub CutsListing : (Task → Type 0) → Option (List ℕ) → Option (List ℕ) → Type 0
 CutsListing Asked before after = (after ≡ before) ⊎ ForAsked Task Asked (CutsSome before after)
 

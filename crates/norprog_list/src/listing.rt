@@ -1,16 +1,18 @@
 //! From the bytes of the inputs to the lines of a listing.
 
-ghost use Rattle.std.specs.Prelude.{◌≡◌, ◌≢◌, ◌<◌, ◌-◌, ◌^◌, None, IfOk, IfErr};
+ghost use Rattle.std.specs.Prelude.{◌≡◌, ◌<◌, ◌+◌, ◌-◌, ◌^◌, None, false, IfOk, IfErr};
+ghost use Rattle.nor_base.specs.Chip.{begins4};
 ghost use Rattle.nor_job.specs.Chip.{HasChip};
 ghost use Rattle.nor_job.specs.Status.{start_of};
 ghost use Rattle.nor_job.specs.Task.{contradiction as task_contradiction};
-ghost use Rattle.nor_job.specs.declared.fault.BuildFault.TheVariants.{Write};
-ghost use Rattle.norprog_words.specs.declared.faults.Refusal.TheVariants.{Build};
-ghost use Rattle.norprog_list.specs.Listed.{WasListed, RefusesChipOf, RefusesListing, CountsWriter};
+ghost use Rattle.nor_listing.specs.Listing.{unended_listing};
+ghost use Rattle.norprog_list.specs.Above.{TellsAfter};
+ghost use Rattle.norprog_list.specs.Listed.{WasListed, RefusesChipOf, RefusesListing, CountsWriter, may_print, of_writer};
 
-use nor_base::{ByteOut, Meaning, Start};
+use nor_base::{ByteOut, Meaning, Start, Step};
 use nor_job::{BuildFault, Inputs, chip_of, contradiction};
-use nor_listing::write_listing;
+use nor_listing::{write_listing, write_unended};
+use nor_script::{ScriptFault, read_until_fault};
 use norprog_words::Refusal;
 use std::alloc::Global;
 
@@ -19,8 +21,9 @@ use std::alloc::Global;
 /// Memory is taken for the steps.
 ///
 /// The first fault is told: `Contradiction`, `Sfdp`, `Status` and `ModeImpossible` as a build tells them; `Script` where the
-/// text is none; `Write` where `out` fails, which has taken a proper prefix of the listing then. `Memory` comes where a growth
-/// is refused. All but `Write` leave `out` as it was.
+/// text is none, after the listing, without its end line, of the steps whose lines stand above the fault's; `Write` where `out`
+/// fails, which has then taken a proper prefix of the listing, or of the lines above the text's fault, which isn't told then.
+/// `Memory` comes where a growth is refused. All but `Script` and `Write` leave `out` as it was.
 pub fn list_script<W: ByteOut>(
     alloc: Global,
     inputs: &Inputs<'_>,
@@ -30,14 +33,41 @@ pub fn list_script<W: ByteOut>(
     requires { W.count out.old < 2 ^ 64 - 1 }
     ensures listed { IfOk result (λ _. WasListed inputs.now script.now (W.held out.old) (W.held out.new)) }
     ensures refused { IfErr result (RefusesListing inputs.now script.now (W.held out.old) (W.held out.new)) }
-    ensures unwritten { IfErr result (λ why. why ≢ Build Write → out.new ≡ out.old) }
+    ensures unwritten { IfErr result (λ why. may_print why ≡ false → out.new ≡ out.old) }
     ensures count { CountsWriter (W.count out.old) (W.count out.new) result }
 {
     let (meaning, start) = chip_in(inputs)?;
-    let steps = nor_script::read(alloc, script)?;
+    let (steps, end) = read_until_fault(alloc, script);
+    if let Err(fault) = end {
+        return Err(list_above(&meaning, &start, steps.as_slice(), fault, out));
+    }
     match write_listing(&meaning, &start, steps.as_slice(), out) {
         Ok(()) => Ok(()),
         Err(_) => Err(Refusal::WRITE),
+    }
+}
+
+/// Lists the steps above a script's fault, and answers what is to be told: the fault, or `Write` where `out` fails. Where memory
+/// was refused nothing is listed.
+fn list_above<W: ByteOut>(
+    meaning: &Meaning,
+    start: &Start,
+    steps: &[Step],
+    fault: ScriptFault,
+    out: &mut W,
+) -> Refusal
+    requires { W.count out.old < 2 ^ 64 - 1 }
+    ensures told { TellsAfter (unended_listing meaning.now (begins4 meaning.now start.now) steps.now) fault
+        (W.held out.old) (W.held out.new) result }
+    ensures unwritten { may_print result ≡ false → out.new ≡ out.old }
+    ensures count { W.count out.new ≡ W.count out.old + of_writer result }
+{
+    if let ScriptFault::Memory = fault {
+        return Refusal::MEMORY;
+    }
+    match write_unended(meaning, start, steps, out) {
+        Ok(()) => Refusal::Script(fault),
+        Err(_) => Refusal::WRITE,
     }
 }
 

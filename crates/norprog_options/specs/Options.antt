@@ -7,6 +7,7 @@ use Rattle.norprog_words.specs.declared.given.Given.{Given}
 use Rattle.norprog_words.specs.declared.given.GivenBuild.{GivenBuild}
 use Rattle.norprog_words.specs.declared.given.GivenCheck.{GivenCheck}
 use Rattle.norprog_words.specs.declared.given.GivenChip.{GivenChip}
+use Rattle.norprog_words.specs.declared.given.GivenDraw.{GivenDraw}
 use Rattle.norprog_words.specs.declared.given.GivenList.{GivenList}
 use Rattle.norprog_words.specs.declared.given.GivenRun.{GivenRun}
 use Rattle.norprog_options.specs.declared.options.Asked.{Asked}
@@ -76,6 +77,12 @@ pub record IsListIn (found : Found) (given : GivenList) : Type 0 where
   pub quad : Sets found (codes "quad") given.quad
   pub erased_only : Sets found (codes "erased-only") given.erased_only
 
+pub record IsDrawIn (found : Found) (given : GivenDraw) : Type 0 where
+  pub script : Has found (codes "script") (option_map (λ t. t.now) given.script)
+  pub from : Has found (codes "from") (option_map (λ t. t.now) given.from)
+  pub steps : Has found (codes "steps") (option_map (λ t. t.now) given.steps)
+  pub out : Has found (codes "out") (option_map (λ t. t.now) given.out)
+
 pub record IsBuildIn (found : Found) (given : GivenBuild) : Type 0 where
   pub job : IsJobIn found given.job
   pub out : Has found (codes "out") (option_map (λ t. t.now) given.out)
@@ -98,6 +105,7 @@ IsAsked matches (command.Plan given) = IsUsed matches (codes "plan") (λ found. 
 IsAsked matches (command.Check given) = IsUsed matches (codes "check") (λ found. IsCheckIn found given)
 IsAsked matches (command.Run given) = IsUsed matches (codes "run") (λ found. IsRunIn found given)
 IsAsked matches (command.List given) = IsUsed matches (codes "list") (λ found. IsListIn found given)
+IsAsked matches (command.Draw given) = IsUsed matches (codes "draw") (λ found. IsDrawIn found given)
 IsAsked matches (command.Sfdp given) = IsUsed matches (codes "sfdp") (λ found. IsChipIn found given)
 IsAsked matches (command.Explain words) = IsUsed matches (codes "explain") (λ found. words.items ≡ texts_of found (codes "words"))
 

@@ -3,7 +3,9 @@
 use clap::{Arg, ArgAction, Command};
 use std::alloc::{AllocError, Global};
 
-const VERSION: &str = "0.1.0";
+/// The version, the commit and the kit; `make build` writes the commit over the zeros of the program that it has built.
+const VERSION: &str =
+    "0.1.0\ncommit 0000000000000000000000000000000000000000\nrattle-kit-13b logic dac8208d650f15bf";
 
 const BUILD_EXAMPLE: &str =
     "Example: norprog build --hex app.hex --base 8000000 --uniform 8192 --content now.bin --out app.script";
@@ -18,6 +20,8 @@ const RUN_EXAMPLE: &str =
     "Example: norprog run --uniform 8192 --content now.bin --script app.script --busy 1,2 --out after.bin";
 
 const LIST_EXAMPLE: &str = "Example: norprog list --uniform 8192 --script app.script";
+
+const DRAW_EXAMPLE: &str = "Example: norprog draw --script app.script --out app.vcd";
 
 const EXPLAIN_EXAMPLE: &str = "Example: norprog explain hex 4";
 
@@ -36,6 +40,7 @@ pub(crate) fn norprog<'a>(alloc: Global) -> Result<Command<'a>, AllocError> {
         .subcommand(check(alloc)?)?
         .subcommand(run(alloc)?)?
         .subcommand(list(alloc)?)?
+        .subcommand(draw(alloc)?)?
         .subcommand(sfdp(alloc)?)?
         .subcommand(explain(alloc)?)
 }
@@ -76,6 +81,20 @@ fn list<'a>(alloc: Global) -> Result<Command<'a>, AllocError> {
         .about("Tells what each step of a script is, for such a chip")
         .after_help(LIST_EXAMPLE);
     with_start(alloc, with_chip(alloc, command)?)?.arg(script(alloc))
+}
+
+fn draw<'a>(alloc: Global) -> Result<Command<'a>, AllocError> {
+    let command = Command::new(alloc, "draw")
+        .about("Draws a script as a waveform, a Value Change Dump")
+        .after_help(DRAW_EXAMPLE);
+    let from = "The first step that is drawn, counted from 0: a decimal number [default: 0]";
+    let steps = "How many steps are drawn at most: a decimal number [default: all]";
+    let out = "The waveform; what the file held is replaced. It can't be the script";
+    command
+        .arg(script(alloc))?
+        .arg(value(alloc, "from", "K", from))?
+        .arg(value(alloc, "steps", "N", steps))?
+        .arg(file(alloc, "out", out).required(true))
 }
 
 fn sfdp<'a>(alloc: Global) -> Result<Command<'a>, AllocError> {

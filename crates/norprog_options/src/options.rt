@@ -2,13 +2,15 @@
 
 ghost use Rattle.std.specs.Prelude.{◌≡◌, map, IfOk};
 ghost use Rattle.clap.specs.Words.{found_of};
-ghost use Rattle.norprog_options.specs.Options.{texts_of, IsJobIn, IsChipIn, IsListIn, IsRunIn, IsAsked, IsAskedBySome};
+ghost use Rattle.norprog_options.specs.Options.{texts_of, IsJobIn, IsChipIn, IsDrawIn, IsListIn, IsRunIn, IsAsked, IsAskedBySome};
 
 use crate::arguments::norprog;
 use clap::error::ErrorKind;
 use clap::{ArgMatches, Error};
 use nor_base::Bytes;
-use norprog_words::{Given, GivenBuild, GivenCheck, GivenChip, GivenList, GivenRun, Refusal};
+use norprog_words::{
+    Given, GivenBuild, GivenCheck, GivenChip, GivenDraw, GivenList, GivenRun, Refusal,
+};
 use std::alloc::Global;
 
 /// What stands on a command line, by its command.
@@ -19,6 +21,7 @@ pub enum Asked<'a> {
     Check(GivenCheck<'a>),
     Run(GivenRun<'a>),
     List(GivenList<'a>),
+    Draw(GivenDraw<'a>),
     Sfdp(GivenChip<'a>),
     /// The words that are asked about.
     Explain(Vec<Bytes>),
@@ -62,6 +65,9 @@ fn asked_in<'a>(alloc: Global, matches: &ArgMatches<'a>) -> Result<Asked<'a>, Re
     }
     if let Some(list) = matches.subcommand_matches("list") {
         return Ok(Asked::List(list_in(list)));
+    }
+    if let Some(draw) = matches.subcommand_matches("draw") {
+        return Ok(Asked::Draw(draw_in(draw)));
     }
     if let Some(chip) = matches.subcommand_matches("sfdp") {
         return Ok(Asked::Sfdp(chip_in(chip)));
@@ -154,6 +160,18 @@ fn list_in<'a>(list: &ArgMatches<'a>) -> GivenList<'a>
         quad: list.get_flag("quad"),
         erased_only: list.get_flag("erased-only"),
         script: list.get_str("script"),
+    }
+}
+
+/// The waveform.
+fn draw_in<'a>(draw: &ArgMatches<'a>) -> GivenDraw<'a>
+    ensures { IsDrawIn (found_of draw.now) result }
+{
+    GivenDraw {
+        script: draw.get_str("script"),
+        from: draw.get_str("from"),
+        steps: draw.get_str("steps"),
+        out: draw.get_str("out"),
     }
 }
 

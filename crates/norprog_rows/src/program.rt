@@ -2,6 +2,7 @@
 
 use nor_base::IntoWrite;
 use norprog_command::{build, check, plan, sfdp};
+use norprog_draw::draw;
 use norprog_explain::explain;
 use norprog_list::list;
 use norprog_options::{Asked, asked_by};
@@ -60,6 +61,7 @@ fn status_of(rt: &HostRuntime, words: &[String]) -> io::Result<u8> {
         Ok(Asked::Check(given)) => check(rt, Ok(given), &mut out, &mut err),
         Ok(Asked::Run(given)) => run(rt, Ok(given), &mut out, &mut err),
         Ok(Asked::List(given)) => list(rt, Ok(given), &mut out, &mut err),
+        Ok(Asked::Draw(given)) => draw(rt, Ok(given), &mut err),
         Ok(Asked::Sfdp(given)) => sfdp(rt, Ok(given), &mut out, &mut err),
         Ok(Asked::Explain(words)) => explain(words.as_slice(), &mut out, &mut err),
         Err(refusal) => refuse(&refusal, &mut err),

@@ -58,6 +58,15 @@ pub struct GivenList<'a> {
     pub script: Option<&'a str>,
 }
 
+/// Of `draw`.
+#[derive(Clone, Copy)]
+pub struct GivenDraw<'a> {
+    pub script: Option<&'a str>,
+    pub from: Option<&'a str>,
+    pub steps: Option<&'a str>,
+    pub out: Option<&'a str>,
+}
+
 /// Of `run`.
 #[derive(Clone, Copy)]
 pub struct GivenRun<'a> {

@@ -12,6 +12,6 @@ mod wrongs;
 pub use chip::{Chip, chip_of, optional_status, source_of};
 pub use faults::{FileName, Refusal, refuse};
 pub use files::{Place, create_output, open_input, read_tables, read_whole};
-pub use given::{Given, GivenBuild, GivenCheck, GivenChip, GivenList, GivenRun};
+pub use given::{Given, GivenBuild, GivenCheck, GivenChip, GivenDraw, GivenList, GivenRun};
 pub use values::{base, decimal, part};
 pub use wrongs::wrong_number;

@@ -1,23 +1,16 @@
--- The first line was put, the lines of the steps, and the end line.
+-- The lines were put, and the end line.
 use Rattle.nor_base.specs.Chip.{begins4}
 use Rattle.nor_base.proofs.DeviceLaws.{Writes-cut}
-use Rattle.nor_listing.proofs.ListLemmas.{first_cut, lines_cut, all_put}
+use Rattle.nor_listing.proofs.ListLemmas.{unended_cut, all_put}
 use Rattle.nor_listing.proofs.writer.write_listing.Goals as goal
 
-pub returns-in_err-begin-clause-bytes : goal.returns-in_err-begin-clause-bytes
-returns-in_err-begin-clause-bytes g c =
+pub returns-in_err-write_unended-clause-bytes : goal.returns-in_err-write_unended-clause-bytes
+returns-in_err-write_unended-clause-bytes g c =
     let m = c.args.meaning.now in
     Writes-cut _ _ _ _ c.from_residual.ensures.0
-    (first_cut m (begins4 m c.args.start.now) c.begins4-mode4.result c.args.steps.now c.begins4-mode4.ensures _ _ c.in_err-begin.ensures.bytes)
-
-pub returns-in_err-put_lines-clause-bytes : goal.returns-in_err-put_lines-clause-bytes
-returns-in_err-put_lines-clause-bytes g c =
-    let m = c.args.meaning.now in
-    Writes-cut _ _ _ _ c.from_residual-in_err-put_lines.ensures.0
-    (lines_cut m (begins4 m c.args.start.now) c.begins4-mode4.result c.args.steps.now c.begins4-mode4.ensures _ _ _ c.in_ok-begin.ensures.bytes c.in_err-put_lines.ensures.bytes)
+    (unended_cut m (begins4 m c.args.start.now) c.args.steps.now _ _ c.in_err-write_unended.ensures.bytes)
 
 pub returns-clause-bytes : goal.returns-clause-bytes
 returns-clause-bytes g c =
     let m = c.args.meaning.now in
-    all_put m (begins4 m c.args.start.now) c.begins4-mode4.result c.args.steps.now c.begins4-mode4.ensures _ _ _ _ _
-    c.in_ok-begin.ensures.bytes c.in_ok-put_lines.ensures.bytes c.finish.ensures.bytes
+    all_put m (begins4 m c.args.start.now) c.args.steps.now _ _ _ _ c.in_ok-write_unended.ensures.bytes c.finish.ensures.bytes

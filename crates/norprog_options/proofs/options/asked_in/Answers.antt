@@ -46,15 +46,23 @@ returns-in-Some-subcommand_matches-4 c = record {
 pub returns-in-Some-subcommand_matches-5 : goal.returns-in-Some-subcommand_matches-5
 returns-in-Some-subcommand_matches-5 c = record {
   named = c.in-Some-subcommand_matches-5.ensures.found.0 refl;
-  found = found_of c.in-Some-subcommand_matches-5.chip.now;
+  found = found_of c.in-Some-subcommand_matches-5.draw.now;
   behind = c.in-Some-subcommand_matches-5.ensures.rows;
+  so = c.draw_in.ensures;
+}
+
+pub returns-in-Some-subcommand_matches-6 : goal.returns-in-Some-subcommand_matches-6
+returns-in-Some-subcommand_matches-6 c = record {
+  named = c.in-Some-subcommand_matches-6.ensures.found.0 refl;
+  found = found_of c.in-Some-subcommand_matches-6.chip.now;
+  behind = c.in-Some-subcommand_matches-6.ensures.rows;
   so = c.chip_in.ensures;
 }
 
-pub returns-in_ok-texts_in-in-Some-subcommand_matches-6 : goal.returns-in_ok-texts_in-in-Some-subcommand_matches-6
-returns-in_ok-texts_in-in-Some-subcommand_matches-6 c = record {
-  named = c.in-Some-subcommand_matches-6.ensures.found.0 refl;
-  found = found_of c.in-Some-subcommand_matches-6.explain.now;
-  behind = c.in-Some-subcommand_matches-6.ensures.rows;
-  so = c.in_ok-texts_in-in-Some-subcommand_matches-6.ensures;
+pub returns-in_ok-texts_in-in-Some-subcommand_matches-7 : goal.returns-in_ok-texts_in-in-Some-subcommand_matches-7
+returns-in_ok-texts_in-in-Some-subcommand_matches-7 c = record {
+  named = c.in-Some-subcommand_matches-7.ensures.found.0 refl;
+  found = found_of c.in-Some-subcommand_matches-7.explain.now;
+  behind = c.in-Some-subcommand_matches-7.ensures.rows;
+  so = c.in_ok-texts_in-in-Some-subcommand_matches-7.ensures;
 }

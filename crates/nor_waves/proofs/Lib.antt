@@ -1,0 +1,2 @@
+mod DrawLemmas
+mod TextLemmas

@@ -1,0 +1,51 @@
+-- What is told of a drawing (this project's).
+use Rattle.std.specs.Prelude.{◌≡◌, ℕ, List, Option, Result, Ok, Err}
+use Rattle.nor_job.specs.declared.fault.BuildFault.TheVariants.{Write}
+use Rattle.norprog_words.specs.declared.faults.Refusal.{Refusal}
+use Rattle.norprog_words.specs.declared.faults.Refusal.TheVariants.{Build}
+use Rattle.norprog_words.specs.Told.{ForAsked, RefusesFor, Refuses, line_fault, Answers}
+use Rattle.norprog_words.specs.declared.given.GivenDraw.{GivenDraw}
+use Rattle.norprog_draw.specs.Drawn.{WasDrawn, RefusesDrawing}
+use Rattle.norprog_draw.specs.Request.{is_well_formed}
+use Rattle.norprog_draw.specs.Served.{DrawTask, OfDraw}
+
+-- these steps of some text were drawn
+pub record IsDrawingOf (t : DrawTask) : Type 0 where
+  pub text : List ℕ
+  pub before : Option (List ℕ)
+  pub after : Option (List ℕ)
+  pub drawn : WasDrawn text t.from t.count before after
+
+-- what was asked for was drawn
+abbrev pub IsDrawing : (DrawTask → Type 0) → Type 0
+IsDrawing Asked = ForAsked DrawTask Asked IsDrawingOf
+
+-- why these steps of some text aren't drawn
+pub record IsStopOf (why : Refusal) (t : DrawTask) : Type 0 where
+  pub text : List ℕ
+  pub before : Option (List ℕ)
+  pub after : Option (List ℕ)
+  pub refused : RefusesDrawing text t.from t.count before after why
+
+abbrev pub IsDrawFault : (DrawTask → Type 0) → Refusal → Type 0
+IsDrawFault Asked why = ForAsked DrawTask Asked (IsStopOf why)
+
+-- why what was asked for isn't drawn: a file can't be used, or a growth was refused; the output failed while it was drawn, or
+-- after; else the fault of the work
+abbrev pub RefusesDraw : (DrawTask → Type 0) → Refusal → Type 0
+RefusesDraw Asked = RefusesFor (IsDrawFault Asked) (IsDrawing Asked)
+
+-- a drawing is done where its file was flushed as well
+abbrev pub done : {T U E : Type 0} → Result T Refusal → Result U E → Result T Refusal
+done (Err why) flushed = Err why
+done (Ok drawn) (Err e) = Err (Build Write)
+done (Ok drawn) (Ok u) = Ok drawn
+
+-- what `draw` answers to a command line: status 0 where it was drawn, or a refusal. It prints nothing else
+abbrev pub AnswersDraw : Result GivenDraw Refusal → Type 0 → Type 0 → Option (List ℕ) → Option (List ℕ) → ℕ → Type 0
+AnswersDraw line Quiet Works told_before told_after status =
+    Answers (line_fault is_well_formed line)
+    ((status ≡ 0) × IsDrawing (OfDraw line) × Quiet)
+    (Unit {0})
+    (Refuses (line_fault is_well_formed line) (RefusesDraw (OfDraw line)))
+    Works told_before told_after status

@@ -1,0 +1,50 @@
+-- What a waveform of a script's text is, and why there is none (this project's).
+use Rattle.std.specs.Prelude.{◌≡◌, ℕ, ◌+◌, List, take, drop, Option, None, Some, Result, Ok, Err}
+use Rattle.std.specs.Io.KnownBytes.{Appends}
+use Rattle.nor_base.specs.Device.{Cuts}
+use Rattle.nor_base.specs.Script.{IsScript}
+use Rattle.nor_base.specs.declared.step.Step.{Step}
+use Rattle.nor_job.specs.declared.fault.BuildFault.TheVariants as fault
+use Rattle.nor_script.specs.Faults.{IsFault}
+use Rattle.nor_waves.specs.Waves.{waves}
+use Rattle.norprog_words.specs.declared.faults.Refusal.{Refusal}
+use Rattle.norprog_words.specs.declared.faults.Refusal.TheVariants.{Build, Script}
+
+-- so many steps from one on; all from there on where no number is given
+abbrev pub part : ℕ → Option ℕ → List Step → List Step
+part from None steps = drop from steps
+part from (Some count) steps = take count (drop from steps)
+
+-- the text spells some steps, and the waveform of that part of them is these bytes
+pub record IsWaveform (text : List ℕ) (from : ℕ) (count : Option ℕ) (bytes : List ℕ) : Type 0 where
+  pub steps : List Step
+  pub script : IsScript text steps
+  pub drawn : bytes ≡ waves (part from count steps)
+
+-- the waveform was appended
+pub record WasDrawn (text : List ℕ) (from : ℕ) (count : Option ℕ) (before after : Option (List ℕ)) : Type 0 where
+  pub bytes : List ℕ
+  pub is : IsWaveform text from count bytes
+  pub put : Appends before after bytes
+
+-- a proper prefix of it was
+pub record WasCut (text : List ℕ) (from : ℕ) (count : Option ℕ) (before after : Option (List ℕ)) : Type 0 where
+  pub bytes : List ℕ
+  pub is : IsWaveform text from count bytes
+  pub put : Cuts before after bytes
+
+-- why a script isn't drawn. But where the writer failed nothing was appended
+abbrev pub RefusesDrawing : List ℕ → ℕ → Option ℕ → Option (List ℕ) → Option (List ℕ) → Refusal → Type 0
+RefusesDrawing text from count before after (Script why) = IsFault text why × (after ≡ before)
+RefusesDrawing text from count before after (Build fault.Write) = WasCut text from count before after
+RefusesDrawing text from count before after (Build fault.Memory) = after ≡ before
+RefusesDrawing text from count before after other = ⊥
+
+abbrev pub of_writer : Refusal → ℕ
+of_writer (Build fault.Write) = 1
+of_writer other = 0
+
+-- the writer's count of failures rises by one exactly where Write is answered
+abbrev pub CountsWriter : {T : Type 0} → ℕ → ℕ → Result T Refusal → Type 0
+CountsWriter before after (Ok x) = after ≡ before
+CountsWriter before after (Err why) = after ≡ before + of_writer why

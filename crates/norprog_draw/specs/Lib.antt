@@ -1,0 +1,4 @@
+pub mod Drawn
+pub mod Request
+pub mod Served
+pub mod Answer

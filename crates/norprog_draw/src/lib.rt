@@ -1,0 +1,14 @@
+//! `norprog draw`: draws a script as a waveform (docs/FORMATS.md, sections 9 and 13).
+//!
+//! [`draw`] does what the texts of a command line ask for. [`draw_script`] does the work, from the bytes of a script to those of
+//! its waveform. Whoever reads a command line hands its texts over as [`GivenDraw`].
+#![tactic(auto)]
+
+mod command;
+mod request;
+mod script;
+
+pub use command::draw;
+pub use norprog_words::GivenDraw;
+pub use request::{DrawRequest, request_of};
+pub use script::draw_script;

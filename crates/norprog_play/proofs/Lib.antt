@@ -1,0 +1,4 @@
+mod TakenLemmas
+mod FollowedLemmas
+mod CarriedLemmas
+mod ComparedLemmas

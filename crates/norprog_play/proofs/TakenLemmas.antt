@@ -1,0 +1,110 @@
+-- A script that goes well on the chip in memory: it takes each step.
+use Rattle.std.proofs.Common.{◌≡◌, ℕ, zero, suc, ◌+◌, ◌<◌, Bool, true, false, if◌then◌else◌, List, [], ◌∷◌, drop, length, get_or, Result, Ok, Err, refl, sym, ◌∙◌, ap, subst, arith}
+use Rattle.std.proofs.lemmas.List.{drop_more, drop_all}
+use Rattle.std.proofs.lemmas.Slice.Eq.{bytes_eq-Decides}
+use Rattle.std.specs.Str.{bytes_eq}
+use Rattle.nor_base.specs.declared.step.Step.{Step}
+use Rattle.nor_base.specs.declared.step.Step.TheVariants.{Send, Poll, Verify}
+use Rattle.nor_base.specs.declared.wrong.Wrong.{Wrong}
+use Rattle.nor_base.specs.declared.wrong.Wrong.TheVariants as wrong
+use Rattle.nor_base.specs.Chip.{Setting, Chip, is_settled, ready}
+use Rattle.nor_base.specs.Port.{Shown}
+use Rattle.nor_chip.specs.Ready.{ready_chip}
+use Rattle.nor_base.specs.Effect.{effect}
+use Rattle.nor_base.specs.Run.{Stop, Halt, poll_clocks, says_busy, is_verify, done, matched, halt_on, poll_or_halt, polled_for, step_for, one_later, play_on, played, trail}
+use Rattle.nor_play.specs.Play.{at_end, play, EndsPlay, Plays}
+use Rattle.nor_play.specs.declared.fault.PlayFault.{PlayFault}
+use Rattle.nor_play.specs.declared.fault.PlayFault.TheVariants as fault
+use Rattle.norprog_play.specs.Moment.{clocks_of}
+
+-- the chip in memory takes these clocks, and is then so
+abbrev pub Takes : Setting → Chip → List ℕ → Chip → Type 0
+Takes s c clocks d = (given : List ℕ) × (effect s c clocks ≡ Ok (d, given))
+
+abbrev Gave : Result (Chip × List ℕ) Wrong → Chip → Type 0
+Gave r d = (given : List ℕ) × (r ≡ Ok (d, given))
+
+sent : (c d : Chip) (r : Result (Chip × List ℕ) Wrong) → halt_on c (done r) ≡ Ok d → Gave r d
+sent c d (Ok after) h = let same : after.0 ≡ d = cc in (after.1, ap (λ (e : Chip). Ok (e, after.1)) same)
+sent c d (Err why) h = cc
+
+polls : (c d : Chip) (r : Result (Chip × List ℕ) Wrong) (more : Chip → Result Chip Halt) → ((e : Chip) → more e ≡ Ok d → ⊥) → poll_or_halt c r more ≡ Ok d → Gave r d
+polls c d (Err why) more none h = cc
+polls c d (Ok after) more none h = by (says_busy after.1) h
+  where
+    by : (busy : Bool) → (if busy then more after.0 else Ok after.0) ≡ Ok d → Gave (Ok after) d
+    by true h = absurd (none after.0 h)
+    by false h = let same : after.0 ≡ d = cc in (after.1, ap (λ (e : Chip). Ok (e, after.1)) same)
+
+never : (s : Setting) (c d : Chip) → polled_for s 0 c ≡ Ok d → ⊥
+unfolding polled_for
+never s c d h = cc
+
+polled_once : (s : Setting) (c d : Chip) → polled_for s 1 c ≡ Ok d → Takes s c poll_clocks d
+unfolding polled_for
+polled_once s c d h = polls c d (effect s c poll_clocks) (polled_for s 0) (λ e. never s e d) h
+
+verified : (c d : Chip) (expect : List ℕ) (r : Result (Chip × List ℕ) Wrong) → halt_on c (matched expect r) ≡ Ok d → Gave r d
+verified c d expect (Err why) h = cc
+verified c d expect (Ok after) h = by (bytes_eq after.1 expect) h
+  where
+    by : (same : Bool) → halt_on c (if same then Ok after.0 else Err wrong.Mismatch) ≡ Ok d → Gave (Ok after) d
+    by true h = let same : after.0 ≡ d = cc in (after.1, ap (λ (e : Chip). Ok (e, after.1)) same)
+    by false h = cc
+
+step_takes : (s : Setting) (c d : Chip) (x : Step) → step_for s 1 c x ≡ Ok d → Takes s c (clocks_of x) d
+unfolding step_for
+step_takes s c d (Send clocks) h = sent c d (effect s c clocks) h
+step_takes s c d (Poll clocks) h = by (bytes_eq clocks poll_clocks) refl h
+  where
+    by : (is : Bool) → bytes_eq clocks poll_clocks ≡ is → (if is then polled_for s 1 c else Err (record { why = wrong.Unknown; chip = c })) ≡ Ok d → Takes s c clocks d
+    by true same h = subst (λ (l : List ℕ). Takes s c l d) (sym ((bytes_eq-Decides clocks poll_clocks).0 same)) (polled_once s c d h)
+    by false same h = cc
+step_takes s c d (Verify clocks expect) h = by (is_verify clocks) h
+  where
+    by : (is : Bool) → halt_on c (if is then matched expect (effect s c clocks) else Err wrong.Unknown) ≡ Ok d → Takes s c clocks d
+    by true h = verified c d expect (effect s c clocks) h
+    by false h = cc
+
+not_later : (r : Result Chip Stop) (d : Chip) → one_later r ≡ Ok d → r ≡ Ok d
+not_later (Ok c) d h = h
+not_later (Err stop) d h = cc
+
+-- a step that is followed by others
+pub goes_on : (s : Setting) (c d : Chip) (x : Step) (xs : List Step) → played s 1 c (x ∷ xs) ≡ Ok d
+    → (e : Chip) × Takes s c (clocks_of x) e × (played s 1 e xs ≡ Ok d)
+unfolding played
+goes_on s c d x xs h = by (step_for s 1 c x) refl h
+  where
+    by : (r : Result Chip Halt) → step_for s 1 c x ≡ r → play_on r (λ e. played s 1 e xs) ≡ Ok d
+        → (e : Chip) × Takes s c (clocks_of x) e × (played s 1 e xs ≡ Ok d)
+    by (Ok e) is h = (e, step_takes s c e x is, not_later (played s 1 e xs) d h)
+    by (Err halt) is h = cc
+
+pub nothing_more : (s : Setting) (c d : Chip) → played s 1 c [] ≡ Ok d → c ≡ d
+unfolding played
+nothing_more s c d h = cc
+
+-- the end of a run that goes well
+abbrev ended : ℕ → Chip → Bool → Result Chip Stop
+ended count c is = if is then Ok c else Err (record { at = count; why = wrong.NotIdleAtEnd; chip = c })
+
+at_rest : (count : ℕ) (c d : Chip) (is : Bool) → ended count c is ≡ Ok d → Path (Result Chip Stop) (Ok c) (Ok d)
+at_rest count c d true h = h
+at_rest count c d false h = cc
+
+pub without_end : (s : Setting) (count : ℕ) (r : Result Chip Stop) (d : Chip) → at_end s count r ≡ Ok d → r ≡ Ok d
+without_end s count (Ok c) d h = at_rest count c d (is_settled s c) h
+without_end s count (Err stop) d h = h
+
+-- a play on a ready chip
+pub well : (before after : Shown) (s : Setting) (content : List ℕ) (steps : List Step) (count : ℕ) → before ≡ ready_chip s content → EndsPlay before after 1 steps count
+    → ((d : Chip) × (play s 1 (ready s content) steps ≡ Ok d)) × (count ≡ length (trail s (ready s content) steps))
+well before after s content steps count is ends =
+    ((after.chip, subst (λ (b : Shown). play b.setting 1 b.chip steps ≡ Ok after.chip) is ends.ends), subst (λ (b : Shown). count ≡ length (trail b.setting b.chip steps)) is ends.counted)
+
+pub wrong_at : (before after : Shown) (s : Setting) (content : List ℕ) (steps : List Step) (at : ℕ) (why : Wrong) (f : PlayFault) → before ≡ ready_chip s content
+    → f ≡ fault.Wrong at why → Plays before after 1 steps (Err f) → (d : Chip) × (play s 1 (ready s content) steps ≡ Err (record { at = at; why = why; chip = d }))
+wrong_at before after s content steps at why f is told plays =
+    let stops = subst (λ (k : PlayFault). Plays before after 1 steps (Err k)) told plays in
+    (after.chip, subst (λ (b : Shown). play b.setting 1 b.chip steps ≡ Err (record { at = at; why = why; chip = after.chip })) is stops.stops)

@@ -1,0 +1,71 @@
+-- How steps end on a device beside a chip in memory (this project's).
+use Rattle.std.specs.Prelude.{◌≡◌, ℕ, Bool, false, List, length, Ok, Err}
+use Rattle.nor_base.specs.declared.step.Step.{Step}
+use Rattle.nor_base.specs.declared.wrong.Wrong.{Wrong}
+use Rattle.nor_base.specs.Chip.{Chip}
+use Rattle.nor_base.specs.Run.{trail}
+use Rattle.nor_play.specs.Play.{play}
+use Rattle.nor_serprog.specs.declared.fault.Fault.{Fault}
+use Rattle.nor_serprog.specs.declared.fault.Reason.{Reason}
+use Rattle.nor_serprog.specs.declared.fault.Reason.TheVariants.{Exchange, Busy, Carried}
+use Rattle.nor_serprog.specs.declared.limits.Limits.{Limits}
+use Rattle.norprog_play.specs.declared.ending.Ending.{Ending}
+use Rattle.norprog_play.specs.declared.ending.Ending.TheVariants.{Done, Wrong as GoesWrong, Unlike, Failed}
+use Rattle.norprog_play.specs.Carried.{AreCarried, IsFirstNotCarried}
+use Rattle.norprog_play.specs.Likeness.{Begins, IsUnlike}
+use Rattle.norprog_play.specs.Moment.{Moment, DoesAll, StopsAt}
+
+-- the steps go well on the chip in memory
+abbrev pub GoesWell : Moment → List Step → Type 0
+GoesWell before steps = (d : Chip) × (play before.shown.setting 1 before.shown.chip steps ≡ Ok d)
+
+-- and are all operations of the device
+pub record MayBegin (limits : Limits) (before : Moment) (steps : List Step) : Type 0 where
+  pub well : GoesWell before steps
+  pub carried : AreCarried limits steps
+
+-- the device did all of them, and the chip in memory is as their run leaves it
+pub record IsDone (limits : Limits) (turns : ℕ) (trusted four : Bool) (before : Moment) (steps : List Step) (transactions : ℕ) (after : Moment)
+    : Type 0 where
+  pub carried : AreCarried limits steps
+  pub ends : play before.shown.setting 1 before.shown.chip steps ≡ Ok after.shown.chip
+  pub counted : transactions ≡ length (trail before.shown.setting before.shown.chip steps)
+  pub between : Moment
+  pub begins : Begins trusted four before between
+  pub does : DoesAll limits turns between steps after
+
+-- they go wrong on the chip in memory, and nothing was done
+pub record GoesWrongBefore (before : Moment) (steps : List Step) (at : ℕ) (why : Wrong) (after : Moment) : Type 0 where
+  pub left : Chip
+  pub wrong : play before.shown.setting 1 before.shown.chip steps ≡ Err (record { at = at; why = why; chip = left })
+  pub untouched : after ≡ before
+
+-- they go well, this one is the first that is no operation of the device, and nothing was done
+pub record IsNotCarriedBefore (limits : Limits) (before : Moment) (steps : List Step) (at : ℕ) (after : Moment) : Type 0 where
+  pub well : GoesWell before steps
+  pub first : IsFirstNotCarried limits steps at
+  pub untouched : after ≡ before
+
+-- they may begin, but the chip behind the device isn't known to be like that in memory
+pub record IsUnlikeBefore (limits : Limits) (trusted four : Bool) (before : Moment) (steps : List Step) (why : Fault) (after : Moment) : Type 0
+  where
+    pub may : MayBegin limits before steps
+    pub wary : trusted ≡ false
+    pub unlike : IsUnlike four before after why
+
+-- they began, and ended at this one
+pub record StopsOnDevice (limits : Limits) (turns : ℕ) (trusted four : Bool) (before : Moment) (steps : List Step) (at : ℕ) (why : Reason)
+    (after : Moment) : Type 0 where
+  pub may : MayBegin limits before steps
+  pub between : Moment
+  pub begins : Begins trusted four before between
+  pub stops : StopsAt limits turns between steps at why after
+
+abbrev pub EndsSo : Limits → ℕ → Bool → Bool → Moment → List Step → Ending → Moment → Type 0
+EndsSo limits turns trusted four before steps (Done transactions) after = IsDone limits turns trusted four before steps transactions after
+EndsSo limits turns trusted four before steps (GoesWrong at why) after = GoesWrongBefore before steps at why after
+EndsSo limits turns trusted four before steps (Unlike why) after = IsUnlikeBefore limits trusted four before steps why after
+EndsSo limits turns trusted four before steps (Failed at Carried) after = IsNotCarriedBefore limits before steps at after
+EndsSo limits turns trusted four before steps (Failed at Busy) after = StopsOnDevice limits turns trusted four before steps at Busy after
+EndsSo limits turns trusted four before steps (Failed at (Exchange why)) after =
+    StopsOnDevice limits turns trusted four before steps at (Exchange why) after

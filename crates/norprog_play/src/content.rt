@@ -1,0 +1,65 @@
+//! What the chip behind a device holds, compared with a content.
+
+ghost use Rattle.std.specs.Prelude.{◌≡◌, ◌≤◌, ◌<◌, ◌-◌, ◌^◌, length, MatchResult};
+ghost use Rattle.nor_serprog.specs.Exchange.{Asks, AnswersWith, CountsReads, CountsWrites};
+ghost use Rattle.nor_serprog.specs.Protocol.{request};
+ghost use Rattle.norprog_play.specs.Compared.{read_from, HasCompared, StopsComparing};
+
+use nor_base::{ByteIn, ByteOut};
+use nor_serprog::{Fault, Limits, operate_with};
+
+/// Has the device read its whole chip, in pieces of as many bytes as it can give at once, and compares them with a content,
+/// the byte of address 0 the first. Addresses go out in four bytes (13h) or in three (03h). It takes no memory.
+///
+/// At Ok the device gave just these bytes. Else the exchange of a piece ended so: `Differs` where a byte is another.
+pub fn compare<R: ByteIn, W: ByteOut>(
+    from: &mut R,
+    to: &mut W,
+    limits: &Limits,
+    four: bool,
+    content: &[u8],
+) -> Result<(), Fault>
+    requires size { length content.now < 2 ^ 32 }
+    requires reader { R.count from.old < 2 ^ 64 - 1 }
+    requires writer { W.count to.old < 2 ^ 64 - 1 }
+    ensures compared { MatchResult result
+        (λ _. HasCompared (W.held to.old) (W.held to.new) (R.ahead from.old) (R.ahead from.new) four content.now)
+        (StopsComparing (W.held to.old) (W.held to.new) (R.ahead from.old) (R.ahead from.new) four content.now) }
+    ensures reads { CountsReads (R.count from.old) (R.count from.new) result }
+    ensures writes { CountsWrites (W.count to.old) (W.count to.new) result }
+{
+    let mut done = 0;
+    while done < content.len() {
+        let room = (content.len() - done).min(limits.asked as usize);
+        let piece = &content[done..done + room];
+        if let Err(why) = compare_piece(from, to, four, done as u32, piece) {
+            return Err(why);
+        }
+        done += room;
+    }
+    Ok(())
+}
+
+/// Has the device read as many bytes as a piece has, from an address on, and compares them with it.
+fn compare_piece<R: ByteIn, W: ByteOut>(
+    from: &mut R,
+    to: &mut W,
+    four: bool,
+    address: u32,
+    piece: &[u8],
+) -> Result<(), Fault>
+    requires size { length piece.now < 2 ^ 24 }
+    requires reader { R.count from.old < 2 ^ 64 - 1 }
+    requires writer { W.count to.old < 2 ^ 64 - 1 }
+    ensures asked { Asks (W.held to.old) (W.held to.new) (R.ahead from.old) (R.ahead from.new) result
+        (request (read_from four address) (length piece.now)) (AnswersWith (R.ahead from.old) (R.ahead from.new) result piece.now) }
+    ensures reads { CountsReads (R.count from.old) (R.count from.new) result }
+    ensures writes { CountsWrites (W.count to.old) (W.count to.new) result }
+{
+    let [highest, high, low, lowest] = address.to_be_bytes();
+    if four {
+        operate_with(from, to, &[0x13, highest, high, low, lowest], piece)
+    } else {
+        operate_with(from, to, &[0x03, high, low, lowest], piece)
+    }
+}

@@ -1,0 +1,33 @@
+//! How a script ends on a device.
+
+use nor_base::Wrong;
+use nor_serprog::{Fault, Reason};
+
+/// How a script ends on a device.
+#[derive(Clone, Copy, Debug, PartialEq, Eq, Drop)]
+pub enum Ending {
+    /// The device did each step, and gave the bytes that the chip in memory gave.
+    Done {
+        /// Transactions of the chip in memory, one for each step.
+        transactions: u128,
+    },
+    /// The chip in memory goes wrong: the device was asked for nothing.
+    Wrong {
+        /// The step, counted from 0; the number of steps where it goes wrong at the end.
+        step: u64,
+        /// How it goes wrong.
+        why: Wrong,
+    },
+    /// The chip behind the device isn't known to hold what the chip in memory does: no step was asked for.
+    Unlike {
+        /// How the reading stopped: at `Differs` also by another byte.
+        why: Fault,
+    },
+    /// The device didn't do this step.
+    Failed {
+        /// The step, counted from 0.
+        step: u64,
+        /// Why: at `Carried` the device was asked for nothing.
+        why: Reason,
+    },
+}

@@ -1,0 +1,81 @@
+//! Steps done by a device, beside a chip in memory.
+
+ghost use Rattle.std.specs.Prelude.{◌≡◌, ◌≤◌, ◌<◌, ◌-◌, ◌^◌, None, Ok, length, All, MatchResult, IfOk, IfErr};
+ghost use Rattle.nor_base.specs.Chip.{Chip as ShownChip};
+ghost use Rattle.nor_base.specs.Run.{played};
+ghost use Rattle.nor_base.specs.Sample.{sampled_count};
+ghost use Rattle.norprog_play.specs.Carried.{IsCarried, AreCarried};
+ghost use Rattle.norprog_play.specs.Moment.{clocks_of, moment, Does, DoesAll, Stops, StopsAt, IsTaken};
+
+use crate::step::clocks;
+use nor_base::{PortFault, Step, sampled};
+use nor_chip::Port;
+use nor_serprog::{Reason, Shadowed};
+use std::io::{Read, Write};
+
+/// Why a device didn't go on, and at which step.
+#[derive(Clone, Copy, Drop)]
+pub(crate) struct Halt {
+    pub(crate) step: u64,
+    pub(crate) why: Reason,
+}
+
+/// Has the device do steps that go well on the chip in memory, none of which samples more bytes than there is room.
+pub(crate) fn follow_steps<R: Read + Drop, W: Write + Drop>(
+    steps: &[Step],
+    port: &mut Shadowed<'_, R, W>,
+    room: &mut [u8],
+) -> Result<(), Halt>
+    requires fresh { port.old.reason ≡ None }
+    requires count { port.old.failed < 2 ^ 64 - 1 }
+    requires wide { All (λ step. sampled_count (clocks_of step) ≤ length room.old) steps.now }
+    requires goes { (chip : ShownChip) × (played port.old.chip.setting 1 port.old.chip.chip steps.now ≡ Ok chip) }
+    requires carried { AreCarried port.old.limits steps.now }
+    ensures chip { IfOk result (λ _. played port.old.chip.setting 1 port.old.chip.chip steps.now ≡ Ok port.new.chip.chip) }
+    ensures done { MatchResult result
+        (λ _. DoesAll port.old.limits port.old.turns (moment port.old.chip (W.contents port.old.to.inner) (R.remaining port.old.from.inner))
+        steps.now (moment port.new.chip (W.contents port.new.to.inner) (R.remaining port.new.from.inner)))
+        (λ halt. StopsAt port.old.limits port.old.turns (moment port.old.chip (W.contents port.old.to.inner) (R.remaining port.old.from.inner))
+        steps.now halt.step halt.why (moment port.new.chip (W.contents port.new.to.inner) (R.remaining port.new.from.inner))) }
+{
+    let mut number: u64 = 0;
+    for step in steps {
+        if let Err(why) = follow_step(step, port, room) {
+            return Err(Halt { step: number, why });
+        }
+        number += 1;
+    }
+    Ok(())
+}
+
+/// Has the device do a step that the chip in memory takes.
+fn follow_step<R: Read + Drop, W: Write + Drop>(
+    step: &Step,
+    port: &mut Shadowed<'_, R, W>,
+    room: &mut [u8],
+) -> Result<(), Reason>
+    requires fresh { port.old.reason ≡ None }
+    requires count { port.old.failed < 2 ^ 64 - 1 }
+    requires wide { sampled_count (clocks_of step.now) ≤ length room.old }
+    requires taken { IsTaken port.old.chip (clocks_of step.now) }
+    ensures done { MatchResult result
+        (λ _. Does port.old.limits port.old.turns (moment port.old.chip (W.contents port.old.to.inner) (R.remaining port.old.from.inner))
+        (clocks_of step.now) (moment port.new.chip (W.contents port.new.to.inner) (R.remaining port.new.from.inner)))
+        (λ why. Stops port.old.limits port.old.turns (moment port.old.chip (W.contents port.old.to.inner) (R.remaining port.old.from.inner))
+        (clocks_of step.now) why (moment port.new.chip (W.contents port.new.to.inner) (R.remaining port.new.from.inner))) }
+    ensures fresh { IfOk result (λ _. port.new.reason ≡ None) }
+    ensures count { IfOk result (λ _. port.new.failed ≡ port.old.failed) }
+    ensures limits { port.new.limits ≡ port.old.limits }
+    ensures turns { port.new.turns ≡ port.old.turns }
+    ensures room { length room.new ≡ length room.old }
+{
+    let clocks = clocks(step);
+    match port.transact(clocks, &mut room[..sampled(clocks)]) {
+        Ok(()) => Ok(()),
+        Err(PortFault::Wrong(_)) => unreachable!("the chip in memory takes the step"),
+        Err(PortFault::Failed) => match port.reason {
+            Some(why) => Err(why),
+            None => unreachable!("a port that failed tells why"),
+        },
+    }
+}
