@@ -1,6 +1,6 @@
 # README.md says what each target is for.
 
-.PHONY: build test edits refusals demo docs-check install uninstall
+.PHONY: build test edits refusals peers demo docs-check install uninstall
 
 # the sample job of one byte, for the program in crates/norprog_cli
 job = build --hex data/one.hex --uniform 8192 --content data/chip.bin --out
@@ -28,6 +28,10 @@ edits:
 # refuses each growth of memory of small jobs in turn, which the gate can't; it proves nothing
 refusals:
 	tools/refused-growths
+
+# norprog beside flashrom and sigrok-cli, over the device of tools/serprog-device; it proves nothing, and says what it needs
+peers:
+	@tools/peers
 
 # the program unproved on a job that matters: a chip by its SFDP bytes, of which one region is programmed; it holds bits that
 # must rise, so a sector is erased, and what else the sector holds is restored

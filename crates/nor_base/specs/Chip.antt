@@ -82,6 +82,7 @@ abbrev pub is_busy : ℕ → Bool
 is_busy zero = false
 is_busy (suc left) = true
 
+-- two address modes are the same one
 abbrev pub is_mode : Bool → Bool → Bool
 is_mode true mode4 = mode4
 is_mode false mode4 = not mode4

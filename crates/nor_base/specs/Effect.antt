@@ -46,6 +46,7 @@ has_address what.Read = true
 has_address what.QuadRead = true
 has_address other = false
 
+-- a change of mode that is taken only after a write enable
 abbrev pub is_latched : Switch → Bool
 is_latched Latched = true
 is_latched Absent = false

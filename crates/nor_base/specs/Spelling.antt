@@ -15,7 +15,7 @@ pub record Instr : Type 0 where
   pub what : What
   pub op : ℕ
   pub address : ℕ
-  -- address bytes, and dummy clocks after them
+  -- how many address bytes there are, and how many dummy clocks come after them
   pub width : ℕ
   pub dummies : ℕ
   -- the bytes that are sent, or that are to be read

@@ -26,7 +26,8 @@ pub record HasConflict (records : List Record) : Type 0 where
   pub puts_second : Puts records address second
   pub differ : first ≢ second
 
--- nothing is wrong with these records: none but the last is an end record, and no address is given two different bytes
+-- nothing is wrong with these records so far: none but the last is an end record, and no address is given two different bytes;
+-- that there is an end record is said where a whole text is accepted
 pub record IsFaultless (records : List Record) : Type 0 where
   pub end_is_last : list_any is_end (take (length records - 1) records) ≡ false
   pub consistent : IsConsistent records

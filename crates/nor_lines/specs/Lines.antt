@@ -19,7 +19,7 @@ trimmed line = take (length line - suffix_len is_blank line) line
 abbrev pub lines_of_text : List ℕ → List (List ℕ)
 lines_of_text text = map without_terminator (lines_of text)
 
--- there is more than a blank in the line
+-- something is left of a numbered line that was trimmed
 abbrev pub is_filled : ℕ × List ℕ → Bool
 is_filled line = nat_lt 0 (length line.1)
 

@@ -7,7 +7,7 @@ use Rattle.std.proofs.lemmas.Bool.Decides.{nat_tests}
 use Rattle.std.proofs.lemmas.Fmt.{decimal_by_steps, decimal_injective}
 use Rattle.std.proofs.lemmas.Nat.{from_be_bytes-to_be_bytes_4}
 use Rattle.nor_base.specs.Script.{hex_digit, hex_pair}
-use Rattle.nor_listing.specs.Listing.{hex_number}
+use Rattle.nor_script.specs.Hexadecimal.{hex_number}
 
 -- the same in front, and the same behind it
 pub record Alike (a b x y : List ℕ) : Type 0 where

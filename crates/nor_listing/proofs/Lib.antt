@@ -1,5 +1,3 @@
-mod DigitLemmas
-mod PartLemmas
 mod LineLemmas
 mod WordLemmas
 mod SeenLemmas

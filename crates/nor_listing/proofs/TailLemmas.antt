@@ -10,7 +10,8 @@ use Rattle.nor_base.specs.Decoding.{Instruction, bytes_of_bits, bytes_of_nibbles
 use Rattle.nor_base.specs.Effect.{has_address}
 use Rattle.nor_base.specs.Script.{hex_pair}
 use Rattle.nor_decode.proofs.SmallLemmas.{sent_below}
-use Rattle.nor_listing.specs.Listing.{hex_number, in_eight, counted, spelled}
+use Rattle.nor_listing.specs.Listing.{in_eight, counted, spelled}
+use Rattle.nor_script.specs.Hexadecimal.{hex_number}
 use Rattle.nor_listing.proofs.ApartLemmas.{Agree, decimal_apart, number_apart, bytes_apart, Small}
 use Rattle.nor_listing.proofs.TakenLemmas.{taken_as, all_small}
 

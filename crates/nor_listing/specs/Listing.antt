@@ -1,7 +1,6 @@
 -- The listing of a script: the chip and the address mode that it is read with, a line for each step, an end line with the number
 -- of steps (this project's format). Each line is closed by one LF.
 use Rattle.std.specs.Prelude.{ℕ, Bool, ◌+◌, if◌then◌else◌, List, [], ◌∷◌, ◌++◌, length, codes, decimal, flat_map, Option, Some, None}
-use Rattle.std.specs.Int.{w32, to_be_bytes}
 use Rattle.std.specs.Str.{bytes_eq}
 use Rattle.nor_base.specs.declared.instruction.What.{What}
 use Rattle.nor_base.specs.declared.instruction.What.TheVariants as what
@@ -12,10 +11,7 @@ use Rattle.nor_base.specs.Decoding.{Instruction, decode, opcode}
 use Rattle.nor_base.specs.Run.{poll_clocks, is_verify}
 use Rattle.nor_base.specs.Script.{closed, hex_pair, step_line, end_line}
 use Rattle.nor_base.specs.Spelling.{mode_after}
-
--- a number below 2^32 in eight lower-case hexadecimal digits, those of its highest byte first
-unfoldable pub hex_number : ℕ → List ℕ
-hex_number n = flat_map hex_pair (to_be_bytes w32 n)
+use Rattle.nor_script.specs.Hexadecimal.{hex_number}
 
 -- ` AAAAAAAA`, ` n` and ` HEX`: an address or a size, a number of bytes, bytes
 abbrev pub in_eight : ℕ → List ℕ

@@ -7,7 +7,6 @@
 //! [`one_listing`] is the law that a listing has one list of steps.
 #![tactic(auto)]
 
-mod hexadecimal;
 mod law;
 mod line;
 mod sent;

@@ -10,10 +10,13 @@ ghost use Rattle.nor_base.specs.declared.step.Step.TheVariants.{Send};
 ghost use Rattle.nor_decode.specs.Seen.{transaction_of};
 ghost use Rattle.nor_listing.specs.Listing.{in_eight, counted, spelled, sent_words, send_words, mode_by};
 
-use crate::hexadecimal::{PART, hex_number, hex_pair, put_part};
 use itoa::Buffer;
 use nor_base::{ByteOut, Failed, Meaning, What, put_all, put_parts};
 use nor_decode::{Seen, decode};
+use nor_script::{hex_number, hex_pair, put_hexadecimal};
+
+/// How many bytes of a program are decoded at a time.
+const PART: usize = 128;
 
 /// Puts what a chip sees in clocks that are sent, and answers the address mode after them.
 pub(crate) fn put_sent<W: ByteOut>(
@@ -231,7 +234,7 @@ fn put_some<W: ByteOut>(
     let mut bytes = [0; PART];
     let bytes = &mut bytes[..count];
     fill(seen, from, bytes);
-    put_part(bytes, out)
+    put_hexadecimal(bytes, out)
 }
 
 /// Fills a buffer with the bytes that a program sends from one on.

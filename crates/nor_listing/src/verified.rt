@@ -9,11 +9,10 @@ ghost use Rattle.nor_base.specs.declared.step.Step.TheVariants.{Verify};
 ghost use Rattle.nor_decode.specs.Seen.{transaction_of};
 ghost use Rattle.nor_listing.specs.Listing.{in_eight, counted, spelled, read_words, verify_words};
 
-use crate::hexadecimal::put_hexadecimal;
 use crate::sent::{opcode, put_place};
 use nor_base::{ByteOut, Failed, Meaning, What, put_all};
 use nor_decode::{Seen, decode, is_verify};
-use nor_script::write_verify;
+use nor_script::{put_hexadecimal, write_verify};
 
 /// Puts what a chip sees in clocks that are to read these bytes.
 pub(crate) fn put_verified<W: ByteOut>(

@@ -2,3 +2,5 @@ mod RangeLemmas
 mod ReasonLemmas
 mod TextLemmas
 mod WalkLemmas
+mod Reached
+mod TellLemmas

@@ -16,7 +16,8 @@ use Rattle.nor_geometry.specs.Plan.{HasPart}
 use Rattle.nor_erase.proofs.Runs.{at_address}
 use Rattle.nor_pages.specs.declared.run.Run.{Run}
 use Rattle.nor_pages.specs.Runs.{run_program, unit_start, LiesBetween, AreBetween}
-use Rattle.nor_outline.specs.Outline.{hex_number, program_line, because, reason, reason_at, reasons, erase_line, IsPlanned, IsOutline}
+use Rattle.nor_outline.specs.Outline.{program_line, because, reason, reason_at, reasons, erase_line, IsPlanned, IsOutline}
+use Rattle.nor_script.specs.Hexadecimal.{hex_number}
 use Rattle.nor_outline.specs.Parts.{due_in, run_line, part_text}
 use Rattle.nor_outline.proofs.RangeLemmas.{find_same, flat_same}
 

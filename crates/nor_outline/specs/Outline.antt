@@ -1,5 +1,5 @@
 -- The lines that tell a plan (this project's).
-use Rattle.std.specs.Prelude.{◌≡◌, ℕ, Bool, true, ◌/◌, ◌%◌, ◌==◌, if◌then◌else◌, List, [], ◌∷◌, ◌++◌, length, map, flat_map, codes, decimal, Option, Some, None}
+use Rattle.std.specs.Prelude.{◌≡◌, ℕ, Bool, true, ◌==◌, if◌then◌else◌, List, [], ◌∷◌, ◌++◌, length, map, flat_map, codes, decimal, Option, Some, None}
 use Rattle.std.specs.List.{find, range_with_len}
 use Rattle.std.specs.Option.{option_map_or}
 use Rattle.nor_base.specs.declared.meaning.Start.{Start}
@@ -9,7 +9,7 @@ use Rattle.nor_base.specs.Blocks.{Block, IsLegalBlock, smallest}
 use Rattle.nor_base.specs.Need.{is_due}
 use Rattle.nor_base.specs.Operations.{erasing}
 use Rattle.nor_base.specs.Programs.{Program}
-use Rattle.nor_base.specs.Script.{hex_digit, hex_pair}
+use Rattle.nor_base.specs.Script.{hex_pair}
 use Rattle.nor_base.specs.Strategies.{strategy, reaches}
 use Rattle.nor_base.specs.Units.{WorkUnit}
 use Rattle.nor_geometry.specs.declared.unit.PlanUnit.{PlanUnit}
@@ -17,16 +17,7 @@ use Rattle.nor_geometry.specs.declared.unit.PlanUnit.TheVariants as unit
 use Rattle.nor_geometry.specs.Plan.{HasPart}
 use Rattle.nor_pages.specs.declared.run.Run.{Run}
 use Rattle.nor_pages.specs.Runs.{run_program, unit_start}
-
--- the digit of a number that has a weight
-abbrev pub digit_at : ℕ → ℕ → ℕ
-digit_at n weight = hex_digit (n / weight % 16)
-
--- a number below 2^32 in eight lower-case hexadecimal digits, the highest first
-unfoldable pub hex_number : ℕ → List ℕ
-hex_number n =
-    digit_at n 0x10000000 ∷ digit_at n 0x1000000 ∷ digit_at n 0x100000 ∷ digit_at n 0x10000 ∷ digit_at n 0x1000 ∷ digit_at n 0x100
-    ∷ digit_at n 0x10 ∷ digit_at n 1 ∷ []
+use Rattle.nor_script.specs.Hexadecimal.{hex_number}
 
 -- `erase SSSSSSSS ZZZZZZZZ OO`: a block's start, its size, and the opcode that erases it
 abbrev pub erase_line : Parameters → Strategy → Block → List ℕ

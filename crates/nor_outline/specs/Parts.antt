@@ -7,7 +7,8 @@ use Rattle.nor_base.specs.Need.{is_due}
 use Rattle.nor_geometry.specs.declared.unit.PlanUnit.{PlanUnit}
 use Rattle.nor_geometry.specs.declared.unit.PlanUnit.TheVariants as unit
 use Rattle.nor_pages.specs.declared.run.Run.{Run}
-use Rattle.nor_outline.specs.Outline.{hex_number, erase_line, reasons}
+use Rattle.nor_outline.specs.Outline.{erase_line, reasons}
+use Rattle.nor_script.specs.Hexadecimal.{hex_number}
 
 -- an address is due, of bytes that begin at another
 abbrev pub due_in : Parameters → List ℕ → List ℕ → ℕ → ℕ → Bool

@@ -1,13 +1,14 @@
 //! The lines that tell a plan, unit by unit: each block that is erased, why, and each program. `docs/FORMATS.md` has the
 //! format.
 //!
-//! [`write_unit`] writes the lines of one unit, [`hex_number`] gives an address's digits. They take no memory.
+//! [`write_unit`] writes the lines of one unit. It takes no memory. [`write_window`] takes what a window of a chip holds and
+//! what it must hold, plans its units and writes their lines; it holds the plan of the window and the runs of one unit.
 #![tactic(auto)]
 
-mod hexadecimal;
 mod opcode;
 mod reasons;
+mod window;
 mod writer;
 
-pub use hexadecimal::hex_number;
+pub use window::write_window;
 pub use writer::write_unit;

@@ -5,10 +5,10 @@ ghost use Rattle.nor_base.specs.Device.{Writes, Counts};
 ghost use Rattle.nor_outline.specs.Outline.{MayErase, because_line, reason, reasons};
 ghost use Rattle.nor_outline.specs.Parts.{due_in};
 
-use crate::hexadecimal::hex_number;
 use nor_base::{ByteOut, Failed, Meaning, Strategy, put_parts};
 use nor_erase::first_due;
 use nor_geometry::{Block, smallest};
+use nor_script::hex_number;
 use nor_work::blocks;
 
 /// Puts a line for each smallest block of a block, rising, in which a byte is due: `have` and `want` are the block's

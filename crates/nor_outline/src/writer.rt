@@ -6,13 +6,13 @@ ghost use Rattle.nor_pages.specs.Runs.{AreBetween, unit_start};
 ghost use Rattle.nor_outline.specs.Outline.{IsOutline, IsPlanned, MayErase, erase_line, reasons};
 ghost use Rattle.nor_outline.specs.Parts.{due_in, run_line, block_text, part_text};
 
-use crate::hexadecimal::{hex_number, hex_pair};
 use crate::opcode::erase_opcode;
 use crate::reasons::put_reasons;
 use itoa::Buffer;
 use nor_base::{ByteOut, Failed, Meaning, Strategy, put_parts};
 use nor_geometry::{Block, PlanUnit};
 use nor_pages::Run;
+use nor_script::{hex_number, hex_pair};
 
 /// Writes the lines of a unit, each closed by LF: where a block is erased `erase SSSSSSSS ZZZZZZZZ OO`, its start, its
 /// size and the opcode that is sent, and for each smallest legal block in it, rising, `because SSSSSSSS AAAAAAAA`, the

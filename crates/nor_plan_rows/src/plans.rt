@@ -9,7 +9,7 @@ use nor_erase::plan;
 use nor_geometry::{PlanFault, PlanUnit, strategy, window_size};
 use nor_job::BuildFault;
 use nor_pages::split;
-use nor_plan_lines::write_window;
+use nor_outline::write_window;
 use nor_steps::StepsFault;
 use std::io;
 

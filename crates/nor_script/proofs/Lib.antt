@@ -1,5 +1,5 @@
 mod PlaceLemmas
-mod HexLemmas
+pub mod HexLemmas
 mod VerifyLemmas
 mod DigitLemmas
 mod LineLemmas

@@ -1,3 +1,4 @@
+pub mod Hexadecimal
 pub mod Verify
 pub mod Line
 pub mod Parts

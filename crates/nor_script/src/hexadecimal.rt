@@ -1,32 +1,62 @@
-//! Bytes as hexadecimal digits, written a part at a time.
+//! Numbers and bytes in lower-case hexadecimal digits.
 
-ghost use Rattle.std.specs.Prelude.{◌≡◌, ◌*◌, ◌<◌, ◌-◌, ◌^◌, length, flat_map};
+ghost use Rattle.std.specs.Prelude.{◌≡◌, ◌*◌, ◌<◌, ◌≤◌, ◌-◌, ◌^◌, length, flat_map};
 ghost use Rattle.nor_base.specs.Device.{Writes, Counts};
 ghost use Rattle.nor_base.specs.Script.{hex_pair};
+ghost use Rattle.nor_script.specs.Hexadecimal.{hex_number};
 
 use nor_base::{ByteOut, Failed, put_all};
 
 /// How many bytes' digits go out at a time.
-const PART: usize = 32;
+const PART: usize = 128;
+
+/// A byte in two lower-case hexadecimal digits.
+pub fn hex_pair(byte: u8) -> [u8; 2]
+    ensures { result ≡ hex_pair byte }
+{
+    let mut digits = [0; 2];
+    encode(&[byte], &mut digits);
+    digits
+}
+
+/// A number in eight lower-case hexadecimal digits, those of its highest byte first.
+#[tactic(auto, unfolding(crate::specs::Hexadecimal::hex_number))]
+pub fn hex_number(number: u32) -> [u8; 8]
+    ensures { result ≡ hex_number number }
+{
+    let mut digits = [0; 8];
+    encode(&number.to_be_bytes(), &mut digits);
+    digits
+}
 
 /// Puts two lower-case digits for each byte.
 ///
-/// At `Failed` a proper prefix of them was taken; it comes from the writer alone.
-pub(crate) fn put_hexadecimal<W: ByteOut>(writer: &mut W, bytes: &[u8]) -> Result<(), Failed>
-    requires { W.count writer.old < 2 ^ 64 - 1 }
-    ensures bytes { Writes (W.held writer.old) (W.held writer.new) result (flat_map hex_pair bytes.now) }
-    ensures count { Counts (W.count writer.old) (W.count writer.new) result }
+/// At `Failed` a proper prefix of them was taken; it comes from the writer alone, whose count of failures rose by one.
+pub fn put_hexadecimal<W: ByteOut>(bytes: &[u8], out: &mut W) -> Result<(), Failed>
+    requires { W.count out.old < 2 ^ 64 - 1 }
+    ensures bytes { Writes (W.held out.old) (W.held out.new) result (flat_map hex_pair bytes.now) }
+    ensures count { Counts (W.count out.old) (W.count out.new) result }
 {
-    let mut digits = [0; 2 * PART];
     let mut done = 0;
     while done < bytes.len() {
         let count = (bytes.len() - done).min(PART);
-        let part = &bytes[done..done + count];
-        encode(part, &mut digits[..2 * count]);
-        put_all(writer, &digits[..2 * count])?;
+        put_part(&bytes[done..done + count], out)?;
         done += count;
     }
     Ok(())
+}
+
+/// Puts two digits for each of at most [`PART`] bytes.
+fn put_part<W: ByteOut>(bytes: &[u8], out: &mut W) -> Result<(), Failed>
+    requires few { length bytes.now ≤ 128 }
+    requires room { W.count out.old < 2 ^ 64 - 1 }
+    ensures bytes { Writes (W.held out.old) (W.held out.new) result (flat_map hex_pair bytes.now) }
+    ensures count { Counts (W.count out.old) (W.count out.new) result }
+{
+    let mut digits = [0; 2 * PART];
+    let digits = &mut digits[..2 * bytes.len()];
+    encode(bytes, digits);
+    put_all(out, digits)
 }
 
 fn encode(bytes: &[u8], digits: &mut [u8])

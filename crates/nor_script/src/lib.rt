@@ -13,5 +13,6 @@ mod reader;
 mod writer;
 
 pub use fault::ScriptFault;
-pub use reader::{read, read_until_fault};
+pub use hexadecimal::{hex_number, hex_pair, put_hexadecimal};
+pub use reader::{first_line, read, read_until_fault};
 pub use writer::{begin, finish, write_poll, write_send, write_step, write_verify};

@@ -71,8 +71,8 @@ fn read_steps(alloc: Global, text: &[u8], steps: &mut Vec<Step>) -> Result<(), S
     Err(ScriptFault::NoEnd(steps.len() as u64 + 2))
 }
 
-/// The first line, without the LF that closes it, and what stands after it; None where no LF is left.
-fn first_line(text: &[u8]) -> Option<(&[u8], &[u8])>
+/// The first line of a text, without the LF that closes it, and what stands after that; None where no LF stands in the text.
+pub fn first_line(text: &[u8]) -> Option<(&[u8], &[u8])>
     ensures { MatchOption result (list_any is_line_feed text.now ≡ false) (λ cut. BeginsWith text.now cut.0.now cut.1.now) }
 {
     let Some(end) = place_of(b'\n', text) else {

@@ -93,6 +93,6 @@ fn put_verify<W: ByteOut>(writer: &mut W, clocks: &[u8], expect: &[u8]) -> Resul
     ensures count { Counts (W.count writer.old) (W.count writer.new) result }
 {
     put_parts(writer, &[b"v ", clocks, b" "])?;
-    put_hexadecimal(writer, expect)?;
+    put_hexadecimal(expect, writer)?;
     put_all(writer, b"\n")
 }

@@ -16,7 +16,7 @@ size_in_bytes density =
     if not (density % 8 == 0) || (density / 8 == 0) || not (density / 8 % 4096 == 0) || nat_lt (2 ^ 28) (density / 8) then Err Density
     else Ok (density / 8)
 
--- 2^N bits; past N = 31 that is over 256 MiB, so that no greater power is looked at
+-- a size of 2^N bits, where the first says whether N is past 31: then it is over 256 MiB, and the power isn't looked at
 abbrev pub size_of_power : Bool → ℕ → Result ℕ SfdpFault
 size_of_power true n = Err Density
 size_of_power false n = size_in_bytes (2 ^ n)

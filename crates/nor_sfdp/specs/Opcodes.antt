@@ -14,7 +14,8 @@ abbrev pub op4_of : Option ℕ → List ℕ
 op4_of None = []
 op4_of (Some op4) = op4 ∷ []
 
--- the opcodes of a kind that some region allows, or that none does
+-- the opcodes of a kind: op and, where it has one, op4 of a kind that some region allows; none of one that is absent or that no
+-- region allows
 abbrev pub kind_opcodes : Option Erase → Bool → List ℕ
 kind_opcodes None allowed = []
 kind_opcodes (Some erase) true = erase.op ∷ op4_of erase.op4

@@ -27,4 +27,6 @@ mod same;
 #[cfg(test)]
 mod script;
 #[cfg(test)]
+mod serprog;
+#[cfg(test)]
 mod symbols;

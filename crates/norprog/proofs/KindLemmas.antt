@@ -4,7 +4,7 @@ use Rattle.nor_base.specs.Operations.{Op}
 use Rattle.nor_base.specs.Script.{step_lines}
 use Rattle.nor_job.specs.declared.fault.BuildFault.{BuildFault}
 use Rattle.nor_job.specs.declared.fault.BuildFault.TheVariants as fault
-use Rattle.nor_plan_lines.specs.Told.{AreLines, AreBegun, StopsTelling}
+use Rattle.nor_outline.specs.Told.{AreLines, AreBegun, StopsTelling}
 use Rattle.nor_steps.specs.declared.fault.StepsFault.{StepsFault}
 use Rattle.nor_steps.specs.declared.fault.StepsFault.TheVariants as steps
 use Rattle.nor_steps.specs.declared.tally.Tally.{Tally}

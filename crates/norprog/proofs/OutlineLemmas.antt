@@ -9,7 +9,7 @@ use Rattle.nor_base.specs.Parameters.{Parameters}
 use Rattle.nor_base.specs.Strategies.{strategy}
 use Rattle.nor_base.specs.Units.{units, units_over, units_of, pages}
 use Rattle.nor_outline.specs.Outline.{unit_lines}
-use Rattle.nor_plan_lines.specs.Told.{stretch_lines, AreLines, AreLinesOf, AreBegun, AreBegunOf}
+use Rattle.nor_outline.specs.Told.{stretch_lines, AreLines, AreLinesOf, AreBegun, AreBegunOf}
 use Rattle.nor_steps.specs.Work.{stretch_units}
 use Rattle.norprog.specs.PlanWindows.{plan_text}
 use Rattle.norprog.proofs.StretchLemmas.{stretch_units_join, sound_join}

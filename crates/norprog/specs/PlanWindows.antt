@@ -8,7 +8,7 @@ use Rattle.nor_base.specs.Strategies.{strategy}
 use Rattle.nor_job.specs.declared.fault.BuildFault.{BuildFault}
 use Rattle.nor_job.specs.declared.fault.BuildFault.TheVariants as fault
 use Rattle.nor_outline.specs.Outline.{unit_lines}
-use Rattle.nor_plan_lines.specs.Told.{AreLines, AreBegun}
+use Rattle.nor_outline.specs.Told.{AreLines, AreBegun}
 
 -- the lines of the units of the planned work of a content and its target
 abbrev pub plan_text : Parameters → Start → List ℕ → List ℕ → List ℕ

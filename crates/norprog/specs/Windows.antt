@@ -17,7 +17,7 @@ use Rattle.nor_job.specs.declared.fault.BuildFault.{BuildFault}
 use Rattle.nor_job.specs.declared.fault.BuildFault.TheVariants as fault
 use Rattle.nor_job.specs.declared.job.Job.{Job}
 use Rattle.nor_layout.specs.Chosen.{has}
-use Rattle.nor_plan_lines.specs.Told.{AreLines, AreBegun}
+use Rattle.nor_outline.specs.Told.{AreLines, AreBegun}
 use Rattle.nor_steps.specs.declared.fault.StepsFault.{StepsFault}
 use Rattle.nor_steps.specs.declared.fault.StepsFault.TheVariants as steps
 use Rattle.nor_steps.specs.declared.tally.Tally.{Tally}

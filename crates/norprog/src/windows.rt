@@ -14,7 +14,7 @@ ghost use Rattle.nor_job.specs.Written.{CountsReader, CountsWriter};
 use nor_base::{ByteIn, ByteOut, Nowhere, fill_from};
 use nor_geometry::strategy;
 use nor_job::{BuildFault, Job};
-use nor_plan_lines::write_window as write_lines;
+use nor_outline::write_window as write_lines;
 use nor_steps::{StepWriter, StepsFault, Tally};
 use nor_target::fill;
 use std::alloc::{AllocError, Global};

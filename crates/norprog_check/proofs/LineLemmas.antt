@@ -4,7 +4,7 @@ use Rattle.std.specs.Prelude.{codes, decimal}
 use Rattle.nor_base.specs.declared.wrong.Wrong.{Wrong}
 use Rattle.nor_check.specs.declared.verdict.Verdict.TheVariants.{No}
 use Rattle.nor_check.specs.declared.verdict.Why.TheVariants as why
-use Rattle.nor_outline.specs.Outline.{hex_number}
+use Rattle.nor_script.specs.Hexadecimal.{hex_number}
 use Rattle.norprog_words.specs.Wrongs.{wrong_number}
 use Rattle.norprog_check.specs.Line.{verdict_text}
 

@@ -9,7 +9,7 @@ ghost use Rattle.norprog_check.specs.Line.{verdict_text};
 use itoa::Buffer;
 use nor_base::{ByteOut, Failed, Wrong, put_all, put_parts};
 use nor_check::{Verdict, Why};
-use nor_outline::hex_number;
+use nor_script::hex_number;
 use norprog_words::wrong_number;
 
 /// Writes a verdict's line, closed by LF: `yes`; or `no at K wrong N`, where K is the step, counted from 0, and N the number

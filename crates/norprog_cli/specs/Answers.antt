@@ -13,6 +13,7 @@ use Rattle.norprog_draw.specs.Answer.{AnswersDraw}
 use Rattle.norprog_explain.specs.Explained.{explained, AnswersExplain}
 use Rattle.norprog_explain.specs.Topics.{topics}
 use Rattle.norprog_list.specs.Answer.{AnswersList}
+use Rattle.norprog_play.specs.Answer.{AnswersPlay}
 use Rattle.norprog_run.specs.Answer.{AnswersRun}
 
 -- to what is asked for, each command its answer; to words that couldn't be read, why
@@ -29,6 +30,8 @@ AnswersTo (Ok (command.List given)) before after Quiet Works told_before told_af
     AnswersList (Ok given) before after Quiet Works told_before told_after status
 AnswersTo (Ok (command.Draw given)) before after Quiet Works told_before told_after status =
     (after ≡ before) × AnswersDraw (Ok given) Quiet Works told_before told_after status
+AnswersTo (Ok (command.Play given)) before after Quiet Works told_before told_after status =
+    AnswersPlay (Ok given) before after Quiet Works told_before told_after status
 AnswersTo (Ok (command.Sfdp given)) before after Quiet Works told_before told_after status =
     AnswersChip (Ok given) before after Quiet Works told_before told_after status
 AnswersTo (Ok (command.Explain words)) before after Quiet Works told_before told_after status =

@@ -1,10 +1,10 @@
 //! The command line of norprog: `norprog build` writes the script that programs a chip, `norprog plan` prints what that
 //! would erase and program, `norprog check` says whether a script does a job, `norprog run` plays one on a chip in memory,
-//! `norprog list` tells what each step of one is, `norprog draw` draws one as a waveform, `norprog sfdp` prints what a chip's
-//! tables mean, `norprog explain` says what a printed text means.
+//! `norprog list` tells what each step of one is, `norprog draw` draws one as a waveform, `norprog play` plays one on a chip behind
+//! a serprog device, `norprog sfdp` prints what a chip's tables mean, `norprog explain` says what a printed text means.
 //!
-//! The crate `norprog_options` reads the options; `norprog_command`, `norprog_run`, `norprog_list`, `norprog_draw` and
-//! `norprog_explain` do the work behind them.
+//! The crate `norprog_options` reads the options; `norprog_command`, `norprog_run`, `norprog_list`, `norprog_draw`, `norprog_play`
+//! and `norprog_explain` do the work behind them.
 #![tactic(auto)]
 
 ghost use Rattle.std.specs.Prelude.{◌≡◌, ◌<◌, ◌≤◌, ◌-◌, ◌^◌};
@@ -16,6 +16,7 @@ use norprog_draw::draw;
 use norprog_explain::explain;
 use norprog_list::list;
 use norprog_options::{Asked, asked_by};
+use norprog_play::play;
 use norprog_run::run;
 use norprog_words::{Refusal, refuse};
 use std::alloc::AllocGlobal;
@@ -86,6 +87,7 @@ fn answer_to<O: ByteOut, E: ByteOut>(
         Ok(Asked::Run(given)) => run(rt, Ok(given), out, err),
         Ok(Asked::List(given)) => list(rt, Ok(given), out, err),
         Ok(Asked::Draw(given)) => draw(rt, Ok(given), err),
+        Ok(Asked::Play(given)) => play(rt, Ok(given), out, err),
         Ok(Asked::Sfdp(given)) => sfdp(rt, Ok(given), out, err),
         Ok(Asked::Explain(words)) => explain(words.as_slice(), out, err),
         Err(refusal) => refuse(&refusal, err),

@@ -67,6 +67,6 @@ pub flat_joined : {X L : Type 0} (f : X → List ℕ) (g : L → List X) (lists 
 flat_joined f g [] = refl
 flat_joined f g (l ∷ ls) = flat_map-append f (g l) (flat_map g ls) ∙ ap (λ rest. flat_map f (g l) ++ rest) (flat_joined f g ls)
 
-pub seven : {X : Type 0} {a b c d e f g a' b' c' d' e' f' g' : List X} → a ≡ a' → b ≡ b' → c ≡ c' → d ≡ d' → e ≡ e' → f ≡ f' → g ≡ g'
-    → a ++ (b ++ (c ++ (d ++ (e ++ (f ++ (g ++ [])))))) ≡ a' ++ (b' ++ (c' ++ (d' ++ (e' ++ (f' ++ (g' ++ []))))))
-seven p q r s t u v = cc
+pub eight : {X : Type 0} {a b c d e f g h a' b' c' d' e' f' g' h' : List X} → a ≡ a' → b ≡ b' → c ≡ c' → d ≡ d' → e ≡ e' → f ≡ f' → g ≡ g' → h ≡ h'
+    → a ++ (b ++ (c ++ (d ++ (e ++ (f ++ (g ++ (h ++ []))))))) ≡ a' ++ (b' ++ (c' ++ (d' ++ (e' ++ (f' ++ (g' ++ (h' ++ [])))))))
+eight p q r s t u v w = cc

@@ -7,6 +7,7 @@ use Rattle.norprog_explain.specs.declared.topics.verdicts.TheConstants as verdic
 use Rattle.norprog_explain.specs.declared.topics.reports.TheConstants as reports
 use Rattle.norprog_explain.specs.declared.topics.meanings.TheConstants as meanings
 use Rattle.norprog_explain.specs.declared.topics.listings.TheConstants as listings
+use Rattle.norprog_explain.specs.declared.topics.devices.TheConstants as devices
 
 unfoldable pub topics : List (List ℕ × List ℕ)
 topics =
@@ -16,4 +17,5 @@ topics =
     ++ (map {B = List ℕ × List ℕ} (λ topic. (topic.0.now, topic.1.now)) verdicts.TOPICS.now
     ++ (map {B = List ℕ × List ℕ} (λ topic. (topic.0.now, topic.1.now)) reports.TOPICS.now
     ++ (map {B = List ℕ × List ℕ} (λ topic. (topic.0.now, topic.1.now)) meanings.TOPICS.now
-    ++ (map {B = List ℕ × List ℕ} (λ topic. (topic.0.now, topic.1.now)) listings.TOPICS.now ++ []))))))
+    ++ (map {B = List ℕ × List ℕ} (λ topic. (topic.0.now, topic.1.now)) listings.TOPICS.now
+    ++ (map {B = List ℕ × List ℕ} (λ topic. (topic.0.now, topic.1.now)) devices.TOPICS.now ++ [])))))))

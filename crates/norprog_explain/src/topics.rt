@@ -4,6 +4,7 @@ ghost use Rattle.std.specs.Prelude.{◌≡◌};
 ghost use Rattle.norprog_explain.specs.Explained.{in_order};
 ghost use Rattle.norprog_explain.specs.Topics.{topics};
 
+mod devices;
 mod inputs;
 mod listings;
 mod meanings;
@@ -17,7 +18,7 @@ mod verdicts;
 pub(crate) type Topic = (&'static str, &'static str);
 
 /// All topics, by subjects. Words stand before others that they begin with.
-pub(crate) fn subjects() -> [&'static [Topic]; 7]
+pub(crate) fn subjects() -> [&'static [Topic]; 8]
     ensures { in_order result ≡ topics }
 {
     [
@@ -28,5 +29,6 @@ pub(crate) fn subjects() -> [&'static [Topic]; 7]
         reports::topics(),
         meanings::topics(),
         listings::topics(),
+        devices::topics(),
     ]
 }

@@ -9,6 +9,7 @@ use Rattle.norprog_words.specs.declared.given.GivenCheck.{GivenCheck}
 use Rattle.norprog_words.specs.declared.given.GivenChip.{GivenChip}
 use Rattle.norprog_words.specs.declared.given.GivenDraw.{GivenDraw}
 use Rattle.norprog_words.specs.declared.given.GivenList.{GivenList}
+use Rattle.norprog_words.specs.declared.given.GivenPlay.{GivenPlay}
 use Rattle.norprog_words.specs.declared.given.GivenRun.{GivenRun}
 use Rattle.norprog_options.specs.declared.options.Asked.{Asked}
 use Rattle.norprog_options.specs.declared.options.Asked.TheVariants as command
@@ -83,6 +84,21 @@ pub record IsDrawIn (found : Found) (given : GivenDraw) : Type 0 where
   pub steps : Has found (codes "steps") (option_map (λ t. t.now) given.steps)
   pub out : Has found (codes "out") (option_map (λ t. t.now) given.out)
 
+pub record IsPlayIn (found : Found) (given : GivenPlay) : Type 0 where
+  pub sfdp : Has found (codes "sfdp") (option_map (λ t. t.now) given.sfdp)
+  pub uniform : Has found (codes "uniform") (option_map (λ t. t.now) given.uniform)
+  pub bits : Has found (codes "bits") (option_map (λ t. t.now) given.bits)
+  pub part : Has found (codes "part") (option_map (λ t. t.now) given.part)
+  pub status : Has found (codes "status") (option_map (λ t. t.now) given.status)
+  pub content : Has found (codes "content") (option_map (λ t. t.now) given.content)
+  pub script : Has found (codes "script") (option_map (λ t. t.now) given.script)
+  pub device : Has found (codes "device") (option_map (λ t. t.now) given.device)
+  pub limit : Has found (codes "limit") (option_map (λ t. t.now) given.limit)
+  pub mode4 : Sets found (codes "mode4") given.mode4
+  pub quad : Sets found (codes "quad") given.quad
+  pub erased_only : Sets found (codes "erased-only") given.erased_only
+  pub trust : Sets found (codes "trust") given.trust
+
 pub record IsBuildIn (found : Found) (given : GivenBuild) : Type 0 where
   pub job : IsJobIn found given.job
   pub out : Has found (codes "out") (option_map (λ t. t.now) given.out)
@@ -106,6 +122,7 @@ IsAsked matches (command.Check given) = IsUsed matches (codes "check") (λ found
 IsAsked matches (command.Run given) = IsUsed matches (codes "run") (λ found. IsRunIn found given)
 IsAsked matches (command.List given) = IsUsed matches (codes "list") (λ found. IsListIn found given)
 IsAsked matches (command.Draw given) = IsUsed matches (codes "draw") (λ found. IsDrawIn found given)
+IsAsked matches (command.Play given) = IsUsed matches (codes "play") (λ found. IsPlayIn found given)
 IsAsked matches (command.Sfdp given) = IsUsed matches (codes "sfdp") (λ found. IsChipIn found given)
 IsAsked matches (command.Explain words) = IsUsed matches (codes "explain") (λ found. words.items ≡ texts_of found (codes "words"))
 

@@ -23,6 +23,9 @@ const LIST_EXAMPLE: &str = "Example: norprog list --uniform 8192 --script app.sc
 
 const DRAW_EXAMPLE: &str = "Example: norprog draw --script app.script --out app.vcd";
 
+const PLAY_EXAMPLE: &str =
+    "Example: norprog play --uniform 8388608 --content now.bin --script app.script --device /dev/ttyACM0";
+
 const EXPLAIN_EXAMPLE: &str = "Example: norprog explain hex 4";
 
 const SFDP_EXAMPLE: &str = "Example: norprog sfdp --sfdp /sys/bus/spi/devices/spi0.0/spi-nor/sfdp";
@@ -41,6 +44,7 @@ pub(crate) fn norprog<'a>(alloc: Global) -> Result<Command<'a>, AllocError> {
         .subcommand(run(alloc)?)?
         .subcommand(list(alloc)?)?
         .subcommand(draw(alloc)?)?
+        .subcommand(play(alloc)?)?
         .subcommand(sfdp(alloc)?)?
         .subcommand(explain(alloc)?)
 }
@@ -95,6 +99,23 @@ fn draw<'a>(alloc: Global) -> Result<Command<'a>, AllocError> {
         .arg(value(alloc, "from", "K", from))?
         .arg(value(alloc, "steps", "N", steps))?
         .arg(file(alloc, "out", out).required(true))
+}
+
+fn play<'a>(alloc: Global) -> Result<Command<'a>, AllocError> {
+    let command = Command::new(alloc, "play")
+        .about("Plays a script on such a chip behind a serprog device, and says how it ends")
+        .after_help(PLAY_EXAMPLE);
+    let command = with_state(alloc, with_chip(alloc, command)?)?;
+    let device =
+        "The device that speaks serprog, a tty; set before: stty -F DEVICE raw -echo min 0 time 20";
+    let limit = "How often a poll is tried at most: a decimal number from 1 [default: 1000000]";
+    let trust =
+        "Leave out comparing what the chip holds with the content [default: it is compared]";
+    command
+        .arg(script(alloc))?
+        .arg(file(alloc, "device", device).required(true))?
+        .arg(value(alloc, "limit", "N", limit))?
+        .arg(flag(alloc, "trust", trust))
 }
 
 fn sfdp<'a>(alloc: Global) -> Result<Command<'a>, AllocError> {

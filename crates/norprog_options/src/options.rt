@@ -2,14 +2,14 @@
 
 ghost use Rattle.std.specs.Prelude.{◌≡◌, map, IfOk};
 ghost use Rattle.clap.specs.Words.{found_of};
-ghost use Rattle.norprog_options.specs.Options.{texts_of, IsJobIn, IsChipIn, IsDrawIn, IsListIn, IsRunIn, IsAsked, IsAskedBySome};
+ghost use Rattle.norprog_options.specs.Options.{texts_of, IsJobIn, IsChipIn, IsDrawIn, IsListIn, IsPlayIn, IsRunIn, IsAsked, IsAskedBySome};
 
 use crate::arguments::norprog;
 use clap::error::ErrorKind;
 use clap::{ArgMatches, Error};
 use nor_base::Bytes;
 use norprog_words::{
-    Given, GivenBuild, GivenCheck, GivenChip, GivenDraw, GivenList, GivenRun, Refusal,
+    Given, GivenBuild, GivenCheck, GivenChip, GivenDraw, GivenList, GivenPlay, GivenRun, Refusal,
 };
 use std::alloc::Global;
 
@@ -22,6 +22,7 @@ pub enum Asked<'a> {
     Run(GivenRun<'a>),
     List(GivenList<'a>),
     Draw(GivenDraw<'a>),
+    Play(GivenPlay<'a>),
     Sfdp(GivenChip<'a>),
     /// The words that are asked about.
     Explain(Vec<Bytes>),
@@ -68,6 +69,9 @@ fn asked_in<'a>(alloc: Global, matches: &ArgMatches<'a>) -> Result<Asked<'a>, Re
     }
     if let Some(draw) = matches.subcommand_matches("draw") {
         return Ok(Asked::Draw(draw_in(draw)));
+    }
+    if let Some(play) = matches.subcommand_matches("play") {
+        return Ok(Asked::Play(play_in(play)));
     }
     if let Some(chip) = matches.subcommand_matches("sfdp") {
         return Ok(Asked::Sfdp(chip_in(chip)));
@@ -172,6 +176,27 @@ fn draw_in<'a>(draw: &ArgMatches<'a>) -> GivenDraw<'a>
         from: draw.get_str("from"),
         steps: draw.get_str("steps"),
         out: draw.get_str("out"),
+    }
+}
+
+/// The play on a device.
+fn play_in<'a>(play: &ArgMatches<'a>) -> GivenPlay<'a>
+    ensures { IsPlayIn (found_of play.now) result }
+{
+    GivenPlay {
+        sfdp: play.get_str("sfdp"),
+        uniform: play.get_str("uniform"),
+        bits: play.get_str("bits"),
+        part: play.get_str("part"),
+        status: play.get_str("status"),
+        mode4: play.get_flag("mode4"),
+        quad: play.get_flag("quad"),
+        erased_only: play.get_flag("erased-only"),
+        content: play.get_str("content"),
+        script: play.get_str("script"),
+        device: play.get_str("device"),
+        limit: play.get_str("limit"),
+        trust: play.get_flag("trust"),
     }
 }
 

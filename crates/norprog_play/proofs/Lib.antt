@@ -2,3 +2,5 @@ mod TakenLemmas
 mod FollowedLemmas
 mod CarriedLemmas
 mod ComparedLemmas
+mod ServedLemmas
+mod OpenedLemmas

@@ -5,3 +5,11 @@ pub mod Ending
 pub mod Line
 pub mod Compared
 pub mod Likeness
+pub mod Request
+pub mod Served
+pub mod Job
+pub mod Early
+pub mod Opened
+pub mod Played
+pub mod State
+pub mod Answer

@@ -1,23 +1,42 @@
-//! Plays a script on a device that speaks serprog, with a chip in memory beside it (docs/FORMATS.md, section 9).
+//! `norprog play`: plays a script on a device that speaks serprog, with a chip in memory beside it (docs/FORMATS.md, sections 9 and
+//! 14).
+//!
+//! [`play`] does what the texts of a command line ask for. [`job_of`] reads what is to be played from the bytes of the inputs,
+//! [`ends_early`] tells how that ends whatever the device is, [`greet_and_play`] does the work from the handshake on, over any
+//! reader and writer.
 //!
 //! [`play_on_device`] does the work, after the handshake: no step goes out before the script went well on the chip in memory,
 //! each of its steps is one operation of the device and, unless the chip behind the device is trusted, that chip was read whole
 //! and holds what the chip in memory does. [`write_ending`] tells how it ended.
 #![tactic(auto)]
 
+mod command;
 mod content;
 mod device;
+mod early;
 mod ending;
 mod follow;
+mod greeted;
+mod job;
 mod likeness;
 mod line;
 mod rehearsal;
+mod request;
+mod state;
 mod step;
+mod unplayed;
 mod within;
 
+pub use command::play;
 pub use content::compare;
 pub use device::play_on_device;
+pub use early::ends_early;
 pub use ending::Ending;
+pub use greeted::greet_and_play;
+pub use job::{Job, job_of};
 pub use line::write_ending;
+pub use norprog_words::GivenPlay;
 pub use rehearsal::{Rehearsal, rehearse};
+pub use request::{PlayRequest, request_of};
+pub use unplayed::Unplayed;
 pub use within::carried;

@@ -86,7 +86,7 @@ fn write_failed<W: ByteOut>(step: u64, why: &[u8], writer: &mut W) -> Result<(),
 }
 
 /// The word of an exchange that ended early.
-fn word(fault: Fault) -> &'static [u8]
+pub(crate) fn word(fault: Fault) -> &'static [u8]
     ensures { result.now ≡ fault_word fault }
 {
     match fault {

@@ -4,8 +4,9 @@ use crate::line::{Line, line_of};
 use nor_base::{Bytes, IntoWrite};
 use norprog_command::{build, check, plan, sfdp};
 use norprog_list::list;
+use norprog_play::play;
 use norprog_run::run;
-use norprog_words::{Given, GivenBuild, GivenCheck, GivenChip, GivenList, GivenRun};
+use norprog_words::{Given, GivenBuild, GivenCheck, GivenChip, GivenList, GivenPlay, GivenRun};
 use std::alloc::{AllocError, Global};
 use std::{fs, io};
 
@@ -73,6 +74,9 @@ fn status_of(
     }
     if command == "list" {
         return Ok(list(rt, Ok(list_in(line)), &mut out, &mut err));
+    }
+    if command == "play" {
+        return Ok(play(rt, Ok(play_in(line)), &mut out, &mut err));
     }
     if command == "sfdp" {
         return Ok(sfdp(rt, Ok(chip_in(line)), &mut out, &mut err));
@@ -171,5 +175,24 @@ fn run_in<'a>(line: &Line<'a>) -> GivenRun<'a> {
         limit: line.value("--limit"),
         page: line.value("--page"),
         out: line.value("--out"),
+    }
+}
+
+/// The play on a device of a line.
+fn play_in<'a>(line: &Line<'a>) -> GivenPlay<'a> {
+    GivenPlay {
+        sfdp: line.value("--sfdp"),
+        uniform: line.value("--uniform"),
+        bits: line.value("--bits"),
+        part: line.value("--part"),
+        status: line.value("--status"),
+        mode4: line.has("--mode4"),
+        quad: line.has("--quad"),
+        erased_only: line.has("--erased-only"),
+        content: line.value("--content"),
+        script: line.value("--script"),
+        device: line.value("--device"),
+        limit: line.value("--limit"),
+        trust: line.has("--trust"),
     }
 }

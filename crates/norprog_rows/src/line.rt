@@ -25,24 +25,29 @@ fn form_of(command: &str, word: &str) -> Option<Form> {
     let is_job = matches!(command, "build" | "plan" | "check");
     let is_run = command == "run";
     let is_list = command == "list";
+    let is_play = command == "play";
+    let is_chip = is_job || is_run || is_play;
     match word {
         "--sfdp" | "--uniform" | "--bits" | "--part" | ">" | "2>" => Some(Form::Value),
-        "--content" if is_job || is_run => Some(Form::Value),
-        "--status" if is_job || is_run || is_list => Some(Form::Value),
-        "--mode4" | "--quad" | "--erased-only" if is_job || is_run || is_list => Some(Form::Flag),
+        "--content" if is_chip => Some(Form::Value),
+        "--status" if is_chip || is_list => Some(Form::Value),
+        "--mode4" | "--quad" | "--erased-only" if is_chip || is_list => Some(Form::Flag),
         "--hex" | "--layout" | "--base" if is_job => Some(Form::Value),
         "--verify" if is_job && command != "check" => Some(Form::Flag),
         "--out" if is_run || command == "build" => Some(Form::Value),
-        "--script" if is_run || is_list || command == "check" => Some(Form::Value),
-        "--busy" | "--limit" | "--page" if is_run => Some(Form::Value),
+        "--script" if is_run || is_list || is_play || command == "check" => Some(Form::Value),
+        "--limit" if is_run || is_play => Some(Form::Value),
+        "--busy" | "--page" if is_run => Some(Form::Value),
         "--keep" if is_run => Some(Form::Flag),
+        "--device" if is_play => Some(Form::Value),
+        "--trust" if is_play => Some(Form::Flag),
         _ => None,
     }
 }
 
 /// Whether names of regions may stand behind a command.
 fn has_names(command: &str) -> bool {
-    !matches!(command, "run" | "list" | "sfdp")
+    !matches!(command, "run" | "list" | "play" | "sfdp")
 }
 
 /// Takes the words behind a command apart; `''` is an empty one.

@@ -6,6 +6,7 @@ use norprog_draw::draw;
 use norprog_explain::explain;
 use norprog_list::list;
 use norprog_options::{Asked, asked_by};
+use norprog_play::play;
 use norprog_run::run;
 use norprog_words::refuse;
 use std::alloc::{AllocError, Global};
@@ -62,6 +63,7 @@ fn status_of(rt: &HostRuntime, words: &[String]) -> io::Result<u8> {
         Ok(Asked::Run(given)) => run(rt, Ok(given), &mut out, &mut err),
         Ok(Asked::List(given)) => list(rt, Ok(given), &mut out, &mut err),
         Ok(Asked::Draw(given)) => draw(rt, Ok(given), &mut err),
+        Ok(Asked::Play(given)) => play(rt, Ok(given), &mut out, &mut err),
         Ok(Asked::Sfdp(given)) => sfdp(rt, Ok(given), &mut out, &mut err),
         Ok(Asked::Explain(words)) => explain(words.as_slice(), &mut out, &mut err),
         Err(refusal) => refuse(&refusal, &mut err),

@@ -60,7 +60,7 @@ fn do_row(rt: &HostRuntime, row: &Row<'_>, found: &mut String) -> io::Result<()>
         None => (row.asked, ""),
     };
     match word {
-        "build" | "plan" | "check" | "run" | "list" | "sfdp" => {
+        "build" | "plan" | "check" | "run" | "list" | "play" | "sfdp" => {
             commands::command(rt, word, rest, found)
         }
         "norprog" => program::program(rt, rest, row.given, found),

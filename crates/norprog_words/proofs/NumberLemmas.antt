@@ -1,5 +1,5 @@
 -- What std's parsers of digits answer, as the forms of values say it.
-use Rattle.std.proofs.Common.{◌≡◌, ℕ, ◌<◌, ◌≤◌, ◌^◌, Bool, true, false, ◌&&◌, ◌==◌, List, [], ◌∷◌, length, Some, None, Err, slice_index, refl, sym, ap, ◌∙◌, subst, arith}
+use Rattle.std.proofs.Common.{◌≡◌, ◌≢◌, ℕ, ◌<◌, ◌≤◌, ◌^◌, Bool, true, false, ◌&&◌, ◌==◌, List, [], ◌∷◌, length, Some, None, Err, slice_index, refl, sym, ap, ◌∙◌, subst, arith}
 use Rattle.std.specs.Prelude.{nat_lt, if◌then◌else◌}
 use Rattle.std.proofs.Math.Nat.{pow-le-pow_right}
 use Rattle.std.proofs.lemmas.Bool.{ltb-true, lt-ltb, eqb-false, and_parts, and_from, false_from_ne_true}
@@ -8,7 +8,7 @@ use Rattle.std.proofs.lemmas.Int.Digits.{digits_value-lt}
 use Rattle.std.specs.List.{list_all}
 use Rattle.std.specs.Char.{is_digit, digit_value}
 use Rattle.std.specs.Str.Parse.{AllDigits, IsNumeral, ParsesUnsigned, digits_value, without_leading_plus}
-use Rattle.norprog_words.specs.Values.{are_digits, decimal_of, hexadecimal_of}
+use Rattle.norprog_words.specs.Values.{are_digits, decimal_of, hexadecimal_of, limit_of}
 
 pub digits_all : (radix : ℕ) (text : List ℕ) → AllDigits radix text → list_all (λ c. is_digit c radix) text ≡ true
 digits_all radix [] each = refl
@@ -78,3 +78,56 @@ hexadecimal_refused text e plain few parses =
     let fails : are_digits 16 text ≡ false =
     false_from_ne_true (are_digits 16 text) (λ is. let numeral = digits_numeral 16 text is in refused (numeral, value_fits text numeral.1 few)) in
     sym (ap (λ (b : Bool). if b then Some (digits_value 16 text) else None) fails)
+
+-- the test of a limit
+abbrev is_limit : List ℕ → Bool
+is_limit text = are_digits 10 text && (nat_lt 0 (digits_value 10 text) && nat_lt (digits_value 10 text) (2 ^ 64))
+
+limit_is : (text : List ℕ) → is_limit text ≡ true → limit_of text ≡ Some (digits_value 10 text)
+limit_is text passes = ap (λ (b : Bool). if b then Some (digits_value 10 text) else None) passes
+
+limit_is_none : (text : List ℕ) → is_limit text ≡ false → limit_of text ≡ None
+limit_is_none text fails = ap (λ (b : Bool). if b then Some (digits_value 10 text) else None) fails
+
+limit_parts : (text : List ℕ) → is_limit text ≡ true → (are_digits 10 text ≡ true) × (0 < digits_value 10 text) × (digits_value 10 text < 2 ^ 64)
+limit_parts text passes =
+    let first = and_parts (are_digits 10 text) (nat_lt 0 (digits_value 10 text) && nat_lt (digits_value 10 text) (2 ^ 64)) passes in
+    let second = and_parts (nat_lt 0 (digits_value 10 text)) (nat_lt (digits_value 10 text) (2 ^ 64)) first.1 in
+    (first.0, ltb-true 0 (digits_value 10 text) second.0, ltb-true (digits_value 10 text) (2 ^ 64) second.1)
+
+-- a number of 64 bits without a plus
+whole_read : (text : List ℕ) (n : ℕ) → (slice_index text 0 == 43) ≡ false
+    → (IsNumeral 10 (without_leading_plus text) × (digits_value 10 (without_leading_plus text) < 2 ^ 64)) × (n ≡ digits_value 10 (without_leading_plus text))
+    → (IsNumeral 10 text × (digits_value 10 text < 2 ^ 64)) × (n ≡ digits_value 10 text)
+whole_read text n plain parses =
+    subst (λ (t : List ℕ). (IsNumeral 10 t × (digits_value 10 t < 2 ^ 64)) × (n ≡ digits_value 10 t)) (without_plus text plain) parses
+
+pub limit_read : (text : List ℕ) (n : ℕ) → (slice_index text 0 == 43) ≡ false → n ≢ 0
+    → (IsNumeral 10 (without_leading_plus text) × (digits_value 10 (without_leading_plus text) < 2 ^ 64)) × (n ≡ digits_value 10 (without_leading_plus text))
+    → Some n ≡ limit_of text
+limit_read text n plain some parses =
+    let is = whole_read text n plain parses in
+    let positive : 0 < digits_value 10 text = omega (arith, is.1, some) in
+    ap Some is.1 ∙ sym (limit_is text (and_from (are_digits 10 text) (nat_lt 0 (digits_value 10 text) && nat_lt (digits_value 10 text) (2 ^ 64))
+    (numeral_digits 10 text is.0.0)
+    (and_from (nat_lt 0 (digits_value 10 text)) (nat_lt (digits_value 10 text) (2 ^ 64)) (lt-ltb 0 (digits_value 10 text) positive)
+    (lt-ltb (digits_value 10 text) (2 ^ 64) is.0.1))))
+
+pub limit_zero : (text : List ℕ) (n : ℕ) → (slice_index text 0 == 43) ≡ false → n ≡ 0
+    → (IsNumeral 10 (without_leading_plus text) × (digits_value 10 (without_leading_plus text) < 2 ^ 64)) × (n ≡ digits_value 10 (without_leading_plus text))
+    → None ≡ limit_of text
+limit_zero text n plain none parses =
+    let is = whole_read text n plain parses in
+    sym (limit_is_none text (false_from_ne_true (is_limit text) (λ passes.
+    let parts = limit_parts text passes in
+    let more : 0 < digits_value 10 text = parts.1 in
+    absurd (omega (arith, more, is.1, none)))))
+
+pub limit_refused : {E : Type 0} (text : List ℕ) (e : E) → (slice_index text 0 == 43) ≡ false → ParsesUnsigned {E = E} 64 10 text (Err e)
+    → None ≡ limit_of text
+limit_refused text e plain parses =
+    let refused : ¬ (IsNumeral 10 text × (digits_value 10 text < 2 ^ 64)) =
+    subst (λ (t : List ℕ). ¬ (IsNumeral 10 t × (digits_value 10 t < 2 ^ 64))) (without_plus text plain) parses in
+    sym (limit_is_none text (false_from_ne_true (is_limit text) (λ passes.
+    let parts = limit_parts text passes in
+    refused (digits_numeral 10 text parts.0, parts.2))))

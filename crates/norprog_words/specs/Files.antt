@@ -1,5 +1,5 @@
 -- Why a file of the command line can't be used (this project's).
-use Rattle.std.specs.Prelude.{◌≡◌, ⊤}
+use Rattle.std.specs.Prelude.{◌≡◌, ⊤, ℕ, Bool, ◌/◌, ◌%◌, ◌==◌}
 use Rattle.nor_job.specs.declared.fault.BuildFault.TheVariants.{Memory}
 use Rattle.norprog_words.specs.declared.faults.FileName.{FileName}
 use Rattle.norprog_words.specs.declared.faults.Refusal.{Refusal}
@@ -16,3 +16,7 @@ abbrev pub IsOfFiles : Refusal → Type 0
 IsOfFiles (File told) = ⊤
 IsOfFiles (Build Memory) = ⊤
 IsOfFiles other = ⊥
+
+-- bits 12 to 15 of a file's mode tell its kind: 2 is a character device (POSIX, S_IFMT and S_IFCHR)
+abbrev pub is_character_device : ℕ → Bool
+is_character_device mode = mode / 4096 % 16 == 2

@@ -13,7 +13,7 @@ use Rattle.nor_geometry.specs.declared.fault.PlanFault.{PlanFault}
 use Rattle.nor_geometry.specs.declared.fault.PlanFault.TheVariants as plan
 use Rattle.nor_script.specs.declared.fault.ScriptFault.{ScriptFault}
 use Rattle.nor_script.specs.declared.fault.ScriptFault.TheVariants as script
-use Rattle.nor_outline.specs.Outline.{hex_number}
+use Rattle.nor_script.specs.Hexadecimal.{hex_number}
 use Rattle.norprog_words.specs.declared.faults.Behind.{Behind}
 use Rattle.norprog_words.specs.declared.faults.Behind.TheVariants.{Nothing, Number, Address}
 use Rattle.norprog_words.specs.declared.faults.FileName.{FileName}
@@ -103,6 +103,7 @@ file_text file.Sfdp = codes "file sfdp"
 file_text file.Content = codes "file content"
 file_text file.Script = codes "file script"
 file_text file.Out = codes "file out"
+file_text file.Device = codes "file device"
 
 -- `norprog: `, a text, LF
 abbrev pub program_line : List ℕ → List ℕ

@@ -13,8 +13,7 @@ use nor_geometry::PlanFault;
 use nor_hex::HexFault;
 use nor_job::BuildFault;
 use nor_layout::LayoutFault;
-use nor_outline::hex_number;
-use nor_script::ScriptFault;
+use nor_script::{ScriptFault, hex_number};
 use nor_sfdp::SfdpFault;
 use std::alloc::{AllocError, AllocFailed};
 
@@ -27,6 +26,7 @@ pub enum FileName {
     Content,
     Script,
     Out,
+    Device,
 }
 
 /// What stands behind the words of a refusal.
@@ -168,6 +168,7 @@ fn file_words(name: FileName) -> &'static [u8]
         FileName::Content => b"file content",
         FileName::Script => b"file script",
         FileName::Out => b"file out",
+        FileName::Device => b"file device",
     }
 }
 

@@ -1,13 +1,14 @@
 //! The files that a command line names.
 
-ghost use Rattle.std.specs.Prelude.{◌≤◌, ◌^◌, length, IfOk, IfErr};
-ghost use Rattle.norprog_words.specs.declared.faults.FileName.TheVariants.{Sfdp, Out};
-ghost use Rattle.norprog_words.specs.Files.{RefusesFile, IsOfFiles};
+ghost use Rattle.std.specs.Prelude.{◌≡◌, ◌≤◌, ◌^◌, length, true, IfOk, IfErr, MatchResult};
+ghost use Rattle.std.specs.Fs.{metadata_mode};
+ghost use Rattle.norprog_words.specs.declared.faults.FileName.TheVariants.{Sfdp, Out, Device};
+ghost use Rattle.norprog_words.specs.Files.{RefusesFile, IsOfFiles, is_character_device};
 
 use crate::chip::Chip;
 use crate::faults::{FileName, Refusal};
 use std::alloc::{AllocGlobal, Global};
-use std::fs::{self, Files, OpenFile};
+use std::fs::{self, Files, Metadata, OpenFile, OpenOptions};
 use std::io::{self, Read};
 use std::os::unix::fs::MetadataExt;
 
@@ -111,6 +112,48 @@ pub fn create_output<R: Files>(rt: &R, path: &str, inputs: &[Place]) -> Result<R
         Ok(file) => Ok(file),
         Err(error) => Err(refusal_of(&error, FileName::Out)),
     }
+}
+
+/// Opens a character device twice, to read from it and to write to it. Nothing else is opened to write, nor changed.
+///
+/// Where it isn't one, can't be opened or asked, `File` of `Device`; `Memory` where the system says that it lacks that.
+pub fn open_device<R: Files>(rt: &R, path: &str) -> Result<(R::File, R::File), Refusal>
+    ensures refused { IfErr result (RefusesFile Device) }
+    ensures files { IfErr result IsOfFiles }
+{
+    only_device(fs::metadata(rt, path))?;
+    let from = match fs::open(rt, path) {
+        Ok(file) => file,
+        Err(error) => return Err(refusal_of(&error, FileName::Device)),
+    };
+    let to = match OpenOptions::new().write(true).open(rt, path) {
+        Ok(file) => file,
+        Err(error) => return Err(refusal_of(&error, FileName::Device)),
+    };
+    // the name may have come to mean another file since it was asked about
+    only_device(from.metadata())?;
+    only_device(to.metadata())?;
+    Ok((from, to))
+}
+
+/// Refuses what isn't known to be a character device.
+fn only_device(metadata: io::Result<Metadata>) -> Result<(), Refusal>
+    ensures device { IfOk result (λ _. MatchResult metadata (λ m. is_character_device (metadata_mode m) ≡ true) (λ _. ⊥)) }
+    ensures refused { IfErr result (RefusesFile Device) }
+    ensures files { IfErr result IsOfFiles }
+{
+    match metadata {
+        Ok(metadata) if is_character_device(metadata.mode()) => Ok(()),
+        Ok(_) => Err(Refusal::File(FileName::Device)),
+        Err(error) => Err(refusal_of(&error, FileName::Device)),
+    }
+}
+
+/// Whether a file of this mode, the kind of file and its permissions, is a character device.
+fn is_character_device(mode: u32) -> bool
+    ensures { result ≡ is_character_device mode }
+{
+    mode / 4096 % 16 == 2
 }
 
 /// Whether the file of this name is there and is one of the inputs.

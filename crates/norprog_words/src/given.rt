@@ -86,3 +86,21 @@ pub struct GivenRun<'a> {
     pub page: Option<&'a str>,
     pub out: Option<&'a str>,
 }
+
+/// Of `play`.
+#[derive(Clone, Copy)]
+pub struct GivenPlay<'a> {
+    pub sfdp: Option<&'a str>,
+    pub uniform: Option<&'a str>,
+    pub bits: Option<&'a str>,
+    pub part: Option<&'a str>,
+    pub status: Option<&'a str>,
+    pub mode4: bool,
+    pub quad: bool,
+    pub erased_only: bool,
+    pub content: Option<&'a str>,
+    pub script: Option<&'a str>,
+    pub device: Option<&'a str>,
+    pub limit: Option<&'a str>,
+    pub trust: bool,
+}

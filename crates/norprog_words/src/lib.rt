@@ -11,7 +11,9 @@ mod wrongs;
 
 pub use chip::{Chip, chip_of, optional_status, source_of};
 pub use faults::{FileName, Refusal, refuse};
-pub use files::{Place, create_output, open_input, read_tables, read_whole};
-pub use given::{Given, GivenBuild, GivenCheck, GivenChip, GivenDraw, GivenList, GivenRun};
-pub use values::{base, decimal, part};
+pub use files::{Place, create_output, open_device, open_input, read_tables, read_whole};
+pub use given::{
+    Given, GivenBuild, GivenCheck, GivenChip, GivenDraw, GivenList, GivenPlay, GivenRun,
+};
+pub use values::{base, decimal, limit, part};
 pub use wrongs::wrong_number;

@@ -1,7 +1,7 @@
 //! The forms of values.
 
 ghost use Rattle.std.specs.Prelude.{◌≡◌, ◌==◌, ◌≤◌, length, slice_index};
-ghost use Rattle.norprog_words.specs.Values.{decimal_of, base_of, status_of, hexadecimal_of, part_of};
+ghost use Rattle.norprog_words.specs.Values.{decimal_of, limit_of, base_of, status_of, hexadecimal_of, part_of};
 
 use nor_base::Part;
 
@@ -23,6 +23,23 @@ pub fn decimal(text: &str) -> Option<u32>
         Ok(value) => Some(value),
         Err(_) => None,
     }
+}
+
+/// The value of decimal digits from 1 on that has 64 bits, which any number of zeros may lead. Else None.
+pub fn limit(text: &str) -> Option<u64>
+    ensures { result ≡ limit_of text.now }
+{
+    if has_plus(text) {
+        return None;
+    }
+    let value = match text.parse::<u64>() {
+        Ok(value) => value,
+        Err(_) => return None,
+    };
+    if value == 0 {
+        return None;
+    }
+    Some(value)
 }
 
 /// The value of 1 to 8 hexadecimal digits of either case. Else None.

@@ -43,9 +43,14 @@ pub(crate) const TOPICS: &[Topic] = &[
          whatever name (a link counts). Name another file. No input was touched.",
     ),
     (
+        "file device",
+        "The device isn't there, may not be read and written, or is no character device,\n\
+         as a tty is. Look at its name and rights. Nothing was sent to it.",
+    ),
+    (
         "file",
         "A file of the command line can't be used; the word behind it says which one:\n\
-         hex, layout, sfdp, content, script or out. Ask for these two words.",
+         hex, layout, sfdp, content, script, out or device. Ask for these two words.",
     ),
     (
         "contradiction 1",

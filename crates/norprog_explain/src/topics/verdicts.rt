@@ -55,7 +55,8 @@ pub(crate) const TOPICS: &[Topic] = &[
     (
         "wrong 6",
         "PollNever: one poll was busy for as many turns as --limit allows. Give a\n\
-         greater limit, or shorter busy times.",
+         greater limit, or shorter busy times. On a device the chip may hold a part of\n\
+         the work: read it again, and build anew from that dump.",
     ),
     (
         "wrong 7",

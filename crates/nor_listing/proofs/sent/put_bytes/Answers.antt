@@ -3,7 +3,7 @@ use Rattle.std.proofs.Common.{◌∙◌, refl, arith}
 use Rattle.nor_base.specs.Decoding.{instruction}
 use Rattle.nor_base.proofs.DeviceLaws.{Writes-cut}
 use Rattle.nor_decode.specs.Seen.{transaction_of}
-use Rattle.nor_listing.proofs.PartLemmas.{part_put, part_cut}
+use Rattle.nor_script.proofs.HexLemmas.{part_put, part_cut}
 use Rattle.nor_listing.proofs.sent.put_bytes.Goals as goal
 
 pub loop-done-preserved : goal.loop-done-preserved

@@ -16,7 +16,7 @@ returns-in_err-put_parts-clause-bytes g c =
 pub returns-in_err-put_hexadecimal-clause-bytes : goal.returns-in_err-put_hexadecimal-clause-bytes
 returns-in_err-put_hexadecimal-clause-bytes g c =
     Writes-cut _ _ _ _ c.from_residual-in_err-put_hexadecimal.ensures.0
-    (subst (Cuts (g.W.ByteOut.held c.args.writer.now) (g.W.ByteOut.held c.put_hexadecimal.new.writer)) (clocks_then_digits c.args.clocks.now c.args.expect.now)
+    (subst (Cuts (g.W.ByteOut.held c.args.writer.now) (g.W.ByteOut.held c.put_hexadecimal.new.out)) (clocks_then_digits c.args.clocks.now c.args.expect.now)
     (Cuts-then _ _ _ (front_of_verify c.args.clocks.now) (digits_of_verify c.args.expect.now) c.in_ok-put_parts.ensures.bytes
     (Cuts-more _ _ (flat_map hex_pair c.args.expect.now) (10 ∷ []) c.in_err-put_hexadecimal.ensures.bytes)))
 

@@ -2,7 +2,7 @@
 use Rattle.std.proofs.Common.{◌∙◌, sym, subst}
 use Rattle.nor_base.specs.declared.meaning.Strategy.{Strategy}
 use Rattle.nor_base.specs.Parameters.{Parameters}
-use Rattle.nor_plan_lines.specs.Told.{TellsStretch, StopsTelling}
+use Rattle.nor_outline.specs.Told.{TellsStretch, StopsTelling}
 use Rattle.norprog.proofs.FaultLemmas.{handed_on}
 use Rattle.norprog.proofs.KindLemmas.{steps_wrote, lines_stop}
 use Rattle.norprog.proofs.windows.write_text.Goals as goal

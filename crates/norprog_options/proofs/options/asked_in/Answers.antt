@@ -54,15 +54,23 @@ returns-in-Some-subcommand_matches-5 c = record {
 pub returns-in-Some-subcommand_matches-6 : goal.returns-in-Some-subcommand_matches-6
 returns-in-Some-subcommand_matches-6 c = record {
   named = c.in-Some-subcommand_matches-6.ensures.found.0 refl;
-  found = found_of c.in-Some-subcommand_matches-6.chip.now;
+  found = found_of c.in-Some-subcommand_matches-6.play.now;
   behind = c.in-Some-subcommand_matches-6.ensures.rows;
+  so = c.play_in.ensures;
+}
+
+pub returns-in-Some-subcommand_matches-7 : goal.returns-in-Some-subcommand_matches-7
+returns-in-Some-subcommand_matches-7 c = record {
+  named = c.in-Some-subcommand_matches-7.ensures.found.0 refl;
+  found = found_of c.in-Some-subcommand_matches-7.chip.now;
+  behind = c.in-Some-subcommand_matches-7.ensures.rows;
   so = c.chip_in.ensures;
 }
 
-pub returns-in_ok-texts_in-in-Some-subcommand_matches-7 : goal.returns-in_ok-texts_in-in-Some-subcommand_matches-7
-returns-in_ok-texts_in-in-Some-subcommand_matches-7 c = record {
-  named = c.in-Some-subcommand_matches-7.ensures.found.0 refl;
-  found = found_of c.in-Some-subcommand_matches-7.explain.now;
-  behind = c.in-Some-subcommand_matches-7.ensures.rows;
-  so = c.in_ok-texts_in-in-Some-subcommand_matches-7.ensures;
+pub returns-in_ok-texts_in-in-Some-subcommand_matches-8 : goal.returns-in_ok-texts_in-in-Some-subcommand_matches-8
+returns-in_ok-texts_in-in-Some-subcommand_matches-8 c = record {
+  named = c.in-Some-subcommand_matches-8.ensures.found.0 refl;
+  found = found_of c.in-Some-subcommand_matches-8.explain.now;
+  behind = c.in-Some-subcommand_matches-8.ensures.rows;
+  so = c.in_ok-texts_in-in-Some-subcommand_matches-8.ensures;
 }

@@ -2,7 +2,7 @@
 use Rattle.std.proofs.Common.{ℕ, List, [], ◌∷◌, ◌++◌, ◌∙◌, sym, subst}
 use Rattle.std.specs.Prelude.{codes, decimal}
 use Rattle.nor_base.specs.Device.{Writes}
-use Rattle.nor_outline.specs.Outline.{hex_number}
+use Rattle.nor_script.specs.Hexadecimal.{hex_number}
 use Rattle.norprog_words.specs.declared.faults.Behind.{Behind}
 use Rattle.norprog_words.specs.Lines.{spelled, program_line}
 use Rattle.norprog_words.proofs.LineLemmas.{words_then}

@@ -1,0 +1,63 @@
+-- The cells of a chip's map, and what a plan does to each (this project's).
+use Rattle.std.specs.Prelude.{ℕ, zero, suc, ◌+◌, ◌-◌, ◌*◌, Bool, false, ◌&&◌, ◌==◌, nat_le, max, if◌then◌else◌, Option, Some, None, List, map}
+use Rattle.std.specs.List.{list_any, range_with_len}
+use Rattle.std.specs.Option.{option_map_or}
+use Rattle.nor_plan_read.specs.declared.line.PlanLine.{PlanLine}
+use Rattle.nor_plan_read.specs.declared.line.PlanLine.TheVariants.{Erase, Because, Program}
+use Rattle.nor_map.specs.declared.cells.Work.{Work}
+use Rattle.nor_map.specs.declared.cells.Work.TheVariants.{Erased, Programmed}
+
+-- this address is one of those from the first to the last, both included
+abbrev pub lies_in : ℕ × ℕ → ℕ → Bool
+lies_in run a = nat_le run.0 a && nat_le a run.1
+
+-- so many bytes from an address on, by their first and last address; no bytes have none
+abbrev pub bytes_from : ℕ → ℕ → Option (ℕ × ℕ)
+bytes_from start count = if count == 0 then None else Some (start, start + (count - 1))
+
+-- the bytes that a line of a plan says are erased, or programmed
+abbrev pub run_of : Work → PlanLine → Option (ℕ × ℕ)
+run_of Erased (Erase start size opcode) = bytes_from start size
+run_of Erased (Because start cause) = None
+run_of Erased (Program start count) = None
+run_of Programmed (Erase start size opcode) = None
+run_of Programmed (Because start cause) = None
+run_of Programmed (Program start count) = bytes_from start count
+
+-- the line erases, or programs, the byte at this address
+abbrev pub works : Work → PlanLine → ℕ → Bool
+works work line a = option_map_or (λ run. lies_in run a) (run_of work line) false
+
+-- the plan erases, or programs, the byte at this address
+abbrev pub is_worked : Work → List PlanLine → ℕ → Bool
+is_worked work lines a = list_any (λ line. works work line a) lines
+
+-- some byte of this cell is so, of cells of so many bytes
+abbrev pub some_byte : ℕ → (ℕ → Bool) → ℕ → Bool
+some_byte cell test c = list_any test (range_with_len (c * cell) cell)
+
+-- of each of so many cells whether some byte of it is so
+abbrev pub some_bytes : ℕ → ℕ → (ℕ → Bool) → List Bool
+some_bytes cell count test = map (some_byte cell test) (range_with_len 0 count)
+
+-- a size doubled, at most so often, until at most 65,536 cells of it hold the chip
+unfoldable pub doubled : ℕ → ℕ → ℕ → ℕ
+doubled zero cell size = cell
+doubled (suc more) cell size = if nat_le size (65536 * cell) then cell else doubled more (2 * cell) size
+
+-- the bytes of a cell: the page, doubled until at most 65,536 cells hold the chip
+abbrev pub cell_size : ℕ → ℕ → ℕ
+cell_size size page = doubled 16 (max page 1) size
+
+-- the cells of a row: the least power of two whose square holds them all, 256 at most
+abbrev pub columns_for : ℕ → ℕ
+columns_for cells =
+    if nat_le cells 1 then 1
+    else if nat_le cells 4 then 2
+    else if nat_le cells 16 then 4
+    else if nat_le cells 64 then 8
+    else if nat_le cells 256 then 16
+    else if nat_le cells 1024 then 32
+    else if nat_le cells 4096 then 64
+    else if nat_le cells 16384 then 128
+    else 256

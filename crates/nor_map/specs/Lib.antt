@@ -1,0 +1,4 @@
+pub mod Cells
+pub mod Marks
+pub mod Grid
+pub mod Worked

@@ -1,0 +1,107 @@
+//! The cells of a chip in rows.
+
+ghost use Rattle.std.specs.Prelude.{◌≡◌, ◌<◌, ◌≤◌, ◌/◌, IfOk};
+ghost use Rattle.std.specs.Int.{div_ceil};
+ghost use Rattle.nor_layout.specs.Chosen.{has};
+ghost use Rattle.nor_map.specs.Grid.{grid_of, scale, state_at};
+
+use crate::cells::{Work, chosen_cells, worked_cells};
+use crate::sizes::{cell_size, columns_for};
+use crate::state::State;
+use nor_layout::Chosen;
+use nor_plan_read::PlanLine;
+use std::alloc::{AllocError, Global};
+use std::marker::Model;
+
+/// The cells of a chip in rows, at most 65,536 of them in rows of at most 256, and what a plan does to each.
+#[derive(Drop, Debug)]
+pub struct Grid {
+    pub(crate) size: u32,
+    pub(crate) cell: u32,
+    pub(crate) count: u32,
+    pub(crate) columns: u32,
+    chosen: Vec<bool>,
+    erased: Vec<bool>,
+    programmed: Vec<bool>,
+}
+
+impl Model for Grid {
+    ghost use Rattle.nor_map.specs.Grid.{Grid, IsGrid};
+
+    ghost Value = { Grid };
+
+    ghost view = { λ g. record {
+      size = g.size;
+      cell = g.cell;
+      count = g.count;
+      columns = g.columns;
+      chosen = g.chosen.items;
+      erased = g.erased.items;
+      programmed = g.programmed.items;
+    } };
+
+    ghost invariant = { λ g. IsGrid g.cell g.count g.columns g.chosen.items g.erased.items g.programmed.items };
+}
+
+impl Grid {
+    /// The grid of a chip of `size` bytes and this page, under a plan of these lines, with what is chosen of it. A cell has as many
+    /// bytes as a page, doubled until 65,536 cells hold the chip; a row has so many cells that it is about as wide as the grid is
+    /// high, a power of two.
+    ///
+    /// Its time grows with the number of lines and of the cells that each touches, and of cells times regions chosen. An error comes
+    /// where memory was refused.
+    pub fn of(
+        alloc: Global,
+        size: u32,
+        page: u32,
+        lines: &[PlanLine],
+        chosen: &Chosen,
+    ) -> Result<Grid, AllocError>
+        ensures { IfOk result (λ grid. grid ≡ grid_of size page lines.now (has chosen.now)) }
+    {
+        let cell = cell_size(size, page);
+        let count = size.div_ceil(cell);
+        let bytes = u64::from(cell);
+        Ok(Grid {
+            size,
+            cell,
+            count,
+            columns: columns_for(count),
+            chosen: chosen_cells(alloc, count, cell, chosen)?,
+            erased: worked_cells(alloc, count, bytes, Work::Erased, lines)?,
+            programmed: worked_cells(alloc, count, bytes, Work::Programmed, lines)?,
+        })
+    }
+
+    /// How many cells there are.
+    pub fn count(&self) -> u32
+        ensures { result ≡ self.now.count }
+    {
+        self.count
+    }
+
+    /// How many cells a row has.
+    pub fn columns(&self) -> u32
+        ensures value { result ≡ self.now.columns }
+        ensures some { 0 < result }
+        ensures few { result ≤ 256 }
+    {
+        self.columns
+    }
+
+    /// The state of a cell, counted from 0.
+    pub fn state(&self, c: u32) -> State
+        requires { c < self.now.count }
+        ensures { result ≡ state_at self.now c }
+    {
+        let c = c as usize;
+        State::of(self.chosen[c], self.erased[c], self.programmed[c])
+    }
+
+    /// How many units a cell is wide and high, where a full row is 1024 wide.
+    pub fn scale(&self) -> u32
+        ensures { result ≡ scale self.now }
+    {
+        1024 / self.columns
+    }
+}

@@ -1,0 +1,115 @@
+//! The lines of a window's units.
+
+ghost use Rattle.std.specs.Prelude.{◌≡◌, ◌≤◌, ◌<◌, ◌+◌, ◌-◌, ◌^◌, length, IfOk, IfErr};
+ghost use Rattle.nor_geometry.specs.Plan.{IsWindow};
+ghost use Rattle.nor_outline.specs.Outline.{IsPlanned};
+ghost use Rattle.nor_pages.specs.Runs.{IsUnit, unit_start};
+ghost use Rattle.nor_outline.specs.Told.{IsWindowPlan, TellsStretch, StopsTelling, TellsUnit};
+ghost use Rattle.nor_steps.specs.Faults.{CountsSteps, IsOfWriting};
+ghost use Rattle.nor_steps.specs.Units.{unit_size};
+
+use crate::writer::write_unit;
+use nor_base::{ByteOut, Meaning, Strategy};
+use nor_erase::plan;
+use nor_geometry::PlanUnit;
+use nor_pages::split;
+use nor_steps::StepsFault;
+use nor_work::erased_blocks;
+use std::alloc::Global;
+
+/// Plans the units that start in a window of the chip, and writes their lines: `have` is what it holds from `at` on,
+/// `want` what it must hold.
+///
+/// `Plan` where an address of the window is at fault: it names the lowest, and nothing was written then. `Write` where
+/// the writer fails; `Memory` where a growth is refused.
+pub fn write_window<W: ByteOut>(
+    alloc: Global,
+    meaning: &Meaning,
+    strategy: Strategy,
+    at: u32,
+    have: &[u8],
+    want: &[u8],
+    out: &mut W,
+) -> Result<(), StepsFault>
+    requires lengths { length have.now ≡ length want.now }
+    requires window { IsWindow meaning.now strategy at (length have.now) }
+    requires writer { W.count out.old < 2 ^ 64 - 1 }
+    ensures told { IfOk result (λ _. TellsStretch meaning.now strategy (W.held out.old) (W.held out.new) at have.now want.now) }
+    ensures stopped { IfErr result (StopsTelling meaning.now strategy (W.held out.old) (W.held out.new) at have.now want.now) }
+    ensures count { CountsSteps (W.count out.old) (W.count out.new) result }
+{
+    erased_blocks();
+    meaning.is_accepted();
+    let units = plan(alloc, meaning, strategy, at, have, want)?;
+    tell_units(alloc, meaning, strategy, at, &units, have, want, out)
+}
+
+/// Writes the lines of the units of a window.
+fn tell_units<W: ByteOut>(
+    alloc: Global,
+    meaning: &Meaning,
+    strategy: Strategy,
+    at: u32,
+    units: &[PlanUnit],
+    have: &[u8],
+    want: &[u8],
+    out: &mut W,
+) -> Result<(), StepsFault>
+    requires planned { IsWindowPlan meaning.now strategy at have.now want.now units.now }
+    requires writer { W.count out.old < 2 ^ 64 - 1 }
+    ensures told { IfOk result (λ _. TellsStretch meaning.now strategy (W.held out.old) (W.held out.new) at have.now want.now) }
+    ensures stopped { IfErr result (StopsTelling meaning.now strategy (W.held out.old) (W.held out.new) at have.now want.now) }
+    ensures count { CountsSteps (W.count out.old) (W.count out.new) result }
+{
+    for unit in units {
+        let (low, high) = bounds(unit, at, meaning.page);
+        tell_unit(
+            alloc,
+            meaning,
+            strategy,
+            unit,
+            &have[low..high],
+            &want[low..high],
+            out,
+        )?;
+    }
+    Ok(())
+}
+
+/// Writes the lines of a unit. `have` and `want` are its bytes: what the chip holds there and what it must hold.
+fn tell_unit<W: ByteOut>(
+    alloc: Global,
+    meaning: &Meaning,
+    strategy: Strategy,
+    unit: &PlanUnit,
+    have: &[u8],
+    want: &[u8],
+    out: &mut W,
+) -> Result<(), StepsFault>
+    requires lengths { length have.now ≡ length want.now }
+    requires unit { IsUnit meaning.now unit.now (length want.now) }
+    requires planned { IsPlanned meaning.now strategy unit.now (length want.now) }
+    requires writer { W.count out.old < 2 ^ 64 - 1 }
+    ensures told { TellsUnit meaning.now strategy (W.held out.old) (W.held out.new) unit.now have.now want.now result }
+    ensures count { CountsSteps (W.count out.old) (W.count out.new) result }
+    ensures why { IfErr result IsOfWriting }
+{
+    let runs = split(alloc, meaning, unit, have, want)?;
+    write_unit(meaning, strategy, unit, &runs, have, want, out)?;
+    Ok(())
+}
+
+/// The first byte of a unit and the one past its last, among those of a window that begins at an address.
+fn bounds(unit: &PlanUnit, at: u32, page: u32) -> (usize, usize)
+    requires from { at ≤ unit_start unit.now }
+    requires small { unit_start unit.now + unit_size page unit.now < 2 ^ 32 }
+    ensures low { result.0 ≡ unit_start unit.now - at }
+    ensures high { result.1 ≡ unit_start unit.now - at + unit_size page unit.now }
+{
+    let (start, size) = match unit {
+        PlanUnit::Block(block) => (block.start, block.size),
+        PlanUnit::Page { start } => (*start, page),
+    };
+    let low = (start - at) as usize;
+    (low, low + size as usize)
+}

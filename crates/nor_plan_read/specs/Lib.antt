@@ -1,0 +1,3 @@
+pub mod Number
+pub mod Lines
+pub mod Parts

@@ -1,0 +1,7 @@
+//! Tests of a device that speaks serprog, and of a script that is played on one, with devices in memory.
+
+mod canned;
+mod endings;
+mod greets;
+mod operations;
+mod plays;

@@ -1,0 +1,10 @@
+mod KindLemmas
+mod SizeLemmas
+mod ClockLemmas
+mod LineLemmas
+mod UnitLemmas
+mod ScriptLemmas
+mod TextLemmas
+mod SmallLemmas
+mod NameLemmas
+mod BusyLemmas

@@ -1,0 +1,23 @@
+//! Fields of a DWORD.
+
+ghost use Rattle.std.specs.Prelude.{◌≡◌, ◌+◌, ◌-◌, ◌<◌, ◌≤◌, ◌^◌};
+ghost use Rattle.nor_sfdp.specs.Bits.{bits, is_set};
+
+/// Bits `high` to `low` of a DWORD.
+pub(crate) fn bits(dword: u32, high: u32, low: u32) -> u32
+    requires order { low ≤ high }
+    requires width { high < low + 31 }
+    requires within { high < 32 }
+    ensures value { result ≡ bits dword high low }
+    ensures small { result < 2 ^ (high + 1 - low) }
+{
+    (dword >> low) % (1 << (high + 1 - low))
+}
+
+/// One bit of a DWORD.
+pub(crate) fn is_set(dword: u32, n: u32) -> bool
+    requires { n < 32 }
+    ensures { result ≡ is_set dword n }
+{
+    (dword >> n) % 2 == 1
+}

@@ -1,0 +1,106 @@
+//! How long a chip is busy with a plan.
+
+ghost use Rattle.std.specs.Prelude.{◌≡◌, ◌≤◌, ◌<◌, ◌+◌, ◌*◌, ◌^◌, ◌-◌, find, IfSome, sum_by};
+ghost use Rattle.nor_base.specs.Blocks.{kinds};
+ghost use Rattle.nor_times.specs.Busy.{busy_of, is_named, program_time, time_of, typical_of, worst_of};
+
+use crate::times::Times;
+use nor_base::Meaning;
+use nor_plan_read::PlanLine;
+
+/// How long a chip is busy, in microseconds.
+#[derive(Clone, Copy, Debug, PartialEq, Eq)]
+pub struct Busy {
+    /// Where each erase and program takes its typical time.
+    pub typical: u128,
+    /// Where each takes its worst.
+    pub worst: u128,
+}
+
+/// How long a chip is busy with the erases and programs of a plan's lines: the exact sums. Polls and clocks add nothing.
+///
+/// An erase takes the time of the live kind that its opcode, `op` or `op4`, names; in a plan for the chip it names one, and
+/// no more than one. Where it names none it takes no time. A program takes the lesser of a page's time and that of its
+/// bytes, the first and each further one; one of no bytes takes no time. The worst time is the typical one by its factor.
+#[tactic(auto, unfolding(crate::specs::Busy::busy_of))]
+pub fn busy_time(times: &Times, meaning: &Meaning, lines: &[PlanLine]) -> Busy
+    ensures { result ≡ busy_of times.now meaning.now lines.now }
+{
+    let mut typical = 0;
+    let mut worst = 0;
+    for line in lines {
+        typical += u128::from(typical_of(times, meaning, line));
+        worst += u128::from(worst_of(times, meaning, line));
+    }
+    Busy { typical, worst }
+}
+
+/// The typical time of a line.
+fn typical_of(times: &Times, meaning: &Meaning, line: &PlanLine) -> u32
+    ensures { result ≡ typical_of times.now meaning.now line.now }
+{
+    match *line {
+        PlanLine::Erase { opcode, .. } => time_of(times, meaning, opcode),
+        PlanLine::Because { .. } => 0,
+        PlanLine::Program { count, .. } => program_time(times, count),
+    }
+}
+
+/// The worst time of a line.
+fn worst_of(times: &Times, meaning: &Meaning, line: &PlanLine) -> u64
+    ensures { result ≡ worst_of times.now meaning.now line.now }
+{
+    let typical = u64::from(typical_of(times, meaning, line));
+    match *line {
+        PlanLine::Erase { .. } => typical * u64::from(times.erase_factor),
+        PlanLine::Because { .. } => 0,
+        PlanLine::Program { .. } => typical * u64::from(times.program_factor),
+    }
+}
+
+/// The typical time of an erase by an opcode.
+fn time_of(times: &Times, meaning: &Meaning, opcode: u8) -> u32
+    ensures { result ≡ time_of times.now meaning.now opcode }
+{
+    match named_kind(meaning, opcode) {
+        None => 0,
+        Some(kind) => times.erases[usize::from(kind - 1)],
+    }
+}
+
+/// The live kind that an opcode names.
+fn named_kind(meaning: &Meaning, opcode: u8) -> Option<u8>
+    ensures value { result ≡ find (is_named meaning.now opcode) kinds }
+    ensures low { IfSome result (λ kind. 1 ≤ kind) }
+    ensures high { IfSome result (λ kind. kind ≤ 4) }
+{
+    for kind in 1..5 {
+        if is_named(meaning, opcode, kind) {
+            return Some(kind);
+        }
+    }
+    None
+}
+
+/// Whether a live kind has the opcode.
+fn is_named(meaning: &Meaning, opcode: u8, kind: u8) -> bool
+    ensures { result ≡ is_named meaning.now opcode kind }
+{
+    match meaning.erase_kind(kind) {
+        None => false,
+        Some(erase) => {
+            meaning.is_allowed(kind) && (opcode == erase.op || erase.op4 == Some(opcode))
+        }
+    }
+}
+
+/// The typical time of a program of so many bytes.
+fn program_time(times: &Times, count: u32) -> u32
+    ensures { result ≡ program_time times.now count }
+{
+    if count == 0 {
+        return 0;
+    }
+    let bytes = u64::from(times.first_byte) + u64::from(count - 1) * u64::from(times.further_byte);
+    bytes.min(u64::from(times.page)) as u32
+}

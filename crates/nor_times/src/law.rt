@@ -1,0 +1,39 @@
+//! What the lines of a plan are to its text, and their clocks to its script. Each function does nothing: its contract is the
+//! law.
+
+ghost use Rattle.nor_times.specs.Law.{BusIsOfScript, BusyIsOfUnits, ErasesAreNamed, PlanIsText};
+
+use nor_laws::instruction_rows;
+use nor_work::{blocks, erased_blocks};
+
+/// The clocks that [`crate::bus_clocks`] gives for the lines of a plan are those of the steps of its script.
+pub fn clocks_of_script()
+    ensures { BusIsOfScript }
+{
+    blocks();
+    erased_blocks();
+}
+
+/// The text of a plan is that of its lines, so [`nor_plan_read::read_plan`] reads just these back.
+pub fn text_of_plan()
+    ensures { PlanIsText }
+{
+    erased_blocks();
+}
+
+/// The opcode that erases a block, as each erased block of a plan is, names the block's kind and no other: the erase takes the
+/// time of that kind.
+pub fn erases_are_named()
+    ensures { ErasesAreNamed }
+{
+    instruction_rows();
+}
+
+/// The busy time that [`crate::busy_time`] gives for the lines of a plan is that of its units: of each erase by its block's kind,
+/// and of each program by its bytes.
+pub fn busy_of_units()
+    ensures { BusyIsOfUnits }
+{
+    erased_blocks();
+    erases_are_named();
+}

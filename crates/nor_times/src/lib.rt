@@ -1,0 +1,22 @@
+//! How long a plan takes: the chip's own busy time of its erases and programs, by the basic flash parameter table (JEDEC
+//! JESD216B), and the clocks of its script on the bus. `docs/FORMATS.md`, section 15, has the sums and the lines.
+//!
+//! [`read_times`] reads what the table tells, [`busy_time`] and [`bus_clocks`] add up over a plan's lines, [`write_times`]
+//! writes the two lines. They take no memory.
+#![tactic(auto)]
+
+mod bits;
+mod bus;
+mod busy;
+mod clocks;
+mod law;
+mod times;
+mod worked;
+mod writer;
+
+pub use bus::bus_clocks;
+pub use busy::{Busy, busy_time};
+pub use law::{busy_of_units, clocks_of_script, erases_are_named, text_of_plan};
+pub use times::{Times, read_times};
+pub use worked::{sums_worked, table_worked};
+pub use writer::write_times;

@@ -1,0 +1,113 @@
+-- What is told of a play on a device (this project's).
+use Rattle.std.specs.Prelude.{◌≡◌, ◌⊎◌, ℕ, Bool, true, false, List, Option, None, Result}
+use Rattle.std.specs.Io.KnownBytes.{Appends}
+use Rattle.nor_base.specs.declared.step.Step.{Step}
+use Rattle.nor_base.specs.Device.{Ahead, Cuts}
+use Rattle.nor_base.specs.Parameters.{Parameters}
+use Rattle.nor_job.specs.Status.{start_of}
+use Rattle.nor_serprog.specs.declared.fault.GreetFault.{GreetFault}
+use Rattle.norprog_words.specs.declared.faults.Refusal.{Refusal}
+use Rattle.norprog_words.specs.declared.given.GivenPlay.{GivenPlay}
+use Rattle.norprog_words.specs.Told.{ForAsked, RefusesFor, Refuses, line_fault, TellsOf}
+use Rattle.norprog_play.specs.declared.ending.Ending.{Ending}
+use Rattle.norprog_play.specs.declared.unplayed.Unplayed.{Unplayed}
+use Rattle.norprog_play.specs.declared.unplayed.Unplayed.TheVariants.{Refused, Device}
+use Rattle.norprog_play.specs.Job.{IsReady, RefusesJob}
+use Rattle.norprog_play.specs.Line.{ending_line}
+use Rattle.norprog_play.specs.Played.{Ends, EndsGreeting}
+use Rattle.norprog_play.specs.Request.{is_well_formed}
+use Rattle.norprog_play.specs.Served.{PlayTask, OfPlay}
+use Rattle.norprog_play.specs.State.{is_partial, state_line, status_of, device_line}
+
+-- some text's steps, on that chip with some content, ended so
+pub record IsEndingOf (ending : Ending) (t : PlayTask) : Type 0 where
+  pub text : List ℕ
+  pub len : ℕ
+  pub before : Ahead
+  pub after : Ahead
+  pub m : Parameters
+  pub steps : List Step
+  pub content : List ℕ
+  pub ready : IsReady t.chip text len before after m steps content
+  pub ends : Ends t.limit t.trusted m (start_of t.chip) content steps ending
+
+abbrev pub IsEnding : (PlayTask → Type 0) → Ending → Type 0
+IsEnding Asked ending = ForAsked PlayTask Asked (IsEndingOf ending)
+
+-- why some text isn't played on that chip
+pub record IsStopOf (why : Refusal) (t : PlayTask) : Type 0 where
+  pub text : List ℕ
+  pub len : ℕ
+  pub before : Ahead
+  pub after : Ahead
+  pub refused : RefusesJob t.chip text len before after why
+
+abbrev pub IsPlayFault : (PlayTask → Type 0) → Refusal → Type 0
+IsPlayFault Asked why = ForAsked PlayTask Asked (IsStopOf why)
+
+-- why a play that was asked for has no ending
+abbrev pub RefusesPlay : (PlayTask → Type 0) → Refusal → Type 0
+RefusesPlay Asked = RefusesFor (IsPlayFault Asked) ((ending : Ending) × IsEnding Asked ending)
+
+-- some text's steps might be played on that chip with some content, but the handshake ended so
+pub record IsGreetingOf (why : GreetFault) (t : PlayTask) : Type 0 where
+  pub text : List ℕ
+  pub len : ℕ
+  pub before : Ahead
+  pub after : Ahead
+  pub m : Parameters
+  pub steps : List Step
+  pub content : List ℕ
+  pub ready : IsReady t.chip text len before after m steps content
+  pub stops : EndsGreeting m (start_of t.chip) content steps why
+
+abbrev pub IsGreeting : (PlayTask → Type 0) → GreetFault → Type 0
+IsGreeting Asked why = ForAsked PlayTask Asked (IsGreetingOf why)
+
+abbrev pub IsUnplayed : (PlayTask → Type 0) → Unplayed → Type 0
+IsUnplayed Asked (Refused why) = RefusesPlay Asked why
+IsUnplayed Asked (Device why) = IsGreeting Asked why
+
+-- the fault of the command line where there is one, else why its work isn't done
+abbrev pub RefusesLine : Option Refusal → (PlayTask → Type 0) → Unplayed → Type 0
+RefusesLine cause Asked (Refused why) = Refuses cause (RefusesPlay Asked) why
+RefusesLine cause Asked (Device why) = (cause ≡ None) × IsGreeting Asked why
+
+-- nothing was printed, or a proper prefix of the line of such an ending
+abbrev pub CutsEnding : (PlayTask → Type 0) → Option (List ℕ) → Option (List ℕ) → Type 0
+CutsEnding Asked before after = (after ≡ before) ⊎ ((ending : Ending) × IsEnding Asked ending × Cuts before after (ending_line ending))
+
+abbrev pub IsUnprinted : (PlayTask → Type 0) → Option (List ℕ) → Option (List ℕ) → Unplayed → Type 0
+IsUnprinted Asked before after (Refused why) = CutsEnding Asked before after
+IsUnprinted Asked before after (Device why) = after ≡ before
+
+-- where the chip may hold a part of the work the line that says so was written, if the writer works; else nothing was
+abbrev pub TellsState : Bool → Type 0 → Type 0 → Option (List ℕ) → Option (List ℕ) → Type 0
+TellsState true Quiet Works before after = Works → Appends before after state_line
+TellsState false Quiet Works before after = Quiet
+
+-- the line of the ending of a play that was asked for was printed, whose status it is
+pub record PrintsEnding (Asked : PlayTask → Type 0) (before after : Option (List ℕ)) (Quiet Works : Type 0) (told_before told_after : Option (List ℕ))
+    (status : ℕ) : Type 0 where
+  pub ending : Ending
+  pub is : IsEnding Asked ending
+  pub by_it : status ≡ status_of ending
+  pub printed : Appends before after (ending_line ending)
+  pub told : TellsState (is_partial ending) Quiet Works told_before told_after
+
+-- nothing was printed, and the handshake's fault was told
+pub record TellsGreeting (Asked : PlayTask → Type 0) (before after : Option (List ℕ)) (Works : Type 0) (told_before told_after : Option (List ℕ))
+    (status : ℕ) : Type 0 where
+  pub why : GreetFault
+  pub is : IsGreeting Asked why
+  pub one : status ≡ 1
+  pub unprinted : after ≡ before
+  pub told : Works → Appends told_before told_after (device_line why)
+
+-- what `play` answers to a command line: the line of the ending, whose status it is; the handshake's fault; or a refusal
+abbrev pub AnswersPlay : Result GivenPlay Refusal → Option (List ℕ) → Option (List ℕ) → Type 0 → Type 0 → Option (List ℕ) → Option (List ℕ) → ℕ → Type 0
+AnswersPlay line before after Quiet Works told_before told_after status =
+    ((line_fault is_well_formed line ≡ None) × PrintsEnding (OfPlay line) before after Quiet Works told_before told_after status)
+    ⊎ (((line_fault is_well_formed line ≡ None) × TellsGreeting (OfPlay line) before after Works told_before told_after status)
+    ⊎ (CutsEnding (OfPlay line) before after
+    × TellsOf (Refuses (line_fault is_well_formed line) (RefusesPlay (OfPlay line))) Works told_before told_after status))

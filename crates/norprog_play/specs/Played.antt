@@ -1,0 +1,41 @@
+-- How a play on a chip behind a device ends, whatever the device is (this project's).
+use Rattle.std.specs.Prelude.{◌≡◌, ◌⊎◌, ℕ, Bool, List, Err}
+use Rattle.nor_base.specs.declared.meaning.Start.{Start}
+use Rattle.nor_base.specs.declared.step.Step.{Step}
+use Rattle.nor_base.specs.Parameters.{Parameters}
+use Rattle.nor_serprog.specs.declared.fault.GreetFault.{GreetFault}
+use Rattle.norprog_words.specs.Files.{IsOfFiles}
+use Rattle.norprog_play.specs.declared.ending.Ending.{Ending}
+use Rattle.norprog_play.specs.declared.unplayed.Unplayed.{Unplayed}
+use Rattle.norprog_play.specs.declared.unplayed.Unplayed.TheVariants.{Refused, Device}
+use Rattle.norprog_play.specs.Early.{chip_with, MayPlay, EndsInMemory}
+use Rattle.norprog_play.specs.Likeness.{are_four}
+use Rattle.norprog_play.specs.Moment.{Moment}
+use Rattle.norprog_play.specs.Opened.{HasPlayed, GreetsSo}
+
+-- the steps might be played, and so they ended on some device beside the chip in memory
+pub record EndsOnDevice (limit : ℕ) (trusted : Bool) (m : Parameters) (start : Start) (content : List ℕ) (steps : List Step) (ending : Ending) : Type 0
+  where
+    pub may : MayPlay (chip_with m start content) steps
+    pub before : Moment
+    pub after : Moment
+    pub shown : before.shown ≡ chip_with m start content
+    pub played : HasPlayed limit trusted (are_four m start) before steps ending after
+
+-- they ended so in memory alone, or on some device
+abbrev pub Ends : ℕ → Bool → Parameters → Start → List ℕ → List Step → Ending → Type 0
+Ends limit trusted m start content steps ending =
+    EndsInMemory (chip_with m start content) steps ending ⊎ EndsOnDevice limit trusted m start content steps ending
+
+-- they might be played, but the handshake with some device ended so
+pub record EndsGreeting (m : Parameters) (start : Start) (content : List ℕ) (steps : List Step) (why : GreetFault) : Type 0 where
+  pub may : MayPlay (chip_with m start content) steps
+  pub before : Moment
+  pub after : Moment
+  pub shown : before.shown ≡ chip_with m start content
+  pub greeted : GreetsSo before after (Err why)
+
+-- why they aren't played: that, or a device that can't be opened, or want of memory
+abbrev pub StopsPlay : Parameters → Start → List ℕ → List Step → Unplayed → Type 0
+StopsPlay m start content steps (Device why) = EndsGreeting m start content steps why
+StopsPlay m start content steps (Refused why) = IsOfFiles why

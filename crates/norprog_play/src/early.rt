@@ -1,0 +1,53 @@
+//! What is known of a play before a device is asked.
+
+ghost use Rattle.std.specs.Prelude.{◌≡◌, ◌-◌, ◌^◌, None, length, IfOk, IfSome};
+ghost use Rattle.nor_base.specs.Chip.{IsPossible};
+ghost use Rattle.norprog_play.specs.Early.{chip_with, EndsEarly};
+
+use crate::ending::Ending;
+use crate::rehearsal::{Rehearsal, rehearse};
+use crate::within::carried;
+use nor_base::{Meaning, Start, Step};
+use nor_serprog::{Limits, Reason};
+use std::alloc::{AllocError, Global};
+
+/// The most that a request has room for: no device can do more bytes in one operation.
+const MOST: u32 = (1 << 24) - 1;
+
+/// The limits of a device that can do the most.
+pub(crate) fn widest() -> Limits
+    ensures sent { result.sent ≡ 2 ^ 24 - 1 }
+    ensures asked { result.asked ≡ 2 ^ 24 - 1 }
+{
+    Limits {
+        sent: MOST,
+        asked: MOST,
+    }
+}
+
+/// How steps end whatever the device is: `Wrong` where a ready chip in memory that holds these bytes and is never busy goes wrong
+/// in them, else `Failed` for `Carried` with the first whose clocks are no operation of any device. None where neither is so.
+///
+/// Memory is taken for another such content.
+pub fn ends_early(
+    alloc: Global,
+    meaning: &Meaning,
+    start: Start,
+    content: &[u8],
+    steps: &[Step],
+) -> Result<Option<Ending>, AllocError>
+    requires size { length content.now ≡ meaning.now.size }
+    requires mode { IsPossible meaning.now start }
+    ensures { IfOk result (EndsEarly (chip_with meaning.now start content.now) steps.now) }
+{
+    match rehearse(alloc, meaning, start, content, steps)? {
+        Rehearsal::Wrong { step, why } => Ok(Some(Ending::Wrong { step, why })),
+        Rehearsal::Well { .. } => match carried(steps, &widest()) {
+            Ok(()) => Ok(None),
+            Err(step) => Ok(Some(Ending::Failed {
+                step,
+                why: Reason::Carried,
+            })),
+        },
+    }
+}

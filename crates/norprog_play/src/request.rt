@@ -1,0 +1,45 @@
+//! What the values of a command line of `play` ask for.
+
+ghost use Rattle.std.specs.Prelude.{◌≡◌, is_some, IfSome};
+ghost use Rattle.norprog_play.specs.Request.{is_well_formed, AsksFor};
+
+use nor_base::Part;
+use norprog_words::{Chip, GivenPlay, chip_of, limit, optional_status, part};
+
+/// What `play` is asked for: each value is of its form.
+#[derive(Clone, Copy)]
+pub struct PlayRequest<'a> {
+    pub chip: Chip<'a>,
+    pub part: Part,
+    pub status: Option<u32>,
+    pub mode4: bool,
+    pub quad: bool,
+    pub erased_only: bool,
+    pub content: &'a str,
+    pub script: &'a str,
+    pub device: &'a str,
+    /// Most status reads of one poll, 1 or more.
+    pub limit: u64,
+    /// The chip behind the device isn't compared.
+    pub trust: bool,
+}
+
+/// The request that the values spell. None where one isn't of its form, or one that has to be there isn't.
+pub fn request_of<'a>(given: GivenPlay<'a>) -> Option<PlayRequest<'a>>
+    ensures forms { is_some result ≡ is_well_formed given.entry }
+    ensures values { IfSome result (λ request. AsksFor given.entry request) }
+{
+    Some(PlayRequest {
+        chip: chip_of(given.sfdp, given.uniform, given.bits)?,
+        part: part(given.part.unwrap_or("generic"))?,
+        status: optional_status(given.status)?,
+        mode4: given.mode4,
+        quad: given.quad,
+        erased_only: given.erased_only,
+        content: given.content?,
+        script: given.script?,
+        device: given.device?,
+        limit: limit(given.limit.unwrap_or("1000000"))?,
+        trust: given.trust,
+    })
+}

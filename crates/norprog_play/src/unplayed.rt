@@ -1,0 +1,43 @@
+//! Why a script isn't played.
+
+ghost use Rattle.std.specs.Prelude.{◌≡◌};
+ghost use Rattle.nor_job.specs.declared.fault.BuildFault.TheVariants.{Memory};
+ghost use Rattle.norprog_words.specs.declared.faults.Refusal.TheVariants.{Build};
+ghost use Rattle.norprog_play.specs.declared.unplayed.Unplayed.TheVariants as unplayed;
+
+use nor_serprog::GreetFault;
+use norprog_words::Refusal;
+use std::alloc::AllocError;
+
+/// Why a script isn't played.
+#[derive(Drop, Debug)]
+pub enum Unplayed {
+    /// As other commands are refused.
+    Refused(Refusal),
+    /// The handshake with the device ended early.
+    Device(GreetFault),
+}
+
+impl From<Refusal> for Unplayed {
+    ghost from_gives = { λ refusal why. why ≡ unplayed.Refused refusal };
+
+    fn from(refusal: Refusal) -> Unplayed {
+        Unplayed::Refused(refusal)
+    }
+}
+
+impl From<GreetFault> for Unplayed {
+    ghost from_gives = { λ fault why. why ≡ unplayed.Device fault };
+
+    fn from(fault: GreetFault) -> Unplayed {
+        Unplayed::Device(fault)
+    }
+}
+
+impl From<AllocError> for Unplayed {
+    ghost from_gives = { λ _ why. why ≡ unplayed.Refused (Build Memory) };
+
+    fn from(_error: AllocError) -> Unplayed {
+        Unplayed::Refused(Refusal::MEMORY)
+    }
+}
