@@ -8,8 +8,8 @@ use nor_base::{IntoWrite, Start};
 use nor_erase::plan;
 use nor_geometry::{PlanFault, PlanUnit, strategy, window_size};
 use nor_job::BuildFault;
-use nor_pages::split;
 use nor_outline::write_window;
+use nor_pages::split;
 use nor_steps::StepsFault;
 use std::io;
 
