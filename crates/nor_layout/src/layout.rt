@@ -29,6 +29,13 @@ impl<'a> Model for Layout<'a> {
 }
 
 impl<'a> Layout<'a> {
+    /// The regions, in the order of their lines.
+    pub fn regions(&self) -> &[Region<'a>]
+        ensures { result.now ≡ self.now }
+    {
+        self.regions.as_slice()
+    }
+
     /// The addresses that lie in some region of these names, byte for byte: the union of the regions.
     /// With no name every address is chosen, and no memory is taken. A name given twice counts once.
     ///

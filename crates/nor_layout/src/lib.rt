@@ -19,3 +19,4 @@ pub use chosen::Chosen;
 pub use fault::LayoutFault;
 pub use layout::Layout;
 pub use reader::read;
+pub use region::Region;

@@ -4,10 +4,13 @@ use std::marker::Model;
 
 /// The addresses from `start` to `end`, both included, under a name.
 #[derive(Drop, Debug)]
-pub(crate) struct Region<'a> {
-    pub(crate) start: u32,
-    pub(crate) end: u32,
-    pub(crate) name: &'a [u8],
+pub struct Region<'a> {
+    /// Its first address.
+    pub start: u32,
+    /// Its last address.
+    pub end: u32,
+    /// Its name, of any bytes.
+    pub name: &'a [u8],
 }
 
 impl<'a> Model for Region<'a> {
