@@ -1,12 +1,13 @@
 -- Pairs of lower-case digits, read.
 use Rattle.std.proofs.Common.{◌≡◌, ℕ, ◌+◌, ◌-◌, ◌*◌, ◌/◌, ◌%◌, ◌<◌, true, if◌then◌else◌, List, [], ◌∷◌, length, Option, Some, Result, Ok, Err, refl, sym, ◌∙◌, ap, subst, arith, nat_lt, nat_eq}
-use Rattle.std.specs.Prelude.{flat_map}
-use Rattle.std.specs.List.{list_all}
+use Rattle.std.specs.Prelude.{flat_map, is_some, MatchResult}
+use Rattle.std.specs.List.{list_all, AllPass, slice_index_or}
 use Rattle.std.proofs.lemmas.Bool.{and_parts}
 use Rattle.std.proofs.lemmas.Bool.Decides.{nat_tests}
+use Rattle.std.proofs.lemmas.List.Sums.{AllPass-from_list_all}
 use Rattle.hex.specs.declared.error.FromHexError.{FromHexError}
-use Rattle.hex.specs.Hex.{hex_digit_value, digit_or_error, decode_pairs, decode_of, ◌>>=◌}
-use Rattle.hex.proofs.HexLemmas.{decode_of-even}
+use Rattle.hex.specs.Hex.{hex_digit_value, digit_or_error, decode_pairs, decode_of, decode_sized, is_hex_digit, ◌>>=◌}
+use Rattle.hex.proofs.HexLemmas.{decode_of-even, decode_of-digits}
 use Rattle.nor_base.specs.Array.{are_bytes}
 use Rattle.nor_base.specs.Script.{hex_digit, hex_pair}
 use Rattle.nor_script.specs.Line.{is_lower_digit, are_pairs}
@@ -75,3 +76,20 @@ digits_read digits bytes pairs h =
     let both = and_parts (nat_eq (length digits % 2) 0) (list_all is_lower_digit digits) pairs in
     let even : length digits % 2 ≡ 0 = grind (arith, nat_tests) in
     pairs_read 0 digits bytes both.1 (sym (decode_of-even digits even) ∙ h)
+
+-- pairs of lower-case digits are never refused, and give the bytes that they spell
+pub digits_decoded : (digits bytes : List ℕ) (n : ℕ) (r : Result (Unit {0}) FromHexError) → are_pairs digits ≡ true → n ≡ length digits / 2
+    → MatchResult (decode_sized digits n) (λ given. (r ≡ Ok tt) × (bytes ≡ given)) (λ e. r ≡ Err e) → SpellsBytes digits bytes
+digits_decoded digits bytes n r pairs size gives =
+    let both = and_parts (nat_eq (length digits % 2) 0) (list_all is_lower_digit digits) pairs in
+    let even : length digits % 2 ≡ 0 = grind (arith, nat_tests) in
+    let sized : decode_sized digits n ≡ decode_of digits = grind (arith, nat_tests) in
+    let read = decode_of-digits digits even (each_digit digits both.1) in
+    let told : MatchResult (Ok read.0) (λ given. (r ≡ Ok tt) × (bytes ≡ given)) (λ e. r ≡ Err e) =
+    subst (λ (d : Result (List ℕ) FromHexError). MatchResult d (λ given. (r ≡ Ok tt) × (bytes ≡ given)) (λ e. r ≡ Err e)) (sized ∙ read.1) gives in
+    digits_read digits bytes pairs (read.1 ∙ ap Ok (sym told.1))
+  where
+    each_digit : (digits : List ℕ) → list_all is_lower_digit digits ≡ true → AllPass is_hex_digit digits
+    each_digit digits lower k d below =
+        let digit = digit_lem (slice_index_or digits k d) (AllPass-from_list_all is_lower_digit digits lower k d below) in
+        ap is_some digit.reads

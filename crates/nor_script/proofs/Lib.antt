@@ -3,4 +3,7 @@ pub mod HexLemmas
 mod VerifyLemmas
 mod DigitLemmas
 mod LineLemmas
-mod ReadLemmas
+pub mod ReadLemmas
+mod SliceLemmas
+pub mod StreamLaws
+mod ReaderLemmas

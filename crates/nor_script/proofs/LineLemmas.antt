@@ -1,18 +1,22 @@
 -- The steps on lines.
-use Rattle.std.proofs.Common.{◌≡◌, ℕ, suc, ◌+◌, ◌-◌, ◌<◌, ◌≤◌, Bool, true, false, not, ◌&&◌, cond, if◌then◌else◌, List, [], ◌∷◌, ◌++◌, length, take, drop, get_or, Some, None, refl, sym, ◌∙◌, ap, arith, nat_eq, eqb-true}
+use Rattle.std.proofs.Common.{◌≡◌, ℕ, suc, ◌+◌, ◌-◌, ◌<◌, ◌≤◌, Bool, true, false, not, ◌&&◌, cond, if◌then◌else◌, List, [], ◌∷◌, ◌++◌, length, take, drop, get_or, Option, Some, None, Ok, refl, sym, ◌∙◌, ap, subst, arith, nat_eq, eqb-true}
 use Rattle.std.specs.Prelude.{count_by, flat_map}
-use Rattle.std.specs.List.{list_all, before_first, after_first, position_or_len}
+use Rattle.std.specs.List.{slice_range, list_all, before_first, after_first, position_or_len}
 use Rattle.std.proofs.lemmas.Bool.{and_parts}
-use Rattle.std.proofs.lemmas.List.{take_rest}
+use Rattle.std.proofs.lemmas.List.{take_rest, take_all, length-take-le}
 use Rattle.std.proofs.lemmas.List.Sums.{sum_by-cons, split_at_first, passes_at_first}
 use Rattle.nor_base.specs.declared.step.Step.{Step}
 use Rattle.nor_base.specs.declared.step.Step.TheVariants.{Send, Poll, Verify}
 use Rattle.nor_base.specs.Sample.{is_symbol}
 use Rattle.nor_base.specs.Step.{is_filled, are_clocks}
 use Rattle.nor_base.specs.Script.{hex_pair, step_line}
-use Rattle.nor_script.specs.declared.fault.ScriptFault.TheVariants.{BadLine, BadSymbol}
-use Rattle.nor_script.specs.Line.{clocks_fault, is_blank, SpellsStep, SpellsVerify}
-use Rattle.nor_script.specs.Parts.{AreParts, SpellsBytes}
+use Rattle.nor_script.specs.declared.fault.ScriptFault.TheVariants.{Header, BadLine, BadSymbol, BadCount, NoEnd, AfterEnd, Memory}
+use Rattle.nor_script.specs.Line.{clocks_fault, is_blank, are_pairs, SpellsStep, SpellsVerify}
+use Rattle.nor_script.specs.declared.fault.ScriptFault.{ScriptFault}
+use Rattle.nor_script.specs.declared.line.Kind.{Kind}
+use Rattle.nor_script.specs.declared.line.Kind.TheVariants as kind
+use Rattle.nor_script.specs.Parts.{AreParts, AreVerifyParts, SpellsBytes, TellsFault, or_fault}
+use Rattle.nor_script.specs.LineParts.{step_by, AreOfLine}
 
 -- a line by its first two bytes
 pub by_two : (line : List ℕ) (a b : ℕ) → 2 ≤ length line → get_or line 0 0 ≡ a → get_or line 1 0 ≡ b → line ≡ a ∷ b ∷ take (length line - 2) (drop 2 line)
@@ -29,21 +33,21 @@ passed false symbols n h = cc
 clocks_lem : (n : ℕ) (clocks : List ℕ) → clocks_fault n clocks ≡ None → are_clocks clocks ≡ true
 clocks_lem n clocks h = passed (is_filled clocks) (list_all is_symbol clocks) n h
 
-pub send_spelled : (n : ℕ) (line clocks rest : List ℕ) → line ≡ 120 ∷ 32 ∷ rest → clocks_fault n rest ≡ None → clocks ≡ rest → SpellsStep line (Send clocks)
+send_spelled : (n : ℕ) (line clocks rest : List ℕ) → line ≡ 120 ∷ 32 ∷ rest → clocks_fault n rest ≡ None → clocks ≡ rest → SpellsStep line (Send clocks)
 unfolding step_line
 send_spelled n line clocks rest is sound read = record {
   is_one = record { passes = clocks_lem n clocks (ap (clocks_fault n) read ∙ sound); bytes = refl };
   spelled = is ∙ ap (λ l. 120 ∷ 32 ∷ l) (sym read);
 }
 
-pub poll_spelled : (n : ℕ) (line clocks rest : List ℕ) → line ≡ 112 ∷ 32 ∷ rest → clocks_fault n rest ≡ None → clocks ≡ rest → SpellsStep line (Poll clocks)
+poll_spelled : (n : ℕ) (line clocks rest : List ℕ) → line ≡ 112 ∷ 32 ∷ rest → clocks_fault n rest ≡ None → clocks ≡ rest → SpellsStep line (Poll clocks)
 unfolding step_line
 poll_spelled n line clocks rest is sound read = record {
   is_one = record { passes = clocks_lem n clocks (ap (clocks_fault n) read ∙ sound); bytes = refl };
   spelled = is ∙ ap (λ l. 112 ∷ 32 ∷ l) (sym read);
 }
 
-pub verify_spelled : (line rest : List ℕ) (step : Step) → line ≡ 118 ∷ 32 ∷ rest → SpellsVerify rest step → SpellsStep line step
+verify_spelled : (line rest : List ℕ) (step : Step) → line ≡ 118 ∷ 32 ∷ rest → SpellsVerify rest step → SpellsStep line step
 verify_spelled line rest step is spells = record { is_one = spells.is_one; spelled = is ∙ spells.spelled }
 
 -- what is counted once stands somewhere
@@ -64,7 +68,7 @@ both_true true true p q = refl
 both_true true false p q = cc
 both_true false b p q = cc
 
-pub parts_spelled : (rest clocks digits held bytes : List ℕ) → AreParts rest clocks digits → list_all is_symbol clocks ≡ true → held ≡ clocks → SpellsBytes digits bytes
+parts_spelled : (rest clocks digits held bytes : List ℕ) → AreParts rest clocks digits → list_all is_symbol clocks ≡ true → held ≡ clocks → SpellsBytes digits bytes
     → SpellsVerify rest (Verify held bytes)
 unfolding step_line
 parts_spelled rest clocks digits held bytes parts symbols copy spells =
@@ -82,3 +86,67 @@ parts_spelled rest clocks digits held bytes parts symbols copy spells =
       spelled = ap (λ l. 118 ∷ 32 ∷ l) (cut ∙ ap (λ l. l ++ 32 ∷ after_first is_blank rest) (sym (copy ∙ parts.first))
           ∙ ap (λ l. held ++ 32 ∷ l) (sym parts.second ∙ spells.spelled));
     }
+
+-- clocks that stand behind the first two bytes of a line
+clocks_place : (line rest clocks : List ℕ) (a b : ℕ) → line ≡ a ∷ b ∷ rest → (n : ℕ) → n ≤ length rest → clocks ≡ take n rest
+    → (2 + length clocks ≤ length line) × (clocks ≡ slice_range line 2 (2 + length clocks))
+clocks_place line rest clocks a b is n fits from =
+    let size : length clocks ≡ n = ap length from ∙ length-take-le n rest fits in
+    let whole : 2 + length clocks - 2 ≡ n = omega (arith, size) in (
+      omega (arith, size, fits, ap length is),
+      from ∙ ap (λ k. take k rest) (sym whole) ∙ ap (λ l. take (2 + length clocks - 2) (drop 2 l)) (sym is),
+    )
+
+none_left : (o : Option ScriptFault) → or_fault o ≡ Ok tt → o ≡ None
+none_left None h = refl
+none_left (Some fault) h = cc
+
+once_of_line : (line rest clocks digits : List ℕ) (a : ℕ) (kind : Kind) → line ≡ a ∷ 32 ∷ rest → clocks ≡ rest → digits ≡ []
+    → ((expect : List ℕ) → SpellsStep line (step_by kind rest expect)) → AreOfLine line kind clocks digits
+once_of_line line rest clocks digits a kind is copy none spells =
+    let place = clocks_place line rest clocks a 32 is (length rest) (omega arith) (copy ∙ sym (take_all (length rest) rest (omega arith))) in
+    record {
+      within = place.0;
+      place = place.1;
+      pairs = ap are_pairs none;
+      spells = λ expect spelled. subst (λ c. SpellsStep line (step_by kind c expect)) (sym copy) (spells expect);
+    }
+
+pub send_of_line : (n : ℕ) (line rest clocks digits : List ℕ) (of : Kind) → line ≡ 120 ∷ 32 ∷ rest → or_fault (clocks_fault n rest) ≡ Ok tt → of ≡ kind.Send
+    → clocks ≡ rest → digits ≡ [] → AreOfLine line of clocks digits
+send_of_line n line rest clocks digits of is sound same copy none =
+    subst (λ (k : Kind). AreOfLine line k clocks digits) (sym same)
+    (once_of_line line rest clocks digits 120 kind.Send is copy none (λ expect. send_spelled n line rest rest is (none_left _ sound) refl))
+
+pub poll_of_line : (n : ℕ) (line rest clocks digits : List ℕ) (of : Kind) → line ≡ 112 ∷ 32 ∷ rest → or_fault (clocks_fault n rest) ≡ Ok tt → of ≡ kind.Poll
+    → clocks ≡ rest → digits ≡ [] → AreOfLine line of clocks digits
+poll_of_line n line rest clocks digits of is sound same copy none =
+    subst (λ (k : Kind). AreOfLine line k clocks digits) (sym same)
+    (once_of_line line rest clocks digits 112 kind.Poll is copy none (λ expect. poll_spelled n line rest rest is (none_left _ sound) refl))
+
+pub verify_of_line : (line rest clocks digits : List ℕ) → line ≡ 118 ∷ 32 ∷ rest → AreVerifyParts rest clocks digits → AreOfLine line kind.Verify clocks digits
+verify_of_line line rest clocks digits is are =
+    let two = and_parts (nat_eq (count_by is_blank rest) 1) (is_filled (before_first is_blank rest) && is_filled (after_first is_blank rest)) are.parts.two in
+    let inside : position_or_len is_blank rest < length rest = counted is_blank rest (eqb-true (count_by is_blank rest) 1 two.0) in
+    let place = clocks_place line rest clocks 118 32 is (position_or_len is_blank rest) (omega (arith, inside)) are.parts.first in
+    record {
+      within = place.0;
+      place = place.1;
+      pairs = are.pairs;
+      spells = λ expect spelled. verify_spelled line rest (Verify clocks expect) is (parts_spelled rest clocks digits clocks expect are.parts are.symbols refl spelled);
+    }
+
+-- the step that owns its clocks
+pub owned_spelled : (line clocks digits held bytes : List ℕ) (kind : Kind) → AreOfLine line kind clocks digits → held ≡ clocks → SpellsBytes digits bytes
+    → SpellsStep line (step_by kind held bytes)
+owned_spelled line clocks digits held bytes kind are copy spells =
+    subst (λ c. SpellsStep line (step_by kind c bytes)) (sym copy) (are.spells bytes spells)
+
+pub tells : (there : Option ScriptFault) (fault : ScriptFault) → there ≡ Some fault → TellsFault there fault
+tells there (Header n) h = h
+tells there (BadLine n) h = h
+tells there (BadSymbol n) h = h
+tells there (BadCount n) h = h
+tells there (NoEnd n) h = h
+tells there (AfterEnd n) h = h
+tells there Memory h = tt

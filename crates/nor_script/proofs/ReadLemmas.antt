@@ -33,6 +33,13 @@ unclosed text h =
     let past : length text ≤ position_or_len is_line_feed text = ltb-false _ _ (place_missed _ _ h) in
     list_any_none is_line_feed text (λ k d below. fails_before_first is_line_feed text k d (omega (arith, past)))
 
+pub found_below : (text : List ℕ) (i : ℕ) → position is_line_feed text ≡ Some i → i < length text
+found_below text i h =
+    let place = place_found _ _ i h in
+    let first = place.1 in
+    let inside : position_or_len is_line_feed text < length text = ltb-true _ _ place.0 in
+    omega arith
+
 none_before : (p : ℕ → Bool) (xs : List ℕ) (i : ℕ) → i ≤ position_or_len p xs → i ≤ length xs → list_any p (take i xs) ≡ false
 none_before p xs i first inside =
     list_any_none p (take i xs) (λ k d below.
@@ -67,11 +74,11 @@ pub begun : (text rest : List ℕ) → text ≡ header ++ rest → IsRight text 
 unfolding step_lines
 begun text rest is = record { each = tt; whole = is }
 
-each_more : (above : List Step) (step : Step) → AllByRecursion IsStep above → IsStep step → AllByRecursion IsStep (above ++ step ∷ [])
+pub each_more : (above : List Step) (step : Step) → AllByRecursion IsStep above → IsStep step → AllByRecursion IsStep (above ++ step ∷ [])
 each_more [] step each here = (here, tt)
 each_more (x ∷ above) step each here = (each.0, each_more above step each.1 here)
 
-lines_more : (above : List Step) (step : Step) (rest : List ℕ) → step_lines (above ++ step ∷ []) ++ rest ≡ step_lines above ++ (closed (step_line step) ++ rest)
+pub lines_more : (above : List Step) (step : Step) (rest : List ℕ) → step_lines (above ++ step ∷ []) ++ rest ≡ step_lines above ++ (closed (step_line step) ++ rest)
 unfolding step_lines
 lines_more above step rest =
     ap (λ l. l ++ rest) (flat_map-append (λ x. closed (step_line x)) above (step ∷ []) ∙ ap (λ l. step_lines above ++ l) (append-nil (closed (step_line step))))
@@ -88,7 +95,7 @@ one_more text above after rest line more step right first spells added =
     })
 
 -- an end line with the number of steps
-end_is : (line : List ℕ) (n : ℕ) → is_end line ≡ true → count_fault n (drop 4 line) ≡ None → closed line ≡ end_line n
+pub end_is : (line : List ℕ) (n : ℕ) → is_end line ≡ true → count_fault n (drop 4 line) ≡ None → closed line ≡ end_line n
 unfolding end_line
 end_is line n ends counted =
     ap closed (sym (take-append-drop 4 line) ∙ ap (λ l. l ++ drop 4 line) ((bytes_eq-Decides (take 4 line) (codes "end ")).0 ends)
@@ -106,7 +113,7 @@ text_then text steps rest line more right first ends counted =
     ∙ ap (λ l. header ++ l) (sym (append_assoc (step_lines steps) (end_line (length steps)) more))
     ∙ sym (append_assoc header (step_lines steps ++ end_line (length steps)) more)
 
-none_left : (o : Option ScriptFault) → or_fault o ≡ Ok tt → o ≡ None
+pub none_left : (o : Option ScriptFault) → or_fault o ≡ Ok tt → o ≡ None
 none_left None h = refl
 none_left (Some fault) h = cc
 
@@ -233,7 +240,7 @@ told_or_memory o (NoEnd n) h = inr h
 told_or_memory o (AfterEnd n) h = inr h
 told_or_memory o Memory h = inl refl
 
-step_told : (n : ℕ) (line : List ℕ) (fault : ScriptFault) → step_fault n line ≡ Some fault → IsOfLine n fault
+pub step_told : (n : ℕ) (line : List ℕ) (fault : ScriptFault) → step_fault n line ≡ Some fault → IsOfLine n fault
 step_told n line fault there = subst (λ (o : Option ScriptFault). IfSome o (IsOfLine n)) there (step_of_line n line)
 
 pub step_refused : (text : List ℕ) (steps : List Step) (rest line more : List ℕ) (fault : ScriptFault) → IsRight text steps rest → BeginsWith rest line more → is_end line ≡ false
@@ -272,3 +279,12 @@ header_missing text none = (refl, none)
 pub handed_on : {T : Type 0} (r : Result T ScriptFault) (P : ScriptFault → Type 0) (fault : ScriptFault) → P fault → IsErrAnd r (λ e. e ≡ fault) → IfErr r P
 handed_on (Ok x) P fault here is = absurd is
 handed_on (Err e) P fault here is = subst P (sym is) here
+
+-- the fault of a line is of its number
+pub line_told : (steps : ℕ) (line : List ℕ) (fault : ScriptFault) → line_fault steps line ≡ Some fault → IsOfLine (steps + 2) fault
+line_told steps line fault here =
+    subst (λ (o : Option ScriptFault). IfSome o (IsOfLine (steps + 2))) here (either (is_end line) steps line)
+  where
+    either : (b : Bool) (steps : ℕ) (line : List ℕ) → IfSome (if b then count_fault steps (drop 4 line) else step_fault (steps + 2) line) (IsOfLine (steps + 2))
+    either true steps line = count_of_line steps (drop 4 line)
+    either false steps line = step_of_line (steps + 2) line

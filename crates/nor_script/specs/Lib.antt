@@ -3,3 +3,7 @@ pub mod Verify
 pub mod Line
 pub mod Parts
 pub mod Faults
+pub mod View
+pub mod Stream
+pub mod Lines
+pub mod LineParts

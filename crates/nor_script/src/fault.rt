@@ -2,7 +2,9 @@
 
 ghost use Rattle.std.specs.Prelude.{◌≡◌};
 ghost use Rattle.nor_script.specs.declared.fault.ScriptFault.TheVariants.{Memory};
+ghost use Rattle.nor_script.specs.declared.fault.ReadFault.TheVariants.{Script, Device};
 
+use nor_base::Failed;
 use std::alloc::{AllocError, AllocFailed};
 use thiserror::Error;
 
@@ -45,5 +47,40 @@ impl<T: Drop> From<AllocFailed<T>> for ScriptFault {
 
     fn from(_error: AllocFailed<T>) -> ScriptFault {
         ScriptFault::Memory
+    }
+}
+
+/// Why a script that is read out of a device is not read on.
+#[derive(Clone, Copy, Debug, PartialEq, Eq, Error)]
+pub enum ReadFault {
+    /// The text is no script: its first fault. `Memory` where a growth of memory was refused.
+    #[error(transparent)]
+    Script(ScriptFault),
+    /// The device failed.
+    #[error(transparent)]
+    Device(Failed),
+}
+
+impl From<AllocError> for ReadFault {
+    ghost from_gives = { λ _ fault. fault ≡ Script Memory };
+
+    fn from(_error: AllocError) -> ReadFault {
+        ReadFault::Script(ScriptFault::Memory)
+    }
+}
+
+impl From<ScriptFault> for ReadFault {
+    ghost from_gives = { λ given fault. fault ≡ Script given };
+
+    fn from(fault: ScriptFault) -> ReadFault {
+        ReadFault::Script(fault)
+    }
+}
+
+impl From<Failed> for ReadFault {
+    ghost from_gives = { λ failed fault. fault ≡ Device failed };
+
+    fn from(failed: Failed) -> ReadFault {
+        ReadFault::Device(failed)
     }
 }

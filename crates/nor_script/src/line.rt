@@ -1,37 +1,73 @@
 //! What one line of a script says.
 
-ghost use Rattle.std.specs.Prelude.{◌≡◌, ◌<◌, ◌^◌, ◌==◌, position, None, true, false, IfOk, IfErr, MatchOption, count_by};
+ghost use Rattle.std.specs.Prelude.{◌≡◌, ◌<◌, ◌^◌, ◌==◌, position, true, false, [], IfOk, IfErr, MatchOption, count_by, Some};
 ghost use Rattle.std.specs.List.{list_all};
 ghost use Rattle.nor_base.specs.Sample.{is_symbol};
-ghost use Rattle.nor_script.specs.Line.{clocks_fault, is_blank, are_two_parts, is_lower_digit, are_pairs, verify_fault, step_fault, count_fault, SpellsStep, SpellsVerify};
-ghost use Rattle.nor_script.specs.Parts.{TellsFault, AreParts, SpellsBytes, or_fault};
-ghost use Rattle.nor_script.specs.declared.fault.ScriptFault.TheVariants.{Memory};
+ghost use Rattle.nor_script.specs.Line.{clocks_fault, is_blank, are_two_parts, is_lower_digit, are_pairs, verify_fault, step_fault, count_fault};
+ghost use Rattle.nor_script.specs.Parts.{AreParts, AreVerifyParts, or_fault};
+ghost use Rattle.nor_script.specs.LineParts.{AreOfLine};
 
 use crate::fault::ScriptFault;
 use itoa::Buffer;
 use memchr::memchr;
-use nor_base::{Bytes, Step};
-use std::alloc::Global;
 
-/// The step on a line that is no end line, or why it has none.
-pub(crate) fn step_on(alloc: Global, number: u64, line: &[u8]) -> Result<Step, ScriptFault>
-    ensures read { IfOk result (SpellsStep line.now) }
-    ensures refused { IfErr result (TellsFault (step_fault number line.now)) }
+/// The kind of a step.
+#[derive(Clone, Copy, PartialEq, Eq, Drop)]
+pub(crate) enum Kind {
+    Send,
+    Poll,
+    Verify,
+}
+
+/// A step's line in parts.
+#[derive(Clone, Copy, Drop)]
+pub(crate) struct LineParts<'a> {
+    pub(crate) kind: Kind,
+    /// The symbols of its clocks.
+    pub(crate) clocks: &'a [u8],
+    /// The digits of the bytes expected; only a [`Kind::Verify`] has some.
+    pub(crate) digits: &'a [u8],
+}
+
+/// The parts of a line that is no end line, or why it is that of no step.
+pub(crate) fn parts_on(number: u64, line: &[u8]) -> Result<LineParts<'_>, ScriptFault>
+    ensures read { IfOk result (λ parts. AreOfLine line.now parts.kind parts.clocks.now parts.digits.now) }
+    ensures refused { IfErr result (λ fault. step_fault number line.now ≡ Some fault) }
 {
     let [letter, b' ', rest @ ..] = line else {
         return Err(ScriptFault::BadLine(number));
     };
     match letter {
         b'x' => {
-            let clocks = clocks_in(alloc, number, rest)?;
-            Ok(Step::Send { clocks })
+            check_clocks(number, rest)?;
+            Ok(once(Kind::Send, rest))
         }
         b'p' => {
-            let clocks = clocks_in(alloc, number, rest)?;
-            Ok(Step::Poll { clocks })
+            check_clocks(number, rest)?;
+            Ok(once(Kind::Poll, rest))
         }
-        b'v' => verify_in(alloc, number, rest),
+        b'v' => {
+            let (clocks, digits) = verify_parts(number, rest)?;
+            Ok(LineParts {
+                kind: Kind::Verify,
+                clocks,
+                digits,
+            })
+        }
         _ => Err(ScriptFault::BadLine(number)),
+    }
+}
+
+/// The parts of a step that expects nothing.
+fn once(kind: Kind, clocks: &[u8]) -> LineParts<'_>
+    ensures kind { result.kind ≡ kind }
+    ensures clocks { result.clocks.now ≡ clocks.now }
+    ensures digits { result.digits.now ≡ [] }
+{
+    LineParts {
+        kind,
+        clocks,
+        digits: &[],
     }
 }
 
@@ -47,11 +83,9 @@ pub(crate) fn check_count(steps: u64, count: &[u8]) -> Result<(), ScriptFault>
     Ok(())
 }
 
-/// The clocks of a step that sends or polls.
-fn clocks_in(alloc: Global, number: u64, clocks: &[u8]) -> Result<Bytes, ScriptFault>
-    ensures sound { IfOk result (λ _. clocks_fault number clocks.now ≡ None) }
-    ensures read { IfOk result (λ bytes. bytes ≡ clocks.now) }
-    ensures refused { IfErr result (TellsFault (clocks_fault number clocks.now)) }
+/// Why these aren't the clocks of a step.
+fn check_clocks(number: u64, clocks: &[u8]) -> Result<(), ScriptFault>
+    ensures { result ≡ or_fault (clocks_fault number clocks.now) }
 {
     if clocks.is_empty() {
         return Err(ScriptFault::BadLine(number));
@@ -59,13 +93,13 @@ fn clocks_in(alloc: Global, number: u64, clocks: &[u8]) -> Result<Bytes, ScriptF
     if !are_symbols(clocks) {
         return Err(ScriptFault::BadSymbol(number));
     }
-    copied(alloc, clocks)
+    Ok(())
 }
 
-/// The step that stands behind `v `.
-fn verify_in(alloc: Global, number: u64, rest: &[u8]) -> Result<Step, ScriptFault>
-    ensures read { IfOk result (SpellsVerify rest.now) }
-    ensures refused { IfErr result (TellsFault (verify_fault number rest.now)) }
+/// The clocks and the digits that stand behind `v `.
+fn verify_parts(number: u64, rest: &[u8]) -> Result<(&[u8], &[u8]), ScriptFault>
+    ensures read { IfOk result (λ parts. AreVerifyParts rest.now parts.0.now parts.1.now) }
+    ensures refused { IfErr result (λ fault. verify_fault number rest.now ≡ Some fault) }
 {
     let Some((clocks, digits)) = two_parts(rest) else {
         return Err(ScriptFault::BadLine(number));
@@ -76,9 +110,7 @@ fn verify_in(alloc: Global, number: u64, rest: &[u8]) -> Result<Step, ScriptFaul
     if !are_pairs(digits) {
         return Err(ScriptFault::BadLine(number));
     }
-    let clocks = copied(alloc, clocks)?;
-    let expect = bytes_in(alloc, digits)?;
-    Ok(Step::Verify { clocks, expect })
+    Ok((clocks, digits))
 }
 
 /// The two parts around the only blank, where neither is empty.
@@ -115,14 +147,20 @@ fn count_blanks(rest: &[u8]) -> usize
 fn are_symbols(clocks: &[u8]) -> bool
     ensures { result ≡ list_all is_symbol clocks.now }
 {
-    clocks.iter().all(|symbol| is_symbol(*symbol))
+    // without a branch, so that many symbols are tested at once: a script has millions of them
+    let mut all = true;
+    for symbol in clocks {
+        all &= is_symbol(*symbol);
+    }
+    all
 }
 
-// by the symbols alone, with no clock made of each, and first by those that most clocks have: a script has millions of them
 fn is_symbol(byte: u8) -> bool
     ensures { result ≡ is_symbol byte }
 {
-    matches!(byte, b'0' | b'1') || matches!(byte, b'a'..=b'p' | b'.' | b'=' | b'-')
+    let digit = (byte == b'0') | (byte == b'1');
+    let nibble = (byte >= b'a') & (byte <= b'p');
+    digit | nibble | (byte == b'.') | (byte == b'=') | (byte == b'-')
 }
 
 /// Whether these are pairs of lower-case hexadecimal digits.
@@ -138,26 +176,4 @@ fn are_lower_digits(digits: &[u8]) -> bool
     digits
         .iter()
         .all(|digit| matches!(*digit, b'0'..=b'9' | b'a'..=b'f'))
-}
-
-/// The bytes that pairs of digits spell; `Memory` where a growth is refused.
-fn bytes_in(alloc: Global, digits: &[u8]) -> Result<Bytes, ScriptFault>
-    requires { are_pairs digits.now ≡ true }
-    ensures read { IfOk result (SpellsBytes digits.now) }
-    ensures refused { IfErr result (λ fault. fault ≡ Memory) }
-{
-    // digits that are pairs are refused for want of memory alone
-    let Ok(bytes) = hex::decode(alloc, digits) else {
-        return Err(ScriptFault::Memory);
-    };
-    Ok(Bytes::new(bytes))
-}
-
-/// A copy of some bytes; `Memory` where a growth is refused.
-fn copied(alloc: Global, bytes: &[u8]) -> Result<Bytes, ScriptFault>
-    ensures read { IfOk result (λ copy. copy ≡ bytes.now) }
-    ensures refused { IfErr result (λ fault. fault ≡ Memory) }
-{
-    let copy = Vec::from_slice(alloc, bytes)?;
-    Ok(Bytes::new(copy))
 }

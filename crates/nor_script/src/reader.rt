@@ -6,7 +6,8 @@ ghost use Rattle.nor_base.specs.Script.{IsScript};
 ghost use Rattle.nor_script.specs.Faults.{is_line_feed, BeginsWith, Refuses, AreAbove};
 
 use crate::fault::ScriptFault;
-use crate::line::{check_count, place_of, step_on};
+use crate::line::{check_count, place_of};
+use crate::owned::step_on;
 use nor_base::Step;
 use std::alloc::Global;
 

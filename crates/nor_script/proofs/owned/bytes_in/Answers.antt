@@ -2,7 +2,7 @@
 use Rattle.std.proofs.Common.{subst, sym}
 use Rattle.nor_script.specs.Parts.{SpellsBytes}
 use Rattle.nor_script.proofs.DigitLemmas.{digits_read}
-use Rattle.nor_script.proofs.line.bytes_in.Goals as goal
+use Rattle.nor_script.proofs.owned.bytes_in.Goals as goal
 
 pub returns-clause-read : goal.returns-clause-read
 returns-clause-read c =

@@ -1,0 +1,42 @@
+-- The end line, and a line of no step.
+use Rattle.std.proofs.Common.{◌≡◌, ◌+◌, true, false, [], drop, Ok, Some, sym, ◌∙◌, ap, subst}
+use Rattle.nor_script.specs.Line.{is_end, count_fault, step_fault}
+use Rattle.nor_script.specs.Parts.{or_fault}
+use Rattle.nor_script.specs.LineParts.{step_by}
+use Rattle.nor_script.specs.Stream.{reading, Reads, Steps, Advances}
+use Rattle.nor_script.proofs.ReaderLemmas.{found, right_end, end_advances, step_bad, advance_refused}
+use Rattle.nor_script.proofs.steps.StepReader.advance.Goals as goal
+
+pub returns-in-Some-clause-step : goal.returns-in-Some-clause-step
+returns-in-Some-clause-step g c =
+    let lines = c.find_line.new.self in
+    let held : c.self.inside.lines.held ≡ c.args.self.now.held = ap (λ (s : Steps). s.held) c.self.view_is in
+    let steps : c.self.inside.steps ≡ c.args.self.now.steps = ap (λ (s : Steps). s.steps) c.self.view_is in
+    let line : c.line.result.now ≡ lines.line = c.line.ensures in
+    let ends : is_end lines.line ≡ true = ap is_end (sym line) ∙ c.in-Some.ensures.cases.0 in
+    let counted : or_fault (count_fault c.self.inside.steps (drop 4 lines.line)) ≡ Ok tt =
+    ap (λ l. or_fault (count_fault c.self.inside.steps (drop 4 l))) (sym line) ∙ ap (λ l. or_fault (count_fault c.self.inside.steps l)) (sym c.in-Some.ensures.cases.1)
+    ∙ sym c.check_count.ensures ∙ c.in_ok-check_count.was in
+    let there = found _ _ lines c.in_ok-find_line.field-0 c.if-not-branch.false c.in_ok-find_line.ensures.lines in
+    let before = reading (g.R.ByteIn.ahead c.args.source.now) in
+    let after = reading (g.R.ByteIn.ahead c.read_end.new.source) c.read_end.new.lines.held in
+    let step = step_by c.self.inside.kind [] c.self.inside.expect.items in
+    subst (λ l. Advances (before l) after c.args.self.now.steps step c.read_end.result) held
+    (subst (λ n. Advances (before c.self.inside.lines.held) after n step c.read_end.result) steps
+    (end_advances (before c.self.inside.lines.held) (reading (g.R.ByteIn.ahead c.find_line.new.source) lines.held) after lines.line c.self.inside.steps step c.read_end.result
+    there.0 (right_end lines.line c.self.inside.steps ends counted) c.read_end.ensures.bytes))
+
+pub returns-in_err-parts-clause-step : goal.returns-in_err-parts-clause-step
+returns-in_err-parts-clause-step g c =
+    let lines = c.find_line.new.self in
+    let held : c.self.inside.lines.held ≡ c.args.self.now.held = ap (λ (s : Steps). s.held) c.self.view_is in
+    let steps : c.self.inside.steps ≡ c.args.self.now.steps = ap (λ (s : Steps). s.steps) c.self.view_is in
+    let ends : is_end lines.line ≡ false = ap is_end (sym c.line.ensures) ∙ c.in_default.ensures.cases in
+    let bad : step_fault (c.args.self.now.steps + 2) lines.line ≡ Some c.in_err-parts.field-0.0 =
+    ap (λ n. step_fault (n + 2) lines.line) (sym steps) ∙ ap (step_fault (c.self.inside.steps + 2)) (sym c.line-2.ensures) ∙ c.in_err-parts.ensures.refused in
+    let there = found _ _ lines c.in_ok-find_line.field-0 c.if-not-branch.false c.in_ok-find_line.ensures.lines in
+    let before = reading (g.R.ByteIn.ahead c.args.source.now) in
+    let after = reading (g.R.ByteIn.ahead c.find_line.new.source) lines.held in
+    advance_refused (before c.args.self.now.held) after c.args.self.now.steps _ c.from_residual-in_err-parts.result c.in_err-parts.field-0.0
+    c.from_residual-in_err-parts.ensures.1 (subst (λ l. Reads (before l) after []) held there.0)
+    (step_bad after c.args.self.now.steps lines.line there.1.rest c.in_err-parts.field-0.0 there.1.first ends bad)

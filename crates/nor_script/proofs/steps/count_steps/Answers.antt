@@ -1,0 +1,44 @@
+-- The steps that were read are those of the text.
+use Rattle.std.proofs.Common.{◌++◌, ◌∷◌, [], true, false, Ok, ◌∙◌, subst, arith, length-append}
+use Rattle.nor_script.specs.Stream.{reading, Advances, CountsStep}
+use Rattle.nor_script.proofs.StreamLaws.{has_begun, has_more}
+use Rattle.nor_script.proofs.ReaderLemmas.{tell_failed, begin_told, advance_told, all_told}
+use Rattle.nor_script.proofs.steps.count_steps.Goals as goal
+
+pub returns-in_err-reader-clause-text : goal.returns-in_err-reader-clause-text
+returns-in_err-reader-clause-text g c =
+    tell_failed _ _ c.from_residual.result _ c.from_residual.ensures.1 (begin_told _ _ _ c.in_err-reader.ensures.begun)
+
+pub loop-reader-init : goal.loop-reader-init
+loop-reader-init g c = record {
+  above = [];
+  read = has_begun _ _ c.in_ok-reader.ensures.begun.0;
+  number = c.in_ok-reader.ensures.begun.1;
+  count = c.in_ok-reader.ensures.count;
+}
+
+pub returns-in_err-advance-clause-text : goal.returns-in_err-advance-clause-text
+returns-in_err-advance-clause-text g c =
+    let v = c.loop-reader.invariant in
+    tell_failed _ _ c.from_residual-in_err-advance.result _ c.from_residual-in_err-advance.ensures.1
+    (advance_told _ _ (reading (g.R.ByteIn.ahead c.advance.new.source) c.advance.new.self.held) v.above c.loop-reader.reader.steps c.advance.new.self.step _ v.read v.number c.in_err-advance.ensures.step)
+
+pub loop-reader-preserved : goal.loop-reader-preserved
+loop-reader-preserved g c =
+    let v = c.loop-reader.invariant in
+    let read : Advances (reading (g.R.ByteIn.ahead c.loop-reader.source) c.loop-reader.reader.held) (reading (g.R.ByteIn.ahead c.advance.new.source) c.advance.new.self.held) c.loop-reader.reader.steps c.advance.new.self.step (Ok true) =
+    subst (λ b. Advances (reading (g.R.ByteIn.ahead c.loop-reader.source) c.loop-reader.reader.held) (reading (g.R.ByteIn.ahead c.advance.new.source) c.advance.new.self.held) c.loop-reader.reader.steps c.advance.new.self.step (Ok b)) c.if-branch.true c.in_ok-advance.ensures.step in
+    let more : CountsStep c.loop-reader.reader.steps c.advance.new.self.steps (Ok true) = subst (λ b. CountsStep c.loop-reader.reader.steps c.advance.new.self.steps (Ok b)) c.if-branch.true c.in_ok-advance.ensures.number in record {
+      above = v.above ++ c.advance.new.self.step ∷ [];
+      read = has_more _ _ _ v.above c.advance.new.self.step v.read read.0 read.1;
+      number = omega (arith, more, v.number, length-append v.above (c.advance.new.self.step ∷ []));
+      count = c.in_ok-advance.ensures.count ∙ v.count;
+    }
+
+pub returns-clause-text : goal.returns-clause-text
+returns-clause-text g c =
+    let v = c.loop-reader.invariant in
+    let read : Advances (reading (g.R.ByteIn.ahead c.loop-reader.source) c.loop-reader.reader.held) (reading (g.R.ByteIn.ahead c.advance.new.source) c.advance.new.self.held) c.loop-reader.reader.steps c.advance.new.self.step (Ok false) =
+    subst (λ b. Advances (reading (g.R.ByteIn.ahead c.loop-reader.source) c.loop-reader.reader.held) (reading (g.R.ByteIn.ahead c.advance.new.source) c.advance.new.self.held) c.loop-reader.reader.steps c.advance.new.self.step (Ok b)) c.if-branch.false c.in_ok-advance.ensures.step in
+    let same : CountsStep c.loop-reader.reader.steps c.advance.new.self.steps (Ok false) = subst (λ b. CountsStep c.loop-reader.reader.steps c.advance.new.self.steps (Ok b)) c.if-branch.false c.in_ok-advance.ensures.number in
+    all_told _ _ _ v.above c.loop-reader.reader.steps c.steps.result c.advance.new.self.step v.read v.number (c.steps.ensures ∙ same) read
