@@ -1,1 +1,5 @@
 mod CellLemmas
+mod PutLemmas
+mod RunLemmas
+mod BlockLemmas
+mod DrawnLemmas

@@ -1,4 +1,12 @@
 pub mod Cells
 pub mod Marks
 pub mod Grid
+pub mod Runs
+pub mod Drawn
+pub mod Shapes
+pub mod Blocks
+pub mod Words
+pub mod Constants
+pub mod Map
 pub mod Worked
+pub mod TextWorked

@@ -1,13 +1,23 @@
-//! What a plan does to the cells of a chip: the states from which a map is drawn. `docs/FORMATS.md`, "Map", has them.
+//! What a plan does to the cells of a chip, and the map of it: an image for any browser. `docs/FORMATS.md`, "Map", has them.
 //!
-//! [`Grid::of`] says what a plan does to each cell; [`worked`] has values of it, worked out by hand.
+//! [`Grid::of`] says what a plan does to each cell; [`write_map`] writes the image, and takes no memory. [`laws`] says that each cell
+//! is drawn by its state, and [`worked`] has values of both, worked out by hand.
 #![tactic(auto)]
 
+mod blocks;
 mod cells;
+mod constants;
 mod grid;
+pub mod laws;
+mod runs;
+mod shapes;
 mod sizes;
 mod state;
+mod text;
+mod words;
 pub mod worked;
+mod writer;
 
 pub use grid::Grid;
 pub use state::State;
+pub use writer::write_map;

@@ -1,6 +1,7 @@
-//! Values of the grid, worked out by hand. Each function does nothing: its contract is the values, and the gate computes them.
+//! Values of the grid and of the map's text, worked out by hand. Each function does nothing: its contract is the values, and the gate computes them.
 
 ghost use Rattle.nor_map.specs.Worked.{AreSizes, BlockErased, NothingDone, NothingTouched};
+ghost use Rattle.nor_map.specs.TextWorked.{AreOutlines, AreRuns, AreTexts, AreWords, BlockDrawn};
 
 /// The states of the cells of small chips.
 pub fn states_worked()
@@ -12,4 +13,17 @@ pub fn states_worked()
 /// The bytes of a cell, and the cells of a row.
 pub fn sizes_worked()
     ensures { AreSizes }
+{}
+
+/// The runs of cells, and outlines of cells and of a block.
+pub fn drawing_worked()
+    ensures runs { AreRuns }
+    ensures outlines { AreOutlines }
+    ensures block { BlockDrawn }
+{}
+
+/// Texts, the addresses of rows, and the name of a region.
+pub fn words_worked()
+    ensures texts { AreTexts }
+    ensures words { AreWords }
 {}

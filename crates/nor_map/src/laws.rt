@@ -1,0 +1,8 @@
+//! What a map draws is what its grid says. Each function does nothing: its contract is the law, and the gate proves it.
+
+ghost use Rattle.nor_map.specs.Drawn.{RunsAreCells};
+
+/// A cell is in a state exactly where some run of that state, as the map draws them, has it; a run lies in one row.
+pub fn drawn_cells()
+    ensures { RunsAreCells }
+{}
