@@ -59,7 +59,7 @@ fn run_draw<R: Files + AllocGlobal>(rt: &R, request: DrawRequest<'_>) -> Result<
 {
     let alloc = rt.alloc();
     let (script, place) = read_whole(rt, alloc, request.script, FileName::Script)?;
-    let file = create_output(rt, request.out, &[place])?;
+    let file = create_output(rt, request.out, FileName::Out, &[place])?;
     let writer = BufWriter::with_capacity(alloc, BUFFER, file).map_err(|_| Refusal::MEMORY)?;
     let mut writer = IntoWrite::new(writer);
     let answer = draw_script(

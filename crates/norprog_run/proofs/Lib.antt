@@ -1,4 +1,3 @@
-mod NumberLemmas
 mod BusyLemmas
 mod ReadLemmas
 mod ServedLemmas

@@ -4,12 +4,12 @@ use Rattle.nor_job.specs.Task.{Task}
 use Rattle.norprog_words.specs.declared.faults.Refusal.{Refusal}
 use Rattle.norprog_words.specs.Chip.{Origin, origin_of, task_chip}
 use Rattle.norprog_words.specs.Told.{OfLine}
-use Rattle.norprog_words.specs.Values.{part_of, said_status}
+use Rattle.norprog_words.specs.Values.{limit_of, part_of, said_status}
 use Rattle.norprog_run.specs.declared.request.Bench.{Bench}
 use Rattle.norprog_words.specs.declared.given.GivenRun.{GivenRun}
 use Rattle.norprog_run.specs.declared.request.RunRequest.{RunRequest}
 use Rattle.norprog_run.specs.Request.{asked_chip, asked_part, asked_busy, asked_limit}
-use Rattle.norprog_run.specs.Values.{limit_of, said_page}
+use Rattle.norprog_run.specs.Values.{said_page}
 
 -- what is asked of a play: the chip, in a task that has neither image nor layout, and the bench
 pub record PlayTask : Type 0 where

@@ -98,7 +98,7 @@ fn verdict_of<R: Files + AllocGlobal>(
         Some(path) => path,
         None => return play_texts(alloc, request, &texts, &mut content, len, &mut Nowhere),
     };
-    let file = create_output(rt, path, places.as_slice())?;
+    let file = create_output(rt, path, FileName::Out, places.as_slice())?;
     let mut out = IntoWrite::new(file);
     let verdict = play_texts(alloc, request, &texts, &mut content, len, &mut out)?;
     match out.inner.flush() {

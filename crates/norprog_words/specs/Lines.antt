@@ -103,6 +103,7 @@ file_text file.Sfdp = codes "file sfdp"
 file_text file.Content = codes "file content"
 file_text file.Script = codes "file script"
 file_text file.Out = codes "file out"
+file_text file.Map = codes "file map"
 file_text file.Device = codes "file device"
 
 -- `norprog: `, a text, LF

@@ -26,6 +26,7 @@ pub enum FileName {
     Content,
     Script,
     Out,
+    Map,
     Device,
 }
 
@@ -168,6 +169,7 @@ fn file_words(name: FileName) -> &'static [u8]
         FileName::Content => b"file content",
         FileName::Script => b"file script",
         FileName::Out => b"file out",
+        FileName::Map => b"file map",
         FileName::Device => b"file device",
     }
 }

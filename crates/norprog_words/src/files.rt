@@ -2,7 +2,7 @@
 
 ghost use Rattle.std.specs.Prelude.{◌≡◌, ◌≤◌, ◌^◌, length, true, IfOk, IfErr, MatchResult};
 ghost use Rattle.std.specs.Fs.{metadata_mode};
-ghost use Rattle.norprog_words.specs.declared.faults.FileName.TheVariants.{Sfdp, Out, Device};
+ghost use Rattle.norprog_words.specs.declared.faults.FileName.TheVariants.{Sfdp, Device};
 ghost use Rattle.norprog_words.specs.Files.{RefusesFile, IsOfFiles, is_character_device};
 
 use crate::chip::Chip;
@@ -98,19 +98,24 @@ pub fn open_input<R: Files>(
     Ok((file, place, len))
 }
 
-/// Makes the output file, or empties the one that is there, unless it is one of the inputs.
+/// Makes an output file, or empties the one that is there, unless it is one of the inputs.
 ///
-/// Where it is, and where it can't be made, `File` of `Out`; `Memory` where the system says that it lacks that.
-pub fn create_output<R: Files>(rt: &R, path: &str, inputs: &[Place]) -> Result<R::File, Refusal>
-    ensures refused { IfErr result (RefusesFile Out) }
+/// Where it is, and where it can't be made, `File` of `name`; `Memory` where the system says that it lacks that.
+pub fn create_output<R: Files>(
+    rt: &R,
+    path: &str,
+    name: FileName,
+    inputs: &[Place],
+) -> Result<R::File, Refusal>
+    ensures refused { IfErr result (RefusesFile name) }
     ensures files { IfErr result IsOfFiles }
 {
     if is_input(rt, path, inputs) {
-        return Err(Refusal::File(FileName::Out));
+        return Err(Refusal::File(name));
     }
     match fs::create(rt, path) {
         Ok(file) => Ok(file),
-        Err(error) => Err(refusal_of(&error, FileName::Out)),
+        Err(error) => Err(refusal_of(&error, name)),
     }
 }
 

@@ -28,6 +28,14 @@ pub struct GivenBuild<'a> {
     pub out: Option<&'a str>,
 }
 
+/// Of `plan`: the job, whether the times are told, and the name of the map's file.
+#[derive(Drop)]
+pub struct GivenPlan<'a> {
+    pub job: Given<'a>,
+    pub times: bool,
+    pub map: Option<&'a str>,
+}
+
 /// Of `check`: the job, and the name of the script's file.
 #[derive(Drop)]
 pub struct GivenCheck<'a> {

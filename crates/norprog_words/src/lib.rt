@@ -13,7 +13,7 @@ pub use chip::{Chip, chip_of, optional_status, source_of};
 pub use faults::{FileName, Refusal, refuse};
 pub use files::{Place, create_output, open_device, open_input, read_tables, read_whole};
 pub use given::{
-    Given, GivenBuild, GivenCheck, GivenChip, GivenDraw, GivenList, GivenPlay, GivenRun,
+    Given, GivenBuild, GivenCheck, GivenChip, GivenDraw, GivenList, GivenPlan, GivenPlay, GivenRun,
 };
 pub use values::{base, decimal, limit, part};
 pub use wrongs::wrong_number;
