@@ -1,2 +1,4 @@
 mod ServedLemmas
-mod AboveLemmas
+mod TextLemmas
+mod StepsLemmas
+mod ListedLemmas

@@ -5,7 +5,7 @@ use Rattle.nor_script.specs.declared.fault.ScriptFault.{ScriptFault}
 use Rattle.norprog_words.specs.declared.faults.Refusal.{Refusal}
 use Rattle.norprog_words.specs.declared.given.GivenList.{GivenList}
 use Rattle.norprog_words.specs.Told.{ForAsked, RefusesFor, Refuses, line_fault, Answers}
-use Rattle.norprog_list.specs.Listed.{WasListed, WasCut, WasToldAbove, RefusesListing}
+use Rattle.norprog_list.specs.Listed.{WasListed, WasCut, WasStopped, WasToldAbove, RefusesListing}
 use Rattle.norprog_list.specs.Request.{is_well_formed}
 use Rattle.norprog_list.specs.Served.{OfList}
 
@@ -17,13 +17,15 @@ ListsSome before after t = (text : List ℕ) × WasListed t text before after
 abbrev pub PrintsListing : (Task → Type 0) → Option (List ℕ) → Option (List ℕ) → Type 0
 PrintsListing Asked before after = ForAsked Task Asked (ListsSome before after)
 
--- the lines above the fault of some text were, or a proper prefix of these or of the listing of some text
-abbrev pub CutsSome : Option (List ℕ) → Option (List ℕ) → Task → Type 0
-CutsSome before after t = (text : List ℕ) × (WasCut t text before after ⊎ ((why : ScriptFault) × WasToldAbove t text why before after))
+-- the lines above the fault of some text were, or those of its first steps, or a proper prefix of these or of its listing
+abbrev pub PrintsPart : Option (List ℕ) → Option (List ℕ) → Task → Type 0
+PrintsPart before after t =
+    (text : List ℕ)
+    × (WasCut t text before after ⊎ (WasStopped t text before after ⊎ ((why : ScriptFault) × WasToldAbove t text why before after)))
 
 -- nothing was printed, or no more than such a part, by the chip that was asked for
 abbrev pub CutsListing : (Task → Type 0) → Option (List ℕ) → Option (List ℕ) → Type 0
-CutsListing Asked before after = (after ≡ before) ⊎ ForAsked Task Asked (CutsSome before after)
+CutsListing Asked before after = (after ≡ before) ⊎ ForAsked Task Asked (PrintsPart before after)
 
 -- why some text isn't listed by that chip
 abbrev pub StopsSome : Option (List ℕ) → Option (List ℕ) → Refusal → Task → Type 0

@@ -1,5 +1,5 @@
 pub mod Request
 pub mod Served
+pub mod Stop
 pub mod Listed
-pub mod Above
 pub mod Answer

@@ -1,64 +1,46 @@
 -- What a listing of a script's text is, by the chip of the inputs, and why there is none (this project's).
-use Rattle.std.specs.Prelude.{◌≡◌, ◌⊎◌, ℕ, Bool, true, false, ◌+◌, List, Option, None, Some, Result, Ok, Err}
-use Rattle.std.specs.Io.KnownBytes.{Appends}
+use Rattle.std.specs.Prelude.{◌≡◌, ℕ, Bool, true, false, ◌+◌, List, Option, None, Some, Result, Ok, Err}
 use Rattle.nor_base.specs.Chip.{begins4}
-use Rattle.nor_base.specs.Device.{Cuts}
+use Rattle.nor_base.specs.Device.{Ahead}
 use Rattle.nor_base.specs.Parameters.{Parameters}
-use Rattle.nor_base.specs.Script.{IsScript}
-use Rattle.nor_base.specs.declared.step.Step.{Step}
 use Rattle.nor_job.specs.declared.fault.BuildFault.TheVariants as fault
 use Rattle.nor_job.specs.Chip.{HasChip, RefusesChip}
 use Rattle.nor_job.specs.Status.{start_of}
 use Rattle.nor_job.specs.Task.{Task, contradiction}
-use Rattle.nor_listing.specs.Listing.{unended_listing, listing}
 use Rattle.nor_script.specs.declared.fault.ScriptFault.{ScriptFault}
-use Rattle.nor_script.specs.Faults.{IsFault, AreAbove}
 use Rattle.norprog_words.specs.declared.faults.Refusal.{Refusal}
-use Rattle.norprog_words.specs.declared.faults.Refusal.TheVariants.{Build, Script}
+use Rattle.norprog_words.specs.declared.faults.Refusal.TheVariants.{File, Build, Script}
+use Rattle.norprog_words.specs.declared.faults.FileName.TheVariants as file
+use Rattle.norprog_list.specs.Stop.{IsTextOf, IsWhole, AreFirstLines, IsListed, AreAboveFault, PutsSome, CutsSome}
 
 -- the inputs don't contradict one another, and give the chip these parameters
 pub record IsKnown (t : Task) (m : Parameters) : Type 0 where
   pub consistent : contradiction t ≡ None
   pub chip : HasChip t m
 
--- and the text spells some steps, whose listing on that chip, from its first address mode on, is these bytes
-pub record IsListing (t : Task) (text bytes : List ℕ) : Type 0 where
-  pub m : Parameters
-  pub known : IsKnown t m
-  pub steps : List Step
-  pub script : IsScript text steps
-  pub lines : bytes ≡ listing m (begins4 m (start_of t)) steps
-
--- and the text has this first fault; that listing of the steps whose lines stand above it, without its end line, is these bytes
-pub record AreLinesAbove (t : Task) (text : List ℕ) (why : ScriptFault) (bytes : List ℕ) : Type 0 where
-  pub m : Parameters
-  pub known : IsKnown t m
-  pub fault : IsFault text why
-  pub steps : List Step
-  pub above : AreAbove text steps why
-  pub lines : bytes ≡ unended_listing m (begins4 m (start_of t)) steps
-
--- what is to be printed of a text: its listing, or the lines above its fault
-abbrev pub IsPrinted : Task → List ℕ → List ℕ → Type 0
-IsPrinted t text bytes = IsListing t text bytes ⊎ ((why : ScriptFault) × AreLinesAbove t text why bytes)
-
--- the listing was appended
+-- the listing of the steps that a text spells, on that chip, from its first address mode on, was appended
 pub record WasListed (t : Task) (text : List ℕ) (before after : Option (List ℕ)) : Type 0 where
-  pub bytes : List ℕ
-  pub is : IsListing t text bytes
-  pub put : Appends before after bytes
+  pub m : Parameters
+  pub known : IsKnown t m
+  pub put : PutsSome (IsWhole m (begins4 m (start_of t)) text) before after
 
--- the lines above a fault were
+-- that of the steps above a text's first fault was, without an end line
 pub record WasToldAbove (t : Task) (text : List ℕ) (why : ScriptFault) (before after : Option (List ℕ)) : Type 0 where
-  pub bytes : List ℕ
-  pub is : AreLinesAbove t text why bytes
-  pub put : Appends before after bytes
+  pub m : Parameters
+  pub known : IsKnown t m
+  pub put : PutsSome (AreAboveFault m (begins4 m (start_of t)) text why) before after
 
--- a proper prefix was of what is to be printed
+-- that of a text's first steps was, without an end line
+pub record WasStopped (t : Task) (text : List ℕ) (before after : Option (List ℕ)) : Type 0 where
+  pub m : Parameters
+  pub known : IsKnown t m
+  pub put : PutsSome (AreFirstLines m (begins4 m (start_of t)) text) before after
+
+-- a proper prefix was of the listing, or of the lines of a text's first steps
 pub record WasCut (t : Task) (text : List ℕ) (before after : Option (List ℕ)) : Type 0 where
-  pub bytes : List ℕ
-  pub is : IsPrinted t text bytes
-  pub put : Cuts before after bytes
+  pub m : Parameters
+  pub known : IsKnown t m
+  pub put : CutsSome (IsListed m (begins4 m (start_of t)) text) before after
 
 -- why there is no chip to list by; no earlier cause holds
 abbrev pub RefusesChipOf : Task → Refusal → Type 0
@@ -68,18 +50,28 @@ RefusesChipOf t (Build (fault.Status number)) = (contradiction t ≡ None) × Re
 RefusesChipOf t (Build fault.ModeImpossible) = (contradiction t ≡ None) × RefusesChip t fault.ModeImpossible
 RefusesChipOf t other = ⊥
 
--- why a script isn't listed; no earlier cause holds. A script's fault is told after the lines above it, and where the writer failed
--- a proper prefix was appended; else nothing was
+-- why a script isn't listed; no earlier cause holds. Its fault is told after the lines above it; where the writer failed a proper
+-- prefix was appended; where the text's own device failed, or memory was refused, the lines of its first steps; else nothing
 abbrev pub RefusesListing : Task → List ℕ → Option (List ℕ) → Option (List ℕ) → Refusal → Type 0
 RefusesListing t text before after (Script why) = WasToldAbove t text why before after
 RefusesListing t text before after (Build fault.Write) = WasCut t text before after
-RefusesListing t text before after (Build fault.Memory) = ((m : Parameters) × IsKnown t m) × (after ≡ before)
+RefusesListing t text before after (Build fault.Memory) = WasStopped t text before after
+RefusesListing t text before after (File file.Script) = WasStopped t text before after
 RefusesListing t text before after other = RefusesChipOf t other × (after ≡ before)
+
+-- of a text that the device had ahead
+abbrev pub ListsText : Task → Ahead → Ahead → Option (List ℕ) → Option (List ℕ) → Type 0
+ListsText t ahead rest before after = (text : List ℕ) × IsTextOf ahead rest text × WasListed t text before after
+
+abbrev pub RefusesText : Task → Ahead → Ahead → Option (List ℕ) → Option (List ℕ) → Refusal → Type 0
+RefusesText t ahead rest before after why = (text : List ℕ) × IsTextOf ahead rest text × RefusesListing t text before after why
 
 -- these may come after some bytes were taken
 abbrev pub may_print : Refusal → Bool
 may_print (Script why) = true
 may_print (Build fault.Write) = true
+may_print (Build fault.Memory) = true
+may_print (File file.Script) = true
 may_print other = false
 
 abbrev pub of_writer : Refusal → ℕ
@@ -90,3 +82,12 @@ of_writer other = 0
 abbrev pub CountsWriter : {T : Type 0} → ℕ → ℕ → Result T Refusal → Type 0
 CountsWriter before after (Ok x) = after ≡ before
 CountsWriter before after (Err why) = after ≡ before + of_writer why
+
+abbrev pub of_source : Refusal → ℕ
+of_source (File file.Script) = 1
+of_source other = 0
+
+-- that of the script's device where the script's file is told
+abbrev pub CountsSource : {T : Type 0} → ℕ → ℕ → Result T Refusal → Type 0
+CountsSource before after (Ok x) = after ≡ before
+CountsSource before after (Err why) = after ≡ before + of_source why

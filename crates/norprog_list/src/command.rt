@@ -8,8 +8,8 @@ ghost use Rattle.norprog_list.specs.Served.{IsTaskOf, OfList};
 
 use crate::listing::list_script;
 use crate::request::{ListRequest, inputs_of, request_of};
-use nor_base::ByteOut;
-use norprog_words::{FileName, GivenList, Refusal, read_tables, read_whole, refuse};
+use nor_base::{ByteOut, FromRead};
+use norprog_words::{FileName, GivenList, Refusal, open_input, read_tables, refuse};
 use std::alloc::AllocGlobal;
 use std::fs::Files;
 
@@ -66,7 +66,7 @@ fn run_list<R: Files + AllocGlobal, O: ByteOut>(
     ensures refused { IfErr result (RefusesList (IsTaskOf request.entry) (O.held out.old) (O.held out.new)) }
 {
     let tables = read_tables(rt, request.chip)?;
-    let (script, _place) = read_whole(rt, rt.alloc(), request.script, FileName::Script)?;
+    let (script, _place, _len) = open_input(rt, request.script, FileName::Script)?;
     let inputs = inputs_of(request, tables.as_slice());
-    list_script(rt.alloc(), &inputs, script.as_slice(), out)
+    list_script(rt.alloc(), &inputs, &mut FromRead::new(script), out)
 }

@@ -7,6 +7,7 @@
 mod command;
 mod listing;
 mod request;
+mod steps;
 
 pub use command::list;
 pub use listing::list_script;

@@ -5,69 +5,56 @@ ghost use Rattle.nor_base.specs.Chip.{begins4};
 ghost use Rattle.nor_job.specs.Chip.{HasChip};
 ghost use Rattle.nor_job.specs.Status.{start_of};
 ghost use Rattle.nor_job.specs.Task.{contradiction as task_contradiction};
-ghost use Rattle.nor_listing.specs.Listing.{unended_listing};
-ghost use Rattle.norprog_list.specs.Above.{TellsAfter};
-ghost use Rattle.norprog_list.specs.Listed.{WasListed, RefusesChipOf, RefusesListing, CountsWriter, may_print, of_writer};
+ghost use Rattle.norprog_list.specs.Listed.{ListsText, RefusesText, RefusesChipOf, CountsWriter, CountsSource, may_print};
+ghost use Rattle.norprog_list.specs.Stop.{refusal_of as told_of};
 
-use nor_base::{ByteOut, Meaning, Start, Step};
+use crate::steps::{Stop, list_steps};
+use nor_base::{ByteIn, ByteOut, Meaning, Start};
 use nor_job::{BuildFault, Inputs, chip_of, contradiction};
-use nor_listing::{write_listing, write_unended};
-use nor_script::{ScriptFault, read_until_fault};
-use norprog_words::Refusal;
+use nor_script::{ReadFault, ScriptFault};
+use norprog_words::{FileName, Refusal};
 use std::alloc::Global;
 
-/// Writes the listing of the steps that a script's text spells, by the chip of the inputs and the address mode that it begins
-/// in. But for contradictions the image, the layout's regions, the base and the verifying of the inputs have no part in it.
-/// Memory is taken for the steps.
+/// Writes the listing of the steps of a script, by the chip of the inputs and the address mode that it begins in, each line as its
+/// step comes. But for contradictions the image, the layout's regions, the base and the verifying of the inputs have no part in it.
+/// Memory is taken for the longest line.
 ///
-/// The first fault is told: `Contradiction`, `Sfdp`, `Status` and `ModeImpossible` as a build tells them; `Script` where the
-/// text is none, after the listing, without its end line, of the steps whose lines stand above the fault's; `Write` where `out`
-/// fails, which has then taken a proper prefix of the listing, or of the lines above the text's fault, which isn't told then.
-/// `Memory` comes where a growth is refused. All but `Script` and `Write` leave `out` as it was.
-pub fn list_script<W: ByteOut>(
+/// The first fault is told: `Contradiction`, `Sfdp`, `Status` and `ModeImpossible` as a build tells them, which leave `script` and
+/// `out` as they were. Then, of the lines in their order, `Script` where the text is none, after the listing, without its end line,
+/// of the steps whose lines stand above the fault's; `Write` where `out` fails, which has then taken a proper prefix of the listing,
+/// or of the lines of the first steps, whatever follows these; `File` of `Script` where `script` fails, and `Memory` where a growth
+/// is refused, after the lines of the first steps.
+pub fn list_script<R: ByteIn, W: ByteOut>(
     alloc: Global,
     inputs: &Inputs<'_>,
-    script: &[u8],
+    script: &mut R,
     out: &mut W,
 ) -> Result<(), Refusal>
-    requires { W.count out.old < 2 ^ 64 - 1 }
-    ensures listed { IfOk result (λ _. WasListed inputs.now script.now (W.held out.old) (W.held out.new)) }
-    ensures refused { IfErr result (RefusesListing inputs.now script.now (W.held out.old) (W.held out.new)) }
+    requires script { R.count script.old < 2 ^ 64 - 1 }
+    requires out { W.count out.old < 2 ^ 64 - 1 }
+    ensures listed { IfOk result (λ _. ListsText inputs.now (R.ahead script.old) (R.ahead script.new) (W.held out.old) (W.held out.new)) }
+    ensures refused { IfErr result (RefusesText inputs.now (R.ahead script.old) (R.ahead script.new) (W.held out.old) (W.held out.new)) }
+    ensures unread { IfErr result (λ why. may_print why ≡ false → script.new ≡ script.old) }
     ensures unwritten { IfErr result (λ why. may_print why ≡ false → out.new ≡ out.old) }
+    ensures source { CountsSource (R.count script.old) (R.count script.new) result }
     ensures count { CountsWriter (W.count out.old) (W.count out.new) result }
 {
     let (meaning, start) = chip_in(inputs)?;
-    let (steps, end) = read_until_fault(alloc, script);
-    if let Err(fault) = end {
-        return Err(list_above(&meaning, &start, steps.as_slice(), fault, out));
-    }
-    match write_listing(&meaning, &start, steps.as_slice(), out) {
+    match list_steps(alloc, &meaning, meaning.begins4(&start), script, out) {
         Ok(()) => Ok(()),
-        Err(_) => Err(Refusal::WRITE),
+        Err(stop) => Err(refusal_of(stop)),
     }
 }
 
-/// Lists the steps above a script's fault, and answers what is to be told: the fault, or `Write` where `out` fails. Where memory
-/// was refused nothing is listed.
-fn list_above<W: ByteOut>(
-    meaning: &Meaning,
-    start: &Start,
-    steps: &[Step],
-    fault: ScriptFault,
-    out: &mut W,
-) -> Refusal
-    requires { W.count out.old < 2 ^ 64 - 1 }
-    ensures told { TellsAfter (unended_listing meaning.now (begins4 meaning.now start.now) steps.now) fault
-        (W.held out.old) (W.held out.new) result }
-    ensures unwritten { may_print result ≡ false → out.new ≡ out.old }
-    ensures count { W.count out.new ≡ W.count out.old + of_writer result }
+/// What is told where the steps aren't all listed.
+fn refusal_of(stop: Stop) -> Refusal
+    ensures { result ≡ told_of stop }
 {
-    if let ScriptFault::Memory = fault {
-        return Refusal::MEMORY;
-    }
-    match write_unended(meaning, start, steps, out) {
-        Ok(()) => Refusal::Script(fault),
-        Err(_) => Refusal::WRITE,
+    match stop {
+        Stop::Script(ReadFault::Script(ScriptFault::Memory)) => Refusal::MEMORY,
+        Stop::Script(ReadFault::Script(fault)) => Refusal::Script(fault),
+        Stop::Script(ReadFault::Device(_)) => Refusal::File(FileName::Script),
+        Stop::Out(_) => Refusal::WRITE,
     }
 }
 

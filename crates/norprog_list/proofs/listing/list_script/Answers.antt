@@ -1,12 +1,19 @@
--- What is told of the steps above a fault is the refusal of the text.
-use Rattle.norprog_list.specs.Listed.{IsKnown}
-use Rattle.norprog_list.proofs.AboveLemmas.{told_above}
+-- What stopped the listing is the refusal of the text.
+use Rattle.std.proofs.Common.{◌∙◌, ap, sym, subst}
+use Rattle.nor_base.specs.Chip.{begins4}
+use Rattle.norprog_list.specs.Listed.{IsKnown, RefusesText}
+use Rattle.norprog_list.proofs.ListedLemmas.{stopped, no_chip}
 use Rattle.norprog_list.proofs.listing.list_script.Goals as goal
+
+pub returns-in_err-meaning-clause-refused : goal.returns-in_err-meaning-clause-refused
+returns-in_err-meaning-clause-refused g c =
+    no_chip c.args.inputs.now (g.W.ByteOut.held c.args.out.now) (g.R.ByteIn.ahead c.args.script.now) c.from_residual.result _ c.from_residual.ensures.1 c.in_err-meaning.ensures.refused
 
 pub returns-in-Err-clause-refused : goal.returns-in-Err-clause-refused
 returns-in-Err-clause-refused g c =
     let known : IsKnown c.args.inputs.now c.in_ok-meaning.meaning = record { consistent = c.in_ok-meaning.ensures.consistent; chip = c.in_ok-meaning.ensures.chip } in
-    let refuses = rw c.in-Err.is at c.read_until_fault-steps.ensures.refused in
-    let above = rw c.in-Err.is at c.read_until_fault-steps.ensures.above in
-    told_above c.args.inputs.now c.args.script.now c.in_ok-meaning.meaning known c.in_ok-meaning.start c.in_ok-meaning.ensures.start
-    c.read_until_fault-steps.result.0.items c.as_slice.result.now c.as_slice.ensures.value c.in-Err.fault refuses above _ _ _ c.list_above.ensures.told
+    let lists = rw c.in-Err.is at c.list_steps.ensures.lists in
+    subst (RefusesText c.args.inputs.now (g.R.ByteIn.ahead c.args.script.now) (g.R.ByteIn.ahead c.list_steps.new.script) (g.W.ByteOut.held c.args.out.now) (g.W.ByteOut.held c.list_steps.new.out))
+    (sym c.refusal_of.ensures)
+    (stopped c.args.inputs.now c.in_ok-meaning.meaning known c.begins4.result (c.begins4.ensures ∙ ap (begins4 c.in_ok-meaning.meaning) c.in_ok-meaning.ensures.start)
+    (g.R.ByteIn.ahead c.args.script.now) (g.R.ByteIn.ahead c.list_steps.new.script) (g.W.ByteOut.held c.args.out.now) (g.W.ByteOut.held c.list_steps.new.out) c.in-Err.stop lists)
