@@ -1,14 +1,11 @@
 -- Steps that are operations of the device.
-use Rattle.std.proofs.Common.{◌≡◌, Bool, true, false, ℕ, ◌+◌, ◌<◌, ◌≤◌, List, [], ◌∷◌, ◌++◌, take, length, get_or, Ok, Err, refl, sym, ◌∙◌, ap, subst, arith}
+use Rattle.std.proofs.Common.{◌≡◌, Bool, true, false, ℕ, ◌+◌, ◌<◌, ◌≤◌, List, [], ◌∷◌, ◌++◌, take, length, get_or, Err, sym, ◌∙◌, ap, subst, arith}
 use Rattle.std.proofs.lemmas.List.{take_more, take_all}
 use Rattle.std.proofs.lemmas.List.Elements.{All-nil, All-cons, All-append, All-get_or}
 use Rattle.std.specs.Prelude.{All, IsTrue, ◌↔◌}
 use Rattle.nor_base.specs.declared.step.Step.{Step}
-use Rattle.nor_base.specs.Run.{poll_clocks}
-use Rattle.nor_base.specs.Chip.{Setting, ready}
-use Rattle.nor_base.specs.Port.{Shown}
-use Rattle.nor_chip.specs.Ready.{ready_chip}
-use Rattle.nor_play.specs.Play.{play}
+use Rattle.nor_base.specs.declared.meaning.Start.{Start}
+use Rattle.nor_base.specs.Parameters.{Parameters}
 use Rattle.nor_serprog.specs.Carried.{IsOperation}
 use Rattle.nor_serprog.specs.declared.limits.Limits.{Limits}
 use Rattle.nor_serprog.specs.declared.fault.Reason.{Reason}
@@ -17,12 +14,10 @@ use Rattle.nor_serprog.specs.Follow.{Follows}
 use Rattle.norprog_play.specs.declared.ending.Ending.TheVariants.{Failed}
 use Rattle.nor_base.specs.Sample.{sampled_count}
 use Rattle.norprog_play.specs.Carried.{IsCarried, AreCarried, IsFirstNotCarried}
-use Rattle.norprog_play.specs.Likeness.{Begins}
-use Rattle.norprog_play.specs.Ending.{EndsSo, MayBegin, GoesWell}
-use Rattle.norprog_play.specs.Rehearsal.{Rehearses}
-use Rattle.norprog_play.specs.declared.rehearsal.Rehearsal.{Rehearsal}
-use Rattle.norprog_play.specs.declared.rehearsal.Rehearsal.TheVariants.{Well}
-use Rattle.norprog_play.specs.Moment.{clocks_of, Moment, StopsAt}
+use Rattle.norprog_play.specs.Likeness.{are_four, Begins}
+use Rattle.norprog_play.specs.Ending.{EndsSo, MayBegin}
+use Rattle.norprog_play.specs.Moment.{clocks_of, Moment, DoesAll, StopsAt}
+use Rattle.norprog_play.specs.Touched.{IsCompared}
 
 -- all of the steps so far, and one more
 pub all_more : (P : Step → Type 0) (steps : List Step) (at : ℕ) (x : Step) → at < length steps → x ≡ get_or steps at x → All P (take at steps) → P x → All P (take (at + 1) steps)
@@ -42,11 +37,12 @@ never_none : (limits : Limits) (turns : ℕ) (b c : Moment) (x : Step) (given : 
 never_none limits turns b c x given can follows = (follows.other (λ is. follows.poll is)).none can.0 can.1 can.2
 
 -- where a play that began stops
-pub stops : (limits : Limits) (turns : ℕ) (trusted four : Bool) (before between after : Moment) (steps : List Step) (at : ℕ) (why : Reason) → MayBegin limits before steps
-    → Begins trusted four before between → StopsAt limits turns between steps at why after → EndsSo limits turns trusted four before steps (Failed at why) after
-stops limits turns trusted four before between after steps at reason.Busy may begins stop = record { may = may; between = between; begins = begins; stops = stop }
-stops limits turns trusted four before between after steps at (reason.Exchange why) may begins stop = record { may = may; between = between; begins = begins; stops = stop }
-stops limits turns trusted four before between after steps at reason.Carried may begins stop =
+pub stops : (limits : Limits) (turns : ℕ) (trusted : Bool) (m : Parameters) (start : Start) (before between after : Moment) (steps : List Step) (at : ℕ) (why : Reason)
+    → MayBegin limits before steps → Begins trusted (are_four m start) (IsCompared m start steps) before between → StopsAt limits turns between steps at why after
+    → EndsSo limits turns trusted m start before steps (Failed at why) after
+stops limits turns trusted m start before between after steps at reason.Busy may begins stop = record { may = may; between = between; begins = begins; stops = stop }
+stops limits turns trusted m start before between after steps at (reason.Exchange why) may begins stop = record { may = may; between = between; begins = begins; stops = stop }
+stops limits turns trusted m start before between after steps at reason.Carried may begins stop =
     absurd (never_none limits turns stop.reached after stop.last stop.stop.given
     (one_of (IsCarried limits) steps at stop.last stop.within stop.is may.carried) stop.stop.device)
 
@@ -71,15 +67,13 @@ told_not limits x clocks r is tells failed can =
     let passed : r ≡ true = tells.1 (subst (λ (l : List ℕ). (sent : List ℕ) × (asked : ℕ) × IsOperation limits l sent asked) (sym is) can) in
     let both : true ≡ false = sym passed ∙ failed in cc
 
--- what a rehearsal on the same chip tells
-pub well_here : (before : Moment) (s : Setting) (content same : List ℕ) (steps : List Step) (r : Rehearsal) (transactions : ℕ) → before.shown ≡ ready_chip s content → same ≡ content
-    → Rehearses s (ready s same) steps r → r ≡ Well transactions → GoesWell before steps
-well_here before s content same steps r transactions is alike ends told_well =
-    let well = subst (Rehearses s (ready s same) steps) told_well ends in
-    (well.0.0, subst (λ (b : Shown). play b.setting 1 b.chip steps ≡ Ok well.0.0) (sym is) (subst (λ (l : List ℕ). play s 1 (ready s l) steps ≡ Ok well.0.0) alike well.0.1))
-
 -- of limits and turns that stayed
 pub same_bounds : (limits limits' : Limits) (turns turns' : ℕ) (before after : Moment) (steps : List Step) (at : ℕ) (why : Reason) → limits' ≡ limits → turns' ≡ turns
     → StopsAt limits' turns' before steps at why after → StopsAt limits turns before steps at why after
 same_bounds limits limits' turns turns' before after steps at why same as_many stop =
     subst (λ (l : Limits). StopsAt l turns before steps at why after) same (subst (λ n. StopsAt limits' n before steps at why after) as_many stop)
+
+pub done_bounds : (limits limits' : Limits) (turns turns' : ℕ) (before after : Moment) (steps : List Step) → limits' ≡ limits → turns' ≡ turns
+    → DoesAll limits' turns' before steps after → DoesAll limits turns before steps after
+done_bounds limits limits' turns turns' before after steps same as_many does =
+    subst (λ (l : Limits). DoesAll l turns before steps after) same (subst (λ n. DoesAll limits' n before steps after) as_many does)

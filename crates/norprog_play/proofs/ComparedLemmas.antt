@@ -1,115 +1,160 @@
--- Pieces read one after the other.
-use Rattle.std.proofs.Common.{◌≡◌, Bool, ℕ, zero, ◌+◌, ◌-◌, ◌<◌, ◌≤◌, List, [], ◌∷◌, ◌++◌, take, drop, length, Option, Result, Ok, Err, refl, sym, ◌∙◌, ap, subst, arith, append_assoc, append-nil, length-append}
-use Rattle.std.specs.Prelude.{flat_map}
+-- Ranges read one after the other.
+use Rattle.std.proofs.Common.{◌≡◌, Bool, ℕ, ◌+◌, ◌-◌, ◌<◌, ◌≤◌, ◌⊎◌, inl, inr, List, [], ◌∷◌, ◌++◌, take, drop, length, Option, Err, refl, sym, ◌∙◌, ap, subst, arith, append-nil}
+use Rattle.std.specs.Prelude.{flat_map, ◌↔◌}
 use Rattle.std.specs.List.{slice_range}
 use Rattle.std.specs.Io.KnownBytes.{Appends}
+use Rattle.std.proofs.lemmas.Bool.{cases_lt}
 use Rattle.std.proofs.lemmas.Grind.{flat_map-append}
-use Rattle.std.proofs.Math.Seq.{take-add}
-use Rattle.std.proofs.lemmas.List.Folds.{drop_split}
-use Rattle.std.proofs.lemmas.List.{take-append-drop, length-take-le, take_all}
+use Rattle.std.proofs.lemmas.List.{length-take-le}
+use Rattle.std.proofs.Common.{length-drop}
 use Rattle.nor_base.specs.Device.{Ahead, Unknown, Finite, Endless, Gives}
 use Rattle.nor_base.proofs.DeviceLaws.{Appends-append, Appends-none, Gives-append}
 use Rattle.nor_serprog.specs.declared.fault.Fault.{Fault}
-use Rattle.nor_serprog.specs.declared.fault.Fault.TheVariants as fault
-use Rattle.nor_serprog.specs.Exchange.{Talked, Asks, AnswersWith}
+use Rattle.nor_serprog.specs.Exchange.{Asks, AnswersWith}
 use Rattle.nor_serprog.specs.Protocol.{request, answer}
-use Rattle.norprog_play.specs.Compared.{read_from, reads, joined, HasRead, HasCompared, StopsComparing}
+use Rattle.norprog_play.specs.Compared.{Range, LiesIn, LiesInOne, AreInOrder, read_from, read_of, bytes_in, HasComparedTo, HasCompared, StopsComparing}
+use Rattle.norprog_play.specs.Marks.{IsMarked, IsNextMarked, AreMarkedFrom}
 
--- the pieces so far are these bytes
-pub record HasComparedSome (held held' : Option (List ℕ)) (a b : Ahead) (four : Bool) (bytes : List ℕ) : Type 0 where
-  pub pieces : List (List ℕ)
-  pub whole : joined pieces ≡ bytes
-  pub read : HasRead held held' a b four pieces
+-- one range more
+in_one_more : (rs : List Range) (r : Range) (a : ℕ) → LiesInOne (rs ++ r ∷ []) a → LiesInOne rs a ⊎ LiesIn r a
+in_one_more [] r a (inl h) = inr h
+in_one_more [] r a (inr h) = absurd h
+in_one_more (x ∷ xs) r a (inl h) = inl (inl h)
+in_one_more (x ∷ xs) r a (inr h) = elim (in_one_more xs r a h) [ inl i ↦ inl (inr i) | inr i ↦ inr i ]
 
-reads_more : (four : Bool) (address : ℕ) (pieces : List (List ℕ)) (piece : List ℕ)
-    → reads four address (pieces ++ piece ∷ []) ≡ reads four address pieces ++ request (read_from four (address + length (joined pieces))) (length piece)
-unfolding reads
-reads_more four address [] piece =
-    let here : address ≡ address + 0 = omega arith in
-    append-nil (request (read_from four address) (length piece)) ∙ ap (λ n. request (read_from four n) (length piece)) here
-reads_more four address (first ∷ pieces) piece =
-    let after : address + length first + length (joined pieces) ≡ address + length (first ++ joined pieces) = omega (arith, length-append first (joined pieces)) in
-    ap (λ l. request (read_from four address) (length first) ++ l) (reads_more four (address + length first) pieces piece)
-    ∙ sym (append_assoc (request (read_from four address) (length first)) (reads four (address + length first) pieces)
-    (request (read_from four (address + length first + length (joined pieces))) (length piece)))
-    ∙ ap (λ n. (request (read_from four address) (length first) ++ reads four (address + length first) pieces) ++ request (read_from four n) (length piece)) after
+in_one_kept : (rs : List Range) (r : Range) (a : ℕ) → LiesInOne rs a → LiesInOne (rs ++ r ∷ []) a
+in_one_kept [] r a h = absurd h
+in_one_kept (x ∷ xs) r a (inl h) = inl h
+in_one_kept (x ∷ xs) r a (inr h) = inr (in_one_kept xs r a h)
+
+in_one_last : (rs : List Range) (r : Range) (a : ℕ) → LiesIn r a → LiesInOne (rs ++ r ∷ []) a
+in_one_last [] r a h = inl h
+in_one_last (x ∷ xs) r a h = inr (in_one_last xs r a h)
+
+in_order_higher : (low high higher : ℕ) (rs : List Range) → high ≤ higher → AreInOrder low high rs → AreInOrder low higher rs
+in_order_higher low high higher [] more order = omega arith
+in_order_higher low high higher (r ∷ rs) more order = (order.0, order.1, in_order_higher (r.start + r.len) high higher rs more order.2)
+
+in_order_more : (low high higher : ℕ) (rs : List Range) (r : Range) → AreInOrder low high rs → high ≤ r.start → 0 < r.len → r.start + r.len ≤ higher
+    → AreInOrder low higher (rs ++ r ∷ [])
+in_order_more low high higher [] r order past some upto = (omega arith, some, upto)
+in_order_more low high higher (x ∷ xs) r order past some upto = (order.0, order.1, in_order_more (x.start + x.len) high higher xs r order.2 past some upto)
 
 gives_none : (before : Ahead) → Gives before [] before
 gives_none Unknown = tt
 gives_none (Finite bytes) = refl
 gives_none (Endless byte_at) = ((λ k inside. absurd (omega (arith, inside))), (λ k. ap byte_at (omega arith)))
 
-pub none_read : (held : Option (List ℕ)) (a : Ahead) (four : Bool) → HasComparedSome held held a a four []
-unfolding reads
-none_read held a four = record { pieces = []; whole = refl; read = record { out = Appends-none held; back = gives_none a } }
+-- nothing was read yet
+pub none_read : (held : Option (List ℕ)) (a : Ahead) (four : Bool) (content : List ℕ) (Wanted : ℕ → Type 0) → HasComparedTo held held a a four content Wanted 0
+none_read held a four content Wanted = record {
+  ranges = [];
+  in_order = omega arith;
+  just = λ k. ((λ h. absurd h), (λ h. absurd (omega (arith, h.0))));
+  read = record { out = Appends-none held; back = gives_none a };
+}
 
--- one piece more
-pub more_read : (held held' held'' : Option (List ℕ)) (a b c : Ahead) (four : Bool) (bytes piece : List ℕ) → HasComparedSome held held' a b four bytes
-    → Appends held' held'' (request (read_from four (length bytes)) (length piece)) → Gives b (answer piece) c → HasComparedSome held held'' a c four (bytes ++ piece)
-more_read held held' held'' a b c four bytes piece so_far put given =
-    let longer : joined (so_far.pieces ++ piece ∷ []) ≡ bytes ++ piece =
-    flat_map-append (λ (p : List ℕ). p) so_far.pieces (piece ∷ []) ∙ ap (λ l. joined so_far.pieces ++ l) (append-nil piece) ∙ ap (λ l. l ++ piece) so_far.whole in
-    let from_0 : 0 + length (joined so_far.pieces) ≡ length (joined so_far.pieces) = omega arith in
-    let asked : reads four 0 (so_far.pieces ++ piece ∷ []) ≡ reads four 0 so_far.pieces ++ request (read_from four (length bytes)) (length piece) =
-    reads_more four 0 so_far.pieces piece ∙ ap (λ n. reads four 0 so_far.pieces ++ request (read_from four n) (length piece)) from_0
-    ∙ ap (λ (l : List ℕ). reads four 0 so_far.pieces ++ request (read_from four (length l)) (length piece)) so_far.whole in
-    let answered : flat_map answer (so_far.pieces ++ piece ∷ []) ≡ flat_map answer so_far.pieces ++ answer piece =
-    flat_map-append answer so_far.pieces (piece ∷ []) ∙ ap (λ l. flat_map answer so_far.pieces ++ l) (append-nil (answer piece)) in
+-- where no address up to a higher one is wanted
+pub reaches : (held held' : Option (List ℕ)) (a b : Ahead) (four : Bool) (content : List ℕ) (Wanted : ℕ → Type 0) (high higher : ℕ) → high ≤ higher
+    → ((k : ℕ) → high ≤ k → k < higher → Wanted k → ⊥) → HasComparedTo held held' a b four content Wanted high → HasComparedTo held held' a b four content Wanted higher
+reaches held held' a b four content Wanted high higher more none so_far = record {
+  ranges = so_far.ranges;
+  in_order = in_order_higher 0 high higher so_far.ranges more so_far.in_order;
+  just = λ k. (
+    (λ h. let both = (so_far.just k).0 h in (omega (arith, both.0), both.1)),
+    (λ h. elim (cases_lt k high) [
+      | inl below ↦ (so_far.just k).1 (below, h.1)
+      | inr past ↦ absurd (none k past h.0 h.1)
+    ]),
+  );
+  read = so_far.read;
+}
+
+-- one range more, of addresses that are all wanted
+pub reads_more : (held held' held'' : Option (List ℕ)) (a b c : Ahead) (four : Bool) (content : List ℕ) (Wanted : ℕ → Type 0) (r : Range) → 0 < r.len
+    → ((k : ℕ) → r.start ≤ k → k < r.start + r.len → Wanted k) → HasComparedTo held held' a b four content Wanted r.start
+    → Appends held' held'' (read_of four r) → Gives b (answer (bytes_in content r)) c → HasComparedTo held held'' a c four content Wanted (r.start + r.len)
+reads_more held held' held'' a b c four content Wanted r some wanted so_far put given =
+    let asked : flat_map (read_of four) (so_far.ranges ++ r ∷ []) ≡ flat_map (read_of four) so_far.ranges ++ read_of four r =
+    flat_map-append (read_of four) so_far.ranges (r ∷ []) ∙ ap (λ l. flat_map (read_of four) so_far.ranges ++ l) (append-nil (read_of four r)) in
+    let answers : Range → List ℕ = λ (x : Range). answer (bytes_in content x) in
+    let answered : flat_map answers (so_far.ranges ++ r ∷ []) ≡ flat_map answers so_far.ranges ++ answers r =
+    flat_map-append answers so_far.ranges (r ∷ []) ∙ ap (λ l. flat_map answers so_far.ranges ++ l) (append-nil (answers r)) in
     record {
-      pieces = so_far.pieces ++ piece ∷ [];
-      whole = longer;
+      ranges = so_far.ranges ++ r ∷ [];
+      in_order = in_order_more 0 r.start (r.start + r.len) so_far.ranges r so_far.in_order (omega arith) some (omega arith);
+      just = λ k. (
+        (λ h. elim (in_one_more so_far.ranges r k h) [
+          | inl before ↦ let both = (so_far.just k).0 before in (omega (arith, both.0), both.1)
+          | inr here ↦ (here.1, wanted k here.0 here.1)
+        ]),
+        (λ h. elim (cases_lt k r.start) [
+          | inl below ↦ in_one_kept so_far.ranges r k ((so_far.just k).1 (below, h.1))
+          | inr past ↦ in_one_last so_far.ranges r k (past, h.0)
+        ]),
+      );
       read = record {
         out = subst (Appends held held'') (sym asked) (Appends-append held held' held'' _ _ so_far.read.out put);
         back = subst (λ l. Gives a l c) (sym answered) (Gives-append a b c _ _ so_far.read.back given);
       };
     }
 
-pub all_read : (held held' : Option (List ℕ)) (a b : Ahead) (four : Bool) (content : List ℕ) (done : ℕ) → length content ≤ done
-    → HasComparedSome held held' a b four (take done content) → HasCompared held held' a b four content
-all_read held held' a b four content done all so_far =
-    record { pieces = so_far.pieces; whole = so_far.whole ∙ take_all done content all; read = so_far.read }
+slice_of : (content : List ℕ) (start len : ℕ) → start + len ≤ length content → length (slice_range content start (start + len)) ≡ len
+slice_of content start len within =
+    let long : start + len - start ≡ len = omega arith in
+    ap (λ n. length (take n (drop start content))) long
+    ∙ length-take-le len (drop start content) (let left = length-drop start content in omega (arith, left, within))
 
--- the piece after those ended so
-pub stopped : (held held' held'' : Option (List ℕ)) (a b c : Ahead) (four : Bool) (content bytes piece rest : List ℕ) (why : Fault) → HasComparedSome held held' a b four bytes
-    → content ≡ bytes ++ (piece ++ rest) → Asks held' held'' b c (Err why) (request (read_from four (length bytes)) (length piece)) (AnswersWith b c (Err why) piece)
-    → StopsComparing held held'' a c four content why
-stopped held held' held'' a b c four content bytes piece rest why so_far parts stop =
+abbrev piece_of : ℕ → ℕ → Range
+piece_of start len = record { start = start; len = len }
+
+-- the next piece of marked addresses
+pub piece_more : (held held' held'' : Option (List ℕ)) (a b c : Ahead) (four : Bool) (content piece : List ℕ) (marks : List Bool) (done most start len : ℕ)
+    → start + len ≤ length content → piece ≡ slice_range content start (start + len) → IsNextMarked marks done start → AreMarkedFrom marks start most len
+    → HasComparedTo held held' a b four content (IsMarked marks) done → Appends held' held'' (request (read_from four start) (length piece)) → Gives b (answer piece) c
+    → HasComparedTo held held'' a c four content (IsMarked marks) (start + len)
+piece_more held held' held'' a b c four content piece marks done most start len within is next from so_far put given =
+    let long : length piece ≡ len = ap length is ∙ slice_of content start len within in
+    reads_more held held' held'' a b c four content (IsMarked marks) (piece_of start len) from.some from.each
+    (reaches held held' a b four content (IsMarked marks) done start next.past next.none_before so_far)
+    (subst (λ n. Appends held' held'' (request (read_from four start) n)) long put)
+    (subst (λ (l : List ℕ). Gives b (answer l) c) is given)
+
+-- its exchange ended so
+pub piece_stopped : (held held' held'' : Option (List ℕ)) (a b c : Ahead) (four : Bool) (content piece : List ℕ) (marks : List Bool) (done most start len : ℕ) (why : Fault)
+    → start + len ≤ length content → piece ≡ slice_range content start (start + len) → IsNextMarked marks done start → AreMarkedFrom marks start most len
+    → HasComparedTo held held' a b four content (IsMarked marks) done
+    → Asks held' held'' b c (Err why) (request (read_from four start) (length piece)) (AnswersWith b c (Err why) piece)
+    → StopsComparing held held'' a c four content (IsMarked marks) why
+piece_stopped held held' held'' a b c four content piece marks done most start len why within is next from so_far stop =
+    let long : length piece ≡ len = ap length is ∙ slice_of content start len within in
     record {
-      pieces = so_far.pieces;
-      piece = piece;
-      rest = rest;
-      whole = parts ∙ ap (λ (l : List ℕ). l ++ (piece ++ rest)) (sym so_far.whole);
+      last = piece_of start len;
+      some = from.some;
+      within = within;
+      wanted = λ k h. from.each k h.0 h.1;
       held = held';
       ahead = b;
-      read = so_far.read;
-      stop = subst (λ (l : List ℕ). Asks held' held'' b c (Err why) (request (read_from four (length l)) (length piece)) (AnswersWith b c (Err why) piece)) (sym so_far.whole) stop;
+      before = reaches held held' a b four content (IsMarked marks) done start next.past next.none_before so_far;
+      stop = subst (λ (l : List ℕ). Asks held' held'' b c (Err why) (request (read_from four start) len) (AnswersWith b c (Err why) l)) is
+          (subst (λ n. Asks held' held'' b c (Err why) (request (read_from four start) n) (AnswersWith b c (Err why) piece)) long stop);
     }
 
--- a content by a piece of it
-pub in_parts : (content piece : List ℕ) (done room : ℕ) → piece ≡ slice_range content done (done + room) → content ≡ take done content ++ (piece ++ drop (done + room) content)
-in_parts content piece done room is =
-    sym (take-append-drop done content) ∙ ap (λ (l : List ℕ). take done content ++ l)
-    (drop_split content done (done + room) (omega arith) ∙ ap (λ (l : List ℕ). l ++ drop (done + room) content) (sym is))
+-- there are no more
+pub all_read : (held held' : Option (List ℕ)) (a b : Ahead) (four : Bool) (content : List ℕ) (marks : List Bool) (done : ℕ) → done ≤ length content
+    → ((k : ℕ) → done ≤ k → IsMarked marks k → ⊥) → HasComparedTo held held' a b four content (IsMarked marks) done → HasCompared held held' a b four content (IsMarked marks)
+all_read held held' a b four content marks done within none so_far =
+    reaches held held' a b four content (IsMarked marks) done (length content) within (λ k past below is. none k past is) so_far
 
-pub taken : (content piece : List ℕ) (done room : ℕ) → piece ≡ slice_range content done (done + room) → take done content ++ piece ≡ take (done + room) content
-taken content piece done room is =
-    let long : done + room - done ≡ room = omega arith in
-    ap (λ (l : List ℕ). take done content ++ l) (is ∙ ap (λ n. take n (drop done content)) long) ∙ sym (take-add done room content)
-
-front : (content : List ℕ) (done : ℕ) → done ≤ length content → length (take done content) ≡ done
-front content done within = length-take-le done content (omega (arith, within))
-
-pub piece_more : (held held' held'' : Option (List ℕ)) (a b c : Ahead) (four : Bool) (content piece : List ℕ) (done room : ℕ) → done ≤ length content
-    → piece ≡ slice_range content done (done + room) → HasComparedSome held held' a b four (take done content)
-    → Appends held' held'' (request (read_from four done) (length piece)) → Gives b (answer piece) c → HasComparedSome held held'' a c four (take (done + room) content)
-piece_more held held' held'' a b c four content piece done room within is so_far put given =
-    subst (HasComparedSome held held'' a c four) (taken content piece done room is)
-    (more_read held held' held'' a b c four (take done content) piece so_far
-    (subst (λ n. Appends held' held'' (request (read_from four n) (length piece))) (sym (front content done within)) put) given)
-
-pub piece_stopped : (held held' held'' : Option (List ℕ)) (a b c : Ahead) (four : Bool) (content piece : List ℕ) (done room : ℕ) (why : Fault) → done ≤ length content
-    → piece ≡ slice_range content done (done + room) → HasComparedSome held held' a b four (take done content)
-    → Asks held' held'' b c (Err why) (request (read_from four done) (length piece)) (AnswersWith b c (Err why) piece) → StopsComparing held held'' a c four content why
-piece_stopped held held' held'' a b c four content piece done room why within is so_far stop =
-    stopped held held' held'' a b c four content (take done content) piece (drop (done + room) content) why so_far (in_parts content piece done room is)
-    (subst (λ n. Asks held' held'' b c (Err why) (request (read_from four n) (length piece)) (AnswersWith b c (Err why) piece)) (sym (front content done within)) stop)
+-- of addresses that are wanted just where others are
+pub wanted_alike : (held held' : Option (List ℕ)) (a b : Ahead) (four : Bool) (content : List ℕ) (P Q : ℕ → Type 0) (high : ℕ) → ((k : ℕ) → k < high → (P k ↔ Q k))
+    → HasComparedTo held held' a b four content P high → HasComparedTo held held' a b four content Q high
+wanted_alike held held' a b four content P Q high alike so_far = record {
+  ranges = so_far.ranges;
+  in_order = so_far.in_order;
+  just = λ k. (
+    (λ h. let both = (so_far.just k).0 h in (both.0, (alike k both.0).0 both.1)),
+    (λ h. (so_far.just k).1 (h.0, (alike k h.0).1 h.1)),
+  );
+  read = so_far.read;
+}

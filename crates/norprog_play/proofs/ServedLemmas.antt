@@ -1,5 +1,5 @@
 -- The play that a request has is the one that its texts ask for.
-use Rattle.std.proofs.Common.{◌≡◌, refl, sym, subst, inl, inr, List, ℕ, Option, None, Result, Ok, Err, IfOk, IfErr}
+use Rattle.std.proofs.Common.{◌≡◌, refl, sym, subst, List, ℕ, None, Result, Ok, Err, IfOk, IfErr}
 use Rattle.std.specs.Prelude.{MatchResult, IsErrAnd}
 use Rattle.nor_base.specs.declared.meaning.Start.{Start}
 use Rattle.nor_base.specs.declared.step.Step.{Step}
@@ -16,7 +16,7 @@ use Rattle.norprog_play.specs.declared.ending.Ending.{Ending}
 use Rattle.norprog_play.specs.declared.request.PlayRequest.{PlayRequest}
 use Rattle.norprog_play.specs.declared.unplayed.Unplayed.{Unplayed}
 use Rattle.norprog_play.specs.declared.unplayed.Unplayed.TheVariants.{Refused, Device}
-use Rattle.norprog_play.specs.Answer.{IsEndingOf, IsEnding, IsStopOf, IsPlayFault, RefusesPlay, IsGreetingOf, IsGreeting, IsUnplayed, RefusesLine}
+use Rattle.norprog_play.specs.Answer.{IsEndingOf, IsEnding, IsStopOf, IsPlayFault, RefusesPlay, IsGreetingOf, IsUnplayed, RefusesLine}
 use Rattle.norprog_play.specs.Job.{IsReady, RefusesJob}
 use Rattle.norprog_play.specs.Played.{Ends, EndsGreeting, StopsPlay}
 use Rattle.norprog_play.specs.Request.{is_well_formed, AsksFor}

@@ -1,6 +1,5 @@
 -- A script that goes well on the chip in memory: it takes each step.
-use Rattle.std.proofs.Common.{◌≡◌, ℕ, zero, suc, ◌+◌, ◌<◌, Bool, true, false, if◌then◌else◌, List, [], ◌∷◌, drop, length, get_or, Result, Ok, Err, refl, sym, ◌∙◌, ap, subst, arith}
-use Rattle.std.proofs.lemmas.List.{drop_more, drop_all}
+use Rattle.std.proofs.Common.{◌≡◌, ℕ, Bool, true, false, if◌then◌else◌, List, [], ◌∷◌, length, Result, Ok, Err, refl, sym, ◌∙◌, ap, subst}
 use Rattle.std.proofs.lemmas.Slice.Eq.{bytes_eq-Decides}
 use Rattle.std.specs.Str.{bytes_eq}
 use Rattle.nor_base.specs.declared.step.Step.{Step}
@@ -108,3 +107,9 @@ pub wrong_at : (before after : Shown) (s : Setting) (content : List ℕ) (steps 
 wrong_at before after s content steps at why f is told plays =
     let stops = subst (λ (k : PlayFault). Plays before after 1 steps (Err k)) told plays in
     (after.chip, subst (λ (b : Shown). play b.setting 1 b.chip steps ≡ Err (record { at = at; why = why; chip = after.chip })) is stops.stops)
+
+-- a run that goes well ends where its steps do
+pub same_end : (s : Setting) (c d e : Chip) (steps : List Step) → play s 1 c steps ≡ Ok d → played s 1 c steps ≡ Ok e → play s 1 c steps ≡ Ok e
+same_end s c d e steps goes ends =
+    let steps_end : played s 1 c steps ≡ Ok d = without_end s (length steps) (played s 1 c steps) d goes in
+    goes ∙ (sym steps_end ∙ ends)

@@ -1,45 +1,69 @@
 -- What the chip behind a device holds, compared with a content (W25Q256JV datasheet, Read Data 03h and Read Data with 4-Byte
 -- Address 13h; the exchanges are the Serial Flasher Protocol's).
-use Rattle.std.specs.Prelude.{◌≡◌, ℕ, ◌+◌, ◌*◌, ◌/◌, ◌%◌, ◌^◌, ◌<◌, Bool, true, false, List, [], ◌∷◌, ◌++◌, length, flat_map, Option, Result, Ok, Err}
+use Rattle.std.specs.Prelude.{◌⊎◌, ◌↔◌, ℕ, ◌+◌, ◌/◌, ◌%◌, ◌<◌, ◌≤◌, Bool, true, false, List, [], ◌∷◌, length, flat_map, Option, Err}
+use Rattle.std.specs.List.{slice_range}
 use Rattle.nor_base.specs.Device.{Ahead}
 use Rattle.nor_serprog.specs.declared.fault.Fault.{Fault}
 use Rattle.nor_serprog.specs.Exchange.{Talked, Asks, AnswersWith}
 use Rattle.nor_serprog.specs.Protocol.{request, answer}
+
+-- so many addresses from one on
+pub record Range : Type 0 where
+  pub start : ℕ
+  pub len : ℕ
+
+abbrev pub LiesIn : Range → ℕ → Type 0
+LiesIn r a = (r.start ≤ a) × (a < r.start + r.len)
+
+-- the address lies in one of the ranges
+abbrev pub LiesInOne : List Range → ℕ → Type 0
+LiesInOne [] a = ⊥
+LiesInOne (r ∷ rs) a = LiesIn r a ⊎ LiesInOne rs a
+
+-- none is empty, and they follow one another from one address on up to another
+abbrev pub AreInOrder : ℕ → ℕ → List Range → Type 0
+AreInOrder low high [] = low ≤ high
+AreInOrder low high (r ∷ rs) = (low ≤ r.start) × (0 < r.len) × AreInOrder (r.start + r.len) high rs
 
 -- the instruction that reads from an address on: with four address bytes, or with three
 abbrev pub read_from : Bool → ℕ → List ℕ
 read_from true address = 0x13 ∷ address / 16777216 % 256 ∷ address / 65536 % 256 ∷ address / 256 % 256 ∷ address % 256 ∷ []
 read_from false address = 0x03 ∷ address / 65536 % 256 ∷ address / 256 % 256 ∷ address % 256 ∷ []
 
--- reads of pieces, each from where the one before ends
-unfoldable pub reads : Bool → ℕ → List (List ℕ) → List ℕ
-reads four address [] = []
-reads four address (piece ∷ pieces) = request (read_from four address) (length piece) ++ reads four (address + length piece) pieces
+-- a read of a range
+abbrev pub read_of : Bool → Range → List ℕ
+read_of four r = request (read_from four r.start) r.len
 
-abbrev pub joined : List (List ℕ) → List ℕ
-joined pieces = flat_map (λ piece. piece) pieces
+-- the bytes of a content in a range
+abbrev pub bytes_in : List ℕ → Range → List ℕ
+bytes_in content r = slice_range content r.start (r.start + r.len)
 
--- the device was asked for just these pieces, from address 0 on, and gave just them
-abbrev pub HasRead : Option (List ℕ) → Option (List ℕ) → Ahead → Ahead → Bool → List (List ℕ) → Type 0
-HasRead held_before held_after ahead_before ahead_after four pieces =
-    Talked held_before held_after ahead_before ahead_after (reads four 0 pieces) (flat_map answer pieces)
+-- the device was asked for just these ranges, one after the other, and gave just what the content has there
+abbrev pub HasRead : Option (List ℕ) → Option (List ℕ) → Ahead → Ahead → Bool → List ℕ → List Range → Type 0
+HasRead held_before held_after ahead_before ahead_after four content ranges =
+    Talked held_before held_after ahead_before ahead_after (flat_map (read_of four) ranges) (flat_map (λ r. answer (bytes_in content r)) ranges)
 
--- they are the whole content
-pub record HasCompared (held_before held_after : Option (List ℕ)) (ahead_before ahead_after : Ahead) (four : Bool) (content : List ℕ) : Type 0
-  where
-    pub pieces : List (List ℕ)
-    pub whole : joined pieces ≡ content
-    pub read : HasRead held_before held_after ahead_before ahead_after four pieces
+-- these ranges hold just the addresses below one that were to be compared
+pub record HasComparedTo (held_before held_after : Option (List ℕ)) (ahead_before ahead_after : Ahead) (four : Bool) (content : List ℕ)
+    (Wanted : ℕ → Type 0) (high : ℕ) : Type 0 where
+  pub ranges : List Range
+  pub in_order : AreInOrder 0 high ranges
+  pub just : (a : ℕ) → LiesInOne ranges a ↔ ((a < high) × Wanted a)
+  pub read : HasRead held_before held_after ahead_before ahead_after four content ranges
 
--- the first so many bytes of the content were, and the exchange of the piece after them ended so
-pub record StopsComparing (held_before held_after : Option (List ℕ)) (ahead_before ahead_after : Ahead) (four : Bool) (content : List ℕ) (why : Fault)
-    : Type 0 where
-  pub pieces : List (List ℕ)
-  pub piece : List ℕ
-  pub rest : List ℕ
-  pub whole : content ≡ joined pieces ++ (piece ++ rest)
+-- of the whole content
+abbrev pub HasCompared : Option (List ℕ) → Option (List ℕ) → Ahead → Ahead → Bool → List ℕ → (ℕ → Type 0) → Type 0
+HasCompared held_before held_after ahead_before ahead_after four content Wanted =
+    HasComparedTo held_before held_after ahead_before ahead_after four content Wanted (length content)
+
+-- those before this range were compared, and the exchange of it ended so
+pub record StopsComparing (held_before held_after : Option (List ℕ)) (ahead_before ahead_after : Ahead) (four : Bool) (content : List ℕ)
+    (Wanted : ℕ → Type 0) (why : Fault) : Type 0 where
+  pub last : Range
+  pub some : 0 < last.len
+  pub within : last.start + last.len ≤ length content
+  pub wanted : (a : ℕ) → LiesIn last a → Wanted a
   pub held : Option (List ℕ)
   pub ahead : Ahead
-  pub read : HasRead held_before held ahead_before ahead four pieces
-  pub stop : Asks held held_after ahead ahead_after (Err why) (request (read_from four (length (joined pieces))) (length piece))
-      (AnswersWith ahead ahead_after (Err why) piece)
+  pub before : HasComparedTo held_before held ahead_before ahead four content Wanted last.start
+  pub stop : Asks held held_after ahead ahead_after (Err why) (read_of four last) (AnswersWith ahead ahead_after (Err why) (bytes_in content last))

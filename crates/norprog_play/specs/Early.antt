@@ -1,16 +1,19 @@
 -- What is known of a play before a device is asked (this project's).
-use Rattle.std.specs.Prelude.{◌≡◌, ℕ, ◌^◌, ◌-◌, false, List, [], Option, None, Some, Ok, Err}
+use Rattle.std.specs.Prelude.{◌≡◌, ℕ, ◌^◌, ◌-◌, false, List, [], length, Ok, Err}
 use Rattle.nor_base.specs.declared.meaning.Start.{Start}
 use Rattle.nor_base.specs.declared.step.Step.{Step}
 use Rattle.nor_base.specs.declared.wrong.Wrong.{Wrong}
 use Rattle.nor_base.specs.Chip.{Chip, chip_of}
 use Rattle.nor_base.specs.Parameters.{Parameters}
 use Rattle.nor_base.specs.Port.{Shown}
+use Rattle.nor_base.specs.Run.{trail}
 use Rattle.nor_chip.specs.Ready.{ready_chip}
 use Rattle.nor_play.specs.Play.{play}
 use Rattle.nor_serprog.specs.declared.fault.Reason.TheVariants.{Carried}
 use Rattle.nor_serprog.specs.declared.limits.Limits.{Limits}
 use Rattle.norprog_play.specs.Carried.{AreCarried, IsFirstNotCarried}
+use Rattle.norprog_play.specs.declared.early.Early.{Early}
+use Rattle.norprog_play.specs.declared.early.Early.TheVariants.{Ends, Goes}
 use Rattle.norprog_play.specs.declared.ending.Ending.{Ending}
 use Rattle.norprog_play.specs.declared.ending.Ending.TheVariants.{Wrong as GoesWrong, Failed}
 
@@ -51,7 +54,7 @@ EndsInMemory shown steps (GoesWrong at why) = GoesWrongInMemory shown steps at w
 EndsInMemory shown steps (Failed at Carried) = IsFirstOfNone shown steps at
 EndsInMemory shown steps other = ⊥
 
--- so, or they may be played
-abbrev pub EndsEarly : Shown → List Step → Option Ending → Type 0
-EndsEarly shown steps (Some ending) = EndsInMemory shown steps ending
-EndsEarly shown steps None = MayPlay shown steps
+-- so, or they may be played, in so many transactions
+abbrev pub EndsEarly : Shown → List Step → Early → Type 0
+EndsEarly shown steps (Ends ending) = EndsInMemory shown steps ending
+EndsEarly shown steps (Goes transactions) = MayPlay shown steps × (transactions ≡ length (trail shown.setting shown.chip steps))

@@ -1,5 +1,5 @@
 -- The line that tells how a script ends on a device (this project's).
-use Rattle.std.specs.Prelude.{ℕ, List, ◌++◌, codes, decimal}
+use Rattle.std.specs.Prelude.{ℕ, List, ◌∷◌, ◌++◌, codes, decimal}
 use Rattle.nor_base.specs.declared.wrong.Wrong.TheVariants.{PollNever}
 use Rattle.nor_base.specs.Script.{closed}
 use Rattle.nor_serprog.specs.declared.fault.Fault.{Fault}
@@ -32,3 +32,9 @@ ending_line (Unlike why) = closed (codes "unlike " ++ fault_word why)
 ending_line (Failed step Busy) = wrong_line (wrong_number PollNever) step
 ending_line (Failed step Carried) = failed_line step (codes "carried")
 ending_line (Failed step (Exchange why)) = failed_line step (fault_word why)
+
+-- `step N of M, B of C bytes`, from the line's begin on
+abbrev pub progress_line : ℕ → ℕ → ℕ → ℕ → List ℕ
+progress_line steps all_steps bytes all_bytes =
+    0x0D ∷ (codes "step " ++ (decimal steps ++ (codes " of " ++ (decimal all_steps ++ (codes ", " ++ (decimal bytes ++ (codes " of "
+    ++ (decimal all_bytes ++ codes " bytes"))))))))

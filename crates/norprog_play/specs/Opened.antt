@@ -1,6 +1,8 @@
 -- How a script ends on a device, from its handshake on (this project's).
 use Rattle.std.specs.Prelude.{◌≡◌, ℕ, Bool, List, Result, Ok, Err}
+use Rattle.nor_base.specs.declared.meaning.Start.{Start}
 use Rattle.nor_base.specs.declared.step.Step.{Step}
+use Rattle.nor_base.specs.Parameters.{Parameters}
 use Rattle.nor_job.specs.declared.fault.BuildFault.TheVariants.{Memory}
 use Rattle.nor_serprog.specs.declared.fault.GreetFault.{GreetFault}
 use Rattle.nor_serprog.specs.declared.limits.Limits.{Limits}
@@ -18,11 +20,12 @@ pub record GreetsSo (before after : Moment) (r : Result Limits GreetFault) : Typ
   pub greeted : Greeted before.held after.held before.ahead after.ahead r
 
 -- the device told its limits, and then the steps ended so
-pub record HasPlayed (turns : ℕ) (trusted four : Bool) (before : Moment) (steps : List Step) (ending : Ending) (after : Moment) : Type 0 where
+pub record HasPlayed (turns : ℕ) (trusted : Bool) (m : Parameters) (start : Start) (before : Moment) (steps : List Step) (ending : Ending)
+    (after : Moment) : Type 0 where
   pub limits : Limits
   pub between : Moment
   pub greets : GreetsSo before between (Ok limits)
-  pub ends : EndsSo limits turns trusted four between steps ending after
+  pub ends : EndsSo limits turns trusted m start between steps ending after
 
 -- the handshake ended early; or memory was refused after it
 abbrev pub StopsBefore : Moment → Moment → Unplayed → Type 0

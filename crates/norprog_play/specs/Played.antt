@@ -9,7 +9,6 @@ use Rattle.norprog_play.specs.declared.ending.Ending.{Ending}
 use Rattle.norprog_play.specs.declared.unplayed.Unplayed.{Unplayed}
 use Rattle.norprog_play.specs.declared.unplayed.Unplayed.TheVariants.{Refused, Device}
 use Rattle.norprog_play.specs.Early.{chip_with, MayPlay, EndsInMemory}
-use Rattle.norprog_play.specs.Likeness.{are_four}
 use Rattle.norprog_play.specs.Moment.{Moment}
 use Rattle.norprog_play.specs.Opened.{HasPlayed, GreetsSo}
 
@@ -20,7 +19,7 @@ pub record EndsOnDevice (limit : ℕ) (trusted : Bool) (m : Parameters) (start :
     pub before : Moment
     pub after : Moment
     pub shown : before.shown ≡ chip_with m start content
-    pub played : HasPlayed limit trusted (are_four m start) before steps ending after
+    pub played : HasPlayed limit trusted m start before steps ending after
 
 -- they ended so in memory alone, or on some device
 abbrev pub Ends : ℕ → Bool → Parameters → Start → List ℕ → List Step → Ending → Type 0

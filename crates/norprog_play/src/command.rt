@@ -10,7 +10,7 @@ ghost use Rattle.norprog_play.specs.Played.{Ends, StopsPlay};
 ghost use Rattle.norprog_play.specs.Request.{is_well_formed};
 ghost use Rattle.norprog_play.specs.Served.{task_by, IsTaskOf, OfPlay};
 
-use crate::early::{ends_early, widest};
+use crate::early::{Early, ends_early, widest};
 use crate::ending::Ending;
 use crate::greeted::greet_and_play;
 use crate::job::{Job, job_of};
@@ -35,22 +35,27 @@ use std::io::BufReader;
 /// ending to `out`, or a refusal to `err` (docs/FORMATS.md, sections 9 and 14). Where steps were sent and not all of them were
 /// done it tells that to `err` too. It answers the status: 0 all done, 1 not so or refused, 2 usage.
 ///
+/// Where steps are sent to the device, how many are done is told to `progress` after each hundred and at the end, in a line that is
+/// written over; where that fails nothing changes.
+///
 /// `given` is what stands on the command line, or why that couldn't be read, which is told. Usage is told where the texts
 /// ask for no play.
-pub fn play<O: ByteOut, E: ByteOut>(
+pub fn play<O: ByteOut, E: ByteOut, P: ByteOut>(
     rt: &(impl Files + AllocGlobal),
     given: Result<GivenPlay<'_>, Refusal>,
     out: &mut O,
     err: &mut E,
+    progress: &mut P,
 ) -> u8
     requires out { O.count out.old < 2 ^ 64 - 1 }
     requires err { E.count err.old < 2 ^ 64 - 1 }
+    requires progress { P.count progress.old < 2 ^ 64 - 1 }
     ensures status { result ≤ 2 }
     ensures quiet { result ≡ 0 → err.new ≡ err.old }
     ensures answer { AnswersPlay given.entry (O.held out.old) (O.held out.new) (err.new ≡ err.old)
         (E.count err.new ≡ E.count err.old) (E.held err.old) (E.held err.new) result }
 {
-    match report_play(rt, given, out) {
+    match report_play(rt, given, out, progress) {
         Ok(ending) => tell_state(&ending, err),
         Err(Unplayed::Refused(refusal)) => refuse(&refusal, err),
         Err(Unplayed::Device(fault)) => refuse_device(fault, err),
@@ -58,19 +63,21 @@ pub fn play<O: ByteOut, E: ByteOut>(
 }
 
 /// Plays what is asked for, and writes the ending's line.
-fn report_play<O: ByteOut>(
+fn report_play<O: ByteOut, P: ByteOut>(
     rt: &(impl Files + AllocGlobal),
     given: Result<GivenPlay<'_>, Refusal>,
     out: &mut O,
+    progress: &mut P,
 ) -> Result<Ending, Unplayed>
-    requires { O.count out.old < 2 ^ 64 - 1 }
+    requires out { O.count out.old < 2 ^ 64 - 1 }
+    requires progress { P.count progress.old < 2 ^ 64 - 1 }
     ensures played { IfOk result (IsEnding (OfPlay given.entry)) }
     ensures printed { IfOk result (λ ending. Appends (O.held out.old) (O.held out.new) (ending_line ending)) }
     ensures unprinted { IfErr result (IsUnprinted (OfPlay given.entry) (O.held out.old) (O.held out.new)) }
     ensures asked { IfOk result (λ _. line_fault is_well_formed given.entry ≡ None) }
     ensures first { IfErr result (RefusesLine (line_fault is_well_formed given.entry) (OfPlay given.entry)) }
 {
-    let ending = ending_of(rt, given)?;
+    let ending = ending_of(rt, given, progress)?;
     match write_ending(&ending, out) {
         Ok(()) => Ok(ending),
         Err(_) => Err(Unplayed::Refused(Refusal::WRITE)),
@@ -78,23 +85,27 @@ fn report_play<O: ByteOut>(
 }
 
 /// Plays what is asked for.
-fn ending_of(
+fn ending_of<P: ByteOut>(
     rt: &(impl Files + AllocGlobal),
     given: Result<GivenPlay<'_>, Refusal>,
+    progress: &mut P,
 ) -> Result<Ending, Unplayed>
+    requires { P.count progress.old < 2 ^ 64 - 1 }
     ensures played { IfOk result (IsEnding (OfPlay given.entry)) }
     ensures asked { IfOk result (λ _. line_fault is_well_formed given.entry ≡ None) }
     ensures first { IfErr result (RefusesLine (line_fault is_well_formed given.entry) (OfPlay given.entry)) }
 {
     let request = request_of(given?).ok_or(Refusal::Usage)?;
-    play_request(rt, request)
+    play_request(rt, request, progress)
 }
 
 /// Opens the files of a request in their order, and plays.
-fn play_request<R: Files + AllocGlobal>(
+fn play_request<R: Files + AllocGlobal, P: ByteOut>(
     rt: &R,
     request: PlayRequest<'_>,
+    progress: &mut P,
 ) -> Result<Ending, Unplayed>
+    requires { P.count progress.old < 2 ^ 64 - 1 }
     ensures played { IfOk result (IsEnding (IsTaskOf request.entry)) }
     ensures refused { IfErr result (IsUnplayed (IsTaskOf request.entry)) }
 {
@@ -104,7 +115,14 @@ fn play_request<R: Files + AllocGlobal>(
     let inputs = inputs_of(request, tables.as_slice());
     let mut content = FromRead::new(content);
     let job = job_of(rt.alloc(), &inputs, script.as_slice(), &mut content, len)?;
-    play_job(rt, job, request.device, request.limit, request.trust)
+    play_job(
+        rt,
+        job,
+        request.device,
+        request.limit,
+        request.trust,
+        progress,
+    )
 }
 
 /// What a request says of its chip, whose tables are these bytes.
@@ -127,15 +145,17 @@ fn inputs_of<'a>(request: PlayRequest<'a>, tables: &'a [u8]) -> Inputs<'a>
 }
 
 /// Plays steps in memory and then, unless they end there, on the device of this name.
-fn play_job<R: Files + AllocGlobal>(
+fn play_job<R: Files + AllocGlobal, P: ByteOut>(
     rt: &R,
     job: Job,
     device: &str,
     limit: u64,
     trust: bool,
+    progress: &mut P,
 ) -> Result<Ending, Unplayed>
     requires size { length job.content.items ≡ job.meaning.size }
     requires mode { IsPossible job.meaning job.start }
+    requires progress { P.count progress.old < 2 ^ 64 - 1 }
     ensures { MatchResult result (Ends limit trust job.meaning job.start job.content.items job.steps.items)
         (StopsPlay job.meaning job.start job.content.items job.steps.items) }
 {
@@ -147,9 +167,10 @@ fn play_job<R: Files + AllocGlobal>(
     } = job;
     let steps = steps.as_slice();
     let early = ends_early(rt.alloc(), &meaning, start, content.as_slice(), steps)?;
-    if let Some(ending) = early {
-        return Ok(ending);
-    }
+    let transactions = match early {
+        Early::Ends(ending) => return Ok(ending),
+        Early::Goes { transactions } => transactions,
+    };
     let (from, to) = open_device(rt, device)?;
     let from = match BufReader::new(rt.alloc(), from) {
         Ok(from) => from,
@@ -157,5 +178,15 @@ fn play_job<R: Files + AllocGlobal>(
     };
     let chip = Chip::new(&meaning, start, content, Vec::new(rt.alloc()), false);
     let mut port = Shadowed::new(chip, from, to, widest(), limit);
-    greet_and_play(rt.alloc(), &meaning, start, steps, trust, &mut port)
+    let alloc = rt.alloc();
+    greet_and_play(
+        alloc,
+        &meaning,
+        start,
+        steps,
+        transactions,
+        trust,
+        &mut port,
+        progress,
+    )
 }

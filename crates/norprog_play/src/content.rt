@@ -1,41 +1,45 @@
 //! What the chip behind a device holds, compared with a content.
 
-ghost use Rattle.std.specs.Prelude.{◌≡◌, ◌≤◌, ◌<◌, ◌-◌, ◌^◌, length, MatchResult};
+ghost use Rattle.std.specs.Prelude.{◌≡◌, ◌≤◌, ◌<◌, ◌-◌, ◌*◌, ◌^◌, length, MatchResult};
 ghost use Rattle.nor_serprog.specs.Exchange.{Asks, AnswersWith, CountsReads, CountsWrites};
 ghost use Rattle.nor_serprog.specs.Protocol.{request};
 ghost use Rattle.norprog_play.specs.Compared.{read_from, HasCompared, StopsComparing};
+ghost use Rattle.norprog_play.specs.Marks.{IsMarked};
 
+use crate::marked::next_piece;
 use nor_base::{ByteIn, ByteOut};
 use nor_serprog::{Fault, Limits, operate_with};
 
-/// Has the device read its whole chip, in pieces of as many bytes as it can give at once, and compares them with a content,
-/// the byte of address 0 the first. Addresses go out in four bytes (13h) or in three (03h). It takes no memory.
+/// Has the device read the marked cells of its chip, from the lowest on, as many bytes at once as it can give and lie side by
+/// side, and compares them with a content, the byte of address 0 the first. Addresses go out in four bytes (13h) or in three
+/// (03h). It takes no memory.
 ///
 /// At Ok the device gave just these bytes. Else the exchange of a piece ended so: `Differs` where a byte is another.
-pub fn compare<R: ByteIn, W: ByteOut>(
+pub(crate) fn compare<R: ByteIn, W: ByteOut>(
     from: &mut R,
     to: &mut W,
     limits: &Limits,
     four: bool,
     content: &[u8],
+    marks: &[bool],
 ) -> Result<(), Fault>
     requires size { length content.now < 2 ^ 32 }
+    requires cells { length content.now ≡ 256 * length marks.now }
     requires reader { R.count from.old < 2 ^ 64 - 1 }
     requires writer { W.count to.old < 2 ^ 64 - 1 }
     ensures compared { MatchResult result
-        (λ _. HasCompared (W.held to.old) (W.held to.new) (R.ahead from.old) (R.ahead from.new) four content.now)
-        (StopsComparing (W.held to.old) (W.held to.new) (R.ahead from.old) (R.ahead from.new) four content.now) }
+        (λ _. HasCompared (W.held to.old) (W.held to.new) (R.ahead from.old) (R.ahead from.new) four content.now (IsMarked marks.now))
+        (StopsComparing (W.held to.old) (W.held to.new) (R.ahead from.old) (R.ahead from.new) four content.now (IsMarked marks.now)) }
     ensures reads { CountsReads (R.count from.old) (R.count from.new) result }
     ensures writes { CountsWrites (W.count to.old) (W.count to.new) result }
 {
     let mut done = 0;
-    while done < content.len() {
-        let room = (content.len() - done).min(limits.asked as usize);
-        let piece = &content[done..done + room];
-        if let Err(why) = compare_piece(from, to, four, done as u32, piece) {
+    while let Some((start, len)) = next_piece(marks, done, limits.asked as usize) {
+        let piece = &content[start..start + len];
+        if let Err(why) = compare_piece(from, to, four, start as u32, piece) {
             return Err(why);
         }
-        done += room;
+        done = start + len;
     }
     Ok(())
 }

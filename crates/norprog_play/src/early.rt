@@ -25,8 +25,20 @@ pub(crate) fn widest() -> Limits
     }
 }
 
+/// What is known of a play before a device is asked.
+#[derive(Clone, Copy, Debug, PartialEq, Eq, Drop)]
+pub enum Early {
+    /// It ends so whatever the device is.
+    Ends(Ending),
+    /// Nothing goes wrong in memory, and each step is an operation of some device.
+    Goes {
+        /// Transactions, one for each step.
+        transactions: u128,
+    },
+}
+
 /// How steps end whatever the device is: `Wrong` where a ready chip in memory that holds these bytes and is never busy goes wrong
-/// in them, else `Failed` for `Carried` with the first whose clocks are no operation of any device. None where neither is so.
+/// in them, else `Failed` for `Carried` with the first whose clocks are no operation of any device. `Goes` where neither is so.
 ///
 /// Memory is taken for another such content.
 pub fn ends_early(
@@ -35,16 +47,16 @@ pub fn ends_early(
     start: Start,
     content: &[u8],
     steps: &[Step],
-) -> Result<Option<Ending>, AllocError>
+) -> Result<Early, AllocError>
     requires size { length content.now ≡ meaning.now.size }
     requires mode { IsPossible meaning.now start }
     ensures { IfOk result (EndsEarly (chip_with meaning.now start content.now) steps.now) }
 {
     match rehearse(alloc, meaning, start, content, steps)? {
-        Rehearsal::Wrong { step, why } => Ok(Some(Ending::Wrong { step, why })),
-        Rehearsal::Well { .. } => match carried(steps, &widest()) {
-            Ok(()) => Ok(None),
-            Err(step) => Ok(Some(Ending::Failed {
+        Rehearsal::Wrong { step, why } => Ok(Early::Ends(Ending::Wrong { step, why })),
+        Rehearsal::Well { transactions } => match carried(steps, &widest()) {
+            Ok(()) => Ok(Early::Goes { transactions }),
+            Err(step) => Ok(Early::Ends(Ending::Failed {
                 step,
                 why: Reason::Carried,
             })),

@@ -7,8 +7,9 @@ ghost use Rattle.nor_base.specs.Sample.{sampled_count};
 ghost use Rattle.norprog_play.specs.Carried.{IsCarried, AreCarried};
 ghost use Rattle.norprog_play.specs.Moment.{clocks_of, moment, Does, DoesAll, Stops, StopsAt, IsTaken};
 
+use crate::progress::Progress;
 use crate::step::clocks;
-use nor_base::{PortFault, Step, sampled};
+use nor_base::{ByteOut, PortFault, Step, sampled};
 use nor_chip::Port;
 use nor_serprog::{Reason, Shadowed};
 use std::io::{Read, Write};
@@ -21,16 +22,20 @@ pub(crate) struct Halt {
 }
 
 /// Has the device do steps that go well on the chip in memory, none of which samples more bytes than there is room.
-pub(crate) fn follow_steps<R: Read + Drop, W: Write + Drop>(
+///
+/// How far it has come is told to `progress`; where that fails nothing changes.
+pub(crate) fn follow_steps<R: Read + Drop, W: Write + Drop, P: ByteOut>(
     steps: &[Step],
     port: &mut Shadowed<'_, R, W>,
     room: &mut [u8],
+    progress: &mut P,
 ) -> Result<(), Halt>
     requires fresh { port.old.reason ≡ None }
     requires count { port.old.failed < 2 ^ 64 - 1 }
     requires wide { All (λ step. sampled_count (clocks_of step) ≤ length room.old) steps.now }
     requires goes { (chip : ShownChip) × (played port.old.chip.setting 1 port.old.chip.chip steps.now ≡ Ok chip) }
     requires carried { AreCarried port.old.limits steps.now }
+    requires told { P.count progress.old < 2 ^ 64 - 1 }
     ensures chip { IfOk result (λ _. played port.old.chip.setting 1 port.old.chip.chip steps.now ≡ Ok port.new.chip.chip) }
     ensures done { MatchResult result
         (λ _. DoesAll port.old.limits port.old.turns (moment port.old.chip (W.contents port.old.to.inner) (R.remaining port.old.from.inner))
@@ -38,13 +43,17 @@ pub(crate) fn follow_steps<R: Read + Drop, W: Write + Drop>(
         (λ halt. StopsAt port.old.limits port.old.turns (moment port.old.chip (W.contents port.old.to.inner) (R.remaining port.old.from.inner))
         steps.now halt.step halt.why (moment port.new.chip (W.contents port.new.to.inner) (R.remaining port.new.from.inner))) }
 {
+    let mut far = Progress::of(steps);
     let mut number: u64 = 0;
     for step in steps {
         if let Err(why) = follow_step(step, port, room) {
+            far.end(progress);
             return Err(Halt { step: number, why });
         }
         number += 1;
+        far.step_done(step, progress);
     }
+    far.end(progress);
     Ok(())
 }
 

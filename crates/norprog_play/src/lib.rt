@@ -2,12 +2,12 @@
 //! 14).
 //!
 //! [`play`] does what the texts of a command line ask for. [`job_of`] reads what is to be played from the bytes of the inputs,
-//! [`ends_early`] tells how that ends whatever the device is, [`greet_and_play`] does the work from the handshake on, over any
-//! reader and writer.
+//! [`ends_early`] plays it on the chip in memory and tells how it ends whatever the device is, [`greet_and_play`] does the work from
+//! the handshake on, over any reader and writer.
 //!
-//! [`play_on_device`] does the work, after the handshake: no step goes out before the script went well on the chip in memory,
-//! each of its steps is one operation of the device and, unless the chip behind the device is trusted, that chip was read whole
-//! and holds what the chip in memory does. [`write_ending`] tells how it ended.
+//! [`play_on_device`] does the work, after the handshake, of steps that went well on the chip in memory: none goes out before each
+//! is one operation of the device and, unless the chip behind the device is trusted, what they touch of that chip was read and is
+//! what the chip in memory holds. [`write_ending`] tells how it ended.
 #![tactic(auto)]
 
 mod command;
@@ -20,17 +20,19 @@ mod greeted;
 mod job;
 mod likeness;
 mod line;
+mod marked;
+mod progress;
 mod rehearsal;
 mod request;
 mod state;
 mod step;
+mod touched;
 mod unplayed;
 mod within;
 
 pub use command::play;
-pub use content::compare;
 pub use device::play_on_device;
-pub use early::ends_early;
+pub use early::{Early, ends_early};
 pub use ending::Ending;
 pub use greeted::greet_and_play;
 pub use job::{Job, job_of};

@@ -1,33 +1,40 @@
 -- Piece by piece.
-use Rattle.std.proofs.Common.{◌≤◌, ◌+◌, refl, length, ◌∙◌, rules, arith}
+use Rattle.std.proofs.Common.{◌≤◌, ◌+◌, refl, length, ◌∙◌, arith}
 use Rattle.std.specs.List.{slice_range}
+use Rattle.norprog_play.specs.Marks.{IsMarked}
 use Rattle.norprog_play.proofs.ComparedLemmas.{none_read, piece_more, piece_stopped, all_read}
 use Rattle.norprog_play.proofs.content.compare.Goals as goal
 
-pub loop-done-init : goal.loop-done-init
-loop-done-init g c = record {
+pub loop-start-init : goal.loop-start-init
+loop-start-init g c = record {
   within = omega arith;
-  read = none_read (g.W.ByteOut.held c.args.to.now) (g.R.ByteIn.ahead c.args.from.now) c.args.four;
+  read = none_read (g.W.ByteOut.held c.args.to.now) (g.R.ByteIn.ahead c.args.from.now) c.args.four c.args.content.now (IsMarked c.args.marks.now);
   reads = refl;
   writes = refl;
 }
 
 pub returns-in-Err-clause-compared : goal.returns-in-Err-clause-compared
 returns-in-Err-clause-compared g c =
-    piece_stopped (g.W.ByteOut.held c.args.to.now) (g.W.ByteOut.held c.loop-done.to) (g.W.ByteOut.held c.compare_piece.new.to)
-    (g.R.ByteIn.ahead c.args.from.now) (g.R.ByteIn.ahead c.loop-done.from) (g.R.ByteIn.ahead c.compare_piece.new.from) c.args.four c.args.content.now
-    (slice_range c.args.content.now c.loop-done.done (c.loop-done.done + c.min-room.result)) c.loop-done.done c.min-room.result c.in-Err.why c.loop-done.invariant.within refl
-    c.loop-done.invariant.read c.in-Err.ensures.asked
+    piece_stopped (g.W.ByteOut.held c.args.to.now) (g.W.ByteOut.held c.loop-start.to) (g.W.ByteOut.held c.compare_piece.new.to)
+    (g.R.ByteIn.ahead c.args.from.now) (g.R.ByteIn.ahead c.loop-start.from) (g.R.ByteIn.ahead c.compare_piece.new.from) c.args.four c.args.content.now
+    (slice_range c.args.content.now c.in-Some.start (c.in-Some.start + c.in-Some.len)) c.args.marks.now c.loop-start.done c.args.limits.now.asked c.in-Some.start c.in-Some.len
+    c.in-Err.why (omega (arith, c.in-Some.ensures.1.within, c.requires.cells)) refl c.in-Some.ensures.0 c.in-Some.ensures.1 c.loop-start.invariant.read c.in-Err.ensures.asked
 
-pub loop-done-preserved : goal.loop-done-preserved
-loop-done-preserved g c =
-    let within : c.loop-done.done + c.min-room.result ≤ length c.args.content.now = search rules in
+pub loop-start-preserved : goal.loop-start-preserved
+loop-start-preserved g c =
+    let within : c.in-Some.start + c.in-Some.len ≤ length c.args.content.now = omega (arith, c.in-Some.ensures.1.within, c.requires.cells) in
     record {
       within = within;
-      read = piece_more (g.W.ByteOut.held c.args.to.now) (g.W.ByteOut.held c.loop-done.to) (g.W.ByteOut.held c.compare_piece.new.to)
-          (g.R.ByteIn.ahead c.args.from.now) (g.R.ByteIn.ahead c.loop-done.from) (g.R.ByteIn.ahead c.compare_piece.new.from) c.args.four c.args.content.now
-          (slice_range c.args.content.now c.loop-done.done (c.loop-done.done + c.min-room.result)) c.loop-done.done c.min-room.result c.loop-done.invariant.within refl
-          c.loop-done.invariant.read c.in_default.ensures.asked.0 c.in_default.ensures.asked.1;
-      reads = c.in_default.ensures.reads ∙ c.loop-done.invariant.reads;
-      writes = c.in_default.ensures.writes ∙ c.loop-done.invariant.writes;
+      read = piece_more (g.W.ByteOut.held c.args.to.now) (g.W.ByteOut.held c.loop-start.to) (g.W.ByteOut.held c.compare_piece.new.to)
+          (g.R.ByteIn.ahead c.args.from.now) (g.R.ByteIn.ahead c.loop-start.from) (g.R.ByteIn.ahead c.compare_piece.new.from) c.args.four c.args.content.now
+          (slice_range c.args.content.now c.in-Some.start (c.in-Some.start + c.in-Some.len)) c.args.marks.now c.loop-start.done c.args.limits.now.asked c.in-Some.start
+          c.in-Some.len within refl c.in-Some.ensures.0 c.in-Some.ensures.1 c.loop-start.invariant.read c.in_default-compare_piece.ensures.asked.0
+          c.in_default-compare_piece.ensures.asked.1;
+      reads = c.in_default-compare_piece.ensures.reads ∙ c.loop-start.invariant.reads;
+      writes = c.in_default-compare_piece.ensures.writes ∙ c.loop-start.invariant.writes;
     }
+
+pub returns-clause-compared : goal.returns-clause-compared
+returns-clause-compared g c =
+    all_read (g.W.ByteOut.held c.args.to.now) (g.W.ByteOut.held c.loop-start.to) (g.R.ByteIn.ahead c.args.from.now) (g.R.ByteIn.ahead c.loop-start.from) c.args.four
+    c.args.content.now c.args.marks.now c.loop-start.done c.loop-start.invariant.within c.in_default.ensures c.loop-start.invariant.read

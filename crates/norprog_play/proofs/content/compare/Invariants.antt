@@ -1,15 +1,16 @@
--- The bytes so far were read.
-use Rattle.std.proofs.Common.{◌≡◌, ◌≤◌, ◌-◌, length, take}
-use Rattle.norprog_play.proofs.ComparedLemmas.{HasComparedSome}
+-- The marked bytes so far were read.
+use Rattle.std.proofs.Common.{◌≡◌, ◌≤◌, ◌-◌, length}
+use Rattle.norprog_play.specs.Compared.{HasComparedTo}
+use Rattle.norprog_play.specs.Marks.{IsMarked}
 use Rattle.norprog_play.proofs.content.compare.Given as goal
 
-abbrev pub invariant-loop-done : goal.invariant-loop-done
-invariant-loop-done g l = record {
+abbrev pub invariant-loop-start : goal.invariant-loop-start
+invariant-loop-start g l = record {
   within : l.done ≤ length l.content;
-  read : HasComparedSome (g.W.ByteOut.held l.fn.to) (g.W.ByteOut.held l.to) (g.R.ByteIn.ahead l.fn.from) (g.R.ByteIn.ahead l.from) l.four (take l.done l.content);
+  read : HasComparedTo (g.W.ByteOut.held l.fn.to) (g.W.ByteOut.held l.to) (g.R.ByteIn.ahead l.fn.from) (g.R.ByteIn.ahead l.from) l.four l.content (IsMarked l.marks) l.done;
   reads : g.R.ByteIn.count l.from ≡ g.R.ByteIn.count l.fn.from;
   writes : g.W.ByteOut.count l.to ≡ g.W.ByteOut.count l.fn.to;
 }
 
-abbrev pub decreases-loop-done : goal.decreases-loop-done
-decreases-loop-done g l = length l.content - l.done
+abbrev pub decreases-loop-start : goal.decreases-loop-start
+decreases-loop-start g l = length l.content - l.done

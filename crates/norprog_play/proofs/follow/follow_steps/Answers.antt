@@ -27,6 +27,7 @@ loop-step-preserved g c =
       turns = c.in_default.ensures.turns ∙ c.loop-step.invariant.turns;
       room = c.in_default.ensures.room ∙ c.loop-step.invariant.room;
       number = ap (λ n. n + 1) c.loop-step.invariant.number;
+      told = c.step_done.ensures;
     }
 
 pub returns-clause-chip : goal.returns-clause-chip

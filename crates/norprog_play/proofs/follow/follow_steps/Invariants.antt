@@ -1,5 +1,5 @@
 -- The steps so far were done, and what is left goes well.
-use Rattle.std.proofs.Common.{◌≡◌, None, take, drop, length}
+use Rattle.std.proofs.Common.{◌≡◌, ◌<◌, ◌-◌, ◌^◌, true, None, take, drop, length}
 use Rattle.norprog_play.specs.Moment.{moment, DoesAll}
 use Rattle.norprog_play.proofs.FollowedLemmas.{GoesOn}
 use Rattle.norprog_play.proofs.follow.follow_steps.Given as goal
@@ -15,4 +15,5 @@ invariant-loop-step g l = record {
   turns : l.port.turns ≡ l.fn.port.turns;
   room : length l.room ≡ length l.fn.room;
   number : l.number ≡ l.step-index;
+  told : l.far.works ≡ true → g.P.ByteOut.count l.progress < 2 ^ 64 - 1;
 }

@@ -1,9 +1,8 @@
 -- What the device was asked for after its handshake.
-use Rattle.std.proofs.Common.{Ok, sym, subst}
-use Rattle.nor_base.specs.Port.{Shown}
+use Rattle.std.proofs.Common.{subst}
 use Rattle.norprog_play.specs.Ending.{EndsSo}
-use Rattle.norprog_play.specs.Likeness.{are_four}
 use Rattle.norprog_play.specs.Moment.{moment}
+use Rattle.norprog_play.specs.Opened.{HasPlayed}
 use Rattle.norprog_play.proofs.OpenedLemmas.{for_memory}
 use Rattle.norprog_play.proofs.greeted.greet_and_play.Goals as goal
 
@@ -16,16 +15,16 @@ returns g c =
         limits = c.greet_port.new.port.limits;
         between = between;
         greets = record { shown = c.in_ok-greet_port.ensures.chip; greeted = c.in_ok-greet_port.ensures.greeted };
-        ends = subst (λ turns. EndsSo c.greet_port.new.port.limits turns c.args.trusted (are_four c.args.meaning.now c.args.start) between c.args.steps.now c.in_ok-play_on_device.field-0 after)
-            c.in_ok-greet_port.ensures.turns c.in_ok-play_on_device.ensures.ends;
+        ends = subst (λ turns. EndsSo c.greet_port.new.port.limits turns c.args.trusted c.args.meaning.now c.args.start between c.args.steps.now c.in_ok-ending.ending after)
+            c.in_ok-greet_port.ensures.turns c.in_ok-ending.ensures.ends;
       };
     }
 
-pub returns-in_err-play_on_device : goal.returns-in_err-play_on_device
-returns-in_err-play_on_device g c =
+pub returns-in_err-ending : goal.returns-in_err-ending
+returns-in_err-ending g c =
     let before = moment c.args.port.now.chip (g.W.Write.contents c.args.port.now.to.inner) (g.R.Read.remaining c.args.port.now.from.inner) in
     let after = moment c.play_on_device.new.port.chip (g.W.Write.contents c.play_on_device.new.port.to.inner) (g.R.Read.remaining c.play_on_device.new.port.from.inner) in
     record {
-      ends = for_memory _ c.greet_port.new.port.limits before after c.from_residual-in_err-play_on_device.result c.from_residual-in_err-play_on_device.ensures.1
-          (rw c.in_err-play_on_device.ensures.ends (record { shown = c.in_ok-greet_port.ensures.chip; greeted = c.in_ok-greet_port.ensures.greeted }));
+      ends = for_memory (λ ending. HasPlayed c.args.port.now.turns c.args.trusted c.args.meaning.now c.args.start before c.args.steps.now ending after) c.greet_port.new.port.limits before after c.from_residual-in_err-ending.result c.from_residual-in_err-ending.ensures.1
+          (rw c.in_err-ending.ensures.ends (record { shown = c.in_ok-greet_port.ensures.chip; greeted = c.in_ok-greet_port.ensures.greeted }));
     }

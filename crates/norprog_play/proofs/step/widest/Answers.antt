@@ -1,5 +1,5 @@
 -- One step more.
-use Rattle.std.proofs.Common.{◌≤◌, arith, subst, sym}
+use Rattle.std.proofs.Common.{◌≤◌, arith}
 use Rattle.nor_base.specs.Sample.{sampled_count}
 use Rattle.norprog_play.specs.Moment.{clocks_of}
 use Rattle.norprog_play.proofs.CarriedLemmas.{all_more, all_to_end, wider}

@@ -1,0 +1,121 @@
+//! Which cells of a chip hold a byte that steps touch.
+
+ghost use Rattle.std.specs.Prelude.{◌≡◌, ◌<◌, ◌≤◌, ◌+◌, ◌/◌, ◌^◌, IfOk, IfSome, false, true, length, replicate};
+ghost use Rattle.nor_base.specs.Chip.{begins4};
+ghost use Rattle.nor_base.specs.Effect.{is_program};
+ghost use Rattle.nor_base.specs.Spelling.{mode_after};
+ghost use Rattle.nor_chip.specs.Sent.{instruction_of, sent};
+ghost use Rattle.norprog_play.specs.Marks.{MarkedBy, AreMarks};
+ghost use Rattle.norprog_play.specs.Touched.{LiesBetween, Changes, Programs, Touches, IsTouched, mode_past};
+
+use crate::step::clocks;
+use nor_base::{Meaning, Start, Step, What};
+use nor_chip::program::place;
+use nor_decode::{Seen, decode};
+use std::alloc::{AllocError, Global};
+
+/// Bytes of a cell: no erase block is smaller.
+pub(crate) const CELL: usize = 256;
+
+/// Of each cell of a chip whether it holds a byte that some step erases or programs, in the address mode that the steps before
+/// leave.
+///
+/// Memory is taken for a mark of each cell.
+pub(crate) fn touched_cells(
+    alloc: Global,
+    meaning: &Meaning,
+    start: &Start,
+    steps: &[Step],
+) -> Result<Vec<bool>, AllocError>
+    ensures { IfOk result (λ marks. AreMarks (IsTouched meaning.now (begins4 meaning.now start.now) steps.now)
+        (meaning.now.size / 256) marks.items) }
+{
+    let mut marks = vec![in alloc; false; meaning.size as usize / CELL]?;
+    mark_steps(&mut marks, meaning, meaning.begins4(start), steps);
+    Ok(marks)
+}
+
+/// Marks the cells of the bytes that steps touch, from an address mode on.
+fn mark_steps(marks: &mut [bool], meaning: &Meaning, mode4: bool, steps: &[Step])
+    ensures { MarkedBy (IsTouched meaning.now mode4 steps.now) marks.old marks.new }
+{
+    let mut mode4 = mode4;
+    for step in steps {
+        mode4 = mark_step(marks, meaning, mode4, step);
+    }
+}
+
+/// Marks the cells of the bytes that a step touches, and answers the address mode after it.
+fn mark_step(marks: &mut [bool], meaning: &Meaning, mode4: bool, step: &Step) -> bool
+    ensures marked { MarkedBy (Touches meaning.now mode4 step.now) marks.old marks.new }
+    ensures mode { result ≡ mode_past meaning.now mode4 step.now }
+{
+    match decode(clocks(step), meaning, mode4) {
+        Some(seen) => {
+            mark_seen(marks, meaning, &seen);
+            mode_after(seen.what, mode4)
+        }
+        None => mode4,
+    }
+}
+
+/// The address mode after an instruction.
+fn mode_after(what: What, mode4: bool) -> bool
+    ensures { result ≡ mode_after what mode4 }
+{
+    match what {
+        What::Enter => true,
+        What::Leave => false,
+        _ => mode4,
+    }
+}
+
+/// Marks the cells of the bytes that an instruction erases or programs.
+fn mark_seen(marks: &mut [bool], meaning: &Meaning, seen: &Seen<'_>)
+    ensures { MarkedBy (Changes meaning.now (instruction_of seen.now) seen.now.what) marks.old marks.new }
+{
+    match seen.what {
+        What::Erase(kind) => {
+            let first = seen.address as usize;
+            mark(marks, first, first + meaning.block_size(kind) as usize);
+        }
+        What::Program | What::QuadProgram => mark_program(marks, meaning, seen),
+        _ => {}
+    }
+}
+
+/// Marks the cells of the bytes that a program writes.
+fn mark_program(marks: &mut [bool], meaning: &Meaning, seen: &Seen<'_>)
+    requires { is_program seen.now.what ≡ true }
+    ensures { MarkedBy (Programs meaning.now (instruction_of seen.now)) marks.old marks.new }
+{
+    meaning.is_accepted();
+    let page = meaning.page;
+    for index in 0..count_sent(seen) {
+        let at = place(page, seen.address, index);
+        mark(marks, at, at + 1);
+    }
+}
+
+/// How many bytes a program sends.
+fn count_sent(seen: &Seen<'_>) -> usize
+    requires { is_program seen.now.what ≡ true }
+    ensures { result ≡ length (sent seen.now) }
+{
+    seen.count()
+}
+
+/// Marks the cells of the addresses from one to before another.
+fn mark(marks: &mut [bool], start: usize, end: usize)
+    requires { end < 2 ^ 40 }
+    ensures { MarkedBy (LiesBetween start end) marks.old marks.new }
+{
+    if end <= start {
+        return;
+    }
+    let begin = start / CELL;
+    let last = ((end - 1) / CELL + 1).min(marks.len());
+    for c in begin..last {
+        marks[c] = true;
+    }
+}
