@@ -2,6 +2,8 @@
 //! its contract is the law.
 #![tactic(auto)]
 
+pub mod worked;
+
 ghost use Rattle.norprog_laws.specs.Checked.{BuiltIsRight, BuiltIsChecked};
 ghost use Rattle.norprog_laws.specs.Played.{BuiltPlays};
 

@@ -1,0 +1,29 @@
+-- By computation.
+use Rattle.std.proofs.Common.{refl}
+use Rattle.nor_job.specs.Chip.{uniform_says}
+use Rattle.nor_job.specs.Status.{status_fault}
+use Rattle.nor_job.specs.Task.{contradiction}
+use Rattle.norprog_laws.proofs.worked.states_worked.Goals as goal
+
+pub returns : goal.returns
+unfolding uniform_says status_fault contradiction
+returns c = record {
+  busy = refl;
+  latched = refl;
+  suspended = refl;
+  protected = refl;
+  idle = refl;
+  untold = refl;
+  begins = refl;
+  flags = refl;
+  no_layout = refl;
+  no_part = refl;
+  said_twice = refl;
+  of_a_part = refl;
+  consistent = refl;
+  says = refl;
+  says_erased = refl;
+  no_size = refl;
+  page = refl;
+  open_page = refl;
+}
