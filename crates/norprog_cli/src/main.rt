@@ -7,10 +7,13 @@
 //! and `norprog_explain` do the work behind them.
 #![tactic(auto)]
 
-ghost use Rattle.std.specs.Prelude.{◌≡◌, ◌<◌, ◌≤◌, ◌-◌, ◌^◌};
+ghost use Rattle.std.specs.Prelude.{◌≡◌, ◌≢◌, ◌<◌, ◌≤◌, ◌-◌, ◌^◌, IfOk, IfErr};
+ghost use Rattle.nor_job.specs.declared.fault.BuildFault.TheVariants.{Write as write_fault};
+ghost use Rattle.norprog_words.specs.declared.faults.Refusal.TheVariants.{Build as of_build};
+ghost use Rattle.norprog_words.specs.Told.{TellsOf};
 ghost use Rattle.norprog_cli.specs.Answers.{AnswersTo, AnswersSome};
 
-use nor_base::{ByteOut, IntoWrite};
+use nor_base::{ByteOut, IntoWrite, Nowhere};
 use norprog_command::{build, check, plan, sfdp};
 use norprog_draw::draw;
 use norprog_explain::explain;
@@ -21,17 +24,53 @@ use norprog_run::run;
 use norprog_words::{Refusal, refuse};
 use std::alloc::AllocGlobal;
 use std::fs::Files;
-use std::io::ErrorKind;
+use std::io::{self, BufWriter, ErrorKind, IsTerminal, Write};
 use std::process::ExitCode;
 
+/// Bytes of standard output that are gathered before they are written.
+const BUFFER: usize = 65536;
+
 fn main(rt: HostRuntime) -> ExitCode {
-    let mut out = IntoWrite::new(rt.stdout());
     let mut err = IntoWrite::new(rt.stderr());
-    let status = match words_of(&rt) {
-        Ok(words) => command(&rt, words, &mut out, &mut err),
-        Err(refusal) => refuse(&refusal, &mut err),
+    ExitCode::from(main_status(&rt, &mut err))
+}
+
+/// Does what the program's words say, with standard output gathered, and answers the status. Where standard error is a terminal
+/// the progress of a play goes there too.
+fn main_status<E: ByteOut>(rt: &HostRuntime, err: &mut E) -> u8
+    requires { E.count err.old < 2 ^ 64 - 1 }
+{
+    let words = match words_of(rt) {
+        Ok(words) => words,
+        Err(refusal) => return refuse(&refusal, err),
     };
-    ExitCode::from(status)
+    let gathered = match BufWriter::with_capacity(rt.alloc(), BUFFER, rt.stdout()) {
+        Ok(gathered) => gathered,
+        Err(_) => return refuse(&Refusal::MEMORY, err),
+    };
+    let mut out = IntoWrite::new(gathered);
+    let status = if rt.stderr().is_terminal() {
+        let mut progress = IntoWrite::new(rt.stderr());
+        command(rt, words, &mut out, err, &mut progress)
+    } else {
+        command(rt, words, &mut out, err, &mut Nowhere)
+    };
+    let flushed = out.inner.flush();
+    ended(status, flushed, err)
+}
+
+/// The status of a command whose standard output was flushed: where all but that was done, it is told, and the status is 1.
+fn ended<E: ByteOut>(status: u8, flushed: io::Result<()>, err: &mut E) -> u8
+    requires { status ≡ 0 → E.count err.old < 2 ^ 64 - 1 }
+    ensures done { IfOk flushed (λ _. (result ≡ status) × (err.new ≡ err.old)) }
+    ensures refused { status ≢ 0 → (result ≡ status) × (err.new ≡ err.old) }
+    ensures told { status ≡ 0 → IfErr flushed (λ _. TellsOf (λ told. told ≡ of_build write_fault)
+        (E.count err.new ≡ E.count err.old) (E.held err.old) (E.held err.new) result) }
+{
+    match flushed {
+        Err(_) if status == 0 => refuse(&Refusal::WRITE, err),
+        _ => status,
+    }
 }
 
 /// The words behind the program's name.
@@ -48,33 +87,43 @@ fn words_of(rt: &HostRuntime) -> Result<Vec<String>, Refusal> {
 }
 
 /// Runs the command that the words spell, the program's name not among them. It opens the files that they name, writes
-/// what goes to standard output to `out` and a refusal to `err`, and answers the status: 0 done, 1 refused or a script that
-/// goes wrong or doesn't do its job, 2 usage.
-fn command<O: ByteOut, E: ByteOut>(
+/// what goes to standard output to `out`, a refusal to `err`, and the progress of a play to `progress`. It answers the status: 0
+/// done, 1 refused or a script that goes wrong or doesn't do its job, 2 usage.
+fn command<O: ByteOut, E: ByteOut, P: ByteOut>(
     rt: &(impl Files + AllocGlobal),
     words: Vec<String>,
     out: &mut O,
     err: &mut E,
+    progress: &mut P,
 ) -> u8
     requires out { O.count out.old < 2 ^ 64 - 1 }
     requires err { E.count err.old < 2 ^ 64 - 1 }
+    requires progress { P.count progress.old < 2 ^ 64 - 1 }
     ensures status { result ≤ 2 }
     ensures quiet { result ≡ 0 → err.new ≡ err.old }
     ensures answer { AnswersSome (O.held out.old) (O.held out.new) (err.new ≡ err.old) (E.count err.new ≡ E.count err.old)
         (E.held err.old) (E.held err.new) result }
 {
-    answer_to(rt, asked_by(rt.alloc(), words.as_slice()), out, err)
+    answer_to(
+        rt,
+        asked_by(rt.alloc(), words.as_slice()),
+        out,
+        err,
+        progress,
+    )
 }
 
 /// Does what is asked for, or tells why it couldn't be read.
-fn answer_to<O: ByteOut, E: ByteOut>(
+fn answer_to<O: ByteOut, E: ByteOut, P: ByteOut>(
     rt: &(impl Files + AllocGlobal),
     asked: Result<Asked<'_>, Refusal>,
     out: &mut O,
     err: &mut E,
+    progress: &mut P,
 ) -> u8
     requires out { O.count out.old < 2 ^ 64 - 1 }
     requires err { E.count err.old < 2 ^ 64 - 1 }
+    requires progress { P.count progress.old < 2 ^ 64 - 1 }
     ensures status { result ≤ 2 }
     ensures quiet { result ≡ 0 → err.new ≡ err.old }
     ensures answer { AnswersTo asked.entry (O.held out.old) (O.held out.new) (err.new ≡ err.old)
@@ -87,7 +136,7 @@ fn answer_to<O: ByteOut, E: ByteOut>(
         Ok(Asked::Run(given)) => run(rt, Ok(given), out, err),
         Ok(Asked::List(given)) => list(rt, Ok(given), out, err),
         Ok(Asked::Draw(given)) => draw(rt, Ok(given), err),
-        Ok(Asked::Play(given)) => play(rt, Ok(given), out, err),
+        Ok(Asked::Play(given)) => play(rt, Ok(given), out, err, progress),
         Ok(Asked::Sfdp(given)) => sfdp(rt, Ok(given), out, err),
         Ok(Asked::Explain(words)) => explain(words.as_slice(), out, err),
         Err(refusal) => refuse(&refusal, err),

@@ -1,25 +1,29 @@
 -- What was done, and why nothing was, of a task that is asked for.
-use Rattle.std.proofs.Common.{◌≡◌, ℕ, ◌⊎◌, inl, inr, List, Option, Result, Ok, Err, IfOk, IfErr, subst}
-use Rattle.nor_base.specs.Device.{Ahead}
+use Rattle.std.proofs.Common.{◌≡◌, ℕ, ◌⊎◌, inl, inr, refl, ap, arith, ◌<◌, ◌++◌, [], length, Bool, false, true, List, Option, None, Some, Result, Ok, Err, IfOk, IfErr, subst, sym}
+use Rattle.std.specs.Io.KnownBytes.{Appends}
+use Rattle.nor_base.specs.Device.{Ahead, Cuts}
 use Rattle.nor_base.specs.Parameters.{Parameters}
 use Rattle.nor_check.specs.declared.verdict.Verdict.{Verdict}
 use Rattle.nor_job.specs.declared.fault.BuildFault.{BuildFault}
+use Rattle.nor_job.specs.declared.fault.BuildFault.TheVariants as fault
 use Rattle.nor_job.specs.Causes.{RefusesInputs}
 use Rattle.nor_job.specs.Task.{Task}
 use Rattle.nor_script.specs.declared.fault.ScriptFault.TheVariants as script
 use Rattle.norprog.specs.Build.{IsBuilt, StopsWork}
-use Rattle.norprog.specs.Plan.{StopsPlan}
+use Rattle.norprog.specs.Plan.{IsPlanOf, StopsPlan}
 use Rattle.norprog.specs.declared.report.Report.{Report}
 use Rattle.norprog_check.specs.declared.fault.CheckStop.{CheckStop}
 use Rattle.norprog_check.specs.declared.fault.CheckStop.TheVariants as stop
 use Rattle.norprog_check.specs.Checked.{RefusesTexts, StopsCheck}
 use Rattle.norprog_words.specs.declared.faults.Refusal.{Refusal}
 use Rattle.norprog_words.specs.declared.faults.Refusal.TheVariants.{Text, Usage, File, Build, Page, Script}
-use Rattle.norprog_words.specs.Told.{OfFault}
-use Rattle.norprog_words.proofs.ToldLemmas.{asked_wider, fault_wider, by_fault, refuses_wider}
+use Rattle.norprog_words.specs.Told.{ForAsked, OfFault, Refuses}
+use Rattle.norprog_words.proofs.ToldLemmas.{asked_wider, fault_wider, by_fault, refuses_wider, refuses}
 use Rattle.norprog_command.specs.Builds.{IsReportOf, IsBuildReport, IsFaultOf, IsBuildFault, RefusesBuild, done}
 use Rattle.norprog_command.specs.Meanings.{MeansThis, IsMeaning, MeansNone, IsChipFault, RefusesMeaning}
-use Rattle.norprog_command.specs.Plans.{TellsLines, PrintsLines, TellsSome, CutsLines, CutsPlan, StopsPlanOf, IsPlanFault, RefusesPlan}
+use Rattle.norprog_command.specs.declared.request.Request.{Request}
+use Rattle.norprog_command.specs.Plans.{Shown, FailsToDraw, IsPart, Is, in_memory, behind_lines, read_lines, Draws, IsLines, IsWhole, IsTold, PrintsPlan, CutsPlan, FailsToPrint, StopsPlanOf, StopsTask, IsPlanFault, RefusesPlan}
+use Rattle.norprog_command.specs.Served.{IsTaskOf}
 use Rattle.norprog_command.specs.Verdicts.{IsVerdictOf, IsCheckVerdict, IsStopOf, IsCheckFault, RefusesCheck, stop_refusal}
 
 -- a build, whose file was flushed or wasn't
@@ -65,27 +69,176 @@ build_wider A B wider =
 
 -- a plan
 
-pub refusal_of_plan : (C D : Type 0) (Asked : Task → Type 0) (t : Task) (len : ℕ) (ahead behind : Ahead) (before after : Option (List ℕ)) (why : BuildFault) → Asked t
-    → (RefusesInputs t len why × C × D) ⊎ StopsPlan t len ahead behind before after why → RefusesPlan Asked (Build why)
-refusal_of_plan C D Asked t len ahead behind before after why asked refused =
+-- a fault of a plan that was written to memory, as it is told
+told_so : (P : Refusal → Type 0) (why : BuildFault) → P (Build why) → P (Build fault.Memory) → P (in_memory why)
+told_so P fault.Write is lacks = lacks
+told_so P fault.Memory is lacks = is
+told_so P (fault.Contradiction number) is lacks = is
+told_so P (fault.Hex why) is lacks = is
+told_so P (fault.Layout why) is lacks = is
+told_so P (fault.Sfdp why) is lacks = is
+told_so P (fault.Status number) is lacks = is
+told_so P fault.ModeImpossible is lacks = is
+told_so P fault.ContentSize is lacks = is
+told_so P (fault.Plan why) is lacks = is
+told_so P fault.ContentShort is lacks = is
+told_so P fault.Read is lacks = is
+
+pub stops_of_plan : (asked : Shown) (C D : Type 0) (t : Task) (len : ℕ) (ahead behind : Ahead) (before after : Option (List ℕ)) (why : BuildFault)
+    → (RefusesInputs t len why × C × D) ⊎ StopsPlan t len ahead behind before after why → StopsTask asked (Is t) (in_memory why)
+stops_of_plan asked C D t len ahead behind before after why refused =
     let cause : RefusesInputs t len why ⊎ StopsPlan t len ahead behind before after why = elim refused [ inl early ↦ inl early.0 | inr late ↦ inr late ] in
-    by_fault (OfFault (IsPlanFault Asked)) _ (Build why) (record {
+    told_so (StopsTask asked (Is t)) why (by_fault (OfFault (IsPlanFault (Is t))) (FailsToDraw asked (Is t)) (Build why) (record {
       it = t;
-      asked = asked;
+      asked = refl;
       has = record { len = len; ahead = ahead; behind = behind; before = before; after = after; refused = cause };
-    })
+    })) tt
 
-pub plan_wider : (A B : Task → Type 0) → ((t : Task) → A t → B t) → (why : Refusal) → RefusesPlan A why → RefusesPlan B why
-plan_wider A B wider =
-    refuses_wider (OfFault (IsPlanFault A)) (OfFault (IsPlanFault B))
-    ((before : Option (List ℕ)) × (after : Option (List ℕ)) × (report : Report) × PrintsLines A before after report)
-    ((before : Option (List ℕ)) × (after : Option (List ℕ)) × (report : Report) × PrintsLines B before after report)
-    (fault_wider (IsPlanFault A) (IsPlanFault B) (λ why of. asked_wider Task A B (StopsPlanOf why) wider of))
-    (λ late. (late.0, late.1, late.2, asked_wider Task A B (TellsLines late.0 late.1 late.2) wider late.3))
+-- what was told of the plan that a request asks for
+pub of_request : (Has : Task → Type 0) (request : Request) (t : Task) → IsTaskOf request t → Has t → ForAsked Task (IsTaskOf request) Has
+of_request Has request t asked has = record { it = t; asked = asked; has = has }
 
-pub cut_wider : (A B : Task → Type 0) → ((t : Task) → A t → B t) → (before after : Option (List ℕ)) → CutsLines A before after → CutsPlan B before after
-cut_wider A B wider before after (inl same) = inl same
-cut_wider A B wider before after (inr some) = inr (inl (some.0, asked_wider Task A B (TellsSome before after some.0) wider some.1))
+undrawn_wider : (asked : Shown) (A B : Task → Type 0) → ((t : Task) → A t → B t) → FailsToDraw asked A → FailsToDraw asked B
+undrawn_wider asked A B wider late = (late.0, asked_wider Task A B (λ t. (told : List ℕ) × (report : Report) × IsLines told report t) wider late.1)
+
+pub stops_wider : (asked : Shown) (A B : Task → Type 0) → ((t : Task) → A t → B t) → (why : Refusal) → StopsTask asked A why → StopsTask asked B why
+stops_wider asked A B wider =
+    refuses_wider (OfFault (IsPlanFault A)) (OfFault (IsPlanFault B)) (FailsToDraw asked A) (FailsToDraw asked B)
+    (fault_wider (IsPlanFault A) (IsPlanFault B) (λ why of. asked_wider Task A B (StopsPlanOf why) wider of)) (undrawn_wider asked A B wider)
+
+-- why a plan wasn't made is why it isn't told
+pub unmade : (asked : Shown) (Asked : Task → Type 0) (before after : Option (List ℕ)) (why : Refusal) → StopsTask asked Asked why
+    → RefusesPlan asked Asked before after why
+unmade asked Asked before after =
+    refuses_wider (OfFault (IsPlanFault Asked)) (OfFault (IsPlanFault Asked)) (FailsToDraw asked Asked)
+    (FailsToDraw asked Asked ⊎ FailsToPrint asked Asked before after) (λ why of. of) (λ late. inl late)
+
+-- what a plan is told with
+
+-- lines that were written to memory that held nothing
+lines_in : (t : Task) (len : ℕ) (ahead behind : Ahead) (begun lines : List ℕ) (report : Report) → begun ≡ []
+    → IsPlanOf t len ahead behind (Some begun) (Some lines) report → IsLines lines report t
+lines_in t len ahead behind begun lines report none planned = record {
+  len = len;
+  ahead = ahead;
+  behind = behind;
+  planned = subst (λ xs. IsPlanOf t len ahead behind (Some xs) (Some lines) report) none planned;
+}
+
+pub outline_whole : {V : Type 0} (r : Result V Refusal) (items : V → List ℕ) (asked : Shown) (t : Task) (len : ℕ) (ahead behind : Ahead)
+    (begun lines slice : List ℕ) (report : Report) → begun ≡ [] → slice ≡ lines → IsPlanOf t len ahead behind (Some begun) (Some lines) report
+    → ((of : IsLines slice report t) → IfOk r (λ rest. items rest ≡ behind_lines asked.times report t of.planned.m (read_lines of)))
+    → ((of : IsLines slice report t) → IfOk r (λ rest. Draws asked.map t of.planned.m (read_lines of) (items rest)))
+    → IfOk r (λ rest. IsWhole asked lines (items rest) t)
+outline_whole (Err why) items asked t len ahead behind begun lines slice report none same planned rests drawn = tt
+outline_whole (Ok rest) items asked t len ahead behind begun lines slice report none same planned rests drawn =
+    let of : IsLines lines report t = lines_in t len ahead behind begun lines report none planned in
+    record {
+      report = report;
+      of = of;
+      ends = subst (λ xs. (of : IsLines xs report t) → items rest ≡ behind_lines asked.times report t of.planned.m (read_lines of)) same rests of;
+      drawn = subst (λ xs. (of : IsLines xs report t) → Draws asked.map t of.planned.m (read_lines of) (items rest)) same drawn of;
+    }
+
+pub outline_lines : {V : Type 0} (t : Task) (len : ℕ) (ahead behind : Ahead) (begun lines : List ℕ) (report : Report)
+    (r : Result V Refusal) → begun ≡ [] → IsPlanOf t len ahead behind (Some begun) (Some lines) report
+    → IfErr r (λ why. (lines ≡ []) ⊎ IsPart lines t)
+outline_lines t len ahead behind begun lines report (Ok rest) none planned = tt
+outline_lines t len ahead behind begun lines report (Err why) none planned =
+    inr (inr (report, lines_in t len ahead behind begun lines report none planned))
+
+pub outline_stops : {V : Type 0} (r : Result V Refusal) (asked : Shown) (t : Task) (len : ℕ) (ahead behind : Ahead) (begun lines : List ℕ)
+    (report : Report) → begun ≡ [] → IsPlanOf t len ahead behind (Some begun) (Some lines) report
+    → IfErr r (λ why. (why ≡ Build fault.Memory) ⊎ ((asked.map ≡ true) × (why ≡ Build fault.Write))) → IfErr r (StopsTask asked (Is t))
+outline_stops (Ok rest) asked t len ahead behind begun lines report none planned lacks = tt
+outline_stops (Err why) asked t len ahead behind begun lines report none planned (inl memory) = rw memory tt
+outline_stops (Err why) asked t len ahead behind begun lines report none planned (inr output) = rw output.1 (inr (
+  output.0,
+  record {
+    it = t;
+    asked = refl;
+    has = (lines, report, lines_in t len ahead behind begun lines report none planned);
+  },
+))
+
+pub stops_for : {V : Type 0} (r : Result V Refusal) (one other : Shown) (t : Task) (request : Request) → one ≡ other → IsTaskOf request t
+    → IfErr r (StopsTask one (Is t)) → IfErr r (StopsTask other (IsTaskOf request))
+stops_for (Ok x) one other t request same of stops = tt
+stops_for (Err why) one other t request same of stops =
+    stops_wider other (Is t) (IsTaskOf request) (λ x is. subst (λ y. IsTaskOf request y) (sym is) of) why (subst (λ s. StopsTask s (Is t) why) same stops)
+
+told_wider : (asked : Shown) (A B : Task → Type 0) → ((t : Task) → A t → B t) → (lines : List ℕ)
+    → (lines ≡ []) ⊎ ForAsked Task A (IsPart lines) → (lines ≡ []) ⊎ ForAsked Task B (IsTold asked lines)
+told_wider asked A B wider lines (inl none) = inl none
+told_wider asked A B wider lines (inr of) = inr (record { it = of.it; asked = wider of.it of.asked; has = inl of.has })
+
+-- of all lines and what stands behind them
+
+whole_is_told : (asked : Shown) (A : Task → Type 0) (lines rest : List ℕ) → ForAsked Task A (IsWhole asked lines rest)
+    → ForAsked Task A (IsTold asked (lines ++ rest))
+whole_is_told asked A lines rest of = record { it = of.it; asked = of.asked; has = inr (lines, rest, of.has, refl) }
+
+pub whole_printed : {U : Type 0} (asked : Shown) (A B : Task → Type 0) → ((t : Task) → A t → B t) → (lines rest : List ℕ) (before after : Option (List ℕ))
+    (r : Result U Refusal) → ForAsked Task A (IsWhole asked lines rest) → IfOk r (λ u. Appends before after (lines ++ rest))
+    → IfOk r (λ u. PrintsPlan asked B before after)
+whole_printed asked A B wider lines rest before after (Ok u) of put =
+    record { lines = lines; rest = rest; whole = asked_wider Task A B (IsWhole asked lines rest) wider of; put = put }
+whole_printed asked A B wider lines rest before after (Err why) of put = tt
+
+pub whole_cut : {U : Type 0} (asked : Shown) (A B : Task → Type 0) → ((t : Task) → A t → B t) → (lines rest : List ℕ) (before after : Option (List ℕ))
+    (r : Result U Refusal) → ForAsked Task A (IsWhole asked lines rest) → IfErr r (λ why. Cuts before after (lines ++ rest))
+    → IfErr r (λ why. CutsPlan asked B before after)
+whole_cut asked A B wider lines rest before after (Ok u) of put = tt
+whole_cut asked A B wider lines rest before after (Err why) of put = inr (record {
+  bytes = lines ++ rest;
+  of = whole_is_told asked B lines rest (asked_wider Task A B (IsWhole asked lines rest) wider of);
+  put = inr put;
+})
+
+pub whole_refused : {U : Type 0} (asked : Shown) (A B : Task → Type 0) → ((t : Task) → A t → B t) → (lines rest : List ℕ) (before after : Option (List ℕ))
+    (cause : Option Refusal) (r : Result U Refusal) → cause ≡ None → ForAsked Task A (IsWhole asked lines rest)
+    → IfErr r (λ why. Cuts before after (lines ++ rest)) → IfErr r (λ why. why ≡ Build fault.Write)
+    → IfErr r (Refuses cause (RefusesPlan asked B before after))
+whole_refused asked A B wider lines rest before after cause (Ok u) none of put is = tt
+whole_refused asked A B wider lines rest before after cause (Err why) none of put is = refuses _ _ _ none (rw is (inr (inr (record {
+  bytes = lines ++ rest;
+  of = whole_is_told asked B lines rest (asked_wider Task A B (IsWhole asked lines rest) wider of);
+  put = put;
+}))))
+
+-- of the lines before a refusal
+
+abbrev PrintsLines : Type 0 → List ℕ → Option (List ℕ) → Option (List ℕ) → Refusal → Refusal → Type 0
+PrintsLines Same lines before after why told =
+    ((lines ≡ []) × Same × (told ≡ why))
+    ⊎ (((0 < length lines) × Appends before after lines × (told ≡ why)) ⊎ (Cuts before after lines × (told ≡ Build fault.Write)))
+
+lines_cut_of : (Same : Type 0) (before after : Option (List ℕ)) → (Same → after ≡ before) → (asked : Shown) (B : Task → Type 0) (lines : List ℕ) (why told : Refusal)
+    → (lines ≡ []) ⊎ ForAsked Task B (IsTold asked lines) → PrintsLines Same lines before after why told → CutsPlan asked B before after
+lines_cut_of Same before after same asked B lines why told part (inl none) = inl (same none.1)
+lines_cut_of Same before after same asked B lines why told (inr of) (inr (inl all)) = inr (record { bytes = lines; of = of; put = inl all.1 })
+lines_cut_of Same before after same asked B lines why told (inl none) (inr (inl all)) = absurd (omega (arith, all.0, ap length none))
+lines_cut_of Same before after same asked B lines why told (inr of) (inr (inr cut)) = inr (record { bytes = lines; of = of; put = inr cut.0 })
+lines_cut_of Same before after same asked B lines why told (inl none) (inr (inr cut)) = absurd (omega (arith, cut.0.1, ap length none))
+
+pub lines_cut : (Same : Type 0) (before after : Option (List ℕ)) → (Same → after ≡ before) → (asked : Shown) (A B : Task → Type 0) → ((t : Task) → A t → B t)
+    → (lines : List ℕ) (why told : Refusal) → (lines ≡ []) ⊎ ForAsked Task A (IsPart lines) → PrintsLines Same lines before after why told
+    → CutsPlan asked B before after
+lines_cut Same before after same asked A B wider lines why told part =
+    lines_cut_of Same before after same asked B lines why told (told_wider asked A B wider lines part)
+
+lines_refused_of : (Same : Type 0) (before after : Option (List ℕ)) (asked : Shown) (B : Task → Type 0) (lines : List ℕ) (why told : Refusal)
+    → (lines ≡ []) ⊎ ForAsked Task B (IsTold asked lines) → StopsTask asked B why → PrintsLines Same lines before after why told → RefusesPlan asked B before after told
+lines_refused_of Same before after asked B lines why told part stops (inl none) = rw none.2 (unmade asked B before after why stops)
+lines_refused_of Same before after asked B lines why told part stops (inr (inl all)) = rw all.2 (unmade asked B before after why stops)
+lines_refused_of Same before after asked B lines why told (inr of) stops (inr (inr cut)) = rw cut.1 (inr (inr (record { bytes = lines; of = of; put = cut.0 })))
+lines_refused_of Same before after asked B lines why told (inl none) stops (inr (inr cut)) = absurd (omega (arith, cut.0.1, ap length none))
+
+pub lines_refused : (Same : Type 0) (before after : Option (List ℕ)) (asked : Shown) (A B : Task → Type 0) → ((t : Task) → A t → B t)
+    → (lines : List ℕ) (cause : Option Refusal) (why told : Refusal) → cause ≡ None → (lines ≡ []) ⊎ ForAsked Task A (IsPart lines) → StopsTask asked A why
+    → PrintsLines Same lines before after why told → Refuses cause (RefusesPlan asked B before after) told
+lines_refused Same before after asked A B wider lines cause why told none part stops prints =
+    refuses _ _ _ none (lines_refused_of Same before after asked B lines why told (told_wider asked A B wider lines part) (stops_wider asked A B wider why stops) prints)
 
 -- a check
 

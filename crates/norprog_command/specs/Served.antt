@@ -8,6 +8,7 @@ use Rattle.norprog_words.specs.Told.{OfLine}
 use Rattle.norprog_words.specs.Values.{part_of, base_of, said_status}
 use Rattle.norprog_words.specs.declared.given.GivenBuild.{GivenBuild}
 use Rattle.norprog_words.specs.declared.given.GivenCheck.{GivenCheck}
+use Rattle.norprog_words.specs.declared.given.GivenPlan.{GivenPlan}
 use Rattle.norprog_words.specs.declared.given.GivenChip.{GivenChip}
 use Rattle.norprog_command.specs.declared.inputs.Texts.{Texts}
 use Rattle.norprog_words.specs.declared.given.Given.{Given}
@@ -70,6 +71,9 @@ pub record Serves (given : Given) (t : Task) : Type 0 where
 abbrev pub ServesBuild : GivenBuild → Task → Type 0
 ServesBuild given = Serves given.job
 
+abbrev pub ServesPlan : GivenPlan → Task → Type 0
+ServesPlan given = Serves given.job
+
 abbrev pub ServesCheck : GivenCheck → Task → Type 0
 ServesCheck given = Serves given.job
 
@@ -104,8 +108,8 @@ OfBuild = OfLine ServesBuild
 abbrev pub OfCheck : Result GivenCheck Refusal → Task → Type 0
 OfCheck = OfLine ServesCheck
 
-abbrev pub OfPlan : Result Given Refusal → Task → Type 0
-OfPlan = OfLine Serves
+abbrev pub OfPlan : Result GivenPlan Refusal → Task → Type 0
+OfPlan = OfLine ServesPlan
 
 abbrev pub OfChip : Result GivenChip Refusal → Task → Type 0
 OfChip = OfLine ServesChip

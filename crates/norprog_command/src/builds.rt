@@ -6,6 +6,7 @@ ghost use Rattle.norprog_command.specs.Asked.{asks_build};
 ghost use Rattle.norprog_command.specs.Builds.{IsBuildReport, RefusesBuild, PrintsReport, CutsReport, AnswersBuild, done};
 ghost use Rattle.norprog_command.specs.Served.{IsTaskOf, OfBuild};
 
+use crate::BUFFER;
 use crate::inputs::{inputs_of, read_texts};
 use crate::request::{Request, request_of};
 use nor_base::{ByteOut, FromRead, IntoWrite};
@@ -14,9 +15,6 @@ use norprog_words::{FileName, GivenBuild, Refusal, create_output, open_input, re
 use std::alloc::AllocGlobal;
 use std::fs::Files;
 use std::io::{self, BufWriter, Write};
-
-/// Bytes of a script that are gathered before they are written to the file.
-const BUFFER: usize = 65536;
 
 /// Does what the texts of a command line ask for. It opens the files that they name, writes the report to `out` and a
 /// refusal to `err` (docs/FORMATS.md, section 9), and answers the status: 0 done, 1 refused, 2 usage.
@@ -78,7 +76,7 @@ fn run_build<R: Files + AllocGlobal>(
     let texts = read_texts(rt, alloc, request, &mut places)?;
     let (content, place, len) = open_input(rt, request.content, FileName::Content)?;
     places.push(place)?;
-    let file = create_output(rt, path, places.as_slice())?;
+    let file = create_output(rt, path, FileName::Out, places.as_slice())?;
     let writer = BufWriter::with_capacity(alloc, BUFFER, file).map_err(|_| Refusal::MEMORY)?;
     let mut reader = FromRead::new(content);
     let mut writer = IntoWrite::new(writer);

@@ -2,19 +2,26 @@
 //! names, and the lines of refusals (docs/FORMATS.md, section 9).
 //!
 //! [`build`], [`plan`], [`check`] and [`sfdp`] do what the texts of those commands ask for. Whoever reads a command line hands
-//! them over as [`GivenBuild`], [`Given`], [`GivenCheck`] and [`GivenChip`].
+//! them over as [`GivenBuild`], [`GivenPlan`], [`GivenCheck`] and [`GivenChip`].
 #![tactic(auto)]
 
 mod builds;
 mod checks;
 mod chips;
+mod drawing;
 mod inputs;
+mod outline;
 mod plans;
 mod request;
+
+/// Bytes that are gathered before they are written to a file.
+const BUFFER: usize = 65536;
 
 pub use builds::build;
 pub use checks::check;
 pub use chips::sfdp;
-pub use norprog_words::{FileName, Given, GivenBuild, GivenCheck, GivenChip, Refusal, refuse};
+pub use norprog_words::{
+    FileName, Given, GivenBuild, GivenCheck, GivenChip, GivenPlan, Refusal, refuse,
+};
 pub use plans::plan;
 pub use request::{Request, request_of};

@@ -1,28 +1,34 @@
 //! `plan`: from the texts of the command line to the lines that tell what a build would erase and program, and why.
 
-ghost use Rattle.std.specs.Prelude.{◌≡◌, ◌<◌, ◌≤◌, ◌-◌, ◌^◌, None, IfOk, IfErr};
-ghost use Rattle.norprog_words.specs.Told.{line_fault, Refuses};
-ghost use Rattle.norprog_command.specs.Plans.{PrintsLines, PrintsPlan, CutsLines, CutsPlan, RefusesPlan, AnswersPlan};
-ghost use Rattle.norprog_command.specs.Request.{is_well_formed};
+ghost use Rattle.std.specs.Prelude.{◌≡◌, ◌⊎◌, ◌<◌, ◌≤◌, ◌-◌, ◌^◌, ◌++◌, None, [], length, IfOk, IfErr, is_some};
+ghost use Rattle.std.specs.Io.KnownBytes.{Appends};
+ghost use Rattle.nor_base.specs.Device.{Cuts};
+ghost use Rattle.nor_job.specs.Task.{Task};
+ghost use Rattle.nor_job.specs.declared.fault.BuildFault.TheVariants.{Write};
+ghost use Rattle.norprog_words.specs.declared.faults.Refusal.TheVariants.{Build};
+ghost use Rattle.norprog_words.specs.Files.{IsOfFiles};
+ghost use Rattle.norprog_words.specs.Told.{ForAsked, line_fault, Refuses};
+ghost use Rattle.norprog_command.specs.Plans.{asks_plan, asks_shown, shown, IsPart, IsWhole, StopsTask, PrintsPlan, CutsPlan, RefusesPlan, AnswersPlan};
 ghost use Rattle.norprog_command.specs.Served.{IsTaskOf, OfPlan};
 
-use crate::inputs::{inputs_of, read_texts};
+use crate::inputs::{Texts, inputs_of, read_texts};
+use crate::outline::{Outline, outline_of};
 use crate::request::{Request, request_of};
-use nor_base::{ByteOut, FromRead};
-use norprog::{Report, write_report};
-use norprog_words::{FileName, Given, Refusal, open_input, refuse};
+use nor_base::{ByteOut, FromRead, put_all, put_parts};
+use norprog_words::{FileName, GivenPlan, Refusal, create_output, open_input, refuse};
 use std::alloc::AllocGlobal;
 use std::fs::Files;
 
-/// Writes to `out` the lines of the plan of the job on a command line, and the report that a build of it would have; or a
-/// refusal to `err` (docs/FORMATS.md, section 9). Answers the status: 0 done, 1 refused, 2 usage. Lines of windows before
-/// the one at fault stand in `out` also where the job is refused.
+/// Writes to `out` the lines of the plan of the job on a command line, the report that a build of it would have and, where they
+/// are asked for, the lines of its times; or a refusal to `err` (docs/FORMATS.md, sections 9 and 15). Where a picture is asked for
+/// it goes to its file first (section 16). Answers the status: 0 done, 1 refused, 2 usage. Lines of windows before the one at fault stand in `out` also where the job is refused. Memory is
+/// taken for the text.
 ///
 /// `given` is what stands on the command line, or why that couldn't be read, which is told. Usage is told where the texts
 /// ask for no plan.
 pub fn plan<O: ByteOut, E: ByteOut>(
     rt: &(impl Files + AllocGlobal),
-    given: Result<Given<'_>, Refusal>,
+    given: Result<GivenPlan<'_>, Refusal>,
     out: &mut O,
     err: &mut E,
 ) -> u8
@@ -39,46 +45,121 @@ pub fn plan<O: ByteOut, E: ByteOut>(
     }
 }
 
-/// Plans what is asked for, and writes the report behind the lines.
+/// Plans what is asked for, and prints what tells it.
 fn report_plan<O: ByteOut>(
     rt: &(impl Files + AllocGlobal),
-    given: Result<Given<'_>, Refusal>,
+    given: Result<GivenPlan<'_>, Refusal>,
     out: &mut O,
 ) -> Result<(), Refusal>
     requires { O.count out.old < 2 ^ 64 - 1 }
-    ensures printed { IfOk result (λ _. PrintsPlan (OfPlan given.entry) (O.held out.old) (O.held out.new)) }
-    ensures unprinted { IfErr result (λ _. CutsPlan (OfPlan given.entry) (O.held out.old) (O.held out.new)) }
-    ensures asked { IfOk result (λ _. line_fault is_well_formed given.entry ≡ None) }
-    ensures first { IfErr result (Refuses (line_fault is_well_formed given.entry) (RefusesPlan (OfPlan given.entry))) }
+    ensures printed { IfOk result (λ _. PrintsPlan (asks_shown given.entry) (OfPlan given.entry) (O.held out.old) (O.held out.new)) }
+    ensures unprinted { IfErr result (λ _. CutsPlan (asks_shown given.entry) (OfPlan given.entry) (O.held out.old) (O.held out.new)) }
+    ensures asked { IfOk result (λ _. line_fault asks_plan given.entry ≡ None) }
+    ensures first { IfErr result (Refuses (line_fault asks_plan given.entry)
+        (RefusesPlan (asks_shown given.entry) (OfPlan given.entry) (O.held out.old) (O.held out.new))) }
 {
-    let request = request_of(given?).ok_or(Refusal::Usage)?;
-    let report = run_plan(rt, &request, out)?;
-    match write_report(&report, out) {
+    let given = given?;
+    let GivenPlan { job, times, map } = given;
+    let request = request_of(job).ok_or(Refusal::Usage)?;
+    let Outline { lines, rest } = run_plan(rt, &request, times, map);
+    match rest {
+        Ok(rest) => print_whole(lines.as_slice(), rest.as_slice(), out),
+        Err(refusal) => Err(print_lines(lines.as_slice(), refusal, out)),
+    }
+}
+
+/// Prints the lines of a plan and what stands behind them.
+fn print_whole<O: ByteOut>(lines: &[u8], rest: &[u8], out: &mut O) -> Result<(), Refusal>
+    requires { O.count out.old < 2 ^ 64 - 1 }
+    ensures printed { IfOk result (λ _. Appends (O.held out.old) (O.held out.new) (lines.now ++ rest.now)) }
+    ensures cut { IfErr result (λ _. Cuts (O.held out.old) (O.held out.new) (lines.now ++ rest.now)) }
+    ensures failed { IfErr result (λ why. why ≡ Build Write) }
+{
+    match put_parts(out, &[lines, rest]) {
         Ok(()) => Ok(()),
         Err(_) => Err(Refusal::WRITE),
     }
 }
 
+/// Prints the lines that were told before a refusal, and answers what is to be told: that refusal, or `Write` where `out` fails.
+fn print_lines<O: ByteOut>(lines: &[u8], refusal: Refusal, out: &mut O) -> Refusal
+    requires { O.count out.old < 2 ^ 64 - 1 }
+    ensures { ((lines.now ≡ []) × (out.new ≡ out.old) × (result ≡ refusal))
+        ⊎ (((0 < length lines.now) × Appends (O.held out.old) (O.held out.new) lines.now × (result ≡ refusal))
+        ⊎ (Cuts (O.held out.old) (O.held out.new) lines.now × (result ≡ Build Write))) }
+{
+    if lines.is_empty() {
+        return refusal;
+    }
+    match put_all(out, lines) {
+        Ok(()) => refusal,
+        Err(_) => Refusal::WRITE,
+    }
+}
+
+/// The files of a plan, opened.
+struct PlanFiles<F> {
+    texts: Texts,
+    content: F,
+    /// How many bytes the content has.
+    len: u64,
+    /// What takes the picture.
+    map: Option<F>,
+}
+
 /// Opens the files of a request in their order, and plans.
-fn run_plan<R: Files + AllocGlobal, O: ByteOut>(
+fn run_plan<R: Files + AllocGlobal>(
     rt: &R,
     request: &Request<'_>,
-    out: &mut O,
-) -> Result<Report, Refusal>
-    requires { O.count out.old < 2 ^ 64 - 1 }
-    ensures count { IfOk result (λ _. O.count out.new ≡ O.count out.old) }
-    ensures lines { IfOk result (PrintsLines (IsTaskOf request.now) (O.held out.old) (O.held out.new)) }
-    ensures cut { IfErr result (λ _. CutsLines (IsTaskOf request.now) (O.held out.old) (O.held out.new)) }
-    ensures refused { IfErr result (RefusesPlan (IsTaskOf request.now)) }
+    times: bool,
+    map: Option<&str>,
+) -> Outline
+    ensures whole { IfOk result.rest (λ rest. ForAsked Task (IsTaskOf request.now) (IsWhole (shown times map.entry) result.lines.items rest.items)) }
+    ensures part { IfErr result.rest (λ _. (result.lines.items ≡ []) ⊎ ForAsked Task (IsTaskOf request.now) (IsPart result.lines.items)) }
+    ensures refused { IfErr result.rest (StopsTask (shown times map.entry) (IsTaskOf request.now)) }
+{
+    match open_files(rt, request, map) {
+        Ok(files) => {
+            let PlanFiles {
+                texts,
+                content,
+                len,
+                map,
+            } = files;
+            let mut content = FromRead::new(content);
+            let inputs = inputs_of(request, &texts);
+            outline_of(rt.alloc(), &inputs, &mut content, len, times, map)
+        }
+        Err(refusal) => Outline {
+            lines: Vec::new(rt.alloc()),
+            rest: Err(refusal),
+        },
+    }
+}
+
+/// Opens the files of a request in their order, and then the file for the picture where there is one.
+fn open_files<R: Files + AllocGlobal>(
+    rt: &R,
+    request: &Request<'_>,
+    map: Option<&str>,
+) -> Result<PlanFiles<R::File>, Refusal>
+    ensures layout { IfOk result (λ files. is_some files.texts.layout ≡ is_some request.now.layout) }
+    ensures map { IfOk result (λ files. is_some files.map ≡ is_some map.entry) }
+    ensures refused { IfErr result IsOfFiles }
 {
     let alloc = rt.alloc();
     let mut places = Vec::new(alloc);
     let texts = read_texts(rt, alloc, request, &mut places)?;
-    let (content, _place, len) = open_input(rt, request.content, FileName::Content)?;
-    let mut reader = FromRead::new(content);
-    let inputs = inputs_of(request, &texts);
-    match norprog::plan(alloc, &inputs, &mut reader, len, out) {
-        Ok(report) => Ok(report),
-        Err(fault) => Err(Refusal::Build(fault)),
-    }
+    let (content, place, len) = open_input(rt, request.content, FileName::Content)?;
+    places.push(place)?;
+    let map = match map {
+        Some(path) => Some(create_output(rt, path, FileName::Map, places.as_slice())?),
+        None => None,
+    };
+    Ok(PlanFiles {
+        texts,
+        content,
+        len,
+        map,
+    })
 }

@@ -9,6 +9,7 @@ use Rattle.norprog_words.specs.declared.given.GivenCheck.{GivenCheck}
 use Rattle.norprog_words.specs.declared.given.GivenChip.{GivenChip}
 use Rattle.norprog_words.specs.declared.given.GivenDraw.{GivenDraw}
 use Rattle.norprog_words.specs.declared.given.GivenList.{GivenList}
+use Rattle.norprog_words.specs.declared.given.GivenPlan.{GivenPlan}
 use Rattle.norprog_words.specs.declared.given.GivenPlay.{GivenPlay}
 use Rattle.norprog_words.specs.declared.given.GivenRun.{GivenRun}
 use Rattle.norprog_options.specs.declared.options.Asked.{Asked}
@@ -103,6 +104,11 @@ pub record IsBuildIn (found : Found) (given : GivenBuild) : Type 0 where
   pub job : IsJobIn found given.job
   pub out : Has found (codes "out") (option_map (λ t. t.now) given.out)
 
+pub record IsPlanIn (found : Found) (given : GivenPlan) : Type 0 where
+  pub job : IsJobIn found given.job
+  pub times : Sets found (codes "times") given.times
+  pub map : Has found (codes "map") (option_map (λ t. t.now) given.map)
+
 pub record IsCheckIn (found : Found) (given : GivenCheck) : Type 0 where
   pub job : IsJobIn found given.job
   pub script : Has found (codes "script") (option_map (λ t. t.now) given.script)
@@ -117,7 +123,7 @@ pub record IsUsed (matches : ArgMatches) (name : List ℕ) (In : Found → Type 
 -- what is asked for is what the command that was used says, each value by the option of its name
 abbrev pub IsAsked : ArgMatches → Asked → Type 0
 IsAsked matches (command.Build given) = IsUsed matches (codes "build") (λ found. IsBuildIn found given)
-IsAsked matches (command.Plan given) = IsUsed matches (codes "plan") (λ found. IsJobIn found given)
+IsAsked matches (command.Plan given) = IsUsed matches (codes "plan") (λ found. IsPlanIn found given)
 IsAsked matches (command.Check given) = IsUsed matches (codes "check") (λ found. IsCheckIn found given)
 IsAsked matches (command.Run given) = IsUsed matches (codes "run") (λ found. IsRunIn found given)
 IsAsked matches (command.List given) = IsUsed matches (codes "list") (λ found. IsListIn found given)

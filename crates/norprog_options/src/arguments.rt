@@ -5,7 +5,7 @@ use std::alloc::{AllocError, Global};
 
 /// The version, the commit and the kit; `make build` writes the commit over the zeros of the program that it has built.
 const VERSION: &str =
-    "0.1.0\ncommit 0000000000000000000000000000000000000000\nrattle-kit-13b logic dac8208d650f15bf";
+    "0.1.0\ncommit 0000000000000000000000000000000000000000\nrattle-kit-13f logic dac8208d650f15bf";
 
 const BUILD_EXAMPLE: &str =
     "Example: norprog build --hex app.hex --base 8000000 --uniform 8192 --content now.bin --out app.script";
@@ -61,7 +61,13 @@ fn plan<'a>(alloc: Global) -> Result<Command<'a>, AllocError> {
     let command = Command::new(alloc, "plan")
         .about("Prints what build would erase, why, and program, and then its report")
         .after_help(PLAN_EXAMPLE);
-    with_verify(alloc, with_job(alloc, command)?)
+    let times =
+        "Print behind the report how long the chip is busy, and the clocks on the bus [default: no]";
+    let map =
+        "A picture of the chip, SVG; what the file held is replaced. It can't be an input [default: not drawn]";
+    with_verify(alloc, with_job(alloc, command)?)?
+        .arg(flag(alloc, "times", times))?
+        .arg(file(alloc, "map", map))
 }
 
 fn check<'a>(alloc: Global) -> Result<Command<'a>, AllocError> {

@@ -2,14 +2,15 @@
 
 ghost use Rattle.std.specs.Prelude.{◌≡◌, map, IfOk};
 ghost use Rattle.clap.specs.Words.{found_of};
-ghost use Rattle.norprog_options.specs.Options.{texts_of, IsJobIn, IsChipIn, IsDrawIn, IsListIn, IsPlayIn, IsRunIn, IsAsked, IsAskedBySome};
+ghost use Rattle.norprog_options.specs.Options.{texts_of, IsJobIn, IsChipIn, IsDrawIn, IsListIn, IsPlanIn, IsPlayIn, IsRunIn, IsAsked, IsAskedBySome};
 
 use crate::arguments::norprog;
 use clap::error::ErrorKind;
 use clap::{ArgMatches, Error};
 use nor_base::Bytes;
 use norprog_words::{
-    Given, GivenBuild, GivenCheck, GivenChip, GivenDraw, GivenList, GivenPlay, GivenRun, Refusal,
+    Given, GivenBuild, GivenCheck, GivenChip, GivenDraw, GivenList, GivenPlan, GivenPlay, GivenRun,
+    Refusal,
 };
 use std::alloc::Global;
 
@@ -17,7 +18,7 @@ use std::alloc::Global;
 #[derive(Drop)]
 pub enum Asked<'a> {
     Build(GivenBuild<'a>),
-    Plan(Given<'a>),
+    Plan(GivenPlan<'a>),
     Check(GivenCheck<'a>),
     Run(GivenRun<'a>),
     List(GivenList<'a>),
@@ -53,7 +54,7 @@ fn asked_in<'a>(alloc: Global, matches: &ArgMatches<'a>) -> Result<Asked<'a>, Re
         }));
     }
     if let Some(plan) = matches.subcommand_matches("plan") {
-        return Ok(Asked::Plan(given_in(alloc, plan)?));
+        return Ok(Asked::Plan(plan_in(alloc, plan)?));
     }
     if let Some(check) = matches.subcommand_matches("check") {
         return Ok(Asked::Check(GivenCheck {
@@ -112,6 +113,17 @@ fn given_in<'a>(alloc: Global, job: &ArgMatches<'a>) -> Result<Given<'a>, Refusa
         verify: job.get_flag("verify"),
         erased_only: job.get_flag("erased-only"),
         regions: texts_in(alloc, job, "regions")?,
+    })
+}
+
+/// The plan.
+fn plan_in<'a>(alloc: Global, plan: &ArgMatches<'a>) -> Result<GivenPlan<'a>, Refusal>
+    ensures { IfOk result (IsPlanIn (found_of plan.now)) }
+{
+    Ok(GivenPlan {
+        job: given_in(alloc, plan)?,
+        times: plan.get_flag("times"),
+        map: plan.get_str("map"),
     })
 }
 

@@ -1,12 +1,14 @@
 //! Norprog's commands, by their command lines.
 
 use crate::line::{Line, line_of};
-use nor_base::{Bytes, IntoWrite};
+use nor_base::{Bytes, IntoWrite, Nowhere};
 use norprog_command::{build, check, plan, sfdp};
 use norprog_list::list;
 use norprog_play::play;
 use norprog_run::run;
-use norprog_words::{Given, GivenBuild, GivenCheck, GivenChip, GivenList, GivenPlay, GivenRun};
+use norprog_words::{
+    Given, GivenBuild, GivenCheck, GivenChip, GivenList, GivenPlan, GivenPlay, GivenRun,
+};
 use std::alloc::{AllocError, Global};
 use std::{fs, io};
 
@@ -76,7 +78,7 @@ fn status_of(
         return Ok(list(rt, Ok(list_in(line)), &mut out, &mut err));
     }
     if command == "play" {
-        return Ok(play(rt, Ok(play_in(line)), &mut out, &mut err));
+        return Ok(play(rt, Ok(play_in(line)), &mut out, &mut err, &mut Nowhere));
     }
     if command == "sfdp" {
         return Ok(sfdp(rt, Ok(chip_in(line)), &mut out, &mut err));
@@ -92,7 +94,10 @@ fn status_of(
             let script = line.value("--script");
             check(rt, Ok(GivenCheck { job, script }), &mut out, &mut err)
         }
-        _ => plan(rt, Ok(job), &mut out, &mut err),
+        _ => {
+            let (times, map) = (line.has("--times"), line.value("--map"));
+            plan(rt, Ok(GivenPlan { job, times, map }), &mut out, &mut err)
+        }
     })
 }
 

@@ -34,6 +34,7 @@ pub(crate) fn file_row(
         ("remove", [name]) => fs::remove_file(rt, *name),
         ("link", [name, link]) => symlink(rt, *name, *link),
         ("hard", [name, link]) => fs::hard_link(rt, *name, *link),
+        ("holds", [name]) => tell_lacking(fs::read_to_string(rt, *name)?.as_str(), given, found),
         (_, [name, rest @ ..]) => match content_for(rt, word, name, rest, given)? {
             Some(bytes) => fs::write(rt, *name, bytes.as_slice()),
             None => show_row(rt, word, words.as_slice(), found),
@@ -113,6 +114,17 @@ fn show_row(rt: &HostRuntime, word: &str, words: &[&str], found: &mut String) ->
             found.push_str("\n")?;
         }
         _ => writeln!(found, "unknown: {word}")?,
+    }
+    Ok(())
+}
+
+/// Tells each line that is handed over and isn't one of a text.
+fn tell_lacking(text: &str, given: &[&str], found: &mut String) -> io::Result<()> {
+    for line in given {
+        let line = line.strip_prefix("> ").unwrap_or(line);
+        if !text.lines().any(|other| other == line) {
+            writeln!(found, "without: {line}")?;
+        }
     }
     Ok(())
 }

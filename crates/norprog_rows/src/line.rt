@@ -41,6 +41,8 @@ fn form_of(command: &str, word: &str) -> Option<Form> {
         "--keep" if is_run => Some(Form::Flag),
         "--device" if is_play => Some(Form::Value),
         "--trust" if is_play => Some(Form::Flag),
+        "--times" if command == "plan" => Some(Form::Flag),
+        "--map" if command == "plan" => Some(Form::Value),
         _ => None,
     }
 }

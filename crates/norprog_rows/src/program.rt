@@ -1,6 +1,6 @@
 //! Command lines that the command line library reads, as the program does.
 
-use nor_base::IntoWrite;
+use nor_base::{IntoWrite, Nowhere};
 use norprog_command::{build, check, plan, sfdp};
 use norprog_draw::draw;
 use norprog_explain::explain;
@@ -63,7 +63,7 @@ fn status_of(rt: &HostRuntime, words: &[String]) -> io::Result<u8> {
         Ok(Asked::Run(given)) => run(rt, Ok(given), &mut out, &mut err),
         Ok(Asked::List(given)) => list(rt, Ok(given), &mut out, &mut err),
         Ok(Asked::Draw(given)) => draw(rt, Ok(given), &mut err),
-        Ok(Asked::Play(given)) => play(rt, Ok(given), &mut out, &mut err),
+        Ok(Asked::Play(given)) => play(rt, Ok(given), &mut out, &mut err, &mut Nowhere),
         Ok(Asked::Sfdp(given)) => sfdp(rt, Ok(given), &mut out, &mut err),
         Ok(Asked::Explain(words)) => explain(words.as_slice(), &mut out, &mut err),
         Err(refusal) => refuse(&refusal, &mut err),

@@ -63,7 +63,7 @@ pub(crate) const TOPICS: &[Topic] = &[
     (
         "failed",
         "Behind `at` is the step, from 0, that the device didn't do. `carried`: it can't,\n\
-         as it is for one lane and has a most of bytes; nothing was sent. Else the\n\
+         as it is for one lane and has a most of bytes; no step was sent. Else the\n\
          steps before it are done and it may be, in part: `nak` the device refused it,\n\
          `silent` no answer came, `differs` another byte came, `read` or `write` failed.\n\
          Then read the chip again, in the mode that it is in, and build anew from that.",

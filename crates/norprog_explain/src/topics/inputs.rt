@@ -43,6 +43,11 @@ pub(crate) const TOPICS: &[Topic] = &[
          whatever name (a link counts). Name another file. No input was touched.",
     ),
     (
+        "file map",
+        "The picture of the plan can't be made or written, is a folder, or is one of the\n\
+         inputs, by whatever name (a link counts). Name another file.",
+    ),
+    (
         "file device",
         "The device isn't there, may not be read and written, or is no character device,\n\
          as a tty is. Look at its name and rights. Nothing was sent to it.",
@@ -129,8 +134,8 @@ pub(crate) const TOPICS: &[Topic] = &[
     ),
     (
         "write",
-        "Writing the script, its last flush, or standard output failed. Make room on\n\
-         the disk and delete what the output holds: it may be cut, or be whole.",
+        "Writing a file, its last flush, or standard output failed. Make room on the\n\
+         disk and delete what the output holds: it may be cut, or be whole.",
     ),
     (
         "memory",

@@ -78,7 +78,7 @@ pub(crate) const TOPICS: &[Topic] = &[
     (
         "end",
         "The last line of a script and of a listing: the number of steps. Without it\n\
-         the text was cut, and isn't one.",
+         the text was cut, and isn't one; a listing ends so too at a script's fault.",
     ),
     (
         "norscript",

@@ -64,6 +64,21 @@ pub(crate) const TOPICS: &[Topic] = &[
          --base and at the regions.",
     ),
     (
+        "busy unknown",
+        "How long the chip is busy isn't known: a chip of a bare size tells no times, nor\n\
+         do tables of fewer than eleven DWORDs. Look into its data sheet.",
+    ),
+    (
+        "busy",
+        "How long the chip itself is busy with these erases and programs, by its tables:\n\
+         as a rule, and at worst. The time on the wires comes on top (bus).",
+    ),
+    (
+        "bus",
+        "The clocks of all steps of the script, each poll once. Divided by the clock's\n\
+         speed it is the least time on the wires; a slow adapter takes longer.",
+    ),
+    (
         "because",
         "Why the block above is erased: the start of a smallest block inside it, and\n\
          the lowest address there whose byte must get a 1 where the chip holds a 0.",

@@ -1,8 +1,10 @@
--- The plan, or the fault, is that of the request's task.
-use Rattle.norprog_command.specs.Served.{IsTaskOf}
-use Rattle.norprog_command.proofs.AskedLemmas.{refusal_of_plan}
+-- The fault is that of the request's task.
+use Rattle.std.proofs.Common.{ap}
+use Rattle.norprog_command.specs.Plans.{Shown, shown}
+use Rattle.norprog_command.proofs.AskedLemmas.{stops_for}
 use Rattle.norprog_command.proofs.plans.run_plan.Goals as goal
 
-pub returns-clause-refused : goal.returns-clause-refused
-returns-clause-refused g c =
-    refusal_of_plan _ _ (IsTaskOf c.args.request.now) _ _ _ _ _ _ c.in-Err.fault c.inputs_of-inputs.ensures.task c.in-Err.ensures.refused
+pub returns-in-Ok-clause-refused : goal.returns-in-Ok-clause-refused
+returns-in-Ok-clause-refused g c =
+    stops_for c.outline_of.result.rest (shown c.args.times c.in-Ok.files.map) (shown c.args.times c.args.map) _ c.args.request.now
+    (ap {B = Shown} (λ there. record { times = c.args.times; map = there }) c.in-Ok.ensures.map) c.inputs_of-inputs.ensures.task c.outline_of.ensures.refused

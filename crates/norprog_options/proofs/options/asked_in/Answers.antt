@@ -16,7 +16,7 @@ returns-in-Some-subcommand_matches c = record {
   named = c.in-Some-subcommand_matches.ensures.found.0 refl;
   found = found_of c.in-Some-subcommand_matches.plan.now;
   behind = c.in-Some-subcommand_matches.ensures.rows;
-  so = c.in_ok-given_in-2.ensures;
+  so = c.in_ok-plan_in.ensures;
 }
 
 pub returns-in-Some-subcommand_matches-2 : goal.returns-in-Some-subcommand_matches-2
@@ -24,7 +24,7 @@ returns-in-Some-subcommand_matches-2 c = record {
   named = c.in-Some-subcommand_matches-2.ensures.found.0 refl;
   found = found_of c.in-Some-subcommand_matches-2.check.now;
   behind = c.in-Some-subcommand_matches-2.ensures.rows;
-  so = record { job = c.in_ok-given_in-3.ensures; script = c.get_str-in-Some-subcommand_matches-2.ensures };
+  so = record { job = c.in_ok-given_in-2.ensures; script = c.get_str-in-Some-subcommand_matches-2.ensures };
 }
 
 pub returns-in-Some-subcommand_matches-3 : goal.returns-in-Some-subcommand_matches-3
