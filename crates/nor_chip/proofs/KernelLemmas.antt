@@ -62,6 +62,13 @@ abbrev pub MayAllUpTo : Parameters → ℕ → ℕ → List ℕ → List ℕ →
 MayAllUpTo m page address bytes array upto = (i : ℕ) → length bytes - page ≤ i → i < upto
     → may_program m (slice_index array (place page address i)) (slice_index bytes i) ≡ true
 
+pub may_more : (m : Parameters) (page address : ℕ) (bytes array : List ℕ) (j : ℕ) → MayAllUpTo m page address bytes array j
+    → may_program m (slice_index array (place page address j)) (slice_index bytes j) ≡ true → MayAllUpTo m page address bytes array (j + 1)
+may_more m page address bytes array j earlier here i from upto = elim (eqb_tells i j) [
+  | inl same ↦ subst (λ k. may_program m (slice_index array (place page address k)) (slice_index bytes k) ≡ true) (sym same.1) here
+  | inr other ↦ let apart = other.1 in earlier i from (omega arith)
+]
+
 bar_told_if : (m : Parameters) (page address : ℕ) (bytes array : List ℕ) (j : ℕ) (b : Bool) → is_barred m page address bytes array ≡ b → j < length bytes
     → length bytes - page ≤ j → place page address j < length array → may_program m (slice_index array (place page address j)) (slice_index bytes j) ≡ false
     → is_barred m page address bytes array ≡ true

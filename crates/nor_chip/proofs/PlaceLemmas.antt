@@ -1,14 +1,16 @@
 -- Places of a program within its page.
 use Rattle.std.proofs.Common.{◌≡◌, ◌≢◌, ℕ, ◌+◌, ◌-◌, ◌*◌, ◌/◌, ◌%◌, ◌<◌, ◌≤◌, sym, ◌∙◌, ap, arith, inl, inr}
 use Rattle.std.proofs.lemmas.Bool.{cases_lt}
-use Rattle.std.proofs.Math.Nat.{mul-le-mul_left, add-mod_right, add-mul-mod_self_left}
+use Rattle.std.proofs.Math.Nat.{mul-le-mul_left, add-mod_right, mod-add-mod}
 use Rattle.nor_base.specs.Effect.{place}
 
--- a remainder in two parts
-pub mod_in_parts : (a j p : ℕ) → 0 < p → (a % p + j % p) % p ≡ (a + j) % p
-mod_in_parts a j p some =
-    let whole : a + j ≡ (a % p + j % p) + p * (a / p + j / p) = omega arith in
-    sym (ap (λ n. n % p) whole ∙ add-mul-mod_self_left (a % p + j % p) p (a / p + j / p))
+-- a remainder of a sum with one
+pub mod_of_first : (a j p : ℕ) → (a % p + j) % p ≡ (a + j) % p
+mod_of_first a j p = mod-add-mod a p j
+
+-- a place by the page's first address and the offset in it
+pub place_by : (page address j at : ℕ) → at ≡ (address - address % page) + (address % page + j) % page → at ≡ place page address j
+place_by page address j at is = is ∙ ap (λ n. (address - address % page) + n) (mod_of_first address j page)
 
 -- the next turn round the page
 pub place_again : (page address j : ℕ) → place page address (j + page) ≡ place page address j

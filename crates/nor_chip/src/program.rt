@@ -13,13 +13,22 @@ pub fn place(page: u32, address: u32, index: usize) -> usize
     ensures value { result ≡ place_of page address index }
     ensures upto { result < page_start page address + page }
 {
-    let start = address - address % page;
-    let offset = (address % page) as usize + remainder(index, page as usize);
-    start as usize + remainder(offset, page as usize)
+    let offset = address % page;
+    place_in(page, address - offset, offset, index)
+}
+
+/// Where byte `index` goes in the page that starts at `start`, in which the first one goes to byte `offset`.
+fn place_in(page: u32, start: u32, offset: u32, index: usize) -> usize
+    requires { 0 < page }
+    ensures value { result ≡ start + (offset + index) % page }
+    ensures upto { result < start + page }
+{
+    let turn = page as usize;
+    start as usize + remainder(offset as usize + remainder(index, turn), turn)
 }
 
 /// The remainder of a number by a page.
-// most numbers are below it, and a division for each byte takes long
+// most numbers are below it, and a division for each byte would take long
 fn remainder(number: usize, page: usize) -> usize
     requires { 0 < page }
     ensures { result ≡ number % page }
@@ -85,8 +94,10 @@ pub fn is_barred(meaning: &Meaning, page: u32, seen: &Seen<'_>, array: &[u8]) ->
     ensures { result ≡ is_barred_of meaning.now page seen.now.address (sent seen.now) array.now }
 {
     let count = count_sent(seen);
+    let offset = seen.address % page;
+    let start = seen.address - offset;
     for index in first_kept(page, count)..count {
-        let old = array[place(page, seen.address, index)];
+        let old = array[place_in(page, start, offset, index)];
         if !may_send(meaning, seen, index, old) {
             return true;
         }
@@ -102,8 +113,10 @@ pub fn program(page: u32, seen: &Seen<'_>, array: &mut [u8])
     ensures { array.new ≡ programmed page seen.now.address (sent seen.now) array.old }
 {
     let count = count_sent(seen);
+    let offset = seen.address % page;
+    let start = seen.address - offset;
     for index in first_kept(page, count)..count {
-        let at = place(page, seen.address, index);
+        let at = place_in(page, start, offset, index);
         array[at] &= seen.byte(index);
     }
 }

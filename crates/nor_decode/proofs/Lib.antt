@@ -1,4 +1,5 @@
 mod NumberLemmas
+mod LaneLemmas
 mod ByteLemmas
 mod TableLemmas
 pub mod SmallLemmas

@@ -1,12 +1,11 @@
 -- What data clocks send is bytes.
-use Rattle.std.proofs.Common.{◌≡◌, ℕ, zero, suc, ◌+◌, ◌*◌, ◌<◌, List, [], ◌∷◌, Option, None, Some, get_or, option_map, arith}
+use Rattle.std.proofs.Common.{ℕ, zero, suc, ◌<◌, List, [], ◌∷◌, Option, None, Some, get_or, option_map, arith}
 use Rattle.std.specs.Option.{option_map_or}
 use Rattle.nor_base.specs.declared.clock.Clock.{Clock}
 use Rattle.nor_base.specs.declared.clock.Clock.TheVariants.{Zero, One, Nibble0, Nibble1, Nibble2, Nibble3, Nibble4, Nibble5, Nibble6, Nibble7, Nibble8, Nibble9, Nibble10, Nibble11, Nibble12, Nibble13, Nibble14, Nibble15, SampleOne, SampleFour, Idle}
-use Rattle.nor_base.specs.declared.instruction.What.{What}
-use Rattle.nor_base.specs.Instructions.{Form, nothing, sends, sends4, samples, samples4, form_of}
+use Rattle.nor_base.specs.Instructions.{Form, nothing, sends, sends4, samples, samples4}
 use Rattle.nor_base.specs.Sample.{sample, clock_at}
-use Rattle.nor_base.specs.Decoding.{number, nibble, bytes_of_bits, bytes_of_nibbles, bytes_sent}
+use Rattle.nor_base.specs.Decoding.{nibble, bytes_of_bits, bytes_of_nibbles, bytes_sent}
 use Rattle.nor_decode.proofs.NumberLemmas.{number_below}
 
 clock_level : (c : Clock) → (sample c).level < 16

@@ -1,10 +1,12 @@
 //! What the lanes do at each of some clocks, by the symbols alone: a look at one is a compare or two, since a script has
-//! millions of them.
+//! millions of them. A test of all of them has no branch, so that many symbols are looked at at once.
 
 ghost use Rattle.std.specs.Prelude.{◌≡◌, ◌||◌, ◌<◌, ◌≤◌, ◌^◌, length};
 ghost use Rattle.std.specs.List.{list_all};
 ghost use Rattle.nor_base.specs.Decoding.{is_bit_sent, is_nibble_sent, is_bit_sampled, is_nibble_sampled, is_idle, level_at, bit, number};
 ghost use Rattle.nor_base.specs.Run.{samples_some, is_verify};
+
+use std::simd::prelude::*;
 
 /// The clocks of a poll: read status (05h), and one byte sampled.
 pub const POLL: &[u8; 16] = b"00000101........";
@@ -36,35 +38,55 @@ fn samples(symbol: u8) -> bool
 pub(crate) fn are_bits_sent(clocks: &[u8]) -> bool
     ensures { result ≡ list_all is_bit_sent clocks.now }
 {
-    clocks.iter().all(|symbol| is_bit_sent(*symbol))
+    let mut all = true;
+    for symbol in clocks {
+        all &= is_bit_sent(*symbol);
+    }
+    all
 }
 
 /// Whether each clock sends a nibble on all four lanes.
 pub(crate) fn are_nibbles_sent(clocks: &[u8]) -> bool
     ensures { result ≡ list_all is_nibble_sent clocks.now }
 {
-    clocks.iter().all(|symbol| is_nibble_sent(*symbol))
+    let mut all = true;
+    for symbol in clocks {
+        all &= is_nibble_sent(*symbol);
+    }
+    all
 }
 
 /// Whether each clock samples a bit from IO1.
 pub(crate) fn are_bits_sampled(clocks: &[u8]) -> bool
     ensures { result ≡ list_all is_bit_sampled clocks.now }
 {
-    clocks.iter().all(|symbol| is_bit_sampled(*symbol))
+    let mut all = true;
+    for symbol in clocks {
+        all &= is_bit_sampled(*symbol);
+    }
+    all
 }
 
 /// Whether each clock samples a nibble from all four lanes.
 pub(crate) fn are_nibbles_sampled(clocks: &[u8]) -> bool
     ensures { result ≡ list_all is_nibble_sampled clocks.now }
 {
-    clocks.iter().all(|symbol| is_nibble_sampled(*symbol))
+    let mut all = true;
+    for symbol in clocks {
+        all &= is_nibble_sampled(*symbol);
+    }
+    all
 }
 
 /// Whether no lane is driven or sampled at each clock.
 pub(crate) fn are_idle(clocks: &[u8]) -> bool
     ensures { result ≡ list_all is_idle clocks.now }
 {
-    clocks.iter().all(|symbol| is_idle(*symbol))
+    let mut all = true;
+    for symbol in clocks {
+        all &= is_idle(*symbol);
+    }
+    all
 }
 
 /// IO0, IO2 and IO3 are driven, and no lane is sampled.
@@ -72,7 +94,7 @@ pub(crate) fn are_idle(clocks: &[u8]) -> bool
 fn is_bit_sent(symbol: u8) -> bool
     ensures { result ≡ is_bit_sent symbol }
 {
-    matches!(symbol, b'0' | b'1')
+    (symbol == b'0') | (symbol == b'1')
 }
 
 /// All four lanes are driven, and none is sampled.
@@ -80,7 +102,7 @@ fn is_bit_sent(symbol: u8) -> bool
 fn is_nibble_sent(symbol: u8) -> bool
     ensures { result ≡ is_nibble_sent symbol }
 {
-    matches!(symbol, b'a'..=b'p')
+    (symbol >= b'a') & (symbol <= b'p')
 }
 
 /// IO2 and IO3 are driven, and IO1 is sampled.
@@ -88,7 +110,7 @@ fn is_nibble_sent(symbol: u8) -> bool
 fn is_bit_sampled(symbol: u8) -> bool
     ensures { result ≡ is_bit_sampled symbol }
 {
-    matches!(symbol, b'.')
+    symbol == b'.'
 }
 
 /// No lane is driven, and all four are sampled.
@@ -96,7 +118,7 @@ fn is_bit_sampled(symbol: u8) -> bool
 fn is_nibble_sampled(symbol: u8) -> bool
     ensures { result ≡ is_nibble_sampled symbol }
 {
-    matches!(symbol, b'=')
+    symbol == b'='
 }
 
 /// No lane is driven, and none is sampled.
@@ -104,7 +126,7 @@ fn is_nibble_sampled(symbol: u8) -> bool
 fn is_idle(symbol: u8) -> bool
     ensures { result ≡ is_idle symbol }
 {
-    matches!(symbol, b'-')
+    symbol == b'-'
 }
 
 /// The lanes that a clock drives high, as a mask: of a nibble its value.
@@ -144,4 +166,18 @@ pub(crate) fn number(bits: &[u8]) -> u32
         sum = sum * 2 + u32::from(bit(*symbol));
     }
     sum
+}
+
+/// The byte that eight bits on IO0 stand for, the first the highest.
+pub(crate) fn byte(bits: &[u8]) -> u8
+    requires { length bits.now ≡ 8 }
+    ensures { result ≡ number bits.now }
+{
+    let symbols = u8x8::from_array([
+        bits[7], bits[6], bits[5], bits[4], bits[3], bits[2], bits[1], bits[0],
+    ]);
+    // the nibbles with their lowest bit high are every other letter from `b` on
+    let odd = (symbols - u8x8::splat(b'b')) & u8x8::splat(0xF1);
+    let high = symbols.simd_eq(u8x8::splat(b'1')) | odd.simd_eq(u8x8::splat(0));
+    high.to_bitmask() as u8
 }

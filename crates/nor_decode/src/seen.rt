@@ -4,7 +4,7 @@ ghost use Rattle.std.specs.Prelude.{◌≡◌, ◌+◌, ◌/◌, ◌<◌, length
 ghost use Rattle.nor_base.specs.Decoding.{bytes_of_bits, bytes_of_nibbles, instruction};
 ghost use Rattle.nor_decode.specs.Seen.{transaction_of};
 
-use crate::clocks::{level, number};
+use crate::clocks::{byte, level};
 use nor_base::What;
 
 /// A transaction: a row of the instruction table, or a known opcode in another form than its row's.
@@ -49,7 +49,7 @@ fn byte_of_bits(clocks: &[u8], i: usize) -> u8
     requires { i < length clocks.now / 8 }
     ensures { result ≡ slice_index (bytes_of_bits clocks.now) i }
 {
-    number(&clocks[8 * i..8 * i + 8]) as u8
+    byte(&clocks[8 * i..8 * i + 8])
 }
 
 /// The byte `i` that nibbles send, two clocks for a byte, the high nibble first.

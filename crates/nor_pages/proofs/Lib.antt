@@ -1,3 +1,4 @@
 mod RunLemmas
+mod SpanLemmas
 mod UnitRuns
 mod Within

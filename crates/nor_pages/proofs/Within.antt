@@ -1,11 +1,8 @@
 -- The runs of pages lie within them, and are no more than their bytes.
-use Rattle.std.proofs.Common.{◌≡◌, ℕ, zero, suc, ◌+◌, ◌-◌, ◌*◌, ◌/◌, ◌%◌, ◌<◌, ◌≤◌, Bool, true, false, List, [], ◌∷◌, ◌++◌, length, Option, Some, None, sym, ◌∙◌, ap, subst, arith, length-append}
+use Rattle.std.proofs.Common.{◌≡◌, ℕ, zero, suc, ◌+◌, ◌*◌, ◌/◌, ◌%◌, ◌≤◌, Bool, true, false, List, [], ◌∷◌, ◌++◌, length, Option, Some, None, sym, subst, arith, length-append}
 use Rattle.std.specs.List.{range_with_len, slice_range, AllByRecursion}
 use Rattle.std.proofs.Math.Nat.{div-add-mod'}
-use Rattle.nor_base.specs.Parameters.{Parameters}
-use Rattle.nor_base.specs.Blocks.{Block}
 use Rattle.nor_geometry.specs.declared.unit.PlanUnit.{PlanUnit}
-use Rattle.nor_geometry.specs.declared.unit.PlanUnit.TheVariants as unit
 use Rattle.nor_pages.specs.declared.run.Run.{Run}
 use Rattle.nor_pages.specs.Runs.{LiesBetween, AreBetween, unit_start, some_run, ended, onward, extended, runs_on, closed_at, differs_at, page_runs, pages_runs}
 use Rattle.nor_pages.proofs.UnitRuns.{part_length}

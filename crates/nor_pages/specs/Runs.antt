@@ -1,5 +1,5 @@
 -- The runs of a unit (this project's; a program in a page as the Page Program of the W25Q256JV datasheet).
-use Rattle.std.specs.Prelude.{◌≡◌, ℕ, zero, suc, Bool, ◌+◌, ◌-◌, ◌*◌, ◌/◌, ◌%◌, ◌<◌, ◌≤◌, ◌==◌, not, ◌&&◌, if◌then◌else◌, List, [], ◌∷◌, ◌++◌, length, map, flat_map, Option, Some, None, slice_index, slice_range}
+use Rattle.std.specs.Prelude.{◌≡◌, ℕ, zero, suc, Bool, ◌+◌, ◌-◌, ◌*◌, ◌/◌, ◌%◌, ◌<◌, ◌≤◌, ◌==◌, not, ◌&&◌, false, if◌then◌else◌, List, [], ◌∷◌, ◌++◌, length, map, flat_map, Option, Some, None, slice_index, slice_range}
 use Rattle.std.specs.List.{range_with_len, AllByRecursion}
 use Rattle.nor_base.specs.Parameters.{Parameters}
 use Rattle.nor_base.specs.Programs.{Program, target_bytes, page_programs}
@@ -89,6 +89,23 @@ differs_at blank have want at a = not (old_over blank (slice_index have (a - at)
 abbrev pub page_runs : Bool → Bool → List ℕ → List ℕ → ℕ → List Run
 page_runs blank erased_only have want at =
     runs_on (closed_at blank erased_only have at) (differs_at blank have want at) None (range_with_len at (length want))
+
+-- where each byte may be programmed: the runs of the addresses left, of which a run so far may go on
+abbrev pub open_runs : Bool → List ℕ → List ℕ → ℕ → Option Run → ℕ → ℕ → List Run
+open_runs blank have want at run a n = runs_on (closed_at blank false have at) (differs_at blank have want at) run (range_with_len a n)
+
+-- such a page has no run, wherever it begins
+abbrev pub LacksRun : Bool → List ℕ → List ℕ → Type 0
+LacksRun blank have want = (at : ℕ) → page_runs blank false have want at ≡ []
+
+-- its run begins at this place: all runs are those that go on from there
+pub record BeginsRun (blank : Bool) (have want : List ℕ) (first : ℕ) : Type 0 where
+  pub inside : first < length want
+  pub runs : (at : ℕ) → page_runs blank false have want at ≡ open_runs blank have want at (Some (record { at = at + first; len = 1 })) (at + (first + 1)) (length want - (first + 1))
+
+-- its run goes from one place to another
+abbrev pub IsRun : Bool → List ℕ → List ℕ → ℕ → ℕ → Type 0
+IsRun blank have want first last = (at : ℕ) → page_runs blank false have want at ≡ record { at = at + first; len = last - first + 1 } ∷ []
 
 -- the runs of so many pages, the last of them last
 abbrev pub pages_runs : Bool → Bool → ℕ → List ℕ → List ℕ → ℕ → ℕ → List Run

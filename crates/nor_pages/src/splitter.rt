@@ -1,7 +1,7 @@
 //! The runs of a unit.
 
-ghost use Rattle.std.specs.Prelude.{◌≡◌, ◌≤◌, ◌<◌, ◌+◌, ◌/◌, ◌^◌, ◌++◌, ◌==◌, ◌&&◌, not, length, IfOk};
-ghost use Rattle.nor_pages.specs.Runs.{IsUnit, IsSplit, AreBetween, unit_start, page_runs, old_over, extended, reaches_back, some_run, ended, onward, pages_runs};
+ghost use Rattle.std.specs.Prelude.{◌≡◌, ◌≤◌, ◌<◌, ◌+◌, ◌/◌, ◌^◌, ◌++◌, ◌==◌, ◌&&◌, not, length, false, IfOk, MatchOption};
+ghost use Rattle.nor_pages.specs.Runs.{IsUnit, IsSplit, AreBetween, unit_start, page_runs, old_over, extended, reaches_back, some_run, ended, onward, pages_runs, LacksRun, BeginsRun, IsRun};
 
 use crate::fault::PagesFault;
 use crate::run::Run;
@@ -77,6 +77,9 @@ fn push_page<A: Allocator>(
     requires inside { at + length want.now ≤ 2 ^ 28 }
     ensures { IfOk result (λ _. runs.new.items ≡ runs.old.items ++ page_runs blank erased_only have.now want.now at) }
 {
+    if !erased_only {
+        return push_run(runs, span(at, blank, have, want));
+    }
     let mut run = None;
     for i in 0..want.len() {
         let old = old_over(blank, have[i]);
@@ -84,6 +87,52 @@ fn push_page<A: Allocator>(
         run = push_ended(runs, run, closed, differs(old, want[i]), at + i as u32)?;
     }
     push_run(runs, run)
+}
+
+/// The run of a page of which each byte may be programmed: from the first that has to change to the last.
+// most pages change at both ends, so few bytes are looked at
+fn span(at: u32, blank: bool, have: &[u8], want: &[u8]) -> Option<Run>
+    requires lengths { length have.now ≡ length want.now }
+    requires inside { at + length want.now ≤ 2 ^ 28 }
+    ensures { some_run result ≡ page_runs blank false have.now want.now at }
+{
+    let first = first_differing(blank, have, want)?;
+    let last = last_differing(blank, have, want, first);
+    Some(Run {
+        at: at + first as u32,
+        len: (last - first) as u32 + 1,
+    })
+}
+
+/// The place of the first byte that has to change.
+fn first_differing(blank: bool, have: &[u8], want: &[u8]) -> Option<usize>
+    requires { length have.now ≡ length want.now }
+    ensures { MatchOption result (LacksRun blank have.now want.now) (BeginsRun blank have.now want.now) }
+{
+    for i in 0..want.len() {
+        if differs(old_over(blank, have[i]), want[i]) {
+            return Some(i);
+        }
+    }
+    None
+}
+
+/// The place of the last byte that has to change, of which `first` is the first.
+fn last_differing(blank: bool, have: &[u8], want: &[u8], first: usize) -> usize
+    requires lengths { length have.now ≡ length want.now }
+    requires first { BeginsRun blank have.now want.now first }
+    ensures from { first ≤ result }
+    ensures upto { result < length want.now }
+    ensures run { IsRun blank have.now want.now first result }
+{
+    let mut last = want.len() - 1;
+    while last > first {
+        if differs(old_over(blank, have[last]), want[last]) {
+            return last;
+        }
+        last -= 1;
+    }
+    last
 }
 
 /// Appends the run that ends at an address, if one does; answers the one that goes on.

@@ -1,5 +1,5 @@
 -- How often the port is asked.
-use Rattle.std.proofs.Common.{◌≡◌, ℕ, zero, suc, ◌+◌, ◌-◌, ◌<◌, Bool, true, false, if◌then◌else◌, List, [], ◌∷◌, ◌++◌, take, drop, length, get_or, Result, Ok, Err, refl, sym, ◌∙◌, ap, subst, arith}
+use Rattle.std.proofs.Common.{◌≡◌, ℕ, suc, ◌+◌, ◌-◌, ◌<◌, Bool, true, false, if◌then◌else◌, List, [], ◌∷◌, ◌++◌, take, drop, length, get_or, Result, Ok, Err, refl, sym, ◌∙◌, ap, subst, arith}
 use Rattle.std.specs.Prelude.{MatchResult}
 use Rattle.std.specs.Str.{bytes_eq}
 use Rattle.nor_base.specs.declared.step.Step.{Step}
@@ -10,7 +10,7 @@ use Rattle.nor_base.specs.declared.wrong.PortFault.TheVariants as port
 use Rattle.nor_base.specs.Chip.{Setting, Chip}
 use Rattle.nor_base.specs.Effect.{effect}
 use Rattle.nor_base.specs.Port.{Shown, Transacts}
-use Rattle.nor_base.specs.Run.{Stop, Halt, poll_clocks, says_busy, is_verify, step_for, one_later, play_on, played}
+use Rattle.nor_base.specs.Run.{Stop, Halt, poll_clocks, says_busy, is_verify, step_for, play_on, played}
 use Rattle.nor_chip.specs.Asked.{AsksMore}
 use Rattle.nor_play.specs.declared.fault.Halt.{Halt as Stopped}
 use Rattle.nor_play.specs.declared.fault.Halt.TheVariants as halt

@@ -1,5 +1,6 @@
 mod SampledLemmas
 mod StepLemmas
 mod PollLemmas
-mod PlayLemmas
-mod AskLemmas
+pub mod PlayLemmas
+pub mod AskLemmas
+pub mod FedLaws

@@ -3,3 +3,4 @@ pub mod Play
 pub mod Turns
 pub mod Numbered
 pub mod Asks
+pub mod Fed

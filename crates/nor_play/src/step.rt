@@ -9,36 +9,19 @@ ghost use Rattle.nor_play.specs.Asks.{AsksStep, AsksOnce};
 
 use crate::fault::Halt;
 use memchr::memchr2;
-use nor_base::{Step, Wrong, sampled};
+use nor_base::{Wrong, sampled};
 use nor_chip::Port;
 use nor_decode::{POLL, is_verify};
 use nor_laws::verifying_reads;
 use std::alloc::Global;
 
-/// Plays one step, with at most so many transactions where it polls: how many there were.
-pub(crate) fn play_step<P: Port>(
+/// Sends clocks once.
+pub(crate) fn send<P: Port>(
     alloc: Global,
-    step: &Step,
+    clocks: &[u8],
     port: &mut P,
     limit: u64,
 ) -> Result<u64, Halt>
-    requires limit { 0 < limit }
-    requires room { P.count port.old < 2 ^ 64 - 1 }
-    ensures played { PlaysStep (P.shown port.old) (P.shown port.new) limit step.now result }
-    ensures count { CountsHalt (P.count port.old) (P.count port.new) result }
-    ensures asked { AsksStep (P.shown port.old) (P.asked port.old) (P.asked port.new) limit step.now result }
-{
-    match step {
-        Step::Send { clocks } => send(alloc, clocks.as_slice(), port, limit),
-        Step::Poll { clocks } => poll(clocks.as_slice(), port, limit),
-        Step::Verify { clocks, expect } => {
-            verify(alloc, clocks.as_slice(), expect.as_slice(), port, limit)
-        }
-    }
-}
-
-/// Sends clocks once.
-fn send<P: Port>(alloc: Global, clocks: &[u8], port: &mut P, limit: u64) -> Result<u64, Halt>
     requires limit { 0 < limit }
     requires room { P.count port.old < 2 ^ 64 - 1 }
     ensures played { PlaysStep (P.shown port.old) (P.shown port.new) limit (Send clocks.now) result }
@@ -50,7 +33,7 @@ fn send<P: Port>(alloc: Global, clocks: &[u8], port: &mut P, limit: u64) -> Resu
 }
 
 /// Sends clocks once, and compares the bytes that they sample.
-fn verify<P: Port>(
+pub(crate) fn verify<P: Port>(
     alloc: Global,
     clocks: &[u8],
     expect: &[u8],
@@ -76,7 +59,7 @@ fn verify<P: Port>(
 }
 
 /// Reads the status until it says idle, at most so many times.
-fn poll<P: Port>(clocks: &[u8], port: &mut P, limit: u64) -> Result<u64, Halt>
+pub(crate) fn poll<P: Port>(clocks: &[u8], port: &mut P, limit: u64) -> Result<u64, Halt>
     requires limit { 0 < limit }
     requires room { P.count port.old < 2 ^ 64 - 1 }
     ensures played { PlaysStep (P.shown port.old) (P.shown port.new) limit (Poll clocks.now) result }

@@ -1,4 +1,5 @@
 mod PlaceLemmas
+mod BlankLemmas
 pub mod HexLemmas
 mod VerifyLemmas
 mod DigitLemmas

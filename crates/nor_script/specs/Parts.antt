@@ -1,5 +1,5 @@
 -- What the parts of a line are read as.
-use Rattle.std.specs.Prelude.{◌≡◌, ℕ, true, ⊤, List, flat_map, Option, Some, None, Result, Ok, Err}
+use Rattle.std.specs.Prelude.{◌≡◌, ℕ, ◌==◌, true, ⊤, List, count_by, position, flat_map, Option, Some, None, Result, Ok, Err}
 use Rattle.std.specs.List.{list_all, before_first, after_first}
 use Rattle.nor_base.specs.Array.{are_bytes}
 use Rattle.nor_base.specs.Sample.{is_symbol}
@@ -12,6 +12,11 @@ use Rattle.nor_script.specs.Line.{is_blank, are_two_parts, are_pairs}
 abbrev pub TellsFault : Option ScriptFault → ScriptFault → Type 0
 TellsFault there Memory = ⊤
 TellsFault there fault = there ≡ Some fault
+
+-- where the only blank stands
+pub record IsOnlyBlank (rest : List ℕ) (blank : ℕ) : Type 0 where
+  pub one : (count_by is_blank rest == 1) ≡ true
+  pub place : position is_blank rest ≡ Some blank
 
 -- the two parts of what stands behind `v `
 pub record AreParts (rest clocks digits : List ℕ) : Type 0 where

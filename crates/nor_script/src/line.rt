@@ -4,7 +4,7 @@ ghost use Rattle.std.specs.Prelude.{◌≡◌, ◌<◌, ◌^◌, ◌==◌, posit
 ghost use Rattle.std.specs.List.{list_all};
 ghost use Rattle.nor_base.specs.Sample.{is_symbol};
 ghost use Rattle.nor_script.specs.Line.{clocks_fault, is_blank, are_two_parts, is_lower_digit, are_pairs, verify_fault, step_fault, count_fault};
-ghost use Rattle.nor_script.specs.Parts.{AreParts, AreVerifyParts, or_fault};
+ghost use Rattle.nor_script.specs.Parts.{AreParts, AreVerifyParts, IsOnlyBlank, or_fault};
 ghost use Rattle.nor_script.specs.LineParts.{AreOfLine};
 
 use crate::fault::ScriptFault;
@@ -117,10 +117,7 @@ fn verify_parts(number: u64, rest: &[u8]) -> Result<(&[u8], &[u8]), ScriptFault>
 fn two_parts(rest: &[u8]) -> Option<(&[u8], &[u8])>
     ensures { MatchOption result (are_two_parts rest.now ≡ false) (λ parts. AreParts rest.now parts.0.now parts.1.now) }
 {
-    if count_blanks(rest) != 1 {
-        return None;
-    }
-    let Some(blank) = place_of(b' ', rest) else {
+    let Some(blank) = only_blank(rest) else {
         return None;
     };
     let clocks = &rest[..blank];
@@ -138,10 +135,17 @@ pub(crate) fn place_of(wanted: u8, bytes: &[u8]) -> Option<usize>
     memchr(wanted, bytes)
 }
 
-fn count_blanks(rest: &[u8]) -> usize
-    ensures { result ≡ count_by is_blank rest.now }
+/// Where the only blank stands.
+fn only_blank(rest: &[u8]) -> Option<usize>
+    ensures { MatchOption result ((count_by is_blank rest.now == 1) ≡ false) (IsOnlyBlank rest.now) }
 {
-    rest.iter().filter(|byte| **byte == b' ').count()
+    let Some(blank) = place_of(b' ', rest) else {
+        return None;
+    };
+    match place_of(b' ', &rest[blank + 1..]) {
+        Some(_) => None,
+        None => Some(blank),
+    }
 }
 
 fn are_symbols(clocks: &[u8]) -> bool
@@ -173,7 +177,17 @@ fn are_pairs(digits: &[u8]) -> bool
 fn are_lower_digits(digits: &[u8]) -> bool
     ensures { result ≡ list_all is_lower_digit digits.now }
 {
-    digits
-        .iter()
-        .all(|digit| matches!(*digit, b'0'..=b'9' | b'a'..=b'f'))
+    let mut all = true;
+    for digit in digits {
+        all &= is_lower_digit(*digit);
+    }
+    all
+}
+
+fn is_lower_digit(byte: u8) -> bool
+    ensures { result ≡ is_lower_digit byte }
+{
+    let digit = (byte >= b'0') & (byte <= b'9');
+    let letter = (byte >= b'a') & (byte <= b'f');
+    digit | letter
 }

@@ -29,4 +29,6 @@ mod script;
 #[cfg(test)]
 mod serprog;
 #[cfg(test)]
+mod steps;
+#[cfg(test)]
 mod symbols;

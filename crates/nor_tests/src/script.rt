@@ -2,8 +2,8 @@
 
 use crate::devices::OneByOne;
 use crate::same::{holds, same};
-use nor_base::{ByteOut, Bytes, Failed, IntoWrite, Step, is_step};
-use nor_script::{ScriptFault, begin, finish, read, write_step};
+use nor_base::{ByteOut, Bytes, Failed, FromRead, IntoWrite, Step, is_step};
+use nor_script::{ReadFault, ScriptFault, begin, count_steps, finish, read, write_step};
 use std::alloc::Global;
 use std::process::Abort;
 use std::test::Fail;
@@ -64,20 +64,25 @@ fn writes_up_to(rt: &impl Abort, steps: &[Step], inner: OneByOne) {
     holds(rt, "a front", TEXT.as_bytes().starts_with(held.as_slice()));
 }
 
-/// How many steps the script has, as it is read.
-fn count(alloc: Global) -> Result<usize, ScriptFault> {
-    Ok(read(alloc, TEXT.as_bytes())?.len())
+/// How many steps the script has, as it is read, and as it comes.
+fn count(alloc: Global) -> Result<(usize, u64), ScriptFault> {
+    let steps = read(alloc, TEXT.as_bytes())?.len();
+    match count_steps(alloc, &mut FromRead::new(TEXT.as_bytes())) {
+        Ok(come) => Ok((steps, come)),
+        Err(ReadFault::Script(fault)) => Err(fault),
+        Err(ReadFault::Device(_)) => Err(ScriptFault::Header(0)),
+    }
 }
 
 /// Memory is not wanting.
 #[test]
 fn reads_each_step(rt: HostRuntime) {
-    same(&rt, "steps", count(rt.alloc()), Ok(3));
+    same(&rt, "steps", count(rt.alloc()), Ok((3, 3)));
 }
 
 /// With each growth refused in turn, as `tools/refused-growths` does, the fault is Memory.
 #[test]
 fn a_refused_growth_is_memory(rt: HostRuntime) {
-    let fine = matches!(count(rt.alloc()), Ok(3) | Err(ScriptFault::Memory));
+    let fine = matches!(count(rt.alloc()), Ok((3, 3)) | Err(ScriptFault::Memory));
     holds(&rt, "steps", fine);
 }

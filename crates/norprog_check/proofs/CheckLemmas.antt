@@ -1,29 +1,28 @@
 -- From a job to what a check promises of its inputs.
-use Rattle.std.proofs.Common.{◌≡◌, ℕ, ◌+◌, ◌^◌, Bool, ◌&&◌, if◌then◌else◌, nat_lt, List, [], ◌∷◌, length, map, Option, refl, sym, ◌∙◌, ap, subst}
-use Rattle.std.specs.Prelude.{◌↔◌, unwrap_or}
-use Rattle.std.specs.List.{enumerate_from}
+use Rattle.std.proofs.Common.{◌≡◌, ℕ, List, length, sym, ◌∙◌, ap, subst}
+use Rattle.std.specs.Prelude.{◌↔◌}
 use Rattle.nor_base.specs.declared.meaning.Start.{Start}
 use Rattle.nor_base.specs.declared.step.Step.{Step}
 use Rattle.nor_base.specs.Chip.{IsPossible}
 use Rattle.nor_base.specs.Device.{Ahead}
 use Rattle.nor_base.specs.Run.{DoesTaskOnEvery}
 use Rattle.nor_base.specs.Script.{IsScript}
-use Rattle.nor_base.specs.Target.{target, target_byte}
 use Rattle.nor_check.specs.declared.verdict.Verdict.{Verdict}
 use Rattle.nor_check.specs.declared.verdict.Verdict.TheVariants.{Yes}
 use Rattle.nor_check.specs.Worst.{IsWorst}
-use Rattle.nor_hex.specs.Image.{byte_at}
-use Rattle.nor_job.specs.declared.fault.BuildFault.{BuildFault}
 use Rattle.nor_job.specs.declared.job.Job.{Job}
 use Rattle.nor_job.specs.Job.{IsJob}
 use Rattle.nor_job.specs.Status.{start_of}
 use Rattle.nor_job.specs.Task.{Task}
-use Rattle.nor_layout.specs.Chosen.{has, is_chosen}
 use Rattle.nor_job.specs.Wanted.{wanted}
-use Rattle.nor_job.specs.Filled.{target_from}
 use Rattle.nor_job.proofs.TargetLemmas.{length-target, target_is}
-use Rattle.norprog_check.specs.Checked.{IsChecked, AreTaken, StopsContent}
-use Rattle.norprog_check.specs.Content.{IsRead, StopsRead}
+use Rattle.nor_check.specs.Fed.{Fed, to_come}
+use Rattle.nor_laws.specs.Laws.{KeepsSize, PollEnds}
+use Rattle.norprog_check.specs.Checked.{IsChecked, AreTaken}
+use Rattle.norprog_check.specs.Content.{IsRead}
+use Rattle.norprog_check.specs.Readings.{HadText, IsSpelled, IsVerdictOf}
+use Rattle.norprog_check.specs.Streams.{ChecksText}
+use Rattle.norprog_check.proofs.EndsLemmas.{yes_exactly}
 
 pub is_possible : (t : Task) (len : ℕ) (job : Job) → IsJob t len job → IsPossible job.meaning job.start
 is_possible t len job is = subst (λ (s : Start). IsPossible job.meaning s) (sym is.start) is.accepted.possible
@@ -35,13 +34,6 @@ taken_of t len job is = record { image = job.image; regions = is.regions; m = jo
 abbrev pub IsJudged : Job → List ℕ → List ℕ → List Step → Verdict → Type 0
 IsJudged job have want steps verdict =
     IsWorst job.meaning job.start have want steps verdict × ((verdict ≡ Yes) ↔ DoesTaskOnEvery job.meaning job.start have want steps)
-
--- the same of lists that are those
-pub judged_is : (job : Job) (hs have ws want : List ℕ) (xs steps : List Step) (verdict : Verdict) → hs ≡ have → ws ≡ want → xs ≡ steps
-    → IsJudged job hs ws xs verdict → IsJudged job have want steps verdict
-judged_is job hs have ws want xs steps verdict first second third judged =
-    subst (λ (these : List Step). IsJudged job have want these verdict) third
-    (subst (λ (wish : List ℕ). IsJudged job have wish xs verdict) second (subst (λ (holds : List ℕ). IsJudged job holds ws xs verdict) first judged))
 
 -- the target has the chip's size
 pub goal_size : (job : Job) (before after : Ahead) (have want : List ℕ) → IsRead job before after have want → length want ≡ job.meaning.size
@@ -69,11 +61,19 @@ checked_is t len text job before after have want steps verdict is script read ju
           (subst (λ (s : Start). (verdict ≡ Yes) ↔ DoesTaskOnEvery m s have want steps) is.start judged.1);
     }
 
-pub stops_is : (t : Task) (len : ℕ) (text : List ℕ) (job : Job) (before after : Ahead) (steps : List Step) (why : BuildFault)
-    → IsJob t len job → IsScript text steps → StopsRead job.meaning.size before after why → StopsContent t len text before after why
-stops_is t len text job before after steps why is script stops = record {
-  taken = taken_of t len job is;
-  steps = steps;
-  script = script;
-  stops = subst (λ n. StopsRead n before after why) (sym is.accepted.size) stops;
-}
+-- the verdict of a checker of that content, which was fed with the steps of a text
+pub text_checked : (t : Task) (len : ℕ) (job : Job) (first over again rest before after : Ahead) (have want : List ℕ) (fed : Fed) (verdict : Verdict) → KeepsSize → PollEnds
+    → IsJob t len job → HadText first over IsSpelled → IsRead job before after have want
+    → ((steps : List Step) → IsWorst job.meaning job.start have want steps (to_come fed steps)) → HadText again rest (IsVerdictOf fed verdict)
+    → ChecksText t len first over again rest before after verdict
+text_checked t len job first over again rest before after have want fed verdict keeps ends is readable read worst tells =
+    let told = tells.2 in
+    let it : IsWorst job.meaning job.start have want told.steps verdict = subst (IsWorst job.meaning job.start have want told.steps) (sym told.told) (worst told.steps) in
+    let sizes : length have ≡ length want = read.whole ∙ sym (goal_size job before after have want read) in
+    record {
+      readable = readable;
+      text = tells.0;
+      of = tells.1;
+      checked = checked_is t len tells.0 job before after have want told.steps verdict is told.script read
+          (it, yes_exactly job.meaning job.start have want told.steps verdict keeps ends sizes it);
+    }

@@ -8,17 +8,15 @@ ghost use Rattle.nor_hex.specs.Image.{Pairs};
 ghost use Rattle.nor_job.specs.Causes.{AreAccepted};
 ghost use Rattle.nor_layout.specs.Region.{Region};
 ghost use Rattle.nor_job.specs.Wanted.{ReadsWithin};
-ghost use Rattle.nor_job.specs.Filled.{FillsWindow};
-ghost use Rattle.nor_job.specs.Written.{CountsReader as CountsRead};
 ghost use Rattle.norprog_check.specs.Checked.{IsChecked, RefusesTexts, StopsCheck, IsLate, IsOfContent, CountsReader};
-ghost use Rattle.norprog_check.specs.Content.{IsRead, StopsRead};
 
-use crate::fault::CheckStop;
+use crate::fault::{CheckStop, StreamStop};
 use crate::laws::faultless_scripts;
-use nor_base::{ByteIn, fill_from};
-use nor_check::{Verdict, check};
-use nor_job::{BuildFault, Inputs, Job, job_of};
-use nor_target::fill;
+use crate::streams::check_streams;
+use crate::text::TextIn;
+use nor_base::ByteIn;
+use nor_check::Verdict;
+use nor_job::Inputs;
 use std::alloc::Global;
 
 /// Whether the text of a script, from anybody, does the job of the inputs on every chip that they describe and that holds
@@ -28,8 +26,7 @@ use std::alloc::Global;
 /// script's steps on each such chip, of each page that may be, with any busy times that end and both answers on keeping the
 /// latch, has nothing wrong, gives every chosen address the image's byte where it has one, leaves every other byte as before,
 /// and ends idle in the first address mode. Else `No` with the first step at which some chip goes wrong, and why
-/// ([`nor_check::check`]). Memory is taken for the inputs as [`nor_job::job_of`] takes it, for the steps, and for three times
-/// the chip's size.
+/// ([`nor_check::check`]). Memory is taken as [`check_streams`] takes it: the script's steps aren't held, and it is read twice.
 ///
 /// The first of these is told: `Build` of a refusal of the inputs, as [`nor_job::job_of`] orders them, from `Contradiction`
 /// to `ContentSize`; `Script` with the first fault of the text; and only then the content is read: `Build` of `ContentShort`
@@ -54,61 +51,13 @@ pub fn check_script<R: ByteIn>(
     ensures within { ReadsWithin len (R.ahead content.old) (R.ahead content.new) }
     ensures reads { CountsReader (R.count content.old) (R.count content.new) result }
 {
-    let job = job_of(alloc, inputs, len)?;
     faultless_scripts();
-    let steps = nor_script::read(alloc, script)?;
-    let (have, want) = read_content(alloc, &job, content)?;
-    let verdict = check(
-        alloc,
-        steps.as_slice(),
-        &job.meaning,
-        &job.start,
-        have.as_slice(),
-        want.as_slice(),
-    )?;
-    Ok(verdict)
-}
-
-/// What the chip of a job holds, by the reader, and what it must hold.
-///
-/// `ContentShort` where the reader ends before the chip's size, `Read` where it fails, `Memory` where a growth is refused,
-/// before anything is read.
-fn read_content<R: ByteIn>(
-    alloc: Global,
-    job: &Job,
-    content: &mut R,
-) -> Result<(Vec<u8>, Vec<u8>), BuildFault>
-    requires { R.count content.old < 2 ^ 64 - 1 }
-    ensures read { IfOk result (λ held. IsRead job.now (R.ahead content.old) (R.ahead content.new) held.0.items held.1.items) }
-    ensures stopped { IfErr result (StopsRead job.now.meaning.size (R.ahead content.old) (R.ahead content.new)) }
-    ensures count { CountsRead (R.count content.old) (R.count content.new) result }
-{
-    let size = job.meaning.size as usize;
-    let mut have = vec![in alloc; 0; size]?;
-    let mut want = vec![in alloc; 0; size]?;
-    read_whole(content, have.as_mut_slice())?;
-    fill(
-        &job.image,
-        job.base,
-        &job.chosen,
-        0,
-        have.as_slice(),
-        want.as_mut_slice(),
-    );
-    Ok((have, want))
-}
-
-/// Fills an array from the reader.
-///
-/// `ContentShort` where the reader ends before the array does, `Read` where it fails.
-fn read_whole<R: ByteIn>(content: &mut R, array: &mut [u8]) -> Result<(), BuildFault>
-    requires { R.count content.old < 2 ^ 64 - 1 }
-    ensures bytes { FillsWindow (R.ahead content.old) (R.ahead content.new) result array.new }
-    ensures count { CountsRead (R.count content.old) (R.count content.new) result }
-{
-    match fill_from(content, array) {
-        Ok(given) if given == array.len() => Ok(()),
-        Ok(_) => Err(BuildFault::ContentShort),
-        Err(_) => Err(BuildFault::Read),
+    let mut first = TextIn::new(script);
+    let mut again = TextIn::new(script);
+    match check_streams(alloc, inputs, &mut first, &mut again, content, len) {
+        Ok(verdict) => Ok(verdict),
+        Err(StreamStop::Check(stop)) => Err(stop),
+        Err(StreamStop::First(_)) => unreachable!("a text in memory never fails"),
+        Err(StreamStop::Again(_)) => unreachable!("a text in memory never fails"),
     }
 }

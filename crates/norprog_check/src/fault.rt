@@ -4,7 +4,9 @@ ghost use Rattle.std.specs.Prelude.{◌≡◌};
 ghost use Rattle.nor_job.specs.declared.fault.BuildFault.TheVariants.{Memory};
 ghost use Rattle.norprog_check.specs.Lifted.{lifted_script};
 ghost use Rattle.norprog_check.specs.declared.fault.CheckStop.TheVariants.{Build};
+ghost use Rattle.norprog_check.specs.declared.fault.StreamStop.TheVariants.{Check};
 
+use nor_base::Failed;
 use nor_check::CheckFault;
 use nor_job::BuildFault;
 use nor_script::ScriptFault;
@@ -46,5 +48,27 @@ impl From<CheckFault> for CheckStop {
 
     fn from(_fault: CheckFault) -> CheckStop {
         CheckStop::Build(BuildFault::Memory)
+    }
+}
+
+/// Why there is no verdict on a script that devices tell.
+#[derive(Clone, Copy, Debug, PartialEq, Eq, Error)]
+pub enum StreamStop {
+    /// As it is told of a script in memory: the inputs, the first fault of a text, the content, or want of memory.
+    #[error(transparent)]
+    Check(CheckStop),
+    /// The device of the first reading failed.
+    #[error(transparent)]
+    First(Failed),
+    /// The device of the second reading failed.
+    #[error(transparent)]
+    Again(Failed),
+}
+
+impl From<BuildFault> for StreamStop {
+    ghost from_gives = { λ fault stop. stop ≡ Check (Build fault) };
+
+    fn from(fault: BuildFault) -> StreamStop {
+        StreamStop::Check(CheckStop::Build(fault))
     }
 }

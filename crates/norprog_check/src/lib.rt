@@ -1,18 +1,24 @@
 //! Whether a script, from anybody, does the job of a build's inputs on every chip that they describe.
 //!
-//! [`check_script`] answers it from the bytes of inputs, script and content; [`write_verdict`] writes the answer's line.
+//! [`check_script`] answers it from the bytes of inputs, script and content; [`check_streams`] of a script that two devices tell,
+//! which is never held; [`write_verdict`] writes the answer's line.
 #![tactic(auto)]
 
 mod checker;
+mod content;
 mod fault;
 mod laws;
 mod line;
+mod readings;
+mod streams;
+mod text;
 
 pub use checker::check_script;
-pub use fault::CheckStop;
+pub use fault::{CheckStop, StreamStop};
 pub use laws::faultless_scripts;
 pub use line::write_verdict;
 pub use nor_base::{ByteIn, ByteOut, Failed, Wrong};
 pub use nor_check::{Verdict, Why};
 pub use nor_job::{BuildFault, Inputs};
 pub use nor_script::ScriptFault;
+pub use streams::check_streams;

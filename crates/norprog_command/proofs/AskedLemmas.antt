@@ -14,7 +14,11 @@ use Rattle.norprog.specs.Plan.{IsPlanOf, StopsPlan}
 use Rattle.norprog.specs.declared.report.Report.{Report}
 use Rattle.norprog_check.specs.declared.fault.CheckStop.{CheckStop}
 use Rattle.norprog_check.specs.declared.fault.CheckStop.TheVariants as stop
+use Rattle.norprog_check.specs.declared.fault.StreamStop.{StreamStop}
+use Rattle.norprog_check.specs.declared.fault.StreamStop.TheVariants as stream
 use Rattle.norprog_check.specs.Checked.{RefusesTexts, StopsCheck}
+use Rattle.norprog_check.specs.Streams.{RefusesTask, StopsReading, StopsAtContent, StopsFeeding}
+use Rattle.norprog_check.proofs.StopLaws.{some_text}
 use Rattle.norprog_words.specs.declared.faults.Refusal.{Refusal}
 use Rattle.norprog_words.specs.declared.faults.Refusal.TheVariants.{Text, Usage, File, Build, Page, Script}
 use Rattle.norprog_words.specs.Told.{ForAsked, OfFault, Refuses}
@@ -24,7 +28,7 @@ use Rattle.norprog_command.specs.Meanings.{MeansThis, IsMeaning, MeansNone, IsCh
 use Rattle.norprog_command.specs.declared.request.Request.{Request}
 use Rattle.norprog_command.specs.Plans.{Shown, FailsToDraw, IsPart, Is, in_memory, behind_lines, read_lines, Draws, IsLines, IsWhole, IsTold, PrintsPlan, CutsPlan, FailsToPrint, StopsPlanOf, StopsTask, IsPlanFault, RefusesPlan}
 use Rattle.norprog_command.specs.Served.{IsTaskOf}
-use Rattle.norprog_command.specs.Verdicts.{IsVerdictOf, IsCheckVerdict, IsStopOf, IsCheckFault, RefusesCheck, stop_refusal}
+use Rattle.norprog_command.specs.Verdicts.{IsVerdictOf, IsCheckVerdict, IsStopOf, IsCheckFault, RefusesCheck, stop_refusal, stream_refusal}
 
 -- a build, whose file was flushed or wasn't
 
@@ -286,6 +290,18 @@ pub refusal_of_check : (C : Type 0) (Asked : Task → Type 0) (t : Task) (len : 
 refusal_of_check C Asked t len text before after why told asked refused is =
     let cause : RefusesTexts t len text why ⊎ StopsCheck t len text before after why = elim refused [ inl early ↦ inl early.0 | inr late ↦ inr late ] in
     rw is (stop_of Asked t len text before after why asked cause)
+
+-- a check of a script that is read twice
+
+pub refusal_of_streams : (P Q R S : Type 0) (Asked : Task → Type 0) (t : Task) (len : ℕ) (first over again rest before after : Ahead) (why : StreamStop) (told : Refusal) → Asked t
+    → (RefusesTask t len why × P × Q × S)
+    ⊎ ((StopsReading t len first over why × R × S) ⊎ ((StopsAtContent t len first over before after why × R) ⊎ StopsFeeding t len first over again rest before after why))
+    → told ≡ stream_refusal why → RefusesCheck Asked told
+refusal_of_streams P Q R S Asked t len first over again rest before after (stream.Check why) told asked refused is =
+    let of = some_text t len first over again rest before after P Q R S why refused in
+    rw is (stop_of Asked t len of.0 before after why asked of.1)
+refusal_of_streams P Q R S Asked t len first over again rest before after (stream.First failed) told asked refused is = rw is tt
+refusal_of_streams P Q R S Asked t len first over again rest before after (stream.Again failed) told asked refused is = rw is tt
 
 check_fault_wider : (A B : Task → Type 0) → ((t : Task) → A t → B t) → (why : Refusal) → IsCheckFault A why → IsCheckFault B why
 check_fault_wider A B wider (Build why) of = asked_wider Task A B (IsStopOf (stop.Build why)) wider of

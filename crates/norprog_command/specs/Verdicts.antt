@@ -7,10 +7,13 @@ use Rattle.nor_check.specs.declared.verdict.Verdict.TheVariants.{Yes, No}
 use Rattle.nor_job.specs.Task.{Task}
 use Rattle.norprog_check.specs.declared.fault.CheckStop.{CheckStop}
 use Rattle.norprog_check.specs.declared.fault.CheckStop.TheVariants as stop
+use Rattle.norprog_check.specs.declared.fault.StreamStop.{StreamStop}
+use Rattle.norprog_check.specs.declared.fault.StreamStop.TheVariants as stream
 use Rattle.norprog_check.specs.Checked.{IsChecked, RefusesTexts, StopsCheck}
 use Rattle.norprog_check.specs.Line.{verdict_text}
 use Rattle.norprog_words.specs.declared.faults.Refusal.{Refusal}
-use Rattle.norprog_words.specs.declared.faults.Refusal.TheVariants.{Build, Script}
+use Rattle.norprog_words.specs.declared.faults.FileName.TheVariants as file
+use Rattle.norprog_words.specs.declared.faults.Refusal.TheVariants.{File, Build, Script}
 use Rattle.norprog_words.specs.Lines.{script_refusal}
 use Rattle.norprog_words.specs.declared.given.GivenCheck.{GivenCheck}
 use Rattle.norprog_words.specs.Told.{ForAsked, RefusesFor, line_fault, Refuses, Answers}
@@ -54,6 +57,12 @@ RefusesCheck Asked = RefusesFor (IsCheckFault Asked) ((verdict : Verdict) × IsC
 abbrev pub stop_refusal : CheckStop → Refusal
 stop_refusal (stop.Build why) = Build why
 stop_refusal (stop.Script why) = script_refusal why
+
+-- the same of a script that is read twice: a failure of either reading is the script's file
+abbrev pub stream_refusal : StreamStop → Refusal
+stream_refusal (stream.Check why) = stop_refusal why
+stream_refusal (stream.First failed) = File file.Script
+stream_refusal (stream.Again failed) = File file.Script
 
 -- the line of the verdict of a check that was asked for was printed, whose status it is
 abbrev pub PrintsJudgement : (Task → Type 0) → Option (List ℕ) → Option (List ℕ) → ℕ → Type 0

@@ -1,20 +1,21 @@
 //! `check`: from the texts of the command line to the verdict on a script.
 
-ghost use Rattle.std.specs.Prelude.{◌≡◌, ◌<◌, ◌≤◌, ◌-◌, ◌^◌, None, IfOk, IfErr};
+ghost use Rattle.std.specs.Prelude.{◌≡◌, ◌<◌, ◌≤◌, ◌-◌, ◌^◌, None, is_some, IfOk, IfErr};
 ghost use Rattle.std.specs.Io.KnownBytes.{Appends};
 ghost use Rattle.norprog_check.specs.Line.{verdict_text};
 ghost use Rattle.norprog_words.specs.Told.{line_fault, Refuses};
 ghost use Rattle.norprog_command.specs.Asked.{asks_check};
 ghost use Rattle.norprog_command.specs.Served.{IsTaskOf, OfCheck};
-ghost use Rattle.norprog_command.specs.Verdicts.{verdict_status, stop_refusal, IsCheckVerdict, RefusesCheck, CutsVerdict, AnswersCheck};
+ghost use Rattle.norprog_command.specs.Verdicts.{verdict_status, stop_refusal, stream_refusal, IsCheckVerdict, RefusesCheck, CutsVerdict, AnswersCheck};
 
-use crate::inputs::{inputs_of, read_texts};
+use crate::inputs::{Texts, inputs_of, read_texts};
 use crate::request::{Request, request_of};
-use nor_base::{ByteOut, FromRead};
-use norprog_check::{CheckStop, Verdict, check_script, write_verdict};
-use norprog_words::{FileName, GivenCheck, Refusal, open_input, read_whole, refuse};
-use std::alloc::AllocGlobal;
+use nor_base::{ByteIn, ByteOut, FromRead};
+use norprog_check::{CheckStop, StreamStop, Verdict, check_script, check_streams, write_verdict};
+use norprog_words::{FileName, GivenCheck, Refusal, ScriptFile, open_input, open_script, refuse};
+use std::alloc::{AllocGlobal, Global};
 use std::fs::Files;
+use std::io::Read;
 
 /// Writes to `out` whether a script does the job on a command line, or a refusal to `err` (docs/FORMATS.md, section 9), and
 /// answers the status: 0 it does, 1 it doesn't or is refused, 2 usage.
@@ -86,12 +87,51 @@ fn run_check<R: Files + AllocGlobal>(
     let mut places = Vec::new(alloc);
     let texts = read_texts(rt, alloc, request, &mut places)?;
     let (content, _place, len) = open_input(rt, request.content, FileName::Content)?;
-    let (script, _place) = read_whole(rt, alloc, path, FileName::Script)?;
+    let (script, _place) = open_script(rt, path)?;
     let mut reader = FromRead::new(content);
-    let inputs = inputs_of(request, &texts);
-    match check_script(alloc, &inputs, script.as_slice(), &mut reader, len) {
-        Ok(verdict) => Ok(verdict),
-        Err(stop) => Err(refused(stop)),
+    check_file(alloc, request, &texts, script, &mut reader, len)
+}
+
+/// Checks a script's file for the job of a request, whose files hold these texts. A file that can be read twice isn't held.
+fn check_file<F: Read + Drop, R: ByteIn>(
+    alloc: Global,
+    request: &Request<'_>,
+    texts: &Texts,
+    script: ScriptFile<F>,
+    content: &mut R,
+    len: u64,
+) -> Result<Verdict, Refusal>
+    requires layout { is_some texts.now.layout ≡ is_some request.now.layout }
+    requires count { R.count content.old < 2 ^ 64 - 1 }
+    ensures checked { IfOk result (IsCheckVerdict (IsTaskOf request.now)) }
+    ensures refused { IfErr result (RefusesCheck (IsTaskOf request.now)) }
+{
+    let inputs = inputs_of(request, texts);
+    match script {
+        ScriptFile::Twice(first, again) => {
+            let mut first = FromRead::new(first);
+            let mut again = FromRead::new(again);
+            match check_streams(alloc, &inputs, &mut first, &mut again, content, len) {
+                Ok(verdict) => Ok(verdict),
+                Err(stop) => Err(refused_reading(stop)),
+            }
+        }
+        ScriptFile::Held(text) => {
+            match check_script(alloc, &inputs, text.as_slice(), content, len) {
+                Ok(verdict) => Ok(verdict),
+                Err(stop) => Err(refused(stop)),
+            }
+        }
+    }
+}
+
+/// Why there is no verdict on a script that is read twice, as a refusal.
+fn refused_reading(stop: StreamStop) -> Refusal
+    ensures { result ≡ stream_refusal stop }
+{
+    match stop {
+        StreamStop::Check(stop) => refused(stop),
+        StreamStop::First(_) | StreamStop::Again(_) => Refusal::File(FileName::Script),
     }
 }
 

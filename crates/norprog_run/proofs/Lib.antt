@@ -1,3 +1,7 @@
 mod BusyLemmas
 mod ReadLemmas
+mod TextLemmas
+mod StepsLemmas
+mod FaultlessLemmas
+mod StreamLemmas
 mod ServedLemmas

@@ -1,13 +1,12 @@
 -- The play that a request has is the one that its texts ask for.
-use Rattle.std.proofs.Common.{◌≡◌, refl, inl, inr, false, List, [], ℕ, Some, None, Option, Result, Ok, Err, IfOk, IfErr}
+use Rattle.std.proofs.Common.{◌≡◌, refl, inl, inr, List, [], ℕ, None, Option, Result, Ok, Err, IfOk, IfErr}
 use Rattle.nor_base.specs.Device.{Ahead}
 use Rattle.nor_job.specs.Task.{Task}
-use Rattle.nor_job.specs.Task as job
 use Rattle.nor_job.specs.declared.fault.BuildFault.TheVariants as fault
 use Rattle.norprog_words.specs.declared.faults.Refusal.{Refusal}
 use Rattle.norprog_words.specs.declared.faults.Refusal.TheVariants.{Text, Usage, File, Build, Page, Script}
-use Rattle.norprog_words.specs.Chip.{origin_of, task_chip}
-use Rattle.norprog_words.specs.Told.{line_fault, OfLine}
+use Rattle.norprog_words.specs.Chip.{origin_of}
+use Rattle.norprog_words.specs.Told.{line_fault}
 use Rattle.norprog_words.proofs.ToldLemmas.{asked_wider, by_fault, refuses_wider}
 use Rattle.norprog_run.specs.declared.request.Bench.{Bench}
 use Rattle.norprog_words.specs.declared.given.GivenRun.{GivenRun}
@@ -17,24 +16,8 @@ use Rattle.norprog_run.specs.Answer.{IsVerdictOf, IsPlayVerdict, IsStopOf, IsPla
 use Rattle.norprog_run.specs.Play.{WasPlayed}
 use Rattle.norprog_run.specs.Refusals.{RefusesPlay}
 use Rattle.norprog_run.specs.Request.{is_well_formed, AsksFor, RefusesGiven}
-use Rattle.norprog_run.specs.Served.{PlayTask, task_by, IsTaskOf, Serves, OfRun}
-
--- a task with these values of the request is the request's
-pub rebuilt : (request : RunRequest) (slice tables : List ℕ) (chip : job.Origin) → slice ≡ tables → chip ≡ task_chip (origin_of request.chip) slice
-    → Path Task (record {
-      hex = [];
-      layout = None;
-      regions = [];
-      chip = chip;
-      part = request.part;
-      status = request.status;
-      mode4 = request.mode4;
-      quad = request.quad;
-      base = 0;
-      verify = false;
-      erased_only = request.erased_only;
-    }) (task_by request tables)
-rebuilt request slice tables chip same is = rw (is, same) refl
+use Rattle.norprog_run.specs.Streams.{PlaysStreams, RefusesStreams}
+use Rattle.norprog_run.specs.Served.{PlayTask, IsTaskOf, Serves, OfRun}
 
 -- a play of a request that the texts ask for is one that they ask for
 serves : (given : GivenRun) (request : RunRequest) → AsksFor given request → (t : PlayTask) → IsTaskOf request t → Serves given t
@@ -105,6 +88,31 @@ of_stop Asked t bench text len before after held held' (Err why) asked refused =
   asked = asked;
   has = record { text = text; len = len; before = before; after = after; held_before = held; held_after = held'; refused = refused };
 })
+
+-- what the player of a script that is read twice answered
+
+module _ (Asked : PlayTask → Type 0) (t : Task) (bench : Bench) (first first' again again' : Ahead) (len : ℕ) (before after : Ahead) (held held' : Option (List ℕ))
+    (asked : Asked (record { chip = t; bench = bench })) where
+  pub of_streams : (r : Result Verdict Refusal) → IfOk r (PlaysStreams t bench first first' again again' len before after held held') → IfOk r (IsPlayVerdict Asked)
+  of_streams (Ok verdict) p = of_play Asked t bench p.1.0 len before after held held' (Ok verdict) asked p.1.2
+  of_streams (Err why) p = tt
+
+  stop : (text : List ℕ) (why : Refusal) → RefusesPlay t bench text len before after held held' why → RefusesRun Asked why
+  stop text why p = of_stop Asked t bench text len before after held held' (Err why) asked p
+
+  streams_stop : (Untouched : Type 0) (why : Refusal) → RefusesStreams t bench first first' again again' len before after held held' Untouched why → RefusesRun Asked why
+  streams_stop Untouched (Script why) p = elim p [ inl q ↦ stop q.0.0 (Script why) q.0.2 | inr q ↦ stop q.2.0 (Script why) q.2.2 ]
+  streams_stop Untouched (Build fault.ContentShort) p = stop p.0 (Build fault.ContentShort) p.2
+  streams_stop Untouched (Build fault.Read) p = stop p.0 (Build fault.Read) p.2
+  streams_stop Untouched (Build fault.Write) p = stop p.1.0 (Build fault.Write) p.1.2
+  streams_stop Untouched (Build fault.Memory) p = tt
+  streams_stop Untouched (File name) p = tt
+  streams_stop Untouched other p = stop [] other p
+
+  pub of_streams_stop : (Untouched : Type 0) (r : Result Verdict Refusal) → IfErr r (RefusesStreams t bench first first' again again' len before after held held' Untouched)
+      → IfErr r (RefusesRun Asked)
+  of_streams_stop Untouched (Ok verdict) p = tt
+  of_streams_stop Untouched (Err why) p = streams_stop Untouched why p
 
 -- a line whose texts ask for nothing, and want of memory
 pub given_refused : (line : Result GivenRun Refusal) (given : GivenRun) (Work : Refusal → Type 0) (why : Refusal) → line ≡ Ok given → RefusesGiven given why

@@ -5,4 +5,6 @@ pub mod Play
 pub mod Kind
 pub mod Refusals
 pub mod Served
+pub mod Steps
+pub mod Streams
 pub mod Answer

@@ -1,5 +1,5 @@
 -- The play that a command line of `run` asks for, whatever its files hold (this project's).
-use Rattle.std.specs.Prelude.{◌≡◌, ℕ, false, List, [], None, Option, Some, Result, option_map}
+use Rattle.std.specs.Prelude.{◌≡◌, ℕ, false, List, [], None, Some, Result, option_map}
 use Rattle.nor_job.specs.Task.{Task}
 use Rattle.norprog_words.specs.declared.faults.Refusal.{Refusal}
 use Rattle.norprog_words.specs.Chip.{Origin, origin_of, task_chip}

@@ -6,21 +6,22 @@ ghost use Rattle.norprog_words.specs.Files.{IsOfFiles};
 ghost use Rattle.norprog_words.specs.Told.{line_fault};
 ghost use Rattle.norprog_run.specs.Answer.{IsPlayVerdict, CutsVerdict, RefusesRun, RefusesLine, AnswersRun};
 ghost use Rattle.norprog_run.specs.Request.{is_well_formed};
-ghost use Rattle.norprog_run.specs.Served.{IsTaskOf, OfRun};
+ghost use Rattle.norprog_run.specs.Served.{IsTaskOf, OfRun, task_by};
 ghost use Rattle.norprog_run.specs.Verdict.{verdict_line};
 
 use crate::play::play_script;
 use crate::request::{RunRequest, request_of};
+use crate::streams::play_streams;
 use crate::verdict::{Verdict, status_of, write_verdict};
 use nor_base::{ByteIn, ByteOut, FromRead, IntoWrite, Nowhere};
 use nor_job::Inputs;
 use norprog_words::{
-    Chip, FileName, GivenRun, Place, Refusal, create_output, open_input, read_whole, refuse,
-    source_of,
+    Chip, FileName, GivenRun, Place, Refusal, ScriptFile, create_output, open_input, open_script,
+    read_whole, refuse, source_of,
 };
 use std::alloc::{AllocGlobal, Global};
 use std::fs::Files;
-use std::io::Write;
+use std::io::{Read, Write};
 
 /// Does what the texts of a command line of `run` ask for. It opens the files that they name, writes what the chip holds
 /// after the play to the output that they name, if any, and then the verdict's line to `out`, or a refusal to `err`
@@ -67,14 +68,6 @@ fn report_run<O: ByteOut>(
     }
 }
 
-/// What the files that a play reads whole hold.
-#[derive(Drop)]
-struct Texts {
-    /// Empty for a uniform chip.
-    sfdp: Vec<u8>,
-    script: Vec<u8>,
-}
-
 /// Opens the files of a request in their order, and plays.
 fn verdict_of<R: Files + AllocGlobal>(
     rt: &R,
@@ -90,17 +83,26 @@ fn verdict_of<R: Files + AllocGlobal>(
     let sfdp = read_sfdp(rt, alloc, request.chip, &mut places)?;
     let (content, place, len) = open_input(rt, request.content, FileName::Content)?;
     places.push(place)?;
-    let (script, place) = read_whole(rt, alloc, request.script, FileName::Script)?;
+    let (script, place) = open_script(rt, request.script)?;
     places.push(place)?;
     let mut content = FromRead::new(content);
-    let texts = Texts { sfdp, script };
     let path = match request.out {
         Some(path) => path,
-        None => return play_texts(alloc, request, &texts, &mut content, len, &mut Nowhere),
+        None => {
+            return play_file(
+                alloc,
+                request,
+                &sfdp,
+                script,
+                &mut content,
+                len,
+                &mut Nowhere,
+            );
+        }
     };
     let file = create_output(rt, path, FileName::Out, places.as_slice())?;
     let mut out = IntoWrite::new(file);
-    let verdict = play_texts(alloc, request, &texts, &mut content, len, &mut out)?;
+    let verdict = play_file(alloc, request, &sfdp, script, &mut content, len, &mut out)?;
     match out.inner.flush() {
         Ok(()) => Ok(verdict),
         Err(_) => Err(Refusal::WRITE),
@@ -126,11 +128,12 @@ fn read_sfdp<R: Files>(
     }
 }
 
-/// Plays the script on the chip of a request.
-fn play_texts<'a, R: ByteIn, W: ByteOut>(
+/// Plays a script's file on the chip of a request, whose SFDP bytes are these.
+fn play_file<'a, F: Read + Drop, R: ByteIn, W: ByteOut>(
     alloc: Global,
     request: RunRequest<'a>,
-    texts: &'a Texts,
+    sfdp: &'a [u8],
+    script: ScriptFile<F>,
     content: &mut R,
     len: u64,
     out: &mut W,
@@ -141,11 +144,43 @@ fn play_texts<'a, R: ByteIn, W: ByteOut>(
     ensures played { IfOk result (IsPlayVerdict (IsTaskOf request.entry)) }
     ensures refused { IfErr result (RefusesRun (IsTaskOf request.entry)) }
 {
-    let inputs = Inputs {
+    let inputs = inputs_of(&request, sfdp);
+    match script {
+        ScriptFile::Twice(first, again) => {
+            let mut first = FromRead::new(first);
+            let mut again = FromRead::new(again);
+            play_streams(
+                alloc,
+                &inputs,
+                request.bench,
+                &mut first,
+                &mut again,
+                content,
+                len,
+                out,
+            )
+        }
+        ScriptFile::Held(text) => play_script(
+            alloc,
+            &inputs,
+            request.bench,
+            text.as_slice(),
+            content,
+            len,
+            out,
+        ),
+    }
+}
+
+/// The library's inputs: the request's chip, which has these tables where it has any, and nothing to be done.
+fn inputs_of<'a>(request: &RunRequest<'a>, tables: &'a [u8]) -> Inputs<'a>
+    ensures { result ≡ task_by request.now tables.now }
+{
+    Inputs {
         hex: &[],
         layout: None,
         regions: &[],
-        chip: source_of(request.chip, texts.sfdp.as_slice()),
+        chip: source_of(request.chip, tables),
         part: request.part,
         status: request.status,
         mode4: request.mode4,
@@ -153,7 +188,5 @@ fn play_texts<'a, R: ByteIn, W: ByteOut>(
         base: 0,
         verify: false,
         erased_only: request.erased_only,
-    };
-    let script = texts.script.as_slice();
-    play_script(alloc, &inputs, request.bench, script, content, len, out)
+    }
 }

@@ -2,7 +2,7 @@
 
 ghost use Rattle.std.specs.Prelude.{◌≡◌, ◌≤◌, ◌^◌, length, true, IfOk, IfErr, MatchResult};
 ghost use Rattle.std.specs.Fs.{metadata_mode};
-ghost use Rattle.norprog_words.specs.declared.faults.FileName.TheVariants.{Sfdp, Device};
+ghost use Rattle.norprog_words.specs.declared.faults.FileName.TheVariants.{Sfdp, Device, Script};
 ghost use Rattle.norprog_words.specs.Files.{RefusesFile, IsOfFiles, is_character_device};
 
 use crate::chip::Chip;
@@ -22,6 +22,15 @@ pub struct Place {
     inode: u64,
 }
 
+/// A script's file, for who reads it twice.
+#[derive(Drop)]
+pub enum ScriptFile<F: Drop> {
+    /// A regular file, opened twice: each gives it from its first byte on.
+    Twice(F, F),
+    /// What any other file gave, as a pipe, which can be read once.
+    Held(Vec<u8>),
+}
+
 /// Opens a file and reads it whole; answers its bytes, at most 2^36, and which file it is.
 ///
 /// Where it can't be opened, is a folder or has more bytes, and where a read fails, `File` of `name`; `Memory` where a growth
@@ -36,10 +45,24 @@ pub fn read_whole<R: Files>(
     ensures refused { IfErr result (RefusesFile name) }
     ensures files { IfErr result IsOfFiles }
 {
-    let (mut file, place, len) = open_input(rt, path, name)?;
+    let (file, place, len) = open_input(rt, path, name)?;
     if len > MOST_BYTES {
         return Err(Refusal::File(name));
     }
+    let bytes = read_opened(alloc, file, name)?;
+    Ok((bytes, place))
+}
+
+/// What an open file gives from where it stands on, at most 2^36 bytes.
+fn read_opened<F: Read + Drop>(
+    alloc: Global,
+    mut file: F,
+    name: FileName,
+) -> Result<Vec<u8>, Refusal>
+    ensures length { IfOk result (λ bytes. length bytes.items ≤ 2 ^ 36) }
+    ensures refused { IfErr result (RefusesFile name) }
+    ensures files { IfErr result IsOfFiles }
+{
     let mut bytes = Vec::new(alloc);
     match (&mut file).take(MOST_BYTES + 1).read_to_end(&mut bytes) {
         Ok(_) => {}
@@ -48,7 +71,43 @@ pub fn read_whole<R: Files>(
     if bytes.len() as u64 > MOST_BYTES {
         return Err(Refusal::File(name));
     }
-    Ok((bytes, place))
+    Ok(bytes)
+}
+
+/// Opens a script's file twice, where it is a regular one, so that it needn't be held; any other is read whole. Answers which
+/// file it is as well.
+///
+/// Where it can't be opened, is a folder or has more than 2^36 bytes, where a read fails, and where its name came to mean
+/// another file between the two openings, `File` of `Script`; `Memory` where a growth is refused.
+pub fn open_script<R: Files + AllocGlobal>(
+    rt: &R,
+    path: &str,
+) -> Result<(ScriptFile<R::File>, Place), Refusal>
+    ensures refused { IfErr result (RefusesFile Script) }
+    ensures files { IfErr result IsOfFiles }
+{
+    let name = FileName::Script;
+    let (first, place, len) = open_input(rt, path, name)?;
+    if len > MOST_BYTES {
+        return Err(Refusal::File(name));
+    }
+    if !is_regular(&first) {
+        let held = read_opened(rt.alloc(), first, name)?;
+        return Ok((ScriptFile::Held(held), place));
+    }
+    let (again, same, _len) = open_input(rt, path, name)?;
+    if same != place {
+        return Err(Refusal::File(name));
+    }
+    Ok((ScriptFile::Twice(first, again), place))
+}
+
+/// Whether an open file is known to be a regular one.
+fn is_regular<F: OpenFile>(file: &F) -> bool {
+    match file.metadata() {
+        Ok(metadata) => metadata.is_file(),
+        Err(_) => false,
+    }
 }
 
 /// What the file of a chip's SFDP tables holds; nothing for a uniform chip, which has none.

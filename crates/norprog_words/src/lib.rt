@@ -11,7 +11,9 @@ mod wrongs;
 
 pub use chip::{Chip, chip_of, optional_status, source_of};
 pub use faults::{FileName, Refusal, refuse};
-pub use files::{Place, create_output, open_device, open_input, read_tables, read_whole};
+pub use files::{
+    Place, ScriptFile, create_output, open_device, open_input, open_script, read_tables, read_whole,
+};
 pub use given::{
     Given, GivenBuild, GivenCheck, GivenChip, GivenDraw, GivenList, GivenPlan, GivenPlay, GivenRun,
 };

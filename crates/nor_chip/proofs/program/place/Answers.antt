@@ -1,9 +1,6 @@
 -- The place by its parts.
-use Rattle.std.proofs.Common.{ap, ◌+◌, ◌-◌, ◌%◌}
-use Rattle.nor_chip.proofs.PlaceLemmas.{mod_in_parts}
+use Rattle.nor_chip.proofs.PlaceLemmas.{place_by}
 use Rattle.nor_chip.proofs.program.place.Goals as goal
 
 pub returns-clause-value : goal.returns-clause-value
-returns-clause-value c =
-    rw (c.remainder-2.ensures, c.remainder.ensures)
-    (ap (λ n. (c.args.address - c.args.address % c.args.page) + n) (mod_in_parts c.args.address c.args.index c.args.page c.requires))
+returns-clause-value c = place_by c.args.page c.args.address c.args.index _ c.place_in.ensures.value

@@ -4,4 +4,4 @@ use Rattle.nor_decode.proofs.ByteLemmas.{byte_at}
 use Rattle.nor_decode.proofs.seen.byte_of_bits.Goals as goal
 
 pub returns : goal.returns
-returns c = c.number.ensures.value ∙ byte_at c.args.clocks.now c.args.i c.requires
+returns c = c.byte.ensures ∙ byte_at c.args.clocks.now c.args.i c.requires

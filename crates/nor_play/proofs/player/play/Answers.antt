@@ -1,50 +1,66 @@
 -- Each step takes the play further, or ends it.
-use Rattle.std.proofs.Common.{◌+◌, ◌++◌, List, [], ◌∷◌, Err, take, refl, sym, ◌∙◌, ap, subst}
+use Rattle.std.proofs.Common.{◌+◌, ◌++◌, List, [], ◌∷◌, Ok, Err, take, drop, refl, sym, ◌∙◌, subst}
 use Rattle.nor_base.specs.declared.step.Step.{Step}
+use Rattle.nor_play.specs.Fed.{Player, past}
 use Rattle.nor_play.specs.Play.{Plays}
-use Rattle.nor_play.specs.Numbered.{PlaysNumbered}
-use Rattle.nor_play.proofs.PlayLemmas.{HasPlayed, nothing_played, one_more, halts_at, one_taken, handed_on}
-use Rattle.nor_play.specs.Asks.{AsksPlay, asks, AsksNumbered}
-use Rattle.nor_play.proofs.AskLemmas.{HasAsked, nothing_asked, one_more_asked, halt_asks}
+use Rattle.nor_play.specs.Asks.{AsksPlay}
+use Rattle.nor_play.proofs.PlayLemmas.{at_one, one_taken, handed_on}
+use Rattle.nor_play.proofs.AskLemmas.{HasAsked, nothing_asked}
+use Rattle.nor_play.proofs.FedLaws.{IsFed, fed_none, fed_more, fed_more_asks, fed_halts, fed_halts_asks}
 use Rattle.nor_play.proofs.player.play.Goals as goal
 
 pub loop-step-init : goal.loop-step-init
-loop-step-init g c = record { played = nothing_played (g.P.Port.shown c.args.port.now) c.args.limit; asked = nothing_asked (g.P.Port.shown c.args.port.now) (g.P.Port.asked c.args.port.now) c.args.limit; count = refl; number = refl }
+loop-step-init g c =
+    let shown = g.P.Port.shown c.args.port.now in
+    let asked = g.P.Port.asked c.args.port.now in
+    record {
+      fed = subst (λ (p : Player). IsFed shown shown c.args.limit [] p) (sym c.new-player.ensures) (fed_none shown c.args.limit);
+      asked = subst (λ (p : Player). HasAsked shown asked asked c.args.limit [] p.done) (sym c.new-player.ensures) (nothing_asked shown asked c.args.limit);
+      count = refl;
+    }
 
-pub returns-in_err-turns-clause-played : goal.returns-in_err-turns-clause-played
-returns-in_err-turns-clause-played g c =
-    let told = subst (λ n. PlaysNumbered (g.P.Port.shown c.loop-step.port) (g.P.Port.shown c.play_numbered.new.port) c.args.limit n c.step-item.result (Err c.in_err-turns.field-0.0))
-    c.loop-step.invariant.number c.in_err-turns.ensures.played in
-    handed_on c.from_residual.result (Plays (g.P.Port.shown c.args.port.now) (g.P.Port.shown c.play_numbered.new.port) c.args.limit c.args.steps.now) c.in_err-turns.field-0.0
-    (halts_at _ _ _ c.args.limit c.loop-step.step-index c.args.steps.now c.step-item.result c.loop-step.done c.in_err-turns.field-0.0 c.loop-step.invariant.played c.loop-step-test.true
-    c.step-item.is told) c.from_residual.ensures.1
+pub returns-in_err-step-clause-played : goal.returns-in_err-step-clause-played
+returns-in_err-step-clause-played g c =
+    let before = g.P.Port.shown c.args.port.now in
+    let now = g.P.Port.shown c.loop-step.port in
+    let after = g.P.Port.shown c.step.new.port in
+    handed_on c.from_residual.result (Plays before after c.args.limit c.args.steps.now) c.in_err-step.field-0.0
+    (subst (λ (l : List Step). Plays before after c.args.limit l (Err c.in_err-step.field-0.0)) (at_one c.args.steps.now c.loop-step.step-index c.step-item.result c.loop-step-test.true c.step-item.is)
+    (fed_halts before now after c.args.limit (take c.loop-step.step-index c.args.steps.now) c.loop-step.player c.loop-step.invariant.fed c.step-item.result
+    (drop (c.loop-step.step-index + 1) c.args.steps.now) c.in_err-step.field-0.0 c.in_err-step.ensures.played))
+    c.from_residual.ensures.1
+
+pub returns-in_err-step-clause-asked : goal.returns-in_err-step-clause-asked
+returns-in_err-step-clause-asked g c =
+    let before = g.P.Port.shown c.args.port.now in
+    let now = g.P.Port.shown c.loop-step.port in
+    let after = g.P.Port.shown c.step.new.port in
+    let P = g.P.Port.asked c.args.port.now in
+    let Q = g.P.Port.asked c.loop-step.port in
+    let R = g.P.Port.asked c.step.new.port in
+    handed_on c.from_residual.result (AsksPlay before P R c.args.limit c.args.steps.now) c.in_err-step.field-0.0
+    (subst (λ (l : List Step). AsksPlay before P R c.args.limit l (Err c.in_err-step.field-0.0)) (at_one c.args.steps.now c.loop-step.step-index c.step-item.result c.loop-step-test.true c.step-item.is)
+    (fed_halts_asks before now after c.args.limit (take c.loop-step.step-index c.args.steps.now) c.loop-step.player c.loop-step.invariant.fed c.step-item.result
+    (drop (c.loop-step.step-index + 1) c.args.steps.now) c.in_err-step.field-0.0 c.in_err-step.ensures.played P Q R c.loop-step.invariant.asked c.in_err-step.ensures.asked))
+    c.from_residual.ensures.1
 
 pub loop-step-preserved : goal.loop-step-preserved
 loop-step-preserved g c =
-    let more = one_more _ _ (g.P.Port.shown c.play_numbered.new.port) c.args.limit (take c.loop-step.step-index c.args.steps.now) c.step-item.result c.loop-step.done c.loop-step.invariant.played
-    c.in_ok-turns.turns c.in_ok-turns.ensures.played in
+    let before = g.P.Port.shown c.args.port.now in
+    let now = g.P.Port.shown c.loop-step.port in
+    let after = g.P.Port.shown c.step.new.port in
+    let P = g.P.Port.asked c.args.port.now in
+    let Q = g.P.Port.asked c.loop-step.port in
+    let R = g.P.Port.asked c.step.new.port in
+    let front = take c.loop-step.step-index c.args.steps.now in
+    let turns = c.in_ok-step.field-0 in
     let taken = one_taken c.args.steps.now c.loop-step.step-index c.step-item.result c.loop-step-test.true c.step-item.is in
-    let more_asked = one_more_asked (g.P.Port.shown c.args.port.now) (g.P.Port.shown c.loop-step.port)
-    (g.P.Port.asked c.args.port.now) (g.P.Port.asked c.loop-step.port) (g.P.Port.asked c.play_numbered.new.port) c.args.limit (take c.loop-step.step-index c.args.steps.now) c.step-item.result c.loop-step.done
-    c.loop-step.invariant.played c.loop-step.invariant.asked c.in_ok-turns.turns c.in_ok-turns.ensures.asked in
+    let more = fed_more before now after c.args.limit front c.loop-step.player c.loop-step.invariant.fed c.step-item.result turns c.in_ok-step.ensures.played in
+    let asks = fed_more_asks before now after c.args.limit front c.loop-step.player c.loop-step.invariant.fed c.step-item.result P Q R turns c.loop-step.invariant.asked c.in_ok-step.ensures.asked in
     record {
-      played = subst (λ (l : List Step). HasPlayed (g.P.Port.shown c.args.port.now) (g.P.Port.shown c.play_numbered.new.port) c.args.limit l (c.loop-step.done + c.from-done.result)) (sym taken)
-          (subst (HasPlayed (g.P.Port.shown c.args.port.now) (g.P.Port.shown c.play_numbered.new.port) c.args.limit (take c.loop-step.step-index c.args.steps.now ++ c.step-item.result ∷ []))
-          (ap (λ n. c.loop-step.done + n) (sym c.from-done.ensures)) more);
-      asked = subst (λ (l : List Step). HasAsked (g.P.Port.shown c.args.port.now) (g.P.Port.asked c.args.port.now) (g.P.Port.asked c.play_numbered.new.port) c.args.limit l
-          (c.loop-step.done + c.from-done.result)) (sym taken)
-          (subst (HasAsked (g.P.Port.shown c.args.port.now) (g.P.Port.asked c.args.port.now) (g.P.Port.asked c.play_numbered.new.port) c.args.limit
-          (take c.loop-step.step-index c.args.steps.now ++ c.step-item.result ∷ [])) (ap (λ n. c.loop-step.done + n) (sym c.from-done.ensures)) more_asked);
-      count = c.in_ok-turns.ensures.count ∙ c.loop-step.invariant.count;
-      number = ap (λ n. n + 1) c.loop-step.invariant.number;
+      fed = subst (λ (l : List Step). IsFed before after c.args.limit l c.step.new.self) {x = front ++ c.step-item.result ∷ []} (sym taken)
+          (subst (λ (p : Player). IsFed before after c.args.limit (front ++ c.step-item.result ∷ []) p) {x = past c.loop-step.player (Ok turns)} (sym c.in_ok-step.ensures.player) more);
+      asked = subst (λ (l : List Step). HasAsked before P R c.args.limit l c.step.new.self.done) {x = front ++ c.step-item.result ∷ []} (sym taken)
+          (subst (λ (p : Player). HasAsked before P R c.args.limit (front ++ c.step-item.result ∷ []) p.done) {x = past c.loop-step.player (Ok turns)} (sym c.in_ok-step.ensures.player) asks);
+      count = c.in_ok-step.ensures.count ∙ c.loop-step.invariant.count;
     }
-
-pub returns-in_err-turns-clause-asked : goal.returns-in_err-turns-clause-asked
-returns-in_err-turns-clause-asked g c =
-    let told = subst (λ n. PlaysNumbered (g.P.Port.shown c.loop-step.port) (g.P.Port.shown c.play_numbered.new.port) c.args.limit n c.step-item.result (Err c.in_err-turns.field-0.0))
-    c.loop-step.invariant.number c.in_err-turns.ensures.played in
-    handed_on c.from_residual.result
-    (AsksPlay (g.P.Port.shown c.args.port.now) (g.P.Port.asked c.args.port.now) (g.P.Port.asked c.play_numbered.new.port) c.args.limit c.args.steps.now) c.in_err-turns.field-0.0
-    (halt_asks (g.P.Port.shown c.args.port.now) (g.P.Port.shown c.loop-step.port) (g.P.Port.shown c.play_numbered.new.port)
-    (g.P.Port.asked c.args.port.now) (g.P.Port.asked c.loop-step.port) (g.P.Port.asked c.play_numbered.new.port) c.args.limit c.loop-step.step-index c.args.steps.now c.step-item.result c.loop-step.done c.in_err-turns.field-0.0 c.loop-step.invariant.played
-    c.loop-step.invariant.asked c.loop-step-test.true c.step-item.is told c.in_err-turns.ensures.asked) c.from_residual.ensures.1

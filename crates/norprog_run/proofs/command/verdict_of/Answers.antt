@@ -9,13 +9,13 @@ use Rattle.norprog_run.proofs.command.verdict_of.Goals as goal
 pub returns-in-None-clause-played : goal.returns-in-None-clause-played
 returns-in-None-clause-played g c =
     let line : c.args.given ≡ Ok c.in_ok-given.field-0 = search rules in
-    verdicts_asked c.args.given c.in_ok-given.field-0 c.in_ok-request.request _ line c.in_ok-request.ensures.values c.play_texts.ensures.played
+    verdicts_asked c.args.given c.in_ok-given.field-0 c.in_ok-request.request _ line c.in_ok-request.ensures.values c.play_file.ensures.played
 
 pub returns-in-None-clause-first : goal.returns-in-None-clause-first
 returns-in-None-clause-first g c =
     let line : c.args.given ≡ Ok c.in_ok-given.field-0 = search rules in
     let none : line_fault is_well_formed c.args.given ≡ None = search rules in
-    refusals_asked c.args.given c.in_ok-given.field-0 c.in_ok-request.request _ line c.in_ok-request.ensures.values none c.play_texts.ensures.refused
+    refusals_asked c.args.given c.in_ok-given.field-0 c.in_ok-request.request _ line c.in_ok-request.ensures.values none c.play_file.ensures.refused
 
 pub returns-in_err-verdict-clause-first : goal.returns-in_err-verdict-clause-first
 returns-in_err-verdict-clause-first g c =

@@ -1,0 +1,34 @@
+-- The verdict is that of the steps that the second device told.
+use Rattle.std.proofs.Common.{◌∙◌, ap, subst, length}
+use Rattle.nor_check.specs.Fed.{to_come}
+use Rattle.nor_check.specs.Worst.{IsWorst}
+use Rattle.norprog_check.specs.declared.fault.CheckStop.TheVariants.{Build}
+use Rattle.norprog_check.specs.declared.fault.StreamStop.TheVariants.{Check}
+use Rattle.norprog_check.specs.Streams.{IsLateStop, IsOfDevices}
+use Rattle.norprog_check.proofs.CheckLemmas.{goal_size, text_checked}
+use Rattle.norprog_check.proofs.FaultLemmas.{handed_on, memory_is_late}
+use Rattle.norprog_check.proofs.streams.check_streams.Goals as goal
+
+pub returns-in_err-job-clause-accepted : goal.returns-in_err-job-clause-accepted
+returns-in_err-job-clause-accepted g c = λ image regions m accepted.
+    handed_on IsLateStop _ (Check (Build c.in_err-job.field-0.0)) c.from_residual.ensures.1
+    (memory_is_late _ (c.in_err-job.ensures.only_memory image regions m accepted))
+
+pub returns-in_err-job-clause-spelled : goal.returns-in_err-job-clause-spelled
+returns-in_err-job-clause-spelled g c = λ image regions m one other accepted first readable again spelled.
+    handed_on IsOfDevices _ (Check (Build c.in_err-job.field-0.0)) c.from_residual.ensures.1
+    (memory_is_late _ (c.in_err-job.ensures.only_memory image regions m accepted))
+
+pub new-checker-requires-clause-want : goal.new-checker-requires-clause-want
+new-checker-requires-clause-want g c =
+    ap length c.as_slice.ensures.value ∙ goal_size c.in_ok-job.job _ _ _ _ c.in_ok-have.ensures.read
+
+pub returns-clause-checked : goal.returns-clause-checked
+returns-clause-checked g c =
+    let job = c.in_ok-job.job in
+    let have = c.in_ok-have.have.items in
+    let fed = c.new-checker.result in
+    text_checked c.args.inputs.now c.args.len job _ _ _ _ _ _ have c.in_ok-have.want.items fed c.in_ok-verdict.verdict c.effects.ensures.keeps c.polls.ensures.ends
+    c.in_ok-job.ensures.job c.in_ok-read_first.ensures.readable c.in_ok-have.ensures.read
+    (λ steps. subst (λ want. IsWorst job.meaning job.start have want steps (to_come fed steps)) c.as_slice.ensures.value (c.new-checker.ensures.worst steps))
+    c.in_ok-verdict.ensures.told

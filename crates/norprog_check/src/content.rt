@@ -1,0 +1,55 @@
+//! What a job's chip holds, and what it must hold.
+
+ghost use Rattle.std.specs.Prelude.{◌<◌, ◌-◌, ◌^◌, IfOk, IfErr};
+ghost use Rattle.nor_job.specs.Filled.{FillsWindow};
+ghost use Rattle.nor_job.specs.Written.{CountsReader as CountsRead};
+ghost use Rattle.norprog_check.specs.Content.{IsRead, StopsRead};
+
+use nor_base::{ByteIn, fill_from};
+use nor_job::{BuildFault, Job};
+use nor_target::fill;
+use std::alloc::Global;
+
+/// What the chip of a job holds, by the reader, and what it must hold.
+///
+/// `ContentShort` where the reader ends before the chip's size, `Read` where it fails, `Memory` where a growth is refused,
+/// before anything is read.
+pub(crate) fn read_content<R: ByteIn>(
+    alloc: Global,
+    job: &Job,
+    content: &mut R,
+) -> Result<(Vec<u8>, Vec<u8>), BuildFault>
+    requires { R.count content.old < 2 ^ 64 - 1 }
+    ensures read { IfOk result (λ held. IsRead job.now (R.ahead content.old) (R.ahead content.new) held.0.items held.1.items) }
+    ensures stopped { IfErr result (StopsRead job.now.meaning.size (R.ahead content.old) (R.ahead content.new)) }
+    ensures count { CountsRead (R.count content.old) (R.count content.new) result }
+{
+    let size = job.meaning.size as usize;
+    let mut have = vec![in alloc; 0; size]?;
+    let mut want = vec![in alloc; 0; size]?;
+    read_whole(content, have.as_mut_slice())?;
+    fill(
+        &job.image,
+        job.base,
+        &job.chosen,
+        0,
+        have.as_slice(),
+        want.as_mut_slice(),
+    );
+    Ok((have, want))
+}
+
+/// Fills an array from the reader.
+///
+/// `ContentShort` where the reader ends before the array does, `Read` where it fails.
+fn read_whole<R: ByteIn>(content: &mut R, array: &mut [u8]) -> Result<(), BuildFault>
+    requires { R.count content.old < 2 ^ 64 - 1 }
+    ensures bytes { FillsWindow (R.ahead content.old) (R.ahead content.new) result array.new }
+    ensures count { CountsRead (R.count content.old) (R.count content.new) result }
+{
+    match fill_from(content, array) {
+        Ok(given) if given == array.len() => Ok(()),
+        Ok(_) => Err(BuildFault::ContentShort),
+        Err(_) => Err(BuildFault::Read),
+    }
+}

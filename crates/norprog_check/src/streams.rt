@@ -1,0 +1,131 @@
+//! From the bytes of inputs, a script that two devices tell, and content to a verdict.
+
+ghost use Rattle.std.specs.Prelude.{◌≡◌, ◌⊎◌, ◌<◌, ◌-◌, ◌^◌, ℕ, List, IfOk, IfErr};
+ghost use Rattle.nor_base.specs.Device.{Finite};
+ghost use Rattle.nor_base.specs.Parameters.{Parameters};
+ghost use Rattle.nor_hex.specs.Image.{Pairs};
+ghost use Rattle.nor_job.specs.Causes.{AreAccepted};
+ghost use Rattle.nor_job.specs.Wanted.{ReadsWithin};
+ghost use Rattle.nor_layout.specs.Region.{Region};
+ghost use Rattle.norprog_check.specs.Readings.{HadText, IsSpelled, IsVerdictOf, first_stop as told_first, again_stop as told_again};
+ghost use Rattle.norprog_check.specs.Streams.{ChecksText, ReadingCause, FeedingCause, RefusesTask, StopsReading, StopsAtContent, StopsFeeding, IsLateStop, IsOfDevices, CountsStop, of_first, of_again, of_content};
+
+use crate::content::read_content;
+use crate::fault::{CheckStop, StreamStop};
+use crate::laws::faultless_scripts;
+use crate::readings::{feed_script, read_through};
+use nor_base::ByteIn;
+use nor_check::{StepChecker, Verdict};
+use nor_job::{Inputs, job_of};
+use nor_laws::{effects, polls};
+use nor_script::ReadFault;
+use std::alloc::Global;
+
+/// Whether the text of a script, from anybody, does the job of the inputs on every chip that they describe and that holds what
+/// the reader gives: [`crate::check_script`] of a script that is read twice and never held. `first` and `again` tell it, the
+/// one for its faults, before any content is read, the other for its steps.
+///
+/// The verdict is on the text that `again` had. Memory is taken for the inputs as [`nor_job::job_of`] takes it, for one reader
+/// of steps at a time ([`nor_script::StepReader`]: 256 KiB, more for a longer line), and for twice the chip's size; where a
+/// script tells chips of different pages apart, more ([`StepChecker`]).
+///
+/// The first of these is told: `Build` of a refusal of the inputs, as [`nor_job::job_of`] orders them, from `Contradiction` to
+/// `ContentSize`, with nothing read; `Script` with the first fault of the text that `first` had, or `First` where `first`
+/// fails, and neither `again` nor the content is read; `Build` of `ContentShort` where the reader ends before `len` bytes, of
+/// `Read` where it fails, which is final, and `again` isn't read; `Script` with the first fault of the text that `again` had,
+/// where that is another one, or `Again` where `again` fails. `Build` of `Memory` comes where a growth is refused. Where both
+/// tell the same text and don't fail, this is what [`crate::check_script`] tells of it.
+pub fn check_streams<F: ByteIn, A: ByteIn, R: ByteIn>(
+    alloc: Global,
+    inputs: &Inputs<'_>,
+    first: &mut F,
+    again: &mut A,
+    content: &mut R,
+    len: u64,
+) -> Result<Verdict, StreamStop>
+    requires first { F.count first.old < 2 ^ 64 - 1 }
+    requires again { A.count again.old < 2 ^ 64 - 1 }
+    requires content { R.count content.old < 2 ^ 64 - 1 }
+    ensures checked { IfOk result (ChecksText inputs.now len (F.ahead first.old) (F.ahead first.new) (A.ahead again.old) (A.ahead again.new)
+        (R.ahead content.old) (R.ahead content.new)) }
+    ensures refused { IfErr result (λ why.
+        (RefusesTask inputs.now len why × (first.new ≡ first.old) × (again.new ≡ again.old) × (content.new ≡ content.old))
+        ⊎ ((StopsReading inputs.now len (F.ahead first.old) (F.ahead first.new) why × (again.new ≡ again.old) × (content.new ≡ content.old))
+        ⊎ ((StopsAtContent inputs.now len (F.ahead first.old) (F.ahead first.new) (R.ahead content.old) (R.ahead content.new) why × (again.new ≡ again.old))
+        ⊎ StopsFeeding inputs.now len (F.ahead first.old) (F.ahead first.new) (A.ahead again.old) (A.ahead again.new)
+        (R.ahead content.old) (R.ahead content.new) why))) }
+    ensures accepted { (image : Pairs) (regions : List Region) (m : Parameters) → AreAccepted inputs.now len image regions m
+        → IfErr result IsLateStop }
+    ensures spelled { (image : Pairs) (regions : List Region) (m : Parameters) (one other : List ℕ)
+        → AreAccepted inputs.now len image regions m → F.ahead first.old ≡ Finite one → IsSpelled one
+        → A.ahead again.old ≡ Finite other → IsSpelled other → IfErr result IsOfDevices }
+    ensures within { ReadsWithin len (R.ahead content.old) (R.ahead content.new) }
+    ensures reads { CountsStop of_content (R.count content.old) (R.count content.new) result }
+    ensures source { CountsStop of_first (F.count first.old) (F.count first.new) result }
+    ensures source_again { CountsStop of_again (A.count again.old) (A.count again.new) result }
+{
+    let job = job_of(alloc, inputs, len)?;
+    faultless_scripts();
+    effects();
+    polls();
+    read_first(alloc, first)?;
+    let (have, want) = read_content(alloc, &job, content)?;
+    let checker = StepChecker::new(alloc, &job.meaning, job.start, have, want.as_slice());
+    let verdict = read_again(alloc, checker, again)?;
+    Ok(verdict)
+}
+
+/// Reads a script for its faults.
+///
+/// `Script` with the first fault of its text; `First` where its device fails; `Build` of `Memory` where a growth is refused.
+fn read_first<F: ByteIn>(alloc: Global, first: &mut F) -> Result<(), StreamStop>
+    requires { F.count first.old < 2 ^ 64 - 1 }
+    ensures readable { IfOk result (λ _. HadText (F.ahead first.old) (F.ahead first.new) IsSpelled) }
+    ensures stopped { IfErr result (ReadingCause (F.ahead first.old) (F.ahead first.new)) }
+    ensures count { CountsStop of_first (F.count first.old) (F.count first.new) result }
+{
+    match read_through(alloc, first) {
+        Ok(()) => Ok(()),
+        Err(fault) => Err(first_stop(fault)),
+    }
+}
+
+/// Reads a script for its steps, with which it feeds a checker, and answers that one's verdict.
+///
+/// `Script` with the first fault of its text; `Again` where its device fails; `Build` of `Memory` where a growth is refused.
+fn read_again<A: ByteIn>(
+    alloc: Global,
+    checker: StepChecker<'_>,
+    again: &mut A,
+) -> Result<Verdict, StreamStop>
+    requires begins { checker.number ≡ 0 }
+    requires count { A.count again.old < 2 ^ 64 - 1 }
+    ensures told { IfOk result (λ verdict. HadText (A.ahead again.old) (A.ahead again.new) (IsVerdictOf checker.entry verdict)) }
+    ensures stopped { IfErr result (FeedingCause (A.ahead again.old) (A.ahead again.new)) }
+    ensures count { CountsStop of_again (A.count again.old) (A.count again.new) result }
+{
+    match feed_script(alloc, checker, again) {
+        Ok(verdict) => Ok(verdict),
+        Err(fault) => Err(again_stop(fault)),
+    }
+}
+
+/// What a fault of the first reading is told as.
+fn first_stop(fault: ReadFault) -> StreamStop
+    ensures { result ≡ told_first fault }
+{
+    match fault {
+        ReadFault::Script(fault) => StreamStop::Check(CheckStop::from(fault)),
+        ReadFault::Device(failed) => StreamStop::First(failed),
+    }
+}
+
+/// What a fault of the second reading is told as.
+fn again_stop(fault: ReadFault) -> StreamStop
+    ensures { result ≡ told_again fault }
+{
+    match fault {
+        ReadFault::Script(fault) => StreamStop::Check(CheckStop::from(fault)),
+        ReadFault::Device(failed) => StreamStop::Again(failed),
+    }
+}

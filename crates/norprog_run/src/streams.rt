@@ -1,0 +1,136 @@
+//! From the bytes of the inputs, and a script that two devices tell, to a verdict.
+
+ghost use Rattle.std.specs.Prelude.{◌≡◌, ◌≢◌, ◌<◌, ◌-◌, ◌^◌, true, length, IfOk, IfErr};
+ghost use Rattle.std.specs.Io.KnownBytes.{Appends};
+ghost use Rattle.nor_base.specs.Chip.{Chip as ShownChip, IsPossible, may_page};
+ghost use Rattle.nor_chip.specs.Ready.{ready_chip};
+ghost use Rattle.nor_job.specs.declared.fault.BuildFault.TheVariants.{Write};
+ghost use Rattle.nor_job.specs.Wanted.{ReadsWithin};
+ghost use Rattle.norprog_words.specs.declared.faults.Refusal.TheVariants.{Build};
+ghost use Rattle.norprog_run.specs.Kind.{kind_setting};
+ghost use Rattle.norprog_run.specs.Refusals.{CountsReader, CountsWriter};
+ghost use Rattle.norprog_run.specs.Streams.{HasText, IsSomeScript, PlaysText, StopsText, PlaysStreams, RefusesStreams, IsOfChip, IsOfContent, CountsScript, CountsOne, RefusesScript, refusal_of as told_of};
+
+use crate::kind::{Kind, kind_of, read_content};
+use crate::request::Bench;
+use crate::steps::{look_through, play_text};
+use crate::verdict::Verdict;
+use nor_base::{ByteIn, ByteOut, put_all};
+use nor_chip::Chip;
+use nor_job::Inputs;
+use nor_script::ReadFault;
+use norprog_words::{FileName, Refusal};
+use std::alloc::Global;
+
+/// Plays a script on a ready chip of the inputs, and answers how it ends: [`crate::play_script`] of a script that is read twice
+/// and never held. `first` and `again` tell it, the one for its faults, before any content is read, the other for its steps.
+///
+/// The verdict is of the text that `again` had, which is read to its end also where the chip goes wrong. Memory is taken for one
+/// content, and for one reader of steps at a time ([`nor_script::StepReader`]: 256 KiB, more for a longer line).
+///
+/// The first of these is told: `Contradiction`, `Sfdp`, `Status`, `ModeImpossible`, `Page` and `ContentSize`, with nothing read;
+/// `Script` with the first fault of the text that `first` had, where neither `again` nor the content is read; `ContentShort`
+/// where the content's reader ends before `len` bytes, `Read` where it fails, and `again` isn't read; `Script` with the first
+/// fault of the text that `again` had, where that is another one; `Write` where `out` fails, which has taken a proper prefix
+/// then. `File` of `Script` comes where `first` or `again` fails, and `Memory` where a growth is refused. All but `Write` leave
+/// `out` as it was. Where both tell the same text and don't fail, this is what [`crate::play_script`] tells of it.
+pub fn play_streams<F: ByteIn, A: ByteIn, R: ByteIn, W: ByteOut>(
+    alloc: Global,
+    inputs: &Inputs<'_>,
+    bench: Bench,
+    first: &mut F,
+    again: &mut A,
+    content: &mut R,
+    len: u64,
+    out: &mut W,
+) -> Result<Verdict, Refusal>
+    requires limit { 0 < bench.limit }
+    requires first { F.count first.old < 2 ^ 64 - 1 }
+    requires again { A.count again.old < 2 ^ 64 - 1 }
+    requires reader { R.count content.old < 2 ^ 64 - 1 }
+    requires writer { W.count out.old < 2 ^ 64 - 1 }
+    ensures played { IfOk result (PlaysStreams inputs.now bench (F.ahead first.old) (F.ahead first.new)
+        (A.ahead again.old) (A.ahead again.new) len (R.ahead content.old) (R.ahead content.new) (W.held out.old) (W.held out.new)) }
+    ensures refused { IfErr result (RefusesStreams inputs.now bench (F.ahead first.old) (F.ahead first.new)
+        (A.ahead again.old) (A.ahead again.new) len (R.ahead content.old) (R.ahead content.new) (W.held out.old) (W.held out.new)
+        ((again.new ≡ again.old) × (content.new ≡ content.old))) }
+    ensures unread { IfErr result (λ why. IsOfChip why
+        → (first.new ≡ first.old) × (again.new ≡ again.old) × (content.new ≡ content.old)) }
+    ensures once { IfErr result (λ why. IsOfContent why → again.new ≡ again.old) }
+    ensures unwritten { IfErr result (λ why. why ≢ Build Write → out.new ≡ out.old) }
+    ensures within { ReadsWithin len (R.ahead content.old) (R.ahead content.new) }
+    ensures scripts { CountsScript (F.count first.old) (F.count first.new) (A.count again.old) (A.count again.new) result }
+    ensures reads { CountsReader (R.count content.old) (R.count content.new) result }
+    ensures writes { CountsWriter (W.count out.old) (W.count out.new) result }
+{
+    let kind = kind_of(inputs, bench.page, len)?;
+    check_script(alloc, first)?;
+    let array = read_content(alloc, content, kind.meaning.size)?;
+    play_on(alloc, &kind, bench, again, array, out)
+}
+
+/// Reads a script for its fault. `File` of `Script` where its device failed.
+fn check_script<F: ByteIn>(alloc: Global, script: &mut F) -> Result<(), Refusal>
+    requires { F.count script.old < 2 ^ 64 - 1 }
+    ensures text { IfOk result (λ _. HasText (F.ahead script.old) (F.ahead script.new) IsSomeScript) }
+    ensures refused { IfErr result (RefusesScript (F.ahead script.old) (F.ahead script.new)) }
+    ensures count { CountsOne (F.count script.old) (F.count script.new) result }
+{
+    match look_through(alloc, script) {
+        Ok(()) => Ok(()),
+        Err(fault) => Err(refusal_of(fault)),
+    }
+}
+
+/// Plays the steps of a script on a chip that holds these bytes, and writes what it holds after them.
+fn play_on<A: ByteIn, W: ByteOut>(
+    alloc: Global,
+    kind: &Kind,
+    bench: Bench,
+    script: &mut A,
+    array: Vec<u8>,
+    out: &mut W,
+) -> Result<Verdict, Refusal>
+    requires limit { 0 < bench.limit }
+    requires size { length array.items ≡ kind.now.meaning.size }
+    requires mode { IsPossible kind.now.meaning kind.now.start }
+    requires page { may_page kind.now.meaning kind.now.page ≡ true }
+    requires script { A.count script.old < 2 ^ 64 - 1 }
+    requires writer { W.count out.old < 2 ^ 64 - 1 }
+    ensures played { IfOk result (λ verdict. (chip : ShownChip)
+        × HasText (A.ahead script.old) (A.ahead script.new)
+        (PlaysText (kind_setting kind.now bench) (ready_chip (kind_setting kind.now bench) array.items).chip bench.limit verdict chip)
+        × Appends (W.held out.old) (W.held out.new) chip.array) }
+    ensures stopped { IfErr result (StopsText (A.ahead script.old) (A.ahead script.new)
+        (kind_setting kind.now bench) (ready_chip (kind_setting kind.now bench) array.items).chip bench.limit (W.held out.old) (W.held out.new)) }
+    ensures unwritten { IfErr result (λ why. why ≢ Build Write → out.new ≡ out.old) }
+    ensures scripts { CountsOne (A.count script.old) (A.count script.new) result }
+    ensures count { CountsWriter (W.count out.old) (W.count out.new) result }
+{
+    let mut chip = Chip::with_page(
+        &kind.meaning,
+        kind.start,
+        array,
+        bench.busy,
+        bench.keep,
+        kind.page,
+    );
+    let verdict = match play_text(alloc, script, &mut chip, bench.limit) {
+        Ok(verdict) => verdict,
+        Err(fault) => return Err(refusal_of(fault)),
+    };
+    match put_all(out, chip.content()) {
+        Ok(()) => Ok(verdict),
+        Err(_) => Err(Refusal::WRITE),
+    }
+}
+
+/// What a fault of a reading is told as.
+fn refusal_of(fault: ReadFault) -> Refusal
+    ensures { result ≡ told_of fault }
+{
+    match fault {
+        ReadFault::Script(fault) => Refusal::from(fault),
+        ReadFault::Device(_) => Refusal::File(FileName::Script),
+    }
+}
