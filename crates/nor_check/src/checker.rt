@@ -45,7 +45,8 @@ impl<'a> Model for StepChecker<'a> {
 
 impl<'a> StepChecker<'a> {
     /// A checker before the first step: of the scripts on ready chips of a meaning and a start that hold `have` and, at the
-    /// end, are to hold `want`. Both go as for [`check`]. It asks for no memory: `have` becomes its array.
+    /// end, are to hold `want`. Both go as for [`check`], and what it says of steps to come is what that says. It asks for no
+    /// memory: `have` becomes its array.
     pub fn new(
         alloc: Global,
         meaning: &'a Meaning,
@@ -57,8 +58,10 @@ impl<'a> StepChecker<'a> {
         requires want { length want.now ≡ meaning.now.size }
         requires mode { IsPossible meaning.now start }
         ensures worst { (steps : List Step) → IsWorst meaning.now start have.items want.now steps (to_come result steps) }
+        ensures yes { (steps : List Step) → (to_come result steps ≡ Yes) ↔ DoesTaskOnEvery meaning.now start have.items want.now steps }
         ensures number { result.number ≡ 0 }
     {
+        effects();
         polls();
         verifying_reads();
         StepChecker {
@@ -187,8 +190,6 @@ pub fn check(
     ensures worst { IfOk result (λ verdict. IsWorst meaning.now start.now have.now want.now steps.now verdict) }
     ensures yes { IfOk result (λ verdict. (verdict ≡ Yes) ↔ DoesTaskOnEvery meaning.now start.now have.now want.now steps.now) }
 {
-    effects();
-    polls();
     let array = Vec::from_slice(alloc, have)?;
     let mut checker = StepChecker::new(alloc, meaning, *start, array, want);
     for step in steps {

@@ -7,3 +7,4 @@ mod TileLemmas
 pub mod PlanLemmas
 mod LaneLemmas
 mod ChunkLemmas
+mod QuietLemmas

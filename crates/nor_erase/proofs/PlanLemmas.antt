@@ -14,7 +14,6 @@ use Rattle.nor_base.specs.Need.{differs, is_due, is_needed, is_beyond, is_unreac
 use Rattle.nor_base.specs.Units.{pages, units_of}
 use Rattle.nor_base.proofs.RegionLaws.{legal_on_chip}
 use Rattle.nor_geometry.specs.Legal.{IsReachedAt, IsSmallestAt}
-use Rattle.nor_geometry.specs.Window.{IsWindowSize}
 use Rattle.nor_geometry.proofs.KindLemmas.{placed}
 use Rattle.nor_geometry.proofs.WindowLemmas.{divides, multiple_of, steps, window_power, blocks_uncrossed}
 use Rattle.nor_geometry.specs.declared.unit.PlanUnit.{PlanUnit}

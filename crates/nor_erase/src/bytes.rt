@@ -6,7 +6,7 @@ ghost use Rattle.nor_base.specs.Effect.{may_program};
 ghost use Rattle.nor_base.specs.Need.{is_due};
 ghost use Rattle.nor_erase.specs.Bytes.{any_pair, raises_bit, is_kept, is_due_over, IsFirstDue, NoneDue};
 
-use crate::lanes::{dirty_lanes, rises_lanes};
+use crate::lanes::{dirty_lanes, is_due_lanes, rises_lanes};
 use nor_base::Meaning;
 use std::simd::prelude::*;
 
@@ -96,12 +96,35 @@ pub(crate) fn next_due(
     ensures { MatchOption result (NoneDue meaning.now have.now want.now at from) (IsFirstDue meaning.now have.now want.now at from) }
 {
     meaning.is_accepted();
-    for i in (from - at) as usize..have.len() {
+    let quiet = skip_quiet(meaning, have, want, (from - at) as usize);
+    for i in quiet..have.len() {
         if is_due(meaning, have[i], want[i]) {
             return Some(at + i as u32);
         }
     }
     None
+}
+
+/// A place from `start` on before which, from there on, no byte is due: the first 32 bytes that hold one begin there, or
+/// fewer bytes are left.
+fn skip_quiet(meaning: &Meaning, have: &[u8], want: &[u8], start: usize) -> usize
+    requires { length have.now ≡ length want.now }
+    ensures low { start ≤ result }
+    ensures high { start ≤ length have.now → result ≤ length have.now }
+    ensures quiet { (k : ℕ) → start ≤ k → k < result → is_due meaning.now have.now want.now k ≡ false }
+{
+    let mut i = start;
+    while i < have.len() && have.len() - i >= 32 {
+        if is_due_lanes(
+            meaning,
+            u8x32::from_slice(&have[i..]),
+            u8x32::from_slice(&want[i..]),
+        ) {
+            return i;
+        }
+        i += 32;
+    }
+    i
 }
 
 /// Whether a byte has to change and no program may do it.

@@ -7,3 +7,4 @@ pub mod View
 pub mod Stream
 pub mod Lines
 pub mod LineParts
+pub mod Laws

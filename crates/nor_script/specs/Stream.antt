@@ -135,3 +135,24 @@ abbrev pub TellsScript : Ahead → Ahead → Result ℕ ReadFault → Type 0
 TellsScript before after (Ok number) = OfText before (λ text. IsScriptOf text number) × IsAtEnd after
 TellsScript before after (Err (Script fault)) = OfText before (λ text. Refuses text fault)
 TellsScript before after (Err (Device failed)) = ⊤
+
+-- a text that a device had ahead: all of it, where it tells it and it ends; of one that never ends what it gave; of one that tells
+-- nothing, some text
+abbrev pub IsTextOf : Ahead → Ahead → List ℕ → Type 0
+IsTextOf Unknown after text = ⊤
+IsTextOf (Finite bytes) after text = text ≡ bytes
+IsTextOf (Endless byte_at) after text = Gives (Endless byte_at) text after
+
+-- this is so of a text that a device had ahead
+abbrev pub HadText : Ahead → Ahead → (List ℕ → Type 0) → Type 0
+HadText before after Is = (text : List ℕ) × IsTextOf before after text × Is text
+
+-- a text is the script of some steps
+pub record IsSpelled (text : List ℕ) : Type 0 where
+  pub steps : List Step
+  pub script : IsScript text steps
+
+-- why a reading doesn't go through: the first fault of the text, if memory wasn't refused; or the device failed (its count tells it)
+abbrev pub StopsReader : Ahead → Ahead → ReadFault → Type 0
+StopsReader before after (Script why) = HadText before after (λ text. Refuses text why)
+StopsReader before after (Device failed) = ⊤

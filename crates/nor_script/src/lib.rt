@@ -9,17 +9,21 @@
 
 mod fault;
 mod hexadecimal;
+mod laws;
 mod line;
 mod lines;
 mod owned;
 mod reader;
 mod steps;
+mod text;
 mod view;
 mod writer;
 
 pub use fault::{ReadFault, ScriptFault};
 pub use hexadecimal::{hex_number, hex_pair, put_hexadecimal};
+pub use laws::faultless_scripts;
 pub use reader::{first_line, read, read_until_fault};
 pub use steps::{StepReader, count_steps};
+pub use text::TextIn;
 pub use view::StepView;
 pub use writer::{begin, finish, write_poll, write_send, write_step, write_verify};

@@ -6,6 +6,7 @@ ghost use Rattle.nor_script.specs.Parts.{TellsFault, SpellsBytes};
 ghost use Rattle.nor_script.specs.declared.fault.ScriptFault.TheVariants.{Memory};
 
 use crate::fault::ScriptFault;
+use crate::hexadecimal::decode;
 use crate::line::{Kind, parts_on};
 use nor_base::{Bytes, Step};
 use std::alloc::Global;
@@ -31,10 +32,8 @@ fn bytes_in(alloc: Global, digits: &[u8]) -> Result<Bytes, ScriptFault>
     ensures read { IfOk result (SpellsBytes digits.now) }
     ensures refused { IfErr result (λ fault. fault ≡ Memory) }
 {
-    // digits that are pairs are refused for want of memory alone
-    let Ok(bytes) = hex::decode(alloc, digits) else {
-        return Err(ScriptFault::Memory);
-    };
+    let mut bytes = Vec::new(alloc);
+    decode(digits, &mut bytes)?;
     Ok(Bytes::new(bytes))
 }
 

@@ -5,10 +5,11 @@ ghost use Rattle.nor_script.specs.Line.{are_pairs};
 ghost use Rattle.nor_script.specs.Parts.{SpellsBytes};
 ghost use Rattle.nor_script.specs.View.{step_of};
 ghost use Rattle.nor_script.specs.Lines.{IsFirstLine, ReadsEnd};
-ghost use Rattle.nor_script.specs.Stream.{reading, Advances, Begins, CountsRead, CountsStep, TellsScript};
+ghost use Rattle.nor_script.specs.Stream.{reading, Advances, Begins, CountsRead, CountsStep, HadText, IsScriptOf, StopsReader, TellsScript};
 ghost use Rattle.nor_script.specs.declared.fault.ScriptFault.TheVariants.{Memory};
 
 use crate::fault::{ReadFault, ScriptFault};
+use crate::hexadecimal::decode;
 use crate::line::{Kind, check_count, parts_on};
 use crate::lines::LineBuffer;
 use crate::view::StepView;
@@ -133,13 +134,16 @@ impl StepReader {
     }
 }
 
-/// Whether all that a device has ahead is a script: the number of its steps.
+/// Whether all that a device has ahead is a script: the number of its steps. Of a device that doesn't tell its bytes this is said
+/// of some text.
 ///
 /// Else its first fault, as [`crate::read`] tells it; `Device` where the device failed; `Memory` where a growth is refused, or
 /// the script has more than 2^62 steps.
 pub fn count_steps<R: ByteIn>(alloc: Global, source: &mut R) -> Result<u64, ReadFault>
     requires { R.count source.old < 2 ^ 64 - 1 }
     ensures text { TellsScript (R.ahead source.old) (R.ahead source.new) result }
+    ensures read { IfOk result (λ count. HadText (R.ahead source.old) (R.ahead source.new) (λ text. IsScriptOf text count)) }
+    ensures stopped { IfErr result (StopsReader (R.ahead source.old) (R.ahead source.new)) }
     ensures count { CountsRead (R.count source.old) (R.count source.new) result }
 {
     let mut reader = StepReader::begin(alloc, source)?;
@@ -164,24 +168,4 @@ fn read_end<R: ByteIn>(
     }
     lines.read_held();
     Ok(false)
-}
-
-/// The bytes that pairs of digits spell, in a buffer that is used again; `Memory` where a growth is refused.
-fn decode(digits: &[u8], bytes: &mut Vec<u8>) -> Result<(), ScriptFault>
-    requires { are_pairs digits.now ≡ true }
-    ensures read { OnOk result (SpellsBytes digits.now bytes.new.items) }
-    ensures refused { IfErr result (λ fault. fault ≡ Memory) }
-{
-    bytes.resize(digits.len() / 2, 0)?;
-    decode_into(digits, bytes.as_mut_slice());
-    Ok(())
-}
-
-/// Puts the bytes that pairs of digits spell.
-fn decode_into(digits: &[u8], bytes: &mut [u8])
-    requires pairs { are_pairs digits.now ≡ true }
-    requires room { length bytes.old ≡ length digits.now / 2 }
-    ensures { SpellsBytes digits.now bytes.new }
-{
-    let _ = hex::decode_to_slice(digits, bytes);
 }

@@ -17,12 +17,11 @@ use Rattle.nor_job.specs.Task.{Task}
 use Rattle.nor_job.specs.Wanted.{wanted}
 use Rattle.nor_job.proofs.TargetLemmas.{length-target, target_is}
 use Rattle.nor_check.specs.Fed.{Fed, to_come}
-use Rattle.nor_laws.specs.Laws.{KeepsSize, PollEnds}
+use Rattle.nor_script.specs.Stream.{HadText, IsSpelled}
 use Rattle.norprog_check.specs.Checked.{IsChecked, AreTaken}
 use Rattle.norprog_check.specs.Content.{IsRead}
-use Rattle.norprog_check.specs.Readings.{HadText, IsSpelled, IsVerdictOf}
+use Rattle.norprog_check.specs.Readings.{IsVerdictOf}
 use Rattle.norprog_check.specs.Streams.{ChecksText}
-use Rattle.norprog_check.proofs.EndsLemmas.{yes_exactly}
 
 pub is_possible : (t : Task) (len : ℕ) (job : Job) → IsJob t len job → IsPossible job.meaning job.start
 is_possible t len job is = subst (λ (s : Start). IsPossible job.meaning s) (sym is.start) is.accepted.possible
@@ -62,18 +61,15 @@ checked_is t len text job before after have want steps verdict is script read ju
     }
 
 -- the verdict of a checker of that content, which was fed with the steps of a text
-pub text_checked : (t : Task) (len : ℕ) (job : Job) (first over again rest before after : Ahead) (have want : List ℕ) (fed : Fed) (verdict : Verdict) → KeepsSize → PollEnds
+pub text_checked : (t : Task) (len : ℕ) (job : Job) (first over again rest before after : Ahead) (have want : List ℕ) (fed : Fed) (verdict : Verdict)
     → IsJob t len job → HadText first over IsSpelled → IsRead job before after have want
-    → ((steps : List Step) → IsWorst job.meaning job.start have want steps (to_come fed steps)) → HadText again rest (IsVerdictOf fed verdict)
+    → ((steps : List Step) → IsJudged job have want steps (to_come fed steps)) → HadText again rest (IsVerdictOf fed verdict)
     → ChecksText t len first over again rest before after verdict
-text_checked t len job first over again rest before after have want fed verdict keeps ends is readable read worst tells =
-    let told = tells.2 in
-    let it : IsWorst job.meaning job.start have want told.steps verdict = subst (IsWorst job.meaning job.start have want told.steps) (sym told.told) (worst told.steps) in
-    let sizes : length have ≡ length want = read.whole ∙ sym (goal_size job before after have want read) in
-    record {
+text_checked t len job first over again rest before after have want fed verdict is readable read judges tells =
+    let told = tells.2 in record {
       readable = readable;
       text = tells.0;
       of = tells.1;
       checked = checked_is t len tells.0 job before after have want told.steps verdict is told.script read
-          (it, yes_exactly job.meaning job.start have want told.steps verdict keeps ends sizes it);
+          (subst (IsJudged job have want told.steps) (sym told.told) (judges told.steps));
     }

@@ -6,12 +6,12 @@ use Rattle.nor_job.specs.declared.fault.BuildFault.TheVariants as fault
 use Rattle.nor_job.specs.Causes.{RefusesInputs}
 use Rattle.nor_job.specs.Task.{Task}
 use Rattle.nor_script.specs.Faults.{IsFault}
+use Rattle.nor_script.specs.Stream.{IsTextOf, HadText, IsSpelled}
 use Rattle.norprog_check.specs.declared.fault.CheckStop.TheVariants.{Build, Script}
 use Rattle.norprog_check.specs.declared.fault.StreamStop.{StreamStop}
 use Rattle.norprog_check.specs.declared.fault.StreamStop.TheVariants as stop
 use Rattle.norprog_check.specs.Checked.{AreTaken, IsChecked, IsLate, IsOfContent, failures_of}
 use Rattle.norprog_check.specs.Content.{StopsRead}
-use Rattle.norprog_check.specs.Readings.{IsTextOf, HadText, IsSpelled}
 
 -- a text that the first device had ahead is a script; and of a text that the second had ahead this is the verdict
 pub record ChecksText (t : Task) (len : ℕ) (first over again rest before after : Ahead) (verdict : Verdict) : Type 0 where

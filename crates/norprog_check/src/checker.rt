@@ -11,12 +11,11 @@ ghost use Rattle.nor_job.specs.Wanted.{ReadsWithin};
 ghost use Rattle.norprog_check.specs.Checked.{IsChecked, RefusesTexts, StopsCheck, IsLate, IsOfContent, CountsReader};
 
 use crate::fault::{CheckStop, StreamStop};
-use crate::laws::faultless_scripts;
 use crate::streams::check_streams;
-use crate::text::TextIn;
 use nor_base::ByteIn;
 use nor_check::Verdict;
 use nor_job::Inputs;
+use nor_script::{TextIn, faultless_scripts};
 use std::alloc::Global;
 
 /// Whether the text of a script, from anybody, does the job of the inputs on every chip that they describe and that holds

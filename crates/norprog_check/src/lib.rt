@@ -7,15 +7,12 @@
 mod checker;
 mod content;
 mod fault;
-mod laws;
 mod line;
 mod readings;
 mod streams;
-mod text;
 
 pub use checker::check_script;
 pub use fault::{CheckStop, StreamStop};
-pub use laws::faultless_scripts;
 pub use line::write_verdict;
 pub use nor_base::{ByteIn, ByteOut, Failed, Wrong};
 pub use nor_check::{Verdict, Why};

@@ -1,32 +1,18 @@
-//! The two readings of a script: for its faults, and for its steps, with which a checker is fed as they come.
+//! The reading of a script for its steps, with which a checker is fed as they come.
 
 ghost use Rattle.std.specs.Prelude.{◌≡◌, ◌<◌, ◌+◌, ◌-◌, ◌^◌, ◌∷◌, List, IfOk, IfErr};
 ghost use Rattle.nor_base.specs.declared.step.Step.{Step};
 ghost use Rattle.nor_check.specs.Fed.{to_come};
-ghost use Rattle.nor_script.specs.Stream.{CountsRead};
+ghost use Rattle.nor_script.specs.Stream.{CountsRead, HadText, StopsReader};
 ghost use Rattle.nor_script.specs.View.{step_of};
 ghost use Rattle.nor_script.specs.declared.fault.ReadFault.TheVariants.{Script};
 ghost use Rattle.nor_script.specs.declared.fault.ScriptFault.TheVariants.{Memory};
-ghost use Rattle.norprog_check.specs.Readings.{HadText, IsSpelled, IsVerdictOf, StopsReader};
+ghost use Rattle.norprog_check.specs.Readings.{IsVerdictOf};
 
 use nor_base::ByteIn;
 use nor_check::{CheckFault, StepChecker, Verdict};
 use nor_script::{ReadFault, ScriptFault, StepReader, StepView};
 use std::alloc::Global;
-
-/// Reads a script for its faults.
-///
-/// A fault of the text, or of its device, is told as [`StepReader::advance`] tells it.
-pub(crate) fn read_through<F: ByteIn>(alloc: Global, script: &mut F) -> Result<(), ReadFault>
-    requires { F.count script.old < 2 ^ 64 - 1 }
-    ensures read { IfOk result (λ _. HadText (F.ahead script.old) (F.ahead script.new) IsSpelled) }
-    ensures stopped { IfErr result (StopsReader (F.ahead script.old) (F.ahead script.new)) }
-    ensures count { CountsRead (F.count script.old) (F.count script.new) result }
-{
-    let mut reader = StepReader::begin(alloc, script)?;
-    while reader.advance(script)? {}
-    Ok(())
-}
 
 /// The verdict of a checker that is fed with the steps of a script, each as it comes.
 ///

@@ -7,18 +7,17 @@ ghost use Rattle.nor_hex.specs.Image.{Pairs};
 ghost use Rattle.nor_job.specs.Causes.{AreAccepted};
 ghost use Rattle.nor_job.specs.Wanted.{ReadsWithin};
 ghost use Rattle.nor_layout.specs.Region.{Region};
-ghost use Rattle.norprog_check.specs.Readings.{HadText, IsSpelled, IsVerdictOf, first_stop as told_first, again_stop as told_again};
+ghost use Rattle.nor_script.specs.Stream.{HadText, IsSpelled};
+ghost use Rattle.norprog_check.specs.Readings.{IsVerdictOf, first_stop as told_first, again_stop as told_again};
 ghost use Rattle.norprog_check.specs.Streams.{ChecksText, ReadingCause, FeedingCause, RefusesTask, StopsReading, StopsAtContent, StopsFeeding, IsLateStop, IsOfDevices, CountsStop, of_first, of_again, of_content};
 
 use crate::content::read_content;
 use crate::fault::{CheckStop, StreamStop};
-use crate::laws::faultless_scripts;
-use crate::readings::{feed_script, read_through};
+use crate::readings::feed_script;
 use nor_base::ByteIn;
 use nor_check::{StepChecker, Verdict};
 use nor_job::{Inputs, job_of};
-use nor_laws::{effects, polls};
-use nor_script::ReadFault;
+use nor_script::{ReadFault, count_steps, faultless_scripts};
 use std::alloc::Global;
 
 /// Whether the text of a script, from anybody, does the job of the inputs on every chip that they describe and that holds what
@@ -66,8 +65,6 @@ pub fn check_streams<F: ByteIn, A: ByteIn, R: ByteIn>(
 {
     let job = job_of(alloc, inputs, len)?;
     faultless_scripts();
-    effects();
-    polls();
     read_first(alloc, first)?;
     let (have, want) = read_content(alloc, &job, content)?;
     let checker = StepChecker::new(alloc, &job.meaning, job.start, have, want.as_slice());
@@ -84,8 +81,8 @@ fn read_first<F: ByteIn>(alloc: Global, first: &mut F) -> Result<(), StreamStop>
     ensures stopped { IfErr result (ReadingCause (F.ahead first.old) (F.ahead first.new)) }
     ensures count { CountsStop of_first (F.count first.old) (F.count first.new) result }
 {
-    match read_through(alloc, first) {
-        Ok(()) => Ok(()),
+    match count_steps(alloc, first) {
+        Ok(_) => Ok(()),
         Err(fault) => Err(first_stop(fault)),
     }
 }

@@ -15,9 +15,9 @@ use Rattle.norprog_list.specs.declared.steps.Stop.{Stop}
 use Rattle.norprog_list.specs.declared.steps.Stop.TheVariants as stop
 use Rattle.norprog_list.specs.Stop.{Lists, refusal_of}
 use Rattle.norprog_list.specs.Answer.{CutsListing}
-use Rattle.norprog_list.proofs.TextLemmas.{any_text}
 use Rattle.nor_script.specs.Stream.{reading}
 use Rattle.nor_script.proofs.StreamLaws.{reads_none}
+use Rattle.nor_script.proofs.TextLaws.{any_text}
 use Rattle.std.specs.Prelude.{IsErrAnd}
 use Rattle.norprog_list.specs.Listed.{IsKnown, RefusesChipOf, RefusesListing, ListsText, RefusesText}
 
@@ -105,5 +105,5 @@ module _ (t : Task) (same : Option (List ℕ)) where
       → IfErr r (RefusesText t ahead ahead same same)
   no_chip ahead (Ok x) why is h = tt
   no_chip ahead (Err e) why is h =
-      let any = any_text ahead ahead [] (reads_none (reading ahead [])) in
+      let any = any_text ahead (reading ahead []) [] (reads_none (reading ahead [])) in
       subst (RefusesText t ahead ahead same same) (sym is) (any.0, any.1, chip_refused any.0 why h)

@@ -17,10 +17,11 @@ use Rattle.nor_script.specs.declared.fault.ReadFault.TheVariants as read
 use Rattle.nor_script.specs.Faults.{Refuses, AreAbove}
 use Rattle.nor_script.specs.Stream.{Reading, reading, Reads, HasRead, Advances, Begins}
 use Rattle.nor_script.proofs.StreamLaws.{reads_none, has_still, has_more}
+use Rattle.nor_script.proofs.TextLaws.{begins_with, refused_text, refused_header, any_text, script_of}
 use Rattle.norprog_list.specs.declared.steps.Stop.{Stop}
 use Rattle.norprog_list.specs.declared.steps.Stop.TheVariants.{Script, Out}
 use Rattle.norprog_list.specs.Stop.{AreFirst, PutsLine, ListsOf, Lists}
-use Rattle.norprog_list.proofs.TextLemmas.{first_of, first_less, refused_text, refused_header, any_text, script_of}
+use Rattle.norprog_list.proofs.TextLemmas.{first_less}
 
 -- the address mode after some steps
 abbrev pub mode_upto : Parameters → Bool → List Step → Bool
@@ -81,7 +82,7 @@ module _ (m : Parameters) (first : Bool) (before : Ahead) where
   -- the first line is cut
   pub lists_none : (a w : Option (List ℕ)) (failed : Failed) → Cuts a w (chip_line m first) → Lists m first before before a w (Err (Out failed))
   lists_none a w failed cut =
-      let any = any_text before before [] (reads_none (reading before [])) in (
+      let any = any_text before (reading before []) [] (reads_none (reading before [])) in (
         any.0,
         any.1,
         record {
@@ -112,10 +113,10 @@ module _ (m : Parameters) (first : Bool) (before : Ahead) where
   pub lists_header : (after : Ahead) (a w : Option (List ℕ)) (fault : ReadFault) → Begins before after (Err fault) → Appends a w (chip_line m first)
       → Lists m first before after a w (Err (Script fault))
   lists_header after a w (read.Device failed) p put =
-      let any = any_text before after p.0 p.1 in
+      let any = any_text before (reading after p.0) [] p.1 in
       (any.0, any.1, record { bytes = unended_listing m first []; are = record { steps = []; are = inl refl; lines = refl }; put = subst (Appends a w) (unended_none m first) put })
   lists_header after a w (read.Script Memory) p put =
-      let any = any_text before after p.0 p.1 in
+      let any = any_text before (reading after p.0) [] p.1 in
       (any.0, any.1, record { bytes = unended_listing m first []; are = record { steps = []; are = inl refl; lines = refl }; put = subst (Appends a w) (unended_none m first) put })
   lists_header after a w (read.Script (Header n)) p put =
       let refused = refused_header before after p.0 n p.1 p.2 in
@@ -130,25 +131,25 @@ module _ (m : Parameters) (first : Bool) (before : Ahead) where
   pub lists_fault : (b c : Reading) (above : List Step) (steps : ℕ) (step : Step) (a w : Option (List ℕ)) (fault : ReadFault) → HasRead (reading before []) b above
       → steps ≡ length above → Advances b c steps step (Err fault) → Appends a w (unended_listing m first above) → Lists m first before c.ahead a w (Err (Script fault))
   lists_fault b c above steps step a w (read.Device failed) p number q put =
-      let of = first_of before c above (has_still (reading before []) b c above p q) in
-      (of.0, of.1, record { bytes = unended_listing m first above; are = record { steps = above; are = of.2; lines = refl }; put = put })
+      let of = begins_with before c above (has_still (reading before []) b c above p q) in
+      (of.0, of.1, record { bytes = unended_listing m first above; are = record { steps = above; are = inr of.2; lines = refl }; put = put })
   lists_fault b c above steps step a w (read.Script fault) p number q put =
       let of = refused_text before b c above steps step fault p number q in
-      (of.0, of.1, faulted of.0 above fault a w of.2 of.3 of.4 put)
+      (of.0, of.1, faulted of.0 above fault a w of.2.0.0 of.2.0.1 (inr of.2.1) put)
 
   -- no memory for a step
   pub lists_memory : (c : Reading) (above : List Step) (step : Step) (a w : Option (List ℕ)) → HasRead (reading before []) c (above ++ step ∷ [])
       → Appends a w (unended_listing m first above) → Lists m first before c.ahead a w (Err (Script (read.Script Memory)))
   lists_memory c above step a w p put =
-      let of = first_of before c (above ++ step ∷ []) p in
-      (of.0, of.1, record { bytes = unended_listing m first above; are = record { steps = above; are = first_less of.0 above step of.2; lines = refl }; put = put })
+      let of = begins_with before c (above ++ step ∷ []) p in
+      (of.0, of.1, record { bytes = unended_listing m first above; are = record { steps = above; are = first_less of.0 above step (inr of.2); lines = refl }; put = put })
 
   -- a step's line is cut
   pub lists_cut : (c : Reading) (above : List Step) (a w : Option (List ℕ)) (failed : Failed) → HasRead (reading before []) c above → Cuts a w (unended_listing m first above)
       → Lists m first before c.ahead a w (Err (Out failed))
   lists_cut c above a w failed p put =
-      let of = first_of before c above p in
-      (of.0, of.1, record { bytes = unended_listing m first above; are = inr (record { steps = above; are = of.2; lines = refl }); put = put })
+      let of = begins_with before c above p in
+      (of.0, of.1, record { bytes = unended_listing m first above; are = inr (record { steps = above; are = inr of.2; lines = refl }); put = put })
 
   -- the end
   pub lists_all : (b c : Reading) (above : List Step) (steps number : ℕ) (step : Step) (a w v : Option (List ℕ)) → HasRead (reading before []) b above

@@ -1,13 +1,14 @@
 -- What the call that lists a script's steps as they come does (this project's).
-use Rattle.std.specs.Prelude.{◌≡◌, ◌⊎◌, ⊤, ℕ, ◌+◌, Bool, List, [], Option, Result, Ok, Err}
+use Rattle.std.specs.Prelude.{◌≡◌, ◌⊎◌, ℕ, ◌+◌, Bool, List, [], Option, Result, Ok, Err}
 use Rattle.std.specs.Io.KnownBytes.{Appends}
-use Rattle.nor_base.specs.Device.{Ahead, Unknown, Finite, Endless, Gives, Cuts}
+use Rattle.nor_base.specs.Device.{Ahead, Cuts}
 use Rattle.nor_base.specs.Parameters.{Parameters}
 use Rattle.nor_base.specs.Script.{IsScript}
 use Rattle.nor_base.specs.declared.step.Step.{Step}
 use Rattle.nor_job.specs.declared.fault.BuildFault.TheVariants as build
 use Rattle.nor_listing.specs.Listing.{unended_listing, listing}
 use Rattle.nor_script.specs.Faults.{IsFault, AreAbove, BeginsRight}
+use Rattle.nor_script.specs.Stream.{HadText}
 use Rattle.nor_script.specs.declared.fault.ReadFault.TheVariants as read
 use Rattle.nor_script.specs.declared.fault.ScriptFault.{ScriptFault}
 use Rattle.nor_script.specs.declared.fault.ScriptFault.TheVariants as script
@@ -16,13 +17,6 @@ use Rattle.norprog_words.specs.declared.faults.Refusal.{Refusal}
 use Rattle.norprog_words.specs.declared.faults.Refusal.TheVariants.{File, Build, Script}
 use Rattle.norprog_list.specs.declared.steps.Stop.{Stop}
 use Rattle.norprog_list.specs.declared.steps.Stop.TheVariants as stop
-
--- a text that a device had ahead: all of it, where it tells it and it ends; of one that never ends what it gave; of one that tells
--- nothing, some text
-abbrev pub IsTextOf : Ahead → Ahead → List ℕ → Type 0
-IsTextOf Unknown after text = ⊤
-IsTextOf (Finite bytes) after text = text ≡ bytes
-IsTextOf (Endless byte_at) after text = Gives (Endless byte_at) text after
 
 -- the first steps of a text: none, or those whose lines stand behind its header, from the first on
 abbrev pub AreFirst : List ℕ → List Step → Type 0
@@ -72,7 +66,7 @@ ListsOf m first text before after (Err (stop.Script (read.Script script.Memory))
 ListsOf m first text before after (Err (stop.Script (read.Script why))) = PutsSome (AreAboveFault m first text why) before after
 
 abbrev pub Lists : Parameters → Bool → Ahead → Ahead → Option (List ℕ) → Option (List ℕ) → Result (Unit {0}) Stop → Type 0
-Lists m first ahead rest before after result = (text : List ℕ) × IsTextOf ahead rest text × ListsOf m first text before after result
+Lists m first ahead rest before after result = HadText ahead rest (λ text. ListsOf m first text before after result)
 
 -- a line was appended; or a proper prefix of it, or nothing where memory was refused
 abbrev pub PutsLine : {T : Type 0} → Option (List ℕ) → Option (List ℕ) → Result T Stop → List ℕ → Type 0

@@ -1,6 +1,6 @@
 -- How a play of the steps that came stands, and what was read of the text.
 use Rattle.std.proofs.Common.{◌≡◌, ℕ, true, false, Bool, List, [], ◌∷◌, ◌++◌, length, Option, Some, None, Result, Ok, Err, sym, ◌∙◌, ap, subst, append_assoc, append-nil}
-use Rattle.std.specs.Prelude.{IsErrAnd, IfErr, is_some, not}
+use Rattle.std.specs.Prelude.{is_some, not}
 use Rattle.nor_base.specs.declared.step.Step.{Step}
 use Rattle.nor_base.specs.Device.{Ahead}
 use Rattle.nor_base.specs.Port.{Shown}
@@ -9,43 +9,13 @@ use Rattle.nor_play.specs.declared.fault.PlayFault.TheVariants as fault
 use Rattle.nor_play.specs.Fed.{Player, past, ending}
 use Rattle.nor_play.specs.Play.{Plays}
 use Rattle.nor_play.proofs.FedLaws.{IsFed, fed_more, fed_halts, fed_ends}
-use Rattle.nor_script.specs.declared.fault.ScriptFault.TheVariants.{Header, BadLine, BadSymbol, BadCount, NoEnd, AfterEnd, Memory}
-use Rattle.nor_script.specs.declared.fault.ReadFault.{ReadFault}
-use Rattle.nor_script.specs.declared.fault.ReadFault.TheVariants as read
-use Rattle.nor_script.specs.Stream.{Reading, reading, HasRead, Advances, Begins}
+use Rattle.nor_script.specs.Stream.{Reading, reading, HasRead, Advances, HadText}
+use Rattle.nor_script.proofs.TextLaws.{script_of}
 use Rattle.norprog_run.specs.declared.verdict.Verdict.{Verdict}
 use Rattle.norprog_run.specs.declared.verdict.Verdict.TheVariants.{Done, Wrong}
 use Rattle.norprog_run.specs.Play.{EndsSo}
 use Rattle.norprog_run.specs.Steps.{Steps, Ends}
-use Rattle.norprog_run.specs.Streams.{HasText, IsSomeScript, PlaysText, RefusesText}
-use Rattle.norprog_run.proofs.TextLemmas.{refused_text, refused_header, any_text, script_of}
-
--- what stopped a reading
-
-pub refused_first : (before after : Ahead) (fault : ReadFault) → Begins before after (Err fault) → RefusesText before after fault
-refused_first before after (read.Device failed) p = tt
-refused_first before after (read.Script Memory) p = let any = any_text before (reading after p.0) [] p.1 in (any.0, any.1, tt)
-refused_first before after (read.Script (Header n)) p = refused_header before after p.0 n p.1 p.2
-refused_first before after (read.Script (BadLine n)) p = absurd p.2
-refused_first before after (read.Script (BadSymbol n)) p = absurd p.2
-refused_first before after (read.Script (BadCount n)) p = absurd p.2
-refused_first before after (read.Script (NoEnd n)) p = absurd p.2
-refused_first before after (read.Script (AfterEnd n)) p = absurd p.2
-
-pub refused_next : (before : Ahead) (b c : Reading) (above : List Step) (steps : ℕ) (step : Step) (fault : ReadFault) → HasRead (reading before []) b above → steps ≡ length above
-    → Advances b c steps step (Err fault) → RefusesText before c.ahead fault
-refused_next before b c above steps step (read.Device failed) p number q = tt
-refused_next before b c above steps step (read.Script fault) p number q = refused_text before b c above steps step fault p number q
-
--- no memory for a step that was read
-pub refused_here : (before : Ahead) (now : Reading) (above : List Step) (fault : ReadFault) → fault ≡ read.Script Memory → HasRead (reading before []) now above
-    → RefusesText before now.ahead fault
-refused_here before now above fault is p =
-    let any = any_text before now _ p.reads in subst (RefusesText before now.ahead) (sym is) (any.0, any.1, tt)
-
-pub handed_on : {T : Type 0} (r : Result T ReadFault) (P : ReadFault → Type 0) (fault : ReadFault) → IsErrAnd r (λ e. e ≡ fault) → P fault → IfErr r P
-handed_on (Ok x) P fault is p = absurd is
-handed_on (Err e) P fault is p = subst P (sym is) p
+use Rattle.norprog_run.specs.Streams.{PlaysText}
 
 -- how it stands after these steps: a player was fed them; or the chip went wrong, and whatever follows them, the play ends so
 abbrev pub Stands : Shown → Shown → ℕ → List Step → Player → Option Verdict → Type 0
@@ -80,17 +50,14 @@ ends_so before now limit steps (Err fault.Memory) verdict plays is = absurd is
 
 module _ (before : Ahead) (b c : Reading) (above : List Step) (steps : ℕ) (step : Step) (has : HasRead (reading before []) b above) (number : steps ≡ length above)
     (over : Advances b c steps step (Ok false)) where
-  pub all_looked : HasText before c.ahead IsSomeScript
-  all_looked = let of = script_of before b c above steps step has number over in (of.0, of.1, (above, of.2))
-
   pub all_played : (first now : Shown) (limit : ℕ) (player : Player) (verdict : Verdict) → IsFed first now limit above player → Ends (ending player now) verdict
-      → HasText before c.ahead (PlaysText first.setting first.chip limit verdict now.chip)
+      → HadText before c.ahead (PlaysText first.setting first.chip limit verdict now.chip)
   all_played first now limit player verdict fed ends =
       let of = script_of before b c above steps step has number over in
       (of.0, of.1, (above, of.2, ends_so first now limit above (ending player now) verdict (fed_ends first now limit above player fed) ends))
 
   pub went_wrong : (first now : Shown) (limit : ℕ) (player : Player) (verdict : Verdict) → Stands first now limit above player (Some verdict)
-      → HasText before c.ahead (PlaysText first.setting first.chip limit verdict now.chip)
+      → HadText before c.ahead (PlaysText first.setting first.chip limit verdict now.chip)
   went_wrong first now limit player verdict stands =
       let of = script_of before b c above steps step has number over in
       (of.0, of.1, (above, of.2, subst (λ (l : List Step). EndsSo first.setting first.chip limit l verdict now.chip) (append-nil above) (stands [])))

@@ -7,7 +7,8 @@ use Rattle.nor_base.specs.Device.{Ahead, Finite, Gives}
 use Rattle.nor_job.specs.declared.fault.BuildFault.TheVariants as fault
 use Rattle.nor_job.specs.Status.{start_of}
 use Rattle.nor_job.specs.Task.{Task}
-use Rattle.nor_laws.specs.Laws.{TextsApart}
+use Rattle.nor_script.specs.Laws.{ScriptsAreFaultless}
+use Rattle.nor_script.specs.Stream.{HadText, IsSpelled}
 use Rattle.norprog_words.specs.declared.faults.FileName.TheVariants as file
 use Rattle.norprog_words.specs.declared.faults.Refusal.{Refusal}
 use Rattle.norprog_words.specs.declared.faults.Refusal.TheVariants.{File, Build, Script}
@@ -17,11 +18,10 @@ use Rattle.norprog_run.specs.declared.verdict.Verdict.{Verdict}
 use Rattle.norprog_run.specs.Kind.{kind_setting}
 use Rattle.norprog_run.specs.Play.{page_of, IsSized, setting_of}
 use Rattle.norprog_run.specs.Refusals.{StopsReading, RefusesPlay, IsEarly}
-use Rattle.norprog_run.specs.Streams.{HasText, IsSomeScript, PlaysText, RefusesScript, StopsText, PlaysStreams, RefusesStreams, IsOfChip, CountsScript}
-use Rattle.norprog_run.proofs.FaultlessLemmas.{faultless}
+use Rattle.norprog_run.specs.Streams.{PlaysText, RefusesScript, StopsText, PlaysStreams, RefusesStreams, IsOfChip, CountsScript}
 
 -- a text that has this has that
-pub text_wider : (before after : Ahead) (P Q : List ℕ → Type 0) → ((text : List ℕ) → P text → Q text) → HasText before after P → HasText before after Q
+pub text_wider : (before after : Ahead) (P Q : List ℕ → Type 0) → ((text : List ℕ) → P text → Q text) → HadText before after P → HadText before after Q
 text_wider before after P Q wider has = (has.0, has.1, wider has.0 has.2)
 
 -- the chip of a kind is that of the inputs
@@ -38,12 +38,12 @@ module _ (t : Task) (bench : Bench) (kind : Kind) (len : ℕ) (sized : IsSized t
   first_refused (Build fault.Memory) p same = (kind.meaning, sized)
   first_refused other p same = absurd p
 
-  module _ (looked : HasText first first' IsSomeScript) where
+  module _ (looked : HadText first first' IsSpelled) where
     -- the content wasn't read
     pub content_refused : (why : Refusal) → StopsReading len before after why → RefusesStreams t bench first first' again again' len before after held held' Untouched why
     content_refused (Build fault.ContentShort) p =
-        text_wider first first' _ _ (λ text is. ((kind.meaning, is.0, record { sized = sized; script = is.1 }), p.0, p.1)) looked
-    content_refused (Build fault.Read) p = text_wider first first' _ _ (λ text is. ((kind.meaning, is.0, record { sized = sized; script = is.1 }), p)) looked
+        text_wider first first' _ _ (λ text is. ((kind.meaning, is.steps, record { sized = sized; script = is.script }), p.0, p.1)) looked
+    content_refused (Build fault.Read) p = text_wider first first' _ _ (λ text is. ((kind.meaning, is.steps, record { sized = sized; script = is.script }), p)) looked
     content_refused (Build fault.Memory) p = (kind.meaning, sized)
     content_refused other p = absurd p
 
@@ -71,10 +71,10 @@ module _ (t : Task) (bench : Bench) (kind : Kind) (len : ℕ) (sized : IsSized t
       again_refused other p = absurd p
 
       pub all_played : (verdict : Verdict) (chip : Chip)
-          → HasText again again' (PlaysText (kind_setting kind bench) (ready (kind_setting kind bench) content) bench.limit verdict chip) → Appends held held' chip.array
+          → HadText again again' (PlaysText (kind_setting kind bench) (ready (kind_setting kind bench) content) bench.limit verdict chip) → Appends held held' chip.array
           → PlaysStreams t bench first first' again again' len before after held held' verdict
       all_played verdict chip p put =
-          let here = subst (λ (s : Setting). HasText again again' (PlaysText s (ready s content) bench.limit verdict chip)) (kind_is t bench kind start page) p in (
+          let here = subst (λ (s : Setting). HadText again again' (PlaysText s (ready s content) bench.limit verdict chip)) (kind_is t bench kind start page) p in (
             looked,
             text_wider again again' _ _ (λ text is. record {
               m = kind.meaning;
@@ -93,7 +93,7 @@ module _ (t : Task) (bench : Bench) (kind : Kind) (len : ℕ) (sized : IsSized t
 
       pub plays_all : (r : Result Verdict Refusal)
           → IfOk r (λ verdict. (chip : Chip)
-          × HasText again again' (PlaysText (kind_setting kind bench) (ready (kind_setting kind bench) content) bench.limit verdict chip)
+          × HadText again again' (PlaysText (kind_setting kind bench) (ready (kind_setting kind bench) content) bench.limit verdict chip)
           × Appends held held' chip.array)
           → IfOk r (PlaysStreams t bench first first' again again' len before after held held')
       plays_all (Ok verdict) p = all_played verdict p.0 p.1 p.2
@@ -111,9 +111,9 @@ handed_on (Err e) P why is p = subst P (sym is) p
 
 -- where both devices tell the same text, and neither fails
 
-text_told : (first first' : Ahead) (text : List ℕ) (P : List ℕ → Type 0) → first ≡ Finite text → HasText first first' P → P text
+text_told : (first first' : Ahead) (text : List ℕ) (P : List ℕ → Type 0) → first ≡ Finite text → HadText first first' P → P text
 text_told first first' text P is has =
-    let told = subst (λ (a : Ahead). HasText a first' P) is has in subst P told.1 told.2
+    let told = subst (λ (a : Ahead). HadText a first' P) is has in subst P told.1 told.2
 
 -- no count of failures rose
 works : (same n : ℕ) → ((same ≡ same + n) × (same ≡ same)) ⊎ ((same ≡ same) × (same ≡ same + n)) → n ≡ 1 → ⊥
@@ -121,7 +121,7 @@ works same n p one = elim p [ inl q ↦ let no = q.0 in omega (arith, no, one) |
 
 -- a text that was read once without a fault has none the second time, after the content
 module _ (t : Task) (bench : Bench) (text : List ℕ) (len : ℕ) (first first' again again' before after : Ahead) (held held' : Option (List ℕ)) (once : first ≡ Finite text)
-    (twice : again ≡ Finite text) (First Again Content : Type 0) (apart : TextsApart) where
+    (twice : again ≡ Finite text) (First Again Content : Type 0) (faultless : ScriptsAreFaultless) where
   abbrev Why : Refusal → Type 0
   Why = RefusesStreams t bench first first' again again' len before after held held' (Again × Content)
 
@@ -129,9 +129,9 @@ module _ (t : Task) (bench : Bench) (text : List ℕ) (len : ℕ) (first first' 
   unread (Script why) p counts chip early = elim p [
     | inl q ↦ q.1.1
     | inr q ↦
-        let looked = text_told first first' text IsSomeScript once q.0 in
+        let looked = text_told first first' text IsSpelled once q.0 in
         let bad = text_told again again' text (λ text. RefusesPlay t bench text len before after held held' (Script why)) twice q.2 in
-        absurd (faultless apart text looked.0 why looked.1 bad.1)
+        absurd (faultless text looked.steps why looked.script bad.1)
   ]
   unread (Build fault.ContentShort) p counts chip early = absurd early
   unread (Build fault.Read) p counts chip early = absurd early

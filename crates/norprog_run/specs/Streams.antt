@@ -2,14 +2,15 @@
 use Rattle.std.specs.Prelude.{◌≡◌, ◌⊎◌, ⊤, ℕ, ◌+◌, List, length, Option, Result, Ok, Err}
 use Rattle.nor_base.specs.declared.step.Step.{Step}
 use Rattle.nor_base.specs.Chip.{Setting, Chip}
-use Rattle.nor_base.specs.Device.{Ahead, Unknown, Finite, Endless, Gives}
+use Rattle.nor_base.specs.Device.{Ahead, Gives}
 use Rattle.nor_base.specs.Parameters.{Parameters}
 use Rattle.nor_base.specs.Script.{IsScript}
 use Rattle.nor_job.specs.declared.fault.BuildFault.TheVariants as fault
 use Rattle.nor_job.specs.Task.{Task}
 use Rattle.nor_script.specs.declared.fault.ReadFault.{ReadFault}
 use Rattle.nor_script.specs.declared.fault.ReadFault.TheVariants as read
-use Rattle.nor_script.specs.Faults.{IsFault, Refuses}
+use Rattle.nor_script.specs.Faults.{IsFault}
+use Rattle.nor_script.specs.Stream.{HadText, IsSpelled}
 use Rattle.norprog_words.specs.declared.faults.FileName.TheVariants as file
 use Rattle.norprog_words.specs.declared.faults.Refusal.{Refusal}
 use Rattle.norprog_words.specs.declared.faults.Refusal.TheVariants.{File, Build, Script}
@@ -19,38 +20,18 @@ use Rattle.norprog_run.specs.declared.verdict.Verdict.{Verdict}
 use Rattle.norprog_run.specs.Play.{IsSized, EndsSo, WasPlayed}
 use Rattle.norprog_run.specs.Refusals.{StopsPlaying, RefusesChipOf, RefusesPlay}
 
--- a text that a device had ahead: all of it, where it tells it and it ends; of one that never ends what it gave; of one that tells
--- nothing, some text
-abbrev pub IsTextOf : Ahead → Ahead → List ℕ → Type 0
-IsTextOf Unknown after text = ⊤
-IsTextOf (Finite bytes) after text = text ≡ bytes
-IsTextOf (Endless byte_at) after text = Gives (Endless byte_at) text after
-
--- such a text is so
-abbrev pub HasText : Ahead → Ahead → (List ℕ → Type 0) → Type 0
-HasText before after Is = (text : List ℕ) × IsTextOf before after text × Is text
-
--- the text spells some steps
-abbrev pub IsSomeScript : List ℕ → Type 0
-IsSomeScript text = (steps : List Step) × IsScript text steps
-
 -- the text spells steps whose bounded run ends so, and leaves this chip
 abbrev pub PlaysText : Setting → Chip → ℕ → Verdict → Chip → List ℕ → Type 0
 PlaysText s c limit verdict d text = (steps : List Step) × IsScript text steps × EndsSo s c limit steps verdict d
 
--- the first fault of the text; where memory was refused, or the device failed, nothing is said
-abbrev pub RefusesText : Ahead → Ahead → ReadFault → Type 0
-RefusesText before after (read.Script why) = HasText before after (λ text. Refuses text why)
-RefusesText before after (read.Device failed) = ⊤
-
--- what is told then
+-- what a fault of a reading is told as
 abbrev pub refusal_of : ReadFault → Refusal
 refusal_of (read.Script why) = script_refusal why
 refusal_of (read.Device failed) = File file.Script
 
 -- why a reading is no script: its first fault; or the device failed, or memory was refused
 abbrev pub RefusesScript : Ahead → Ahead → Refusal → Type 0
-RefusesScript before after (Script why) = HasText before after (λ text. IsFault text why)
+RefusesScript before after (Script why) = HadText before after (λ text. IsFault text why)
 RefusesScript before after (File file.Script) = ⊤
 RefusesScript before after (Build fault.Memory) = ⊤
 RefusesScript before after other = ⊥
@@ -58,7 +39,7 @@ RefusesScript before after other = ⊥
 -- why the text of a device isn't played on a chip: it is no script; or the writer took a part of what the chip held after it
 abbrev pub StopsText : Ahead → Ahead → Setting → Chip → ℕ → Option (List ℕ) → Option (List ℕ) → Refusal → Type 0
 StopsText before after s c limit held held' (Build fault.Write) =
-    HasText before after (λ text. (steps : List Step) × IsScript text steps × StopsPlaying s c limit steps held held' (Build fault.Write))
+    HadText before after (λ text. (steps : List Step) × IsScript text steps × StopsPlaying s c limit steps held held' (Build fault.Write))
 StopsText before after s c limit held held' why = RefusesScript before after why
 
 -- the whole content was read
@@ -68,13 +49,13 @@ ReadsWhole len before after = (content : List ℕ) × (length content ≡ len) �
 -- the first reading gave a script, and what the second gave was played
 abbrev pub PlaysStreams : Task → Bench → Ahead → Ahead → Ahead → Ahead → ℕ → Ahead → Ahead → Option (List ℕ) → Option (List ℕ) → Verdict → Type 0
 PlaysStreams t bench first first' again again' len before after held held' verdict =
-    HasText first first' IsSomeScript × HasText again again' (λ text. WasPlayed t bench text len before after held held' verdict)
+    HadText first first' IsSpelled × HadText again again' (λ text. WasPlayed t bench text len before after held held' verdict)
 
 -- the script's fault, found in the first reading, before the second and the content were touched; or in the second, after the content,
 -- where the first gave a script
 abbrev pub TellsFault : Ahead → Ahead → Ahead → Ahead → ℕ → Ahead → Ahead → Type 0 → (List ℕ → Type 0) → Type 0
 TellsFault first first' again again' len before after Untouched Is =
-    (HasText first first' Is × Untouched) ⊎ (HasText first first' IsSomeScript × ReadsWhole len before after × HasText again again' Is)
+    (HadText first first' Is × Untouched) ⊎ (HadText first first' IsSpelled × ReadsWhole len before after × HadText again again' Is)
 
 -- why a script that is read twice isn't played, by what is said of a text; but for Memory and a device of the script that failed, no
 -- earlier cause holds
@@ -82,14 +63,14 @@ abbrev pub RefusesStreams : Task → Bench → Ahead → Ahead → Ahead → Ahe
 RefusesStreams t bench first first' again again' len before after held held' Untouched (Script why) =
     TellsFault first first' again again' len before after Untouched (λ text. RefusesPlay t bench text len before after held held' (Script why))
 RefusesStreams t bench first first' again again' len before after held held' Untouched (Build fault.ContentShort) =
-    HasText first first' (λ text. RefusesPlay t bench text len before after held held' (Build fault.ContentShort))
+    HadText first first' (λ text. RefusesPlay t bench text len before after held held' (Build fault.ContentShort))
 RefusesStreams t bench first first' again again' len before after held held' Untouched (Build fault.Read) =
-    HasText first first' (λ text. RefusesPlay t bench text len before after held held' (Build fault.Read))
+    HadText first first' (λ text. RefusesPlay t bench text len before after held held' (Build fault.Read))
 RefusesStreams t bench first first' again again' len before after held held' Untouched (Build fault.Write) =
-    HasText first first' IsSomeScript × HasText again again' (λ text. RefusesPlay t bench text len before after held held' (Build fault.Write))
+    HadText first first' IsSpelled × HadText again again' (λ text. RefusesPlay t bench text len before after held held' (Build fault.Write))
 RefusesStreams t bench first first' again again' len before after held held' Untouched (Build fault.Memory) = (m : Parameters) × IsSized t bench.page len m
 RefusesStreams t bench first first' again again' len before after held held' Untouched (File file.Script) =
-    ((m : Parameters) × IsSized t bench.page len m) × (Untouched ⊎ (HasText first first' IsSomeScript × ReadsWhole len before after))
+    ((m : Parameters) × IsSized t bench.page len m) × (Untouched ⊎ (HadText first first' IsSpelled × ReadsWhole len before after))
 RefusesStreams t bench first first' again again' len before after held held' Untouched other = RefusesChipOf t bench.page len other
 
 -- a refusal of the chip, which comes before anything is read

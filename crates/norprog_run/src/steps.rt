@@ -1,13 +1,13 @@
-//! The two readings of a script: one looks for its fault, the other plays its steps.
+//! The reading of a script that plays its steps.
 
 ghost use Rattle.std.specs.Prelude.{◌≡◌, ◌<◌, ◌-◌, ◌^◌, IfOk, IfErr};
 ghost use Rattle.nor_play.specs.Fed.{ending, past};
 ghost use Rattle.nor_play.specs.Numbered.{PlaysNumbered};
 ghost use Rattle.nor_play.specs.Play.{CountsPlay};
-ghost use Rattle.nor_script.specs.Stream.{CountsRead};
+ghost use Rattle.nor_script.specs.Stream.{CountsRead, HadText, StopsReader};
 ghost use Rattle.nor_script.specs.View.{step_of};
 ghost use Rattle.norprog_run.specs.Steps.{Steps, Ends};
-ghost use Rattle.norprog_run.specs.Streams.{HasText, IsSomeScript, PlaysText, RefusesText};
+ghost use Rattle.norprog_run.specs.Streams.{PlaysText};
 
 use crate::verdict::Verdict;
 use nor_base::ByteIn;
@@ -16,24 +16,10 @@ use nor_play::{PlayFault, StepPlayer};
 use nor_script::{ReadFault, ScriptFault, StepReader, StepView};
 use std::alloc::Global;
 
-/// Reads a script to its end, and does no more.
-///
-/// Its first fault, as [`StepReader`] tells it; `Device` where the device failed; `Memory` where a growth is refused.
-pub(crate) fn look_through<F: ByteIn>(alloc: Global, script: &mut F) -> Result<(), ReadFault>
-    requires { F.count script.old < 2 ^ 64 - 1 }
-    ensures text { IfOk result (λ _. HasText (F.ahead script.old) (F.ahead script.new) IsSomeScript) }
-    ensures refused { IfErr result (RefusesText (F.ahead script.old) (F.ahead script.new)) }
-    ensures count { CountsRead (F.count script.old) (F.count script.new) result }
-{
-    let mut reader = StepReader::begin(alloc, script)?;
-    while reader.advance(script)? {}
-    Ok(())
-}
-
 /// Plays the steps of a script on a chip, each as it comes, a poll at most `limit` times. The script is read to its end also
 /// where the chip goes wrong.
 ///
-/// The faults are those of [`look_through`].
+/// Its first fault, as [`StepReader`] tells it; `Device` where the device failed; `Memory` where a growth is refused.
 pub(crate) fn play_text<A: ByteIn>(
     alloc: Global,
     script: &mut A,
@@ -42,9 +28,9 @@ pub(crate) fn play_text<A: ByteIn>(
 ) -> Result<Verdict, ReadFault>
     requires limit { 0 < limit }
     requires script { A.count script.old < 2 ^ 64 - 1 }
-    ensures played { IfOk result (λ verdict. HasText (A.ahead script.old) (A.ahead script.new)
+    ensures played { IfOk result (λ verdict. HadText (A.ahead script.old) (A.ahead script.new)
         (PlaysText chip.old.setting chip.old.chip limit verdict chip.new.chip)) }
-    ensures refused { IfErr result (RefusesText (A.ahead script.old) (A.ahead script.new)) }
+    ensures refused { IfErr result (StopsReader (A.ahead script.old) (A.ahead script.new)) }
     ensures count { CountsRead (A.count script.old) (A.count script.new) result }
 {
     let mut reader = StepReader::begin(alloc, script)?;

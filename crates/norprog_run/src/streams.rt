@@ -7,18 +7,19 @@ ghost use Rattle.nor_chip.specs.Ready.{ready_chip};
 ghost use Rattle.nor_job.specs.declared.fault.BuildFault.TheVariants.{Write};
 ghost use Rattle.nor_job.specs.Wanted.{ReadsWithin};
 ghost use Rattle.norprog_words.specs.declared.faults.Refusal.TheVariants.{Build};
+ghost use Rattle.nor_script.specs.Stream.{HadText, IsSpelled};
 ghost use Rattle.norprog_run.specs.Kind.{kind_setting};
 ghost use Rattle.norprog_run.specs.Refusals.{CountsReader, CountsWriter};
-ghost use Rattle.norprog_run.specs.Streams.{HasText, IsSomeScript, PlaysText, StopsText, PlaysStreams, RefusesStreams, IsOfChip, IsOfContent, CountsScript, CountsOne, RefusesScript, refusal_of as told_of};
+ghost use Rattle.norprog_run.specs.Streams.{PlaysText, StopsText, PlaysStreams, RefusesStreams, IsOfChip, IsOfContent, CountsScript, CountsOne, RefusesScript, refusal_of as told_of};
 
 use crate::kind::{Kind, kind_of, read_content};
 use crate::request::Bench;
-use crate::steps::{look_through, play_text};
+use crate::steps::play_text;
 use crate::verdict::Verdict;
 use nor_base::{ByteIn, ByteOut, put_all};
 use nor_chip::Chip;
 use nor_job::Inputs;
-use nor_script::ReadFault;
+use nor_script::{ReadFault, count_steps};
 use norprog_words::{FileName, Refusal};
 use std::alloc::Global;
 
@@ -72,12 +73,12 @@ pub fn play_streams<F: ByteIn, A: ByteIn, R: ByteIn, W: ByteOut>(
 /// Reads a script for its fault. `File` of `Script` where its device failed.
 fn check_script<F: ByteIn>(alloc: Global, script: &mut F) -> Result<(), Refusal>
     requires { F.count script.old < 2 ^ 64 - 1 }
-    ensures text { IfOk result (λ _. HasText (F.ahead script.old) (F.ahead script.new) IsSomeScript) }
+    ensures text { IfOk result (λ _. HadText (F.ahead script.old) (F.ahead script.new) IsSpelled) }
     ensures refused { IfErr result (RefusesScript (F.ahead script.old) (F.ahead script.new)) }
     ensures count { CountsOne (F.count script.old) (F.count script.new) result }
 {
-    match look_through(alloc, script) {
-        Ok(()) => Ok(()),
+    match count_steps(alloc, script) {
+        Ok(_) => Ok(()),
         Err(fault) => Err(refusal_of(fault)),
     }
 }
@@ -98,7 +99,7 @@ fn play_on<A: ByteIn, W: ByteOut>(
     requires script { A.count script.old < 2 ^ 64 - 1 }
     requires writer { W.count out.old < 2 ^ 64 - 1 }
     ensures played { IfOk result (λ verdict. (chip : ShownChip)
-        × HasText (A.ahead script.old) (A.ahead script.new)
+        × HadText (A.ahead script.old) (A.ahead script.new)
         (PlaysText (kind_setting kind.now bench) (ready_chip (kind_setting kind.now bench) array.items).chip bench.limit verdict chip)
         × Appends (W.held out.old) (W.held out.new) chip.array) }
     ensures stopped { IfErr result (StopsText (A.ahead script.old) (A.ahead script.new)

@@ -1,13 +1,18 @@
 -- The steps that were read are those of the text.
-use Rattle.std.proofs.Common.{◌++◌, ◌∷◌, [], true, false, Ok, ◌∙◌, subst, arith, length-append}
-use Rattle.nor_script.specs.Stream.{reading, Advances, CountsStep}
+use Rattle.std.proofs.Common.{◌++◌, ◌∷◌, [], true, false, Ok, sym, ◌∙◌, subst, arith, length-append}
+use Rattle.nor_script.specs.Stream.{reading, Advances, CountsStep, StopsReader}
 use Rattle.nor_script.proofs.StreamLaws.{has_begun, has_more}
+use Rattle.nor_script.proofs.TextLaws.{handed_on, stops_header, stops_step, script_of}
 use Rattle.nor_script.proofs.ReaderLemmas.{tell_failed, begin_told, advance_told, all_told}
 use Rattle.nor_script.proofs.steps.count_steps.Goals as goal
 
 pub returns-in_err-reader-clause-text : goal.returns-in_err-reader-clause-text
 returns-in_err-reader-clause-text g c =
     tell_failed _ _ c.from_residual.result _ c.from_residual.ensures.1 (begin_told _ _ _ c.in_err-reader.ensures.begun)
+
+pub returns-in_err-reader-clause-stopped : goal.returns-in_err-reader-clause-stopped
+returns-in_err-reader-clause-stopped g c =
+    handed_on (StopsReader _ _) c.from_residual.result _ c.from_residual.ensures.1 (stops_header _ _ _ c.in_err-reader.ensures.begun)
 
 pub loop-reader-init : goal.loop-reader-init
 loop-reader-init g c = record {
@@ -22,6 +27,13 @@ returns-in_err-advance-clause-text g c =
     let v = c.loop-reader.invariant in
     tell_failed _ _ c.from_residual-in_err-advance.result _ c.from_residual-in_err-advance.ensures.1
     (advance_told _ _ (reading (g.R.ByteIn.ahead c.advance.new.source) c.advance.new.self.held) v.above c.loop-reader.reader.steps c.advance.new.self.step _ v.read v.number c.in_err-advance.ensures.step)
+
+pub returns-in_err-advance-clause-stopped : goal.returns-in_err-advance-clause-stopped
+returns-in_err-advance-clause-stopped g c =
+    let v = c.loop-reader.invariant in
+    handed_on (StopsReader _ _) c.from_residual-in_err-advance.result _ c.from_residual-in_err-advance.ensures.1
+    (stops_step _ (reading (g.R.ByteIn.ahead c.loop-reader.source) c.loop-reader.reader.held) (reading (g.R.ByteIn.ahead c.advance.new.source) c.advance.new.self.held) v.above c.loop-reader.reader.steps c.advance.new.self.step _
+    v.read v.number c.in_err-advance.ensures.step)
 
 pub loop-reader-preserved : goal.loop-reader-preserved
 loop-reader-preserved g c =
@@ -42,3 +54,14 @@ returns-clause-text g c =
     subst (λ b. Advances (reading (g.R.ByteIn.ahead c.loop-reader.source) c.loop-reader.reader.held) (reading (g.R.ByteIn.ahead c.advance.new.source) c.advance.new.self.held) c.loop-reader.reader.steps c.advance.new.self.step (Ok b)) c.if-branch.false c.in_ok-advance.ensures.step in
     let same : CountsStep c.loop-reader.reader.steps c.advance.new.self.steps (Ok false) = subst (λ b. CountsStep c.loop-reader.reader.steps c.advance.new.self.steps (Ok b)) c.if-branch.false c.in_ok-advance.ensures.number in
     all_told _ _ _ v.above c.loop-reader.reader.steps c.steps.result c.advance.new.self.step v.read v.number (c.steps.ensures ∙ same) read
+
+pub returns-clause-read : goal.returns-clause-read
+returns-clause-read g c =
+    let v = c.loop-reader.invariant in
+    let before = reading (g.R.ByteIn.ahead c.loop-reader.source) c.loop-reader.reader.held in
+    let after = reading (g.R.ByteIn.ahead c.advance.new.source) c.advance.new.self.held in
+    let read : Advances before after c.loop-reader.reader.steps c.advance.new.self.step (Ok false) =
+    subst (λ b. Advances before after c.loop-reader.reader.steps c.advance.new.self.step (Ok b)) c.if-branch.false c.in_ok-advance.ensures.step in
+    let same : CountsStep c.loop-reader.reader.steps c.advance.new.self.steps (Ok false) = subst (λ b. CountsStep c.loop-reader.reader.steps c.advance.new.self.steps (Ok b)) c.if-branch.false c.in_ok-advance.ensures.number in
+    let of = script_of _ before after v.above c.loop-reader.reader.steps c.advance.new.self.step v.read v.number read in
+    (of.0, of.1, record { steps = v.above; is_script = of.2; count = sym (c.steps.ensures ∙ same ∙ v.number) })

@@ -1,7 +1,7 @@
 -- Both devices tell the text, and the causes are those of a text.
 use Rattle.std.proofs.Common.{ap, subst}
 use Rattle.nor_base.specs.Device.{Finite}
-use Rattle.norprog_check.specs.Readings.{IsSpelled}
+use Rattle.nor_script.specs.Stream.{IsSpelled}
 use Rattle.norprog_check.specs.Streams.{IsLateStop, IsOfDevices}
 use Rattle.norprog_check.proofs.checker.check_script.Goals as goal
 

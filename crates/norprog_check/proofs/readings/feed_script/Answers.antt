@@ -1,10 +1,10 @@
 -- The verdict is that of the steps that came, to the end or to what stopped them.
 use Rattle.std.proofs.Common.{◌++◌, ◌∷◌, [], true, false, Ok, refl, ◌∙◌, subst, arith, length-append}
-use Rattle.nor_script.specs.Stream.{reading, Advances, CountsStep}
+use Rattle.nor_script.specs.Stream.{reading, Advances, CountsStep, StopsReader}
 use Rattle.nor_script.proofs.StreamLaws.{has_begun, has_more}
-use Rattle.norprog_check.specs.Readings.{StopsReader}
+use Rattle.nor_script.proofs.TextLaws.{stops_header, stops_step, stops_memory}
 use Rattle.norprog_check.proofs.FaultLemmas.{handed_on}
-use Rattle.norprog_check.proofs.ReadingLemmas.{fed_more, stops_header, stops_step, stops_memory, feeds_all}
+use Rattle.norprog_check.proofs.ReadingLemmas.{fed_more, feeds_all}
 use Rattle.norprog_check.proofs.readings.feed_script.Goals as goal
 
 pub returns-in_err-reader-clause-stopped : goal.returns-in_err-reader-clause-stopped

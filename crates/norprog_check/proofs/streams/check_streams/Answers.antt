@@ -1,11 +1,10 @@
 -- The verdict is that of the steps that the second device told.
 use Rattle.std.proofs.Common.{◌∙◌, ap, subst, length}
 use Rattle.nor_check.specs.Fed.{to_come}
-use Rattle.nor_check.specs.Worst.{IsWorst}
 use Rattle.norprog_check.specs.declared.fault.CheckStop.TheVariants.{Build}
 use Rattle.norprog_check.specs.declared.fault.StreamStop.TheVariants.{Check}
 use Rattle.norprog_check.specs.Streams.{IsLateStop, IsOfDevices}
-use Rattle.norprog_check.proofs.CheckLemmas.{goal_size, text_checked}
+use Rattle.norprog_check.proofs.CheckLemmas.{IsJudged, goal_size, text_checked}
 use Rattle.norprog_check.proofs.FaultLemmas.{handed_on, memory_is_late}
 use Rattle.norprog_check.proofs.streams.check_streams.Goals as goal
 
@@ -28,7 +27,7 @@ returns-clause-checked g c =
     let job = c.in_ok-job.job in
     let have = c.in_ok-have.have.items in
     let fed = c.new-checker.result in
-    text_checked c.args.inputs.now c.args.len job _ _ _ _ _ _ have c.in_ok-have.want.items fed c.in_ok-verdict.verdict c.effects.ensures.keeps c.polls.ensures.ends
+    text_checked c.args.inputs.now c.args.len job _ _ _ _ _ _ have c.in_ok-have.want.items fed c.in_ok-verdict.verdict
     c.in_ok-job.ensures.job c.in_ok-read_first.ensures.readable c.in_ok-have.ensures.read
-    (λ steps. subst (λ want. IsWorst job.meaning job.start have want steps (to_come fed steps)) c.as_slice.ensures.value (c.new-checker.ensures.worst steps))
+    (λ steps. subst (λ want. IsJudged job have want steps (to_come fed steps)) c.as_slice.ensures.value (c.new-checker.ensures.worst steps, c.new-checker.ensures.yes steps))
     c.in_ok-verdict.ensures.told

@@ -2,18 +2,18 @@
 use Rattle.std.proofs.Common.{◌++◌, ◌∷◌, [], true, false, Ok, sym, ◌∙◌, subst, arith, length-append}
 use Rattle.nor_play.specs.Fed.{Player}
 use Rattle.nor_play.proofs.FedLaws.{IsFed, fed_none}
-use Rattle.nor_script.specs.Stream.{reading, Advances, CountsStep}
+use Rattle.nor_script.specs.Stream.{reading, Advances, CountsStep, StopsReader}
 use Rattle.nor_script.proofs.StreamLaws.{has_begun, has_more}
-use Rattle.norprog_run.specs.Streams.{RefusesText}
-use Rattle.norprog_run.proofs.StepsLemmas.{Stands, refused_first, refused_next, refused_here, handed_on, stands_next, fed_of, kept_of, all_played, went_wrong}
+use Rattle.nor_script.proofs.TextLaws.{handed_on, stops_header, stops_step, stops_memory}
+use Rattle.norprog_run.proofs.StepsLemmas.{Stands, stands_next, fed_of, kept_of, all_played, went_wrong}
 use Rattle.norprog_run.proofs.steps.play_text.Goals as goal
 
 pub returns-in_err-reader-clause-refused : goal.returns-in_err-reader-clause-refused
 returns-in_err-reader-clause-refused g c =
     let first = g.A.ByteIn.ahead c.args.script.now in
     let now = g.A.ByteIn.ahead c.begin.new.source in
-    handed_on c.from_residual.result (RefusesText first now) c.in_err-reader.field-0.0 c.from_residual.ensures.1
-    (refused_first first now c.in_err-reader.field-0.0 c.in_err-reader.ensures.begun)
+    handed_on (StopsReader first now) c.from_residual.result c.in_err-reader.field-0.0 c.from_residual.ensures.1
+    (stops_header first now c.in_err-reader.field-0.0 c.in_err-reader.ensures.begun)
 
 pub loop-reader-init : goal.loop-reader-init
 loop-reader-init g c =
@@ -32,8 +32,8 @@ returns-in_err-advance-clause-refused g c =
     let v = c.loop-reader.invariant in
     let first = g.A.ByteIn.ahead c.args.script.now in
     let now = g.A.ByteIn.ahead c.advance.new.source in
-    handed_on c.from_residual-in_err-advance.result (RefusesText first now) c.in_err-advance.field-0.0 c.from_residual-in_err-advance.ensures.1
-    (refused_next first (reading (g.A.ByteIn.ahead c.loop-reader.script) c.loop-reader.reader.held) (reading now c.advance.new.self.held) v.above c.loop-reader.reader.steps
+    handed_on (StopsReader first now) c.from_residual-in_err-advance.result c.in_err-advance.field-0.0 c.from_residual-in_err-advance.ensures.1
+    (stops_step first (reading (g.A.ByteIn.ahead c.loop-reader.script) c.loop-reader.reader.held) (reading now c.advance.new.self.held) v.above c.loop-reader.reader.steps
     c.advance.new.self.step c.in_err-advance.field-0.0 v.read v.number c.in_err-advance.ensures.step)
 
 pub returns-in_err-wrong-clause-refused : goal.returns-in_err-wrong-clause-refused
@@ -45,8 +45,8 @@ returns-in_err-wrong-clause-refused g c =
     let steps = c.loop-reader.reader.steps in
     let step = c.advance.new.self.step in
     let read : Advances b after steps step (Ok true) = subst (λ b'. Advances b after steps step (Ok b')) c.if-branch.true c.in_ok-advance.ensures.step in
-    handed_on c.from_residual-in_err-wrong.result (RefusesText first after.ahead) c.in_err-wrong.field-0.0 c.from_residual-in_err-wrong.ensures.1
-    (refused_here first after (v.above ++ step ∷ []) c.in_err-wrong.field-0.0 c.in_err-wrong.ensures (has_more _ _ _ v.above step v.read read.0 read.1))
+    handed_on (StopsReader first after.ahead) c.from_residual-in_err-wrong.result c.in_err-wrong.field-0.0 c.from_residual-in_err-wrong.ensures.1
+    (stops_memory first b after v.above step c.in_err-wrong.field-0.0 v.read read c.in_err-wrong.ensures)
 
 pub loop-reader-preserved-then-is_none : goal.loop-reader-preserved-then-is_none
 loop-reader-preserved-then-is_none g c =

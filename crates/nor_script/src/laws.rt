@@ -1,6 +1,6 @@
 //! What follows from the definitions. The function asks for laws of theirs and does nothing else: its contract is the law.
 
-ghost use Rattle.norprog_check.specs.Laws.{ScriptsAreFaultless};
+ghost use Rattle.nor_script.specs.Laws.{ScriptsAreFaultless};
 
 use nor_laws::script_texts;
 

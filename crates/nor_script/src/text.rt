@@ -6,13 +6,14 @@ use nor_base::{ByteIn, Failed};
 
 /// A text in memory as a device, which never fails.
 #[derive(Drop)]
-pub(crate) struct TextIn<'a> {
-    rest: &'a [u8],
+pub struct TextIn<'a> {
+    /// What wasn't taken yet.
+    pub rest: &'a [u8],
 }
 
 impl<'a> TextIn<'a> {
-    /// The whole text.
-    pub(crate) fn new(text: &'a [u8]) -> TextIn<'a>
+    /// A device that has the whole text ahead.
+    pub fn new(text: &'a [u8]) -> TextIn<'a>
         ensures { result.rest.now ≡ text.now }
     {
         TextIn { rest: text }
