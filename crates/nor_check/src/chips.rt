@@ -5,9 +5,9 @@ ghost use Rattle.std.specs.Str.{bytes_eq};
 ghost use Rattle.nor_base.specs.declared.step.Step.TheVariants.{Send, Poll, Verify};
 ghost use Rattle.nor_base.specs.Accepted.{IsAccepted};
 ghost use Rattle.nor_base.specs.Blocks.{is_legal as is_legal_block};
-ghost use Rattle.nor_base.specs.Chip.{is_busy, is_mode, is_settled, may_page};
+ghost use Rattle.nor_base.specs.Chip.{is_busy, is_settled, may_page};
 ghost use Rattle.nor_base.specs.Parameters.{block_size};
-ghost use Rattle.nor_base.specs.Effect.{after, answer, erased, programmed, effect_of, is_barred as is_barred_of, is_program, is_status, wrong_of};
+ghost use Rattle.nor_base.specs.Effect.{after, answer, erased, programmed, is_program, is_status};
 ghost use Rattle.nor_chip.specs.Sent.{instruction_of, sent};
 ghost use Rattle.nor_check.specs.Chips.{one_like, latch_of, some_left, least_able, last_settled, switched, all_after, begun};
 ghost use Rattle.nor_check.specs.declared.chips.Latches.TheVariants.{Clear};
@@ -22,8 +22,8 @@ use crate::verdict::{Verdict, Why};
 use crate::view::StepView;
 use nor_base::{Meaning, Start, What, Wrong};
 use nor_chip::erase::fill_block;
-use nor_chip::program::{barred, is_barred, program};
-use nor_chip::rules::{is_broken, is_out_of_range, is_program, is_quad, is_status, needs_latch};
+use nor_chip::program::program;
+use nor_chip::rules::{State, is_program, refusal};
 use nor_decode::{POLL, Seen, decode, is_verify};
 use nor_laws::verifying_reads;
 use std::alloc::{AllocError, Global};
@@ -136,41 +136,18 @@ impl<'a> AllChips<'a> {
     }
 
     /// Why some chip doesn't take an instruction, by the first rule that applies to one.
-    #[tactic(auto, unfolding(nor_base::specs::Effect::effect_of))]
     fn refusal(&self, seen: &Seen<'_>) -> Option<Wrong>
         ensures { result ≡ all_refusal self.now.kind self.now.chips (instruction_of seen.now) }
     {
-        let meaning = self.meaning;
-        if is_broken(seen.what) {
-            return Some(Wrong::Ignored);
-        }
-        if !is_status(seen.what) && self.may_be_busy() {
-            return Some(Wrong::Ignored);
-        }
-        if is_quad(seen.what) && !self.start.quad {
-            return Some(Wrong::Ignored);
-        }
-        if needs_latch(meaning, seen.what) && !self.is_set() {
-            return Some(Wrong::Ignored);
-        }
-        if is_out_of_range(meaning, seen) {
-            return Some(Wrong::OutOfRange);
-        }
-        if is_program(seen.what) && self.is_barred(seen) {
-            return Some(barred(meaning));
-        }
-        None
-    }
-
-    /// Whether a program covers a byte where it may not be done.
-    fn is_barred(&self, seen: &Seen<'_>) -> bool
-        requires program { is_program seen.now.what ≡ true }
-        requires inside { seen.now.address < length self.now.chips.array }
-        ensures { result ≡ is_barred_of self.now.kind.meaning self.now.kind.page seen.now.address (sent seen.now) self.now.chips.array }
-    {
-        let meaning = self.meaning;
-        meaning.is_accepted();
-        is_barred(meaning, self.page, seen, self.array.as_slice())
+        let state = State {
+            meaning: self.meaning,
+            quad: self.start.quad,
+            page: self.page,
+            busy: self.may_be_busy(),
+            latch: self.is_set(),
+            array: self.array.as_slice(),
+        };
+        refusal(&state, seen)
     }
 
     /// Does an instruction that each chip takes.
@@ -384,7 +361,7 @@ impl<'a> AllChips<'a> {
     {
         let meaning = self.meaning;
         let first = meaning.begins4(&self.start);
-        !self.may_be_busy() && (!self.may_be_set() && is_mode(first, self.mode4))
+        !self.may_be_busy() && (!self.may_be_set() && self.mode4 == first)
     }
 
     /// The lowest address at which the array isn't the target.
@@ -403,13 +380,6 @@ impl<'a> AllChips<'a> {
         }
         None
     }
-}
-
-/// Whether the address mode is the first one.
-fn is_mode(first: bool, mode4: bool) -> bool
-    ensures { result ≡ is_mode first mode4 }
-{
-    if first { mode4 } else { !mode4 }
 }
 
 /// Whether the bytes of a program lie in one page of this size.

@@ -2,18 +2,18 @@
 
 ghost use Rattle.std.specs.Prelude.{◌≡◌, ◌<◌, ◌≤◌, ◌+◌, ⊤, pred, true, length, replicate, slice_range, None, Ok, OnErr};
 ghost use Rattle.nor_base.specs.Sample.{sampled_count};
-ghost use Rattle.nor_base.specs.Chip.{chip_of, may_page, is_settled, is_mode, IsPossible};
+ghost use Rattle.nor_base.specs.Chip.{chip_of, may_page, is_settled, IsPossible};
 ghost use Rattle.nor_base.specs.Blocks.{is_legal as is_legal_block};
 ghost use Rattle.nor_base.specs.Parameters.{block_size};
-ghost use Rattle.nor_base.specs.Effect.{effect_of, wrong_of, is_program, is_barred as is_barred_of, programmed, erased, accepting, switching, status};
+ghost use Rattle.nor_base.specs.Effect.{effect_of, wrong_of, is_program, programmed, erased, accepting, switching, status};
 ghost use Rattle.nor_base.specs.Port.{Shown, Transacts, CountsTransact};
 ghost use Rattle.nor_chip.specs.Ready.{paged, ready_chip};
 ghost use Rattle.nor_chip.specs.Sent.{instruction_of, sent};
 
 use crate::erase::fill_block;
 use crate::port::Port;
-use crate::program::{barred, is_barred, program};
-use crate::rules::{is_broken, is_out_of_range, is_program, is_quad, is_status, needs_latch};
+use crate::program::program;
+use crate::rules::{State, refusal};
 use nor_base::{Meaning, PortFault, Start, What, Wrong};
 use nor_decode::{Seen, decode};
 use std::marker::Model;
@@ -112,42 +112,18 @@ impl<'a> Chip<'a> {
     }
 
     /// Why the chip doesn't take an instruction, by the first rule that applies.
-    #[tactic(auto, unfolding(nor_base::specs::Effect::effect_of))]
     fn refusal(&self, seen: &Seen<'_>) -> Option<Wrong>
         ensures { result ≡ wrong_of (effect_of self.now.setting self.now.chip (instruction_of seen.now)) }
     {
-        let meaning = self.meaning;
-        if is_broken(seen.what) {
-            return Some(Wrong::Ignored);
-        }
-        if !is_status(seen.what) && self.left > 0 {
-            return Some(Wrong::Ignored);
-        }
-        if is_quad(seen.what) && !self.start.quad {
-            return Some(Wrong::Ignored);
-        }
-        if needs_latch(meaning, seen.what) && !self.latch {
-            return Some(Wrong::Ignored);
-        }
-        if is_out_of_range(meaning, seen) {
-            return Some(Wrong::OutOfRange);
-        }
-        if is_program(seen.what) && self.is_barred(seen) {
-            return Some(barred(meaning));
-        }
-        None
-    }
-
-    /// Whether a program covers a byte where it may not be done.
-    fn is_barred(&self, seen: &Seen<'_>) -> bool
-        requires program { is_program seen.now.what ≡ true }
-        requires inside { seen.now.address < length self.now.chip.array }
-        ensures { result
-            ≡ is_barred_of self.now.setting.meaning self.now.setting.page seen.now.address (sent seen.now) self.now.chip.array }
-    {
-        let meaning = self.meaning;
-        meaning.is_accepted();
-        is_barred(meaning, self.page, seen, self.array.as_slice())
+        let state = State {
+            meaning: self.meaning,
+            quad: self.start.quad,
+            page: self.page,
+            busy: self.left > 0,
+            latch: self.latch,
+            array: self.array.as_slice(),
+        };
+        refusal(&state, seen)
     }
 
     /// Does an instruction that the chip takes, and fills `out` with the bytes that it gives.
@@ -288,17 +264,10 @@ impl<'a> Port for Chip<'a> {
     fn settled(&self) -> bool {
         let meaning = self.meaning;
         let first = meaning.begins4(&self.start);
-        !(self.left > 0) && (!self.latch && is_mode(first, self.mode4))
+        !(self.left > 0) && (!self.latch && self.mode4 == first)
     }
 
     fn failures(&self) -> u64 {
         0
     }
-}
-
-/// Whether the address mode is the first one.
-fn is_mode(first: bool, mode4: bool) -> bool
-    ensures { result ≡ is_mode first mode4 }
-{
-    if first { mode4 } else { !mode4 }
 }

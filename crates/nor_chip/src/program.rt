@@ -66,7 +66,7 @@ pub fn may_program(meaning: &Meaning, old: u8, byte: u8) -> bool
 }
 
 /// Which wrong a program is that covers a byte where it may not be done.
-pub fn barred(meaning: &Meaning) -> Wrong
+pub(crate) fn barred(meaning: &Meaning) -> Wrong
     ensures { result ≡ barred meaning.now }
 {
     if meaning.erased_only {
@@ -87,7 +87,7 @@ fn may_send(meaning: &Meaning, seen: &Seen<'_>, index: usize, old: u8) -> bool
 }
 
 /// Whether some byte of the program may not be programmed where it goes.
-pub fn is_barred(meaning: &Meaning, page: u32, seen: &Seen<'_>, array: &[u8]) -> bool
+pub(crate) fn is_barred(meaning: &Meaning, page: u32, seen: &Seen<'_>, array: &[u8]) -> bool
     requires program { is_program seen.now.what ≡ true }
     requires some { 0 < page }
     requires inside { page_start page seen.now.address + page ≤ length array.now }

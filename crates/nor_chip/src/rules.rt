@@ -1,29 +1,85 @@
-//! The rules of an instruction that the chip doesn't take, each by itself.
+//! The rules by which a chip doesn't take an instruction: which applies first, and each by itself.
 
-ghost use Rattle.std.specs.Prelude.{◌≡◌, ◌+◌, ◌^◌, ◌&&◌, nat_lt, min, true};
-ghost use Rattle.nor_base.specs.Effect.{has_address, is_broken, is_status, is_read, starts_no_block, needs_latch, is_out_of_range, is_program, is_quad};
+ghost use Rattle.std.specs.Prelude.{◌≡◌, ◌+◌, ◌^◌, ◌&&◌, nat_lt, min, length, true};
+ghost use Rattle.nor_base.specs.Chip.{Setting, Chip, may_page};
+ghost use Rattle.nor_base.specs.Effect.{effect_of, wrong_of, has_address, is_broken, is_status, is_read, starts_no_block, needs_latch, is_out_of_range, is_program, is_quad};
 ghost use Rattle.nor_chip.specs.Sent.{instruction_of};
+ghost use Rattle.nor_chip.specs.State.{IsIn};
 
-use nor_base::{Meaning, Switch, What};
+use crate::program::{barred, is_barred};
+use nor_base::{Meaning, Switch, What, Wrong};
 use nor_decode::Seen;
 use nor_geometry::is_legal;
 
+/// What of a chip decides whether it takes an instruction.
+#[derive(Clone, Copy)]
+pub struct State<'a> {
+    /// Its meaning.
+    pub meaning: &'a Meaning,
+    /// Its quad enable bit is set.
+    pub quad: bool,
+    /// Bytes of its page.
+    pub page: u32,
+    /// It is busy: some status reads are left.
+    pub busy: bool,
+    /// Its write enable latch is set.
+    pub latch: bool,
+    /// The bytes that it holds, by their addresses from 0 on.
+    pub array: &'a [u8],
+}
+
+/// Why a chip in this state doesn't take an instruction, by the first rule that applies (W25Q256JV datasheet).
+///
+/// `Ignored` where its clocks are broken; where the chip is busy, but for a status read; where it needs four lanes, and the
+/// quad enable bit is clear; where it needs the write enable latch, and that is clear. Then `OutOfRange` where its address or
+/// a byte that it reads is past the last one, or where no legal block starts. Then `Raised`, or `NotErased` under the profile
+/// that programs erased bytes alone, where a program covers a byte that it may not be done over. The array has as many bytes
+/// as the meaning's size, and the page is one that [`Meaning::may_page`] allows.
+#[tactic(auto, unfolding(nor_base::specs::Effect::effect_of))]
+pub fn refusal(state: &State<'_>, seen: &Seen<'_>) -> Option<Wrong>
+    requires size { length state.now.array.now ≡ state.now.meaning.now.size }
+    requires page { may_page state.now.meaning.now state.now.page ≡ true }
+    ensures { (s : Setting) → (c : Chip) → IsIn state.now s c → result ≡ wrong_of (effect_of s c (instruction_of seen.now)) }
+{
+    let meaning = state.meaning;
+    if is_broken(seen.what) {
+        return Some(Wrong::Ignored);
+    }
+    if !is_status(seen.what) && state.busy {
+        return Some(Wrong::Ignored);
+    }
+    if is_quad(seen.what) && !state.quad {
+        return Some(Wrong::Ignored);
+    }
+    if needs_latch(meaning, seen.what) && !state.latch {
+        return Some(Wrong::Ignored);
+    }
+    if is_out_of_range(meaning, seen) {
+        return Some(Wrong::OutOfRange);
+    }
+    meaning.is_accepted();
+    if is_program(seen.what) && is_barred(meaning, state.page, seen, state.array) {
+        return Some(barred(meaning));
+    }
+    None
+}
+
 /// The opcode is known, and its clocks aren't those of its instruction.
-pub fn is_broken(what: What) -> bool
+fn is_broken(what: What) -> bool
     ensures { result ≡ is_broken what }
 {
     matches!(what, What::Broken)
 }
 
 /// A busy chip takes status reads alone.
-pub fn is_status(what: What) -> bool
+fn is_status(what: What) -> bool
     ensures { result ≡ is_status what }
 {
     matches!(what, What::Status)
 }
 
 /// Four lanes need the quad enable setting.
-pub fn is_quad(what: What) -> bool
+fn is_quad(what: What) -> bool
     ensures { result ≡ is_quad what }
 {
     matches!(what, What::QuadProgram | What::QuadRead)
@@ -37,7 +93,7 @@ pub fn is_program(what: What) -> bool
 }
 
 /// Erases, programs, and switches of a chip that asks for it need the write enable latch.
-pub fn needs_latch(meaning: &Meaning, what: What) -> bool
+fn needs_latch(meaning: &Meaning, what: What) -> bool
     ensures { result ≡ needs_latch meaning.now what }
 {
     match what {
@@ -50,7 +106,7 @@ pub fn needs_latch(meaning: &Meaning, what: What) -> bool
 
 /// An address at or past the size, a byte read past it, or an erase that starts no legal block.
 #[tactic(auto, unfolding(nor_base::specs::Effect::is_out_of_range))]
-pub fn is_out_of_range(meaning: &Meaning, seen: &Seen<'_>) -> bool
+fn is_out_of_range(meaning: &Meaning, seen: &Seen<'_>) -> bool
     ensures { result ≡ is_out_of_range meaning.now (instruction_of seen.now) }
 {
     let size = meaning.size;

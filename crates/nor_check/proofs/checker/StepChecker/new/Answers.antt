@@ -1,7 +1,6 @@
 -- No step yet.
 use Rattle.std.proofs.Common.{length, sym, ◌∙◌, ap, subst}
 use Rattle.nor_check.specs.Chips.{begun}
-use Rattle.nor_check.specs.Fed.{to_come}
 use Rattle.nor_check.specs.Pages.{HaveSize, judged_each}
 use Rattle.nor_check.specs.Worst.{IsWorst}
 use Rattle.nor_check.proofs.Ends.{yes_exactly}
@@ -23,7 +22,7 @@ returns-clause-worst c = λ steps.
 
 pub returns-clause-yes : goal.returns-clause-yes
 returns-clause-yes c = λ steps.
-    yes_exactly c.args.meaning.now c.args.start c.args.have.items c.args.want.now steps (to_come c.result steps) c.effects.ensures.keeps c.polls.ensures.ends
+    yes_exactly c.args.meaning.now c.args.start c.args.have.items c.args.want.now steps _ c.effects.ensures.keeps c.polls.ensures.ends
     (c.requires.have ∙ sym c.requires.want)
     (subst (IsWorst c.args.meaning.now c.args.start c.args.have.items c.args.want.now steps)
     (ap (λ ts. judged_each c.args.want.now ts steps) (sym c.new.ensures) ∙ before_any c.args.want.now c.new.result steps)
