@@ -62,8 +62,8 @@ fn reads_on<R: ByteIn>(
     source: &mut R,
     steps: &[Step],
 ) -> usize {
-    let mut failures = 0;
-    let mut next = 0;
+    let mut failures = 0usize;
+    let mut next = 0usize;
     for _ in 0..steps.len() + 2 {
         if source.failures() > 1 {
             return failures;
@@ -72,7 +72,7 @@ fn reads_on<R: ByteIn>(
             Ok(true) => {
                 holds(rt, "a step of the script", next < steps.len());
                 holds(rt, "the next step", shows(reader.view(), &steps[next]));
-                next += 1;
+                next = next.saturating_add(1);
             }
             Ok(false) => {
                 same(rt, "steps read", next, steps.len());
@@ -80,7 +80,7 @@ fn reads_on<R: ByteIn>(
             }
             Err(fault) => {
                 same(rt, "a failure", matches!(fault, ReadFault::Device(_)), true);
-                failures += 1;
+                failures = failures.saturating_add(1);
             }
         }
     }
@@ -143,7 +143,7 @@ fn cut_and_changed_texts(rt: HostRuntime) -> Result<(), Fail> {
 /// A script of one step with so many clocks, and of a write enable behind it.
 fn long_script(alloc: Global, clocks: usize) -> Result<Vec<u8>, Fail> {
     let mut text = b"norscript 1\nx ".to_vec(alloc)?;
-    text.resize(14 + clocks, b'0')?;
+    text.resize(clocks.saturating_add(14), b'0')?;
     text.extend_from_slice(b"\nx 00000110\nend 2\n")?;
     Ok(text)
 }
