@@ -131,9 +131,11 @@ impl StepPlayer {
         requires number { self.old.number < 2 ^ 64 - 1 }
         requires room { P.count port.old < 2 ^ 64 - 1 }
         ensures player { self.new ≡ past self.old result }
-        ensures played { PlaysNumbered (P.shown port.old) (P.shown port.new) self.old.limit self.old.number (Verify clocks.now expect.now) result }
+        ensures played { PlaysNumbered (P.shown port.old) (P.shown port.new) self.old.limit self.old.number
+            (Verify clocks.now expect.now) result }
         ensures count { CountsPlay (P.count port.old) (P.count port.new) result }
-        ensures asked { AsksNumbered (P.shown port.old) (P.asked port.old) (P.asked port.new) self.old.limit (Verify clocks.now expect.now) result }
+        ensures asked { AsksNumbered (P.shown port.old) (P.asked port.old) (P.asked port.new) self.old.limit
+            (Verify clocks.now expect.now) result }
     {
         let answer = verify(alloc, clocks, expect, port, self.limit);
         self.count(answer)

@@ -78,7 +78,8 @@ impl LineBuffer {
     /// Finds the next line, for which it takes as many bytes as it needs. `false` where no LF is left.
     pub(crate) fn find_line<R: ByteIn>(&mut self, source: &mut R) -> Result<bool, ReadFault>
         requires { R.count source.old < 2 ^ 64 - 1 }
-        ensures lines { FindsLine (reading (R.ahead source.old) self.old.held) (reading (R.ahead source.new) self.new.held) self.new result }
+        ensures lines { FindsLine (reading (R.ahead source.old) self.old.held)
+            (reading (R.ahead source.new) self.new.held) self.new result }
         ensures count { CountsRead (R.count source.old) (R.count source.new) result }
     {
         let mut searched = 0;
@@ -118,7 +119,8 @@ impl LineBuffer {
     pub(crate) fn goes_on<R: ByteIn>(&mut self, source: &mut R) -> Result<bool, ReadFault>
         requires line { IsFirstLine self.old }
         requires count { R.count source.old < 2 ^ 64 - 1 }
-        ensures bytes { LooksBehind (reading (R.ahead source.old) self.old.held) (reading (R.ahead source.new) self.new.held) self.old.line result }
+        ensures bytes { LooksBehind (reading (R.ahead source.old) self.old.held)
+            (reading (R.ahead source.new) self.new.held) self.old.line result }
         ensures count { CountsRead (R.count source.old) (R.count source.new) result }
     {
         if self.held().len() > self.line().len() + 1 {

@@ -83,7 +83,8 @@ impl StepReader {
     /// the line, with the bytes that came; so a call after `Device` tries again. After the end no line is left: `NoEnd`.
     pub fn advance<R: ByteIn>(&mut self, source: &mut R) -> Result<bool, ReadFault>
         requires { R.count source.old < 2 ^ 64 - 1 }
-        ensures step { Advances (reading (R.ahead source.old) self.old.held) (reading (R.ahead source.new) self.new.held) self.old.steps self.new.step result }
+        ensures step { Advances (reading (R.ahead source.old) self.old.held) (reading (R.ahead source.new) self.new.held)
+            self.old.steps self.new.step result }
         ensures number { CountsStep self.old.steps self.new.steps result }
         ensures bound { self.new.steps ≤ 2 ^ 62 }
         ensures count { CountsRead (R.count source.old) (R.count source.new) result }
@@ -160,7 +161,8 @@ fn read_end<R: ByteIn>(
     requires steps { steps ≤ 2 ^ 62 }
     requires line { IsFirstLine lines.old }
     requires count { R.count source.old < 2 ^ 64 - 1 }
-    ensures bytes { ReadsEnd (reading (R.ahead source.old) lines.old.held) (reading (R.ahead source.new) lines.new.held) lines.old.line steps result }
+    ensures bytes { ReadsEnd (reading (R.ahead source.old) lines.old.held) (reading (R.ahead source.new) lines.new.held)
+        lines.old.line steps result }
     ensures count { CountsRead (R.count source.old) (R.count source.new) result }
 {
     if lines.goes_on(source)? {

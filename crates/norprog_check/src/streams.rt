@@ -50,7 +50,8 @@ pub fn check_streams<F: ByteIn, A: ByteIn, R: ByteIn>(
     ensures refused { IfErr result (λ why.
         (RefusesTask inputs.now len why × (first.new ≡ first.old) × (again.new ≡ again.old) × (content.new ≡ content.old))
         ⊎ ((StopsReading inputs.now len (F.ahead first.old) (F.ahead first.new) why × (again.new ≡ again.old) × (content.new ≡ content.old))
-        ⊎ ((StopsAtContent inputs.now len (F.ahead first.old) (F.ahead first.new) (R.ahead content.old) (R.ahead content.new) why × (again.new ≡ again.old))
+        ⊎ ((StopsAtContent inputs.now len (F.ahead first.old) (F.ahead first.new) (R.ahead content.old) (R.ahead content.new) why
+        × (again.new ≡ again.old))
         ⊎ StopsFeeding inputs.now len (F.ahead first.old) (F.ahead first.new) (A.ahead again.old) (A.ahead again.new)
         (R.ahead content.old) (R.ahead content.new) why))) }
     ensures accepted { (image : Pairs) (regions : List Region) (m : Parameters) → AreAccepted inputs.now len image regions m

@@ -114,7 +114,8 @@ fn run_plan<R: Files + AllocGlobal>(
     times: bool,
     map: Option<&str>,
 ) -> Outline
-    ensures whole { IfOk result.rest (λ rest. ForAsked Task (IsTaskOf request.now) (IsWhole (shown times map.entry) result.lines.items rest.items)) }
+    ensures whole { IfOk result.rest (λ rest. ForAsked Task (IsTaskOf request.now)
+        (IsWhole (shown times map.entry) result.lines.items rest.items)) }
     ensures part { IfErr result.rest (λ _. (result.lines.items ≡ []) ⊎ ForAsked Task (IsTaskOf request.now) (IsPart result.lines.items)) }
     ensures refused { IfErr result.rest (StopsTask (shown times map.entry) (IsTaskOf request.now)) }
 {

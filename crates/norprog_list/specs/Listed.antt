@@ -11,7 +11,8 @@ use Rattle.nor_script.specs.declared.fault.ScriptFault.{ScriptFault}
 use Rattle.norprog_words.specs.declared.faults.Refusal.{Refusal}
 use Rattle.norprog_words.specs.declared.faults.Refusal.TheVariants.{File, Build, Script}
 use Rattle.norprog_words.specs.declared.faults.FileName.TheVariants as file
-use Rattle.norprog_list.specs.Stop.{IsTextOf, IsWhole, AreFirstLines, IsListed, AreAboveFault, PutsSome, CutsSome}
+use Rattle.nor_script.specs.Stream.{HadText}
+use Rattle.norprog_list.specs.Stop.{IsWhole, AreFirstLines, IsListed, AreAboveFault, PutsSome, CutsSome}
 
 -- the inputs don't contradict one another, and give the chip these parameters
 pub record IsKnown (t : Task) (m : Parameters) : Type 0 where
@@ -61,10 +62,10 @@ RefusesListing t text before after other = RefusesChipOf t other × (after ≡ b
 
 -- of a text that the device had ahead
 abbrev pub ListsText : Task → Ahead → Ahead → Option (List ℕ) → Option (List ℕ) → Type 0
-ListsText t ahead rest before after = (text : List ℕ) × IsTextOf ahead rest text × WasListed t text before after
+ListsText t ahead rest before after = HadText ahead rest (λ text. WasListed t text before after)
 
 abbrev pub RefusesText : Task → Ahead → Ahead → Option (List ℕ) → Option (List ℕ) → Refusal → Type 0
-RefusesText t ahead rest before after why = (text : List ℕ) × IsTextOf ahead rest text × RefusesListing t text before after why
+RefusesText t ahead rest before after why = HadText ahead rest (λ text. RefusesListing t text before after why)
 
 -- these may come after some bytes were taken
 abbrev pub may_print : Refusal → Bool
