@@ -32,19 +32,35 @@ const SFDP_EXAMPLE: &str = "Example: norprog sfdp --sfdp /sys/bus/spi/devices/sp
 
 /// The program's commands.
 pub(crate) fn norprog<'a>(alloc: Global) -> Result<Command<'a>, AllocError> {
-    Command::new(alloc, "norprog")
+    let command = Command::new(alloc, "norprog")
         .bin_name("norprog")?
         .about("Programs a SPI NOR flash chip by a bus script")
         .no_binary_name(true)
         .subcommand_required(true)
-        .version(VERSION)
+        .version(VERSION);
+    with_tellers(alloc, with_readers(alloc, with_jobs(alloc, command)?)?)
+}
+
+/// With the commands that take a job: they write its script, tell what that would do, and judge one.
+fn with_jobs<'a>(alloc: Global, command: Command<'a>) -> Result<Command<'a>, AllocError> {
+    command
         .subcommand(build(alloc)?)?
         .subcommand(plan(alloc)?)?
-        .subcommand(check(alloc)?)?
+        .subcommand(check(alloc)?)
+}
+
+/// With the other commands that take a script.
+fn with_readers<'a>(alloc: Global, command: Command<'a>) -> Result<Command<'a>, AllocError> {
+    command
         .subcommand(run(alloc)?)?
         .subcommand(list(alloc)?)?
         .subcommand(draw(alloc)?)?
-        .subcommand(play(alloc)?)?
+        .subcommand(play(alloc)?)
+}
+
+/// With the commands that take none.
+fn with_tellers<'a>(alloc: Global, command: Command<'a>) -> Result<Command<'a>, AllocError> {
+    command
         .subcommand(sfdp(alloc)?)?
         .subcommand(explain(alloc)?)
 }

@@ -68,7 +68,7 @@ fn report_run<O: ByteOut>(
     }
 }
 
-/// Opens the files of a request in their order, and plays.
+/// Plays what is asked for.
 fn verdict_of<R: Files + AllocGlobal>(
     rt: &R,
     given: Result<GivenRun<'_>, Refusal>,
@@ -77,8 +77,17 @@ fn verdict_of<R: Files + AllocGlobal>(
     ensures asked { IfOk result (λ _. line_fault is_well_formed given.entry ≡ None) }
     ensures first { IfErr result (RefusesLine (line_fault is_well_formed given.entry) (RefusesRun (OfRun given.entry))) }
 {
+    let request = request_of(rt.alloc(), given?)?;
+    play_request(rt, request)
+}
+
+/// Opens the files of a request in their order, and plays.
+fn play_request<R: Files + AllocGlobal>(rt: &R, request: RunRequest<'_>) -> Result<Verdict, Refusal>
+    requires { 0 < request.bench.limit }
+    ensures played { IfOk result (IsPlayVerdict (IsTaskOf request.entry)) }
+    ensures refused { IfErr result (RefusesRun (IsTaskOf request.entry)) }
+{
     let alloc = rt.alloc();
-    let request = request_of(alloc, given?)?;
     let mut places = Vec::new(alloc);
     let sfdp = read_sfdp(rt, alloc, request.chip, &mut places)?;
     let (content, place, len) = open_input(rt, request.content, FileName::Content)?;
