@@ -19,7 +19,7 @@ is_partial (Failed step (Exchange why)) = true
 
 -- what is told then
 abbrev pub state_line : List ℕ
-state_line = program_line (codes "the chip may hold a part of the work: read it again and build anew from that dump")
+state_line = program_line (codes "the chip may hold a part of the work: read it again, and build from that dump what it is to hold")
 
 -- 0 where all was done, else 1
 abbrev pub status_of : Ending → ℕ

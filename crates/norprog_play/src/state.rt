@@ -13,7 +13,7 @@ use nor_serprog::{GreetFault, Reason};
 
 /// What is told where the chip may hold a part of what the steps do.
 const STATE: &[u8] =
-    b"norprog: the chip may hold a part of the work: read it again and build anew from that dump\n";
+    b"norprog: the chip may hold a part of the work: read it again, and build from that dump what it is to hold\n";
 
 /// Tells beside an ending that the chip may hold a part of the work, where that is so, and answers the status: 0 where all was
 /// done, else 1. Where `err` fails a part of the text is lost, and nothing more is told.

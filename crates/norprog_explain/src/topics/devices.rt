@@ -62,17 +62,21 @@ pub(crate) const TOPICS: &[Topic] = &[
     ),
     (
         "failed",
-        "Behind `at` is the step, from 0, that the device didn't do. `carried`: it can't,\n\
-         as it is for one lane and has a most of bytes; no step was sent. Else the\n\
-         steps before it are done and it may be, in part: `nak` the device refused it,\n\
-         `silent` no answer came, `differs` another byte came, `read` or `write` failed.\n\
-         Then read the chip again, in the mode that it is in, and build anew from that.",
+        "Behind `at` is the step, from 0, that the device didn't do. `carried`: it needs\n\
+         four lanes, or more bytes than the device takes, and no step was sent: build\n\
+         without --quad, and with bit 9 of --status as 0. Else the steps before it are\n\
+         done and it may be, in part: `nak` the device refused it, `silent` no answer\n\
+         came, `differs` another byte came, `read` or `write` failed. Then ask for\n\
+         `the chip may hold`.",
     ),
     (
         "the chip may hold",
         "Steps were sent to the chip, and not all of them were done: it holds neither\n\
-         what it held nor what it is to hold, and may be in another address mode. Read\n\
-         it again, and build anew from that dump, not from the old one.",
+         what it held nor what it is to hold, and may be in another address mode: power\n\
+         it off and on. What it is to hold run --out gives, by the old dump and script.\n\
+         Make that file HEX with objcopy, read the chip again, and build the HEX, whole\n\
+         and without regions, from the new dump. The old HEX alone would leave what was\n\
+         erased around it FF.",
     ),
 ];
 

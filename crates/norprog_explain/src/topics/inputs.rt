@@ -10,7 +10,9 @@ pub(crate) const TOPICS: &[Topic] = &[
         "usage",
         "A value isn't of its form, or options don't go together: give exactly one of\n\
          --sfdp and --uniform, no --bits beside --uniform, numbers as digits alone,\n\
-         and six hexadecimal digits as --status. Look at the command's --help.",
+         and six hexadecimal digits as --status. Look at the command's --help. Of\n\
+         explain: nothing is told of these words; alone it lists what can be asked,\n\
+         which are the words behind `norprog:`.",
     ),
     (
         "file hex",
@@ -55,7 +57,8 @@ pub(crate) const TOPICS: &[Topic] = &[
     (
         "file",
         "A file of the command line can't be used; the word behind it says which one:\n\
-         hex, layout, sfdp, content, script, out or device. Ask for these two words.",
+         hex, layout, sfdp, content, script, out, map or device. Ask for these two\n\
+         words.",
     ),
     (
         "contradiction 1",

@@ -36,7 +36,7 @@ pub(crate) const TOPICS: &[Topic] = &[
         "sfdp 6",
         "The size that was given or read isn't a multiple of 4096 from 4096 on: up to\n\
          16777216 with --uniform, which takes bytes, and up to 256 MiB in SFDP bytes.\n\
-         Correct the size, or read the bytes again.",
+         Past 16 MiB give --sfdp. Else correct the size, or read the bytes again.",
     ),
     (
         "sfdp 7",

@@ -17,7 +17,7 @@ pub(crate) const TOPICS: &[Topic] = &[
         "The script doesn't do the job on every chip: don't play it. Behind `at` is the\n\
          step, from 0, at which some chip goes wrong, and the number of the wrong (ask\n\
          for `wrong` and the number). `differs` tells an address whose byte isn't its\n\
-         target at the end.",
+         target at the end. Or image, regions, base or content aren't those it is for.",
     ),
     (
         "ok",
@@ -50,13 +50,13 @@ pub(crate) const TOPICS: &[Topic] = &[
     (
         "wrong 5",
         "Mismatch: the bytes read aren't those that the step expects. The content given\n\
-         isn't what the script was made for.",
+         isn't what the script was made for, or a program before writes other bytes.",
     ),
     (
         "wrong 6",
         "PollNever: one poll was busy for as many turns as --limit allows. Give a\n\
          greater limit, or shorter busy times. On a device the chip may hold a part of\n\
-         the work: read it again, and build anew from that dump.",
+         the work: ask for `the chip may hold`.",
     ),
     (
         "wrong 7",
