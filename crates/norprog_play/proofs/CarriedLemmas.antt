@@ -5,6 +5,7 @@ use Rattle.std.proofs.lemmas.List.Elements.{All-nil, All-cons, All-append, All-g
 use Rattle.std.specs.Prelude.{All, IsTrue, ◌↔◌}
 use Rattle.nor_base.specs.declared.step.Step.{Step}
 use Rattle.nor_base.specs.declared.meaning.Start.{Start}
+use Rattle.nor_base.specs.Chip.{begins4}
 use Rattle.nor_base.specs.Parameters.{Parameters}
 use Rattle.nor_serprog.specs.Carried.{IsOperation}
 use Rattle.nor_serprog.specs.declared.limits.Limits.{Limits}
@@ -14,7 +15,7 @@ use Rattle.nor_serprog.specs.Follow.{Follows}
 use Rattle.norprog_play.specs.declared.ending.Ending.TheVariants.{Failed}
 use Rattle.nor_base.specs.Sample.{sampled_count}
 use Rattle.norprog_play.specs.Carried.{IsCarried, AreCarried, IsFirstNotCarried}
-use Rattle.norprog_play.specs.Likeness.{are_four, Begins}
+use Rattle.norprog_play.specs.Likeness.{Begins}
 use Rattle.norprog_play.specs.Ending.{EndsSo, MayBegin}
 use Rattle.norprog_play.specs.Moment.{clocks_of, Moment, DoesAll, StopsAt}
 use Rattle.norprog_play.specs.Touched.{IsCompared}
@@ -38,7 +39,7 @@ never_none limits turns b c x given can follows = (follows.other (λ is. follows
 
 -- where a play that began stops
 pub stops : (limits : Limits) (turns : ℕ) (trusted : Bool) (m : Parameters) (start : Start) (before between after : Moment) (steps : List Step) (at : ℕ) (why : Reason)
-    → MayBegin limits before steps → Begins trusted (are_four m start) (IsCompared m start steps) before between → StopsAt limits turns between steps at why after
+    → MayBegin limits before steps → Begins trusted (begins4 m start) (IsCompared m start steps) before between → StopsAt limits turns between steps at why after
     → EndsSo limits turns trusted m start before steps (Failed at why) after
 stops limits turns trusted m start before between after steps at reason.Busy may begins stop = record { may = may; between = between; begins = begins; stops = stop }
 stops limits turns trusted m start before between after steps at (reason.Exchange why) may begins stop = record { may = may; between = between; begins = begins; stops = stop }

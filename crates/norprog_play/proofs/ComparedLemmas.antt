@@ -46,8 +46,8 @@ gives_none (Finite bytes) = refl
 gives_none (Endless byte_at) = ((λ k inside. absurd (omega (arith, inside))), (λ k. ap byte_at (omega arith)))
 
 -- nothing was read yet
-pub none_read : (held : Option (List ℕ)) (a : Ahead) (four : Bool) (content : List ℕ) (Wanted : ℕ → Type 0) → HasComparedTo held held a a four content Wanted 0
-none_read held a four content Wanted = record {
+pub none_read : (held : Option (List ℕ)) (a : Ahead) (mode4 : Bool) (content : List ℕ) (Wanted : ℕ → Type 0) → HasComparedTo held held a a mode4 content Wanted 0
+none_read held a mode4 content Wanted = record {
   ranges = [];
   in_order = omega arith;
   just = λ k. ((λ h. absurd h), (λ h. absurd (omega (arith, h.0))));
@@ -55,9 +55,9 @@ none_read held a four content Wanted = record {
 }
 
 -- where no address up to a higher one is wanted
-pub reaches : (held held' : Option (List ℕ)) (a b : Ahead) (four : Bool) (content : List ℕ) (Wanted : ℕ → Type 0) (high higher : ℕ) → high ≤ higher
-    → ((k : ℕ) → high ≤ k → k < higher → Wanted k → ⊥) → HasComparedTo held held' a b four content Wanted high → HasComparedTo held held' a b four content Wanted higher
-reaches held held' a b four content Wanted high higher more none so_far = record {
+pub reaches : (held held' : Option (List ℕ)) (a b : Ahead) (mode4 : Bool) (content : List ℕ) (Wanted : ℕ → Type 0) (high higher : ℕ) → high ≤ higher
+    → ((k : ℕ) → high ≤ k → k < higher → Wanted k → ⊥) → HasComparedTo held held' a b mode4 content Wanted high → HasComparedTo held held' a b mode4 content Wanted higher
+reaches held held' a b mode4 content Wanted high higher more none so_far = record {
   ranges = so_far.ranges;
   in_order = in_order_higher 0 high higher so_far.ranges more so_far.in_order;
   just = λ k. (
@@ -71,12 +71,12 @@ reaches held held' a b four content Wanted high higher more none so_far = record
 }
 
 -- one range more, of addresses that are all wanted
-pub reads_more : (held held' held'' : Option (List ℕ)) (a b c : Ahead) (four : Bool) (content : List ℕ) (Wanted : ℕ → Type 0) (r : Range) → 0 < r.len
-    → ((k : ℕ) → r.start ≤ k → k < r.start + r.len → Wanted k) → HasComparedTo held held' a b four content Wanted r.start
-    → Appends held' held'' (read_of four r) → Gives b (answer (bytes_in content r)) c → HasComparedTo held held'' a c four content Wanted (r.start + r.len)
-reads_more held held' held'' a b c four content Wanted r some wanted so_far put given =
-    let asked : flat_map (read_of four) (so_far.ranges ++ r ∷ []) ≡ flat_map (read_of four) so_far.ranges ++ read_of four r =
-    flat_map-append (read_of four) so_far.ranges (r ∷ []) ∙ ap (λ l. flat_map (read_of four) so_far.ranges ++ l) (append-nil (read_of four r)) in
+pub reads_more : (held held' held'' : Option (List ℕ)) (a b c : Ahead) (mode4 : Bool) (content : List ℕ) (Wanted : ℕ → Type 0) (r : Range) → 0 < r.len
+    → ((k : ℕ) → r.start ≤ k → k < r.start + r.len → Wanted k) → HasComparedTo held held' a b mode4 content Wanted r.start
+    → Appends held' held'' (read_of mode4 r) → Gives b (answer (bytes_in content r)) c → HasComparedTo held held'' a c mode4 content Wanted (r.start + r.len)
+reads_more held held' held'' a b c mode4 content Wanted r some wanted so_far put given =
+    let asked : flat_map (read_of mode4) (so_far.ranges ++ r ∷ []) ≡ flat_map (read_of mode4) so_far.ranges ++ read_of mode4 r =
+    flat_map-append (read_of mode4) so_far.ranges (r ∷ []) ∙ ap (λ l. flat_map (read_of mode4) so_far.ranges ++ l) (append-nil (read_of mode4 r)) in
     let answers : Range → List ℕ = λ (x : Range). answer (bytes_in content x) in
     let answered : flat_map answers (so_far.ranges ++ r ∷ []) ≡ flat_map answers so_far.ranges ++ answers r =
     flat_map-append answers so_far.ranges (r ∷ []) ∙ ap (λ l. flat_map answers so_far.ranges ++ l) (append-nil (answers r)) in
@@ -109,24 +109,24 @@ abbrev piece_of : ℕ → ℕ → Range
 piece_of start len = record { start = start; len = len }
 
 -- the next piece of marked addresses
-pub piece_more : (held held' held'' : Option (List ℕ)) (a b c : Ahead) (four : Bool) (content piece : List ℕ) (marks : List Bool) (done most start len : ℕ)
+pub piece_more : (held held' held'' : Option (List ℕ)) (a b c : Ahead) (mode4 : Bool) (content piece : List ℕ) (marks : List Bool) (done most start len : ℕ)
     → start + len ≤ length content → piece ≡ slice_range content start (start + len) → IsNextMarked marks done start → AreMarkedFrom marks start most len
-    → HasComparedTo held held' a b four content (IsMarked marks) done → Appends held' held'' (request (read_from four start) (length piece)) → Gives b (answer piece) c
-    → HasComparedTo held held'' a c four content (IsMarked marks) (start + len)
-piece_more held held' held'' a b c four content piece marks done most start len within is next from so_far put given =
+    → HasComparedTo held held' a b mode4 content (IsMarked marks) done → Appends held' held'' (request (read_from mode4 start (length piece)) (length piece)) → Gives b (answer piece) c
+    → HasComparedTo held held'' a c mode4 content (IsMarked marks) (start + len)
+piece_more held held' held'' a b c mode4 content piece marks done most start len within is next from so_far put given =
     let long : length piece ≡ len = ap length is ∙ slice_of content start len within in
-    reads_more held held' held'' a b c four content (IsMarked marks) (piece_of start len) from.some from.each
-    (reaches held held' a b four content (IsMarked marks) done start next.past next.none_before so_far)
-    (subst (λ n. Appends held' held'' (request (read_from four start) n)) long put)
+    reads_more held held' held'' a b c mode4 content (IsMarked marks) (piece_of start len) from.some from.each
+    (reaches held held' a b mode4 content (IsMarked marks) done start next.past next.none_before so_far)
+    (subst (λ n. Appends held' held'' (request (read_from mode4 start n) n)) long put)
     (subst (λ (l : List ℕ). Gives b (answer l) c) is given)
 
 -- its exchange ended so
-pub piece_stopped : (held held' held'' : Option (List ℕ)) (a b c : Ahead) (four : Bool) (content piece : List ℕ) (marks : List Bool) (done most start len : ℕ) (why : Fault)
+pub piece_stopped : (held held' held'' : Option (List ℕ)) (a b c : Ahead) (mode4 : Bool) (content piece : List ℕ) (marks : List Bool) (done most start len : ℕ) (why : Fault)
     → start + len ≤ length content → piece ≡ slice_range content start (start + len) → IsNextMarked marks done start → AreMarkedFrom marks start most len
-    → HasComparedTo held held' a b four content (IsMarked marks) done
-    → Asks held' held'' b c (Err why) (request (read_from four start) (length piece)) (AnswersWith b c (Err why) piece)
-    → StopsComparing held held'' a c four content (IsMarked marks) why
-piece_stopped held held' held'' a b c four content piece marks done most start len why within is next from so_far stop =
+    → HasComparedTo held held' a b mode4 content (IsMarked marks) done
+    → Asks held' held'' b c (Err why) (request (read_from mode4 start (length piece)) (length piece)) (AnswersWith b c (Err why) piece)
+    → StopsComparing held held'' a c mode4 content (IsMarked marks) why
+piece_stopped held held' held'' a b c mode4 content piece marks done most start len why within is next from so_far stop =
     let long : length piece ≡ len = ap length is ∙ slice_of content start len within in
     record {
       last = piece_of start len;
@@ -135,21 +135,21 @@ piece_stopped held held' held'' a b c four content piece marks done most start l
       wanted = λ k h. from.each k h.0 h.1;
       held = held';
       ahead = b;
-      before = reaches held held' a b four content (IsMarked marks) done start next.past next.none_before so_far;
-      stop = subst (λ (l : List ℕ). Asks held' held'' b c (Err why) (request (read_from four start) len) (AnswersWith b c (Err why) l)) is
-          (subst (λ n. Asks held' held'' b c (Err why) (request (read_from four start) n) (AnswersWith b c (Err why) piece)) long stop);
+      before = reaches held held' a b mode4 content (IsMarked marks) done start next.past next.none_before so_far;
+      stop = subst (λ (l : List ℕ). Asks held' held'' b c (Err why) (request (read_from mode4 start len) len) (AnswersWith b c (Err why) l)) is
+          (subst (λ n. Asks held' held'' b c (Err why) (request (read_from mode4 start n) n) (AnswersWith b c (Err why) piece)) long stop);
     }
 
 -- there are no more
-pub all_read : (held held' : Option (List ℕ)) (a b : Ahead) (four : Bool) (content : List ℕ) (marks : List Bool) (done : ℕ) → done ≤ length content
-    → ((k : ℕ) → done ≤ k → IsMarked marks k → ⊥) → HasComparedTo held held' a b four content (IsMarked marks) done → HasCompared held held' a b four content (IsMarked marks)
-all_read held held' a b four content marks done within none so_far =
-    reaches held held' a b four content (IsMarked marks) done (length content) within (λ k past below is. none k past is) so_far
+pub all_read : (held held' : Option (List ℕ)) (a b : Ahead) (mode4 : Bool) (content : List ℕ) (marks : List Bool) (done : ℕ) → done ≤ length content
+    → ((k : ℕ) → done ≤ k → IsMarked marks k → ⊥) → HasComparedTo held held' a b mode4 content (IsMarked marks) done → HasCompared held held' a b mode4 content (IsMarked marks)
+all_read held held' a b mode4 content marks done within none so_far =
+    reaches held held' a b mode4 content (IsMarked marks) done (length content) within (λ k past below is. none k past is) so_far
 
 -- of addresses that are wanted just where others are
-pub wanted_alike : (held held' : Option (List ℕ)) (a b : Ahead) (four : Bool) (content : List ℕ) (P Q : ℕ → Type 0) (high : ℕ) → ((k : ℕ) → k < high → (P k ↔ Q k))
-    → HasComparedTo held held' a b four content P high → HasComparedTo held held' a b four content Q high
-wanted_alike held held' a b four content P Q high alike so_far = record {
+pub wanted_alike : (held held' : Option (List ℕ)) (a b : Ahead) (mode4 : Bool) (content : List ℕ) (P Q : ℕ → Type 0) (high : ℕ) → ((k : ℕ) → k < high → (P k ↔ Q k))
+    → HasComparedTo held held' a b mode4 content P high → HasComparedTo held held' a b mode4 content Q high
+wanted_alike held held' a b mode4 content P Q high alike so_far = record {
   ranges = so_far.ranges;
   in_order = so_far.in_order;
   just = λ k. (

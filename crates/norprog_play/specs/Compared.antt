@@ -1,6 +1,6 @@
 -- What the chip behind a device holds, compared with a content (W25Q256JV datasheet, Read Data 03h and Read Data with 4-Byte
 -- Address 13h; the exchanges are the Serial Flasher Protocol's).
-use Rattle.std.specs.Prelude.{◌⊎◌, ◌↔◌, ℕ, ◌+◌, ◌/◌, ◌%◌, ◌<◌, ◌≤◌, Bool, true, false, List, [], ◌∷◌, length, flat_map, Option, Err}
+use Rattle.std.specs.Prelude.{◌⊎◌, ◌↔◌, ℕ, ◌+◌, ◌/◌, ◌%◌, ◌^◌, ◌<◌, ◌≤◌, nat_lt, if◌then◌else◌, Bool, true, false, List, [], ◌∷◌, length, flat_map, Option, Err}
 use Rattle.std.specs.List.{slice_range}
 use Rattle.nor_base.specs.Device.{Ahead}
 use Rattle.nor_serprog.specs.declared.fault.Fault.{Fault}
@@ -25,14 +25,22 @@ abbrev pub AreInOrder : ℕ → ℕ → List Range → Type 0
 AreInOrder low high [] = low ≤ high
 AreInOrder low high (r ∷ rs) = (low ≤ r.start) × (0 < r.len) × AreInOrder (r.start + r.len) high rs
 
--- the instruction that reads from an address on: with four address bytes, or with three
-abbrev pub read_from : Bool → ℕ → List ℕ
-read_from true address = 0x13 ∷ address / 16777216 % 256 ∷ address / 65536 % 256 ∷ address / 256 % 256 ∷ address % 256 ∷ []
-read_from false address = 0x03 ∷ address / 65536 % 256 ∷ address / 256 % 256 ∷ address % 256 ∷ []
+-- an opcode and an address in three bytes, and in four
+abbrev pub three_bytes : ℕ → ℕ → List ℕ
+three_bytes opcode address = opcode ∷ address / 65536 % 256 ∷ address / 256 % 256 ∷ address % 256 ∷ []
+
+abbrev pub four_bytes : ℕ → ℕ → List ℕ
+four_bytes opcode address = opcode ∷ address / 16777216 % 256 ∷ address / 65536 % 256 ∷ address / 256 % 256 ∷ address % 256 ∷ []
+
+-- the instruction that reads so many bytes from an address on: 03h with the address bytes of the chip's mode, so that a chip in the
+-- other mode gives other bytes; 13h for what three address bytes don't reach
+abbrev pub read_from : Bool → ℕ → ℕ → List ℕ
+read_from true address len = four_bytes 0x03 address
+read_from false address len = if nat_lt (2 ^ 24) (address + len) then four_bytes 0x13 address else three_bytes 0x03 address
 
 -- a read of a range
 abbrev pub read_of : Bool → Range → List ℕ
-read_of four r = request (read_from four r.start) r.len
+read_of mode4 r = request (read_from mode4 r.start r.len) r.len
 
 -- the bytes of a content in a range
 abbrev pub bytes_in : List ℕ → Range → List ℕ
@@ -40,24 +48,24 @@ bytes_in content r = slice_range content r.start (r.start + r.len)
 
 -- the device was asked for just these ranges, one after the other, and gave just what the content has there
 abbrev pub HasRead : Option (List ℕ) → Option (List ℕ) → Ahead → Ahead → Bool → List ℕ → List Range → Type 0
-HasRead held_before held_after ahead_before ahead_after four content ranges =
-    Talked held_before held_after ahead_before ahead_after (flat_map (read_of four) ranges) (flat_map (λ r. answer (bytes_in content r)) ranges)
+HasRead held_before held_after ahead_before ahead_after mode4 content ranges =
+    Talked held_before held_after ahead_before ahead_after (flat_map (read_of mode4) ranges) (flat_map (λ r. answer (bytes_in content r)) ranges)
 
 -- these ranges hold just the addresses below one that were to be compared
-pub record HasComparedTo (held_before held_after : Option (List ℕ)) (ahead_before ahead_after : Ahead) (four : Bool) (content : List ℕ)
+pub record HasComparedTo (held_before held_after : Option (List ℕ)) (ahead_before ahead_after : Ahead) (mode4 : Bool) (content : List ℕ)
     (Wanted : ℕ → Type 0) (high : ℕ) : Type 0 where
   pub ranges : List Range
   pub in_order : AreInOrder 0 high ranges
   pub just : (a : ℕ) → LiesInOne ranges a ↔ ((a < high) × Wanted a)
-  pub read : HasRead held_before held_after ahead_before ahead_after four content ranges
+  pub read : HasRead held_before held_after ahead_before ahead_after mode4 content ranges
 
 -- of the whole content
 abbrev pub HasCompared : Option (List ℕ) → Option (List ℕ) → Ahead → Ahead → Bool → List ℕ → (ℕ → Type 0) → Type 0
-HasCompared held_before held_after ahead_before ahead_after four content Wanted =
-    HasComparedTo held_before held_after ahead_before ahead_after four content Wanted (length content)
+HasCompared held_before held_after ahead_before ahead_after mode4 content Wanted =
+    HasComparedTo held_before held_after ahead_before ahead_after mode4 content Wanted (length content)
 
 -- those before this range were compared, and the exchange of it ended so
-pub record StopsComparing (held_before held_after : Option (List ℕ)) (ahead_before ahead_after : Ahead) (four : Bool) (content : List ℕ)
+pub record StopsComparing (held_before held_after : Option (List ℕ)) (ahead_before ahead_after : Ahead) (mode4 : Bool) (content : List ℕ)
     (Wanted : ℕ → Type 0) (why : Fault) : Type 0 where
   pub last : Range
   pub some : 0 < last.len
@@ -65,5 +73,5 @@ pub record StopsComparing (held_before held_after : Option (List ℕ)) (ahead_be
   pub wanted : (a : ℕ) → LiesIn last a → Wanted a
   pub held : Option (List ℕ)
   pub ahead : Ahead
-  pub before : HasComparedTo held_before held ahead_before ahead four content Wanted last.start
-  pub stop : Asks held held_after ahead ahead_after (Err why) (read_of four last) (AnswersWith ahead ahead_after (Err why) (bytes_in content last))
+  pub before : HasComparedTo held_before held ahead_before ahead mode4 content Wanted last.start
+  pub stop : Asks held held_after ahead ahead_after (Err why) (read_of mode4 last) (AnswersWith ahead ahead_after (Err why) (bytes_in content last))

@@ -2,7 +2,7 @@
 use Rattle.std.specs.Prelude.{◌≡◌, ℕ, Bool, false, List, length, Ok}
 use Rattle.nor_base.specs.declared.meaning.Start.{Start}
 use Rattle.nor_base.specs.declared.step.Step.{Step}
-use Rattle.nor_base.specs.Chip.{Chip}
+use Rattle.nor_base.specs.Chip.{Chip, begins4}
 use Rattle.nor_base.specs.Parameters.{Parameters}
 use Rattle.nor_base.specs.Run.{trail}
 use Rattle.nor_play.specs.Play.{play}
@@ -13,7 +13,7 @@ use Rattle.nor_serprog.specs.declared.limits.Limits.{Limits}
 use Rattle.norprog_play.specs.declared.ending.Ending.{Ending}
 use Rattle.norprog_play.specs.declared.ending.Ending.TheVariants.{Done, Wrong as GoesWrong, Unlike, Failed}
 use Rattle.norprog_play.specs.Carried.{AreCarried, IsFirstNotCarried}
-use Rattle.norprog_play.specs.Likeness.{are_four, Begins, IsUnlike}
+use Rattle.norprog_play.specs.Likeness.{Begins, IsUnlike}
 use Rattle.norprog_play.specs.Moment.{Moment, DoesAll, StopsAt}
 use Rattle.norprog_play.specs.Touched.{IsCompared}
 
@@ -33,7 +33,7 @@ pub record IsDone (limits : Limits) (turns : ℕ) (trusted : Bool) (m : Paramete
   pub ends : play before.shown.setting 1 before.shown.chip steps ≡ Ok after.shown.chip
   pub counted : transactions ≡ length (trail before.shown.setting before.shown.chip steps)
   pub between : Moment
-  pub begins : Begins trusted (are_four m start) (IsCompared m start steps) before between
+  pub begins : Begins trusted (begins4 m start) (IsCompared m start steps) before between
   pub does : DoesAll limits turns between steps after
 
 -- they go well, this one is the first that is no operation of the device, and nothing was done
@@ -47,14 +47,14 @@ pub record IsUnlikeBefore (limits : Limits) (trusted : Bool) (m : Parameters) (s
     (after : Moment) : Type 0 where
   pub may : MayBegin limits before steps
   pub wary : trusted ≡ false
-  pub unlike : IsUnlike (are_four m start) (IsCompared m start steps) before after why
+  pub unlike : IsUnlike (begins4 m start) (IsCompared m start steps) before after why
 
 -- they began, and ended at this one
 pub record StopsOnDevice (limits : Limits) (turns : ℕ) (trusted : Bool) (m : Parameters) (start : Start) (before : Moment) (steps : List Step)
     (at : ℕ) (why : Reason) (after : Moment) : Type 0 where
   pub may : MayBegin limits before steps
   pub between : Moment
-  pub begins : Begins trusted (are_four m start) (IsCompared m start steps) before between
+  pub begins : Begins trusted (begins4 m start) (IsCompared m start steps) before between
   pub stops : StopsAt limits turns between steps at why after
 
 -- how steps end that go well on the chip in memory; what was compared before is what they touch, unless the chip is trusted

@@ -11,15 +11,15 @@ use nor_base::{ByteIn, ByteOut};
 use nor_serprog::{Fault, Limits, operate_with};
 
 /// Has the device read the marked cells of its chip, from the lowest on, as many bytes at once as it can give and lie side by
-/// side, and compares them with a content, the byte of address 0 the first. Addresses go out in four bytes (13h) or in three
-/// (03h). It takes no memory.
+/// side, and compares them with a content, the byte of address 0 the first. They are read by 03h, with the address bytes of the
+/// mode, so that a chip in the other mode gives other bytes; past 2^24 in three-byte mode by 13h. It takes no memory.
 ///
 /// At Ok the device gave just these bytes. Else the exchange of a piece ended so: `Differs` where a byte is another.
 pub(crate) fn compare<R: ByteIn, W: ByteOut>(
     from: &mut R,
     to: &mut W,
     limits: &Limits,
-    four: bool,
+    mode4: bool,
     content: &[u8],
     marks: &[bool],
 ) -> Result<(), Fault>
@@ -28,15 +28,15 @@ pub(crate) fn compare<R: ByteIn, W: ByteOut>(
     requires reader { R.count from.old < 2 ^ 64 - 1 }
     requires writer { W.count to.old < 2 ^ 64 - 1 }
     ensures compared { MatchResult result
-        (λ _. HasCompared (W.held to.old) (W.held to.new) (R.ahead from.old) (R.ahead from.new) four content.now (IsMarked marks.now))
-        (StopsComparing (W.held to.old) (W.held to.new) (R.ahead from.old) (R.ahead from.new) four content.now (IsMarked marks.now)) }
+        (λ _. HasCompared (W.held to.old) (W.held to.new) (R.ahead from.old) (R.ahead from.new) mode4 content.now (IsMarked marks.now))
+        (StopsComparing (W.held to.old) (W.held to.new) (R.ahead from.old) (R.ahead from.new) mode4 content.now (IsMarked marks.now)) }
     ensures reads { CountsReads (R.count from.old) (R.count from.new) result }
     ensures writes { CountsWrites (W.count to.old) (W.count to.new) result }
 {
     let mut done = 0;
     while let Some((start, len)) = next_piece(marks, done, limits.asked as usize) {
         let piece = &content[start..start + len];
-        if let Err(why) = compare_piece(from, to, four, start as u32, piece) {
+        if let Err(why) = compare_piece(from, to, mode4, start as u32, piece) {
             return Err(why);
         }
         done = start + len;
@@ -48,7 +48,7 @@ pub(crate) fn compare<R: ByteIn, W: ByteOut>(
 fn compare_piece<R: ByteIn, W: ByteOut>(
     from: &mut R,
     to: &mut W,
-    four: bool,
+    mode4: bool,
     address: u32,
     piece: &[u8],
 ) -> Result<(), Fault>
@@ -56,12 +56,14 @@ fn compare_piece<R: ByteIn, W: ByteOut>(
     requires reader { R.count from.old < 2 ^ 64 - 1 }
     requires writer { W.count to.old < 2 ^ 64 - 1 }
     ensures asked { Asks (W.held to.old) (W.held to.new) (R.ahead from.old) (R.ahead from.new) result
-        (request (read_from four address) (length piece.now)) (AnswersWith (R.ahead from.old) (R.ahead from.new) result piece.now) }
+        (request (read_from mode4 address (length piece.now)) (length piece.now)) (AnswersWith (R.ahead from.old) (R.ahead from.new) result piece.now) }
     ensures reads { CountsReads (R.count from.old) (R.count from.new) result }
     ensures writes { CountsWrites (W.count to.old) (W.count to.new) result }
 {
     let [highest, high, low, lowest] = address.to_be_bytes();
-    if four {
+    if mode4 {
+        operate_with(from, to, &[0x03, highest, high, low, lowest], piece)
+    } else if address as usize + piece.len() > 1 << 24 {
         operate_with(from, to, &[0x13, highest, high, low, lowest], piece)
     } else {
         operate_with(from, to, &[0x03, high, low, lowest], piece)

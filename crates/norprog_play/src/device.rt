@@ -10,7 +10,7 @@ ghost use Rattle.norprog_play.specs.Ending.{EndsSo};
 
 use crate::ending::Ending;
 use crate::follow::follow_steps;
-use crate::likeness::{are_four, begin};
+use crate::likeness::begin;
 use crate::step::widest;
 use crate::touched::touched_cells;
 use crate::within::carried;
@@ -61,7 +61,7 @@ pub fn play_on_device<R: Read + Drop, W: Write + Drop, P: ByteOut>(
     let mut room = vec![in alloc; 0u8; widest(steps)]?;
     let cells = touched_cells(alloc, meaning, &start, steps)?;
     meaning.is_accepted();
-    if let Err(why) = begin(port, are_four(meaning, &start), cells.as_slice(), trusted) {
+    if let Err(why) = begin(port, meaning.begins4(&start), cells.as_slice(), trusted) {
         return Ok(Ending::Unlike { why });
     }
     match follow_steps(steps, port, room.as_mut_slice(), progress) {

@@ -8,7 +8,7 @@ use Rattle.norprog_play.proofs.content.compare.Goals as goal
 pub loop-start-init : goal.loop-start-init
 loop-start-init g c = record {
   within = omega arith;
-  read = none_read (g.W.ByteOut.held c.args.to.now) (g.R.ByteIn.ahead c.args.from.now) c.args.four c.args.content.now (IsMarked c.args.marks.now);
+  read = none_read (g.W.ByteOut.held c.args.to.now) (g.R.ByteIn.ahead c.args.from.now) c.args.mode4 c.args.content.now (IsMarked c.args.marks.now);
   reads = refl;
   writes = refl;
 }
@@ -16,7 +16,7 @@ loop-start-init g c = record {
 pub returns-in-Err-clause-compared : goal.returns-in-Err-clause-compared
 returns-in-Err-clause-compared g c =
     piece_stopped (g.W.ByteOut.held c.args.to.now) (g.W.ByteOut.held c.loop-start.to) (g.W.ByteOut.held c.compare_piece.new.to)
-    (g.R.ByteIn.ahead c.args.from.now) (g.R.ByteIn.ahead c.loop-start.from) (g.R.ByteIn.ahead c.compare_piece.new.from) c.args.four c.args.content.now
+    (g.R.ByteIn.ahead c.args.from.now) (g.R.ByteIn.ahead c.loop-start.from) (g.R.ByteIn.ahead c.compare_piece.new.from) c.args.mode4 c.args.content.now
     (slice_range c.args.content.now c.in-Some.start (c.in-Some.start + c.in-Some.len)) c.args.marks.now c.loop-start.done c.args.limits.now.asked c.in-Some.start c.in-Some.len
     c.in-Err.why (omega (arith, c.in-Some.ensures.1.within, c.requires.cells)) refl c.in-Some.ensures.0 c.in-Some.ensures.1 c.loop-start.invariant.read c.in-Err.ensures.asked
 
@@ -26,7 +26,7 @@ loop-start-preserved g c =
     record {
       within = within;
       read = piece_more (g.W.ByteOut.held c.args.to.now) (g.W.ByteOut.held c.loop-start.to) (g.W.ByteOut.held c.compare_piece.new.to)
-          (g.R.ByteIn.ahead c.args.from.now) (g.R.ByteIn.ahead c.loop-start.from) (g.R.ByteIn.ahead c.compare_piece.new.from) c.args.four c.args.content.now
+          (g.R.ByteIn.ahead c.args.from.now) (g.R.ByteIn.ahead c.loop-start.from) (g.R.ByteIn.ahead c.compare_piece.new.from) c.args.mode4 c.args.content.now
           (slice_range c.args.content.now c.in-Some.start (c.in-Some.start + c.in-Some.len)) c.args.marks.now c.loop-start.done c.args.limits.now.asked c.in-Some.start
           c.in-Some.len within refl c.in-Some.ensures.0 c.in-Some.ensures.1 c.loop-start.invariant.read c.in_default-compare_piece.ensures.asked.0
           c.in_default-compare_piece.ensures.asked.1;
@@ -36,5 +36,5 @@ loop-start-preserved g c =
 
 pub returns-clause-compared : goal.returns-clause-compared
 returns-clause-compared g c =
-    all_read (g.W.ByteOut.held c.args.to.now) (g.W.ByteOut.held c.loop-start.to) (g.R.ByteIn.ahead c.args.from.now) (g.R.ByteIn.ahead c.loop-start.from) c.args.four
+    all_read (g.W.ByteOut.held c.args.to.now) (g.W.ByteOut.held c.loop-start.to) (g.R.ByteIn.ahead c.args.from.now) (g.R.ByteIn.ahead c.loop-start.from) c.args.mode4
     c.args.content.now c.args.marks.now c.loop-start.done c.loop-start.invariant.within c.in_default.ensures c.loop-start.invariant.read

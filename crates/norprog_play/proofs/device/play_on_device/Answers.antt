@@ -5,7 +5,6 @@ use Rattle.nor_base.specs.Port.{Shown}
 use Rattle.nor_base.specs.Run.{played}
 use Rattle.nor_serprog.specs.declared.limits.Limits.{Limits}
 use Rattle.norprog_play.specs.Carried.{AreCarried}
-use Rattle.norprog_play.specs.Likeness.{are_four}
 use Rattle.norprog_play.specs.Moment.{moment}
 use Rattle.norprog_play.specs.Touched.{IsTouched}
 use Rattle.norprog_play.proofs.CarriedLemmas.{stops, same_bounds, done_bounds}
@@ -23,8 +22,8 @@ returns-in-Err-begin g c =
       ends = record {
         may = record { well = c.requires.well; carried = c.in_default.ensures };
         wary = c.in-Err-begin.ensures.begins.0;
-        unlike = unlike_touched (are_four c.args.meaning.now c.args.start) c.are_four.result (IsTouched c.args.meaning.now (begins4 c.args.meaning.now c.args.start) c.args.steps.now) _
-            c.in_ok-cells.cells.items c.as_slice.result.now before after c.in-Err-begin.why c.are_four.ensures c.as_slice.ensures.value c.in_ok-cells.ensures cells
+        unlike = unlike_touched (begins4 c.args.meaning.now c.args.start) c.begins4.result (IsTouched c.args.meaning.now (begins4 c.args.meaning.now c.args.start) c.args.steps.now) _
+            c.in_ok-cells.cells.items c.as_slice.result.now before after c.in-Err-begin.why c.begins4.ensures c.as_slice.ensures.value c.in_ok-cells.ensures cells
             c.in-Err-begin.ensures.begins.1;
       };
     }
@@ -48,8 +47,8 @@ returns-in-Ok g c =
         ends = same_end c.args.port.now.chip.setting c.args.port.now.chip.chip c.requires.well.0 c.follow_steps.new.port.chip.chip c.args.steps.now c.requires.well.1 ends;
         counted = c.requires.counted;
         between = between;
-        begins = begins_touched c.args.trusted (are_four c.args.meaning.now c.args.start) c.are_four.result (IsTouched c.args.meaning.now (begins4 c.args.meaning.now c.args.start) c.args.steps.now) _
-            c.in_ok-cells.cells.items c.as_slice.result.now before between c.are_four.ensures c.as_slice.ensures.value c.in_ok-cells.ensures cells c.in_default-begin.ensures.begins;
+        begins = begins_touched c.args.trusted (begins4 c.args.meaning.now c.args.start) c.begins4.result (IsTouched c.args.meaning.now (begins4 c.args.meaning.now c.args.start) c.args.steps.now) _
+            c.in_ok-cells.cells.items c.as_slice.result.now before between c.begins4.ensures c.as_slice.ensures.value c.in_ok-cells.ensures cells c.in_default-begin.ensures.begins;
         does = done_bounds c.args.port.now.limits c.begin.new.port.limits c.args.port.now.turns c.begin.new.port.turns between after c.args.steps.now
             c.in_default-begin.ensures.limits c.in_default-begin.ensures.turns c.in-Ok.ensures.done;
       };
@@ -65,8 +64,8 @@ returns g c =
     record {
       ends = stops c.args.port.now.limits c.args.port.now.turns c.args.trusted c.args.meaning.now c.args.start before between after c.args.steps.now
           c.in-Err-follow_steps.halt.step c.in-Err-follow_steps.halt.why (record { well = c.requires.well; carried = c.in_default.ensures })
-          (begins_touched c.args.trusted (are_four c.args.meaning.now c.args.start) c.are_four.result (IsTouched c.args.meaning.now (begins4 c.args.meaning.now c.args.start) c.args.steps.now) _
-          c.in_ok-cells.cells.items c.as_slice.result.now before between c.are_four.ensures c.as_slice.ensures.value c.in_ok-cells.ensures cells c.in_default-begin.ensures.begins)
+          (begins_touched c.args.trusted (begins4 c.args.meaning.now c.args.start) c.begins4.result (IsTouched c.args.meaning.now (begins4 c.args.meaning.now c.args.start) c.args.steps.now) _
+          c.in_ok-cells.cells.items c.as_slice.result.now before between c.begins4.ensures c.as_slice.ensures.value c.in_ok-cells.ensures cells c.in_default-begin.ensures.begins)
           (same_bounds c.args.port.now.limits c.begin.new.port.limits c.args.port.now.turns c.begin.new.port.turns between after c.args.steps.now
           c.in-Err-follow_steps.halt.step c.in-Err-follow_steps.halt.why c.in_default-begin.ensures.limits c.in_default-begin.ensures.turns c.in-Err-follow_steps.ensures.done);
     }
