@@ -35,14 +35,6 @@ pub fn clocks_into(instr: &Instr<'_>, clocks: &mut Vec<u8>) -> Result<(), Frames
     ensures spells { SpellsCoded (coded_of instr.now) }
 {
     spelling();
-    append_instr(instr, clocks).map_err(FramesFault::from)
-}
-
-fn append_instr<A: Allocator>(instr: &Instr<'_>, clocks: &mut Vec<u8, A>) -> Result<(), AllocError>
-    requires { instr.now.width ≤ 4 }
-    ensures clocks { IfOk result (λ _. clocks.new.items ≡ clocks.old.items ++ frame (coded_of instr.now)) }
-    ensures stays { IfErr result (λ _. clocks.new.items ≡ clocks.old.items) }
-{
     let head = head(instr);
     append(
         head.as_slice(),
@@ -50,6 +42,7 @@ fn append_instr<A: Allocator>(instr: &Instr<'_>, clocks: &mut Vec<u8, A>) -> Res
         &instr.body,
         clocks,
     )
+    .map_err(FramesFault::from)
 }
 
 /// Appends the clocks of bytes on one lane, of dummies and of data. It asks for their memory at once.
