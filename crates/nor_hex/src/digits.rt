@@ -3,7 +3,7 @@
 ghost use Rattle.std.specs.Prelude.{◌≡◌, ◌<◌, ◌≤◌, ◌/◌, ◌%◌, IsTrue, length, take, slice_index, sum};
 ghost use Rattle.std.specs.List.{list_all};
 ghost use Rattle.hex.specs.Hex.{is_hex_digit};
-ghost use Rattle.nor_hex.specs.Record.{digit, pair_bytes};
+ghost use Rattle.nor_hex.specs.Record.{pair_bytes};
 
 /// Whether a byte is a hexadecimal digit, of either case.
 pub(crate) fn is_digit(byte: u8) -> bool

@@ -5,7 +5,7 @@ ghost use Rattle.std.specs.List.{AllByRecursion};
 ghost use Rattle.nor_pages.specs.Runs.{IsUnit, LiesBetween, AreBetween};
 ghost use Rattle.nor_select.specs.Streamed.{next};
 ghost use Rattle.nor_steps.specs.Faults.{CountsSteps, IsOfWriting};
-ghost use Rattle.nor_steps.specs.Units.{run_op, run_ops, page_reads, block_reads, run_reads, block_ops, page_ops, Writes, WritesUnit};
+ghost use Rattle.nor_steps.specs.Units.{run_op, run_ops, page_reads, block_reads, block_ops, page_ops, Writes, WritesUnit};
 ghost use Rattle.nor_steps.specs.Writing.{Adds, next_lines, written_on};
 
 use crate::fault::StepsFault;
