@@ -2,14 +2,14 @@
 
 ghost use Rattle.std.specs.Prelude.{◌≡◌, ◌≤◌, ◌++◌, length, IfOk, IfErr, IfSome};
 ghost use Rattle.nor_select.specs.View.{coded_of, load_in};
-ghost use Rattle.nor_frames.specs.Frames.{load_clocks, load_len, head_of, frame, frame_by, SpellsCoded};
+ghost use Rattle.nor_frames.specs.Frames.{load_clocks, load_len, head_of, frame, SpellsCoded};
 
 use crate::fault::FramesFault;
 use crate::spread::{spread1, spread4};
 use arrayvec::ArrayVec;
 use nor_laws::spelling;
 use nor_select::{Body, Instr};
-use std::alloc::{AllocError, Allocator};
+use std::alloc::AllocError;
 
 /// The opcode of an instruction and its address bytes, the highest first. It has at most four of them.
 pub fn head(instr: &Instr<'_>) -> ArrayVec<u8, 5>
@@ -25,7 +25,8 @@ pub fn head(instr: &Instr<'_>) -> ArrayVec<u8, 5>
     bytes
 }
 
-/// Appends the clocks of an instruction: opcode, address, dummies, data. It has at most four address bytes.
+/// Appends the clocks of an instruction: opcode, address, dummies, data. It has at most four address bytes. It asks for
+/// their memory at once.
 ///
 /// `Memory` where the growth is refused; the vector is as it was then.
 pub fn clocks_into(instr: &Instr<'_>, clocks: &mut Vec<u8>) -> Result<(), FramesFault>
@@ -35,36 +36,11 @@ pub fn clocks_into(instr: &Instr<'_>, clocks: &mut Vec<u8>) -> Result<(), Frames
     ensures spells { SpellsCoded (coded_of instr.now) }
 {
     spelling();
-    append_instr(instr, clocks).map_err(FramesFault::from)
-}
-
-fn append_instr<A: Allocator>(instr: &Instr<'_>, clocks: &mut Vec<u8, A>) -> Result<(), AllocError>
-    requires { instr.now.width ≤ 4 }
-    ensures clocks { IfOk result (λ _. clocks.new.items ≡ clocks.old.items ++ frame (coded_of instr.now)) }
-    ensures stays { IfErr result (λ _. clocks.new.items ≡ clocks.old.items) }
-{
     let head = head(instr);
-    append(
-        head.as_slice(),
-        usize::from(instr.dummies),
-        &instr.body,
-        clocks,
-    )
-}
-
-/// Appends the clocks of bytes on one lane, of dummies and of data. It asks for their memory at once.
-fn append<A: Allocator>(
-    head: &[u8],
-    dummies: usize,
-    body: &Body<'_>,
-    clocks: &mut Vec<u8, A>,
-) -> Result<(), AllocError>
-    ensures clocks { IfOk result (λ _. clocks.new.items ≡ clocks.old.items ++ frame_by head.now dummies (load_in body.now)) }
-    ensures stays { IfErr result (λ _. clocks.new.items ≡ clocks.old.items) }
-{
     let start = clocks.len();
-    let lead = head.len().checked_mul(8).ok_or(AllocError)?;
-    let load = body_len(body).ok_or(AllocError)?;
+    let lead = head.len() * 8;
+    let dummies = usize::from(instr.dummies);
+    let load = body_len(&instr.body).ok_or(AllocError)?;
     let fixed = lead.checked_add(dummies).ok_or(AllocError)?;
     let more = fixed.checked_add(load).ok_or(AllocError)?;
     let end = start.checked_add(more).ok_or(AllocError)?;
@@ -72,9 +48,9 @@ fn append<A: Allocator>(
     let (_before, after) = clocks.split_at_mut(start);
     let (front, rest) = after.split_at_mut(lead);
     let (middle, last) = rest.split_at_mut(dummies);
-    spread1(head, front);
+    spread1(head.as_slice(), front);
     middle.fill(b'-');
-    lay_body(body, last);
+    lay_body(&instr.body, last);
     Ok(())
 }
 

@@ -1,6 +1,7 @@
 -- An accepted text has no fault.
 use Prim.Native.Nat.{zero}
-use Rattle.std.proofs.Common.{◌≡◌, ◌≢◌, ℕ, suc, ◌-◌, ◌≤◌, List, [], ◌∷◌, ◌++◌, map, length, take, drop, slice_get, Some, Result, Ok, refl, sym, ap, subst, ◌∙◌, arith}
+use Rattle.std.proofs.Common.{◌≡◌, ◌≢◌, ℕ, suc, ◌-◌, ◌≤◌, List, [], ◌∷◌, ◌++◌, map, length, take, drop, slice_get, Some, Result, Ok, Err, refl, sym, ap, subst, ◌∙◌, arith}
+use Rattle.std.specs.Prelude.{IfErr}
 use Rattle.std.specs.List.{list_any}
 use Rattle.std.proofs.lemmas.List.{take-append-drop}
 use Rattle.nor_hex.specs.declared.fault.HexFault.{HexFault}
@@ -118,3 +119,7 @@ only_memory text records (BadType n) accepted real = absurd (no_fault text recor
 only_memory text records (Conflict n) accepted real = absurd (no_fault text records (Conflict n) accepted (real (λ e. cc)))
 only_memory text records (AfterEnd n) accepted real = absurd (no_fault text records (AfterEnd n) accepted (real (λ e. cc)))
 only_memory text records Memory accepted real = refl
+
+pub refused_for_memory : {T : Type 0} → (text : List ℕ) (records : List Record) (result : Result T HexFault) → IsAccepted text records → IfErr result (λ fault. fault ≢ Memory → IsFault text fault) → IfErr result (λ fault. fault ≡ Memory)
+refused_for_memory text records (Ok image) accepted told = told
+refused_for_memory text records (Err fault) accepted told = only_memory text records fault accepted told

@@ -1,8 +1,7 @@
 -- Lemmas on segments as the list of their addresses with the bytes.
 use Prim.Native.Nat.{zero}
-use Rattle.std.proofs.Common.{◌≡◌, ◌≢◌, ◌⊎◌, inl, inr, ℕ, suc, ◌+◌, ◌-◌, ◌^◌, ◌<◌, ◌≤◌, true, false, nat_eq, List, [], ◌∷◌, ◌++◌, length, drop, slice_get, slice_index, Bor, Option, Some, None, Contains, refl, sym, subst, ap, ◌∙◌, arith, length-append}
+use Rattle.std.proofs.Common.{◌≡◌, ◌≢◌, ◌⊎◌, inl, inr, ℕ, suc, ◌+◌, ◌-◌, ◌^◌, ◌<◌, ◌≤◌, true, false, nat_eq, List, [], ◌∷◌, ◌++◌, length, drop, slice_get, slice_index, Option, Some, None, Contains, refl, sym, subst, ap, ◌∙◌, arith, length-append}
 use Rattle.std.specs.List.{enumerate_from}
-use Rattle.std.specs.Option.{MatchOption}
 use Rattle.std.specs.List.Sorted.{IsStrictlyIncreasing}
 use Rattle.std.proofs.lemmas.List.FromFn.{length-enumerate_from}
 use Rattle.std.proofs.lemmas.Bool.{ne_eqb, eq-eqb}
@@ -182,10 +181,6 @@ left_last segment later bytes done at inside =
 pub byte_from_contains : (segments : List Segment) (bytes : List ℕ) (address byte : ℕ) → IsSegments segments bytes → Contains (pairs_of segments bytes) (address, byte) → byte_at (pairs_of segments bytes) address ≡ Some byte
 byte_from_contains segments bytes address byte right found =
     (listed 0 (pairs_of segments bytes) found.0 address byte (rising 0 segments bytes right (λ s e. omega arith)) (get_from_index (pairs_of segments bytes) found.0 (address, byte) found.1 ∙ ap Some found.2)).1
-
-pub run_found : (segments : List Segment) (bytes : List ℕ) → IsSegments segments bytes → (from : ℕ) (found : Option (ℕ × Bor (List ℕ))) → MatchOption found (HoldsNoneFrom segments bytes from) (λ run. IsRunIn segments bytes from run.0 run.1.now) → MatchOption found (HasNoneFrom (pairs_of segments bytes) from) (λ run. IsRunFrom (pairs_of segments bytes) from run.0 run.1.now)
-run_found segments bytes right from None none = has_none segments bytes right from none
-run_found segments bytes right from (Some run) there = run_from segments bytes right from run.0 run.1.now there
 
 -- ---- what is left of an iteration
 module _ (segments later : List Segment) (segment : Segment) (bytes : List ℕ) (done : ℕ) (left : HasLeft segments bytes done) (first_is : segments ≡ segment ∷ later) where

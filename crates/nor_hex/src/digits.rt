@@ -3,7 +3,7 @@
 ghost use Rattle.std.specs.Prelude.{◌≡◌, ◌<◌, ◌≤◌, ◌/◌, ◌%◌, IsTrue, length, take, slice_index, sum};
 ghost use Rattle.std.specs.List.{list_all};
 ghost use Rattle.hex.specs.Hex.{is_hex_digit};
-ghost use Rattle.nor_hex.specs.Record.{digit, pair_bytes};
+ghost use Rattle.nor_hex.specs.Record.{pair_bytes};
 
 /// Whether a byte is a hexadecimal digit, of either case.
 pub(crate) fn is_digit(byte: u8) -> bool
@@ -23,23 +23,16 @@ pub(crate) fn are_digits(bytes: &[u8]) -> bool
     all
 }
 
-/// The value of a hexadecimal digit, without a branch: the low half of a decimal digit is its
-/// value, and that of a letter, which is at 64 or past it, is 9 less.
-fn value(byte: u8) -> u8
-    requires { IsTrue (is_hex_digit byte) }
-    ensures value { result ≡ digit byte }
-    ensures small { result < 16 }
-{
-    byte % 16 + byte / 64 * 9
-}
-
-/// The byte that the pair `i` of the digits spells.
+/// The byte that the pair `i` of the digits spells, without a branch: the low half of a decimal
+/// digit is its value, and that of a letter, which is at 64 or past it, is 9 less.
 pub(crate) fn pair(digits: &[u8], i: usize) -> u8
     requires digits { IsTrue (list_all is_hex_digit digits.now) }
     requires in_range { i < length digits.now / 2 }
     ensures { result ≡ slice_index (pair_bytes digits.now) i }
 {
-    value(digits[2 * i]) * 16 + value(digits[2 * i + 1])
+    let high = digits[2 * i];
+    let low = digits[2 * i + 1];
+    (high % 16 + high / 64 * 9) * 16 + (low % 16 + low / 64 * 9)
 }
 
 /// Decodes the pairs to the front of `bytes`, and answers the sum of what they spell, modulo 256.

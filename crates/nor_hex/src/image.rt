@@ -4,9 +4,8 @@ ghost use Rattle.std.specs.Prelude.{◌≡◌, ◌↔◌, ◌<◌, ◌^◌, ℕ,
 ghost use Rattle.std.specs.Iterator.{YieldsFirst, item_count};
 ghost use Rattle.std.specs.List.Sorted.{IsStrictlyIncreasing};
 ghost use Rattle.nor_hex.specs.Image.{byte_at, addresses, IsRunFrom, HasNoneFrom};
-ghost use Rattle.nor_hex.specs.Segments.{pairs_of};
 
-use crate::segments::{Segment, Segments, run_in};
+use crate::segments::{Segment, Segments, next_segment};
 use std::alloc::Global;
 use std::marker::Model;
 
@@ -14,7 +13,7 @@ use std::marker::Model;
 /// addresses with their bytes, the addresses rising.
 #[derive(Debug, Drop)]
 pub struct Image {
-    segments: Segments<Global>,
+    pub(crate) segments: Segments<Global>,
 }
 
 impl Model for Image {
@@ -27,12 +26,6 @@ impl Model for Image {
 }
 
 impl Image {
-    pub(crate) fn new(segments: Segments<Global>) -> Image
-        ensures { result ≡ pairs_of segments.list.items segments.bytes.items }
-    {
-        Image { segments }
-    }
-
     /// The byte at an address, if the text gives it one.
     pub fn at(&self, address: u32) -> Option<u8>
         ensures { result ≡ byte_at self.now address }
@@ -51,11 +44,13 @@ impl Image {
     pub fn run_from(&self, from: u32) -> Option<(u32, &[u8])>
         ensures { MatchOption result (HasNoneFrom self.now from) (λ run. IsRunFrom self.now from run.0 run.1.now) }
     {
-        run_in(
-            self.segments.list.as_slice(),
-            self.segments.bytes.as_slice(),
-            from,
-        )
+        let segment = next_segment(&self.segments.list, from)?;
+        let at = segment.first.max(from);
+        let place = segment.place + (at - segment.first) as usize;
+        Some((
+            at,
+            &self.segments.bytes[place..place + (segment.last - at) as usize + 1],
+        ))
     }
 
     /// The number of addresses that the text gives a byte.

@@ -7,7 +7,6 @@ ghost use Rattle.nor_hex.specs.declared.fault.HexFault.TheVariants.{Conflict, Me
 ghost use Rattle.nor_hex.specs.Record.{Record};
 ghost use Rattle.nor_hex.specs.Faults.{IsAccepted, IsImage, IsFault};
 ghost use Rattle.nor_hex.specs.Pieces.{Gives, IsPieces};
-ghost use Rattle.nor_hex.specs.Segments.{pairs_of};
 ghost use Rattle.nor_hex.specs.Steps.{AddsRecord, Clashes, base_past};
 
 use crate::base::{Base, address, base_in, room};
@@ -15,7 +14,7 @@ use crate::fault::HexFault;
 use crate::image::Image;
 use crate::pieces::{Pieces, add_run};
 use crate::record::{HexLine, MOST_BYTES, record_in};
-use crate::segments::{Segments, joined};
+use crate::segments::joined;
 use nor_lines::{filled, line_count};
 use std::alloc::{Allocator, Global};
 use std::collections::BTreeMap;
@@ -31,20 +30,9 @@ pub fn read(alloc: Global, text: &[u8]) -> Result<Image, HexFault>
     ensures accepted { (records : List Record) → IsAccepted text.now records
         → IfErr result (λ fault. fault ≡ Memory) }
 {
-    Ok(Image::new(segments_in(alloc, text)?))
-}
-
-/// The bytes of a text in segments, in memory of any allocator.
-pub(crate) fn segments_in<A: Allocator + Clone>(
-    alloc: A,
-    text: &[u8],
-) -> Result<Segments<A>, HexFault>
-    ensures image { IfOk result (λ segments. IsImage text.now (pairs_of segments.list.items segments.bytes.items)) }
-    ensures fault { IfErr result (λ fault. fault ≢ Memory → IsFault text.now fault) }
-{
     let mut pieces = Pieces {
-        by_last: BTreeMap::new(alloc.clone()?),
-        bytes: Vec::new(alloc.clone()?),
+        by_last: BTreeMap::new(alloc),
+        bytes: Vec::new(alloc),
     };
     let mut base = Base::Linear(0);
     let mut ended = false;
@@ -62,11 +50,14 @@ pub(crate) fn segments_in<A: Allocator + Clone>(
             line: line_count(text) + 1,
         });
     }
-    Ok(joined(alloc, pieces)?)
+    Ok(Image {
+        segments: joined(alloc, pieces)?,
+    })
 }
 
-/// Adds what a record with these data bytes says, and answers the base after it. A byte for an
-/// address that has another byte is `Conflict`.
+/// Adds what a record with these data bytes says, and answers the base after it: of a data record a
+/// run up to where the addresses wrap, and one from there on. A byte for an address that has another
+/// byte is `Conflict`.
 fn add_record<A: Allocator + Clone>(
     pieces: &mut Pieces<A>,
     base: Base,
@@ -86,39 +77,13 @@ fn add_record<A: Allocator + Clone>(
 {
     match line.kind {
         0 => {
-            add_bytes(pieces, base, line, bytes)?;
+            let (front, rest) = bytes.split_at(bytes.len().min(room(base, line.offset)));
+            add_run(pieces, address(base, line.offset, 0), front, line.line)?;
+            let past = address(base, line.offset, front.len());
+            add_run(pieces, past, rest, line.line)?;
             Ok(base)
         }
         2 | 4 => Ok(base_in(line)),
         _ => Ok(base),
     }
-}
-
-/// Puts the bytes of a data record where the base says: a run up to where the addresses wrap, and
-/// one from there on.
-fn add_bytes<A: Allocator + Clone>(
-    pieces: &mut Pieces<A>,
-    base: Base,
-    line: &HexLine<'_>,
-    bytes: &[u8],
-) -> Result<(), HexFault>
-    requires kind { line.now.kind ≡ 0 }
-    requires bytes { bytes.now ≡ line.now.bytes }
-    requires few { length bytes.now ≤ 255 }
-    requires pieces { IsPieces (get nat_cmp pieces.old.by_last) pieces.old.bytes.items }
-    ensures pieces { OnOk result (IsPieces (get nat_cmp pieces.new.by_last) pieces.new.bytes.items) }
-    ensures bytes { OnOk result (AddsRecord base line.now (Gives (get nat_cmp pieces.old.by_last) pieces.old.bytes.items)
-        (Gives (get nat_cmp pieces.new.by_last) pieces.new.bytes.items)) }
-    ensures line { IfErr result (λ fault. fault ≢ Memory → fault ≡ Conflict line.now.line) }
-    ensures clash { IfErr result (λ fault. fault ≢ Memory
-        → Clashes base line.now (Gives (get nat_cmp pieces.old.by_last) pieces.old.bytes.items)) }
-{
-    let (front, rest) = bytes.split_at(bytes.len().min(room(base, line.offset)));
-    add_run(pieces, address(base, line.offset, 0), front, line.line)?;
-    add_run(
-        pieces,
-        address(base, line.offset, front.len()),
-        rest,
-        line.line,
-    )
 }

@@ -5,7 +5,7 @@ ghost use Rattle.std.specs.Ordering.{nat_cmp};
 ghost use Rattle.std.specs.BTreeMap.{get};
 ghost use Rattle.nor_hex.specs.declared.segments.Segment.{Segment};
 ghost use Rattle.nor_hex.specs.Pieces.{Gives, IsPieces, IsNext, HasNoNext};
-ghost use Rattle.nor_hex.specs.Segments.{Holds, IsSegments, AreBelow, EndsAt, total, SameBytes, IsOnly, IsJoined, IsRunIn, HoldsNoneFrom, IsNextSegment};
+ghost use Rattle.nor_hex.specs.Segments.{Holds, IsSegments, AreBelow, EndsAt, total, SameBytes, IsOnly, IsJoined, IsNextSegment};
 
 use crate::pieces::{Piece, Pieces, next_piece};
 use std::alloc::{AllocError, Allocator};
@@ -114,19 +114,8 @@ fn join<A: Allocator + Clone>(
     Ok(())
 }
 
-/// The first run of bytes at an address or past it, with its address.
-pub(crate) fn run_in<'a>(list: &[Segment], bytes: &'a [u8], from: u32) -> Option<(u32, &'a [u8])>
-    requires { IsSegments list.now bytes.now }
-    ensures { MatchOption result (HoldsNoneFrom list.now bytes.now from) (λ run. IsRunIn list.now bytes.now from run.0 run.1.now) }
-{
-    let segment = next_segment(list, from)?;
-    let at = segment.first.max(from);
-    let place = segment.place + (at - segment.first) as usize;
-    Some((at, &bytes[place..place + (segment.last - at) as usize + 1]))
-}
-
 /// The first segment that ends at an address or past it.
-fn next_segment(list: &[Segment], from: u32) -> Option<Segment>
+pub(crate) fn next_segment(list: &[Segment], from: u32) -> Option<Segment>
     requires { (i : ℕ) (s : Segment) (j : ℕ) (t : Segment) → slice_get list.now i ≡ Some s → slice_get list.now j ≡ Some t
         → i ≤ j → s.last ≤ t.last }
     ensures { MatchOption result (AreBelow from list.now) (λ segment. IsNextSegment list.now from segment) }

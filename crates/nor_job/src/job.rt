@@ -47,7 +47,7 @@ pub fn job_of(alloc: Global, inputs: &Inputs<'_>, len: u64) -> Result<Job, Build
         → IfErr result (λ fault. fault ≡ Memory) }
 {
     consistent(inputs)?;
-    let image = image_of(alloc, inputs)?;
+    let image = nor_hex::read(alloc, inputs.hex)?;
     let chosen = choose(alloc, inputs)?;
     let (meaning, start) = sized_chip(inputs, len)?;
     Ok(Job {
@@ -70,16 +70,6 @@ fn consistent(inputs: &Inputs<'_>) -> Result<(), BuildFault>
         Some(number) => Err(BuildFault::Contradiction(number)),
         None => Ok(()),
     }
-}
-
-/// The image of the text. `Hex` tells the text's first fault; `Memory` where a growth was refused.
-fn image_of(alloc: Global, inputs: &Inputs<'_>) -> Result<Image, BuildFault>
-    requires { contradiction inputs.now ≡ None }
-    ensures image { IfOk result (HasImage inputs.now) }
-    ensures refused { IfErr result (λ fault. (len : ℕ) → RefusesInputs inputs.now len fault) }
-    ensures accepted { (image : Pairs) → HasImage inputs.now image → IfErr result (λ fault. fault ≡ Memory) }
-{
-    Ok(nor_hex::read(alloc, inputs.hex)?)
 }
 
 /// The chosen addresses; without a layout no region is named, and the whole chip is chosen.

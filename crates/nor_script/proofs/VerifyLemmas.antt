@@ -4,7 +4,6 @@ use Rattle.std.specs.Prelude.{flat_map, codes}
 use Rattle.nor_base.specs.declared.step.Step.{Step}
 use Rattle.nor_base.specs.declared.step.Step.TheVariants.{Send, Poll, Verify}
 use Rattle.nor_base.specs.Script.{closed, hex_pair, step_line}
-use Rattle.nor_script.specs.Verify.{verify_line}
 
 abbrev pub front_of_verify : List ℕ → List ℕ
 front_of_verify clocks = codes "v " ++ (clocks ++ codes " ")
@@ -12,7 +11,8 @@ front_of_verify clocks = codes "v " ++ (clocks ++ codes " ")
 abbrev pub digits_of_verify : List ℕ → List ℕ
 digits_of_verify expect = closed (flat_map hex_pair expect)
 
-pub clocks_then_digits : (clocks expect : List ℕ) → front_of_verify clocks ++ digits_of_verify expect ≡ verify_line clocks expect
+pub clocks_then_digits : (clocks expect : List ℕ) → front_of_verify clocks ++ digits_of_verify expect ≡ closed (step_line (Verify clocks expect))
+unfolding step_line
 clocks_then_digits clocks expect =
     ap (λ rest. 118 ∷ 32 ∷ rest)
     (append_assoc clocks (codes " ") (flat_map hex_pair expect ++ 10 ∷ [])

@@ -5,7 +5,6 @@ ghost use Rattle.nor_base.specs.Device.{Writes, Counts};
 ghost use Rattle.nor_base.specs.Step.{is_step};
 ghost use Rattle.nor_base.specs.declared.step.Step.TheVariants.{Send, Poll, Verify};
 ghost use Rattle.nor_base.specs.Script.{header, closed, step_line, end_line};
-ghost use Rattle.nor_script.specs.Verify.{verify_line};
 
 use crate::hexadecimal::put_hexadecimal;
 use itoa::Buffer;
@@ -71,7 +70,9 @@ pub fn write_verify<W: ByteOut>(clocks: &[u8], expect: &[u8], writer: &mut W) ->
     ensures bytes { Writes (W.held writer.old) (W.held writer.new) result (closed (step_line (Verify clocks.now expect.now))) }
     ensures count { Counts (W.count writer.old) (W.count writer.new) result }
 {
-    put_verify(writer, clocks, expect)
+    put_parts(writer, &[b"v ", clocks, b" "])?;
+    put_hexadecimal(expect, writer)?;
+    put_all(writer, b"\n")
 }
 
 /// Writes the end line with the number of steps.
@@ -84,15 +85,4 @@ pub fn finish<W: ByteOut>(steps: u64, writer: &mut W) -> Result<(), Failed>
 {
     let mut digits = Buffer::new();
     put_parts(writer, &[b"end ", digits.format(steps).as_bytes(), b"\n"])
-}
-
-/// Writes the line of a verify.
-fn put_verify<W: ByteOut>(writer: &mut W, clocks: &[u8], expect: &[u8]) -> Result<(), Failed>
-    requires { W.count writer.old < 2 ^ 64 - 1 }
-    ensures bytes { Writes (W.held writer.old) (W.held writer.new) result (verify_line clocks.now expect.now) }
-    ensures count { Counts (W.count writer.old) (W.count writer.new) result }
-{
-    put_parts(writer, &[b"v ", clocks, b" "])?;
-    put_hexadecimal(expect, writer)?;
-    put_all(writer, b"\n")
 }

@@ -1,5 +1,5 @@
 -- What a unit's operations are, by their numbers.
-use Rattle.std.proofs.Common.{◌≡◌, ℕ, ◌+◌, ◌*◌, ◌/◌, ◌^◌, ◌≤◌, Bool, true, false, if◌then◌else◌, List, [], ◌∷◌, ◌++◌, length, map, Option, Result, Ok, Err, refl, ◌∙◌, ap, subst, arith}
+use Rattle.std.proofs.Common.{◌≡◌, ℕ, ◌+◌, ◌*◌, ◌/◌, ◌^◌, ◌≤◌, Bool, true, false, ◌||◌, if◌then◌else◌, List, [], ◌∷◌, ◌++◌, length, map, Option, Result, Ok, Err, refl, ◌∙◌, ap, subst, arith}
 use Rattle.std.specs.Prelude.{sum_by, IsErr}
 use Rattle.std.specs.Io.KnownBytes.{Appends}
 use Rattle.std.proofs.lemmas.List.Sums.{sum_by-cons, sum_by-append}
@@ -143,6 +143,21 @@ page_cut w v u x y z start runs want r is put state cut =
     let programs = run_ops false start want runs in
     writes_err w u x z 1 (page_ops w start runs want) r is
     (more_begun x y z w programs (run_reads w start want runs) put (subst (λ (h : Writing). Begins y z (next_lines h (run_reads h start want runs))) state cut))
+
+-- what a page is read by, where the work is verified and where it isn't
+pub reads_on : (w : Writing) (start : ℕ) (want : List ℕ) (runs : List Run) → w.verify ≡ true → run_ops true start want runs ≡ run_reads w start want runs
+reads_on w start want runs on = rw on refl
+
+pub reads_off : (w : Writing) (start : ℕ) (want : List ℕ) (runs : List Run) → w.verify ≡ false → [] ≡ run_reads w start want runs
+reads_off w start want runs off = rw off refl
+
+-- no operation, no step
+or_none : (b : Bool) → b ≡ (b || false)
+or_none true = refl
+or_none false = refl
+
+pub stays_on : (w : Writing) → w ≡ written_on w []
+stays_on w = ap (λ b. record w { streaming = record w.streaming { started = b } }) (or_none w.streaming.started)
 
 -- where the work isn't verified nothing is written
 pub nothing_read : (w : Writing) (a : Option (List ℕ)) (b : Bool) (ops : List Op) → b ≡ false → Appends a a (next_lines w (if b then ops else []))

@@ -5,7 +5,7 @@ ghost use Rattle.std.specs.List.{AllByRecursion};
 ghost use Rattle.nor_pages.specs.Runs.{IsUnit, LiesBetween, AreBetween};
 ghost use Rattle.nor_select.specs.Streamed.{next};
 ghost use Rattle.nor_steps.specs.Faults.{CountsSteps, IsOfWriting};
-ghost use Rattle.nor_steps.specs.Units.{run_op, run_ops, page_reads, block_reads, run_reads, block_ops, page_ops, Writes, WritesUnit};
+ghost use Rattle.nor_steps.specs.Units.{run_op, run_ops, page_reads, block_reads, block_ops, page_ops, Writes, WritesUnit};
 ghost use Rattle.nor_steps.specs.Writing.{Adds, next_lines, written_on};
 
 use crate::fault::StepsFault;
@@ -90,7 +90,11 @@ impl<'m> StepWriter<'m> {
         ensures why { IfErr result IsOfWriting }
     {
         let programs = self.write_runs(alloc, false, start, runs, want, out)?;
-        let reads = self.verify_runs(alloc, start, runs, want, out)?;
+        let reads = if self.verify {
+            self.write_runs(alloc, true, start, runs, want, out)?
+        } else {
+            0
+        };
         Ok(Tally {
             steps: programs + reads,
             erases: 0,
@@ -124,31 +128,6 @@ impl<'m> StepWriter<'m> {
         meaning.is_accepted();
         let page = meaning.page;
         self.write_reads(alloc, page, start, want, out)
-    }
-
-    /// Writes the steps of a read of each run, where the work is verified, and answers how many they are.
-    fn verify_runs<W: ByteOut>(
-        &mut self,
-        alloc: Global,
-        start: u32,
-        runs: &[Run],
-        want: &[u8],
-        out: &mut W,
-    ) -> Result<u64, StepsFault>
-        requires between { AllByRecursion (LiesBetween start (start + length want.now)) runs.now }
-        requires few { length runs.now ≤ 2 ^ 24 }
-        requires writer { W.count out.old < 2 ^ 64 - 1 }
-        ensures lines { Adds (W.held out.old) (W.held out.new) result (next_lines self.old (run_reads self.old start want.now runs.now)) }
-        ensures steps { IfOk result (λ steps. steps ≡ length (next self.old.streaming (run_reads self.old start want.now runs.now))) }
-        ensures few { IfOk result (λ steps. steps ≤ 6 * length runs.now) }
-        ensures onward { IfOk result (λ _. self.new ≡ written_on self.old (run_reads self.old start want.now runs.now)) }
-        ensures count { CountsSteps (W.count out.old) (W.count out.new) result }
-        ensures why { IfErr result IsOfWriting }
-    {
-        if !self.verify {
-            return Ok(0);
-        }
-        self.write_runs(alloc, true, start, runs, want, out)
     }
 
     /// Writes the steps of a program of each run, or of a read, and answers how many they are. `want` is what the bytes
