@@ -15,11 +15,11 @@ use Rattle.nor_base.specs.Planned.{IsWorkable}
 use Rattle.nor_base.proofs.UniformAccepted.{uniform_accepted}
 use Rattle.nor_work.specs.Exists.{ThereIsPlannedWork}
 use Rattle.nor_work.specs.Small.{small_chip, small_start, small_have, small_want, SmallIsWorkable, SmallWorkErases}
-use Rattle.nor_work.proofs.Whole.{planned_works}
-use Rattle.nor_work.proofs.Exact.{planned_erases_needed}
-use Rattle.nor_work.proofs.Erasing.{floor_aligned}
-use Rattle.nor_work.proofs.Reached.{any_at}
-use Rattle.nor_work.proofs.Needed.{needed_caused, same_truth}
+use Rattle.nor_work.proofs.Task.Whole.{planned_works}
+use Rattle.nor_work.proofs.Runs.Exact.{planned_erases_needed}
+use Rattle.nor_work.proofs.Erased.Erasing.{floor_aligned}
+use Rattle.nor_work.proofs.Erased.Reached.{any_at}
+use Rattle.nor_work.proofs.Erased.Needed.{needed_caused, same_truth}
 
 pub accepted : IsAccepted small_chip
 accepted = uniform_accepted 8192 (omega arith) (omega arith) refl

@@ -1,5 +1,5 @@
 -- By the powers of two that sizes are.
-use Rattle.nor_work.proofs.Agree.{smallest_agree, blocks_stay, pages_stay}
+use Rattle.nor_work.proofs.Erased.Agree.{smallest_agree, blocks_stay, pages_stay}
 use Rattle.nor_work.proofs.blocks.Goals as goal
 
 pub returns-clause-smallest : goal.returns-clause-smallest

@@ -1,5 +1,5 @@
 -- What is erased is what is needed, by the largest blocks.
-use Rattle.nor_work.proofs.Needed.{erases_needed, erases_blocks, erases_apart, erases_largest}
+use Rattle.nor_work.proofs.Erased.Needed.{erases_needed, erases_blocks, erases_apart, erases_largest}
 use Rattle.nor_work.proofs.erased_blocks.Goals as goal
 
 pub returns-clause-needed : goal.returns-clause-needed

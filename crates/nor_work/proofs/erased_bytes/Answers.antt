@@ -1,5 +1,5 @@
 -- Both count the addresses that some unit's block holds.
-use Rattle.nor_work.proofs.Area.{erased_bytes}
+use Rattle.nor_work.proofs.Erased.Area.{erased_bytes}
 use Rattle.nor_work.proofs.erased_bytes.Goals as goal
 
 pub returns : goal.returns

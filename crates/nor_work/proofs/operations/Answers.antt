@@ -1,5 +1,5 @@
 -- By what each instruction does on a chip at rest.
-use Rattle.nor_work.proofs.Agree.{operation_is_done}
+use Rattle.nor_work.proofs.Erased.Agree.{operation_is_done}
 use Rattle.nor_work.proofs.operations.Goals as goal
 
 pub returns : goal.returns

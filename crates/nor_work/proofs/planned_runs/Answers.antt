@@ -1,8 +1,8 @@
 -- By the transactions that a run of the planned instructions shows.
-use Rattle.nor_work.proofs.Exact.{planned_erases_needed}
-use Rattle.nor_work.proofs.Once.{erases_once}
-use Rattle.nor_work.proofs.Totals.{erases_counted, programs_counted, none_verifies}
-use Rattle.nor_work.proofs.Verified.{planned_is_verified}
+use Rattle.nor_work.proofs.Runs.Exact.{planned_erases_needed}
+use Rattle.nor_work.proofs.Runs.Once.{erases_once}
+use Rattle.nor_work.proofs.Runs.Totals.{erases_counted, programs_counted, none_verifies}
+use Rattle.nor_work.proofs.Rereads.Verified.{planned_is_verified}
 use Rattle.nor_work.proofs.planned_runs.Goals as goal
 
 pub returns-clause-exact : goal.returns-clause-exact

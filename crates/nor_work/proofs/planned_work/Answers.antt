@@ -1,5 +1,5 @@
 -- Planned work does the task, unit by unit.
-use Rattle.nor_work.proofs.Whole.{planned_works}
+use Rattle.nor_work.proofs.Task.Whole.{planned_works}
 use Rattle.nor_work.proofs.planned_work.Goals as goal
 
 pub returns-clause-done : goal.returns-clause-done

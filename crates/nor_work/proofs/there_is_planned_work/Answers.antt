@@ -1,5 +1,5 @@
 -- By the rows of the planned instructions, and their spelling.
-use Rattle.nor_work.proofs.Spelled.{planned_spelled, there_is, one_work}
+use Rattle.nor_work.proofs.Spelling.Spelled.{planned_spelled, there_is, one_work}
 use Rattle.nor_work.proofs.there_is_planned_work.Goals as goal
 
 pub returns-clause-spelled : goal.returns-clause-spelled

@@ -1,5 +1,5 @@
 -- Stretches side by side.
-use Rattle.nor_work.proofs.Needed.{units_join}
+use Rattle.nor_work.proofs.Erased.Needed.{units_join}
 use Rattle.nor_work.proofs.units_join.Goals as goal
 
 pub returns : goal.returns
