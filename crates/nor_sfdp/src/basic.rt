@@ -6,8 +6,8 @@ ghost use Rattle.nor_base.specs.declared.meaning.Switch.TheVariants.{Absent};
 ghost use Rattle.nor_base.specs.declared.meaning.Width.TheVariants.{Both};
 ghost use Rattle.nor_sfdp.specs.Basic.{size_in_bytes, size_of, width_of, page_of, switch_of, quad_read_of};
 
-use crate::bits::{bits, is_set};
 use crate::fault::SfdpFault;
+use crate::fields::{bits, is_set};
 use nor_base::{QuadRead, Switch, Width};
 
 /// What a basic table tells of the page.

@@ -4,8 +4,8 @@ ghost use Rattle.std.specs.Prelude.{◌≡◌, ◌<◌, ◌≤◌, ◌+◌, ◌-
 ghost use Rattle.std.specs.List.{AllByRecursion};
 ghost use Rattle.nor_sfdp.specs.Kinds.{dedicated_of, kind_of, kinds_of, IsKind};
 
-use crate::bits::{bits, is_set};
 use crate::fault::SfdpFault;
+use crate::fields::{bits, is_set};
 use nor_base::Erase;
 
 /// The dedicated opcode of an erase kind, by the two DWORDs of FF84h.

@@ -3,8 +3,8 @@
 #![tactic(auto)]
 
 mod basic;
-mod bits;
 mod fault;
+mod fields;
 mod header;
 mod kinds;
 mod map;
@@ -13,5 +13,6 @@ mod reader;
 mod tables;
 
 pub use fault::SfdpFault;
+pub use fields::{bits, is_set};
 pub use reader::read;
 pub use tables::{SfdpTable, table};

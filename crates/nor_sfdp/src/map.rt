@@ -7,8 +7,8 @@ ghost use Rattle.nor_base.specs.Accepted.{IsRegion};
 ghost use Rattle.nor_sfdp.specs.Bits.{dword_count};
 ghost use Rattle.nor_sfdp.specs.SectorMap.{is_command, command_count_of, checked_map, found_or, first_map_of, is_binary_digit, bit_of, id_of, wanted_id, region_of, bytes_of, regions_at, mapped_regions, regions_of};
 
-use crate::bits::{bits, is_set};
 use crate::fault::SfdpFault;
+use crate::fields::{bits, is_set};
 use crate::tables::SfdpTable;
 use arrayvec::ArrayVec;
 use nor_base::Region;

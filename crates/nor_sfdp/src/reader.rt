@@ -8,8 +8,8 @@ ghost use Rattle.nor_sfdp.specs.SectorMap.{bytes_of};
 ghost use Rattle.nor_sfdp.specs.Reading.{completed, free_read, is_quad3, meaning_of};
 
 use crate::basic::{Page, page_in, quad_read, size, switch, width};
-use crate::bits::is_set;
 use crate::fault::SfdpFault;
+use crate::fields::is_set;
 use crate::kinds::kinds;
 use crate::map::regions;
 use crate::opcodes::{are_distinct, has_opcode, taken_opcodes};

@@ -5,7 +5,6 @@
 //! writes the two lines. They take no memory.
 #![tactic(auto)]
 
-mod bits;
 mod bus;
 mod busy;
 mod clocks;

@@ -4,8 +4,7 @@ ghost use Rattle.std.specs.Prelude.{◌≡◌, ◌≤◌, ◌<◌, Option};
 ghost use Rattle.nor_sfdp.specs.Bits.{dword_at};
 ghost use Rattle.nor_times.specs.Times.{byte_time, erase_time, erase_unit, page_time, byte_unit, page_unit, factor, times_by, times_in, times_of};
 
-use crate::bits::{bits, is_set};
-use nor_sfdp::{SfdpTable, table};
+use nor_sfdp::{SfdpTable, bits, is_set, table};
 
 /// The ID of the basic flash parameter table.
 const BASIC: u16 = 0xFF00;

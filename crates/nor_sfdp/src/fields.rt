@@ -3,8 +3,8 @@
 ghost use Rattle.std.specs.Prelude.{◌≡◌, ◌+◌, ◌-◌, ◌<◌, ◌≤◌, ◌^◌};
 ghost use Rattle.nor_sfdp.specs.Bits.{bits, is_set};
 
-/// Bits `high` to `low` of a DWORD.
-pub(crate) fn bits(dword: u32, high: u32, low: u32) -> u32
+/// Bits `high` to `low` of a DWORD, which JESD216 counts from 0: a number of `high` + 1 - `low` bits.
+pub fn bits(dword: u32, high: u32, low: u32) -> u32
     requires order { low ≤ high }
     requires width { high < low + 31 }
     requires within { high < 32 }
@@ -14,8 +14,8 @@ pub(crate) fn bits(dword: u32, high: u32, low: u32) -> u32
     (dword >> low) % (1 << (high + 1 - low))
 }
 
-/// One bit of a DWORD.
-pub(crate) fn is_set(dword: u32, n: u32) -> bool
+/// Whether bit `n` of a DWORD, counted from 0, is 1.
+pub fn is_set(dword: u32, n: u32) -> bool
     requires { n < 32 }
     ensures { result ≡ is_set dword n }
 {
