@@ -1,5 +1,5 @@
 -- The hexadecimal digits of bytes, and these put a part at a time.
-use Rattle.std.proofs.Common.{◌≡◌, ℕ, suc, ◌/◌, ◌%◌, ◌<◌, ◌==◌, true, List, [], ◌∷◌, get_or, Result, Ok, Err, IsOk, OnOk, Fits, w8, refl, arith, eqb-true, ◌+◌, ◌++◌, take, drop, Option, sym, ◌∙◌, ap, subst}
+use Rattle.std.proofs.Common.{◌≡◌, ℕ, zero, suc, ◌/◌, ◌%◌, ◌<◌, ◌==◌, true, List, [], ◌∷◌, get_or, Result, Ok, Err, IsOk, OnOk, Fits, w8, refl, arith, eqb-true, ◌+◌, ◌++◌, take, drop, Option, sym, ◌∙◌, ap, subst}
 use Rattle.std.specs.Prelude.{flat_map, slice_index}
 use Rattle.std.proofs.lemmas.Bool.{agree_below_at}
 use Rattle.hex.specs.declared.error.FromHexError.{FromHexError}
@@ -7,7 +7,7 @@ use Rattle.hex.specs.Hex.{lower_digits, encode_with, encode_lower}
 use Rattle.nor_base.specs.Script.{hex_digit, hex_pair}
 use Rattle.std.specs.Io.KnownBytes.{Appends}
 use Rattle.std.proofs.lemmas.Grind.{flat_map-append}
-use Rattle.std.proofs.lemmas.List.{take-append-drop}
+use Rattle.std.proofs.lemmas.List.{take-append-drop, get_or-drop}
 use Rattle.std.proofs.Math.Seq.{take-add}
 use Rattle.nor_base.specs.Device.{Cuts}
 use Rattle.nor_base.proofs.DeviceLaws.{Appends-append, Cuts-then, Cuts-more}
@@ -20,7 +20,7 @@ digit_of n h = eqb-true (slice_index lower_digits n) (hex_digit n)
 fits_byte : (n : ℕ) → Fits w8 n → n < 256
 fits_byte n h = omega (arith, h)
 
-pub digits_are : (bytes : List ℕ) → ((k : ℕ) → Fits w8 (get_or bytes k 0)) → encode_lower bytes ≡ flat_map hex_pair bytes
+digits_are : (bytes : List ℕ) → ((k : ℕ) → Fits w8 (get_or bytes k 0)) → encode_lower bytes ≡ flat_map hex_pair bytes
 unfolding encode_with
 digits_are [] h = refl
 digits_are (byte ∷ bytes) h =
@@ -31,9 +31,19 @@ digits_are (byte ∷ bytes) h =
     rw (high, low, later) refl
 
 -- where the digits have room they are there
-pub encoded : (r : Result (Unit {0}) FromHexError) (digits bytes : List ℕ) → IsOk r → OnOk r (digits ≡ encode_lower bytes) → digits ≡ encode_lower bytes
-encoded (Ok u) digits bytes ok is = is
-encoded (Err e) digits bytes ok is = cc
+pub written : (r : Result (Unit {0}) FromHexError) (digits bytes : List ℕ) → IsOk r → OnOk r (digits ≡ encode_lower bytes) → ((k : ℕ) → Fits w8 (get_or bytes k 0))
+    → digits ≡ flat_map hex_pair bytes
+written (Ok u) digits bytes ok is small = is ∙ digits_are bytes small
+written (Err e) digits bytes ok is small = cc
+
+few_fit : (k : ℕ) (bytes : List ℕ) → ((i : ℕ) → Fits w8 (get_or bytes i 0)) → (i : ℕ) → Fits w8 (get_or (take k bytes) i 0)
+few_fit zero bytes small i = omega arith
+few_fit (suc k) [] small i = small i
+few_fit (suc k) (byte ∷ bytes) small zero = small 0
+few_fit (suc k) (byte ∷ bytes) small (suc i) = few_fit k bytes (λ j. small (suc j)) i
+
+pub part_fits : (k from : ℕ) (bytes : List ℕ) → ((i : ℕ) → Fits w8 (get_or bytes i 0)) → (i : ℕ) → Fits w8 (get_or (take k (drop from bytes)) i 0)
+part_fits k from bytes small = few_fit k (drop from bytes) (λ i. subst (Fits w8) (sym (get_or-drop from bytes i 0)) (small (from + i)))
 
 abbrev digits : List ℕ → List ℕ
 digits bytes = flat_map hex_pair bytes

@@ -19,7 +19,7 @@ pub fn hex_pair(byte: u8) -> [u8; 2]
     ensures { result ≡ hex_pair byte }
 {
     let mut digits = [0; 2];
-    encode(&[byte], &mut digits);
+    let _ = hex::encode_to_slice(&[byte], &mut digits);
     digits
 }
 
@@ -29,7 +29,7 @@ pub fn hex_number(number: u32) -> [u8; 8]
     ensures { result ≡ hex_number number }
 {
     let mut digits = [0; 8];
-    encode(&number.to_be_bytes(), &mut digits);
+    let _ = hex::encode_to_slice(&number.to_be_bytes(), &mut digits);
     digits
 }
 
@@ -41,26 +41,16 @@ pub fn put_hexadecimal<W: ByteOut>(bytes: &[u8], out: &mut W) -> Result<(), Fail
     ensures bytes { Writes (W.held out.old) (W.held out.new) result (flat_map hex_pair bytes.now) }
     ensures count { Counts (W.count out.old) (W.count out.new) result }
 {
+    let mut digits = [0; 2 * PART];
     let mut done = 0;
     while done < bytes.len() {
         let count = (bytes.len() - done).min(PART);
-        put_part(&bytes[done..done + count], out)?;
+        let digits = &mut digits[..2 * count];
+        let _ = hex::encode_to_slice(&bytes[done..done + count], digits);
+        put_all(out, digits)?;
         done += count;
     }
     Ok(())
-}
-
-/// Puts two digits for each of at most [`PART`] bytes.
-fn put_part<W: ByteOut>(bytes: &[u8], out: &mut W) -> Result<(), Failed>
-    requires few { length bytes.now ≤ 128 }
-    requires room { W.count out.old < 2 ^ 64 - 1 }
-    ensures bytes { Writes (W.held out.old) (W.held out.new) result (flat_map hex_pair bytes.now) }
-    ensures count { Counts (W.count out.old) (W.count out.new) result }
-{
-    let mut digits = [0; 2 * PART];
-    let digits = &mut digits[..2 * bytes.len()];
-    encode(bytes, digits);
-    put_all(out, digits)
 }
 
 /// The bytes that pairs of lower-case digits spell, in a buffer that is used again; `Memory` where a growth is refused.
@@ -93,11 +83,4 @@ fn digit_value(digit: u8) -> u8
     ensures value { hex_digit result ≡ digit }
 {
     digit % 16 + 9 * (digit / 64)
-}
-
-fn encode(bytes: &[u8], digits: &mut [u8])
-    requires { length digits.old ≡ 2 * length bytes.now }
-    ensures { digits.new ≡ flat_map hex_pair bytes.now }
-{
-    let _ = hex::encode_to_slice(bytes, digits);
 }
