@@ -1,15 +1,15 @@
 //! The instructions of operations, all at once or in parts.
 
-ghost use Rattle.std.specs.Prelude.{◌≡◌, false, map, flat_map, IfOk, IfErr};
+ghost use Rattle.std.specs.Prelude.{◌≡◌, false, map, IfOk, IfErr};
 ghost use Rattle.nor_base.specs.declared.instruction.What.TheVariants.{Enter};
-ghost use Rattle.nor_base.specs.Operations.{instructions, entering, leaving, lowered, switching_by};
+ghost use Rattle.nor_base.specs.Operations.{entering, leaving, lowered, switching_by};
 ghost use Rattle.nor_select.specs.Streamed.{next, last, onward, PartsJoin};
 ghost use Rattle.nor_select.specs.View.{op_of, AreCoded, Adds};
 
 use crate::fault::SelectFault;
 use crate::instr::Instr;
 use crate::op::Op;
-use crate::select::{DISABLE, ENABLE, append_op};
+use crate::select::{DISABLE, ENABLE, append_ops};
 use nor_base::{Meaning, Start, Strategy, Switch};
 use std::alloc::{AllocError, Allocator, Global};
 use std::marker::Model;
@@ -128,23 +128,6 @@ impl<'m> Lowerer<'m> {
 pub fn parts_join()
     ensures { PartsJoin }
 {}
-
-/// Appends the instructions of operations.
-fn append_ops<'a, A: Allocator>(
-    instrs: &mut Vec<Instr<'a>, A>,
-    ops: &[Op<'a>],
-    meaning: &Meaning,
-    start: &Start,
-    strategy: Strategy,
-) -> Result<(), AllocError>
-    ensures { IfOk result (λ _. Adds instrs.old.items (flat_map (instructions meaning.now start.now strategy) (map op_of ops.now))
-        instrs.new.items) }
-{
-    for op in ops {
-        append_op(instrs, op, meaning, start, strategy)?;
-    }
-    Ok(())
-}
 
 /// Appends what enters the mode that the strategy needs.
 fn append_entering<'a, A: Allocator>(

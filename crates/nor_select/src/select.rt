@@ -1,6 +1,6 @@
 //! The instruction that does an operation.
 
-ghost use Rattle.std.specs.Prelude.{◌≡◌, if◌then◌else◌, ◌++◌, [], ◌∷◌, map, IfOk};
+ghost use Rattle.std.specs.Prelude.{◌≡◌, if◌then◌else◌, ◌++◌, [], ◌∷◌, map, flat_map, IfOk};
 ghost use Rattle.nor_base.specs.Instructions.{quad_read_dummies};
 ghost use Rattle.nor_base.specs.Operations.{takes_dedicated, legacy_width, enable, poll, erasing, programming, reading, instructions};
 ghost use Rattle.nor_select.specs.Coded.{coded};
@@ -18,29 +18,30 @@ pub(crate) const ENABLE: u8 = 0x06;
 /// The write disable.
 pub(crate) const DISABLE: u8 = 0x04;
 
-/// Appends the instructions that do an operation.
+/// Appends the instructions that do operations.
 ///
 /// `AllocError` where a growth of memory is refused.
-pub(crate) fn append_op<'a, A: Allocator>(
+pub(crate) fn append_ops<'a, A: Allocator>(
     instrs: &mut Vec<Instr<'a>, A>,
-    op: &Op<'a>,
+    ops: &[Op<'a>],
     meaning: &Meaning,
     start: &Start,
     strategy: Strategy,
 ) -> Result<(), AllocError>
-    ensures { IfOk result (λ _. Adds instrs.old.items (instructions meaning.now start.now strategy (op_of op.now)) instrs.new.items) }
+    ensures { IfOk result (λ _. Adds instrs.old.items (flat_map (instructions meaning.now start.now strategy) (map op_of ops.now))
+        instrs.new.items) }
 {
-    match *op {
-        Op::Erase(block) => append_change(instrs, erasing(meaning, strategy, block)),
-        Op::Program { at, bytes } => append_change(
-            instrs,
-            programming(meaning, start, strategy, at, bytes),
-        ),
-        Op::Read { at, bytes } => {
-            instrs.push(reading(meaning, start, strategy, at, bytes))?;
-            Ok(())
+    for op in ops {
+        match *op {
+            Op::Erase(block) => append_change(instrs, erasing(meaning, strategy, block))?,
+            Op::Program { at, bytes } => append_change(
+                instrs,
+                programming(meaning, start, strategy, at, bytes),
+            )?,
+            Op::Read { at, bytes } => instrs.push(reading(meaning, start, strategy, at, bytes))?,
         }
     }
+    Ok(())
 }
 
 /// Appends an instruction that changes the array: it comes after the write enable, and is waited for.

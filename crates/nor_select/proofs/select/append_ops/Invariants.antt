@@ -2,7 +2,7 @@ use Rattle.std.proofs.Common.{◌≡◌, ◌++◌, map, flat_map, take}
 use Rattle.nor_base.specs.Operations.{instructions}
 use Rattle.nor_select.specs.Coded.{coded}
 use Rattle.nor_select.specs.View.{op_of, coded_of}
-use Rattle.nor_select.proofs.lowerer.append_ops.Given as goal
+use Rattle.nor_select.proofs.select.append_ops.Given as goal
 
 -- the instructions of the operations so far are there
 abbrev pub invariant-loop-op : goal.invariant-loop-op
