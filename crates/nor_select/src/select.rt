@@ -3,8 +3,8 @@
 ghost use Rattle.std.specs.Prelude.{◌≡◌, if◌then◌else◌, ◌++◌, [], ◌∷◌, map, flat_map, IfOk};
 ghost use Rattle.nor_base.specs.Instructions.{quad_read_dummies};
 ghost use Rattle.nor_base.specs.Operations.{takes_dedicated, legacy_width, enable, poll, erasing, programming, reading, instructions};
-ghost use Rattle.nor_select.specs.Coded.{coded};
-ghost use Rattle.nor_select.specs.View.{op_of, load_in, coded_of, Adds, coded_at};
+ghost use Rattle.nor_select.specs.Coded.{plain, coded};
+ghost use Rattle.nor_select.specs.View.{op_of, coded_of, Adds, coded_at};
 
 use crate::instr::{Body, Instr};
 use crate::op::Op;
@@ -79,7 +79,7 @@ fn erasing<'a>(meaning: &Meaning, strategy: Strategy, block: Block) -> Instr<'a>
         Some(erase) => (erase.op, erase.op4.unwrap_or(0)),
         None => (0, 0),
     };
-    at_address(strategy, op, op4, 0, block.start, Body::Plain)
+    at_address(strategy, op, op4, 0, block.start)
 }
 
 /// A program of bytes, on four lanes where chip, setting and strategy allow it.
@@ -93,12 +93,21 @@ fn programming<'a>(
     ensures { coded_of result ≡ coded (programming meaning.now start.now strategy (record { at = at; bytes = bytes.now })) }
 {
     if start.quad && meaning.quad4 {
-        return with_four(0x34, 0, at, Body::Write4(bytes));
+        return Instr {
+            body: Body::Write4(bytes),
+            ..with_four(0x34, 0, at)
+        };
     }
     if start.quad && meaning.quad3 && !takes_dedicated(strategy, at) {
-        return at_address(strategy, 0x32, 0x34, 0, at, Body::Write4(bytes));
+        return Instr {
+            body: Body::Write4(bytes),
+            ..at_address(strategy, 0x32, 0x34, 0, at)
+        };
     }
-    at_address(strategy, 0x02, 0x12, 0, at, Body::Write1(bytes))
+    Instr {
+        body: Body::Write1(bytes),
+        ..at_address(strategy, 0x02, 0x12, 0, at)
+    }
 }
 
 /// A read of as many bytes, on four lanes where chip, setting and strategy allow it.
@@ -113,55 +122,50 @@ fn reading<'a>(
 {
     if let (true, Some(quad)) = (start.quad, meaning.quad_read) {
         if meaning.quad_read4 {
-            return with_four(0x6C, quad.dummies, at, Body::Read4(bytes));
+            return Instr {
+                body: Body::Read4(bytes),
+                ..with_four(0x6C, quad.dummies, at)
+            };
         }
         if !takes_dedicated(strategy, at) {
-            return at_address(
-                strategy,
-                quad.op,
-                0x6C,
-                quad.dummies,
-                at,
-                Body::Read4(bytes),
-            );
+            return Instr {
+                body: Body::Read4(bytes),
+                ..at_address(strategy, quad.op, 0x6C, quad.dummies, at)
+            };
         }
     }
-    at_address(strategy, 0x03, 0x13, 0, at, Body::Read1(bytes))
+    Instr {
+        body: Body::Read1(bytes),
+        ..at_address(strategy, 0x03, 0x13, 0, at)
+    }
 }
 
-/// An instruction with four address bytes in each mode.
-fn with_four<'a>(op: u8, dummies: u8, address: u32, body: Body<'a>) -> Instr<'a>
-    ensures { coded_of result ≡ record { op = op; address = address; width = 4; dummies = dummies; load = load_in body.entry } }
+/// An instruction with four address bytes in each mode, without data.
+fn with_four<'a>(op: u8, dummies: u8, address: u32) -> Instr<'a>
+    ensures { coded_of result ≡ record { op = op; address = address; width = 4; dummies = dummies; load = plain } }
 {
     Instr {
         op,
         address,
         width: 4,
         dummies,
-        body,
+        body: Body::Plain,
     }
 }
 
-/// An instruction at an address, by its dedicated opcode or by its legacy one.
-fn at_address<'a>(
-    strategy: Strategy,
-    op: u8,
-    op4: u8,
-    dummies: u8,
-    address: u32,
-    body: Body<'a>,
-) -> Instr<'a>
-    ensures { coded_of result ≡ coded_at strategy op op4 dummies address (load_in body.entry) }
+/// An instruction at an address, by its dedicated opcode or by its legacy one, without data.
+fn at_address<'a>(strategy: Strategy, op: u8, op4: u8, dummies: u8, address: u32) -> Instr<'a>
+    ensures { coded_of result ≡ coded_at strategy op op4 dummies address plain }
 {
     if takes_dedicated(strategy, address) {
-        return with_four(op4, dummies, address, body);
+        return with_four(op4, dummies, address);
     }
     Instr {
         op,
         address,
         width: legacy_width(strategy),
         dummies,
-        body,
+        body: Body::Plain,
     }
 }
 
