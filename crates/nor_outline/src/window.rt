@@ -1,19 +1,18 @@
 //! The lines of a window's units.
 
-ghost use Rattle.std.specs.Prelude.{◌≡◌, ◌≤◌, ◌<◌, ◌+◌, ◌-◌, ◌^◌, length, IfOk, IfErr};
+ghost use Rattle.std.specs.Prelude.{◌≡◌, ◌<◌, ◌-◌, ◌^◌, length, IfOk, IfErr};
 ghost use Rattle.nor_geometry.specs.Plan.{IsWindow};
 ghost use Rattle.nor_outline.specs.Outline.{IsPlanned};
-ghost use Rattle.nor_pages.specs.Runs.{IsUnit, unit_start};
+ghost use Rattle.nor_pages.specs.Runs.{IsUnit};
 ghost use Rattle.nor_outline.specs.Told.{IsWindowPlan, TellsStretch, StopsTelling, TellsUnit};
 ghost use Rattle.nor_steps.specs.Faults.{CountsSteps, IsOfWriting};
-ghost use Rattle.nor_steps.specs.Units.{unit_size};
 
 use crate::writer::write_unit;
 use nor_base::{ByteOut, Meaning, Strategy};
 use nor_erase::plan;
 use nor_geometry::PlanUnit;
 use nor_pages::split;
-use nor_steps::StepsFault;
+use nor_steps::{StepsFault, bounds};
 use nor_work::erased_blocks;
 use std::alloc::Global;
 
@@ -97,19 +96,4 @@ fn tell_unit<W: ByteOut>(
     let runs = split(alloc, meaning, unit, have, want)?;
     write_unit(meaning, strategy, unit, &runs, have, want, out)?;
     Ok(())
-}
-
-/// The first byte of a unit and the one past its last, among those of a window that begins at an address.
-fn bounds(unit: &PlanUnit, at: u32, page: u32) -> (usize, usize)
-    requires from { at ≤ unit_start unit.now }
-    requires small { unit_start unit.now + unit_size page unit.now < 2 ^ 32 }
-    ensures low { result.0 ≡ unit_start unit.now - at }
-    ensures high { result.1 ≡ unit_start unit.now - at + unit_size page unit.now }
-{
-    let (start, size) = match unit {
-        PlanUnit::Block(block) => (block.start, block.size),
-        PlanUnit::Page { start } => (*start, page),
-    };
-    let low = (start - at) as usize;
-    (low, low + size as usize)
 }

@@ -12,5 +12,7 @@ mod window;
 mod writer;
 
 pub use fault::StepsFault;
+pub use lines::{InstrOut, Unwritten};
 pub use tally::Tally;
+pub use window::bounds;
 pub use writer::StepWriter;

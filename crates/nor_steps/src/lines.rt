@@ -1,6 +1,6 @@
-//! The lines of instructions.
+//! What becomes of instructions: their lines are written, or they are counted alone.
 
-ghost use Rattle.std.specs.Prelude.{◌≡◌, ◌≤◌, ◌<◌, ◌-◌, ◌^◌, IfErr};
+ghost use Rattle.std.specs.Prelude.{◌≡◌, ◌≤◌, ◌<◌, ◌-◌, ◌^◌, ℕ, List, Option, None, IfErr};
 ghost use Rattle.nor_base.specs.Device.{Writes};
 ghost use Rattle.nor_select.specs.View.{coded_of};
 ghost use Rattle.nor_steps.specs.Faults.{CountsSteps, IsOfWriting};
@@ -12,10 +12,53 @@ use nor_frames::clocks_into;
 use nor_script::{write_poll, write_send, write_verify};
 use nor_select::{Body, Instr};
 
+/// Takes the instructions of the work as they are made, each as the line of its step.
+pub trait InstrOut {
+    /// The lines that it took, where it can say.
+    ghost held: { Self → Option (List ℕ) };
+
+    /// How often it failed.
+    ghost count: { Self → ℕ };
+
+    /// Takes instructions, in their order. `clocks` is memory for one step's clocks, which is used again.
+    ///
+    /// `Write` where it fails, `Memory` where a growth is refused; a proper prefix of the lines was taken then.
+    fn take(&mut self, instrs: &[Instr<'_>], clocks: &mut Vec<u8>) -> Result<(), StepsFault>
+        requires narrow { AreNarrow instrs.now }
+        requires room { count self.old < 2 ^ 64 - 1 }
+        ensures lines { Writes (held self.old) (held self.new) result (lines_out instrs.now) }
+        ensures count { CountsSteps (count self.old) (count self.new) result }
+        ensures why { IfErr result IsOfWriting };
+}
+
+impl<W: ByteOut> InstrOut for W {
+    ghost held = { λ out. W.held out };
+
+    ghost count = { λ out. W.count out };
+
+    fn take(&mut self, instrs: &[Instr<'_>], clocks: &mut Vec<u8>) -> Result<(), StepsFault> {
+        write_instrs(instrs, clocks, self)
+    }
+}
+
+/// For instructions that are counted alone: it makes no clocks of them and no lines, and never fails.
+#[derive(Clone, Copy, Debug)]
+pub struct Unwritten;
+
+impl InstrOut for Unwritten {
+    ghost held = { λ _. None };
+
+    ghost count = { λ _. 0 };
+
+    fn take(&mut self, _instrs: &[Instr<'_>], _clocks: &mut Vec<u8>) -> Result<(), StepsFault> {
+        Ok(())
+    }
+}
+
 /// Writes the line of each instruction, in their order. `clocks` is memory for one step's clocks, which is used again.
 ///
 /// `Write` where the writer fails, `Memory` where a growth is refused; a proper prefix of the lines was taken then.
-pub(crate) fn write_instrs<W: ByteOut>(
+fn write_instrs<W: ByteOut>(
     instrs: &[Instr<'_>],
     clocks: &mut Vec<u8>,
     out: &mut W,

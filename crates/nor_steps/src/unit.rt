@@ -9,9 +9,9 @@ ghost use Rattle.nor_steps.specs.Units.{run_op, run_ops, page_reads, block_reads
 ghost use Rattle.nor_steps.specs.Writing.{Adds, next_lines, written_on};
 
 use crate::fault::StepsFault;
+use crate::lines::InstrOut;
 use crate::tally::Tally;
 use crate::writer::StepWriter;
-use nor_base::ByteOut;
 use nor_geometry::{Block, PlanUnit};
 use nor_pages::{Run, split};
 use nor_select::Op;
@@ -19,7 +19,7 @@ use std::alloc::Global;
 
 impl<'m> StepWriter<'m> {
     /// Writes the steps of a unit. `have` and `want` are its bytes: what the chip holds there and what it must hold.
-    pub(crate) fn write_unit<W: ByteOut>(
+    pub(crate) fn write_unit<W: InstrOut>(
         &mut self,
         alloc: Global,
         unit: &PlanUnit,
@@ -45,7 +45,7 @@ impl<'m> StepWriter<'m> {
     }
 
     /// Writes the steps of a block: its erase, a program of each run, and, where it is verified, a read of each page.
-    fn write_block<W: ByteOut>(
+    fn write_block<W: InstrOut>(
         &mut self,
         alloc: Global,
         block: Block,
@@ -74,7 +74,7 @@ impl<'m> StepWriter<'m> {
     }
 
     /// Writes the steps of a page: a program of each run, and, where it is verified, a read of each.
-    fn write_page<W: ByteOut>(
+    fn write_page<W: InstrOut>(
         &mut self,
         alloc: Global,
         start: u32,
@@ -104,7 +104,7 @@ impl<'m> StepWriter<'m> {
     }
 
     /// Writes the steps of a read of each page of a block, where the work is verified, and answers how many they are.
-    fn verify_block<W: ByteOut>(
+    fn verify_block<W: InstrOut>(
         &mut self,
         alloc: Global,
         start: u32,
@@ -132,7 +132,7 @@ impl<'m> StepWriter<'m> {
 
     /// Writes the steps of a program of each run, or of a read, and answers how many they are. `want` is what the bytes
     /// from `start` on must be.
-    fn write_runs<W: ByteOut>(
+    fn write_runs<W: InstrOut>(
         &mut self,
         alloc: Global,
         read: bool,
@@ -159,7 +159,7 @@ impl<'m> StepWriter<'m> {
     }
 
     /// Writes the steps of a program of a run, or of a read, and answers how many they are.
-    fn write_run<W: ByteOut>(
+    fn write_run<W: InstrOut>(
         &mut self,
         alloc: Global,
         read: bool,
@@ -189,7 +189,7 @@ impl<'m> StepWriter<'m> {
 
     /// Writes the steps of a read of each page of a block, and answers how many they are. `want` is what its bytes must
     /// be.
-    fn write_reads<W: ByteOut>(
+    fn write_reads<W: InstrOut>(
         &mut self,
         alloc: Global,
         page: u32,

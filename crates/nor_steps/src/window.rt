@@ -8,9 +8,9 @@ ghost use Rattle.nor_steps.specs.Units.{unit_size};
 ghost use Rattle.nor_steps.specs.Work.{IsPlanned, WroteStretch, StopsStretch};
 
 use crate::fault::StepsFault;
+use crate::lines::InstrOut;
 use crate::tally::Tally;
 use crate::writer::StepWriter;
-use nor_base::ByteOut;
 use nor_erase::plan;
 use nor_geometry::PlanUnit;
 use nor_work::erased_blocks;
@@ -22,7 +22,7 @@ impl<'m> StepWriter<'m> {
     ///
     /// `Plan` where an address of the window is at fault: it names the lowest, and nothing was written then. `Write` where
     /// the writer fails; `Memory` where a growth is refused.
-    pub fn more<W: ByteOut>(
+    pub fn more<W: InstrOut>(
         &mut self,
         alloc: Global,
         at: u32,
@@ -45,7 +45,7 @@ impl<'m> StepWriter<'m> {
     }
 
     /// Writes the steps of the units of a window.
-    fn write_units<W: ByteOut>(
+    fn write_units<W: InstrOut>(
         &mut self,
         alloc: Global,
         at: u32,
@@ -72,7 +72,7 @@ impl<'m> StepWriter<'m> {
 }
 
 /// The first byte of a unit and the one past its last, among those of a window that begins at an address.
-fn bounds(unit: &PlanUnit, at: u32, page: u32) -> (usize, usize)
+pub fn bounds(unit: &PlanUnit, at: u32, page: u32) -> (usize, usize)
     requires from { at ≤ unit_start unit.now }
     requires small { unit_start unit.now + unit_size page unit.now < 2 ^ 32 }
     ensures low { result.0 ≡ unit_start unit.now - at }

@@ -7,8 +7,8 @@ ghost use Rattle.nor_steps.specs.Faults.{CountsSteps, IsOfWriting};
 ghost use Rattle.nor_steps.specs.Writing.{Adds, fresh, lines_of, next_lines, written_on};
 
 use crate::fault::StepsFault;
-use crate::lines::write_instrs;
-use nor_base::{ByteOut, Meaning, Start, Strategy};
+use crate::lines::InstrOut;
+use nor_base::{Meaning, Start, Strategy};
 use nor_select::{Lowerer, Op};
 use std::alloc::Global;
 use std::marker::Model;
@@ -49,7 +49,7 @@ impl<'m> StepWriter<'m> {
     }
 
     /// Writes the steps of operations, and answers how many they are.
-    pub(crate) fn write_ops<W: ByteOut>(
+    pub(crate) fn write_ops<W: InstrOut>(
         &mut self,
         alloc: Global,
         ops: &[Op<'_>],
@@ -64,14 +64,14 @@ impl<'m> StepWriter<'m> {
         ensures why { IfErr result IsOfWriting }
     {
         let instrs = self.lowerer.more(alloc, ops)?;
-        write_instrs(&instrs, &mut self.clocks, out)?;
+        out.take(&instrs, &mut self.clocks)?;
         Ok(instrs.len() as u64)
     }
 
     /// Writes the steps that leave the mode that was entered, and answers how many they are.
     ///
     /// `Write` where the writer fails; `Memory` where a growth is refused.
-    pub fn close<W: ByteOut>(self, alloc: Global, out: &mut W) -> Result<u64, StepsFault>
+    pub fn close<W: InstrOut>(self, alloc: Global, out: &mut W) -> Result<u64, StepsFault>
         requires { W.count out.old < 2 ^ 64 - 1 }
         ensures lines { Adds (W.held out.old) (W.held out.new) result (lines_of (last self.entry.streaming)) }
         ensures steps { IfOk result (λ steps. steps ≡ length (last self.entry.streaming)) }
@@ -81,7 +81,7 @@ impl<'m> StepWriter<'m> {
     {
         let mut clocks = self.clocks;
         let instrs = self.lowerer.close(alloc)?;
-        write_instrs(&instrs, &mut clocks, out)?;
+        out.take(&instrs, &mut clocks)?;
         Ok(instrs.len() as u64)
     }
 }

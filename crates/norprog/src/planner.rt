@@ -15,11 +15,11 @@ ghost use Rattle.nor_job.specs.Written.{CountsReader, CountsWriter};
 use crate::builder::report_of;
 use crate::report::Report;
 use crate::windows::{Text, lifted, room, write_windows};
-use nor_base::{ByteIn, ByteOut, Nowhere};
+use nor_base::{ByteIn, ByteOut};
 use nor_geometry::window_size;
 use nor_job::{BuildFault, Inputs, Job, job_of};
 use nor_laws::spelling;
-use nor_steps::Tally;
+use nor_steps::{Tally, Unwritten};
 use nor_work::there_is_planned_work;
 use std::alloc::Global;
 
@@ -90,7 +90,7 @@ fn tell_job<R: ByteIn, W: ByteOut>(
         content,
         out,
     )?;
-    match writer.close(alloc, &mut Nowhere) {
+    match writer.close(alloc, &mut Unwritten) {
         Ok(last) => told.steps += last,
         Err(fault) => return Err(lifted(fault)),
     }

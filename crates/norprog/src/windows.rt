@@ -11,11 +11,11 @@ ghost use Rattle.nor_job.specs.Filled.{FillsWindow};
 ghost use Rattle.norprog.specs.Windows.{lifted_steps, WroteText, StopsText, StopsWindow, IsDone, IsAllDone, IsKnown, IsCut};
 ghost use Rattle.nor_job.specs.Written.{CountsReader, CountsWriter};
 
-use nor_base::{ByteIn, ByteOut, Nowhere, fill_from};
+use nor_base::{ByteIn, ByteOut, fill_from};
 use nor_geometry::strategy;
 use nor_job::{BuildFault, Job};
 use nor_outline::write_window as write_lines;
-use nor_steps::{StepWriter, StepsFault, Tally};
+use nor_steps::{StepWriter, StepsFault, Tally, Unwritten};
 use nor_target::fill;
 use std::alloc::{AllocError, Global};
 
@@ -150,7 +150,7 @@ fn write_text<W: ByteOut>(
     match kind {
         Text::Steps => writer.more(alloc, at, have, want, out),
         Text::Lines => {
-            let told = writer.more(alloc, at, have, want, &mut Nowhere)?;
+            let told = writer.more(alloc, at, have, want, &mut Unwritten)?;
             write_lines(
                 alloc,
                 &job.meaning,

@@ -30,16 +30,16 @@ returns-clause-written g c =
     let start = ap (λ (b : Block). b.start) c.block.view_is in
     let size = ap (λ (b : Block). b.size) c.block.view_is in
     let m = c.write_ops.new.self in
-    subst (λ n. Wrote c.args.self.now c.verify_block.new.self (g.W.ByteOut.held c.args.out.now) (g.W.ByteOut.held c.verify_block.new.out) 1
+    subst (λ n. Wrote c.args.self.now c.verify_block.new.self (g.W.InstrOut.held c.args.out.now) (g.W.InstrOut.held c.verify_block.new.out) 1
     (block_ops c.args.self.now c.args.block c.args.runs.now c.args.want.now)
     (record { steps = c.in_ok-erase.erase + c.in_ok-programs.programs + c.in_ok-reads.reads; erases = 1; erased = n; programs = length c.args.runs.now }))
     (sym (c.from.ensures ∙ size))
     (block_wrote _ _ _ _ _ _ _ _ c.args.block c.args.runs.now c.args.want.now _ _ _
     (record { put = c.in_ok-erase.ensures.lines; state = c.in_ok-erase.ensures.onward; count = c.in_ok-erase.ensures.steps })
-    (subst (λ a. Appends (g.W.ByteOut.held c.write_ops.new.out) (g.W.ByteOut.held c.write_runs.new.out) (next_lines m (run_ops false a c.args.want.now c.args.runs.now))) start c.in_ok-programs.ensures.lines)
+    (subst (λ a. Appends (g.W.InstrOut.held c.write_ops.new.out) (g.W.InstrOut.held c.write_runs.new.out) (next_lines m (run_ops false a c.args.want.now c.args.runs.now))) start c.in_ok-programs.ensures.lines)
     (c.in_ok-programs.ensures.onward ∙ ap (λ a. written_on m (run_ops false a c.args.want.now c.args.runs.now)) start)
     (c.in_ok-programs.ensures.steps ∙ ap (λ a. length (next m.streaming (run_ops false a c.args.want.now c.args.runs.now))) start)
-    (subst (λ a. Appends (g.W.ByteOut.held c.write_runs.new.out) (g.W.ByteOut.held c.verify_block.new.out) (next_lines c.write_runs.new.self (block_reads c.write_runs.new.self a c.args.want.now))) start c.in_ok-reads.ensures.lines)
+    (subst (λ a. Appends (g.W.InstrOut.held c.write_runs.new.out) (g.W.InstrOut.held c.verify_block.new.out) (next_lines c.write_runs.new.self (block_reads c.write_runs.new.self a c.args.want.now))) start c.in_ok-reads.ensures.lines)
     (c.in_ok-reads.ensures.onward ∙ ap (λ a. written_on c.write_runs.new.self (block_reads c.write_runs.new.self a c.args.want.now)) start)
     (c.in_ok-reads.ensures.steps ∙ ap (λ a. length (next c.write_runs.new.self.streaming (block_reads c.write_runs.new.self a c.args.want.now))) start)
     c.in_ok-erase.ensures.few c.in_ok-programs.ensures.few c.in_ok-reads.ensures.few (omega (arith, c.requires.between.few, c.requires.few)) c.requires.few c.requires.size)

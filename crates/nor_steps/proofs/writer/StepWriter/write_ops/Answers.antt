@@ -14,24 +14,24 @@ use Rattle.nor_steps.proofs.writer.StepWriter.write_ops.Goals as goal
 pub returns-in_err-instrs-clause-lines : goal.returns-in_err-instrs-clause-lines
 returns-in_err-instrs-clause-lines g c = adds_err _ _ _ _ c.from_residual.ensures.0 (begins_none _ _)
 
-pub write_instrs-requires-clause-narrow : goal.write_instrs-requires-clause-narrow
-write_instrs-requires-clause-narrow g c =
+pub take-requires-clause-narrow : goal.take-requires-clause-narrow
+take-requires-clause-narrow g c =
     subst AreNarrow (sym c.deref.ensures.value) (narrow_are c.in_ok-instrs.instrs.items _ c.in_ok-instrs.ensures.instrs (thin_next c.self.inside.lowerer (map op_of c.args.ops.now)))
 
-pub returns-in_err-write_instrs-clause-lines : goal.returns-in_err-write_instrs-clause-lines
-returns-in_err-write_instrs-clause-lines g c =
+pub returns-in_err-take-clause-lines : goal.returns-in_err-take-clause-lines
+returns-in_err-take-clause-lines g c =
     let view = ap (λ (w : Writing). w.streaming) c.self.view_is in
     let lines = ap lines_out c.deref.ensures.value ∙ lines_are c.in_ok-instrs.instrs.items _ c.in_ok-instrs.ensures.instrs
     ∙ ap (λ (s : Streaming). lines_of (next s (map op_of c.args.ops.now))) view in
-    adds_err _ _ _ _ c.from_residual-in_err-write_instrs.ensures.0
-    (begins_cut _ _ _ (subst (Cuts (g.W.ByteOut.held c.args.out.now) (g.W.ByteOut.held c.write_instrs.new.out)) lines c.in_err-write_instrs.ensures.lines))
+    adds_err _ _ _ _ c.from_residual-in_err-take.ensures.0
+    (begins_cut _ _ _ (subst (Cuts (g.W.InstrOut.held c.args.out.now) (g.W.InstrOut.held c.take.new.self)) lines c.in_err-take.ensures.lines))
 
 pub returns-clause-lines : goal.returns-clause-lines
 returns-clause-lines g c =
     let view = ap (λ (w : Writing). w.streaming) c.self.view_is in
     let lines = ap lines_out c.deref.ensures.value ∙ lines_are c.in_ok-instrs.instrs.items _ c.in_ok-instrs.ensures.instrs
     ∙ ap (λ (s : Streaming). lines_of (next s (map op_of c.args.ops.now))) view in
-    subst (Appends (g.W.ByteOut.held c.args.out.now) (g.W.ByteOut.held c.write_instrs.new.out)) lines c.in_ok-write_instrs.ensures.lines
+    subst (Appends (g.W.InstrOut.held c.args.out.now) (g.W.InstrOut.held c.take.new.self)) lines c.in_ok-take.ensures.lines
 
 pub returns-clause-steps : goal.returns-clause-steps
 returns-clause-steps g c =

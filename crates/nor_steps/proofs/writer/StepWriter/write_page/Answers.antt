@@ -18,12 +18,12 @@ returns-in_err-reads-clause-written g c =
     let v = c.write_runs.new.self in
     let on = reads_on v c.args.start c.args.want.now c.args.runs.now (sym (ap (λ (w : Writing). w.verify) c.self.view_is) ∙ c.if-self.true) in
     page_cut _ _ _ _ _ _ c.args.start c.args.runs.now c.args.want.now _ c.from_residual-in_err-reads.ensures.0 c.in_ok-programs.ensures.lines c.in_ok-programs.ensures.onward
-    (subst (λ ops. Begins (g.W.ByteOut.held c.write_runs.new.out) (g.W.ByteOut.held c.write_runs-then-self.new.out) (next_lines v ops)) on c.in_err-reads.ensures.lines)
+    (subst (λ ops. Begins (g.W.InstrOut.held c.write_runs.new.out) (g.W.InstrOut.held c.write_runs-then-self.new.out) (next_lines v ops)) on c.in_err-reads.ensures.lines)
 
 pub returns-clause-written : goal.returns-clause-written
 returns-clause-written g c =
     let v = c.write_runs.new.self in
-    let programs : Done c.args.self.now v (g.W.ByteOut.held c.args.out.now) (g.W.ByteOut.held c.write_runs.new.out) (run_ops false c.args.start c.args.want.now c.args.runs.now) c.in_ok-programs.programs =
+    let programs : Done c.args.self.now v (g.W.InstrOut.held c.args.out.now) (g.W.InstrOut.held c.write_runs.new.out) (run_ops false c.args.start c.args.want.now c.args.runs.now) c.in_ok-programs.programs =
     record { put = c.in_ok-programs.ensures.lines; state = c.in_ok-programs.ensures.onward; count = c.in_ok-programs.ensures.steps } in
     elim c.if-self.branch [
       | then-self+in_ok-reads w ↦
@@ -31,7 +31,7 @@ returns-clause-written g c =
           let read = w.in_ok-reads.ensures in
           rw (w.self-is, w.out-is, w.reads-is)
           (page_wrote _ _ _ _ _ _ c.args.start c.args.runs.now c.args.want.now _ _ programs
-          (subst (λ ops. Appends (g.W.ByteOut.held c.write_runs.new.out) (g.W.ByteOut.held w.write_runs-then-self.new.out) (next_lines v ops)) on read.lines)
+          (subst (λ ops. Appends (g.W.InstrOut.held c.write_runs.new.out) (g.W.InstrOut.held w.write_runs-then-self.new.out) (next_lines v ops)) on read.lines)
           (read.onward ∙ ap (written_on v) on) (read.steps ∙ ap (λ ops. length (next v.streaming ops)) on) c.in_ok-programs.ensures.few read.few (omega (arith, c.requires.between.few, c.requires.few)))
       | else-self w ↦
           let off = sym (ap (λ (w : Writing). w.verify) c.self.view_is) ∙ w.if-self.false in

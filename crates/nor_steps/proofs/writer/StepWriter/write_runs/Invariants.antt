@@ -6,7 +6,7 @@ use Rattle.nor_steps.proofs.writer.StepWriter.write_runs.Given as goal
 
 abbrev pub invariant-loop-run : goal.invariant-loop-run
 invariant-loop-run g l = record {
-  done : Done l.fn.self l.self (g.W.ByteOut.held l.fn.out) (g.W.ByteOut.held l.out) (run_ops l.read l.start l.want (take l.run-index l.runs)) l.steps;
+  done : Done l.fn.self l.self (g.W.InstrOut.held l.fn.out) (g.W.InstrOut.held l.out) (run_ops l.read l.start l.want (take l.run-index l.runs)) l.steps;
   few : l.steps ≤ 6 * l.run-index;
-  count : g.W.ByteOut.count l.out ≡ g.W.ByteOut.count l.fn.out;
+  count : g.W.InstrOut.count l.out ≡ g.W.InstrOut.count l.fn.out;
 }

@@ -11,7 +11,7 @@ use Rattle.nor_steps.proofs.writer.StepWriter.write_units.Goals as goal
 pub loop-unit-init : goal.loop-unit-init
 loop-unit-init g c = record {
   sofar =
-      subst (IsSofar c.args.self.now c.args.self.now (g.W.ByteOut.held c.args.out.now) (g.W.ByteOut.held c.args.out.now) c.args.at c.args.have.now c.args.want.now 0)
+      subst (IsSofar c.args.self.now c.args.self.now (g.W.InstrOut.held c.args.out.now) (g.W.InstrOut.held c.args.out.now) c.args.at c.args.have.now c.args.want.now 0)
       (sym c.none-told.ensures) (sofar_none c.args.self.now _ c.args.at c.args.have.now c.args.want.now);
   count = refl;
 }

@@ -5,6 +5,6 @@ use Rattle.nor_steps.proofs.writer.StepWriter.write_units.Given as goal
 
 abbrev pub invariant-loop-unit : goal.invariant-loop-unit
 invariant-loop-unit g l = record {
-  sofar : IsSofar l.fn.self l.self (g.W.ByteOut.held l.fn.out) (g.W.ByteOut.held l.out) l.at l.have l.want l.unit-index l.told;
-  count : g.W.ByteOut.count l.out ≡ g.W.ByteOut.count l.fn.out;
+  sofar : IsSofar l.fn.self l.self (g.W.InstrOut.held l.fn.out) (g.W.InstrOut.held l.out) l.at l.have l.want l.unit-index l.told;
+  count : g.W.InstrOut.count l.out ≡ g.W.InstrOut.count l.fn.out;
 }
