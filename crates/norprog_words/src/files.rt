@@ -74,13 +74,25 @@ fn read_opened<F: Read + Drop>(
     Ok(bytes)
 }
 
+/// [`open_script_file`], with the memory of this runtime.
+pub fn open_script<R: Files + AllocGlobal>(
+    rt: &R,
+    path: &str,
+) -> Result<(ScriptFile<R::File>, Place), Refusal>
+    ensures refused { IfErr result (RefusesFile Script) }
+    ensures files { IfErr result IsOfFiles }
+{
+    open_script_file(rt, rt.alloc(), path)
+}
+
 /// Opens a script's file twice, where it is a regular one, so that it needn't be held; any other is read whole. Answers which
 /// file it is as well.
 ///
 /// Where it can't be opened, is a folder or has more than 2^36 bytes, where a read fails, and where its name came to mean
 /// another file between the two openings, `File` of `Script`; `Memory` where a growth is refused.
-pub fn open_script<R: Files + AllocGlobal>(
+pub(crate) fn open_script_file<R: Files>(
     rt: &R,
+    alloc: Global,
     path: &str,
 ) -> Result<(ScriptFile<R::File>, Place), Refusal>
     ensures refused { IfErr result (RefusesFile Script) }
@@ -92,7 +104,7 @@ pub fn open_script<R: Files + AllocGlobal>(
         return Err(Refusal::File(name));
     }
     if !is_regular(&first) {
-        let held = read_opened(rt.alloc(), first, name)?;
+        let held = read_opened(alloc, first, name)?;
         return Ok((ScriptFile::Held(held), place));
     }
     let (again, same, _len) = open_input(rt, path, name)?;

@@ -3,13 +3,16 @@
 #![tactic(auto)]
 
 mod chip;
+mod disk;
 mod faults;
 mod files;
 mod given;
+mod shelf;
 mod values;
 mod wrongs;
 
 pub use chip::{Chip, chip_of, optional_status, source_of};
+pub use disk::Disk;
 pub use faults::{FileName, Refusal, refuse};
 pub use files::{
     Place, ScriptFile, create_output, open_device, open_input, open_script, read_tables, read_whole,
@@ -17,5 +20,6 @@ pub use files::{
 pub use given::{
     Given, GivenBuild, GivenCheck, GivenChip, GivenDraw, GivenList, GivenPlan, GivenPlay, GivenRun,
 };
+pub use shelf::{Shelf, tables_of};
 pub use values::{base, decimal, limit, part};
 pub use wrongs::wrong_number;
