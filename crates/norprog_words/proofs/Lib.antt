@@ -1,3 +1,4 @@
 mod NumberLemmas
 mod LineLemmas
 pub mod ToldLemmas
+pub mod ShelfLemmas

@@ -3,5 +3,7 @@ pub mod Chip
 pub mod Lines
 pub mod Files
 pub mod Shelf
+pub mod Setup
+pub mod Content
 pub mod Told
 pub mod Wrongs

@@ -54,3 +54,13 @@ IsOfScript files name ahead (Held text) = files.gave name text.items
 abbrev pub DoNotFail : {F : Type 0} → (F → ℕ) → ScriptFile F → Type 0
 DoNotFail count (Twice first again) = (count first ≡ 0) × (count again ≡ 0)
 DoNotFail count (Held text) = ⊤
+
+-- the text that a script holds, or that its second reader had ahead
+abbrev pub IsTextOfFile : {F : Type 0} → (F → Ahead) → ScriptFile F → List ℕ → Type 0
+IsTextOfFile ahead (Twice first again) text = (rest : Ahead) × IsTextOf (ahead again) rest text
+IsTextOfFile ahead (Held held) text = text ≡ held.items
+
+-- the output, if there is one, held this first, and is so of what it had taken
+abbrev pub GoesOut : (Option (List ℕ) → Type 0) → Option (Option (List ℕ)) → Option (List ℕ) → Option (List ℕ) → Type 0
+GoesOut Sent (Some held) before after = (before ≡ held) × Sent after
+GoesOut Sent None before after = ⊤

@@ -4,7 +4,7 @@ ghost use Rattle.norprog_words.specs.Shelf.{DoNotFail};
 
 use crate::faults::{FileName, Refusal};
 use crate::files::{
-    Place, ScriptFile, create_output, open_device, open_input, open_script_file, read_whole,
+    Place, ScriptFile, create_output, open_device, open_input, open_script, read_whole,
 };
 use crate::shelf::Shelf;
 use nor_base::{Failed, FromRead, IntoWrite};
@@ -55,7 +55,7 @@ impl<'a, R: Files> Shelf for Disk<'a, R> {
         alloc: Global,
         path: &str,
     ) -> Result<(ScriptFile<FromRead<R::File>>, Place), Refusal> {
-        let (script, place) = open_script_file(self.files, alloc, path)?;
+        let (script, place) = open_script(self.files, alloc, path)?;
         Ok((as_devices(script), place))
     }
 

@@ -2,12 +2,11 @@
 
 ghost use Rattle.std.specs.Prelude.{◌≡◌, ◌≤◌, ◌^◌, length, true, IfOk, IfErr, MatchResult};
 ghost use Rattle.std.specs.Fs.{metadata_mode};
-ghost use Rattle.norprog_words.specs.declared.faults.FileName.TheVariants.{Sfdp, Device, Script};
+ghost use Rattle.norprog_words.specs.declared.faults.FileName.TheVariants.{Device, Script};
 ghost use Rattle.norprog_words.specs.Files.{RefusesFile, IsOfFiles, is_character_device};
 
-use crate::chip::Chip;
 use crate::faults::{FileName, Refusal};
-use std::alloc::{AllocGlobal, Global};
+use std::alloc::Global;
 use std::fs::{self, Files, Metadata, OpenFile, OpenOptions};
 use std::io::{self, Read};
 use std::os::unix::fs::MetadataExt;
@@ -18,8 +17,10 @@ const MOST_BYTES: u64 = 1 << 36;
 /// Which file of the system it is, by whatever name it was opened.
 #[derive(Clone, Copy, Debug, PartialEq, Eq)]
 pub struct Place {
-    device: u64,
-    inode: u64,
+    /// The device that the file is on.
+    pub device: u64,
+    /// Its number there.
+    pub inode: u64,
 }
 
 /// A script's file, for who reads it twice.
@@ -35,7 +36,7 @@ pub enum ScriptFile<F: Drop> {
 ///
 /// Where it can't be opened, is a folder or has more bytes, and where a read fails, `File` of `name`; `Memory` where a growth
 /// is refused.
-pub fn read_whole<R: Files>(
+pub(crate) fn read_whole<R: Files>(
     rt: &R,
     alloc: Global,
     path: &str,
@@ -74,23 +75,12 @@ fn read_opened<F: Read + Drop>(
     Ok(bytes)
 }
 
-/// [`open_script_file`], with the memory of this runtime.
-pub fn open_script<R: Files + AllocGlobal>(
-    rt: &R,
-    path: &str,
-) -> Result<(ScriptFile<R::File>, Place), Refusal>
-    ensures refused { IfErr result (RefusesFile Script) }
-    ensures files { IfErr result IsOfFiles }
-{
-    open_script_file(rt, rt.alloc(), path)
-}
-
 /// Opens a script's file twice, where it is a regular one, so that it needn't be held; any other is read whole. Answers which
 /// file it is as well.
 ///
 /// Where it can't be opened, is a folder or has more than 2^36 bytes, where a read fails, and where its name came to mean
 /// another file between the two openings, `File` of `Script`; `Memory` where a growth is refused.
-pub(crate) fn open_script_file<R: Files>(
+pub(crate) fn open_script<R: Files>(
     rt: &R,
     alloc: Global,
     path: &str,
@@ -122,27 +112,11 @@ fn is_regular<F: OpenFile>(file: &F) -> bool {
     }
 }
 
-/// What the file of a chip's SFDP tables holds; nothing for a uniform chip, which has none.
-///
-/// `File` of `Sfdp` and `Memory`, as [`read_whole`] answers them.
-pub fn read_tables<R: Files + AllocGlobal>(rt: &R, chip: Chip<'_>) -> Result<Vec<u8>, Refusal>
-    ensures refused { IfErr result (RefusesFile Sfdp) }
-    ensures files { IfErr result IsOfFiles }
-{
-    match chip {
-        Chip::Sfdp { file, bits: _ } => {
-            let (bytes, _place) = read_whole(rt, rt.alloc(), file, FileName::Sfdp)?;
-            Ok(bytes)
-        }
-        Chip::Uniform(_) => Ok(Vec::new(rt.alloc())),
-    }
-}
-
 /// Opens a file that isn't a folder, and answers which one it is and its length in bytes.
 ///
 /// Where it can't be opened or asked, and where it is a folder, `File` of `name`; `Memory` where the system says that it lacks
 /// that.
-pub fn open_input<R: Files>(
+pub(crate) fn open_input<R: Files>(
     rt: &R,
     path: &str,
     name: FileName,
@@ -172,7 +146,7 @@ pub fn open_input<R: Files>(
 /// Makes an output file, or empties the one that is there, unless it is one of the inputs.
 ///
 /// Where it is, and where it can't be made, `File` of `name`; `Memory` where the system says that it lacks that.
-pub fn create_output<R: Files>(
+pub(crate) fn create_output<R: Files>(
     rt: &R,
     path: &str,
     name: FileName,
@@ -193,7 +167,7 @@ pub fn create_output<R: Files>(
 /// Opens a character device twice, to read from it and to write to it. Nothing else is opened to write, nor changed.
 ///
 /// Where it isn't one, can't be opened or asked, `File` of `Device`; `Memory` where the system says that it lacks that.
-pub fn open_device<R: Files>(rt: &R, path: &str) -> Result<(R::File, R::File), Refusal>
+pub(crate) fn open_device<R: Files>(rt: &R, path: &str) -> Result<(R::File, R::File), Refusal>
     ensures refused { IfErr result (RefusesFile Device) }
     ensures files { IfErr result IsOfFiles }
 {

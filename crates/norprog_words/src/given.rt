@@ -52,17 +52,20 @@ pub struct GivenChip<'a> {
     pub part: Option<&'a str>,
 }
 
-/// Of `list`.
+/// The chip of a command that does no build, and how it begins.
 #[derive(Clone, Copy)]
-pub struct GivenList<'a> {
-    pub sfdp: Option<&'a str>,
-    pub uniform: Option<&'a str>,
-    pub bits: Option<&'a str>,
-    pub part: Option<&'a str>,
+pub struct GivenSetup<'a> {
+    pub chip: GivenChip<'a>,
     pub status: Option<&'a str>,
     pub mode4: bool,
     pub quad: bool,
     pub erased_only: bool,
+}
+
+/// Of `list`.
+#[derive(Clone, Copy)]
+pub struct GivenList<'a> {
+    pub setup: GivenSetup<'a>,
     pub script: Option<&'a str>,
 }
 
@@ -78,14 +81,7 @@ pub struct GivenDraw<'a> {
 /// Of `run`.
 #[derive(Clone, Copy)]
 pub struct GivenRun<'a> {
-    pub sfdp: Option<&'a str>,
-    pub uniform: Option<&'a str>,
-    pub bits: Option<&'a str>,
-    pub part: Option<&'a str>,
-    pub status: Option<&'a str>,
-    pub mode4: bool,
-    pub quad: bool,
-    pub erased_only: bool,
+    pub setup: GivenSetup<'a>,
     pub content: Option<&'a str>,
     pub script: Option<&'a str>,
     pub busy: Option<&'a str>,
@@ -98,14 +94,7 @@ pub struct GivenRun<'a> {
 /// Of `play`.
 #[derive(Clone, Copy)]
 pub struct GivenPlay<'a> {
-    pub sfdp: Option<&'a str>,
-    pub uniform: Option<&'a str>,
-    pub bits: Option<&'a str>,
-    pub part: Option<&'a str>,
-    pub status: Option<&'a str>,
-    pub mode4: bool,
-    pub quad: bool,
-    pub erased_only: bool,
+    pub setup: GivenSetup<'a>,
     pub content: Option<&'a str>,
     pub script: Option<&'a str>,
     pub device: Option<&'a str>,

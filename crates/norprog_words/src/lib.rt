@@ -3,23 +3,26 @@
 #![tactic(auto)]
 
 mod chip;
+mod content;
 mod disk;
 mod faults;
 mod files;
 mod given;
+mod setup;
 mod shelf;
 mod values;
 mod wrongs;
 
 pub use chip::{Chip, chip_of, optional_status, source_of};
+pub use content::read_content;
 pub use disk::Disk;
 pub use faults::{FileName, Refusal, refuse};
-pub use files::{
-    Place, ScriptFile, create_output, open_device, open_input, open_script, read_tables, read_whole,
-};
+pub use files::{Place, ScriptFile};
 pub use given::{
     Given, GivenBuild, GivenCheck, GivenChip, GivenDraw, GivenList, GivenPlan, GivenPlay, GivenRun,
+    GivenSetup,
 };
+pub use setup::{Setup, known_chip, setup_inputs, setup_of};
 pub use shelf::{Shelf, tables_of};
 pub use values::{base, decimal, limit, part};
 pub use wrongs::wrong_number;
