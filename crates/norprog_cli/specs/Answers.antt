@@ -1,6 +1,7 @@
 -- What the program answers (this project's).
 use Rattle.std.specs.Prelude.{◌≡◌, ℕ, List, Option, Result, Ok, Err, IfOk}
 use Rattle.norprog_words.specs.declared.faults.Refusal.{Refusal}
+use Rattle.norprog_words.specs.Shelf.{FileFacts}
 use Rattle.norprog_words.specs.Told.{TellsOf}
 use Rattle.norprog_options.specs.declared.options.Asked.{Asked}
 use Rattle.norprog_options.specs.declared.options.Asked.TheVariants as command
@@ -16,30 +17,30 @@ use Rattle.norprog_list.specs.Answer.{AnswersList}
 use Rattle.norprog_play.specs.Answer.{AnswersPlay}
 use Rattle.norprog_run.specs.Answer.{AnswersRun}
 
--- to what is asked for, each command its answer; to words that couldn't be read, why
-abbrev pub AnswersTo : Result Asked Refusal → Option (List ℕ) → Option (List ℕ) → Type 0 → Type 0 → Option (List ℕ) → Option (List ℕ) → ℕ → Type 0
-AnswersTo (Ok (command.Build given)) before after Quiet Works told_before told_after status =
-    AnswersBuild (Ok given) before after Quiet Works told_before told_after status
-AnswersTo (Ok (command.Plan given)) before after Quiet Works told_before told_after status =
-    AnswersPlan (Ok given) before after Quiet Works told_before told_after status
-AnswersTo (Ok (command.Check given)) before after Quiet Works told_before told_after status =
-    AnswersCheck (Ok given) before after Quiet Works told_before told_after status
-AnswersTo (Ok (command.Run given)) before after Quiet Works told_before told_after status =
-    AnswersRun (Ok given) before after Quiet Works told_before told_after status
-AnswersTo (Ok (command.List given)) before after Quiet Works told_before told_after status =
-    AnswersList (Ok given) before after Quiet Works told_before told_after status
-AnswersTo (Ok (command.Draw given)) before after Quiet Works told_before told_after status =
-    (after ≡ before) × AnswersDraw (Ok given) Quiet Works told_before told_after status
-AnswersTo (Ok (command.Play given)) before after Quiet Works told_before told_after status =
-    AnswersPlay (Ok given) before after Quiet Works told_before told_after status
-AnswersTo (Ok (command.Sfdp given)) before after Quiet Works told_before told_after status =
-    AnswersChip (Ok given) before after Quiet Works told_before told_after status
-AnswersTo (Ok (command.Explain words)) before after Quiet Works told_before told_after status =
+-- to what is asked for, each command its answer, by what is known of files by their names; to words that couldn't be read, why
+abbrev pub AnswersTo : FileFacts → Result Asked Refusal → Option (List ℕ) → Option (List ℕ) → Type 0 → Type 0 → Option (List ℕ) → Option (List ℕ) → ℕ → Type 0
+AnswersTo files (Ok (command.Build given)) before after Quiet Works told_before told_after status =
+    AnswersBuild files (Ok given) before after Quiet Works told_before told_after status
+AnswersTo files (Ok (command.Plan given)) before after Quiet Works told_before told_after status =
+    AnswersPlan files (Ok given) before after Quiet Works told_before told_after status
+AnswersTo files (Ok (command.Check given)) before after Quiet Works told_before told_after status =
+    AnswersCheck files (Ok given) before after Quiet Works told_before told_after status
+AnswersTo files (Ok (command.Run given)) before after Quiet Works told_before told_after status =
+    AnswersRun files (Ok given) before after Quiet Works told_before told_after status
+AnswersTo files (Ok (command.List given)) before after Quiet Works told_before told_after status =
+    AnswersList files (Ok given) before after Quiet Works told_before told_after status
+AnswersTo files (Ok (command.Draw given)) before after Quiet Works told_before told_after status =
+    (after ≡ before) × AnswersDraw files (Ok given) Quiet Works told_before told_after status
+AnswersTo files (Ok (command.Play given)) before after Quiet Works told_before told_after status =
+    AnswersPlay files (Ok given) before after Quiet Works told_before told_after status
+AnswersTo files (Ok (command.Sfdp given)) before after Quiet Works told_before told_after status =
+    AnswersChip files (Ok given) before after Quiet Works told_before told_after status
+AnswersTo files (Ok (command.Explain words)) before after Quiet Works told_before told_after status =
     AnswersExplain (explained topics words.items) before after Quiet Works told_before told_after status
-AnswersTo (Err why) before after Quiet Works told_before told_after status =
+AnswersTo files (Err why) before after Quiet Works told_before told_after status =
     (after ≡ before) × TellsOf (λ told. told ≡ why) Works told_before told_after status
 
 -- to what some matches of the words ask for, each value by the option of its name
-abbrev pub AnswersSome : Option (List ℕ) → Option (List ℕ) → Type 0 → Type 0 → Option (List ℕ) → Option (List ℕ) → ℕ → Type 0
-AnswersSome before after Quiet Works told_before told_after status =
-    (asked : Result Asked Refusal) × IfOk asked IsAskedBySome × AnswersTo asked before after Quiet Works told_before told_after status
+abbrev pub AnswersSome : FileFacts → Option (List ℕ) → Option (List ℕ) → Type 0 → Type 0 → Option (List ℕ) → Option (List ℕ) → ℕ → Type 0
+AnswersSome files before after Quiet Works told_before told_after status =
+    (asked : Result Asked Refusal) × IfOk asked IsAskedBySome × AnswersTo files asked before after Quiet Works told_before told_after status

@@ -21,9 +21,8 @@ use norprog_list::list;
 use norprog_options::{Asked, asked_by};
 use norprog_play::play;
 use norprog_run::run;
-use norprog_words::{Refusal, refuse};
-use std::alloc::AllocGlobal;
-use std::fs::Files;
+use norprog_words::{Disk, Refusal, Shelf, refuse};
+use std::alloc::Global;
 use std::io::{self, BufWriter, ErrorKind, IsTerminal, Write};
 use std::process::ExitCode;
 
@@ -49,11 +48,12 @@ fn main_status<E: ByteOut>(rt: &HostRuntime, err: &mut E) -> u8
         Err(_) => return refuse(&Refusal::MEMORY, err),
     };
     let mut out = IntoWrite::new(gathered);
+    let files = Disk::new(rt);
     let status = if rt.stderr().is_terminal() {
         let mut progress = IntoWrite::new(rt.stderr());
-        command(rt, words, &mut out, err, &mut progress)
+        command(rt.alloc(), &files, words, &mut out, err, &mut progress)
     } else {
-        command(rt, words, &mut out, err, &mut Nowhere)
+        command(rt.alloc(), &files, words, &mut out, err, &mut Nowhere)
     };
     let flushed = out.inner.flush();
     ended(status, flushed, err)
@@ -89,8 +89,9 @@ fn words_of(rt: &HostRuntime) -> Result<Vec<String>, Refusal> {
 /// Runs the command that the words spell, the program's name not among them. It opens the files that they name, writes
 /// what goes to standard output to `out`, a refusal to `err`, and the progress of a play to `progress`. It answers the status: 0
 /// done, 1 refused or a script that goes wrong or doesn't do its job, 2 usage.
-fn command<O: ByteOut, E: ByteOut, P: ByteOut>(
-    rt: &(impl Files + AllocGlobal),
+fn command<S: Shelf, O: ByteOut, E: ByteOut, P: ByteOut>(
+    alloc: Global,
+    shelf: &S,
     words: Vec<String>,
     out: &mut O,
     err: &mut E,
@@ -101,21 +102,17 @@ fn command<O: ByteOut, E: ByteOut, P: ByteOut>(
     requires progress { P.count progress.old < 2 ^ 64 - 1 }
     ensures status { result ≤ 2 }
     ensures quiet { result ≡ 0 → err.new ≡ err.old }
-    ensures answer { AnswersSome (O.held out.old) (O.held out.new) (err.new ≡ err.old) (E.count err.new ≡ E.count err.old)
-        (E.held err.old) (E.held err.new) result }
+    ensures answer { AnswersSome (S.facts shelf.now) (O.held out.old) (O.held out.new) (err.new ≡ err.old)
+        (E.count err.new ≡ E.count err.old) (E.held err.old) (E.held err.new) result }
 {
-    answer_to(
-        rt,
-        asked_by(rt.alloc(), words.as_slice()),
-        out,
-        err,
-        progress,
-    )
+    let asked = asked_by(alloc, words.as_slice());
+    answer_to(alloc, shelf, asked, out, err, progress)
 }
 
 /// Does what is asked for, or tells why it couldn't be read.
-fn answer_to<O: ByteOut, E: ByteOut, P: ByteOut>(
-    rt: &(impl Files + AllocGlobal),
+fn answer_to<S: Shelf, O: ByteOut, E: ByteOut, P: ByteOut>(
+    alloc: Global,
+    shelf: &S,
     asked: Result<Asked<'_>, Refusal>,
     out: &mut O,
     err: &mut E,
@@ -126,18 +123,18 @@ fn answer_to<O: ByteOut, E: ByteOut, P: ByteOut>(
     requires progress { P.count progress.old < 2 ^ 64 - 1 }
     ensures status { result ≤ 2 }
     ensures quiet { result ≡ 0 → err.new ≡ err.old }
-    ensures answer { AnswersTo asked.entry (O.held out.old) (O.held out.new) (err.new ≡ err.old)
+    ensures answer { AnswersTo (S.facts shelf.now) asked.entry (O.held out.old) (O.held out.new) (err.new ≡ err.old)
         (E.count err.new ≡ E.count err.old) (E.held err.old) (E.held err.new) result }
 {
     match asked {
-        Ok(Asked::Build(given)) => build(rt, Ok(given), out, err),
-        Ok(Asked::Plan(given)) => plan(rt, Ok(given), out, err),
-        Ok(Asked::Check(given)) => check(rt, Ok(given), out, err),
-        Ok(Asked::Run(given)) => run(rt, Ok(given), out, err),
-        Ok(Asked::List(given)) => list(rt, Ok(given), out, err),
-        Ok(Asked::Draw(given)) => draw(rt, Ok(given), err),
-        Ok(Asked::Play(given)) => play(rt, Ok(given), out, err, progress),
-        Ok(Asked::Sfdp(given)) => sfdp(rt, Ok(given), out, err),
+        Ok(Asked::Build(given)) => build(alloc, shelf, Ok(given), out, err),
+        Ok(Asked::Plan(given)) => plan(alloc, shelf, Ok(given), out, err),
+        Ok(Asked::Check(given)) => check(alloc, shelf, Ok(given), out, err),
+        Ok(Asked::Run(given)) => run(alloc, shelf, Ok(given), out, err),
+        Ok(Asked::List(given)) => list(alloc, shelf, Ok(given), out, err),
+        Ok(Asked::Draw(given)) => draw(alloc, shelf, Ok(given), err),
+        Ok(Asked::Play(given)) => play(alloc, shelf, Ok(given), out, err, progress),
+        Ok(Asked::Sfdp(given)) => sfdp(alloc, shelf, Ok(given), out, err),
         Ok(Asked::Explain(words)) => explain(words.as_slice(), out, err),
         Err(refusal) => refuse(&refusal, err),
     }

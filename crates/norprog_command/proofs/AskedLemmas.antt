@@ -1,5 +1,6 @@
 -- What was done, and why nothing was, of a task that is asked for.
-use Rattle.std.proofs.Common.{◌≡◌, ℕ, ◌⊎◌, inl, inr, refl, ap, arith, ◌<◌, ◌++◌, [], length, Bool, false, true, List, Option, None, Some, Result, Ok, Err, IfOk, IfErr, subst, sym}
+use Rattle.std.proofs.Common.{◌≡◌, ℕ, ◌⊎◌, inl, inr, refl, ap, arith, ◌<◌, ◌++◌, [], length, Bool, false, true, is_some, option_map, List, Option, None, Some, Result, Ok, Err, IfOk, IfErr, subst, sym}
+use Rattle.std.specs.Prelude.{⊤}
 use Rattle.std.specs.Io.KnownBytes.{Appends}
 use Rattle.nor_base.specs.Device.{Ahead, Cuts}
 use Rattle.nor_base.specs.Parameters.{Parameters}
@@ -25,51 +26,69 @@ use Rattle.norprog_words.specs.Told.{ForAsked, OfFault, Refuses}
 use Rattle.norprog_words.proofs.ToldLemmas.{asked_wider, fault_wider, by_fault, refuses_wider, refuses}
 use Rattle.norprog_command.specs.Builds.{IsReportOf, IsBuildReport, IsFaultOf, IsBuildFault, RefusesBuild, done}
 use Rattle.norprog_command.specs.Meanings.{MeansThis, IsMeaning, MeansNone, IsChipFault, RefusesMeaning}
-use Rattle.norprog_command.specs.declared.request.Request.{Request}
-use Rattle.norprog_command.specs.Plans.{Shown, FailsToDraw, IsPart, Is, in_memory, behind_lines, read_lines, Draws, IsLines, IsWhole, IsTold, PrintsPlan, CutsPlan, FailsToPrint, StopsPlanOf, StopsTask, IsPlanFault, RefusesPlan}
-use Rattle.norprog_command.specs.Served.{IsTaskOf}
-use Rattle.norprog_command.specs.Verdicts.{IsVerdictOf, IsCheckVerdict, IsStopOf, IsCheckFault, RefusesCheck, stop_refusal, stream_refusal}
+use Rattle.norprog_command.specs.Plans.{FailsToDraw, IsUndrawn, IsPart, in_memory, behind_lines, read_lines, Draws, IsLines, IsLinesOf, IsWhole, IsTold, PrintsPlan, CutsPlan, FailsToPrint, StopsPlanOf, StopsTask, IsPlanFault, RefusesPlan}
+use Rattle.norprog_command.specs.Served.{Job, job_with, Is}
+use Rattle.norprog_command.specs.Verdicts.{IsVerdictOf, IsCheckVerdict, IsTextOfFile, IsStopOf, IsCheckFault, RefusesCheck, stop_refusal, stream_refusal}
+
+-- what is asked for, where it is this job
+pub of_one : (Asked : Job → Type 0) (j : Job) → Asked j → (x : Job) → Is j x → Asked x
+of_one Asked j asked x is = subst Asked (sym is) asked
 
 -- a build, whose file was flushed or wasn't
 
-pub report_of : {U E : Type 0} (Asked : Task → Type 0) (t : Task) (len : ℕ) (before after : Ahead) (held held' : Option (List ℕ))
-    (answer : Result Report BuildFault) (flushed : Result U E) (r : Result Report Refusal) → Asked t
-    → IfOk answer (IsBuilt t len before after held held') → r ≡ done answer flushed → IfOk r (IsBuildReport Asked)
-report_of Asked t len before after held held' (Err why) flushed r asked built is = rw is tt
-report_of Asked t len before after held held' (Ok report) (Err e) r asked built is = rw is tt
-report_of Asked t len before after held held' (Ok report) (Ok u) r asked built is = rw is (record {
-  it = t;
+pub report_of : {U E : Type 0} (Asked : Job → Type 0) (Sent : Option (List ℕ) → Type 0) (t : Task) (len : ℕ) (before after : Ahead) (held held' : Option (List ℕ))
+    (answer : Result Report BuildFault) (flushed : Result U E) (r : Result Report Refusal) → Asked (job_with t before len (Some held))
+    → IfOk answer (IsBuilt t len before after held held') → IfOk flushed (λ u. Sent held') → r ≡ done answer flushed → IfOk r (IsBuildReport Asked Sent)
+report_of Asked Sent t len before after held held' (Err why) flushed r asked built sent is = rw is tt
+report_of Asked Sent t len before after held held' (Ok report) (Err e) r asked built sent is = rw is tt
+report_of Asked Sent t len before after held held' (Ok report) (Ok u) r asked built sent is = rw is (record {
+  it = job_with t before len (Some held);
   asked = asked;
-  has = record { len = len; before = before; after = after; held_before = held; held_after = held'; built = built };
+  has = record { after = after; held_before = held; held_after = held'; begun = refl; sent = sent; built = built };
 })
 
-pub refusal_of_build : {U E : Type 0} (A B : Type 0) (Asked : Task → Type 0) (t : Task) (len : ℕ) (before after : Ahead) (held held' : Option (List ℕ))
-    (answer : Result Report BuildFault) (flushed : Result U E) (r : Result Report Refusal) → Asked t
+pub refusal_of_build : {U E : Type 0} (A B : Type 0) (Asked : Job → Type 0) (t : Task) (len : ℕ) (before after : Ahead) (held held' : Option (List ℕ))
+    (answer : Result Report BuildFault) (flushed : Result U E) (r : Result Report Refusal) → Asked (job_with t before len (Some held))
     → IfOk answer (IsBuilt t len before after held held')
     → IfErr answer (λ why. (RefusesInputs t len why × A × B) ⊎ StopsWork t len before after held held' why)
     → r ≡ done answer flushed → IfErr r (RefusesBuild Asked)
 refusal_of_build A B Asked t len before after held held' (Err why) flushed r asked built refused is =
     let cause : RefusesInputs t len why ⊎ StopsWork t len before after held held' why = elim refused [ inl early ↦ inl early.0 | inr late ↦ inr late ] in
     rw is (by_fault (OfFault (IsBuildFault Asked)) _ (Build why) (record {
-      it = t;
+      it = job_with t before len (Some held);
       asked = asked;
-      has = record { len = len; before = before; after = after; held_before = held; held_after = held'; refused = cause };
+      has = record { after = after; held_before = held; held_after = held'; begun = refl; refused = cause };
     }))
 refusal_of_build A B Asked t len before after held held' (Ok report) (Err e) r asked built refused is = rw is (inr (
   report,
   record {
-    it = t;
+    it = job_with t before len (Some held);
     asked = asked;
-    has = record { len = len; before = before; after = after; held_before = held; held_after = held'; built = built };
+    has = record { after = after; held_before = held; held_after = held'; begun = refl; sent = tt; built = built };
   },
 ))
 refusal_of_build A B Asked t len before after held held' (Ok report) (Ok u) r asked built refused is = rw is tt
 
-pub build_wider : (A B : Task → Type 0) → ((t : Task) → A t → B t) → (why : Refusal) → RefusesBuild A why → RefusesBuild B why
+pub build_wider : (A B : Job → Type 0) → ((j : Job) → A j → B j) → (why : Refusal) → RefusesBuild A why → RefusesBuild B why
 build_wider A B wider =
-    refuses_wider (OfFault (IsBuildFault A)) (OfFault (IsBuildFault B)) ((report : Report) × IsBuildReport A report) ((report : Report) × IsBuildReport B report)
-    (fault_wider (IsBuildFault A) (IsBuildFault B) (λ why of. asked_wider Task A B (IsFaultOf why) wider of))
-    (λ late. (late.0, asked_wider Task A B (IsReportOf late.0) wider late.1))
+    refuses_wider (OfFault (IsBuildFault A)) (OfFault (IsBuildFault B)) ((report : Report) × IsBuildReport A (λ held. ⊤) report) ((report : Report) × IsBuildReport B (λ held. ⊤) report)
+    (fault_wider (IsBuildFault A) (IsBuildFault B) (λ why of. asked_wider Job A B (IsFaultOf why) wider of))
+    (λ late. (late.0, asked_wider Job A B (IsReportOf (λ held. ⊤) late.0) wider late.1))
+
+-- a report that wasn't printed is one that was built, whether it has gone out or not
+pub unsent : (Asked : Job → Type 0) (Sent : Option (List ℕ) → Type 0) (report : Report) → IsBuildReport Asked Sent report → IsBuildReport Asked (λ held. ⊤) report
+unsent Asked Sent report of = record {
+  it = of.it;
+  asked = of.asked;
+  has = record {
+    after = of.has.after;
+    held_before = of.has.held_before;
+    held_after = of.has.held_after;
+    begun = of.has.begun;
+    sent = tt;
+    built = of.has.built;
+  };
+}
 
 -- a plan
 
@@ -88,125 +107,124 @@ told_so P (fault.Plan why) is lacks = is
 told_so P fault.ContentShort is lacks = is
 told_so P fault.Read is lacks = is
 
-pub stops_of_plan : (asked : Shown) (C D : Type 0) (t : Task) (len : ℕ) (ahead behind : Ahead) (before after : Option (List ℕ)) (why : BuildFault)
-    → (RefusesInputs t len why × C × D) ⊎ StopsPlan t len ahead behind before after why → StopsTask asked (Is t) (in_memory why)
-stops_of_plan asked C D t len ahead behind before after why refused =
-    let cause : RefusesInputs t len why ⊎ StopsPlan t len ahead behind before after why = elim refused [ inl early ↦ inl early.0 | inr late ↦ inr late ] in
-    told_so (StopsTask asked (Is t)) why (by_fault (OfFault (IsPlanFault (Is t))) (FailsToDraw asked (Is t)) (Build why) (record {
-      it = t;
+pub stops_of_plan : (C D : Type 0) (j : Job) (behind : Ahead) (before after : Option (List ℕ)) (why : BuildFault)
+    → (RefusesInputs j.task j.len why × C × D) ⊎ StopsPlan j.task j.len j.content behind before after why → StopsTask (Is j) (in_memory why)
+stops_of_plan C D j behind before after why refused =
+    let cause : RefusesInputs j.task j.len why ⊎ StopsPlan j.task j.len j.content behind before after why = elim refused [ inl early ↦ inl early.0 | inr late ↦ inr late ] in
+    told_so (StopsTask (Is j)) why (by_fault (OfFault (IsPlanFault (Is j))) (FailsToDraw (Is j)) (Build why) (record {
+      it = j;
       asked = refl;
-      has = record { len = len; ahead = ahead; behind = behind; before = before; after = after; refused = cause };
+      has = record { behind = behind; before = before; after = after; refused = cause };
     })) tt
 
--- what was told of the plan that a request asks for
-pub of_request : (Has : Task → Type 0) (request : Request) (t : Task) → IsTaskOf request t → Has t → ForAsked Task (IsTaskOf request) Has
-of_request Has request t asked has = record { it = t; asked = asked; has = has }
+-- what was told of the plan of the job that is asked for
 
-undrawn_wider : (asked : Shown) (A B : Task → Type 0) → ((t : Task) → A t → B t) → FailsToDraw asked A → FailsToDraw asked B
-undrawn_wider asked A B wider late = (late.0, asked_wider Task A B (λ t. (told : List ℕ) × (report : Report) × IsLines told report t) wider late.1)
+pub wholes_of : {V : Type 0} (r : Result V Refusal) (items : V → List ℕ) (Sent : Option (List ℕ) → Type 0) (times : Bool) (lines : List ℕ) (Asked : Job → Type 0) (j : Job)
+    → Asked j → IfOk r (λ rest. IsWhole Sent times lines (items rest) j) → IfOk r (λ rest. ForAsked Job Asked (IsWhole Sent times lines (items rest)))
+wholes_of (Ok rest) items Sent times lines Asked j asked of = record { it = j; asked = asked; has = of }
+wholes_of (Err why) items Sent times lines Asked j asked of = tt
 
-pub stops_wider : (asked : Shown) (A B : Task → Type 0) → ((t : Task) → A t → B t) → (why : Refusal) → StopsTask asked A why → StopsTask asked B why
-stops_wider asked A B wider =
-    refuses_wider (OfFault (IsPlanFault A)) (OfFault (IsPlanFault B)) (FailsToDraw asked A) (FailsToDraw asked B)
-    (fault_wider (IsPlanFault A) (IsPlanFault B) (λ why of. asked_wider Task A B (StopsPlanOf why) wider of)) (undrawn_wider asked A B wider)
+pub parts_of : {V : Type 0} (r : Result V Refusal) (lines : List ℕ) (Asked : Job → Type 0) (j : Job) → Asked j
+    → IfErr r (λ why. (lines ≡ []) ⊎ IsPart lines j) → IfErr r (λ why. (lines ≡ []) ⊎ ForAsked Job Asked (IsPart lines))
+parts_of (Ok rest) lines Asked j asked of = tt
+parts_of (Err why) lines Asked j asked (inl none) = inl none
+parts_of (Err why) lines Asked j asked (inr of) = inr (record { it = j; asked = asked; has = of })
+
+pub stops_wider : (A B : Job → Type 0) → ((j : Job) → A j → B j) → (why : Refusal) → StopsTask A why → StopsTask B why
+stops_wider A B wider =
+    refuses_wider (OfFault (IsPlanFault A)) (OfFault (IsPlanFault B)) (FailsToDraw A) (FailsToDraw B)
+    (fault_wider (IsPlanFault A) (IsPlanFault B) (λ why of. asked_wider Job A B (StopsPlanOf why) wider of)) (asked_wider Job A B IsUndrawn wider)
 
 -- why a plan wasn't made is why it isn't told
-pub unmade : (asked : Shown) (Asked : Task → Type 0) (before after : Option (List ℕ)) (why : Refusal) → StopsTask asked Asked why
-    → RefusesPlan asked Asked before after why
-unmade asked Asked before after =
-    refuses_wider (OfFault (IsPlanFault Asked)) (OfFault (IsPlanFault Asked)) (FailsToDraw asked Asked)
-    (FailsToDraw asked Asked ⊎ FailsToPrint asked Asked before after) (λ why of. of) (λ late. inl late)
+pub unmade : (Sent : Option (List ℕ) → Type 0) (times : Bool) (Asked : Job → Type 0) (before after : Option (List ℕ)) (why : Refusal) → StopsTask Asked why
+    → RefusesPlan Sent times Asked before after why
+unmade Sent times Asked before after =
+    refuses_wider (OfFault (IsPlanFault Asked)) (OfFault (IsPlanFault Asked)) (FailsToDraw Asked)
+    (FailsToDraw Asked ⊎ FailsToPrint Sent times Asked before after) (λ why of. of) (λ late. inl late)
 
 -- what a plan is told with
 
 -- lines that were written to memory that held nothing
 lines_in : (t : Task) (len : ℕ) (ahead behind : Ahead) (begun lines : List ℕ) (report : Report) → begun ≡ []
-    → IsPlanOf t len ahead behind (Some begun) (Some lines) report → IsLines lines report t
+    → IsPlanOf t len ahead behind (Some begun) (Some lines) report → IsLines lines report t len ahead
 lines_in t len ahead behind begun lines report none planned = record {
-  len = len;
-  ahead = ahead;
   behind = behind;
   planned = subst (λ xs. IsPlanOf t len ahead behind (Some xs) (Some lines) report) none planned;
 }
 
-pub outline_whole : {V : Type 0} (r : Result V Refusal) (items : V → List ℕ) (asked : Shown) (t : Task) (len : ℕ) (ahead behind : Ahead)
-    (begun lines slice : List ℕ) (report : Report) → begun ≡ [] → slice ≡ lines → IsPlanOf t len ahead behind (Some begun) (Some lines) report
-    → ((of : IsLines slice report t) → IfOk r (λ rest. items rest ≡ behind_lines asked.times report t of.planned.m (read_lines of)))
-    → ((of : IsLines slice report t) → IfOk r (λ rest. Draws asked.map t of.planned.m (read_lines of) (items rest)))
-    → IfOk r (λ rest. IsWhole asked lines (items rest) t)
-outline_whole (Err why) items asked t len ahead behind begun lines slice report none same planned rests drawn = tt
-outline_whole (Ok rest) items asked t len ahead behind begun lines slice report none same planned rests drawn =
-    let of : IsLines lines report t = lines_in t len ahead behind begun lines report none planned in
+pub outline_whole : {V : Type 0} (r : Result V Refusal) (items : V → List ℕ) (Sent : Option (List ℕ) → Type 0) (times : Bool) (j : Job) (behind : Ahead)
+    (begun lines slice : List ℕ) (report : Report) → begun ≡ [] → slice ≡ lines → IsPlanOf j.task j.len j.content behind (Some begun) (Some lines) report
+    → ((len : ℕ) (ahead : Ahead) (of : IsLines slice report j.task len ahead) → IfOk r (λ rest. items rest ≡ behind_lines times report j.task of.planned.m (read_lines of)))
+    → ((len : ℕ) (ahead : Ahead) (of : IsLines slice report j.task len ahead) → IfOk r (λ rest. Draws Sent j.begun j.task of.planned.m (read_lines of) (items rest)))
+    → IfOk r (λ rest. IsWhole Sent times lines (items rest) j)
+outline_whole (Err why) items Sent times j behind begun lines slice report none same planned rests drawn = tt
+outline_whole (Ok rest) items Sent times j behind begun lines slice report none same planned rests drawn =
+    let of : IsLines lines report j.task j.len j.content = lines_in j.task j.len j.content behind begun lines report none planned in
     record {
       report = report;
       of = of;
-      ends = subst (λ xs. (of : IsLines xs report t) → items rest ≡ behind_lines asked.times report t of.planned.m (read_lines of)) same rests of;
-      drawn = subst (λ xs. (of : IsLines xs report t) → Draws asked.map t of.planned.m (read_lines of) (items rest)) same drawn of;
+      ends = subst (λ xs. (of : IsLines xs report j.task j.len j.content) → items rest ≡ behind_lines times report j.task of.planned.m (read_lines of)) same (rests j.len j.content) of;
+      drawn = subst (λ xs. (of : IsLines xs report j.task j.len j.content) → Draws Sent j.begun j.task of.planned.m (read_lines of) (items rest)) same (drawn j.len j.content) of;
     }
 
-pub outline_lines : {V : Type 0} (t : Task) (len : ℕ) (ahead behind : Ahead) (begun lines : List ℕ) (report : Report)
-    (r : Result V Refusal) → begun ≡ [] → IsPlanOf t len ahead behind (Some begun) (Some lines) report
-    → IfErr r (λ why. (lines ≡ []) ⊎ IsPart lines t)
-outline_lines t len ahead behind begun lines report (Ok rest) none planned = tt
-outline_lines t len ahead behind begun lines report (Err why) none planned =
-    inr (inr (report, lines_in t len ahead behind begun lines report none planned))
+pub outline_lines : {V : Type 0} (j : Job) (behind : Ahead) (begun lines : List ℕ) (report : Report)
+    (r : Result V Refusal) → begun ≡ [] → IsPlanOf j.task j.len j.content behind (Some begun) (Some lines) report
+    → IfErr r (λ why. (lines ≡ []) ⊎ IsPart lines j)
+outline_lines j behind begun lines report (Ok rest) none planned = tt
+outline_lines j behind begun lines report (Err why) none planned =
+    inr (inr (report, lines_in j.task j.len j.content behind begun lines report none planned))
 
-pub outline_stops : {V : Type 0} (r : Result V Refusal) (asked : Shown) (t : Task) (len : ℕ) (ahead behind : Ahead) (begun lines : List ℕ)
-    (report : Report) → begun ≡ [] → IsPlanOf t len ahead behind (Some begun) (Some lines) report
-    → IfErr r (λ why. (why ≡ Build fault.Memory) ⊎ ((asked.map ≡ true) × (why ≡ Build fault.Write))) → IfErr r (StopsTask asked (Is t))
-outline_stops (Ok rest) asked t len ahead behind begun lines report none planned lacks = tt
-outline_stops (Err why) asked t len ahead behind begun lines report none planned (inl memory) = rw memory tt
-outline_stops (Err why) asked t len ahead behind begun lines report none planned (inr output) = rw output.1 (inr (
-  output.0,
-  record {
-    it = t;
-    asked = refl;
-    has = (lines, report, lines_in t len ahead behind begun lines report none planned);
-  },
-))
+pub outline_stops : {V F : Type 0} (r : Result V Refusal) (j : Job) (map : Option F) (behind : Ahead) (begun lines : List ℕ)
+    (report : Report) → begun ≡ [] → is_some j.begun ≡ is_some map → IsPlanOf j.task j.len j.content behind (Some begun) (Some lines) report
+    → IfErr r (λ why. (why ≡ Build fault.Memory) ⊎ ((is_some map ≡ true) × (why ≡ Build fault.Write))) → IfErr r (StopsTask (Is j))
+outline_stops (Ok rest) j map behind begun lines report none there planned lacks = tt
+outline_stops (Err why) j map behind begun lines report none there planned (inl memory) = rw memory tt
+outline_stops (Err why) j map behind begun lines report none there planned (inr output) = rw output.1 (inr (record {
+  it = j;
+  asked = refl;
+  has = (rw there output.0, lines, report, lines_in j.task j.len j.content behind begun lines report none planned);
+}))
 
-pub stops_for : {V : Type 0} (r : Result V Refusal) (one other : Shown) (t : Task) (request : Request) → one ≡ other → IsTaskOf request t
-    → IfErr r (StopsTask one (Is t)) → IfErr r (StopsTask other (IsTaskOf request))
-stops_for (Ok x) one other t request same of stops = tt
-stops_for (Err why) one other t request same of stops =
-    stops_wider other (Is t) (IsTaskOf request) (λ x is. subst (λ y. IsTaskOf request y) (sym is) of) why (subst (λ s. StopsTask s (Is t) why) same stops)
+pub stops_for : {V : Type 0} (r : Result V Refusal) (Asked : Job → Type 0) (j : Job) → Asked j → IfErr r (StopsTask (Is j)) → IfErr r (StopsTask Asked)
+stops_for (Ok x) Asked j of stops = tt
+stops_for (Err why) Asked j of stops = stops_wider (Is j) Asked (of_one Asked j of) why stops
 
-told_wider : (asked : Shown) (A B : Task → Type 0) → ((t : Task) → A t → B t) → (lines : List ℕ)
-    → (lines ≡ []) ⊎ ForAsked Task A (IsPart lines) → (lines ≡ []) ⊎ ForAsked Task B (IsTold asked lines)
-told_wider asked A B wider lines (inl none) = inl none
-told_wider asked A B wider lines (inr of) = inr (record { it = of.it; asked = wider of.it of.asked; has = inl of.has })
+told_wider : (Sent : Option (List ℕ) → Type 0) (times : Bool) (A B : Job → Type 0) → ((j : Job) → A j → B j) → (lines : List ℕ)
+    → (lines ≡ []) ⊎ ForAsked Job A (IsPart lines) → (lines ≡ []) ⊎ ForAsked Job B (IsTold Sent times lines)
+told_wider Sent times A B wider lines (inl none) = inl none
+told_wider Sent times A B wider lines (inr of) = inr (record { it = of.it; asked = wider of.it of.asked; has = inl of.has })
 
 -- of all lines and what stands behind them
 
-whole_is_told : (asked : Shown) (A : Task → Type 0) (lines rest : List ℕ) → ForAsked Task A (IsWhole asked lines rest)
-    → ForAsked Task A (IsTold asked (lines ++ rest))
-whole_is_told asked A lines rest of = record { it = of.it; asked = of.asked; has = inr (lines, rest, of.has, refl) }
+whole_is_told : (Sent : Option (List ℕ) → Type 0) (times : Bool) (A : Job → Type 0) (lines rest : List ℕ) → ForAsked Job A (IsWhole Sent times lines rest)
+    → ForAsked Job A (IsTold Sent times (lines ++ rest))
+whole_is_told Sent times A lines rest of = record { it = of.it; asked = of.asked; has = inr (lines, rest, of.has, refl) }
 
-pub whole_printed : {U : Type 0} (asked : Shown) (A B : Task → Type 0) → ((t : Task) → A t → B t) → (lines rest : List ℕ) (before after : Option (List ℕ))
-    (r : Result U Refusal) → ForAsked Task A (IsWhole asked lines rest) → IfOk r (λ u. Appends before after (lines ++ rest))
-    → IfOk r (λ u. PrintsPlan asked B before after)
-whole_printed asked A B wider lines rest before after (Ok u) of put =
-    record { lines = lines; rest = rest; whole = asked_wider Task A B (IsWhole asked lines rest) wider of; put = put }
-whole_printed asked A B wider lines rest before after (Err why) of put = tt
+pub whole_printed : {U : Type 0} (Sent : Option (List ℕ) → Type 0) (times : Bool) (A B : Job → Type 0) → ((j : Job) → A j → B j) → (lines rest : List ℕ) (before after : Option (List ℕ))
+    (r : Result U Refusal) → ForAsked Job A (IsWhole Sent times lines rest) → IfOk r (λ u. Appends before after (lines ++ rest))
+    → IfOk r (λ u. PrintsPlan Sent times B before after)
+whole_printed Sent times A B wider lines rest before after (Ok u) of put =
+    record { lines = lines; rest = rest; whole = asked_wider Job A B (IsWhole Sent times lines rest) wider of; put = put }
+whole_printed Sent times A B wider lines rest before after (Err why) of put = tt
 
-pub whole_cut : {U : Type 0} (asked : Shown) (A B : Task → Type 0) → ((t : Task) → A t → B t) → (lines rest : List ℕ) (before after : Option (List ℕ))
-    (r : Result U Refusal) → ForAsked Task A (IsWhole asked lines rest) → IfErr r (λ why. Cuts before after (lines ++ rest))
-    → IfErr r (λ why. CutsPlan asked B before after)
-whole_cut asked A B wider lines rest before after (Ok u) of put = tt
-whole_cut asked A B wider lines rest before after (Err why) of put = inr (record {
+pub whole_cut : {U : Type 0} (Sent : Option (List ℕ) → Type 0) (times : Bool) (A B : Job → Type 0) → ((j : Job) → A j → B j) → (lines rest : List ℕ) (before after : Option (List ℕ))
+    (r : Result U Refusal) → ForAsked Job A (IsWhole Sent times lines rest) → IfErr r (λ why. Cuts before after (lines ++ rest))
+    → IfErr r (λ why. CutsPlan Sent times B before after)
+whole_cut Sent times A B wider lines rest before after (Ok u) of put = tt
+whole_cut Sent times A B wider lines rest before after (Err why) of put = inr (record {
   bytes = lines ++ rest;
-  of = whole_is_told asked B lines rest (asked_wider Task A B (IsWhole asked lines rest) wider of);
+  of = whole_is_told Sent times B lines rest (asked_wider Job A B (IsWhole Sent times lines rest) wider of);
   put = inr put;
 })
 
-pub whole_refused : {U : Type 0} (asked : Shown) (A B : Task → Type 0) → ((t : Task) → A t → B t) → (lines rest : List ℕ) (before after : Option (List ℕ))
-    (cause : Option Refusal) (r : Result U Refusal) → cause ≡ None → ForAsked Task A (IsWhole asked lines rest)
+pub whole_refused : {U : Type 0} (Sent : Option (List ℕ) → Type 0) (times : Bool) (A B : Job → Type 0) → ((j : Job) → A j → B j) → (lines rest : List ℕ) (before after : Option (List ℕ))
+    (cause : Option Refusal) (r : Result U Refusal) → cause ≡ None → ForAsked Job A (IsWhole Sent times lines rest)
     → IfErr r (λ why. Cuts before after (lines ++ rest)) → IfErr r (λ why. why ≡ Build fault.Write)
-    → IfErr r (Refuses cause (RefusesPlan asked B before after))
-whole_refused asked A B wider lines rest before after cause (Ok u) none of put is = tt
-whole_refused asked A B wider lines rest before after cause (Err why) none of put is = refuses _ _ _ none (rw is (inr (inr (record {
+    → IfErr r (Refuses cause (RefusesPlan Sent times B before after))
+whole_refused Sent times A B wider lines rest before after cause (Ok u) none of put is = tt
+whole_refused Sent times A B wider lines rest before after cause (Err why) none of put is = refuses _ _ _ none (rw is (inr (inr (record {
   bytes = lines ++ rest;
-  of = whole_is_told asked B lines rest (asked_wider Task A B (IsWhole asked lines rest) wider of);
+  of = whole_is_told Sent times B lines rest (asked_wider Job A B (IsWhole Sent times lines rest) wider of);
   put = put;
 }))))
 
@@ -217,104 +235,125 @@ PrintsLines Same lines before after why told =
     ((lines ≡ []) × Same × (told ≡ why))
     ⊎ (((0 < length lines) × Appends before after lines × (told ≡ why)) ⊎ (Cuts before after lines × (told ≡ Build fault.Write)))
 
-lines_cut_of : (Same : Type 0) (before after : Option (List ℕ)) → (Same → after ≡ before) → (asked : Shown) (B : Task → Type 0) (lines : List ℕ) (why told : Refusal)
-    → (lines ≡ []) ⊎ ForAsked Task B (IsTold asked lines) → PrintsLines Same lines before after why told → CutsPlan asked B before after
-lines_cut_of Same before after same asked B lines why told part (inl none) = inl (same none.1)
-lines_cut_of Same before after same asked B lines why told (inr of) (inr (inl all)) = inr (record { bytes = lines; of = of; put = inl all.1 })
-lines_cut_of Same before after same asked B lines why told (inl none) (inr (inl all)) = absurd (omega (arith, all.0, ap length none))
-lines_cut_of Same before after same asked B lines why told (inr of) (inr (inr cut)) = inr (record { bytes = lines; of = of; put = inr cut.0 })
-lines_cut_of Same before after same asked B lines why told (inl none) (inr (inr cut)) = absurd (omega (arith, cut.0.1, ap length none))
+lines_cut_of : (Same : Type 0) (before after : Option (List ℕ)) → (Same → after ≡ before) → (Sent : Option (List ℕ) → Type 0) (times : Bool) (B : Job → Type 0) (lines : List ℕ) (why told : Refusal)
+    → (lines ≡ []) ⊎ ForAsked Job B (IsTold Sent times lines) → PrintsLines Same lines before after why told → CutsPlan Sent times B before after
+lines_cut_of Same before after same Sent times B lines why told part (inl none) = inl (same none.1)
+lines_cut_of Same before after same Sent times B lines why told (inr of) (inr (inl all)) = inr (record { bytes = lines; of = of; put = inl all.1 })
+lines_cut_of Same before after same Sent times B lines why told (inl none) (inr (inl all)) = absurd (omega (arith, all.0, ap length none))
+lines_cut_of Same before after same Sent times B lines why told (inr of) (inr (inr cut)) = inr (record { bytes = lines; of = of; put = inr cut.0 })
+lines_cut_of Same before after same Sent times B lines why told (inl none) (inr (inr cut)) = absurd (omega (arith, cut.0.1, ap length none))
 
-pub lines_cut : (Same : Type 0) (before after : Option (List ℕ)) → (Same → after ≡ before) → (asked : Shown) (A B : Task → Type 0) → ((t : Task) → A t → B t)
-    → (lines : List ℕ) (why told : Refusal) → (lines ≡ []) ⊎ ForAsked Task A (IsPart lines) → PrintsLines Same lines before after why told
-    → CutsPlan asked B before after
-lines_cut Same before after same asked A B wider lines why told part =
-    lines_cut_of Same before after same asked B lines why told (told_wider asked A B wider lines part)
+pub lines_cut : (Same : Type 0) (before after : Option (List ℕ)) → (Same → after ≡ before) → (Sent : Option (List ℕ) → Type 0) (times : Bool) (A B : Job → Type 0) → ((j : Job) → A j → B j)
+    → (lines : List ℕ) (why told : Refusal) → (lines ≡ []) ⊎ ForAsked Job A (IsPart lines) → PrintsLines Same lines before after why told
+    → CutsPlan Sent times B before after
+lines_cut Same before after same Sent times A B wider lines why told part =
+    lines_cut_of Same before after same Sent times B lines why told (told_wider Sent times A B wider lines part)
 
-lines_refused_of : (Same : Type 0) (before after : Option (List ℕ)) (asked : Shown) (B : Task → Type 0) (lines : List ℕ) (why told : Refusal)
-    → (lines ≡ []) ⊎ ForAsked Task B (IsTold asked lines) → StopsTask asked B why → PrintsLines Same lines before after why told → RefusesPlan asked B before after told
-lines_refused_of Same before after asked B lines why told part stops (inl none) = rw none.2 (unmade asked B before after why stops)
-lines_refused_of Same before after asked B lines why told part stops (inr (inl all)) = rw all.2 (unmade asked B before after why stops)
-lines_refused_of Same before after asked B lines why told (inr of) stops (inr (inr cut)) = rw cut.1 (inr (inr (record { bytes = lines; of = of; put = cut.0 })))
-lines_refused_of Same before after asked B lines why told (inl none) stops (inr (inr cut)) = absurd (omega (arith, cut.0.1, ap length none))
+lines_refused_of : (Same : Type 0) (before after : Option (List ℕ)) (Sent : Option (List ℕ) → Type 0) (times : Bool) (B : Job → Type 0) (lines : List ℕ) (why told : Refusal)
+    → (lines ≡ []) ⊎ ForAsked Job B (IsTold Sent times lines) → StopsTask B why → PrintsLines Same lines before after why told → RefusesPlan Sent times B before after told
+lines_refused_of Same before after Sent times B lines why told part stops (inl none) = rw none.2 (unmade Sent times B before after why stops)
+lines_refused_of Same before after Sent times B lines why told part stops (inr (inl all)) = rw all.2 (unmade Sent times B before after why stops)
+lines_refused_of Same before after Sent times B lines why told (inr of) stops (inr (inr cut)) = rw cut.1 (inr (inr (record { bytes = lines; of = of; put = cut.0 })))
+lines_refused_of Same before after Sent times B lines why told (inl none) stops (inr (inr cut)) = absurd (omega (arith, cut.0.1, ap length none))
 
-pub lines_refused : (Same : Type 0) (before after : Option (List ℕ)) (asked : Shown) (A B : Task → Type 0) → ((t : Task) → A t → B t)
-    → (lines : List ℕ) (cause : Option Refusal) (why told : Refusal) → cause ≡ None → (lines ≡ []) ⊎ ForAsked Task A (IsPart lines) → StopsTask asked A why
-    → PrintsLines Same lines before after why told → Refuses cause (RefusesPlan asked B before after) told
-lines_refused Same before after asked A B wider lines cause why told none part stops prints =
-    refuses _ _ _ none (lines_refused_of Same before after asked B lines why told (told_wider asked A B wider lines part) (stops_wider asked A B wider why stops) prints)
+pub lines_refused : (Same : Type 0) (before after : Option (List ℕ)) (Sent : Option (List ℕ) → Type 0) (times : Bool) (A B : Job → Type 0) → ((j : Job) → A j → B j)
+    → (lines : List ℕ) (cause : Option Refusal) (why told : Refusal) → cause ≡ None → (lines ≡ []) ⊎ ForAsked Job A (IsPart lines) → StopsTask A why
+    → PrintsLines Same lines before after why told → Refuses cause (RefusesPlan Sent times B before after) told
+lines_refused Same before after Sent times A B wider lines cause why told none part stops prints =
+    refuses _ _ _ none (lines_refused_of Same before after Sent times B lines why told (told_wider Sent times A B wider lines part) (stops_wider A B wider why stops) prints)
 
 -- a check
 
-pub stop_of : (Asked : Task → Type 0) (t : Task) (len : ℕ) (text : List ℕ) (before after : Ahead) (why : CheckStop) → Asked t
-    → RefusesTexts t len text why ⊎ StopsCheck t len text before after why → RefusesCheck Asked (stop_refusal why)
-stop_of Asked t len text before after (stop.Build why) asked stopped = by_fault (IsCheckFault Asked) _ (Build why) (record {
-  it = t;
+pub stop_of : (Asked : Job → Type 0) (IsText : List ℕ → Type 0) (j : Job) (text : List ℕ) (after : Ahead) (why : CheckStop) → Asked j
+    → RefusesTexts j.task j.len text why ⊎ StopsCheck j.task j.len text j.content after why → RefusesCheck Asked IsText (stop_refusal why)
+stop_of Asked IsText j text after (stop.Build why) asked stopped = by_fault (IsCheckFault Asked) _ (Build why) (record {
+  it = j;
   asked = asked;
-  has = record { len = len; text = text; before = before; after = after; stopped = stopped };
+  has = record { text = text; after = after; stopped = stopped };
 })
-stop_of Asked t len text before after (stop.Script script.Memory) asked stopped = tt
-stop_of Asked t len text before after (stop.Script (script.Header line)) asked stopped = record {
-  it = t;
+stop_of Asked IsText j text after (stop.Script script.Memory) asked stopped = tt
+stop_of Asked IsText j text after (stop.Script (script.Header line)) asked stopped = record {
+  it = j;
   asked = asked;
-  has = record { len = len; text = text; before = before; after = after; stopped = stopped };
+  has = record { text = text; after = after; stopped = stopped };
 }
-stop_of Asked t len text before after (stop.Script (script.BadLine line)) asked stopped = record {
-  it = t;
+stop_of Asked IsText j text after (stop.Script (script.BadLine line)) asked stopped = record {
+  it = j;
   asked = asked;
-  has = record { len = len; text = text; before = before; after = after; stopped = stopped };
+  has = record { text = text; after = after; stopped = stopped };
 }
-stop_of Asked t len text before after (stop.Script (script.BadSymbol line)) asked stopped = record {
-  it = t;
+stop_of Asked IsText j text after (stop.Script (script.BadSymbol line)) asked stopped = record {
+  it = j;
   asked = asked;
-  has = record { len = len; text = text; before = before; after = after; stopped = stopped };
+  has = record { text = text; after = after; stopped = stopped };
 }
-stop_of Asked t len text before after (stop.Script (script.BadCount line)) asked stopped = record {
-  it = t;
+stop_of Asked IsText j text after (stop.Script (script.BadCount line)) asked stopped = record {
+  it = j;
   asked = asked;
-  has = record { len = len; text = text; before = before; after = after; stopped = stopped };
+  has = record { text = text; after = after; stopped = stopped };
 }
-stop_of Asked t len text before after (stop.Script (script.NoEnd line)) asked stopped = record {
-  it = t;
+stop_of Asked IsText j text after (stop.Script (script.NoEnd line)) asked stopped = record {
+  it = j;
   asked = asked;
-  has = record { len = len; text = text; before = before; after = after; stopped = stopped };
+  has = record { text = text; after = after; stopped = stopped };
 }
-stop_of Asked t len text before after (stop.Script (script.AfterEnd line)) asked stopped = record {
-  it = t;
+stop_of Asked IsText j text after (stop.Script (script.AfterEnd line)) asked stopped = record {
+  it = j;
   asked = asked;
-  has = record { len = len; text = text; before = before; after = after; stopped = stopped };
+  has = record { text = text; after = after; stopped = stopped };
 }
 
-pub refusal_of_check : (C : Type 0) (Asked : Task → Type 0) (t : Task) (len : ℕ) (text : List ℕ) (before after : Ahead) (why : CheckStop) (told : Refusal) → Asked t
-    → (RefusesTexts t len text why × C) ⊎ StopsCheck t len text before after why → told ≡ stop_refusal why → RefusesCheck Asked told
-refusal_of_check C Asked t len text before after why told asked refused is =
-    let cause : RefusesTexts t len text why ⊎ StopsCheck t len text before after why = elim refused [ inl early ↦ inl early.0 | inr late ↦ inr late ] in
-    rw is (stop_of Asked t len text before after why asked cause)
+pub refusal_of_check : (C : Type 0) (IsText : List ℕ → Type 0) (j : Job) (text : List ℕ) (after : Ahead) (why : CheckStop) (told : Refusal)
+    → (RefusesTexts j.task j.len text why × C) ⊎ StopsCheck j.task j.len text j.content after why → told ≡ stop_refusal why → RefusesCheck (Is j) IsText told
+refusal_of_check C IsText j text after why told refused is =
+    let cause : RefusesTexts j.task j.len text why ⊎ StopsCheck j.task j.len text j.content after why = elim refused [ inl early ↦ inl early.0 | inr late ↦ inr late ] in
+    rw is (stop_of (Is j) IsText j text after why refl cause)
 
 -- a check of a script that is read twice
 
-pub refusal_of_streams : (P Q R S : Type 0) (Asked : Task → Type 0) (t : Task) (len : ℕ) (first over again rest before after : Ahead) (why : StreamStop) (told : Refusal) → Asked t
-    → (RefusesTask t len why × P × Q × S)
-    ⊎ ((StopsReading t len first over why × R × S) ⊎ ((StopsAtContent t len first over before after why × R) ⊎ StopsFeeding t len first over again rest before after why))
-    → told ≡ stream_refusal why → RefusesCheck Asked told
-refusal_of_streams P Q R S Asked t len first over again rest before after (stream.Check why) told asked refused is =
-    let of = some_text t len first over again rest before after P Q R S why refused in
-    rw is (stop_of Asked t len of.0 before after why asked of.1)
-refusal_of_streams P Q R S Asked t len first over again rest before after (stream.First failed) told asked refused is = rw is tt
-refusal_of_streams P Q R S Asked t len first over again rest before after (stream.Again failed) told asked refused is = rw is tt
+pub refusal_of_streams : (P Q R S : Type 0) (IsText : List ℕ → Type 0) (j : Job) (first over again rest after : Ahead) (why : StreamStop) (told : Refusal)
+    → (RefusesTask j.task j.len why × P × Q × S)
+    ⊎ ((StopsReading j.task j.len first over why × R × S)
+    ⊎ ((StopsAtContent j.task j.len first over j.content after why × R) ⊎ StopsFeeding j.task j.len first over again rest j.content after why))
+    → told ≡ stream_refusal why → RefusesCheck (Is j) IsText told
+refusal_of_streams P Q R S IsText j first over again rest after (stream.Check why) told refused is =
+    let of = some_text j.task j.len first over again rest j.content after P Q R S why refused in
+    rw is (stop_of (Is j) IsText j of.0 after why refl of.1)
+refusal_of_streams P Q R S IsText j first over again rest after (stream.First failed) told refused is = rw is tt
+refusal_of_streams P Q R S IsText j first over again rest after (stream.Again failed) told refused is = rw is tt
 
-check_fault_wider : (A B : Task → Type 0) → ((t : Task) → A t → B t) → (why : Refusal) → IsCheckFault A why → IsCheckFault B why
-check_fault_wider A B wider (Build why) of = asked_wider Task A B (IsStopOf (stop.Build why)) wider of
-check_fault_wider A B wider (Script why) of = asked_wider Task A B (IsStopOf (stop.Script why)) wider of
+check_fault_wider : (A B : Job → Type 0) → ((j : Job) → A j → B j) → (why : Refusal) → IsCheckFault A why → IsCheckFault B why
+check_fault_wider A B wider (Build why) of = asked_wider Job A B (IsStopOf (stop.Build why)) wider of
+check_fault_wider A B wider (Script why) of = asked_wider Job A B (IsStopOf (stop.Script why)) wider of
 check_fault_wider A B wider (Text words) of = absurd of
 check_fault_wider A B wider Usage of = absurd of
 check_fault_wider A B wider (File name) of = absurd of
 check_fault_wider A B wider Page of = absurd of
 
-pub check_wider : (A B : Task → Type 0) → ((t : Task) → A t → B t) → (why : Refusal) → RefusesCheck A why → RefusesCheck B why
-check_wider A B wider =
-    refuses_wider (IsCheckFault A) (IsCheckFault B) ((verdict : Verdict) × IsCheckVerdict A verdict) ((verdict : Verdict) × IsCheckVerdict B verdict)
-    (check_fault_wider A B wider) (λ late. (late.0, asked_wider Task A B (IsVerdictOf late.0) wider late.1))
+pub verdict_wider : (A B : Job → Type 0) (P Q : List ℕ → Type 0) → ((j : Job) → A j → B j) → ((text : List ℕ) → P text → Q text) → (verdict : Verdict)
+    → IsCheckVerdict A P verdict → IsCheckVerdict B Q verdict
+verdict_wider A B P Q wider more verdict of = record {
+  it = of.it;
+  asked = wider of.it of.asked;
+  has = record { text = of.has.text; script = more of.has.text of.has.script; after = of.has.after; checked = of.has.checked };
+}
+
+pub check_wider : (A B : Job → Type 0) (P Q : List ℕ → Type 0) → ((j : Job) → A j → B j) → ((text : List ℕ) → P text → Q text) → (why : Refusal)
+    → RefusesCheck A P why → RefusesCheck B Q why
+check_wider A B P Q wider more =
+    refuses_wider (IsCheckFault A) (IsCheckFault B) ((verdict : Verdict) × IsCheckVerdict A P verdict) ((verdict : Verdict) × IsCheckVerdict B Q verdict)
+    (check_fault_wider A B wider) (λ late. (late.0, verdict_wider A B P Q wider more late.0 late.1))
+
+-- the same of an answer
+pub verdicts_wider : (A B : Job → Type 0) (P Q : List ℕ → Type 0) → ((j : Job) → A j → B j) → ((text : List ℕ) → P text → Q text) → (r : Result Verdict Refusal)
+    → IfOk r (IsCheckVerdict A P) → IfOk r (IsCheckVerdict B Q)
+verdicts_wider A B P Q wider more (Ok verdict) of = verdict_wider A B P Q wider more verdict of
+verdicts_wider A B P Q wider more (Err why) of = tt
+
+pub refusals_wider : (A B : Job → Type 0) (P Q : List ℕ → Type 0) → ((j : Job) → A j → B j) → ((text : List ℕ) → P text → Q text) → (r : Result Verdict Refusal)
+    → IfErr r (RefusesCheck A P) → IfErr r (RefusesCheck B Q)
+refusals_wider A B P Q wider more (Ok verdict) of = tt
+refusals_wider A B P Q wider more (Err why) of = check_wider A B P Q wider more why of
 
 -- a chip's meaning
 
@@ -323,3 +362,13 @@ chip_wider A B wider =
     refuses_wider (OfFault (IsChipFault A)) (OfFault (IsChipFault B)) ((m : Parameters) × IsMeaning A m) ((m : Parameters) × IsMeaning B m)
     (fault_wider (IsChipFault A) (IsChipFault B) (λ why of. asked_wider Task A B (MeansNone why) wider of))
     (λ late. (late.0, asked_wider Task A B (MeansThis late.0) wider late.1))
+
+-- the same of an answer
+
+pub means_wider : (A B : Task → Type 0) → ((t : Task) → A t → B t) → (r : Result Parameters Refusal) → IfOk r (IsMeaning A) → IfOk r (IsMeaning B)
+means_wider A B wider (Ok m) of = asked_wider Task A B (MeansThis m) wider of
+means_wider A B wider (Err why) of = tt
+
+pub chips_wider : (A B : Task → Type 0) → ((t : Task) → A t → B t) → (r : Result Parameters Refusal) → IfErr r (RefusesMeaning A) → IfErr r (RefusesMeaning B)
+chips_wider A B wider (Ok m) of = tt
+chips_wider A B wider (Err why) of = chip_wider A B wider why of

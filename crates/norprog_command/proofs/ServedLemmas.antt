@@ -1,45 +1,33 @@
--- Which task a request has, and that it is the one that its texts ask for.
-use Rattle.std.proofs.Common.{◌≡◌, ◌∙◌, ap, refl, is_some, option_map, Option, Some, None, Result, Ok, List, ℕ}
+-- Which job a request has, and that it is the one that its texts ask for.
+use Rattle.std.proofs.Common.{◌≡◌, ◌∙◌, ap, refl, sym, subst, inl, inr, is_some, option_map, Option, Some, None, Result, Ok, List, ℕ}
+use Rattle.nor_base.specs.Device.{Ahead}
 use Rattle.nor_base.specs.declared.meaning.Part.{Part}
 use Rattle.nor_job.specs.Task.{Task}
 use Rattle.nor_job.specs.Task as job
 use Rattle.norprog_words.specs.declared.faults.Refusal.{Refusal}
+use Rattle.norprog_words.specs.declared.files.ScriptFile.{ScriptFile}
+use Rattle.norprog_words.specs.declared.files.ScriptFile.TheVariants.{Twice, Held as whole}
 use Rattle.norprog_words.specs.Chip.{Origin, origin_of, task_chip}
+use Rattle.norprog_words.specs.Shelf.{FileFacts, AreTables, IsOfScript, IsTextIn, Named, WhereNamed}
 use Rattle.norprog_words.specs.Told.{OfLine}
 use Rattle.norprog_words.specs.Values.{part_of}
+use Rattle.norprog_words.specs.declared.given.GivenBuild.{GivenBuild}
+use Rattle.norprog_words.specs.declared.given.GivenCheck.{GivenCheck}
+use Rattle.norprog_words.specs.declared.given.GivenPlan.{GivenPlan}
 use Rattle.norprog_words.specs.declared.given.GivenChip.{GivenChip}
 use Rattle.norprog_words.specs.declared.given.Given.{Given}
 use Rattle.norprog_command.specs.declared.request.Request.{Request}
 use Rattle.norprog_command.specs.Asked.{chip_asked, family_asked}
 use Rattle.norprog_command.specs.Request.{AsksFor}
-use Rattle.norprog_command.specs.Served.{task_by, IsTaskOf, Serves, Held, IsChipTask, ServesChip}
+use Rattle.norprog_command.specs.Served.{task_by, Job, job_with, AreGiven, IsJobOf, Serves, ServesBuild, ServesCheck, ServesPlan, ServesScript, ServesChip, Held, IsTaskAlone, IsChipTask, OfBuild, OfCheck, OfPlan, OfScript, OfChip}
+use Rattle.norprog_command.specs.Verdicts.{IsTextOfFile}
 
+-- there is something of an option where there is one
 pub same_some : {A B : Type 0} (f : A → B) (o : Option A) → is_some (option_map f o) ≡ is_some o
 same_some f (Some x) = refl
 same_some f None = refl
 
 -- a task with these values of the request is the request's
-pub rebuilt : (request : Request) (hex : List ℕ) (layout : Option (List ℕ)) (regions : List (List ℕ)) (chip : job.Origin) (tables : List ℕ)
-    → is_some layout ≡ is_some request.layout → regions ≡ request.regions.items → chip ≡ task_chip (origin_of request.chip) tables
-    → IsTaskOf request (record {
-      hex = hex;
-      layout = layout;
-      regions = regions;
-      chip = chip;
-      part = request.part;
-      status = request.status;
-      mode4 = request.mode4;
-      quad = request.quad;
-      base = request.base;
-      verify = request.verify;
-      erased_only = request.erased_only;
-    })
-rebuilt request hex layout regions chip tables there named is = record {
-  held = record { hex = hex; layout = layout; sfdp = tables };
-  layout = there;
-  task = rw (named, is) refl;
-}
-
 pub rebuilt_exactly : (request : Request) (held : Held) (hex : List ℕ) (layout : Option (List ℕ)) (regions : List (List ℕ)) (chip : job.Origin)
     → hex ≡ held.hex → layout ≡ held.layout → regions ≡ request.regions.items → chip ≡ task_chip (origin_of request.chip) held.sfdp
     → Path Task (record {
@@ -57,29 +45,77 @@ pub rebuilt_exactly : (request : Request) (held : Held) (hex : List ℕ) (layout
     }) (task_by request held)
 rebuilt_exactly request held hex layout regions chip h l r is = rw (h, l, r, is) refl
 
--- a task of a request that the texts ask for is one that they ask for
-pub serves : (given : Given) (request : Request) → AsksFor given request → (t : Task) → IsTaskOf request t → Serves given t
-serves given request asks t of = rw of.task (record {
-  layout = of.layout ∙ ap is_some asks.layout;
-  regions = ap (λ r. r.items) asks.regions;
+-- the job of a request, of the task that its files' bytes make
+pub job_of : (files : FileFacts) (request : Request) (out : Option (List ℕ)) (t : Task) (content : Ahead) (len : ℕ) (begun : Option (Option (List ℕ)))
+    (held : Held) → AreGiven files request held → t ≡ task_by request held → files.opened request.content.now content len
+    → WhereNamed files.made out begun → IsJobOf files request out (job_with t content len begun)
+job_of files request out t content len begun held given is opened made =
+    record { held = held; given = given; task = is; content = opened; made = made }
+
+-- a job of a request that the texts ask for is one that they ask for
+pub serves : (files : FileFacts) (given : Given) (request : Request) (out named : Option (List ℕ)) → named ≡ out → AsksFor given request
+    → (j : Job) → IsJobOf files request out j → Serves files given named j
+serves files given request out named same asks j of = record {
+  hex = subst (λ name. Named (λ n. files.gave n j.task.hex) (option_map (λ t. t.now) name)) (sym asks.hex)
+      (subst (files.gave request.hex.now) (sym (ap (λ t. t.hex) of.task)) of.given.hex);
+  layout = subst (λ name. WhereNamed files.gave (option_map (λ t. t.now) name) j.task.layout) asks.layout
+      (subst (WhereNamed files.gave (option_map (λ t. t.now) request.layout)) (sym (ap (λ t. t.layout) of.task)) of.given.layout);
+  regions = ap (λ t. t.regions) of.task ∙ ap (λ r. r.items) asks.regions;
   origin = origin_of request.chip;
   named = asks.chip;
   tables = of.held.sfdp;
-  chip = refl;
-  part = asks.part;
-  status = asks.status;
-  mode4 = asks.mode4;
-  quad = asks.quad;
-  base = asks.base;
-  verify = asks.verify;
-  erased_only = asks.erased_only;
-})
+  gave = of.given.sfdp;
+  chip = ap (λ t. t.chip) of.task;
+  part = asks.part ∙ ap (λ t. Some t.part) (sym of.task);
+  status = asks.status ∙ ap (λ t. Some t.status) (sym of.task);
+  mode4 = ap (λ t. t.mode4) of.task ∙ asks.mode4;
+  quad = ap (λ t. t.quad) of.task ∙ asks.quad;
+  base = asks.base ∙ ap (λ t. Some t.base) (sym of.task);
+  content = subst (λ name. Named (λ n. files.opened n j.content j.len) (option_map (λ t. t.now) name)) (sym asks.content) of.content;
+  verify = ap (λ t. t.verify) of.task ∙ asks.verify;
+  erased_only = ap (λ t. t.erased_only) of.task ∙ asks.erased_only;
+  made = subst (λ name. WhereNamed files.made name j.begun) (sym same) of.made;
+}
 
-pub chip_serves : (given : GivenChip) (origin : Origin) (part : Part) → chip_asked given ≡ Some origin → part_of (family_asked given) ≡ Some part
-    → (t : Task) → IsChipTask origin part t → ServesChip given t
-chip_serves given origin part named family t of = record { origin = origin; named = named; part = part; family = family; chip = of }
+-- the text of a script's file is that of the file of its name
+pub text_in : {F : Type 0} (files : FileFacts) (name : List ℕ) (ahead : F → Ahead) (script : ScriptFile F) → IsOfScript files name ahead script
+    → (text : List ℕ) → IsTextOfFile ahead script text → IsTextIn files name text
+text_in files name ahead (Twice first again) of text is = inr (ahead again, is.0, of.1, is.1)
+text_in files name ahead (whole held) of text is = inl (subst (files.gave name) (sym is) of)
 
--- the same of the command line on which those texts stand
-pub on_line : {G : Type 0} (Asks : G → Task → Type 0) (line : Result G Refusal) (given : G) (P : Task → Type 0) → line ≡ Ok given
-    → ((t : Task) → P t → Asks given t) → (t : Task) → P t → OfLine Asks line t
-on_line Asks line given P is wider t of = rw is (wider t of)
+pub chip_task : (files : FileFacts) (origin : Origin) (part : Part) (tables : List ℕ) → AreTables files origin tables
+    → (t : Task) → IsTaskAlone origin part tables t → IsChipTask files origin part t
+chip_task files origin part tables gave t is = (tables, gave, is)
+
+-- what is so of texts is so of the command line on which they stand
+on_line : {G A : Type 0} (Asks : G → A → Type 0) (line : Result G Refusal) (given : G) (P : A → Type 0) → line ≡ Ok given
+    → ((x : A) → P x → Asks given x) → (x : A) → P x → OfLine Asks line x
+on_line Asks line given P is wider x of = rw is (wider x of)
+
+pub build_line : (files : FileFacts) (line : Result GivenBuild Refusal) (given : GivenBuild) (request : Request) (path : List ℕ) → line ≡ Ok given
+    → option_map (λ t. t.now) given.out ≡ Some path → AsksFor given.job request → (j : Job) → IsJobOf files request (Some path) j → OfBuild files line j
+build_line files line given request path is out asks =
+    on_line (ServesBuild files) line given (IsJobOf files request (Some path)) is (serves files given.job request (Some path) _ out asks)
+
+pub plan_line : (files : FileFacts) (line : Result GivenPlan Refusal) (given : GivenPlan) (request : Request) → line ≡ Ok given → AsksFor given.job request
+    → (j : Job) → IsJobOf files request (option_map (λ t. t.now) given.map) j → OfPlan files line j
+plan_line files line given request is asks =
+    on_line (ServesPlan files) line given (IsJobOf files request (option_map (λ t. t.now) given.map)) is
+    (serves files given.job request (option_map (λ t. t.now) given.map) _ refl asks)
+
+pub check_line : (files : FileFacts) (line : Result GivenCheck Refusal) (given : GivenCheck) (request : Request) → line ≡ Ok given → AsksFor given.job request
+    → (j : Job) → IsJobOf files request None j → OfCheck files line j
+check_line files line given request is asks =
+    on_line (ServesCheck files) line given (IsJobOf files request None) is (serves files given.job request None None refl asks)
+
+pub script_line : (files : FileFacts) (line : Result GivenCheck Refusal) (given : GivenCheck) (path : List ℕ) → line ≡ Ok given
+    → option_map (λ t. t.now) given.script ≡ Some path → (text : List ℕ) → IsTextIn files path text → OfScript files line text
+script_line files line given path is named =
+    on_line (ServesScript files) line given (IsTextIn files path) is
+    (λ text of. subst (Named (λ n. IsTextIn files n text)) (sym named) of)
+
+pub chip_line : (files : FileFacts) (line : Result GivenChip Refusal) (given : GivenChip) (origin : Origin) (part : Part) → line ≡ Ok given
+    → chip_asked given ≡ Some origin → part_of (family_asked given) ≡ Some part → (t : Task) → IsChipTask files origin part t → OfChip files line t
+chip_line files line given origin part is named family =
+    on_line (ServesChip files) line given (IsChipTask files origin part) is
+    (λ t of. record { origin = origin; named = named; part = part; family = family; chip = of })

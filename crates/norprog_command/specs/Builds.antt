@@ -1,59 +1,58 @@
 -- What is told of a build (this project's).
-use Rattle.std.specs.Prelude.{◌≡◌, ◌⊎◌, ℕ, List, Option, Result, Ok, Err}
+use Rattle.std.specs.Prelude.{◌≡◌, ◌⊎◌, ⊤, ℕ, List, Option, Some, Result, Ok, Err}
 use Rattle.std.specs.Io.KnownBytes.{Appends}
 use Rattle.nor_base.specs.Device.{Ahead, Cuts}
 use Rattle.nor_job.specs.declared.fault.BuildFault.{BuildFault}
 use Rattle.nor_job.specs.declared.fault.BuildFault.TheVariants.{Write}
 use Rattle.nor_job.specs.Causes.{RefusesInputs}
-use Rattle.nor_job.specs.Task.{Task}
 use Rattle.norprog.specs.Build.{IsBuilt, StopsWork}
 use Rattle.norprog.specs.Report.{report_text}
 use Rattle.norprog.specs.declared.report.Report.{Report}
 use Rattle.norprog_words.specs.declared.faults.Refusal.{Refusal}
 use Rattle.norprog_words.specs.declared.faults.Refusal.TheVariants.{Build}
 use Rattle.norprog_words.specs.declared.given.GivenBuild.{GivenBuild}
+use Rattle.norprog_words.specs.Shelf.{FileFacts}
 use Rattle.norprog_words.specs.Told.{ForAsked, OfFault, RefusesFor, line_fault, Refuses, Answers}
 use Rattle.norprog_command.specs.Asked.{asks_build}
-use Rattle.norprog_command.specs.Served.{OfBuild}
+use Rattle.norprog_command.specs.Served.{Job, OfBuild}
 
--- the task was built, and this is its report
-pub record IsReportOf (report : Report) (t : Task) : Type 0 where
-  pub len : ℕ
-  pub before : Ahead
+-- the job was done, this is its report, and its output is so of what it had taken
+pub record IsReportOf (Sent : Option (List ℕ) → Type 0) (report : Report) (j : Job) : Type 0 where
   pub after : Ahead
   pub held_before : Option (List ℕ)
   pub held_after : Option (List ℕ)
-  pub built : IsBuilt t len before after held_before held_after report
+  pub begun : j.begun ≡ Some held_before
+  pub sent : Sent held_after
+  pub built : IsBuilt j.task j.len j.content after held_before held_after report
 
-abbrev pub IsBuildReport : (Task → Type 0) → Report → Type 0
-IsBuildReport Asked report = ForAsked Task Asked (IsReportOf report)
+abbrev pub IsBuildReport : (Job → Type 0) → (Option (List ℕ) → Type 0) → Report → Type 0
+IsBuildReport Asked Sent report = ForAsked Job Asked (IsReportOf Sent report)
 
--- the inputs of the task are refused, or its work stopped
-pub record IsFaultOf (why : BuildFault) (t : Task) : Type 0 where
-  pub len : ℕ
-  pub before : Ahead
+-- the inputs of the job are refused, or its work stopped
+pub record IsFaultOf (why : BuildFault) (j : Job) : Type 0 where
   pub after : Ahead
   pub held_before : Option (List ℕ)
   pub held_after : Option (List ℕ)
-  pub refused : RefusesInputs t len why ⊎ StopsWork t len before after held_before held_after why
+  pub begun : j.begun ≡ Some held_before
+  pub refused : RefusesInputs j.task j.len why ⊎ StopsWork j.task j.len j.content after held_before held_after why
 
-abbrev pub IsBuildFault : (Task → Type 0) → BuildFault → Type 0
-IsBuildFault Asked why = ForAsked Task Asked (IsFaultOf why)
+abbrev pub IsBuildFault : (Job → Type 0) → BuildFault → Type 0
+IsBuildFault Asked why = ForAsked Job Asked (IsFaultOf why)
 
--- why a build that was asked for isn't done
-abbrev pub RefusesBuild : (Task → Type 0) → Refusal → Type 0
-RefusesBuild Asked = RefusesFor (OfFault (IsBuildFault Asked)) ((report : Report) × IsBuildReport Asked report)
+-- why a build that was asked for isn't done; one that was may have failed to go out
+abbrev pub RefusesBuild : (Job → Type 0) → Refusal → Type 0
+RefusesBuild Asked = RefusesFor (OfFault (IsBuildFault Asked)) ((report : Report) × IsBuildReport Asked (λ held. ⊤) report)
 
--- the report of a task that was asked for and built was printed, and nothing else
-pub record PrintsReport (Asked : Task → Type 0) (before after : Option (List ℕ)) : Type 0 where
+-- the report of a job that was asked for and built was printed, and nothing else
+pub record PrintsReport (Asked : Job → Type 0) (Sent : Option (List ℕ) → Type 0) (before after : Option (List ℕ)) : Type 0 where
   pub report : Report
-  pub of_build : IsBuildReport Asked report
+  pub of_build : IsBuildReport Asked Sent report
   pub put : Appends before after (report_text report)
 
 -- nothing was printed, or a proper prefix of such a report
-abbrev pub CutsReport : (Task → Type 0) → Option (List ℕ) → Option (List ℕ) → Type 0
-CutsReport Asked before after =
-    (after ≡ before) ⊎ ((report : Report) × IsBuildReport Asked report × Cuts before after (report_text report))
+abbrev pub CutsReport : (Job → Type 0) → (Option (List ℕ) → Type 0) → Option (List ℕ) → Option (List ℕ) → Type 0
+CutsReport Asked Sent before after =
+    (after ≡ before) ⊎ ((report : Report) × IsBuildReport Asked Sent report × Cuts before after (report_text report))
 
 -- a build is done where its file was flushed as well
 abbrev pub done : {U E : Type 0} → Result Report BuildFault → Result U E → Result Report Refusal
@@ -61,11 +60,11 @@ done (Err why) flushed = Err (Build why)
 done (Ok report) (Err e) = Err (Build Write)
 done (Ok report) (Ok u) = Ok report
 
--- what `build` answers to a command line: the report at status 0, or a refusal
-abbrev pub AnswersBuild : Result GivenBuild Refusal → Option (List ℕ) → Option (List ℕ) → Type 0 → Type 0 → Option (List ℕ) → Option (List ℕ) → ℕ → Type 0
-AnswersBuild line before after Quiet Works told_before told_after status =
+-- what `build` answers to a command line: the report at status 0, after the script has gone out; or a refusal
+abbrev pub AnswersBuild : FileFacts → Result GivenBuild Refusal → Option (List ℕ) → Option (List ℕ) → Type 0 → Type 0 → Option (List ℕ) → Option (List ℕ) → ℕ → Type 0
+AnswersBuild files line before after Quiet Works told_before told_after status =
     Answers (line_fault asks_build line)
-    ((status ≡ 0) × PrintsReport (OfBuild line) before after × Quiet)
-    (CutsReport (OfBuild line) before after)
-    (Refuses (line_fault asks_build line) (RefusesBuild (OfBuild line)))
+    ((status ≡ 0) × PrintsReport (OfBuild files line) files.flushed before after × Quiet)
+    (CutsReport (OfBuild files line) files.flushed before after)
+    (Refuses (line_fault asks_build line) (RefusesBuild (OfBuild files line)))
     Works told_before told_after status

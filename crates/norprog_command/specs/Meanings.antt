@@ -10,6 +10,7 @@ use Rattle.nor_job.specs.Task.{Task, contradiction}
 use Rattle.norprog.specs.ChipText.{meaning_text}
 use Rattle.norprog_words.specs.declared.faults.Refusal.{Refusal}
 use Rattle.norprog_words.specs.declared.given.GivenChip.{GivenChip}
+use Rattle.norprog_words.specs.Shelf.{FileFacts}
 use Rattle.norprog_words.specs.Told.{ForAsked, OfFault, RefusesFor, line_fault, Refuses, Answers}
 use Rattle.norprog_command.specs.Asked.{asks_chip}
 use Rattle.norprog_command.specs.Served.{OfChip}
@@ -43,10 +44,10 @@ CutsMeaning Asked before after =
     (after ≡ before) ⊎ ((m : Parameters) × IsMeaning Asked m × Cuts before after (meaning_text m))
 
 -- what `sfdp` answers to a command line: the lines of the meaning at status 0, or a refusal
-abbrev pub AnswersChip : Result GivenChip Refusal → Option (List ℕ) → Option (List ℕ) → Type 0 → Type 0 → Option (List ℕ) → Option (List ℕ) → ℕ → Type 0
-AnswersChip line before after Quiet Works told_before told_after status =
+abbrev pub AnswersChip : FileFacts → Result GivenChip Refusal → Option (List ℕ) → Option (List ℕ) → Type 0 → Type 0 → Option (List ℕ) → Option (List ℕ) → ℕ → Type 0
+AnswersChip files line before after Quiet Works told_before told_after status =
     Answers (line_fault asks_chip line)
-    ((status ≡ 0) × PrintsMeaning (OfChip line) before after × Quiet)
-    (CutsMeaning (OfChip line) before after)
-    (Refuses (line_fault asks_chip line) (RefusesMeaning (OfChip line)))
+    ((status ≡ 0) × PrintsMeaning (OfChip files line) before after × Quiet)
+    (CutsMeaning (OfChip files line) before after)
+    (Refuses (line_fault asks_chip line) (RefusesMeaning (OfChip files line)))
     Works told_before told_after status

@@ -1,9 +1,11 @@
--- The task that a command line asks for, whatever its files hold (this project's).
-use Rattle.std.specs.Prelude.{◌≡◌, ℕ, false, List, [], Option, None, Some, Result, is_some, option_map, unwrap_or}
+-- The job that a command line asks for (this project's). `files` is what is known of files by their names.
+use Rattle.std.specs.Prelude.{◌≡◌, ℕ, false, List, [], Option, None, Some, Result, option_map}
+use Rattle.nor_base.specs.Device.{Ahead}
 use Rattle.nor_base.specs.declared.meaning.Part.{Part}
 use Rattle.nor_job.specs.Task.{Task}
 use Rattle.norprog_words.specs.declared.faults.Refusal.{Refusal}
 use Rattle.norprog_words.specs.Chip.{Origin, origin_of, task_chip}
+use Rattle.norprog_words.specs.Shelf.{FileFacts, AreTables, IsTextIn, Named, WhereNamed}
 use Rattle.norprog_words.specs.Told.{OfLine}
 use Rattle.norprog_words.specs.Values.{part_of, base_of, said_status}
 use Rattle.norprog_words.specs.declared.given.GivenBuild.{GivenBuild}
@@ -26,8 +28,14 @@ abbrev pub held_in : Texts → Held
 held_in texts = record {
   hex = texts.hex.items;
   layout = option_map (λ held. held.items) texts.layout;
-  sfdp = unwrap_or (option_map (λ held. held.items) texts.sfdp) [];
+  sfdp = texts.sfdp.items;
 }
+
+-- each is what the file of its name gave, and there is a layout just where one is named
+pub record AreGiven (files : FileFacts) (request : Request) (held : Held) : Type 0 where
+  pub hex : files.gave request.hex.now held.hex
+  pub layout : WhereNamed files.gave (option_map (λ t. t.now) request.layout) held.layout
+  pub sfdp : AreTables files (origin_of request.chip) held.sfdp
 
 -- the task of a request whose files hold that
 abbrev pub task_by : Request → Held → Task
@@ -45,41 +53,69 @@ task_by request held = record {
   erased_only = request.erased_only;
 }
 
--- the task of a request: its files hold something, and there is a layout just where one is named
-pub record IsTaskOf (request : Request) (t : Task) : Type 0 where
-  pub held : Held
-  pub layout : is_some held.layout ≡ is_some request.layout
-  pub task : t ≡ task_by request held
+-- a job as it is done: its task, what is ahead of the content's reader, the content's length in bytes, and what its output held
+-- when it was made, where it has one
+pub record Job : Type 0 where
+  pub task : Task
+  pub content : Ahead
+  pub len : ℕ
+  pub begun : Option (Option (List ℕ))
 
--- the task is the one that the texts ask for: there is a layout just where one is named, the chip is the one that the options
--- name, and each value is the one that its text spells. What the files hold is left open
-pub record Serves (given : Given) (t : Task) : Type 0 where
-  pub layout : is_some t.layout ≡ is_some given.layout
-  pub regions : t.regions ≡ given.regions.items
+abbrev pub job_with : Task → Ahead → ℕ → Option (Option (List ℕ)) → Job
+job_with t content len begun = record { task = t; content = content; len = len; begun = begun }
+
+-- the job is this one
+abbrev pub Is : Job → Job → Type 0
+Is one other = other ≡ one
+
+-- the job of a request, whose output has this name: the files of its names gave what its task has, the content's file was opened,
+-- and the output was made
+pub record IsJobOf (files : FileFacts) (request : Request) (out : Option (List ℕ)) (j : Job) : Type 0 where
+  pub held : Held
+  pub given : AreGiven files request held
+  pub task : j.task ≡ task_by request held
+  pub content : files.opened request.content.now j.content j.len
+  pub made : WhereNamed files.made out j.begun
+
+-- the job is the one that the texts ask for, and its output has this name: the image and the layout are what the files of their
+-- names gave, the chip is the one that the options name, by what its file gave, the content's file was opened, each value is the
+-- one that its text spells, and the output was made
+pub record Serves (files : FileFacts) (given : Given) (out : Option (List ℕ)) (j : Job) : Type 0 where
+  pub hex : Named (λ name. files.gave name j.task.hex) (option_map (λ t. t.now) given.hex)
+  pub layout : WhereNamed files.gave (option_map (λ t. t.now) given.layout) j.task.layout
+  pub regions : j.task.regions ≡ given.regions.items
   pub origin : Origin
   pub named : asked_chip given ≡ Some origin
   pub tables : List ℕ
-  pub chip : t.chip ≡ task_chip origin tables
-  pub part : part_of (asked_part given) ≡ Some t.part
-  pub status : said_status (option_map (λ t. t.now) given.status) ≡ Some t.status
-  pub mode4 : t.mode4 ≡ given.mode4
-  pub quad : t.quad ≡ given.quad
-  pub base : base_of (asked_base given) ≡ Some t.base
-  pub verify : t.verify ≡ given.verify
-  pub erased_only : t.erased_only ≡ given.erased_only
+  pub gave : AreTables files origin tables
+  pub chip : j.task.chip ≡ task_chip origin tables
+  pub part : part_of (asked_part given) ≡ Some j.task.part
+  pub status : said_status (option_map (λ t. t.now) given.status) ≡ Some j.task.status
+  pub mode4 : j.task.mode4 ≡ given.mode4
+  pub quad : j.task.quad ≡ given.quad
+  pub base : base_of (asked_base given) ≡ Some j.task.base
+  pub content : Named (λ name. files.opened name j.content j.len) (option_map (λ t. t.now) given.content)
+  pub verify : j.task.verify ≡ given.verify
+  pub erased_only : j.task.erased_only ≡ given.erased_only
+  pub made : WhereNamed files.made out j.begun
 
-abbrev pub ServesBuild : GivenBuild → Task → Type 0
-ServesBuild given = Serves given.job
+-- the script's file, or the picture's where there is one, is made
+abbrev pub ServesBuild : FileFacts → GivenBuild → Job → Type 0
+ServesBuild files given = Serves files given.job (option_map (λ t. t.now) given.out)
 
-abbrev pub ServesPlan : GivenPlan → Task → Type 0
-ServesPlan given = Serves given.job
+abbrev pub ServesPlan : FileFacts → GivenPlan → Job → Type 0
+ServesPlan files given = Serves files given.job (option_map (λ t. t.now) given.map)
 
-abbrev pub ServesCheck : GivenCheck → Task → Type 0
-ServesCheck given = Serves given.job
+abbrev pub ServesCheck : FileFacts → GivenCheck → Job → Type 0
+ServesCheck files given = Serves files given.job None
 
--- the task of a chip alone: what the file of its tables holds, whatever that is, or its size, of that family
-abbrev pub IsChipTask : Origin → Part → Task → Type 0
-IsChipTask origin part t = (tables : List ℕ) × (t ≡ record {
+-- the text is that of the script's file
+abbrev pub ServesScript : FileFacts → GivenCheck → List ℕ → Type 0
+ServesScript files given text = Named (λ name. IsTextIn files name text) (option_map (λ t. t.now) given.script)
+
+-- the task of a chip alone, of these tables or of its size, and of that family
+abbrev pub IsTaskAlone : Origin → Part → List ℕ → Task → Type 0
+IsTaskAlone origin part tables t = t ≡ record {
   hex = [];
   layout = None;
   regions = [];
@@ -91,25 +127,32 @@ IsChipTask origin part t = (tables : List ℕ) × (t ≡ record {
   base = 0;
   verify = false;
   erased_only = false;
-})
+}
+
+-- its tables are what the file of its name gave
+abbrev pub IsChipTask : FileFacts → Origin → Part → Task → Type 0
+IsChipTask files origin part t = (tables : List ℕ) × AreTables files origin tables × IsTaskAlone origin part tables t
 
 -- the task is that of the chip that the texts name, alone
-pub record ServesChip (given : GivenChip) (t : Task) : Type 0 where
+pub record ServesChip (files : FileFacts) (given : GivenChip) (t : Task) : Type 0 where
   pub origin : Origin
   pub named : chip_asked given ≡ Some origin
   pub part : Part
   pub family : part_of (family_asked given) ≡ Some part
-  pub chip : IsChipTask origin part t
+  pub chip : IsChipTask files origin part t
 
 -- of a command line: what it asks for, where it was read
-abbrev pub OfBuild : Result GivenBuild Refusal → Task → Type 0
-OfBuild = OfLine ServesBuild
+abbrev pub OfBuild : FileFacts → Result GivenBuild Refusal → Job → Type 0
+OfBuild files = OfLine (ServesBuild files)
 
-abbrev pub OfCheck : Result GivenCheck Refusal → Task → Type 0
-OfCheck = OfLine ServesCheck
+abbrev pub OfCheck : FileFacts → Result GivenCheck Refusal → Job → Type 0
+OfCheck files = OfLine (ServesCheck files)
 
-abbrev pub OfPlan : Result GivenPlan Refusal → Task → Type 0
-OfPlan = OfLine ServesPlan
+abbrev pub OfScript : FileFacts → Result GivenCheck Refusal → List ℕ → Type 0
+OfScript files = OfLine (ServesScript files)
 
-abbrev pub OfChip : Result GivenChip Refusal → Task → Type 0
-OfChip = OfLine ServesChip
+abbrev pub OfPlan : FileFacts → Result GivenPlan Refusal → Job → Type 0
+OfPlan files = OfLine (ServesPlan files)
+
+abbrev pub OfChip : FileFacts → Result GivenChip Refusal → Task → Type 0
+OfChip files = OfLine (ServesChip files)

@@ -5,22 +5,22 @@ ghost use Rattle.norprog_words.specs.Chip.{origin_of};
 ghost use Rattle.norprog_words.specs.Told.{line_fault, Refuses};
 ghost use Rattle.norprog_command.specs.Asked.{asks_chip};
 ghost use Rattle.norprog_command.specs.Meanings.{IsMeaning, RefusesMeaning, PrintsMeaning, CutsMeaning, AnswersChip};
-ghost use Rattle.norprog_command.specs.Served.{IsChipTask, OfChip};
+ghost use Rattle.norprog_command.specs.Served.{IsChipTask, IsTaskAlone, OfChip};
 
 use nor_base::{ByteOut, Meaning, Part};
 use nor_job::{Inputs, contradiction};
 use norprog::{BuildFault, sfdp_text};
-use norprog_words::{Chip, GivenChip, Refusal, chip_of, part, read_tables, refuse, source_of};
-use std::alloc::AllocGlobal;
-use std::fs::Files;
+use norprog_words::{Chip, GivenChip, Refusal, Shelf, chip_of, part, refuse, source_of, tables_of};
+use std::alloc::Global;
 
 /// Writes to `out` what the tables of the chip on a command line mean, or a refusal to `err` (docs/FORMATS.md, section
 /// 9), and answers the status: 0 done, 1 refused, 2 usage.
 ///
 /// `given` is what stands on the command line, or why that couldn't be read, which is told. Usage is told where the texts
 /// ask for no chip.
-pub fn sfdp<O: ByteOut, E: ByteOut>(
-    rt: &(impl Files + AllocGlobal),
+pub fn sfdp<S: Shelf, O: ByteOut, E: ByteOut>(
+    alloc: Global,
+    shelf: &S,
     given: Result<GivenChip<'_>, Refusal>,
     out: &mut O,
     err: &mut E,
@@ -29,31 +29,32 @@ pub fn sfdp<O: ByteOut, E: ByteOut>(
     requires err { E.count err.old < 2 ^ 64 - 1 }
     ensures status { result ≤ 2 }
     ensures quiet { result ≡ 0 → err.new ≡ err.old }
-    ensures answer { AnswersChip given.entry (O.held out.old) (O.held out.new) (err.new ≡ err.old)
+    ensures answer { AnswersChip (S.facts shelf.now) given.entry (O.held out.old) (O.held out.new) (err.new ≡ err.old)
         (E.count err.new ≡ E.count err.old) (E.held err.old) (E.held err.new) result }
 {
-    match report_meaning(rt, given, out) {
+    match report_meaning(alloc, shelf, given, out) {
         Ok(()) => 0,
         Err(refusal) => refuse(&refusal, err),
     }
 }
 
 /// Writes what the tables mean.
-fn report_meaning<O: ByteOut>(
-    rt: &(impl Files + AllocGlobal),
+fn report_meaning<S: Shelf, O: ByteOut>(
+    alloc: Global,
+    shelf: &S,
     given: Result<GivenChip<'_>, Refusal>,
     out: &mut O,
 ) -> Result<(), Refusal>
     requires { O.count out.old < 2 ^ 64 - 1 }
-    ensures printed { IfOk result (λ _. PrintsMeaning (OfChip given.entry) (O.held out.old) (O.held out.new)) }
-    ensures unprinted { IfErr result (λ _. CutsMeaning (OfChip given.entry) (O.held out.old) (O.held out.new)) }
+    ensures printed { IfOk result (λ _. PrintsMeaning (OfChip (S.facts shelf.now) given.entry) (O.held out.old) (O.held out.new)) }
+    ensures unprinted { IfErr result (λ _. CutsMeaning (OfChip (S.facts shelf.now) given.entry) (O.held out.old) (O.held out.new)) }
     ensures asked { IfOk result (λ _. line_fault asks_chip given.entry ≡ None) }
-    ensures first { IfErr result (Refuses (line_fault asks_chip given.entry) (RefusesMeaning (OfChip given.entry))) }
+    ensures first { IfErr result (Refuses (line_fault asks_chip given.entry) (RefusesMeaning (OfChip (S.facts shelf.now) given.entry))) }
 {
     let given = given?;
     let chip = chip_of(given.sfdp, given.uniform, given.bits).ok_or(Refusal::Usage)?;
     let part = part(given.part.unwrap_or("generic")).ok_or(Refusal::Usage)?;
-    let meaning = run_meaning(rt, chip, part)?;
+    let meaning = run_meaning(alloc, shelf, chip, part)?;
     match sfdp_text(&meaning, out) {
         Ok(()) => Ok(()),
         Err(_) => Err(Refusal::WRITE),
@@ -61,22 +62,23 @@ fn report_meaning<O: ByteOut>(
 }
 
 /// Opens the chip's file, if it has one, and answers the chip's meaning.
-fn run_meaning<R: Files + AllocGlobal>(
-    rt: &R,
+fn run_meaning<S: Shelf>(
+    alloc: Global,
+    shelf: &S,
     chip: Chip<'_>,
     part: Part,
 ) -> Result<Meaning, Refusal>
-    ensures means { IfOk result (IsMeaning (IsChipTask (origin_of chip.entry) part)) }
-    ensures refused { IfErr result (RefusesMeaning (IsChipTask (origin_of chip.entry) part)) }
+    ensures means { IfOk result (IsMeaning (IsChipTask (S.facts shelf.now) (origin_of chip.entry) part)) }
+    ensures refused { IfErr result (RefusesMeaning (IsChipTask (S.facts shelf.now) (origin_of chip.entry) part)) }
 {
-    let tables = read_tables(rt, chip)?;
+    let tables = tables_of(alloc, shelf, chip)?;
     chip_alone(chip, part, tables.as_slice())
 }
 
 /// The meaning of a chip of which nothing else is known.
 fn chip_alone<'a>(chip: Chip<'a>, part: Part, tables: &'a [u8]) -> Result<Meaning, Refusal>
-    ensures means { IfOk result (IsMeaning (IsChipTask (origin_of chip.entry) part)) }
-    ensures refused { IfErr result (RefusesMeaning (IsChipTask (origin_of chip.entry) part)) }
+    ensures means { IfOk result (IsMeaning (IsTaskAlone (origin_of chip.entry) part tables.entry.now)) }
+    ensures refused { IfErr result (RefusesMeaning (IsTaskAlone (origin_of chip.entry) part tables.entry.now)) }
 {
     let inputs = Inputs {
         hex: &[],

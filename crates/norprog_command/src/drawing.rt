@@ -1,8 +1,8 @@
 //! The picture of a plan.
 
-ghost use Rattle.std.specs.Prelude.{◌≡◌, ⊤, ◌<◌, ◌-◌, ◌^◌, List, IfOk, IfErr, MatchResult};
+ghost use Rattle.std.specs.Prelude.{◌≡◌, ◌<◌, ◌-◌, ◌^◌, ℕ, List, IfOk, IfErr};
 ghost use Rattle.std.specs.Io.KnownBytes.{Appends};
-ghost use Rattle.nor_job.specs.declared.fault.BuildFault.TheVariants.{Write};
+ghost use Rattle.nor_base.specs.Device.{Ahead};
 ghost use Rattle.nor_hex.specs.Image.{Pairs};
 ghost use Rattle.nor_job.specs.Causes.{HasRegions};
 ghost use Rattle.nor_layout.specs.Chosen.{has};
@@ -10,47 +10,35 @@ ghost use Rattle.nor_layout.specs.Region.{Region as NamedRegion};
 ghost use Rattle.nor_map.specs.Grid.{grid_of};
 ghost use Rattle.nor_map.specs.Map.{map_text};
 ghost use Rattle.norprog.specs.declared.report.Report.{Report};
-ghost use Rattle.norprog_words.specs.declared.faults.Refusal.TheVariants.{Build};
 ghost use Rattle.norprog_command.specs.Plans.{IsDrawn, IsLines, LacksOutput, read_lines, PutsMap};
 
-use crate::BUFFER;
 use crate::outline::lines_of;
-use nor_base::{ByteOut, IntoWrite, Meaning};
+use nor_base::{ByteOut, Meaning};
 use nor_job::{Inputs, chip_of};
 use nor_layout::{Chosen, Region};
 use nor_map::{Grid, write_map};
 use nor_plan_read::PlanLine;
-use norprog_words::Refusal;
+use norprog_words::{Refusal, Shelf};
 use std::alloc::Global;
-use std::io::{self, BufWriter, Write};
 
 /// Draws the plan of the inputs that these lines tell into a file, with the text behind the lines.
 ///
 /// `Write` where the file fails, also at its flush, and `Memory` where a growth is refused.
-pub(crate) fn draw_file<F: Write + Drop>(
+pub(crate) fn draw_file<S: Shelf>(
     alloc: Global,
+    shelf: &S,
     inputs: &Inputs<'_>,
     text: &[u8],
     rest: &[u8],
-    file: F,
+    file: &mut S::Output,
 ) -> Result<(), Refusal>
-    ensures drawn { (report : Report) → (of : IsLines text.now report inputs.now)
-        → IfOk result (λ _. IsDrawn inputs.now of.planned.m (read_lines of) rest.now) }
+    requires { S.Output.count file.old < 2 ^ 64 - 1 }
+    ensures drawn { (report : Report) (len : ℕ) (ahead : Ahead) (of : IsLines text.now report inputs.now len ahead)
+        → IfOk result (λ _. IsDrawn (S.facts shelf.now).flushed (S.Output.held file.old) inputs.now of.planned.m (read_lines of) rest.now) }
     ensures refused { IfErr result LacksOutput }
 {
-    let Ok(writer) = BufWriter::with_capacity(alloc, BUFFER, file) else {
-        return Err(Refusal::MEMORY);
-    };
-    let mut writer = IntoWrite::new(writer);
-    draw(alloc, inputs, text, rest, &mut writer)?;
-    flushed(writer.inner.flush())
-}
-
-/// Whether a flush was done.
-fn flushed(answer: io::Result<()>) -> Result<(), Refusal>
-    ensures { MatchResult answer (λ _. MatchResult result (λ _. ⊤) (λ _. ⊥)) (λ _. MatchResult result (λ _. ⊥) (λ why. why ≡ Build Write)) }
-{
-    match answer {
+    draw(alloc, inputs, text, rest, file)?;
+    match shelf.flush(file) {
         Ok(()) => Ok(()),
         Err(_) => Err(Refusal::WRITE),
     }
@@ -67,7 +55,7 @@ fn draw<W: ByteOut>(
     out: &mut W,
 ) -> Result<(), Refusal>
     requires { W.count out.old < 2 ^ 64 - 1 }
-    ensures drawn { (report : Report) → (of : IsLines text.now report inputs.now)
+    ensures drawn { (report : Report) (len : ℕ) (ahead : Ahead) (of : IsLines text.now report inputs.now len ahead)
         → IfOk result (λ _. PutsMap inputs.now of.planned.m (read_lines of) rest.now (W.held out.old) (W.held out.new)) }
     ensures refused { IfErr result LacksOutput }
 {

@@ -1,76 +1,99 @@
 //! From the files of a job to the library's inputs.
 
-ghost use Rattle.std.specs.Prelude.{◌≡◌, IfOk, IfErr, is_some, option_map, unwrap_or, []};
+ghost use Rattle.std.specs.Prelude.{◌≡◌, IfOk, IfErr, option_map};
+ghost use Rattle.norprog_words.specs.Chip.{origin_of};
 ghost use Rattle.norprog_words.specs.Files.{IsOfFiles};
-ghost use Rattle.norprog_command.specs.Served.{task_by, held_in, IsTaskOf};
+ghost use Rattle.norprog_words.specs.Shelf.{AreTables, WhereNamed};
+ghost use Rattle.norprog_command.specs.Served.{task_by, held_in, AreGiven};
 
 use crate::request::Request;
 use norprog::Inputs;
-use norprog_words::{Chip, FileName, Place, Refusal, read_whole, source_of};
+use norprog_words::{Chip, FileName, Place, Refusal, Shelf, source_of};
 use std::alloc::Global;
-use std::fs::Files;
 
 /// What the input files of a job hold, the content aside.
 #[derive(Drop)]
 pub(crate) struct Texts {
     hex: Vec<u8>,
     layout: Option<Vec<u8>>,
-    sfdp: Option<Vec<u8>>,
+    /// The chip's tables; nothing for a chip of a size.
+    sfdp: Vec<u8>,
 }
 
 /// Reads the files that are read whole, in their order, and notes which files they are.
-pub(crate) fn read_texts<R: Files>(
-    rt: &R,
+pub(crate) fn read_texts<S: Shelf>(
     alloc: Global,
+    shelf: &S,
     request: &Request<'_>,
     places: &mut Vec<Place>,
 ) -> Result<Texts, Refusal>
-    ensures layout { IfOk result (λ texts. is_some texts.layout ≡ is_some request.now.layout) }
+    ensures given { IfOk result (λ texts. AreGiven (S.facts shelf.now) request.now (held_in texts)) }
     ensures refused { IfErr result IsOfFiles }
 {
-    let (hex, place) = read_whole(rt, alloc, request.hex, FileName::Hex)?;
-    places.push(place)?;
-    let layout = read_optional(rt, alloc, request.layout, FileName::Layout, places)?;
-    let sfdp = match request.chip {
-        Chip::Sfdp { file, bits: _ } => Some(file),
-        Chip::Uniform(_) => None,
-    };
-    let sfdp = read_optional(rt, alloc, sfdp, FileName::Sfdp, places)?;
+    let hex = read_noted(alloc, shelf, request.hex, FileName::Hex, places)?;
+    let layout = read_layout(alloc, shelf, request.layout, places)?;
+    let sfdp = read_tables(alloc, shelf, request.chip, places)?;
     Ok(Texts { hex, layout, sfdp })
 }
 
-/// Reads a file that may not be named.
-fn read_optional<R: Files>(
-    rt: &R,
+/// Reads the layout, where one is named.
+fn read_layout<S: Shelf>(
     alloc: Global,
+    shelf: &S,
     path: Option<&str>,
-    name: FileName,
     places: &mut Vec<Place>,
 ) -> Result<Option<Vec<u8>>, Refusal>
-    ensures named { IfOk result (λ bytes. is_some bytes ≡ is_some path.entry) }
+    ensures gave { IfOk result (λ bytes. WhereNamed (S.facts shelf.now).gave (option_map (λ t. t.now) path.entry)
+        (option_map (λ held. held.items) bytes)) }
     ensures refused { IfErr result IsOfFiles }
 {
-    let path = match path {
-        Some(path) => path,
-        None => return Ok(None),
-    };
-    let (bytes, place) = read_whole(rt, alloc, path, name)?;
+    match path {
+        Some(path) => Ok(Some(read_noted(alloc, shelf, path, FileName::Layout, places)?)),
+        None => Ok(None),
+    }
+}
+
+/// Reads the tables of a chip; nothing for a chip of a size, which has none.
+fn read_tables<S: Shelf>(
+    alloc: Global,
+    shelf: &S,
+    chip: Chip<'_>,
+    places: &mut Vec<Place>,
+) -> Result<Vec<u8>, Refusal>
+    ensures gave { IfOk result (λ tables. AreTables (S.facts shelf.now) (origin_of chip.entry) tables.items) }
+    ensures refused { IfErr result IsOfFiles }
+{
+    match chip {
+        Chip::Sfdp { file, bits: _ } => read_noted(alloc, shelf, file, FileName::Sfdp, places),
+        Chip::Uniform(_) => Ok(Vec::new(alloc)),
+    }
+}
+
+/// Reads a file whole, and notes which one it is.
+fn read_noted<S: Shelf>(
+    alloc: Global,
+    shelf: &S,
+    path: &str,
+    name: FileName,
+    places: &mut Vec<Place>,
+) -> Result<Vec<u8>, Refusal>
+    ensures gave { IfOk result (λ bytes. (S.facts shelf.now).gave path.now bytes.items) }
+    ensures refused { IfErr result IsOfFiles }
+{
+    let (bytes, place) = shelf.read(alloc, path, name)?;
     places.push(place)?;
-    Ok(Some(bytes))
+    Ok(bytes)
 }
 
 /// The library's inputs.
 pub(crate) fn inputs_of<'a>(request: &'a Request<'_>, texts: &'a Texts) -> Inputs<'a>
-    requires { is_some texts.now.layout ≡ is_some request.now.layout }
-    ensures exact { result ≡ task_by request.entry.now (held_in texts.entry.now) }
-    ensures task { IsTaskOf request.entry.now result }
+    ensures { result ≡ task_by request.entry.now (held_in texts.entry.now) }
 {
-    let tables = bytes_or_empty(&texts.sfdp);
     Inputs {
         hex: texts.hex.as_slice(),
         layout: bytes_or_none(&texts.layout),
         regions: request.regions.as_slice(),
-        chip: source_of(request.chip, tables),
+        chip: source_of(request.chip, texts.sfdp.as_slice()),
         part: request.part,
         status: request.status,
         mode4: request.mode4,
@@ -78,15 +101,6 @@ pub(crate) fn inputs_of<'a>(request: &'a Request<'_>, texts: &'a Texts) -> Input
         base: request.base,
         verify: request.verify,
         erased_only: request.erased_only,
-    }
-}
-
-fn bytes_or_empty(bytes: &Option<Vec<u8>>) -> &[u8]
-    ensures { result.now ≡ unwrap_or (option_map (λ held. held.items) bytes.entry.now) [] }
-{
-    match bytes {
-        Some(bytes) => bytes.as_slice(),
-        None => &[],
     }
 }
 

@@ -14,9 +14,6 @@ mod outline;
 mod plans;
 mod request;
 
-/// Bytes that are gathered before they are written to a file.
-const BUFFER: usize = 65536;
-
 pub use builds::build;
 pub use checks::check;
 pub use chips::sfdp;

@@ -1,8 +1,8 @@
 //! What tells a plan: its lines, and behind them its report and its times.
 
-ghost use Rattle.std.specs.Prelude.{◌≡◌, ◌⊎◌, ◌<◌, ◌-◌, ◌++◌, ◌^◌, ℕ, List, [], Some, true, is_some, IfOk, IfErr};
+ghost use Rattle.std.specs.Prelude.{◌≡◌, ◌⊎◌, ◌<◌, ◌-◌, ◌++◌, ◌^◌, ℕ, List, [], Some, true, is_some, option_map, IfOk, IfErr, IfSome};
 ghost use Rattle.nor_base.specs.declared.meaning.Start.{Start};
-ghost use Rattle.nor_base.specs.Device.{Writes, Counts};
+ghost use Rattle.nor_base.specs.Device.{Ahead, Writes, Counts};
 ghost use Rattle.nor_base.specs.Parameters.{Parameters};
 ghost use Rattle.nor_base.specs.Planned.{IsWorkable};
 ghost use Rattle.nor_job.specs.declared.fault.BuildFault.TheVariants.{Memory, Write};
@@ -11,8 +11,8 @@ ghost use Rattle.nor_times.specs.Plan.{plan_of};
 ghost use Rattle.norprog.specs.PlanWindows.{plan_text};
 ghost use Rattle.norprog.specs.Report.{report_text};
 ghost use Rattle.norprog_words.specs.declared.faults.Refusal.TheVariants.{Build};
-ghost use Rattle.norprog_words.specs.Told.{ForAsked};
-ghost use Rattle.norprog_command.specs.Plans.{behind_lines, in_memory, shown, times_lines, read_lines, Draws, IsLines, IsPart, IsWhole, StopsTask, Is};
+ghost use Rattle.norprog_command.specs.Plans.{behind_lines, in_memory, times_lines, read_lines, Draws, IsLines, IsPart, IsWhole, StopsTask};
+ghost use Rattle.norprog_command.specs.Served.{job_with, Is};
 
 use crate::drawing::draw_file;
 use nor_base::{ByteIn, ByteOut, Failed, IntoWrite, Meaning, Start};
@@ -20,9 +20,8 @@ use nor_job::{BuildFault, Inputs, Source, chip_of};
 use nor_plan_read::{PlanLine, read_plan};
 use nor_times::{bus_clocks, busy_time, read_times, text_of_plan, write_times};
 use norprog::{Report, plan, write_report};
-use norprog_words::Refusal;
+use norprog_words::{Refusal, Shelf};
 use std::alloc::Global;
-use std::io::Write;
 
 /// The text that tells a plan.
 pub(crate) struct Outline {
@@ -34,24 +33,28 @@ pub(crate) struct Outline {
 
 /// What tells the plan of the inputs, with the lines of its times where they are asked for; it is drawn where there is a file for
 /// that. Memory is taken for the text.
-pub(crate) fn outline_of<R: ByteIn, F: Write + Drop>(
+pub(crate) fn outline_of<S: Shelf, R: ByteIn>(
     alloc: Global,
+    shelf: &S,
     inputs: &Inputs<'_>,
     content: &mut R,
     len: u64,
     times: bool,
-    map: Option<F>,
+    map: Option<S::Output>,
 ) -> Outline
-    requires { R.count content.old < 2 ^ 64 - 1 }
-    ensures whole { IfOk result.rest (λ rest. IsWhole (shown times map) result.lines.items rest.items inputs.now) }
-    ensures part { IfErr result.rest (λ _. (result.lines.items ≡ []) ⊎ IsPart result.lines.items inputs.now) }
-    ensures refused { IfErr result.rest (StopsTask (shown times map) (Is inputs.now)) }
+    requires content { R.count content.old < 2 ^ 64 - 1 }
+    requires map { IfSome map (λ file. S.Output.count file < 2 ^ 64 - 1) }
+    ensures whole { IfOk result.rest (λ rest. IsWhole (S.facts shelf.now).flushed times result.lines.items rest.items
+        (job_with inputs.now (R.ahead content.old) len (option_map S.Output.held map))) }
+    ensures part { IfErr result.rest (λ _. (result.lines.items ≡ [])
+        ⊎ IsPart result.lines.items (job_with inputs.now (R.ahead content.old) len (option_map S.Output.held map))) }
+    ensures refused { IfErr result.rest (StopsTask (Is (job_with inputs.now (R.ahead content.old) len (option_map S.Output.held map)))) }
 {
     let mut lines = IntoWrite::new(Vec::new(alloc));
     match plan(alloc, inputs, content, len, &mut lines) {
         Ok(report) => {
             let lines = lines.inner;
-            let rest = rest_of(alloc, inputs, &report, lines.as_slice(), times, map);
+            let rest = rest_of(alloc, shelf, inputs, &report, lines.as_slice(), times, map);
             Outline { lines, rest }
         }
         Err(fault) => Outline {
@@ -64,23 +67,26 @@ pub(crate) fn outline_of<R: ByteIn, F: Write + Drop>(
 /// What stands behind the lines of a plan, which is drawn where there is a file for that.
 ///
 /// `Write` where that file fails, and `Memory` where a growth is refused.
-fn rest_of<F: Write + Drop>(
+fn rest_of<S: Shelf>(
     alloc: Global,
+    shelf: &S,
     inputs: &Inputs<'_>,
     report: &Report,
     lines: &[u8],
     times: bool,
-    map: Option<F>,
+    map: Option<S::Output>,
 ) -> Result<Vec<u8>, Refusal>
-    ensures rest { (of : IsLines lines.now report.now inputs.now)
+    requires { IfSome map (λ file. S.Output.count file < 2 ^ 64 - 1) }
+    ensures rest { (len : ℕ) (ahead : Ahead) (of : IsLines lines.now report.now inputs.now len ahead)
         → IfOk result (λ rest. rest.items ≡ behind_lines times report.now inputs.now of.planned.m (read_lines of)) }
-    ensures drawn { (of : IsLines lines.now report.now inputs.now)
-        → IfOk result (λ rest. Draws (is_some map) inputs.now of.planned.m (read_lines of) rest.items) }
+    ensures drawn { (len : ℕ) (ahead : Ahead) (of : IsLines lines.now report.now inputs.now len ahead)
+        → IfOk result (λ rest. Draws (S.facts shelf.now).flushed (option_map S.Output.held map) inputs.now of.planned.m (read_lines of)
+        rest.items) }
     ensures refused { IfErr result (λ why. (why ≡ Build Memory) ⊎ ((is_some map ≡ true) × (why ≡ Build Write))) }
 {
     let rest = behind_lines(alloc, inputs, report, lines, times)?;
-    if let Some(file) = map {
-        draw_file(alloc, inputs, lines, rest.as_slice(), file)?;
+    if let Some(mut file) = map {
+        draw_file(alloc, shelf, inputs, lines, rest.as_slice(), &mut file)?;
         return Ok(rest);
     }
     Ok(rest)
@@ -105,7 +111,7 @@ fn behind_lines(
     lines: &[u8],
     times: bool,
 ) -> Result<Vec<u8>, Refusal>
-    ensures rest { (of : IsLines lines.now report.now inputs.now)
+    ensures rest { (len : ℕ) (ahead : Ahead) (of : IsLines lines.now report.now inputs.now len ahead)
         → IfOk result (λ rest. rest.items ≡ behind_lines times report.now inputs.now of.planned.m (read_lines of)) }
     ensures refused { IfErr result (λ why. why ≡ Build Memory) }
 {
@@ -138,7 +144,7 @@ fn put_times(
     out: &mut IntoWrite<Vec<u8>>,
 ) -> Result<(), Refusal>
     requires { out.old.failed < 2 ^ 64 - 1 }
-    ensures times { (report : Report) → (of : IsLines lines.now report inputs.now)
+    ensures times { (report : Report) (len : ℕ) (ahead : Ahead) (of : IsLines lines.now report inputs.now len ahead)
         → IfOk result (λ _. out.new.inner.items ≡ out.old.inner.items ++ times_lines inputs.now of.planned.m (read_lines of)) }
     ensures refused { IfErr result (λ why. why ≡ Build Memory) }
 {

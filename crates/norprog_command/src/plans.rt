@@ -1,33 +1,33 @@
 //! `plan`: from the texts of the command line to the lines that tell what a build would erase and program, and why.
 
-ghost use Rattle.std.specs.Prelude.{◌≡◌, ◌⊎◌, ◌<◌, ◌≤◌, ◌-◌, ◌^◌, ◌++◌, None, [], length, IfOk, IfErr, is_some};
+ghost use Rattle.std.specs.Prelude.{◌≡◌, ◌⊎◌, ◌<◌, ◌≤◌, ◌-◌, ◌^◌, ◌++◌, None, [], length, IfOk, IfErr, IfSome, option_map};
 ghost use Rattle.std.specs.Io.KnownBytes.{Appends};
 ghost use Rattle.nor_base.specs.Device.{Cuts};
-ghost use Rattle.nor_job.specs.Task.{Task};
 ghost use Rattle.nor_job.specs.declared.fault.BuildFault.TheVariants.{Write};
 ghost use Rattle.norprog_words.specs.declared.faults.Refusal.TheVariants.{Build};
 ghost use Rattle.norprog_words.specs.Files.{IsOfFiles};
+ghost use Rattle.norprog_words.specs.Shelf.{WhereNamed};
 ghost use Rattle.norprog_words.specs.Told.{ForAsked, line_fault, Refuses};
-ghost use Rattle.norprog_command.specs.Plans.{asks_plan, asks_shown, shown, IsPart, IsWhole, StopsTask, PrintsPlan, CutsPlan, RefusesPlan, AnswersPlan};
-ghost use Rattle.norprog_command.specs.Served.{IsTaskOf, OfPlan};
+ghost use Rattle.norprog_command.specs.Plans.{asks_plan, asks_times, IsPart, IsWhole, StopsTask, PrintsPlan, CutsPlan, RefusesPlan, AnswersPlan};
+ghost use Rattle.norprog_command.specs.Served.{Job, IsJobOf, AreGiven, held_in, OfPlan};
 
 use crate::inputs::{Texts, inputs_of, read_texts};
 use crate::outline::{Outline, outline_of};
 use crate::request::{Request, request_of};
-use nor_base::{ByteOut, FromRead, put_all, put_parts};
-use norprog_words::{FileName, GivenPlan, Refusal, create_output, open_input, refuse};
-use std::alloc::AllocGlobal;
-use std::fs::Files;
+use nor_base::{ByteOut, put_all, put_parts};
+use norprog_words::{FileName, GivenPlan, Refusal, Shelf, refuse};
+use std::alloc::Global;
 
 /// Writes to `out` the lines of the plan of the job on a command line, the report that a build of it would have and, where they
 /// are asked for, the lines of its times; or a refusal to `err` (docs/FORMATS.md, sections 9 and 15). Where a picture is asked for
-/// it goes to its file first (section 16). Answers the status: 0 done, 1 refused, 2 usage. Lines of windows before the one at fault stand in `out` also where the job is refused. Memory is
-/// taken for the text.
+/// it goes to its file first (section 16). Answers the status: 0 done, 1 refused, 2 usage. Lines of windows before the one at fault
+/// stand in `out` also where the job is refused. Memory is taken for the text.
 ///
 /// `given` is what stands on the command line, or why that couldn't be read, which is told. Usage is told where the texts
 /// ask for no plan.
-pub fn plan<O: ByteOut, E: ByteOut>(
-    rt: &(impl Files + AllocGlobal),
+pub fn plan<S: Shelf, O: ByteOut, E: ByteOut>(
+    alloc: Global,
+    shelf: &S,
     given: Result<GivenPlan<'_>, Refusal>,
     out: &mut O,
     err: &mut E,
@@ -36,32 +36,36 @@ pub fn plan<O: ByteOut, E: ByteOut>(
     requires err { E.count err.old < 2 ^ 64 - 1 }
     ensures status { result ≤ 2 }
     ensures quiet { result ≡ 0 → err.new ≡ err.old }
-    ensures answer { AnswersPlan given.entry (O.held out.old) (O.held out.new) (err.new ≡ err.old)
+    ensures answer { AnswersPlan (S.facts shelf.now) given.entry (O.held out.old) (O.held out.new) (err.new ≡ err.old)
         (E.count err.new ≡ E.count err.old) (E.held err.old) (E.held err.new) result }
 {
-    match report_plan(rt, given, out) {
+    match report_plan(alloc, shelf, given, out) {
         Ok(()) => 0,
         Err(refusal) => refuse(&refusal, err),
     }
 }
 
 /// Plans what is asked for, and prints what tells it.
-fn report_plan<O: ByteOut>(
-    rt: &(impl Files + AllocGlobal),
+fn report_plan<S: Shelf, O: ByteOut>(
+    alloc: Global,
+    shelf: &S,
     given: Result<GivenPlan<'_>, Refusal>,
     out: &mut O,
 ) -> Result<(), Refusal>
     requires { O.count out.old < 2 ^ 64 - 1 }
-    ensures printed { IfOk result (λ _. PrintsPlan (asks_shown given.entry) (OfPlan given.entry) (O.held out.old) (O.held out.new)) }
-    ensures unprinted { IfErr result (λ _. CutsPlan (asks_shown given.entry) (OfPlan given.entry) (O.held out.old) (O.held out.new)) }
+    ensures printed { IfOk result (λ _. PrintsPlan (S.facts shelf.now).flushed (asks_times given.entry)
+        (OfPlan (S.facts shelf.now) given.entry) (O.held out.old) (O.held out.new)) }
+    ensures unprinted { IfErr result (λ _. CutsPlan (S.facts shelf.now).flushed (asks_times given.entry)
+        (OfPlan (S.facts shelf.now) given.entry) (O.held out.old) (O.held out.new)) }
     ensures asked { IfOk result (λ _. line_fault asks_plan given.entry ≡ None) }
     ensures first { IfErr result (Refuses (line_fault asks_plan given.entry)
-        (RefusesPlan (asks_shown given.entry) (OfPlan given.entry) (O.held out.old) (O.held out.new))) }
+        (RefusesPlan (S.facts shelf.now).flushed (asks_times given.entry) (OfPlan (S.facts shelf.now) given.entry)
+        (O.held out.old) (O.held out.new))) }
 {
     let given = given?;
     let GivenPlan { job, times, map } = given;
     let request = request_of(job).ok_or(Refusal::Usage)?;
-    let Outline { lines, rest } = run_plan(rt, &request, times, map);
+    let Outline { lines, rest } = run_plan(alloc, shelf, &request, times, map);
     match rest {
         Ok(rest) => print_whole(lines.as_slice(), rest.as_slice(), out),
         Err(refusal) => Err(print_lines(lines.as_slice(), refusal, out)),
@@ -98,63 +102,68 @@ fn print_lines<O: ByteOut>(lines: &[u8], refusal: Refusal, out: &mut O) -> Refus
 }
 
 /// The files of a plan, opened.
-struct PlanFiles<F> {
+struct PlanFiles<I, O> {
     texts: Texts,
-    content: F,
+    content: I,
     /// How many bytes the content has.
     len: u64,
     /// What takes the picture.
-    map: Option<F>,
+    map: Option<O>,
 }
 
 /// Opens the files of a request in their order, and plans.
-fn run_plan<R: Files + AllocGlobal>(
-    rt: &R,
+fn run_plan<S: Shelf>(
+    alloc: Global,
+    shelf: &S,
     request: &Request<'_>,
     times: bool,
     map: Option<&str>,
 ) -> Outline
-    ensures whole { IfOk result.rest (λ rest. ForAsked Task (IsTaskOf request.now)
-        (IsWhole (shown times map.entry) result.lines.items rest.items)) }
-    ensures part { IfErr result.rest (λ _. (result.lines.items ≡ []) ⊎ ForAsked Task (IsTaskOf request.now) (IsPart result.lines.items)) }
-    ensures refused { IfErr result.rest (StopsTask (shown times map.entry) (IsTaskOf request.now)) }
+    ensures whole { IfOk result.rest (λ rest. ForAsked Job (IsJobOf (S.facts shelf.now) request.now (option_map (λ t. t.now) map.entry))
+        (IsWhole (S.facts shelf.now).flushed times result.lines.items rest.items)) }
+    ensures part { IfErr result.rest (λ _. (result.lines.items ≡ [])
+        ⊎ ForAsked Job (IsJobOf (S.facts shelf.now) request.now (option_map (λ t. t.now) map.entry)) (IsPart result.lines.items)) }
+    ensures refused { IfErr result.rest (StopsTask (IsJobOf (S.facts shelf.now) request.now (option_map (λ t. t.now) map.entry))) }
 {
-    match open_files(rt, request, map) {
+    match open_files(alloc, shelf, request, map) {
         Ok(files) => {
             let PlanFiles {
                 texts,
-                content,
+                mut content,
                 len,
                 map,
             } = files;
-            let mut content = FromRead::new(content);
             let inputs = inputs_of(request, &texts);
-            outline_of(rt.alloc(), &inputs, &mut content, len, times, map)
+            outline_of(alloc, shelf, &inputs, &mut content, len, times, map)
         }
         Err(refusal) => Outline {
-            lines: Vec::new(rt.alloc()),
+            lines: Vec::new(alloc),
             rest: Err(refusal),
         },
     }
 }
 
-/// Opens the files of a request in their order, and then the file for the picture where there is one.
-fn open_files<R: Files + AllocGlobal>(
-    rt: &R,
+/// Opens the files of a request in their order, and then makes the file for the picture where there is one.
+fn open_files<S: Shelf>(
+    alloc: Global,
+    shelf: &S,
     request: &Request<'_>,
     map: Option<&str>,
-) -> Result<PlanFiles<R::File>, Refusal>
-    ensures layout { IfOk result (λ files. is_some files.texts.layout ≡ is_some request.now.layout) }
-    ensures map { IfOk result (λ files. is_some files.map ≡ is_some map.entry) }
+) -> Result<PlanFiles<S::Input, S::Output>, Refusal>
+    ensures given { IfOk result (λ files. AreGiven (S.facts shelf.now) request.now (held_in files.texts)) }
+    ensures content { IfOk result (λ files. (S.facts shelf.now).opened request.now.content.now (S.Input.ahead files.content) files.len) }
+    ensures count { IfOk result (λ files. S.Input.count files.content ≡ 0) }
+    ensures made { IfOk result (λ files. WhereNamed (S.facts shelf.now).made (option_map (λ t. t.now) map.entry)
+        (option_map S.Output.held files.map)) }
+    ensures fresh { IfOk result (λ files. IfSome files.map (λ file. S.Output.count file ≡ 0)) }
     ensures refused { IfErr result IsOfFiles }
 {
-    let alloc = rt.alloc();
     let mut places = Vec::new(alloc);
-    let texts = read_texts(rt, alloc, request, &mut places)?;
-    let (content, place, len) = open_input(rt, request.content, FileName::Content)?;
+    let texts = read_texts(alloc, shelf, request, &mut places)?;
+    let (content, place, len) = shelf.open(request.content, FileName::Content)?;
     places.push(place)?;
     let map = match map {
-        Some(path) => Some(create_output(rt, path, FileName::Map, places.as_slice())?),
+        Some(path) => Some(shelf.create(alloc, path, FileName::Map, places.as_slice())?),
         None => None,
     };
     Ok(PlanFiles {

@@ -1,5 +1,7 @@
 -- What is drawn for a request is what its texts ask for, and what is so of it is so of that.
-use Rattle.std.proofs.Common.{◌≡◌, refl, List, ℕ, Option, None, Result, Ok, Err, IfOk, IfErr, inr}
+use Rattle.std.proofs.Common.{◌≡◌, option_map, refl, sym, subst, List, ℕ, Option, None, Result, Ok, Err, IfOk, IfErr, inr}
+use Rattle.std.specs.Prelude.{⊤}
+use Rattle.norprog_words.specs.Shelf.{FileFacts, Named}
 use Rattle.norprog_words.specs.declared.faults.Refusal.{Refusal}
 use Rattle.norprog_words.specs.Told.{line_fault, Refuses}
 use Rattle.norprog_words.proofs.ToldLemmas.{asked_wider, refuses_wider, by_fault}
@@ -11,61 +13,69 @@ use Rattle.norprog_draw.specs.Request.{is_well_formed, AsksFor}
 use Rattle.norprog_draw.specs.Served.{DrawTask, IsTaskOf, Serves, OfDraw}
 
 -- what a request has is what the texts ask for
-serves : (given : GivenDraw) (request : DrawRequest) → AsksFor given request → (t : DrawTask) → IsTaskOf request t → Serves given t
-serves given request asks t of = record { from = rw of.from asks.from; count = rw of.count asks.count }
+serves : (files : FileFacts) (given : GivenDraw) (request : DrawRequest) → AsksFor given request → (t : DrawTask) → IsTaskOf files request t → Serves files given t
+serves files given request asks t of = record {
+  text = subst (λ s. Named (λ name. files.gave name t.text) (option_map (λ t. t.now) s)) (sym asks.script) of.text;
+  from = rw of.from asks.from;
+  count = rw of.count asks.count;
+  made = subst (λ s. Named (λ name. files.made name t.begun) (option_map (λ t. t.now) s)) (sym asks.out) of.made;
+}
 
 -- the same of the command line on which those texts stand
-on_line : (line : Result GivenDraw Refusal) (given : GivenDraw) (request : DrawRequest) → line ≡ Ok given → AsksFor given request
-    → (t : DrawTask) → IsTaskOf request t → OfDraw line t
-on_line line given request is asks t of = rw is (serves given request asks t of)
+on_line : (files : FileFacts) (line : Result GivenDraw Refusal) (given : GivenDraw) (request : DrawRequest) → line ≡ Ok given → AsksFor given request
+    → (t : DrawTask) → IsTaskOf files request t → OfDraw files line t
+on_line files line given request is asks t of = rw is (serves files given request asks t of)
 
-drawing_asked : (line : Result GivenDraw Refusal) (given : GivenDraw) (request : DrawRequest) → line ≡ Ok given → AsksFor given request
-    → IsDrawing (IsTaskOf request) → IsDrawing (OfDraw line)
-drawing_asked line given request is asks = asked_wider DrawTask (IsTaskOf request) (OfDraw line) IsDrawingOf (on_line line given request is asks)
+drawing_asked : (files : FileFacts) (line : Result GivenDraw Refusal) (given : GivenDraw) (request : DrawRequest) (Sent : Option (List ℕ) → Type 0) → line ≡ Ok given → AsksFor given request
+    → IsDrawing (IsTaskOf files request) Sent → IsDrawing (OfDraw files line) Sent
+drawing_asked files line given request Sent is asks = asked_wider DrawTask (IsTaskOf files request) (OfDraw files line) (IsDrawingOf Sent) (on_line files line given request is asks)
 
-pub drawings_asked : {T : Type 0} (line : Result GivenDraw Refusal) (given : GivenDraw) (request : DrawRequest) (r : Result T Refusal) → line ≡ Ok given → AsksFor given request
-    → IfOk r (λ _. IsDrawing (IsTaskOf request)) → IfOk r (λ _. IsDrawing (OfDraw line))
-drawings_asked line given request (Ok x) is asks of = drawing_asked line given request is asks of
-drawings_asked line given request (Err why) is asks of = tt
+pub drawings_asked : {T : Type 0} (files : FileFacts) (line : Result GivenDraw Refusal) (given : GivenDraw) (request : DrawRequest) (r : Result T Refusal) → line ≡ Ok given → AsksFor given request
+    → IfOk r (λ _. IsDrawing (IsTaskOf files request) files.flushed) → IfOk r (λ _. IsDrawing (OfDraw files line) files.flushed)
+drawings_asked files line given request (Ok x) is asks of = drawing_asked files line given request files.flushed is asks of
+drawings_asked files line given request (Err why) is asks of = tt
 
-refusal_asked : (line : Result GivenDraw Refusal) (given : GivenDraw) (request : DrawRequest) (why : Refusal) → line ≡ Ok given → AsksFor given request
-    → RefusesDraw (IsTaskOf request) why → RefusesDraw (OfDraw line) why
-refusal_asked line given request why is asks =
-    refuses_wider (IsDrawFault (IsTaskOf request)) (IsDrawFault (OfDraw line)) (IsDrawing (IsTaskOf request)) (IsDrawing (OfDraw line))
-    (λ why of. asked_wider DrawTask (IsTaskOf request) (OfDraw line) (IsStopOf why) (on_line line given request is asks) of)
-    (drawing_asked line given request is asks) why
+refusal_asked : (files : FileFacts) (line : Result GivenDraw Refusal) (given : GivenDraw) (request : DrawRequest) (why : Refusal) → line ≡ Ok given → AsksFor given request
+    → RefusesDraw (IsTaskOf files request) why → RefusesDraw (OfDraw files line) why
+refusal_asked files line given request why is asks =
+    refuses_wider (IsDrawFault (IsTaskOf files request)) (IsDrawFault (OfDraw files line)) (IsDrawing (IsTaskOf files request) (λ held. ⊤)) (IsDrawing (OfDraw files line) (λ held. ⊤))
+    (λ why of. asked_wider DrawTask (IsTaskOf files request) (OfDraw files line) (IsStopOf why) (on_line files line given request is asks) of)
+    (drawing_asked files line given request (λ held. ⊤) is asks) why
 
 -- the same of whichever came
-pub refusals_asked : {T : Type 0} (line : Result GivenDraw Refusal) (given : GivenDraw) (request : DrawRequest) (r : Result T Refusal)
-    → line ≡ Ok given → AsksFor given request → line_fault is_well_formed line ≡ None → IfErr r (RefusesDraw (IsTaskOf request))
-    → IfErr r (Refuses (line_fault is_well_formed line) (RefusesDraw (OfDraw line)))
-refusals_asked line given request (Ok x) is asks none of = tt
-refusals_asked line given request (Err why) is asks none of = rw none (refusal_asked line given request why is asks of)
+pub refusals_asked : {T : Type 0} (files : FileFacts) (line : Result GivenDraw Refusal) (given : GivenDraw) (request : DrawRequest) (r : Result T Refusal)
+    → line ≡ Ok given → AsksFor given request → line_fault is_well_formed line ≡ None → IfErr r (RefusesDraw (IsTaskOf files request))
+    → IfErr r (Refuses (line_fault is_well_formed line) (RefusesDraw (OfDraw files line)))
+refusals_asked files line given request (Ok x) is asks none of = tt
+refusals_asked files line given request (Err why) is asks none of = rw none (refusal_asked files line given request why is asks of)
 
 -- a drawing whose file was flushed
-module _ (request : DrawRequest) (text : List ℕ) (before after : Option (List ℕ)) where
-  was_drawn : WasDrawn text request.from request.count before after → IsDrawing (IsTaskOf request)
-  was_drawn is = record {
-    it = record { from = request.from; count = request.count };
-    asked = record { from = refl; count = refl };
-    has = record { text = text; before = before; after = after; drawn = is };
-  }
+module _ (files : FileFacts) (request : DrawRequest) (text : List ℕ) (before after : Option (List ℕ)) (gave : files.gave request.script.now text)
+    (made : files.made request.out.now before) where
+  abbrev task : DrawTask
+  task = record { text = text; from = request.from; count = request.count; begun = before }
 
-  was_refused : (why : Refusal) → RefusesDrawing text request.from request.count before after why → RefusesDraw (IsTaskOf request) why
-  was_refused why is = by_fault (IsDrawFault (IsTaskOf request)) (IsDrawing (IsTaskOf request)) why (record {
-    it = record { from = request.from; count = request.count };
-    asked = record { from = refl; count = refl };
-    has = record { text = text; before = before; after = after; refused = is };
+  asked : IsTaskOf files request task
+  asked = record { text = gave; from = refl; count = refl; made = made }
+
+  was_drawn : (Sent : Option (List ℕ) → Type 0) → Sent after → WasDrawn text request.from request.count before after → IsDrawing (IsTaskOf files request) Sent
+  was_drawn Sent sent is = record { it = task; asked = asked; has = record { after = after; sent = sent; drawn = is } }
+
+  was_refused : (why : Refusal) → RefusesDrawing text request.from request.count before after why → RefusesDraw (IsTaskOf files request) why
+  was_refused why is = by_fault (IsDrawFault (IsTaskOf files request)) (IsDrawing (IsTaskOf files request) (λ held. ⊤)) why (record {
+    it = task;
+    asked = asked;
+    has = record { after = after; refused = is };
   })
 
   pub done_is_drawn : {T U E : Type 0} (answer : Result T Refusal) (flushed : Result U E) (r : Result T Refusal) → IfOk answer (λ _. WasDrawn text request.from request.count before after)
-      → r ≡ done answer flushed → IfOk r (λ _. IsDrawing (IsTaskOf request))
-  done_is_drawn (Err why) flushed r drawn is = rw is tt
-  done_is_drawn (Ok x) (Err e) r drawn is = rw is tt
-  done_is_drawn (Ok x) (Ok u) r drawn is = rw is (was_drawn drawn)
+      → IfOk flushed (λ _. files.flushed after) → r ≡ done answer flushed → IfOk r (λ _. IsDrawing (IsTaskOf files request) files.flushed)
+  done_is_drawn (Err why) flushed r drawn sent is = rw is tt
+  done_is_drawn (Ok x) (Err e) r drawn sent is = rw is tt
+  done_is_drawn (Ok x) (Ok u) r drawn sent is = rw is (was_drawn files.flushed sent drawn)
 
   pub done_is_refused : {T U E : Type 0} (answer : Result T Refusal) (flushed : Result U E) (r : Result T Refusal) → IfOk answer (λ _. WasDrawn text request.from request.count before after)
-      → IfErr answer (RefusesDrawing text request.from request.count before after) → r ≡ done answer flushed → IfErr r (RefusesDraw (IsTaskOf request))
+      → IfErr answer (RefusesDrawing text request.from request.count before after) → r ≡ done answer flushed → IfErr r (RefusesDraw (IsTaskOf files request))
   done_is_refused (Err why) flushed r drawn refused is = rw is (was_refused why refused)
-  done_is_refused (Ok x) (Err e) r drawn refused is = rw is (inr (was_drawn drawn))
+  done_is_refused (Ok x) (Err e) r drawn refused is = rw is (inr (was_drawn (λ held. ⊤) tt drawn))
   done_is_refused (Ok x) (Ok u) r drawn refused is = rw is tt

@@ -1,31 +1,29 @@
 -- What is told of a drawing (this project's).
-use Rattle.std.specs.Prelude.{◌≡◌, ℕ, List, Option, Result, Ok, Err}
+use Rattle.std.specs.Prelude.{◌≡◌, ⊤, ℕ, List, Option, Result, Ok, Err}
 use Rattle.nor_job.specs.declared.fault.BuildFault.TheVariants.{Write}
 use Rattle.norprog_words.specs.declared.faults.Refusal.{Refusal}
 use Rattle.norprog_words.specs.declared.faults.Refusal.TheVariants.{Build}
+use Rattle.norprog_words.specs.Shelf.{FileFacts}
 use Rattle.norprog_words.specs.Told.{ForAsked, RefusesFor, Refuses, line_fault, Answers}
 use Rattle.norprog_words.specs.declared.given.GivenDraw.{GivenDraw}
 use Rattle.norprog_draw.specs.Drawn.{WasDrawn, RefusesDrawing}
 use Rattle.norprog_draw.specs.Request.{is_well_formed}
 use Rattle.norprog_draw.specs.Served.{DrawTask, OfDraw}
 
--- these steps of some text were drawn
-pub record IsDrawingOf (t : DrawTask) : Type 0 where
-  pub text : List ℕ
-  pub before : Option (List ℕ)
+-- these steps of the text were drawn, and the output is so of what it had taken
+pub record IsDrawingOf (Sent : Option (List ℕ) → Type 0) (t : DrawTask) : Type 0 where
   pub after : Option (List ℕ)
-  pub drawn : WasDrawn text t.from t.count before after
+  pub sent : Sent after
+  pub drawn : WasDrawn t.text t.from t.count t.begun after
 
 -- what was asked for was drawn
-abbrev pub IsDrawing : (DrawTask → Type 0) → Type 0
-IsDrawing Asked = ForAsked DrawTask Asked IsDrawingOf
+abbrev pub IsDrawing : (DrawTask → Type 0) → (Option (List ℕ) → Type 0) → Type 0
+IsDrawing Asked Sent = ForAsked DrawTask Asked (IsDrawingOf Sent)
 
--- why these steps of some text aren't drawn
+-- why these steps of the text aren't drawn
 pub record IsStopOf (why : Refusal) (t : DrawTask) : Type 0 where
-  pub text : List ℕ
-  pub before : Option (List ℕ)
   pub after : Option (List ℕ)
-  pub refused : RefusesDrawing text t.from t.count before after why
+  pub refused : RefusesDrawing t.text t.from t.count t.begun after why
 
 abbrev pub IsDrawFault : (DrawTask → Type 0) → Refusal → Type 0
 IsDrawFault Asked why = ForAsked DrawTask Asked (IsStopOf why)
@@ -33,7 +31,7 @@ IsDrawFault Asked why = ForAsked DrawTask Asked (IsStopOf why)
 -- why what was asked for isn't drawn: a file can't be used, or a growth was refused; the output failed while it was drawn, or
 -- after; else the fault of the work
 abbrev pub RefusesDraw : (DrawTask → Type 0) → Refusal → Type 0
-RefusesDraw Asked = RefusesFor (IsDrawFault Asked) (IsDrawing Asked)
+RefusesDraw Asked = RefusesFor (IsDrawFault Asked) (IsDrawing Asked (λ held. ⊤))
 
 -- a drawing is done where its file was flushed as well
 abbrev pub done : {T U E : Type 0} → Result T Refusal → Result U E → Result T Refusal
@@ -41,11 +39,11 @@ done (Err why) flushed = Err why
 done (Ok drawn) (Err e) = Err (Build Write)
 done (Ok drawn) (Ok u) = Ok drawn
 
--- what `draw` answers to a command line: status 0 where it was drawn, or a refusal. It prints nothing else
-abbrev pub AnswersDraw : Result GivenDraw Refusal → Type 0 → Type 0 → Option (List ℕ) → Option (List ℕ) → ℕ → Type 0
-AnswersDraw line Quiet Works told_before told_after status =
+-- what `draw` answers to a command line: status 0 where it was drawn and has gone out, or a refusal. It prints nothing else
+abbrev pub AnswersDraw : FileFacts → Result GivenDraw Refusal → Type 0 → Type 0 → Option (List ℕ) → Option (List ℕ) → ℕ → Type 0
+AnswersDraw files line Quiet Works told_before told_after status =
     Answers (line_fault is_well_formed line)
-    ((status ≡ 0) × IsDrawing (OfDraw line) × Quiet)
+    ((status ≡ 0) × IsDrawing (OfDraw files line) files.flushed × Quiet)
     (Unit {0})
-    (Refuses (line_fault is_well_formed line) (RefusesDraw (OfDraw line)))
+    (Refuses (line_fault is_well_formed line) (RefusesDraw (OfDraw files line)))
     Works told_before told_after status

@@ -1,5 +1,5 @@
 -- What stopped the listing of a script's steps is the refusal of its text, and what was printed then.
-use Rattle.std.proofs.Common.{◌≡◌, ℕ, List, [], Option, Result, Ok, Err, IfErr, inl, inr, refl, sym, subst, Bool}
+use Rattle.std.proofs.Common.{◌≡◌, ℕ, List, [], Option, Result, Ok, Err, IfOk, IfErr, inl, inr, refl, sym, subst, Bool}
 use Rattle.nor_base.specs.Chip.{begins4}
 use Rattle.nor_base.specs.Device.{Ahead}
 use Rattle.nor_base.specs.Parameters.{Parameters}
@@ -14,12 +14,19 @@ use Rattle.norprog_words.specs.declared.faults.Refusal.TheVariants.{Text, Usage,
 use Rattle.norprog_list.specs.declared.steps.Stop.{Stop}
 use Rattle.norprog_list.specs.declared.steps.Stop.TheVariants as stop
 use Rattle.norprog_list.specs.Stop.{Lists, refusal_of}
-use Rattle.norprog_list.specs.Answer.{CutsListing}
-use Rattle.nor_script.specs.Stream.{reading}
+use Rattle.norprog_list.specs.Answer.{CutsListing, PrintsListing, IsListFault, RefusesList}
+use Rattle.nor_script.specs.Stream.{IsTextOf, reading}
 use Rattle.nor_script.proofs.StreamLaws.{reads_none}
 use Rattle.nor_script.proofs.TextLaws.{any_text}
 use Rattle.std.specs.Prelude.{IsErrAnd}
-use Rattle.norprog_list.specs.Listed.{IsKnown, RefusesChipOf, RefusesListing, ListsText, RefusesText}
+use Rattle.norprog_words.specs.Setup.{IsKnown, RefusesChipOf}
+use Rattle.norprog_words.specs.Chip.{origin_of}
+use Rattle.norprog_words.specs.Setup.{setup_task}
+use Rattle.norprog_words.specs.Shelf.{AreTables, FileFacts}
+use Rattle.norprog_words.proofs.ToldLemmas.{by_fault}
+use Rattle.norprog_list.specs.declared.request.ListRequest.{ListRequest}
+use Rattle.norprog_list.specs.Served.{ListTask, IsTaskOf}
+use Rattle.norprog_list.specs.Listed.{RefusesListing, ListsText, RefusesText}
 
 -- by the chip of the inputs
 module _ (t : Task) (m : Parameters) (known : IsKnown t m) (first : Bool) (begins : first ≡ begins4 m (start_of t)) (ahead rest : Ahead) (before after : Option (List ℕ)) where
@@ -41,37 +48,51 @@ module _ (t : Task) (m : Parameters) (known : IsKnown t m) (first : Bool) (begin
   stopped (stop.Script (read.Script script.Memory)) p = let of = by_first (Err (stop.Script (read.Script script.Memory))) p in (of.0, of.1, record { m = m; known = known; put = of.2 })
 
 -- with a refusal no more than a part was printed
-module _ (Asked : Task → Type 0) (t : Task) (asked : Asked t) (before after : Option (List ℕ)) where
-  cut : (text : List ℕ) (why : Refusal) → RefusesListing t text before after why → CutsListing Asked before after
-  cut text (Script why) h = inr (record { it = t; asked = asked; has = (text, inr (inr (why, h))) })
-  cut text (Build fault.Write) h = inr (record { it = t; asked = asked; has = (text, inl h) })
-  cut text (Build fault.Memory) h = inr (record { it = t; asked = asked; has = (text, inr (inl h)) })
-  cut text (File file.Script) h = inr (record { it = t; asked = asked; has = (text, inr (inl h)) })
-  cut text (Build (fault.Contradiction number)) h = inl h.1
-  cut text (Build (fault.Hex why)) h = inl h.1
-  cut text (Build (fault.Layout why)) h = inl h.1
-  cut text (Build (fault.Sfdp why)) h = inl h.1
-  cut text (Build (fault.Status number)) h = inl h.1
-  cut text (Build fault.ModeImpossible) h = inl h.1
-  cut text (Build fault.ContentSize) h = inl h.1
-  cut text (Build (fault.Plan why)) h = inl h.1
-  cut text (Build fault.ContentShort) h = inl h.1
-  cut text (Build fault.Read) h = inl h.1
-  cut text (Text words) h = inl h.1
-  cut text Usage h = inl h.1
-  cut text (File file.Hex) h = inl h.1
-  cut text (File file.Layout) h = inl h.1
-  cut text (File file.Sfdp) h = inl h.1
-  cut text (File file.Content) h = inl h.1
-  cut text (File file.Out) h = inl h.1
-  cut text (File file.Map) h = inl h.1
-  cut text (File file.Device) h = inl h.1
-  cut text Page h = inl h.1
+module _ (Asked : ListTask → Type 0) (t : ListTask) (asked : Asked t) (rest : Ahead) (before after : Option (List ℕ)) where
+  cut : (text : List ℕ) → IsTextOf t.script rest text → (why : Refusal) → RefusesListing t.chip text before after why → CutsListing Asked before after
+  cut text of (Script why) h = inr (record { it = t; asked = asked; has = (rest, (text, of, inr (inr (why, h)))) })
+  cut text of (Build fault.Write) h = inr (record { it = t; asked = asked; has = (rest, (text, of, inl h)) })
+  cut text of (Build fault.Memory) h = inr (record { it = t; asked = asked; has = (rest, (text, of, inr (inl h))) })
+  cut text of (File file.Script) h = inr (record { it = t; asked = asked; has = (rest, (text, of, inr (inl h))) })
+  cut text of (Build (fault.Contradiction number)) h = inl h.1
+  cut text of (Build (fault.Hex why)) h = inl h.1
+  cut text of (Build (fault.Layout why)) h = inl h.1
+  cut text of (Build (fault.Sfdp why)) h = inl h.1
+  cut text of (Build (fault.Status number)) h = inl h.1
+  cut text of (Build fault.ModeImpossible) h = inl h.1
+  cut text of (Build fault.ContentSize) h = inl h.1
+  cut text of (Build (fault.Plan why)) h = inl h.1
+  cut text of (Build fault.ContentShort) h = inl h.1
+  cut text of (Build fault.Read) h = inl h.1
+  cut text of (Text words) h = inl h.1
+  cut text of Usage h = inl h.1
+  cut text of (File file.Hex) h = inl h.1
+  cut text of (File file.Layout) h = inl h.1
+  cut text of (File file.Sfdp) h = inl h.1
+  cut text of (File file.Content) h = inl h.1
+  cut text of (File file.Out) h = inl h.1
+  cut text of (File file.Map) h = inl h.1
+  cut text of (File file.Device) h = inl h.1
+  cut text of Page h = inl h.1
 
-  pub refused_cut : {T : Type 0} (ahead rest : Ahead) (r : Result T Refusal) → IfErr r (RefusesText t ahead rest before after)
+  pub refused_cut : {T : Type 0} (r : Result T Refusal) → IfErr r (RefusesText t.chip t.script rest before after)
       → IfErr r (λ _. CutsListing Asked before after)
-  refused_cut ahead rest (Ok x) h = tt
-  refused_cut ahead rest (Err why) h = cut h.0 why h.2
+  refused_cut (Ok x) h = tt
+  refused_cut (Err why) h = cut h.0 h.1 why h.2
+
+  -- the listing of it is that of what was asked for, and so is a refusal
+  pub all_printed : {T : Type 0} (r : Result T Refusal) → IfOk r (λ _. ListsText t.chip t.script rest before after) → IfOk r (λ _. PrintsListing Asked before after)
+  all_printed (Ok x) h = record { it = t; asked = asked; has = (rest, h) }
+  all_printed (Err why) h = tt
+
+  pub refused_so : {T : Type 0} (r : Result T Refusal) → IfErr r (RefusesText t.chip t.script rest before after) → IfErr r (RefusesList Asked before after)
+  refused_so (Ok x) h = tt
+  refused_so (Err why) h = by_fault (IsListFault Asked before after) ⊥ why (record { it = t; asked = asked; has = (rest, h) })
+
+-- what was read of the files that a request names
+pub asked_of : (files : FileFacts) (request : ListRequest) (chip : Task) (tables : List ℕ) (ahead : Ahead) (len : ℕ) → chip ≡ setup_task request.setup tables
+    → AreTables files (origin_of request.setup.chip) tables → files.opened request.script.now ahead len → IsTaskOf files request (record { chip = chip; script = ahead })
+asked_of files request chip tables ahead len is gave opened = record { chip = record { tables = tables; gave = gave; task = is }; script = (len, opened) }
 
 -- where the inputs give no chip
 module _ (t : Task) (same : Option (List ℕ)) where

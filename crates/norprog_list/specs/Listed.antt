@@ -4,20 +4,15 @@ use Rattle.nor_base.specs.Chip.{begins4}
 use Rattle.nor_base.specs.Device.{Ahead}
 use Rattle.nor_base.specs.Parameters.{Parameters}
 use Rattle.nor_job.specs.declared.fault.BuildFault.TheVariants as fault
-use Rattle.nor_job.specs.Chip.{HasChip, RefusesChip}
 use Rattle.nor_job.specs.Status.{start_of}
-use Rattle.nor_job.specs.Task.{Task, contradiction}
+use Rattle.nor_job.specs.Task.{Task}
 use Rattle.nor_script.specs.declared.fault.ScriptFault.{ScriptFault}
 use Rattle.norprog_words.specs.declared.faults.Refusal.{Refusal}
 use Rattle.norprog_words.specs.declared.faults.Refusal.TheVariants.{File, Build, Script}
 use Rattle.norprog_words.specs.declared.faults.FileName.TheVariants as file
+use Rattle.norprog_words.specs.Setup.{IsKnown, RefusesChipOf}
 use Rattle.nor_script.specs.Stream.{HadText}
 use Rattle.norprog_list.specs.Stop.{IsWhole, AreFirstLines, IsListed, AreAboveFault, PutsSome, CutsSome}
-
--- the inputs don't contradict one another, and give the chip these parameters
-pub record IsKnown (t : Task) (m : Parameters) : Type 0 where
-  pub consistent : contradiction t ≡ None
-  pub chip : HasChip t m
 
 -- the listing of the steps that a text spells, on that chip, from its first address mode on, was appended
 pub record WasListed (t : Task) (text : List ℕ) (before after : Option (List ℕ)) : Type 0 where
@@ -42,14 +37,6 @@ pub record WasCut (t : Task) (text : List ℕ) (before after : Option (List ℕ)
   pub m : Parameters
   pub known : IsKnown t m
   pub put : CutsSome (IsListed m (begins4 m (start_of t)) text) before after
-
--- why there is no chip to list by; no earlier cause holds
-abbrev pub RefusesChipOf : Task → Refusal → Type 0
-RefusesChipOf t (Build (fault.Contradiction number)) = contradiction t ≡ Some number
-RefusesChipOf t (Build (fault.Sfdp why)) = (contradiction t ≡ None) × RefusesChip t (fault.Sfdp why)
-RefusesChipOf t (Build (fault.Status number)) = (contradiction t ≡ None) × RefusesChip t (fault.Status number)
-RefusesChipOf t (Build fault.ModeImpossible) = (contradiction t ≡ None) × RefusesChip t fault.ModeImpossible
-RefusesChipOf t other = ⊥
 
 -- why a script isn't listed; no earlier cause holds. Its fault is told after the lines above it; where the writer failed a proper
 -- prefix was appended; where the text's own device failed, or memory was refused, the lines of its first steps; else nothing

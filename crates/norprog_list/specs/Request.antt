@@ -1,31 +1,14 @@
 -- What the values of a command line of `list` ask for (this project's).
-use Rattle.std.specs.Prelude.{◌≡◌, ℕ, Bool, ◌&&◌, Option, Some, option_map, unwrap_or, is_some, List, codes}
-use Rattle.norprog_words.specs.Chip.{Origin, origin_of, chosen_origin}
-use Rattle.norprog_words.specs.Values.{part_of, said_status}
+use Rattle.std.specs.Prelude.{◌≡◌, Bool, ◌&&◌, Some, is_some}
+use Rattle.norprog_words.specs.Setup.{is_setup, AsksSetup}
 use Rattle.norprog_words.specs.declared.given.GivenList.{GivenList}
 use Rattle.norprog_list.specs.declared.request.ListRequest.{ListRequest}
 
--- the chip that the options name
-abbrev pub asked_chip : GivenList → Option Origin
-asked_chip given =
-    chosen_origin (option_map (λ t. t.now) given.sfdp) (option_map (λ t. t.now) given.uniform) (option_map (λ t. t.now) given.bits)
-
--- the family's name, `generic` where none is given
-abbrev pub asked_part : GivenList → List ℕ
-asked_part given = unwrap_or (option_map (λ t. t.now) given.part) (codes "generic")
-
 -- the script's file is named, and each value is of its form
 abbrev pub is_well_formed : GivenList → Bool
-is_well_formed given =
-    is_some (asked_chip given) && is_some (part_of (asked_part given))
-    && is_some (said_status (option_map (λ t. t.now) given.status)) && is_some given.script
+is_well_formed given = is_setup given.setup && is_some given.script
 
 -- each value is the one that its text spells
 pub record AsksFor (given : GivenList) (request : ListRequest) : Type 0 where
-  pub chip : asked_chip given ≡ Some (origin_of request.chip)
-  pub part : part_of (asked_part given) ≡ Some request.part
-  pub status : said_status (option_map (λ t. t.now) given.status) ≡ Some request.status
-  pub mode4 : request.mode4 ≡ given.mode4
-  pub quad : request.quad ≡ given.quad
-  pub erased_only : request.erased_only ≡ given.erased_only
+  pub setup : AsksSetup given.setup request.setup
   pub script : given.script ≡ Some request.script

@@ -1,18 +1,14 @@
 //! From the bytes of the inputs to the lines of a listing.
 
-ghost use Rattle.std.specs.Prelude.{◌≡◌, ◌<◌, ◌+◌, ◌-◌, ◌^◌, None, false, IfOk, IfErr};
-ghost use Rattle.nor_base.specs.Chip.{begins4};
-ghost use Rattle.nor_job.specs.Chip.{HasChip};
-ghost use Rattle.nor_job.specs.Status.{start_of};
-ghost use Rattle.nor_job.specs.Task.{contradiction as task_contradiction};
-ghost use Rattle.norprog_list.specs.Listed.{ListsText, RefusesText, RefusesChipOf, CountsWriter, CountsSource, may_print};
+ghost use Rattle.std.specs.Prelude.{◌≡◌, ◌<◌, ◌-◌, ◌^◌, false, IfOk, IfErr};
+ghost use Rattle.norprog_list.specs.Listed.{ListsText, RefusesText, CountsWriter, CountsSource, may_print};
 ghost use Rattle.norprog_list.specs.Stop.{refusal_of as told_of};
 
 use crate::steps::{Stop, list_steps};
-use nor_base::{ByteIn, ByteOut, Meaning, Start};
-use nor_job::{BuildFault, Inputs, chip_of, contradiction};
+use nor_base::{ByteIn, ByteOut};
+use nor_job::Inputs;
 use nor_script::{ReadFault, ScriptFault};
-use norprog_words::{FileName, Refusal};
+use norprog_words::{FileName, Refusal, known_chip};
 use std::alloc::Global;
 
 /// Writes the listing of the steps of a script, by the chip of the inputs and the address mode that it begins in, each line as its
@@ -39,7 +35,7 @@ pub fn list_script<R: ByteIn, W: ByteOut>(
     ensures source { CountsSource (R.count script.old) (R.count script.new) result }
     ensures count { CountsWriter (W.count out.old) (W.count out.new) result }
 {
-    let (meaning, start) = chip_in(inputs)?;
+    let (meaning, start) = known_chip(inputs)?;
     match list_steps(alloc, &meaning, meaning.begins4(&start), script, out) {
         Ok(()) => Ok(()),
         Err(stop) => Err(refusal_of(stop)),
@@ -55,23 +51,5 @@ fn refusal_of(stop: Stop) -> Refusal
         Stop::Script(ReadFault::Script(fault)) => Refusal::Script(fault),
         Stop::Script(ReadFault::Device(_)) => Refusal::File(FileName::Script),
         Stop::Out(_) => Refusal::WRITE,
-    }
-}
-
-/// The chip of the inputs, and how it begins.
-///
-/// `Contradiction`, `Sfdp`, `Status` and `ModeImpossible`, in this order.
-fn chip_in(inputs: &Inputs<'_>) -> Result<(Meaning, Start), Refusal>
-    ensures consistent { IfOk result (λ _. task_contradiction inputs.now ≡ None) }
-    ensures chip { IfOk result (λ chip. HasChip inputs.now chip.0) }
-    ensures start { IfOk result (λ chip. chip.1 ≡ start_of inputs.now) }
-    ensures refused { IfErr result (RefusesChipOf inputs.now) }
-{
-    if let Some(number) = contradiction(inputs) {
-        return Err(Refusal::Build(BuildFault::Contradiction(number)));
-    }
-    match chip_of(inputs) {
-        Ok(chip) => Ok(chip),
-        Err(fault) => Err(Refusal::Build(fault)),
     }
 }

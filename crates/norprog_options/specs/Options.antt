@@ -12,6 +12,7 @@ use Rattle.norprog_words.specs.declared.given.GivenList.{GivenList}
 use Rattle.norprog_words.specs.declared.given.GivenPlan.{GivenPlan}
 use Rattle.norprog_words.specs.declared.given.GivenPlay.{GivenPlay}
 use Rattle.norprog_words.specs.declared.given.GivenRun.{GivenRun}
+use Rattle.norprog_words.specs.declared.given.GivenSetup.{GivenSetup}
 use Rattle.norprog_options.specs.declared.options.Asked.{Asked}
 use Rattle.norprog_options.specs.declared.options.Asked.TheVariants as command
 
@@ -51,33 +52,26 @@ pub record IsJobIn (found : Found) (given : Given) : Type 0 where
   pub erased_only : Sets found (codes "erased-only") given.erased_only
   pub regions : given.regions.items ≡ texts_of found (codes "regions")
 
-pub record IsRunIn (found : Found) (given : GivenRun) : Type 0 where
-  pub sfdp : Has found (codes "sfdp") (option_map (λ t. t.now) given.sfdp)
-  pub uniform : Has found (codes "uniform") (option_map (λ t. t.now) given.uniform)
-  pub bits : Has found (codes "bits") (option_map (λ t. t.now) given.bits)
-  pub part : Has found (codes "part") (option_map (λ t. t.now) given.part)
+pub record IsSetupIn (found : Found) (given : GivenSetup) : Type 0 where
+  pub chip : IsChipIn found given.chip
   pub status : Has found (codes "status") (option_map (λ t. t.now) given.status)
+  pub mode4 : Sets found (codes "mode4") given.mode4
+  pub quad : Sets found (codes "quad") given.quad
+  pub erased_only : Sets found (codes "erased-only") given.erased_only
+
+pub record IsRunIn (found : Found) (given : GivenRun) : Type 0 where
+  pub setup : IsSetupIn found given.setup
   pub content : Has found (codes "content") (option_map (λ t. t.now) given.content)
   pub script : Has found (codes "script") (option_map (λ t. t.now) given.script)
   pub busy : Has found (codes "busy") (option_map (λ t. t.now) given.busy)
   pub limit : Has found (codes "limit") (option_map (λ t. t.now) given.limit)
   pub page : Has found (codes "page") (option_map (λ t. t.now) given.page)
   pub out : Has found (codes "out") (option_map (λ t. t.now) given.out)
-  pub mode4 : Sets found (codes "mode4") given.mode4
-  pub quad : Sets found (codes "quad") given.quad
-  pub erased_only : Sets found (codes "erased-only") given.erased_only
   pub keep : Sets found (codes "keep") given.keep
 
 pub record IsListIn (found : Found) (given : GivenList) : Type 0 where
-  pub sfdp : Has found (codes "sfdp") (option_map (λ t. t.now) given.sfdp)
-  pub uniform : Has found (codes "uniform") (option_map (λ t. t.now) given.uniform)
-  pub bits : Has found (codes "bits") (option_map (λ t. t.now) given.bits)
-  pub part : Has found (codes "part") (option_map (λ t. t.now) given.part)
-  pub status : Has found (codes "status") (option_map (λ t. t.now) given.status)
+  pub setup : IsSetupIn found given.setup
   pub script : Has found (codes "script") (option_map (λ t. t.now) given.script)
-  pub mode4 : Sets found (codes "mode4") given.mode4
-  pub quad : Sets found (codes "quad") given.quad
-  pub erased_only : Sets found (codes "erased-only") given.erased_only
 
 pub record IsDrawIn (found : Found) (given : GivenDraw) : Type 0 where
   pub script : Has found (codes "script") (option_map (λ t. t.now) given.script)
@@ -86,18 +80,11 @@ pub record IsDrawIn (found : Found) (given : GivenDraw) : Type 0 where
   pub out : Has found (codes "out") (option_map (λ t. t.now) given.out)
 
 pub record IsPlayIn (found : Found) (given : GivenPlay) : Type 0 where
-  pub sfdp : Has found (codes "sfdp") (option_map (λ t. t.now) given.sfdp)
-  pub uniform : Has found (codes "uniform") (option_map (λ t. t.now) given.uniform)
-  pub bits : Has found (codes "bits") (option_map (λ t. t.now) given.bits)
-  pub part : Has found (codes "part") (option_map (λ t. t.now) given.part)
-  pub status : Has found (codes "status") (option_map (λ t. t.now) given.status)
+  pub setup : IsSetupIn found given.setup
   pub content : Has found (codes "content") (option_map (λ t. t.now) given.content)
   pub script : Has found (codes "script") (option_map (λ t. t.now) given.script)
   pub device : Has found (codes "device") (option_map (λ t. t.now) given.device)
   pub limit : Has found (codes "limit") (option_map (λ t. t.now) given.limit)
-  pub mode4 : Sets found (codes "mode4") given.mode4
-  pub quad : Sets found (codes "quad") given.quad
-  pub erased_only : Sets found (codes "erased-only") given.erased_only
   pub trust : Sets found (codes "trust") given.trust
 
 pub record IsBuildIn (found : Found) (given : GivenBuild) : Type 0 where

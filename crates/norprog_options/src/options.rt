@@ -2,7 +2,7 @@
 
 ghost use Rattle.std.specs.Prelude.{◌≡◌, map, IfOk};
 ghost use Rattle.clap.specs.Words.{found_of};
-ghost use Rattle.norprog_options.specs.Options.{texts_of, IsJobIn, IsChipIn, IsDrawIn, IsListIn, IsPlanIn, IsPlayIn, IsRunIn, IsAsked, IsAskedBySome};
+ghost use Rattle.norprog_options.specs.Options.{texts_of, IsJobIn, IsChipIn, IsDrawIn, IsListIn, IsPlanIn, IsPlayIn, IsRunIn, IsSetupIn, IsAsked, IsAskedBySome};
 
 use crate::arguments::norprog;
 use clap::error::ErrorKind;
@@ -10,7 +10,7 @@ use clap::{ArgMatches, Error};
 use nor_base::Bytes;
 use norprog_words::{
     Given, GivenBuild, GivenCheck, GivenChip, GivenDraw, GivenList, GivenPlan, GivenPlay, GivenRun,
-    Refusal,
+    GivenSetup, Refusal,
 };
 use std::alloc::Global;
 
@@ -139,19 +139,25 @@ fn chip_in<'a>(chip: &ArgMatches<'a>) -> GivenChip<'a>
     }
 }
 
+/// The chip and how it begins.
+fn setup_in<'a>(setup: &ArgMatches<'a>) -> GivenSetup<'a>
+    ensures { IsSetupIn (found_of setup.now) result }
+{
+    GivenSetup {
+        chip: chip_in(setup),
+        status: setup.get_str("status"),
+        mode4: setup.get_flag("mode4"),
+        quad: setup.get_flag("quad"),
+        erased_only: setup.get_flag("erased-only"),
+    }
+}
+
 /// The play.
 fn run_in<'a>(run: &ArgMatches<'a>) -> GivenRun<'a>
     ensures { IsRunIn (found_of run.now) result }
 {
     GivenRun {
-        sfdp: run.get_str("sfdp"),
-        uniform: run.get_str("uniform"),
-        bits: run.get_str("bits"),
-        part: run.get_str("part"),
-        status: run.get_str("status"),
-        mode4: run.get_flag("mode4"),
-        quad: run.get_flag("quad"),
-        erased_only: run.get_flag("erased-only"),
+        setup: setup_in(run),
         content: run.get_str("content"),
         script: run.get_str("script"),
         busy: run.get_str("busy"),
@@ -167,14 +173,7 @@ fn list_in<'a>(list: &ArgMatches<'a>) -> GivenList<'a>
     ensures { IsListIn (found_of list.now) result }
 {
     GivenList {
-        sfdp: list.get_str("sfdp"),
-        uniform: list.get_str("uniform"),
-        bits: list.get_str("bits"),
-        part: list.get_str("part"),
-        status: list.get_str("status"),
-        mode4: list.get_flag("mode4"),
-        quad: list.get_flag("quad"),
-        erased_only: list.get_flag("erased-only"),
+        setup: setup_in(list),
         script: list.get_str("script"),
     }
 }
@@ -196,14 +195,7 @@ fn play_in<'a>(play: &ArgMatches<'a>) -> GivenPlay<'a>
     ensures { IsPlayIn (found_of play.now) result }
 {
     GivenPlay {
-        sfdp: play.get_str("sfdp"),
-        uniform: play.get_str("uniform"),
-        bits: play.get_str("bits"),
-        part: play.get_str("part"),
-        status: play.get_str("status"),
-        mode4: play.get_flag("mode4"),
-        quad: play.get_flag("quad"),
-        erased_only: play.get_flag("erased-only"),
+        setup: setup_in(play),
         content: play.get_str("content"),
         script: play.get_str("script"),
         device: play.get_str("device"),

@@ -1,5 +1,5 @@
 -- The play that a request has is the one that its texts ask for.
-use Rattle.std.proofs.Common.{◌≡◌, refl, sym, subst, List, ℕ, None, Result, Ok, Err, IfOk, IfErr}
+use Rattle.std.proofs.Common.{◌≡◌, option_map, refl, sym, subst, List, ℕ, None, Result, Ok, Err, IfOk, IfErr}
 use Rattle.std.specs.Prelude.{MatchResult, IsErrAnd}
 use Rattle.nor_base.specs.declared.meaning.Start.{Start}
 use Rattle.nor_base.specs.declared.step.Step.{Step}
@@ -10,6 +10,8 @@ use Rattle.nor_job.specs.Task.{Task}
 use Rattle.norprog_words.specs.declared.faults.Refusal.{Refusal}
 use Rattle.norprog_words.specs.declared.given.GivenPlay.{GivenPlay}
 use Rattle.norprog_words.specs.Chip.{origin_of}
+use Rattle.norprog_words.specs.Setup.{setup_task}
+use Rattle.norprog_words.specs.Shelf.{AreTables, FileFacts, Named}
 use Rattle.norprog_words.specs.Told.{line_fault}
 use Rattle.norprog_words.proofs.ToldLemmas.{asked_wider, refuses_wider, by_fault, by_files}
 use Rattle.norprog_play.specs.declared.ending.Ending.{Ending}
@@ -20,88 +22,81 @@ use Rattle.norprog_play.specs.Answer.{IsEndingOf, IsEnding, IsStopOf, IsPlayFaul
 use Rattle.norprog_play.specs.Job.{IsReady, RefusesJob}
 use Rattle.norprog_play.specs.Played.{Ends, EndsGreeting, StopsPlay}
 use Rattle.norprog_play.specs.Request.{is_well_formed, AsksFor}
-use Rattle.norprog_play.specs.Served.{PlayTask, task_by, IsTaskOf, Serves, OfPlay}
+use Rattle.norprog_play.specs.Served.{PlayTask, IsTaskOf, Serves, OfPlay}
 
 -- a play of a request that the texts ask for is one that they ask for
-serves : (given : GivenPlay) (request : PlayRequest) → AsksFor given request → (t : PlayTask) → IsTaskOf request t → Serves given t
-serves given request asks t of = rw (of.chip, of.limit, of.trusted) (record {
-  hex = refl;
-  layout = refl;
-  regions = refl;
-  origin = origin_of request.chip;
-  named = asks.chip;
-  tables = of.tables;
-  chip = refl;
-  part = asks.part;
-  status = asks.status;
-  mode4 = asks.mode4;
-  quad = asks.quad;
-  erased_only = asks.erased_only;
-  limit = asks.limit;
-  trusted = asks.trust;
-})
+serves : (files : FileFacts) (given : GivenPlay) (request : PlayRequest) → AsksFor given request → (t : PlayTask) → IsTaskOf files request t → Serves files given t
+serves files given request asks t of = record {
+  chip = record { setup = request.setup; asks = asks.setup; task = of.chip };
+  text = subst (λ s. Named (λ name. files.gave name t.text) (option_map (λ t. t.now) s)) (sym asks.script) of.text;
+  content = subst (λ s. Named (λ name. files.opened name t.content t.len) (option_map (λ t. t.now) s)) (sym asks.content) of.content;
+  limit = rw of.limit asks.limit;
+  trusted = rw of.trusted asks.trust;
+}
 
-on_line : (line : Result GivenPlay Refusal) (given : GivenPlay) (request : PlayRequest) → line ≡ Ok given → AsksFor given request
-    → (t : PlayTask) → IsTaskOf request t → OfPlay line t
-on_line line given request is asks t of = rw is (serves given request asks t of)
+on_line : (files : FileFacts) (line : Result GivenPlay Refusal) (given : GivenPlay) (request : PlayRequest) → line ≡ Ok given → AsksFor given request
+    → (t : PlayTask) → IsTaskOf files request t → OfPlay files line t
+on_line files line given request is asks t of = rw is (serves files given request asks t of)
 
-ending_asked : (line : Result GivenPlay Refusal) (given : GivenPlay) (request : PlayRequest) (ending : Ending) → line ≡ Ok given → AsksFor given request
-    → IsEnding (IsTaskOf request) ending → IsEnding (OfPlay line) ending
-ending_asked line given request ending is asks of =
-    asked_wider PlayTask (IsTaskOf request) (OfPlay line) (IsEndingOf ending) (on_line line given request is asks) of
+ending_asked : (files : FileFacts) (line : Result GivenPlay Refusal) (given : GivenPlay) (request : PlayRequest) (ending : Ending) → line ≡ Ok given → AsksFor given request
+    → IsEnding (IsTaskOf files request) ending → IsEnding (OfPlay files line) ending
+ending_asked files line given request ending is asks of =
+    asked_wider PlayTask (IsTaskOf files request) (OfPlay files line) (IsEndingOf ending) (on_line files line given request is asks) of
 
-pub endings_asked : (line : Result GivenPlay Refusal) (given : GivenPlay) (request : PlayRequest) (r : Result Ending Unplayed) → line ≡ Ok given → AsksFor given request
-    → IfOk r (IsEnding (IsTaskOf request)) → IfOk r (IsEnding (OfPlay line))
-endings_asked line given request (Ok ending) is asks of = ending_asked line given request ending is asks of
-endings_asked line given request (Err why) is asks of = tt
+pub endings_asked : (files : FileFacts) (line : Result GivenPlay Refusal) (given : GivenPlay) (request : PlayRequest) (r : Result Ending Unplayed) → line ≡ Ok given → AsksFor given request
+    → IfOk r (IsEnding (IsTaskOf files request)) → IfOk r (IsEnding (OfPlay files line))
+endings_asked files line given request (Ok ending) is asks of = ending_asked files line given request ending is asks of
+endings_asked files line given request (Err why) is asks of = tt
 
 -- and why it isn't played
-pub refusals_asked : (line : Result GivenPlay Refusal) (given : GivenPlay) (request : PlayRequest) (r : Result Ending Unplayed) → line ≡ Ok given → AsksFor given request
-    → line_fault is_well_formed line ≡ None → IfErr r (IsUnplayed (IsTaskOf request)) → IfErr r (RefusesLine (line_fault is_well_formed line) (OfPlay line))
-refusals_asked line given request (Ok ending) is asks none of = tt
-refusals_asked line given request (Err (Refused why)) is asks none of = rw none (
-    refuses_wider (IsPlayFault (IsTaskOf request)) (IsPlayFault (OfPlay line))
-    ((ending : Ending) × IsEnding (IsTaskOf request) ending) ((ending : Ending) × IsEnding (OfPlay line) ending)
-    (λ why of. asked_wider PlayTask (IsTaskOf request) (OfPlay line) (IsStopOf why) (on_line line given request is asks) of)
-    (λ late. (late.0, ending_asked line given request late.0 is asks late.1)) why of
+pub refusals_asked : (files : FileFacts) (line : Result GivenPlay Refusal) (given : GivenPlay) (request : PlayRequest) (r : Result Ending Unplayed) → line ≡ Ok given → AsksFor given request
+    → line_fault is_well_formed line ≡ None → IfErr r (IsUnplayed (IsTaskOf files request)) → IfErr r (RefusesLine (line_fault is_well_formed line) (OfPlay files line))
+refusals_asked files line given request (Ok ending) is asks none of = tt
+refusals_asked files line given request (Err (Refused why)) is asks none of = rw none (
+    refuses_wider (IsPlayFault (IsTaskOf files request)) (IsPlayFault (OfPlay files line))
+    ((ending : Ending) × IsEnding (IsTaskOf files request) ending) ((ending : Ending) × IsEnding (OfPlay files line) ending)
+    (λ why of. asked_wider PlayTask (IsTaskOf files request) (OfPlay files line) (IsStopOf why) (on_line files line given request is asks) of)
+    (λ late. (late.0, ending_asked files line given request late.0 is asks late.1)) why of
     )
-refusals_asked line given request (Err (Device why)) is asks none of =
-    (none, asked_wider PlayTask (IsTaskOf request) (OfPlay line) (IsGreetingOf why) (on_line line given request is asks) of)
+refusals_asked files line given request (Err (Device why)) is asks none of =
+    (none, asked_wider PlayTask (IsTaskOf files request) (OfPlay files line) (IsGreetingOf why) (on_line files line given request is asks) of)
 
 -- what a request's play is of
-module _ (request : PlayRequest) (tables : List ℕ) (t : Task) (same : t ≡ task_by request tables) where
+module _ (files : FileFacts) (request : PlayRequest) (tables : List ℕ) (t : Task) (text : List ℕ) (before : Ahead) (len : ℕ) (same : t ≡ setup_task request.setup tables)
+    (tables_gave : AreTables files (origin_of request.setup.chip) tables) (script_gave : files.gave request.script.now text)
+    (opened : files.opened request.content.now before len) where
   abbrev task : PlayTask
-  task = record { chip = t; limit = request.limit; trusted = request.trust }
+  task = record { chip = t; text = text; content = before; len = len; limit = request.limit; trusted = request.trust }
 
-  asked : IsTaskOf request task
-  asked = record { tables = tables; chip = same; limit = refl; trusted = refl }
+  asked : IsTaskOf files request task
+  asked = record { chip = record { tables = tables; gave = tables_gave; task = same }; text = script_gave; content = opened; limit = refl; trusted = refl }
 
-  pub no_job : (text : List ℕ) (len : ℕ) (before after : Ahead) (why : Refusal) → RefusesJob t text len before after why → RefusesPlay (IsTaskOf request) why
-  no_job text len before after why refused = by_fault (IsPlayFault (IsTaskOf request)) _ why (record {
+  pub no_job : (after : Ahead) (why : Refusal) → RefusesJob t text len before after why → RefusesPlay (IsTaskOf files request) why
+  no_job after why refused = by_fault (IsPlayFault (IsTaskOf files request)) _ why (record {
     it = task;
     asked = asked;
-    has = record { text = text; len = len; before = before; after = after; refused = refused };
+    has = record { after = after; refused = refused };
   })
 
-  module _ (text : List ℕ) (len : ℕ) (before after : Ahead) (m : Parameters) (start : Start) (steps : List Step) (content : List ℕ)
+  module _ (after : Ahead) (m : Parameters) (start : Start) (steps : List Step) (content : List ℕ)
       (ready : IsReady t text len before after m steps content) (begins : start ≡ start_of t) where
     pub was_played : (r : Result Ending Unplayed) → MatchResult r (Ends request.limit request.trust m start content steps) (StopsPlay m start content steps)
-        → IfOk r (IsEnding (IsTaskOf request))
+        → IfOk r (IsEnding (IsTaskOf files request))
     was_played (Ok ending) is = record {
       it = task;
       asked = asked;
-      has = record { text = text; len = len; before = before; after = after; m = m; steps = steps; content = content; ready = ready; ends = subst (λ (s : Start). Ends request.limit request.trust m s content steps ending) begins is };
+      has = record { after = after; m = m; steps = steps; content = content; ready = ready; ends = subst (λ (s : Start). Ends request.limit request.trust m s content steps ending) begins is };
     }
     was_played (Err why) is = tt
 
     pub was_stopped : (r : Result Ending Unplayed) → MatchResult r (Ends request.limit request.trust m start content steps) (StopsPlay m start content steps)
-        → IfErr r (IsUnplayed (IsTaskOf request))
+        → IfErr r (IsUnplayed (IsTaskOf files request))
     was_stopped (Ok ending) is = tt
-    was_stopped (Err (Refused why)) is = by_files (IsPlayFault (IsTaskOf request)) _ why is
+    was_stopped (Err (Refused why)) is = by_files (IsPlayFault (IsTaskOf files request)) _ why is
     was_stopped (Err (Device why)) is = record {
       it = task;
       asked = asked;
-      has = record { text = text; len = len; before = before; after = after; m = m; steps = steps; content = content; ready = ready; stops = subst (λ (s : Start). EndsGreeting m s content steps why) begins is };
+      has = record { after = after; m = m; steps = steps; content = content; ready = ready; stops = subst (λ (s : Start). EndsGreeting m s content steps why) begins is };
     }
 
 -- a refusal that `?` hands on

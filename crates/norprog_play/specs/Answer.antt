@@ -8,6 +8,7 @@ use Rattle.nor_job.specs.Status.{start_of}
 use Rattle.nor_serprog.specs.declared.fault.GreetFault.{GreetFault}
 use Rattle.norprog_words.specs.declared.faults.Refusal.{Refusal}
 use Rattle.norprog_words.specs.declared.given.GivenPlay.{GivenPlay}
+use Rattle.norprog_words.specs.Shelf.{FileFacts}
 use Rattle.norprog_words.specs.Told.{ForAsked, RefusesFor, Refuses, line_fault, TellsOf}
 use Rattle.norprog_play.specs.declared.ending.Ending.{Ending}
 use Rattle.norprog_play.specs.declared.unplayed.Unplayed.{Unplayed}
@@ -19,28 +20,22 @@ use Rattle.norprog_play.specs.Request.{is_well_formed}
 use Rattle.norprog_play.specs.Served.{PlayTask, OfPlay}
 use Rattle.norprog_play.specs.State.{is_partial, state_line, status_of, device_line}
 
--- some text's steps, on that chip with some content, ended so
+-- the script's steps, on that chip with that content, ended so
 pub record IsEndingOf (ending : Ending) (t : PlayTask) : Type 0 where
-  pub text : List ℕ
-  pub len : ℕ
-  pub before : Ahead
   pub after : Ahead
   pub m : Parameters
   pub steps : List Step
   pub content : List ℕ
-  pub ready : IsReady t.chip text len before after m steps content
+  pub ready : IsReady t.chip t.text t.len t.content after m steps content
   pub ends : Ends t.limit t.trusted m (start_of t.chip) content steps ending
 
 abbrev pub IsEnding : (PlayTask → Type 0) → Ending → Type 0
 IsEnding Asked ending = ForAsked PlayTask Asked (IsEndingOf ending)
 
--- why some text isn't played on that chip
+-- why the script isn't played on that chip
 pub record IsStopOf (why : Refusal) (t : PlayTask) : Type 0 where
-  pub text : List ℕ
-  pub len : ℕ
-  pub before : Ahead
   pub after : Ahead
-  pub refused : RefusesJob t.chip text len before after why
+  pub refused : RefusesJob t.chip t.text t.len t.content after why
 
 abbrev pub IsPlayFault : (PlayTask → Type 0) → Refusal → Type 0
 IsPlayFault Asked why = ForAsked PlayTask Asked (IsStopOf why)
@@ -49,16 +44,13 @@ IsPlayFault Asked why = ForAsked PlayTask Asked (IsStopOf why)
 abbrev pub RefusesPlay : (PlayTask → Type 0) → Refusal → Type 0
 RefusesPlay Asked = RefusesFor (IsPlayFault Asked) ((ending : Ending) × IsEnding Asked ending)
 
--- some text's steps might be played on that chip with some content, but the handshake ended so
+-- the script's steps might be played on that chip with that content, but the handshake ended so
 pub record IsGreetingOf (why : GreetFault) (t : PlayTask) : Type 0 where
-  pub text : List ℕ
-  pub len : ℕ
-  pub before : Ahead
   pub after : Ahead
   pub m : Parameters
   pub steps : List Step
   pub content : List ℕ
-  pub ready : IsReady t.chip text len before after m steps content
+  pub ready : IsReady t.chip t.text t.len t.content after m steps content
   pub stops : EndsGreeting m (start_of t.chip) content steps why
 
 abbrev pub IsGreeting : (PlayTask → Type 0) → GreetFault → Type 0
@@ -105,9 +97,9 @@ pub record TellsGreeting (Asked : PlayTask → Type 0) (before after : Option (L
   pub told : Works → Appends told_before told_after (device_line why)
 
 -- what `play` answers to a command line: the line of the ending, whose status it is; the handshake's fault; or a refusal
-abbrev pub AnswersPlay : Result GivenPlay Refusal → Option (List ℕ) → Option (List ℕ) → Type 0 → Type 0 → Option (List ℕ) → Option (List ℕ) → ℕ → Type 0
-AnswersPlay line before after Quiet Works told_before told_after status =
-    ((line_fault is_well_formed line ≡ None) × PrintsEnding (OfPlay line) before after Quiet Works told_before told_after status)
-    ⊎ (((line_fault is_well_formed line ≡ None) × TellsGreeting (OfPlay line) before after Works told_before told_after status)
-    ⊎ (CutsEnding (OfPlay line) before after
-    × TellsOf (Refuses (line_fault is_well_formed line) (RefusesPlay (OfPlay line))) Works told_before told_after status))
+abbrev pub AnswersPlay : FileFacts → Result GivenPlay Refusal → Option (List ℕ) → Option (List ℕ) → Type 0 → Type 0 → Option (List ℕ) → Option (List ℕ) → ℕ → Type 0
+AnswersPlay files line before after Quiet Works told_before told_after status =
+    ((line_fault is_well_formed line ≡ None) × PrintsEnding (OfPlay files line) before after Quiet Works told_before told_after status)
+    ⊎ (((line_fault is_well_formed line ≡ None) × TellsGreeting (OfPlay files line) before after Works told_before told_after status)
+    ⊎ (CutsEnding (OfPlay files line) before after
+    × TellsOf (Refuses (line_fault is_well_formed line) (RefusesPlay (OfPlay files line))) Works told_before told_after status))

@@ -5,16 +5,16 @@ use Rattle.nor_base.specs.Device.{Ahead, Gives, IsAtEnd}
 use Rattle.nor_base.specs.Parameters.{Parameters}
 use Rattle.nor_base.specs.Script.{IsScript}
 use Rattle.nor_job.specs.declared.fault.BuildFault.TheVariants as fault
-use Rattle.nor_job.specs.Chip.{HasChip, RefusesChip}
-use Rattle.nor_job.specs.Task.{Task, contradiction}
+use Rattle.nor_job.specs.Task.{Task}
 use Rattle.nor_script.specs.Faults.{IsFault}
+use Rattle.norprog_words.specs.Content.{ReadsLess}
+use Rattle.norprog_words.specs.Setup.{IsKnown, RefusesChipOf}
 use Rattle.norprog_words.specs.declared.faults.Refusal.{Refusal}
 use Rattle.norprog_words.specs.declared.faults.Refusal.TheVariants.{Build, Script}
 
 -- the inputs don't contradict one another and give the chip these parameters, and the content has its size
 pub record IsSized (t : Task) (len : ℕ) (m : Parameters) : Type 0 where
-  pub consistent : contradiction t ≡ None
-  pub chip : HasChip t m
+  pub known : IsKnown t m
   pub size : len ≡ m.size
 
 -- and the text spells these steps, and the reader gave the whole content
@@ -27,23 +27,8 @@ pub record IsReady (t : Task) (text : List ℕ) (len : ℕ) (before after : Ahea
 
 -- why the inputs give no such chip; no earlier cause holds
 abbrev pub RefusesSize : Task → ℕ → Refusal → Type 0
-RefusesSize t len (Build (fault.Contradiction number)) = contradiction t ≡ Some number
-RefusesSize t len (Build (fault.Sfdp why)) = (contradiction t ≡ None) × RefusesChip t (fault.Sfdp why)
-RefusesSize t len (Build (fault.Status number)) = (contradiction t ≡ None) × RefusesChip t (fault.Status number)
-RefusesSize t len (Build fault.ModeImpossible) = (contradiction t ≡ None) × RefusesChip t fault.ModeImpossible
-RefusesSize t len (Build fault.ContentSize) = (m : Parameters) × (contradiction t ≡ None) × HasChip t m × (len ≢ m.size)
-RefusesSize t len other = ⊥
-
--- fewer bytes than the content has were read
-abbrev pub ReadsLess : ℕ → Ahead → Ahead → Type 0
-ReadsLess len before after = (part : List ℕ) × (length part < len) × Gives before part after
-
--- why a content wasn't read: it ended, the reader failed, or memory was refused before anything was read
-abbrev pub StopsReading : ℕ → Ahead → Ahead → Refusal → Type 0
-StopsReading len before after (Build fault.ContentShort) = ReadsLess len before after × IsAtEnd after
-StopsReading len before after (Build fault.Read) = ReadsLess len before after
-StopsReading len before after (Build fault.Memory) = after ≡ before
-StopsReading len before after other = ⊥
+RefusesSize t len (Build fault.ContentSize) = (m : Parameters) × IsKnown t m × (len ≢ m.size)
+RefusesSize t len other = RefusesChipOf t other
 
 -- there is such a chip
 abbrev pub HasSized : Task → ℕ → Type 0
@@ -67,12 +52,3 @@ IsEarly (Build fault.ContentShort) = ⊥
 IsEarly (Build fault.Read) = ⊥
 IsEarly (Build fault.Memory) = ⊥
 IsEarly other = Unit {0}
-
-abbrev pub of_reader : Refusal → ℕ
-of_reader (Build fault.Read) = 1
-of_reader other = 0
-
--- the reader's count of failures rises by one exactly where Read is answered
-abbrev pub CountsReader : {T : Type 0} → ℕ → ℕ → Result T Refusal → Type 0
-CountsReader before after (Ok x) = after ≡ before
-CountsReader before after (Err why) = after ≡ before + of_reader why

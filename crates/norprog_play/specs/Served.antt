@@ -1,61 +1,42 @@
--- The play that a command line of `play` asks for, whatever its files hold (this project's).
-use Rattle.std.specs.Prelude.{◌≡◌, ℕ, Bool, false, List, [], None, Some, Result, option_map}
+-- The play that a command line of `play` asks for (this project's). `files` is what is known of files by their names.
+use Rattle.std.specs.Prelude.{◌≡◌, ℕ, Bool, List, Some, Result, option_map}
+use Rattle.nor_base.specs.Device.{Ahead}
 use Rattle.nor_job.specs.Task.{Task}
 use Rattle.norprog_words.specs.declared.faults.Refusal.{Refusal}
 use Rattle.norprog_words.specs.declared.given.GivenPlay.{GivenPlay}
-use Rattle.norprog_words.specs.Chip.{Origin, origin_of, task_chip}
+use Rattle.norprog_words.specs.Setup.{IsSetupTask, ServesSetup}
+use Rattle.norprog_words.specs.Shelf.{FileFacts, Named}
 use Rattle.norprog_words.specs.Told.{OfLine}
-use Rattle.norprog_words.specs.Values.{limit_of, part_of, said_status}
+use Rattle.norprog_words.specs.Values.{limit_of}
 use Rattle.norprog_play.specs.declared.request.PlayRequest.{PlayRequest}
-use Rattle.norprog_play.specs.Request.{asked_chip, asked_part, asked_limit}
+use Rattle.norprog_play.specs.Request.{asked_limit}
 
--- what is asked of a play: the chip, in a task that has neither image nor layout; the most status reads of a poll; and whether the
--- chip behind the device is trusted
+-- what is asked of a play: the chip, in a task that has neither image nor layout; the script's text; what is ahead of the content's
+-- reader, and its length in bytes; the most status reads of a poll; and whether the chip behind the device is trusted
 pub record PlayTask : Type 0 where
   pub chip : Task
+  pub text : List ℕ
+  pub content : Ahead
+  pub len : ℕ
   pub limit : ℕ
   pub trusted : Bool
 
--- the task of a request's chip, whose tables are these bytes
-abbrev pub task_by : PlayRequest → List ℕ → Task
-task_by request tables = record {
-  hex = [];
-  layout = None;
-  regions = [];
-  chip = task_chip (origin_of request.chip) tables;
-  part = request.part;
-  status = request.status;
-  mode4 = request.mode4;
-  quad = request.quad;
-  base = 0;
-  verify = false;
-  erased_only = request.erased_only;
-}
-
--- what a request asks for, whatever the tables are
-pub record IsTaskOf (request : PlayRequest) (t : PlayTask) : Type 0 where
-  pub tables : List ℕ
-  pub chip : t.chip ≡ task_by request tables
+-- what a request asks for: its tables and its script are what their files gave, and the content's file was opened
+pub record IsTaskOf (files : FileFacts) (request : PlayRequest) (t : PlayTask) : Type 0 where
+  pub chip : IsSetupTask files request.setup t.chip
+  pub text : files.gave request.script.now t.text
+  pub content : files.opened request.content.now t.content t.len
   pub limit : t.limit ≡ request.limit
   pub trusted : t.trusted ≡ request.trust
 
--- what the texts ask for, each by the value that its text spells. What the files hold is left open
-pub record Serves (given : GivenPlay) (t : PlayTask) : Type 0 where
-  pub hex : t.chip.hex ≡ []
-  pub layout : t.chip.layout ≡ None
-  pub regions : t.chip.regions ≡ []
-  pub origin : Origin
-  pub named : asked_chip given ≡ Some origin
-  pub tables : List ℕ
-  pub chip : t.chip.chip ≡ task_chip origin tables
-  pub part : part_of (asked_part given) ≡ Some t.chip.part
-  pub status : said_status (option_map (λ t. t.now) given.status) ≡ Some t.chip.status
-  pub mode4 : t.chip.mode4 ≡ given.mode4
-  pub quad : t.chip.quad ≡ given.quad
-  pub erased_only : t.chip.erased_only ≡ given.erased_only
+-- what the texts ask for, each by the value that its text spells, each file by its name
+pub record Serves (files : FileFacts) (given : GivenPlay) (t : PlayTask) : Type 0 where
+  pub chip : ServesSetup files given.setup t.chip
+  pub text : Named (λ name. files.gave name t.text) (option_map (λ t. t.now) given.script)
+  pub content : Named (λ name. files.opened name t.content t.len) (option_map (λ t. t.now) given.content)
   pub limit : limit_of (asked_limit given) ≡ Some t.limit
   pub trusted : t.trusted ≡ given.trust
 
 -- of a command line: what it asks for, where it was read
-abbrev pub OfPlay : Result GivenPlay Refusal → PlayTask → Type 0
-OfPlay = OfLine Serves
+abbrev pub OfPlay : FileFacts → Result GivenPlay Refusal → PlayTask → Type 0
+OfPlay files = OfLine (Serves files)

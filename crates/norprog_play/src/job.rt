@@ -1,13 +1,13 @@
 //! From the bytes of the inputs to what is to be played, and on which chip.
 
-ghost use Rattle.std.specs.Prelude.{◌≡◌, ◌<◌, ◌-◌, ◌^◌, length, IfOk, IfErr};
-ghost use Rattle.nor_base.specs.Device.{Gives};
+ghost use Rattle.std.specs.Prelude.{◌≡◌, ◌<◌, ◌-◌, ◌^◌, IfOk, IfErr};
 ghost use Rattle.nor_job.specs.Status.{start_of};
-ghost use Rattle.norprog_play.specs.Job.{IsSized, IsReady, RefusesSize, RefusesJob, IsEarly, StopsReading, CountsReader};
+ghost use Rattle.norprog_words.specs.Content.{CountsReader};
+ghost use Rattle.norprog_play.specs.Job.{IsSized, IsReady, RefusesSize, RefusesJob, IsEarly};
 
-use nor_base::{ByteIn, Meaning, Start, Step, fill_from};
-use nor_job::{BuildFault, Inputs, chip_of, contradiction};
-use norprog_words::Refusal;
+use nor_base::{ByteIn, Meaning, Start, Step};
+use nor_job::{BuildFault, Inputs};
+use norprog_words::{Refusal, known_chip, read_content};
 use std::alloc::Global;
 
 /// Steps, and the chip that they are to be played on.
@@ -63,33 +63,9 @@ fn sized_chip(inputs: &Inputs<'_>, len: u64) -> Result<(Meaning, Start), Refusal
     ensures start { IfOk result (λ chip. chip.1 ≡ start_of inputs.now) }
     ensures refused { IfErr result (RefusesSize inputs.now len) }
 {
-    if let Some(number) = contradiction(inputs) {
-        return Err(Refusal::Build(BuildFault::Contradiction(number)));
-    }
-    let (meaning, start) = match chip_of(inputs) {
-        Ok(chip) => chip,
-        Err(fault) => return Err(Refusal::Build(fault)),
-    };
+    let (meaning, start) = known_chip(inputs)?;
     if len != u64::from(meaning.size) {
         return Err(Refusal::Build(BuildFault::ContentSize));
     }
     Ok((meaning, start))
-}
-
-/// The next `len` bytes of the reader.
-///
-/// `ContentShort` where it ends before, `Read` where it fails, `Memory` where there is no room for them.
-fn read_content<R: ByteIn>(alloc: Global, content: &mut R, len: u32) -> Result<Vec<u8>, Refusal>
-    requires { R.count content.old < 2 ^ 64 - 1 }
-    ensures length { IfOk result (λ bytes. length bytes.items ≡ len) }
-    ensures given { IfOk result (λ bytes. Gives (R.ahead content.old) bytes.items (R.ahead content.new)) }
-    ensures stopped { IfErr result (StopsReading len (R.ahead content.old) (R.ahead content.new)) }
-    ensures count { CountsReader (R.count content.old) (R.count content.new) result }
-{
-    let mut bytes = vec![in alloc; 0u8; len as usize]?;
-    match fill_from(content, bytes.as_mut_slice()) {
-        Ok(given) if given == len as usize => Ok(bytes),
-        Ok(_) => Err(Refusal::Build(BuildFault::ContentShort)),
-        Err(_) => Err(Refusal::Build(BuildFault::Read)),
-    }
 }

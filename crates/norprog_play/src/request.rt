@@ -3,18 +3,12 @@
 ghost use Rattle.std.specs.Prelude.{◌≡◌, is_some, IfSome};
 ghost use Rattle.norprog_play.specs.Request.{is_well_formed, AsksFor};
 
-use nor_base::Part;
-use norprog_words::{Chip, GivenPlay, chip_of, limit, optional_status, part};
+use norprog_words::{GivenPlay, Setup, limit, setup_of};
 
 /// What `play` is asked for: each value is of its form.
 #[derive(Clone, Copy)]
 pub struct PlayRequest<'a> {
-    pub chip: Chip<'a>,
-    pub part: Part,
-    pub status: Option<u32>,
-    pub mode4: bool,
-    pub quad: bool,
-    pub erased_only: bool,
+    pub setup: Setup<'a>,
     pub content: &'a str,
     pub script: &'a str,
     pub device: &'a str,
@@ -30,12 +24,7 @@ pub fn request_of<'a>(given: GivenPlay<'a>) -> Option<PlayRequest<'a>>
     ensures values { IfSome result (λ request. AsksFor given.entry request) }
 {
     Some(PlayRequest {
-        chip: chip_of(given.sfdp, given.uniform, given.bits)?,
-        part: part(given.part.unwrap_or("generic"))?,
-        status: optional_status(given.status)?,
-        mode4: given.mode4,
-        quad: given.quad,
-        erased_only: given.erased_only,
+        setup: setup_of(given.setup)?,
         content: given.content?,
         script: given.script?,
         device: given.device?,

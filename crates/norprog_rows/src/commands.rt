@@ -7,7 +7,8 @@ use norprog_list::list;
 use norprog_play::play;
 use norprog_run::run;
 use norprog_words::{
-    Given, GivenBuild, GivenCheck, GivenChip, GivenList, GivenPlan, GivenPlay, GivenRun,
+    Disk, Given, GivenBuild, GivenCheck, GivenChip, GivenList, GivenPlan, GivenPlay, GivenRun,
+    GivenSetup,
 };
 use std::alloc::{AllocError, Global};
 use std::{fs, io};
@@ -69,34 +70,55 @@ fn status_of(
     out: &str,
     err: &str,
 ) -> io::Result<u8> {
+    let alloc = rt.alloc();
+    let files = Disk::new(rt);
     let mut out = IntoWrite::new(fs::create(rt, out)?);
     let mut err = IntoWrite::new(fs::create(rt, err)?);
     if command == "run" {
-        return Ok(run(rt, Ok(run_in(line)), &mut out, &mut err));
+        return Ok(run(alloc, &files, Ok(run_in(line)), &mut out, &mut err));
     }
     if command == "list" {
-        return Ok(list(rt, Ok(list_in(line)), &mut out, &mut err));
+        return Ok(list(alloc, &files, Ok(list_in(line)), &mut out, &mut err));
     }
     if command == "play" {
-        return Ok(play(rt, Ok(play_in(line)), &mut out, &mut err, &mut Nowhere));
+        return Ok(play(
+            alloc,
+            &files,
+            Ok(play_in(line)),
+            &mut out,
+            &mut err,
+            &mut Nowhere,
+        ));
     }
     if command == "sfdp" {
-        return Ok(sfdp(rt, Ok(chip_in(line)), &mut out, &mut err));
+        return Ok(sfdp(alloc, &files, Ok(chip_in(line)), &mut out, &mut err));
     }
-    let job = job_in(rt.alloc(), line)?;
+    let job = job_in(alloc, line)?;
     Ok(match command {
         "build" => {
             let out_file = line.value("--out");
             let given = GivenBuild { job, out: out_file };
-            build(rt, Ok(given), &mut out, &mut err)
+            build(alloc, &files, Ok(given), &mut out, &mut err)
         }
         "check" => {
             let script = line.value("--script");
-            check(rt, Ok(GivenCheck { job, script }), &mut out, &mut err)
+            check(
+                alloc,
+                &files,
+                Ok(GivenCheck { job, script }),
+                &mut out,
+                &mut err,
+            )
         }
         _ => {
             let (times, map) = (line.has("--times"), line.value("--map"));
-            plan(rt, Ok(GivenPlan { job, times, map }), &mut out, &mut err)
+            plan(
+                alloc,
+                &files,
+                Ok(GivenPlan { job, times, map }),
+                &mut out,
+                &mut err,
+            )
         }
     })
 }
@@ -147,17 +169,21 @@ fn chip_in<'a>(line: &Line<'a>) -> GivenChip<'a> {
     }
 }
 
-/// The listing of a line.
-fn list_in<'a>(line: &Line<'a>) -> GivenList<'a> {
-    GivenList {
-        sfdp: line.value("--sfdp"),
-        uniform: line.value("--uniform"),
-        bits: line.value("--bits"),
-        part: line.value("--part"),
+/// The chip of a line, and how it begins.
+fn setup_in<'a>(line: &Line<'a>) -> GivenSetup<'a> {
+    GivenSetup {
+        chip: chip_in(line),
         status: line.value("--status"),
         mode4: line.has("--mode4"),
         quad: line.has("--quad"),
         erased_only: line.has("--erased-only"),
+    }
+}
+
+/// The listing of a line.
+fn list_in<'a>(line: &Line<'a>) -> GivenList<'a> {
+    GivenList {
+        setup: setup_in(line),
         script: line.value("--script"),
     }
 }
@@ -165,14 +191,7 @@ fn list_in<'a>(line: &Line<'a>) -> GivenList<'a> {
 /// The play of a line.
 fn run_in<'a>(line: &Line<'a>) -> GivenRun<'a> {
     GivenRun {
-        sfdp: line.value("--sfdp"),
-        uniform: line.value("--uniform"),
-        bits: line.value("--bits"),
-        part: line.value("--part"),
-        status: line.value("--status"),
-        mode4: line.has("--mode4"),
-        quad: line.has("--quad"),
-        erased_only: line.has("--erased-only"),
+        setup: setup_in(line),
         content: line.value("--content"),
         script: line.value("--script"),
         busy: line.value("--busy"),
@@ -186,14 +205,7 @@ fn run_in<'a>(line: &Line<'a>) -> GivenRun<'a> {
 /// The play on a device of a line.
 fn play_in<'a>(line: &Line<'a>) -> GivenPlay<'a> {
     GivenPlay {
-        sfdp: line.value("--sfdp"),
-        uniform: line.value("--uniform"),
-        bits: line.value("--bits"),
-        part: line.value("--part"),
-        status: line.value("--status"),
-        mode4: line.has("--mode4"),
-        quad: line.has("--quad"),
-        erased_only: line.has("--erased-only"),
+        setup: setup_in(line),
         content: line.value("--content"),
         script: line.value("--script"),
         device: line.value("--device"),

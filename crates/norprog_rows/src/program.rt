@@ -8,7 +8,7 @@ use norprog_list::list;
 use norprog_options::{Asked, asked_by};
 use norprog_play::play;
 use norprog_run::run;
-use norprog_words::refuse;
+use norprog_words::{Disk, refuse};
 use std::alloc::{AllocError, Global};
 use std::{fs, io};
 
@@ -54,17 +54,19 @@ fn words_of(alloc: Global, line: &str) -> Result<Vec<String>, AllocError> {
 
 /// Does what the words ask for.
 fn status_of(rt: &HostRuntime, words: &[String]) -> io::Result<u8> {
+    let alloc = rt.alloc();
+    let files = Disk::new(rt);
     let mut out = IntoWrite::new(fs::create(rt, OUTPUT)?);
     let mut err = IntoWrite::new(fs::create(rt, ERRORS)?);
-    Ok(match asked_by(rt.alloc(), words) {
-        Ok(Asked::Build(given)) => build(rt, Ok(given), &mut out, &mut err),
-        Ok(Asked::Plan(given)) => plan(rt, Ok(given), &mut out, &mut err),
-        Ok(Asked::Check(given)) => check(rt, Ok(given), &mut out, &mut err),
-        Ok(Asked::Run(given)) => run(rt, Ok(given), &mut out, &mut err),
-        Ok(Asked::List(given)) => list(rt, Ok(given), &mut out, &mut err),
-        Ok(Asked::Draw(given)) => draw(rt, Ok(given), &mut err),
-        Ok(Asked::Play(given)) => play(rt, Ok(given), &mut out, &mut err, &mut Nowhere),
-        Ok(Asked::Sfdp(given)) => sfdp(rt, Ok(given), &mut out, &mut err),
+    Ok(match asked_by(alloc, words) {
+        Ok(Asked::Build(given)) => build(alloc, &files, Ok(given), &mut out, &mut err),
+        Ok(Asked::Plan(given)) => plan(alloc, &files, Ok(given), &mut out, &mut err),
+        Ok(Asked::Check(given)) => check(alloc, &files, Ok(given), &mut out, &mut err),
+        Ok(Asked::Run(given)) => run(alloc, &files, Ok(given), &mut out, &mut err),
+        Ok(Asked::List(given)) => list(alloc, &files, Ok(given), &mut out, &mut err),
+        Ok(Asked::Draw(given)) => draw(alloc, &files, Ok(given), &mut err),
+        Ok(Asked::Play(given)) => play(alloc, &files, Ok(given), &mut out, &mut err, &mut Nowhere),
+        Ok(Asked::Sfdp(given)) => sfdp(alloc, &files, Ok(given), &mut out, &mut err),
         Ok(Asked::Explain(words)) => explain(words.as_slice(), &mut out, &mut err),
         Err(refusal) => refuse(&refusal, &mut err),
     })

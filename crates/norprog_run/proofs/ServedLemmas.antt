@@ -1,118 +1,191 @@
 -- The play that a request has is the one that its texts ask for.
-use Rattle.std.proofs.Common.{◌≡◌, refl, inl, inr, List, [], ℕ, None, Option, Result, Ok, Err, IfOk, IfErr}
+use Rattle.std.proofs.Common.{◌≡◌, Bor, ap, option_map, refl, sym, subst, inl, inr, List, [], ℕ, None, Some, Option, Result, Ok, Err, IfOk, IfErr}
+use Rattle.std.specs.Prelude.{⊤}
 use Rattle.nor_base.specs.Device.{Ahead}
 use Rattle.nor_job.specs.Task.{Task}
 use Rattle.nor_job.specs.declared.fault.BuildFault.TheVariants as fault
+use Rattle.nor_script.specs.Stream.{IsTextOf}
 use Rattle.norprog_words.specs.declared.faults.Refusal.{Refusal}
 use Rattle.norprog_words.specs.declared.faults.Refusal.TheVariants.{Text, Usage, File, Build, Page, Script}
 use Rattle.norprog_words.specs.Chip.{origin_of}
-use Rattle.norprog_words.specs.Told.{line_fault}
+use Rattle.norprog_words.specs.Setup.{setup_task}
+use Rattle.norprog_words.specs.Shelf.{FileFacts, AreTables, GoesOut, IsTextIn, Named, WhereNamed}
+use Rattle.norprog_words.specs.Told.{RefusesFor, line_fault}
 use Rattle.norprog_words.proofs.ToldLemmas.{asked_wider, by_fault, refuses_wider}
 use Rattle.norprog_run.specs.declared.request.Bench.{Bench}
 use Rattle.norprog_words.specs.declared.given.GivenRun.{GivenRun}
 use Rattle.norprog_run.specs.declared.request.RunRequest.{RunRequest}
 use Rattle.norprog_run.specs.declared.verdict.Verdict.{Verdict}
-use Rattle.norprog_run.specs.Answer.{IsVerdictOf, IsPlayVerdict, IsStopOf, IsPlayFault, RefusesRun, RefusesLine}
+use Rattle.norprog_run.specs.Answer.{WasPlayedSo, IsVerdictOf, IsPlayVerdict, IsStopOf, IsPlayFault, RefusesRun, RefusesLine}
 use Rattle.norprog_run.specs.Play.{WasPlayed}
 use Rattle.norprog_run.specs.Refusals.{RefusesPlay}
 use Rattle.norprog_run.specs.Request.{is_well_formed, AsksFor, RefusesGiven}
 use Rattle.norprog_run.specs.Streams.{PlaysStreams, RefusesStreams}
-use Rattle.norprog_run.specs.Served.{PlayTask, IsTaskOf, Serves, OfRun}
+use Rattle.norprog_run.specs.Served.{PlayTask, play_with, Is, IsTaskOf, Serves, ServesScript, OfRun, OfScript}
 
--- a play of a request that the texts ask for is one that they ask for
-serves : (given : GivenRun) (request : RunRequest) → AsksFor given request → (t : PlayTask) → IsTaskOf request t → Serves given t
-serves given request asks t of = rw (of.chip, of.bench) (record {
-  hex = refl;
-  layout = refl;
-  regions = refl;
-  origin = origin_of request.chip;
-  named = asks.beside.chip;
-  tables = of.tables;
-  chip = refl;
-  part = asks.beside.part;
-  status = asks.beside.status;
-  mode4 = asks.beside.mode4;
-  quad = asks.beside.quad;
-  erased_only = asks.beside.erased_only;
-  page = asks.beside.page;
-  busy = asks.busy;
-  keep = asks.beside.keep;
-  limit = asks.beside.limit;
-})
+-- a play of a request that the texts ask for is one that they ask for, and so is its script
+serves : (files : FileFacts) (given : GivenRun) (request : RunRequest) → AsksFor given request → (t : PlayTask) → IsTaskOf files request t → Serves files given t
+serves files given request asks t of = record {
+  chip = record { setup = request.setup; asks = asks.beside.setup; task = of.chip };
+  content = subst (λ s. Named (λ name. files.opened name t.content t.len) (option_map (λ t. t.now) s)) (sym asks.beside.content) of.content;
+  made = subst (λ s. WhereNamed files.made (option_map (λ t. t.now) s) t.begun) asks.beside.out of.made;
+  page = rw of.bench asks.beside.page;
+  busy = rw of.bench asks.busy;
+  keep = rw of.bench asks.beside.keep;
+  limit = rw of.bench asks.beside.limit;
+}
 
-pub on_line : (line : Result GivenRun Refusal) (given : GivenRun) (request : RunRequest) → line ≡ Ok given → AsksFor given request
-    → (t : PlayTask) → IsTaskOf request t → OfRun line t
-on_line line given request is asks t of = rw is (serves given request asks t of)
+serves_script : (files : FileFacts) (given : GivenRun) (request : RunRequest) → AsksFor given request → (text : List ℕ) → IsTextIn files request.script.now text
+    → ServesScript files given text
+serves_script files given request asks text of =
+    subst (λ s. Named (λ name. IsTextIn files name text) (option_map (λ t. t.now) s)) (sym asks.beside.script) of
 
-pub verdict_asked : (line : Result GivenRun Refusal) (given : GivenRun) (request : RunRequest) (verdict : Verdict) → line ≡ Ok given → AsksFor given request
-    → IsPlayVerdict (IsTaskOf request) verdict → IsPlayVerdict (OfRun line) verdict
-verdict_asked line given request verdict is asks of =
-    asked_wider PlayTask (IsTaskOf request) (OfRun line) (IsVerdictOf verdict) (on_line line given request is asks) of
+-- the same of the command line on which those texts stand
+on_line : (files : FileFacts) (line : Result GivenRun Refusal) (given : GivenRun) (request : RunRequest) → line ≡ Ok given → AsksFor given request
+    → (t : PlayTask) → IsTaskOf files request t → OfRun files line t
+on_line files line given request is asks t of = rw is (serves files given request asks t of)
 
-pub refusal_asked : (line : Result GivenRun Refusal) (given : GivenRun) (request : RunRequest) (why : Refusal) → line ≡ Ok given → AsksFor given request
-    → RefusesRun (IsTaskOf request) why → RefusesRun (OfRun line) why
-refusal_asked line given request why is asks =
-    refuses_wider (IsPlayFault (IsTaskOf request)) (IsPlayFault (OfRun line))
-    ((verdict : Verdict) × IsPlayVerdict (IsTaskOf request) verdict) ((verdict : Verdict) × IsPlayVerdict (OfRun line) verdict)
-    (λ why of. asked_wider PlayTask (IsTaskOf request) (OfRun line) (IsStopOf why) (on_line line given request is asks) of)
-    (λ late. (late.0, verdict_asked line given request late.0 is asks late.1)) why
+script_on_line : (files : FileFacts) (line : Result GivenRun Refusal) (given : GivenRun) (request : RunRequest) → line ≡ Ok given → AsksFor given request
+    → (text : List ℕ) → IsTextIn files request.script.now text → OfScript files line text
+script_on_line files line given request is asks text of = rw is (serves_script files given request asks text of)
 
--- the same of whichever came
+-- of what is so of a script that is so of the same by another name
+played_wider : (P Q : List ℕ → Type 0) (chip : Task) (bench : Bench) (content : Ahead) (len : ℕ) (before after : Option (List ℕ)) (verdict : Verdict)
+    → ((text : List ℕ) → P text → Q text) → WasPlayedSo P chip bench content len before after verdict → WasPlayedSo Q chip bench content len before after verdict
+played_wider P Q chip bench content len before after verdict wider of = record { text = of.text; script = wider of.text of.script; rest = of.rest; played = of.played }
 
-pub verdicts_asked : (line : Result GivenRun Refusal) (given : GivenRun) (request : RunRequest) (r : Result Verdict Refusal) → line ≡ Ok given → AsksFor given request
-    → IfOk r (IsPlayVerdict (IsTaskOf request)) → IfOk r (IsPlayVerdict (OfRun line))
-verdicts_asked line given request (Ok verdict) is asks of = verdict_asked line given request verdict is asks of
-verdicts_asked line given request (Err why) is asks of = tt
+verdict_wider : (Asked Other : PlayTask → Type 0) (P Q : List ℕ → Type 0) (Sent : Option (List ℕ) → Type 0) (verdict : Verdict) → ((t : PlayTask) → Asked t → Other t)
+    → ((text : List ℕ) → P text → Q text) → IsPlayVerdict Asked P Sent verdict → IsPlayVerdict Other Q Sent verdict
+verdict_wider Asked Other P Q Sent verdict tasks texts of = record {
+  it = of.it;
+  asked = tasks of.it of.asked;
+  has = record { before = of.has.before; after = of.has.after; out = of.has.out; played = played_wider P Q _ _ _ _ _ _ verdict texts of.has.played };
+}
 
-pub refusals_asked : (line : Result GivenRun Refusal) (given : GivenRun) (request : RunRequest) (r : Result Verdict Refusal) → line ≡ Ok given → AsksFor given request
-    → line_fault is_well_formed line ≡ None → IfErr r (RefusesRun (IsTaskOf request)) → IfErr r (RefusesLine (line_fault is_well_formed line) (RefusesRun (OfRun line)))
-refusals_asked line given request (Ok verdict) is asks none of = tt
-refusals_asked line given request (Err why) is asks none of = rw none (inl (refusal_asked line given request why is asks of))
+module _ (files : FileFacts) (line : Result GivenRun Refusal) (given : GivenRun) (request : RunRequest) (is : line ≡ Ok given) (asks : AsksFor given request) where
+  verdict_asked : (Sent : Option (List ℕ) → Type 0) (verdict : Verdict) → IsPlayVerdict (IsTaskOf files request) (IsTextIn files request.script.now) Sent verdict
+      → IsPlayVerdict (OfRun files line) (OfScript files line) Sent verdict
+  verdict_asked Sent verdict = verdict_wider (IsTaskOf files request) (OfRun files line) (IsTextIn files request.script.now) (OfScript files line) Sent verdict
+      (on_line files line given request is asks) (script_on_line files line given request is asks)
+
+  refusal_asked : (why : Refusal) → RefusesRun (IsTaskOf files request) (IsTextIn files request.script.now) why → RefusesRun (OfRun files line) (OfScript files line) why
+  refusal_asked why =
+      refuses_wider (IsPlayFault (IsTaskOf files request)) (IsPlayFault (OfRun files line))
+      ((verdict : Verdict) × IsPlayVerdict (IsTaskOf files request) (IsTextIn files request.script.now) (λ held. ⊤) verdict)
+      ((verdict : Verdict) × IsPlayVerdict (OfRun files line) (OfScript files line) (λ held. ⊤) verdict)
+      (λ why of. asked_wider PlayTask (IsTaskOf files request) (OfRun files line) (IsStopOf why) (on_line files line given request is asks) of)
+      (λ late. (late.0, verdict_asked (λ held. ⊤) late.0 late.1)) why
+
+  -- the same of whichever came
+
+  pub verdicts_asked : (Sent : Option (List ℕ) → Type 0) (r : Result Verdict Refusal) → IfOk r (IsPlayVerdict (IsTaskOf files request) (IsTextIn files request.script.now) Sent)
+      → IfOk r (IsPlayVerdict (OfRun files line) (OfScript files line) Sent)
+  verdicts_asked Sent (Ok verdict) of = verdict_asked Sent verdict of
+  verdicts_asked Sent (Err why) of = tt
+
+  pub refusals_asked : (r : Result Verdict Refusal) → line_fault is_well_formed line ≡ None → IfErr r (RefusesRun (IsTaskOf files request) (IsTextIn files request.script.now))
+      → IfErr r (RefusesLine (line_fault is_well_formed line) (RefusesRun (OfRun files line) (OfScript files line)))
+  refusals_asked (Ok verdict) none of = tt
+  refusals_asked (Err why) none of = rw none (inl (refusal_asked why of))
 
 -- what the player answered
 
-pub of_play : (Asked : PlayTask → Type 0) (t : Task) (bench : Bench) (text : List ℕ) (len : ℕ) (before after : Ahead) (held held' : Option (List ℕ)) (r : Result Verdict Refusal)
-    → Asked (record { chip = t; bench = bench }) → IfOk r (WasPlayed t bench text len before after held held') → IfOk r (IsPlayVerdict Asked)
-of_play Asked t bench text len before after held held' (Ok verdict) asked played = record {
-  it = record { chip = t; bench = bench };
-  asked = asked;
-  has = record { text = text; len = len; before = before; after = after; held_before = held; held_after = held'; played = played };
-}
-of_play Asked t bench text len before after held held' (Err why) asked played = tt
+module _ (t : Task) (bench : Bench) (len : ℕ) (before after : Ahead) (held held' : Option (List ℕ)) where
+  pub of_play : (text : List ℕ) (r : Result Verdict Refusal) → IfOk r (WasPlayed t bench text len before after held held')
+      → IfOk r (WasPlayedSo (λ held. held ≡ text) t bench before len held held')
+  of_play text (Ok verdict) played = record { text = text; script = refl; rest = after; played = played }
+  of_play text (Err why) played = tt
 
-pub of_stop : (Asked : PlayTask → Type 0) (t : Task) (bench : Bench) (text : List ℕ) (len : ℕ) (before after : Ahead) (held held' : Option (List ℕ)) (r : Result Verdict Refusal)
-    → Asked (record { chip = t; bench = bench }) → IfErr r (RefusesPlay t bench text len before after held held') → IfErr r (RefusesRun Asked)
-of_stop Asked t bench text len before after held held' (Ok verdict) asked refused = tt
-of_stop Asked t bench text len before after held held' (Err why) asked refused = by_fault (IsPlayFault Asked) _ why (record {
-  it = record { chip = t; bench = bench };
-  asked = asked;
-  has = record { text = text; len = len; before = before; after = after; held_before = held; held_after = held'; refused = refused };
-})
+  stopped : (begun : Option (Option (List ℕ))) (text : List ℕ) (why : Refusal) → RefusesPlay t bench text len before after held held' why
+      → RefusesFor (IsPlayFault (Is (play_with t bench before len begun))) ⊥ why
+  stopped begun text why refused = by_fault (IsPlayFault (Is (play_with t bench before len begun))) ⊥ why (record {
+    it = play_with t bench before len begun;
+    asked = refl;
+    has = record { text = text; after = after; held_before = held; held_after = held'; refused = refused };
+  })
 
--- what the player of a script that is read twice answered
+  pub of_stop : (begun : Option (Option (List ℕ))) (text : List ℕ) (r : Result Verdict Refusal) → IfErr r (RefusesPlay t bench text len before after held held')
+      → IfErr r (RefusesFor (IsPlayFault (Is (play_with t bench before len begun))) ⊥)
+  of_stop begun text (Ok verdict) refused = tt
+  of_stop begun text (Err why) refused = stopped begun text why refused
 
-module _ (Asked : PlayTask → Type 0) (t : Task) (bench : Bench) (first first' again again' : Ahead) (len : ℕ) (before after : Ahead) (held held' : Option (List ℕ))
-    (asked : Asked (record { chip = t; bench = bench })) where
-  pub of_streams : (r : Result Verdict Refusal) → IfOk r (PlaysStreams t bench first first' again again' len before after held held') → IfOk r (IsPlayVerdict Asked)
-  of_streams (Ok verdict) p = of_play Asked t bench p.1.0 len before after held held' (Ok verdict) asked p.1.2
-  of_streams (Err why) p = tt
+  -- of a script that is read twice
+  module _ (first first' again again' : Ahead) where
+    pub of_streams : (r : Result Verdict Refusal) → IfOk r (PlaysStreams t bench first first' again again' len before after held held')
+        → IfOk r (WasPlayedSo (λ text. (rest : Ahead) × IsTextOf again rest text) t bench before len held held')
+    of_streams (Ok verdict) p = record { text = p.1.0; script = (again', p.1.1); rest = after; played = p.1.2 }
+    of_streams (Err why) p = tt
 
-  stop : (text : List ℕ) (why : Refusal) → RefusesPlay t bench text len before after held held' why → RefusesRun Asked why
-  stop text why p = of_stop Asked t bench text len before after held held' (Err why) asked p
+    streams_stop : (begun : Option (Option (List ℕ))) (Untouched : Type 0) (why : Refusal)
+        → RefusesStreams t bench first first' again again' len before after held held' Untouched why → RefusesFor (IsPlayFault (Is (play_with t bench before len begun))) ⊥ why
+    streams_stop begun Untouched (Script why) p = elim p [ inl q ↦ stopped begun q.0.0 (Script why) q.0.2 | inr q ↦ stopped begun q.2.0 (Script why) q.2.2 ]
+    streams_stop begun Untouched (Build fault.ContentShort) p = stopped begun p.0 (Build fault.ContentShort) p.2
+    streams_stop begun Untouched (Build fault.Read) p = stopped begun p.0 (Build fault.Read) p.2
+    streams_stop begun Untouched (Build fault.Write) p = stopped begun p.1.0 (Build fault.Write) p.1.2
+    streams_stop begun Untouched (Build fault.Memory) p = tt
+    streams_stop begun Untouched (File name) p = tt
+    streams_stop begun Untouched other p = stopped begun [] other p
 
-  streams_stop : (Untouched : Type 0) (why : Refusal) → RefusesStreams t bench first first' again again' len before after held held' Untouched why → RefusesRun Asked why
-  streams_stop Untouched (Script why) p = elim p [ inl q ↦ stop q.0.0 (Script why) q.0.2 | inr q ↦ stop q.2.0 (Script why) q.2.2 ]
-  streams_stop Untouched (Build fault.ContentShort) p = stop p.0 (Build fault.ContentShort) p.2
-  streams_stop Untouched (Build fault.Read) p = stop p.0 (Build fault.Read) p.2
-  streams_stop Untouched (Build fault.Write) p = stop p.1.0 (Build fault.Write) p.1.2
-  streams_stop Untouched (Build fault.Memory) p = tt
-  streams_stop Untouched (File name) p = tt
-  streams_stop Untouched other p = stop [] other p
+    pub of_streams_stop : (begun : Option (Option (List ℕ))) (Untouched : Type 0) (r : Result Verdict Refusal)
+        → IfErr r (RefusesStreams t bench first first' again again' len before after held held' Untouched) → IfErr r (RefusesFor (IsPlayFault (Is (play_with t bench before len begun))) ⊥)
+    of_streams_stop begun Untouched (Ok verdict) p = tt
+    of_streams_stop begun Untouched (Err why) p = streams_stop begun Untouched why p
 
-  pub of_streams_stop : (Untouched : Type 0) (r : Result Verdict Refusal) → IfErr r (RefusesStreams t bench first first' again again' len before after held held' Untouched)
-      → IfErr r (RefusesRun Asked)
-  of_streams_stop Untouched (Ok verdict) p = tt
-  of_streams_stop Untouched (Err why) p = streams_stop Untouched why p
+-- what was played of the files that a request names
+
+pub asked_of : (files : FileFacts) (request : RunRequest) (chip : Task) (bench : Bench) (tables : List ℕ) (content : Ahead) (len : ℕ) (begun : Option (Option (List ℕ)))
+    → chip ≡ setup_task request.setup tables → bench ≡ request.bench → AreTables files (origin_of request.setup.chip) tables → files.opened request.content.now content len
+    → WhereNamed files.made (option_map (λ t. t.now) request.out) begun → IsTaskOf files request (play_with chip bench content len begun)
+asked_of files request chip bench tables content len begun is same gave opened made =
+    record { chip = record { tables = tables; gave = gave; task = is }; bench = same; content = opened; made = made }
+
+pub made_named : (files : FileFacts) (out : Option (Bor (List ℕ))) (path : Bor (List ℕ)) (held : Option (List ℕ)) → out ≡ Some path → files.made path.now held
+    → WhereNamed files.made (option_map (λ t. t.now) out) (Some held)
+made_named files out path held is made = rw is made
+
+module _ (Asked : PlayTask → Type 0) (P Q : List ℕ → Type 0) (chip : Task) (bench : Bench) (content : Ahead) (len : ℕ) (begun : Option (Option (List ℕ)))
+    (asked : Asked (play_with chip bench content len begun)) (texts : (text : List ℕ) → P text → Q text) (before after : Option (List ℕ)) where
+  pub one_played : (Sent : Option (List ℕ) → Type 0) (verdict : Verdict) → GoesOut Sent begun before after → WasPlayedSo P chip bench content len before after verdict
+      → IsPlayVerdict Asked Q Sent verdict
+  one_played Sent verdict out of = record {
+    it = play_with chip bench content len begun;
+    asked = asked;
+    has = record { before = before; after = after; out = out; played = played_wider P Q chip bench content len before after verdict texts of };
+  }
+
+  pub all_played : (Sent : Option (List ℕ) → Type 0) (r : Result Verdict Refusal) → GoesOut Sent begun before after → IfOk r (WasPlayedSo P chip bench content len before after)
+      → IfOk r (IsPlayVerdict Asked Q Sent)
+  all_played Sent (Ok verdict) out of = one_played Sent verdict out of
+  all_played Sent (Err why) out of = tt
+
+pub one_refused : (Asked : PlayTask → Type 0) (Spoken : List ℕ → Type 0) (t : PlayTask) (asked : Asked t) (why : Refusal) → RefusesFor (IsPlayFault (Is t)) ⊥ why
+    → RefusesRun Asked Spoken why
+one_refused Asked Spoken t asked why =
+    refuses_wider (IsPlayFault (Is t)) (IsPlayFault Asked) ⊥ ((verdict : Verdict) × IsPlayVerdict Asked Spoken (λ held. ⊤) verdict)
+    (λ why of. asked_wider PlayTask (Is t) Asked (IsStopOf why) (λ u same. subst Asked (sym same) asked) of) (λ none. absurd none) why
+
+pub all_refused : (Asked : PlayTask → Type 0) (Spoken : List ℕ → Type 0) (t : PlayTask) (asked : Asked t) (r : Result Verdict Refusal)
+    → IfErr r (RefusesFor (IsPlayFault (Is t)) ⊥) → IfErr r (RefusesRun Asked Spoken)
+all_refused Asked Spoken t asked (Ok verdict) of = tt
+all_refused Asked Spoken t asked (Err why) of = one_refused Asked Spoken t asked why of
+
+-- where only the verdict's line, or what the chip holds, didn't go out, the play was one that was asked for
+goes : (Sent : Option (List ℕ) → Type 0) (begun : Option (Option (List ℕ))) (before after : Option (List ℕ)) → GoesOut Sent begun before after
+    → GoesOut (λ held. ⊤) begun before after
+goes Sent (Some held) before after out = (out.0, tt)
+goes Sent None before after out = tt
+
+pub late_refused : (files : FileFacts) (line : Result GivenRun Refusal) (verdict : Verdict) → line_fault is_well_formed line ≡ None
+    → IsPlayVerdict (OfRun files line) (OfScript files line) files.flushed verdict
+    → RefusesLine (line_fault is_well_formed line) (RefusesRun (OfRun files line) (OfScript files line)) (Build fault.Write)
+late_refused files line verdict none of = rw none (inl (inr (
+  verdict,
+  record {
+    it = of.it;
+    asked = of.asked;
+    has = record { before = of.has.before; after = of.has.after; out = goes files.flushed of.it.begun _ _ of.has.out; played = of.has.played };
+  },
+)))
 
 -- a line whose texts ask for nothing, and want of memory
 pub given_refused : (line : Result GivenRun Refusal) (given : GivenRun) (Work : Refusal → Type 0) (why : Refusal) → line ≡ Ok given → RefusesGiven given why

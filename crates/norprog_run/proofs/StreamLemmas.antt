@@ -17,7 +17,8 @@ use Rattle.norprog_run.specs.declared.request.Bench.{Bench}
 use Rattle.norprog_run.specs.declared.verdict.Verdict.{Verdict}
 use Rattle.norprog_run.specs.Kind.{kind_setting}
 use Rattle.norprog_run.specs.Play.{page_of, IsSized, setting_of}
-use Rattle.norprog_run.specs.Refusals.{StopsReading, RefusesPlay, IsEarly}
+use Rattle.norprog_words.specs.Content.{StopsReading}
+use Rattle.norprog_run.specs.Refusals.{RefusesPlay, IsEarly}
 use Rattle.norprog_run.specs.Streams.{PlaysText, RefusesScript, StopsText, PlaysStreams, RefusesStreams, IsOfChip, CountsScript}
 
 -- a text that has this has that

@@ -1,62 +1,58 @@
--- The play that a command line of `run` asks for, whatever its files hold (this project's).
-use Rattle.std.specs.Prelude.{◌≡◌, ℕ, false, List, [], None, Some, Result, option_map}
+-- The play that a command line of `run` asks for (this project's). `files` is what is known of files by their names.
+use Rattle.std.specs.Prelude.{◌≡◌, ℕ, List, Option, Some, Result, option_map}
+use Rattle.nor_base.specs.Device.{Ahead}
 use Rattle.nor_job.specs.Task.{Task}
 use Rattle.norprog_words.specs.declared.faults.Refusal.{Refusal}
-use Rattle.norprog_words.specs.Chip.{Origin, origin_of, task_chip}
+use Rattle.norprog_words.specs.Setup.{IsSetupTask, ServesSetup}
+use Rattle.norprog_words.specs.Shelf.{FileFacts, IsTextIn, Named, WhereNamed}
 use Rattle.norprog_words.specs.Told.{OfLine}
-use Rattle.norprog_words.specs.Values.{limit_of, part_of, said_status}
+use Rattle.norprog_words.specs.Values.{limit_of}
 use Rattle.norprog_run.specs.declared.request.Bench.{Bench}
 use Rattle.norprog_words.specs.declared.given.GivenRun.{GivenRun}
 use Rattle.norprog_run.specs.declared.request.RunRequest.{RunRequest}
-use Rattle.norprog_run.specs.Request.{asked_chip, asked_part, asked_busy, asked_limit}
+use Rattle.norprog_run.specs.Request.{asked_busy, asked_limit}
 use Rattle.norprog_run.specs.Values.{said_page}
 
--- what is asked of a play: the chip, in a task that has neither image nor layout, and the bench
+-- what is asked of a play: the chip, in a task that has neither image nor layout; the bench; what is ahead of the content's reader,
+-- and its length in bytes; and what its output held when it was made, where it has one
 pub record PlayTask : Type 0 where
   pub chip : Task
   pub bench : Bench
+  pub content : Ahead
+  pub len : ℕ
+  pub begun : Option (Option (List ℕ))
 
--- the task of a request's chip, whose tables are these bytes
-abbrev pub task_by : RunRequest → List ℕ → Task
-task_by request tables = record {
-  hex = [];
-  layout = None;
-  regions = [];
-  chip = task_chip (origin_of request.chip) tables;
-  part = request.part;
-  status = request.status;
-  mode4 = request.mode4;
-  quad = request.quad;
-  base = 0;
-  verify = false;
-  erased_only = request.erased_only;
-}
+abbrev pub play_with : Task → Bench → Ahead → ℕ → Option (Option (List ℕ)) → PlayTask
+play_with chip bench content len begun = record { chip = chip; bench = bench; content = content; len = len; begun = begun }
 
--- the chip and the bench of a request, whatever the tables are
-pub record IsTaskOf (request : RunRequest) (t : PlayTask) : Type 0 where
-  pub tables : List ℕ
-  pub chip : t.chip ≡ task_by request tables
+-- the play is this one
+abbrev pub Is : PlayTask → PlayTask → Type 0
+Is one other = other ≡ one
+
+-- the play of a request: its tables are what their file gave, the content's file was opened, and the output was made
+pub record IsTaskOf (files : FileFacts) (request : RunRequest) (t : PlayTask) : Type 0 where
+  pub chip : IsSetupTask files request.setup t.chip
   pub bench : t.bench ≡ request.bench
+  pub content : files.opened request.content.now t.content t.len
+  pub made : WhereNamed files.made (option_map (λ t. t.now) request.out) t.begun
 
--- the chip and the bench are those that the texts ask for, each by the value that its text spells. What the files hold is left open
-pub record Serves (given : GivenRun) (t : PlayTask) : Type 0 where
-  pub hex : t.chip.hex ≡ []
-  pub layout : t.chip.layout ≡ None
-  pub regions : t.chip.regions ≡ []
-  pub origin : Origin
-  pub named : asked_chip given ≡ Some origin
-  pub tables : List ℕ
-  pub chip : t.chip.chip ≡ task_chip origin tables
-  pub part : part_of (asked_part given) ≡ Some t.chip.part
-  pub status : said_status (option_map (λ t. t.now) given.status) ≡ Some t.chip.status
-  pub mode4 : t.chip.mode4 ≡ given.mode4
-  pub quad : t.chip.quad ≡ given.quad
-  pub erased_only : t.chip.erased_only ≡ given.erased_only
+-- the play is the one that the texts ask for, each value by the one that its text spells, each file by its name
+pub record Serves (files : FileFacts) (given : GivenRun) (t : PlayTask) : Type 0 where
+  pub chip : ServesSetup files given.setup t.chip
+  pub content : Named (λ name. files.opened name t.content t.len) (option_map (λ t. t.now) given.content)
+  pub made : WhereNamed files.made (option_map (λ t. t.now) given.out) t.begun
   pub page : said_page (option_map (λ t. t.now) given.page) ≡ Some t.bench.page
   pub busy : asked_busy given ≡ Some t.bench.busy.items
   pub keep : t.bench.keep ≡ given.keep
   pub limit : limit_of (asked_limit given) ≡ Some t.bench.limit
 
+-- the text is that of the script's file
+abbrev pub ServesScript : FileFacts → GivenRun → List ℕ → Type 0
+ServesScript files given text = Named (λ name. IsTextIn files name text) (option_map (λ t. t.now) given.script)
+
 -- of a command line: what it asks for, where it was read
-abbrev pub OfRun : Result GivenRun Refusal → PlayTask → Type 0
-OfRun = OfLine Serves
+abbrev pub OfRun : FileFacts → Result GivenRun Refusal → PlayTask → Type 0
+OfRun files = OfLine (Serves files)
+
+abbrev pub OfScript : FileFacts → Result GivenRun Refusal → List ℕ → Type 0
+OfScript files = OfLine (ServesScript files)

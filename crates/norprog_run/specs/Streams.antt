@@ -18,7 +18,7 @@ use Rattle.norprog_words.specs.Lines.{script_refusal}
 use Rattle.norprog_run.specs.declared.request.Bench.{Bench}
 use Rattle.norprog_run.specs.declared.verdict.Verdict.{Verdict}
 use Rattle.norprog_run.specs.Play.{IsSized, EndsSo, WasPlayed}
-use Rattle.norprog_run.specs.Refusals.{StopsPlaying, RefusesChipOf, RefusesPlay}
+use Rattle.norprog_run.specs.Refusals.{StopsPlaying, RefusesPaged, RefusesPlay}
 
 -- the text spells steps whose bounded run ends so, and leaves this chip
 abbrev pub PlaysText : Setting → Chip → ℕ → Verdict → Chip → List ℕ → Type 0
@@ -71,7 +71,7 @@ RefusesStreams t bench first first' again again' len before after held held' Unt
 RefusesStreams t bench first first' again again' len before after held held' Untouched (Build fault.Memory) = (m : Parameters) × IsSized t bench.page len m
 RefusesStreams t bench first first' again again' len before after held held' Untouched (File file.Script) =
     ((m : Parameters) × IsSized t bench.page len m) × (Untouched ⊎ (HadText first first' IsSpelled × ReadsWhole len before after))
-RefusesStreams t bench first first' again again' len before after held held' Untouched other = RefusesChipOf t bench.page len other
+RefusesStreams t bench first first' again again' len before after held held' Untouched other = RefusesPaged t bench.page len other
 
 -- a refusal of the chip, which comes before anything is read
 abbrev pub IsOfChip : Refusal → Type 0

@@ -1,15 +1,13 @@
 //! The chip that a script is played on, and what it holds.
 
-ghost use Rattle.std.specs.Prelude.{◌≡◌, ◌<◌, ◌-◌, ◌^◌, length, IfOk, IfErr};
-ghost use Rattle.nor_base.specs.Device.{Gives};
+ghost use Rattle.std.specs.Prelude.{◌≡◌, IfOk, IfErr};
 ghost use Rattle.nor_job.specs.Status.{start_of};
 ghost use Rattle.norprog_run.specs.Play.{page_of, IsSized};
-ghost use Rattle.norprog_run.specs.Refusals.{RefusesChipOf, StopsReading, CountsReader};
+ghost use Rattle.norprog_run.specs.Refusals.{RefusesPaged};
 
-use nor_base::{ByteIn, Meaning, Start, fill_from};
-use nor_job::{BuildFault, Inputs, chip_of, contradiction};
-use norprog_words::Refusal;
-use std::alloc::Global;
+use nor_base::{Meaning, Start};
+use nor_job::{BuildFault, Inputs};
+use norprog_words::{Refusal, known_chip};
 
 /// What is fixed with a chip besides its busy times.
 #[derive(Drop)]
@@ -26,15 +24,9 @@ pub(crate) fn kind_of(inputs: &Inputs<'_>, page: Option<u32>, len: u64) -> Resul
     ensures sized { IfOk result (λ kind. IsSized inputs.now page len kind.meaning) }
     ensures start { IfOk result (λ kind. kind.start ≡ start_of inputs.now) }
     ensures page { IfOk result (λ kind. kind.page ≡ page_of page kind.meaning) }
-    ensures refused { IfErr result (RefusesChipOf inputs.now page len) }
+    ensures refused { IfErr result (RefusesPaged inputs.now page len) }
 {
-    if let Some(number) = contradiction(inputs) {
-        return Err(Refusal::Build(BuildFault::Contradiction(number)));
-    }
-    let (meaning, start) = match chip_of(inputs) {
-        Ok(chip) => chip,
-        Err(fault) => return Err(Refusal::Build(fault)),
-    };
+    let (meaning, start) = known_chip(inputs)?;
     let page = page.unwrap_or(meaning.page);
     if !meaning.may_page(page) {
         return Err(Refusal::Page);
@@ -47,26 +39,4 @@ pub(crate) fn kind_of(inputs: &Inputs<'_>, page: Option<u32>, len: u64) -> Resul
         start,
         page,
     })
-}
-
-/// The next `len` bytes of the reader.
-///
-/// `ContentShort` where it ends before, `Read` where it fails, `Memory` where there is no room for them.
-pub(crate) fn read_content<R: ByteIn>(
-    alloc: Global,
-    content: &mut R,
-    len: u32,
-) -> Result<Vec<u8>, Refusal>
-    requires { R.count content.old < 2 ^ 64 - 1 }
-    ensures length { IfOk result (λ bytes. length bytes.items ≡ len) }
-    ensures given { IfOk result (λ bytes. Gives (R.ahead content.old) bytes.items (R.ahead content.new)) }
-    ensures stopped { IfErr result (StopsReading len (R.ahead content.old) (R.ahead content.new)) }
-    ensures count { CountsReader (R.count content.old) (R.count content.new) result }
-{
-    let mut bytes = vec![in alloc; 0u8; len as usize]?;
-    match fill_from(content, bytes.as_mut_slice()) {
-        Ok(given) if given == len as usize => Ok(bytes),
-        Ok(_) => Err(Refusal::Build(BuildFault::ContentShort)),
-        Err(_) => Err(Refusal::Build(BuildFault::Read)),
-    }
 }

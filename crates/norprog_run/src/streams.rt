@@ -9,10 +9,11 @@ ghost use Rattle.nor_job.specs.Wanted.{ReadsWithin};
 ghost use Rattle.norprog_words.specs.declared.faults.Refusal.TheVariants.{Build};
 ghost use Rattle.nor_script.specs.Stream.{HadText, IsSpelled};
 ghost use Rattle.norprog_run.specs.Kind.{kind_setting};
-ghost use Rattle.norprog_run.specs.Refusals.{CountsReader, CountsWriter};
+ghost use Rattle.norprog_words.specs.Content.{CountsReader};
+ghost use Rattle.norprog_run.specs.Refusals.{CountsWriter};
 ghost use Rattle.norprog_run.specs.Streams.{PlaysText, StopsText, PlaysStreams, RefusesStreams, IsOfChip, IsOfContent, CountsScript, CountsOne, RefusesScript, refusal_of as told_of};
 
-use crate::kind::{Kind, kind_of, read_content};
+use crate::kind::{Kind, kind_of};
 use crate::request::Bench;
 use crate::steps::play_text;
 use crate::verdict::Verdict;
@@ -20,7 +21,7 @@ use nor_base::{ByteIn, ByteOut, put_all};
 use nor_chip::Chip;
 use nor_job::Inputs;
 use nor_script::{ReadFault, count_steps};
-use norprog_words::{FileName, Refusal};
+use norprog_words::{FileName, Refusal, read_content};
 use std::alloc::Global;
 
 /// Plays a script on a ready chip of the inputs, and answers how it ends: [`crate::play_script`] of a script that is read twice

@@ -19,4 +19,6 @@ mod refusals;
 #[cfg(test)]
 mod same;
 #[cfg(test)]
+mod shelf;
+#[cfg(test)]
 mod windows;

@@ -1,15 +1,22 @@
--- The report, or the fault, is that of the request's task.
-use Rattle.norprog_command.specs.Served.{IsTaskOf}
+-- The report, or the fault, is that of the request's job.
+use Rattle.std.proofs.Common.{Some}
+use Rattle.norprog_command.specs.Served.{IsJobOf, held_in}
 use Rattle.norprog_command.proofs.AskedLemmas.{report_of, refusal_of_build}
-use Rattle.norprog_words.proofs.ToldLemmas.{by_files, handed_on}
+use Rattle.norprog_command.proofs.ServedLemmas.{job_of}
 use Rattle.norprog_command.proofs.builds.run_build.Goals as goal
 
 pub returns-clause-built : goal.returns-clause-built
 returns-clause-built g c =
-    report_of (IsTaskOf c.args.request.now) _ _ _ _ _ _ c.build-answer.result c.flush-flushed.result _ c.inputs_of-inputs.ensures.task
-    c.build-answer.ensures.built c.done.ensures
+    let files = g.S.Shelf.facts c.args.shelf.now in
+    let asked = job_of files c.args.request.now (Some c.args.path.now) c.inputs_of-inputs.result _ _ (Some _) (held_in c.in_ok-texts.texts)
+    c.in_ok-texts.ensures.given c.inputs_of-inputs.ensures c.in_ok-content.ensures.opened c.in_ok-script.ensures.made in
+    report_of (IsJobOf files c.args.request.now (Some c.args.path.now)) files.flushed _ _ _ _ _ _ c.build-answer.result c.flush-flushed.result _ asked
+    c.build-answer.ensures.built c.flush-flushed.ensures.flushed c.done.ensures
 
 pub returns-clause-refused : goal.returns-clause-refused
 returns-clause-refused g c =
-    refusal_of_build _ _ (IsTaskOf c.args.request.now) _ _ _ _ _ _ c.build-answer.result c.flush-flushed.result _ c.inputs_of-inputs.ensures.task
+    let files = g.S.Shelf.facts c.args.shelf.now in
+    let asked = job_of files c.args.request.now (Some c.args.path.now) c.inputs_of-inputs.result _ _ (Some _) (held_in c.in_ok-texts.texts)
+    c.in_ok-texts.ensures.given c.inputs_of-inputs.ensures c.in_ok-content.ensures.opened c.in_ok-script.ensures.made in
+    refusal_of_build _ _ (IsJobOf files c.args.request.now (Some c.args.path.now)) _ _ _ _ _ _ c.build-answer.result c.flush-flushed.result _ asked
     c.build-answer.ensures.built c.build-answer.ensures.refused c.done.ensures

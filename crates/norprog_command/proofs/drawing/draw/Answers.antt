@@ -9,7 +9,7 @@ use Rattle.norprog_command.specs.Plans.{PutsMap, read_lines}
 use Rattle.norprog_command.proofs.drawing.draw.Goals as goal
 
 pub returns-clause-drawn : goal.returns-clause-drawn
-returns-clause-drawn g c report of =
+returns-clause-drawn g c report len ahead of =
     let t = c.args.inputs.now in
     let meant : of.planned.m ≡ c.in-Ok.meaning = search rules in
     let read : c.in_ok-lines.lines.items ≡ read_lines of =

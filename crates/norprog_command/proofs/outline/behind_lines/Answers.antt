@@ -5,9 +5,9 @@ use Rattle.norprog_command.specs.Plans.{times_lines, read_lines}
 use Rattle.norprog_command.proofs.outline.behind_lines.Goals as goal
 
 pub returns-clause-rest : goal.returns-clause-rest
-returns-clause-rest c of =
+returns-clause-rest c len ahead of =
     let asked : c.args.times ≡ true = search rules in
     let report : c.in_ok-rest.rest.inner.items ≡ report_text c.args.report.now = c.in_ok-rest.ensures.report in
     let times : c.put_times.new.out.inner.items ≡ c.in_ok-rest.rest.inner.items ++ times_lines c.args.inputs.now of.planned.m (read_lines of) =
-    c.in_ok-put_times.ensures.times c.args.report.now of in
+    c.in_ok-put_times.ensures.times c.args.report.now len ahead of in
     rw asked (times ∙ ap (λ front. front ++ times_lines c.args.inputs.now of.planned.m (read_lines of)) report)

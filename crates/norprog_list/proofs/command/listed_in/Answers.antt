@@ -10,4 +10,4 @@ returns-clause-first g c =
     let line : c.args.given ≡ Ok c.in_ok-given.field-0 = search rules in
     let asks : AsksFor c.in_ok-given.field-0 c.in_ok-request.request = search rules in
     let none : line_fault is_well_formed c.args.given ≡ None = search rules in
-    refusals_asked c.args.given c.in_ok-given.field-0 c.in_ok-request.request _ _ _ line asks none c.run_list.ensures.refused
+    refusals_asked (g.S.Shelf.facts c.args.shelf.now) c.args.given c.in_ok-given.field-0 c.in_ok-request.request _ _ _ line asks none c.run_list.ensures.refused

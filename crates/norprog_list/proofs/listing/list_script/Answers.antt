@@ -1,7 +1,7 @@
 -- What stopped the listing is the refusal of the text.
 use Rattle.std.proofs.Common.{◌∙◌, ap, sym, subst}
 use Rattle.nor_base.specs.Chip.{begins4}
-use Rattle.norprog_list.specs.Listed.{IsKnown, RefusesText}
+use Rattle.norprog_list.specs.Listed.{RefusesText}
 use Rattle.norprog_list.proofs.ListedLemmas.{stopped, no_chip}
 use Rattle.norprog_list.proofs.listing.list_script.Goals as goal
 
@@ -11,9 +11,8 @@ returns-in_err-meaning-clause-refused g c =
 
 pub returns-in-Err-clause-refused : goal.returns-in-Err-clause-refused
 returns-in-Err-clause-refused g c =
-    let known : IsKnown c.args.inputs.now c.in_ok-meaning.meaning = record { consistent = c.in_ok-meaning.ensures.consistent; chip = c.in_ok-meaning.ensures.chip } in
     let lists = rw c.in-Err.is at c.list_steps.ensures.lists in
     subst (RefusesText c.args.inputs.now (g.R.ByteIn.ahead c.args.script.now) (g.R.ByteIn.ahead c.list_steps.new.script) (g.W.ByteOut.held c.args.out.now) (g.W.ByteOut.held c.list_steps.new.out))
     (sym c.refusal_of.ensures)
-    (stopped c.args.inputs.now c.in_ok-meaning.meaning known c.begins4.result (c.begins4.ensures ∙ ap (begins4 c.in_ok-meaning.meaning) c.in_ok-meaning.ensures.start)
+    (stopped c.args.inputs.now c.in_ok-meaning.meaning c.in_ok-meaning.ensures.known c.begins4.result (c.begins4.ensures ∙ ap (begins4 c.in_ok-meaning.meaning) c.in_ok-meaning.ensures.start)
     (g.R.ByteIn.ahead c.args.script.now) (g.R.ByteIn.ahead c.list_steps.new.script) (g.W.ByteOut.held c.args.out.now) (g.W.ByteOut.held c.list_steps.new.out) c.in-Err.stop lists)

@@ -1,7 +1,7 @@
 -- The script is read twice, and the content between.
 use Rattle.std.proofs.Common.{◌≡◌, refl, sym, ◌∙◌, ap, subst, arith}
 use Rattle.norprog_run.specs.declared.kind.Kind.{Kind}
-use Rattle.norprog_run.specs.Refusals.{StopsReading}
+use Rattle.norprog_words.specs.Content.{StopsReading}
 use Rattle.norprog_run.specs.Streams.{RefusesStreams}
 use Rattle.norprog_run.proofs.ReadLemmas.{less_read}
 use Rattle.norprog_run.proofs.StreamLemmas.{first_refused, content_refused, plays_all, refuses_again, handed_on}
