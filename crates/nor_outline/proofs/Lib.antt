@@ -4,3 +4,4 @@ mod TextLemmas
 mod WalkLemmas
 mod Reached
 mod TellLemmas
+pub mod PlanText

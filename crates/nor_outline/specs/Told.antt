@@ -11,6 +11,7 @@ use Rattle.nor_outline.specs.Outline.{unit_lines}
 use Rattle.nor_pages.specs.Runs.{unit_start}
 use Rattle.nor_steps.specs.declared.fault.StepsFault.{StepsFault}
 use Rattle.nor_steps.specs.declared.fault.StepsFault.TheVariants as fault
+use Rattle.nor_steps.specs.Texts.{UnitText}
 use Rattle.nor_steps.specs.Units.{work_unit, HasBytes}
 use Rattle.nor_steps.specs.Work.{stretch_units}
 use Rattle.nor_work.specs.Least.{ErasesBlocks}
@@ -83,3 +84,7 @@ pub record IsWindowPlan (m : Parameters) (by : Strategy) (at : ℕ) (have want :
   pub window : IsWindow m by at (length have)
   pub lengths : length have ≡ length want
   pub plan : IsPlan m by at have want units
+
+-- the lines of a unit as a text of the work
+abbrev pub unit_outline : UnitText
+unit_outline w content target u = unit_lines w.streaming.meaning w.streaming.by content target u

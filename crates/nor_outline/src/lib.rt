@@ -2,13 +2,16 @@
 //! format.
 //!
 //! [`write_unit`] writes the lines of one unit. It takes no memory. [`write_window`] takes what a window of a chip holds and
-//! what it must hold, plans its units and writes their lines; it holds the plan of the window and the runs of one unit.
+//! what it must hold, plans its units and writes their lines; it holds the plan of the window and the runs of one unit. A
+//! [`PlanWriter`] does so window after window, and counts the steps of the work.
 #![tactic(auto)]
 
 mod opcode;
+mod plan;
 mod reasons;
 mod window;
 mod writer;
 
+pub use plan::PlanWriter;
 pub use window::write_window;
 pub use writer::write_unit;

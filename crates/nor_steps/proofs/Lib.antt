@@ -5,3 +5,4 @@ mod TallyLemmas
 mod UnitLemmas
 pub mod Placed
 pub mod WindowLemmas
+pub mod TextLemmas

@@ -4,3 +4,4 @@ pub mod Tally
 pub mod Writing
 pub mod Units
 pub mod Work
+pub mod Texts

@@ -9,10 +9,12 @@ mod lines;
 mod tally;
 mod unit;
 mod window;
+mod work;
 mod writer;
 
 pub use fault::StepsFault;
 pub use lines::{InstrOut, Unwritten};
 pub use tally::Tally;
 pub use window::bounds;
+pub use work::WorkWriter;
 pub use writer::StepWriter;

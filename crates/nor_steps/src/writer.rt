@@ -48,6 +48,20 @@ impl<'m> StepWriter<'m> {
         }
     }
 
+    /// The chip's meaning.
+    pub fn meaning(&self) -> &'m Meaning
+        ensures { result.now ≡ self.now.streaming.meaning }
+    {
+        self.lowerer.meaning()
+    }
+
+    /// How the chip is driven.
+    pub fn strategy(&self) -> Strategy
+        ensures { result ≡ self.now.streaming.by }
+    {
+        self.lowerer.strategy()
+    }
+
     /// Writes the steps of operations, and answers how many they are.
     pub(crate) fn write_ops<W: InstrOut>(
         &mut self,

@@ -1,0 +1,77 @@
+//! The lines of a plan, and how much its steps are.
+
+ghost use Rattle.std.specs.Prelude.{◌≡◌, ◌≤◌, length, IfOk, IfErr};
+ghost use Rattle.nor_outline.specs.Told.{unit_outline};
+ghost use Rattle.nor_select.specs.Streamed.{last};
+ghost use Rattle.nor_steps.specs.declared.fault.StepsFault.TheVariants.{Memory};
+ghost use Rattle.nor_steps.specs.Writing.{fresh};
+
+use crate::window::write_window;
+use nor_base::{ByteOut, Meaning, Start, Strategy};
+use nor_steps::{StepWriter, StepsFault, Tally, Unwritten, WorkWriter};
+use std::alloc::Global;
+use std::marker::Model;
+
+/// Writes the lines that tell the plan of the work, window after window. Its steps are counted and not written.
+#[derive(Drop, Debug)]
+pub struct PlanWriter<'m> {
+    steps: StepWriter<'m>,
+}
+
+impl<'m> Model for PlanWriter<'m> {
+    ghost use Rattle.nor_steps.specs.Writing.{Writing};
+
+    ghost Value = { Writing };
+
+    ghost view = { λ w. w.steps };
+}
+
+impl<'m> PlanWriter<'m> {
+    /// One for a chip, the start that it has and the strategy by which it is driven. `verify` asks for a read of what was
+    /// written. It takes no memory.
+    pub fn new(
+        alloc: Global,
+        meaning: &'m Meaning,
+        start: &Start,
+        strategy: Strategy,
+        verify: bool,
+    ) -> PlanWriter<'m>
+        ensures { result ≡ fresh meaning.now start.now strategy verify }
+    {
+        PlanWriter {
+            steps: StepWriter::new(alloc, meaning, start, strategy, verify),
+        }
+    }
+
+    /// How many steps leave the mode that the work entered.
+    ///
+    /// `Memory` where a growth is refused.
+    pub fn close(self, alloc: Global) -> Result<u64, StepsFault>
+        ensures steps { IfOk result (λ steps. steps ≡ length (last self.entry.streaming)) }
+        ensures few { IfOk result (λ steps. steps ≤ 3) }
+        ensures why { IfErr result (λ why. why ≡ Memory) }
+    {
+        self.steps.close(alloc, &mut Unwritten)
+    }
+}
+
+impl<'m> WorkWriter for PlanWriter<'m> {
+    ghost writing = { λ w. w };
+
+    ghost unit_text = { λ _. unit_outline };
+
+    fn write_window<W: ByteOut>(
+        &mut self,
+        alloc: Global,
+        at: u32,
+        have: &[u8],
+        want: &[u8],
+        out: &mut W,
+    ) -> Result<Tally, StepsFault> {
+        let meaning = self.steps.meaning();
+        let strategy = self.steps.strategy();
+        let told = self.steps.more(alloc, at, have, want, &mut Unwritten)?;
+        write_window(alloc, meaning, strategy, at, have, want, out)?;
+        Ok(told)
+    }
+}

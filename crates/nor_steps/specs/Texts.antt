@@ -1,0 +1,75 @@
+-- What is written of the work of a stretch of a chip, unit after unit (this project's).
+use Rattle.std.specs.Prelude.{◌≡◌, ◌⊎◌, ℕ, List, [], ◌∷◌, ◌++◌, length, Option}
+use Rattle.std.specs.Io.KnownBytes.{Appends}
+use Rattle.nor_base.specs.Operations.{Op, unit_ops}
+use Rattle.nor_base.specs.Units.{WorkUnit}
+use Rattle.nor_geometry.specs.Plan.{HasPart, IsFault}
+use Rattle.nor_steps.specs.declared.fault.StepsFault.{StepsFault}
+use Rattle.nor_steps.specs.declared.fault.StepsFault.TheVariants as fault
+use Rattle.nor_steps.specs.declared.tally.Tally.{Tally}
+use Rattle.nor_steps.specs.Tally.{tally_of, IsFew}
+use Rattle.nor_steps.specs.Work.{stretch_units, IsSound, IsWork}
+use Rattle.nor_steps.specs.Writing.{Writing, next_lines, written_on}
+
+-- the text of a unit of the work on a content and its target, by how far the work is before it
+abbrev pub UnitText : Type 0
+UnitText = Writing → List ℕ → List ℕ → WorkUnit → List ℕ
+
+-- so it is of the steps: the lines of those of its operations
+abbrev pub unit_steps : UnitText
+unit_steps w content target u = next_lines w (unit_ops w.streaming.meaning w.verify target u)
+
+-- the text of units one after another
+abbrev pub units_text : UnitText → Writing → List ℕ → List ℕ → List WorkUnit → List ℕ
+units_text text w content target [] = []
+units_text text w content target (u ∷ us) =
+    text w content target u ++ units_text text (written_on w (unit_ops w.streaming.meaning w.verify target u)) content target us
+
+-- of those that start in a stretch of so many bytes from an address on
+abbrev pub stretch_text : UnitText → Writing → ℕ → ℕ → List ℕ → List ℕ → List ℕ
+stretch_text text w at count content target = units_text text w content target (stretch_units w.streaming.meaning w.streaming.by at count content target)
+
+-- bytes are the text of a stretch, of which no address is at fault
+pub record IsTextOf (text : UnitText) (w : Writing) (at count : ℕ) (content target these : List ℕ) : Type 0 where
+  pub are : stretch_text text w at count content target ≡ these
+  pub sound : IsSound w at count content target
+
+-- so it is whatever the rest of the chip holds and must hold
+abbrev pub IsText : UnitText → Writing → ℕ → List ℕ → List ℕ → List ℕ → Type 0
+IsText text w at have want these = (content target : List ℕ) → HasPart content have at → HasPart target want at → IsTextOf text w at (length have) content target these
+
+-- bytes with which the text of a stretch begins, of which no address is at fault
+pub record IsBegunTextOf (text : UnitText) (w : Writing) (at count : ℕ) (content target front : List ℕ) : Type 0 where
+  pub rest : List ℕ
+  pub whole : stretch_text text w at count content target ≡ front ++ rest
+  pub sound : IsSound w at count content target
+
+abbrev pub IsBegunText : UnitText → Writing → ℕ → List ℕ → List ℕ → List ℕ → Type 0
+IsBegunText text w at have want front = (content target : List ℕ) → HasPart content have at → HasPart target want at → IsBegunTextOf text w at (length have) content target front
+
+-- how much the steps of a stretch are is told
+pub record IsTold (w v : Writing) (at : ℕ) (have want : List ℕ) (told : Tally) : Type 0 where
+  pub ops : List Op
+  pub work : IsWork w at have want ops
+  pub state : v ≡ written_on w ops
+  pub its_tally : told ≡ tally_of w.streaming ops
+  pub few : IsFew (length have) told
+
+-- it is, and the text of the stretch was written
+pub record WroteText (text : UnitText) (w v : Writing) (before after : Option (List ℕ)) (at : ℕ) (have want : List ℕ) (told : Tally) : Type 0 where
+  pub steps : IsTold w v at have want told
+  pub these : List ℕ
+  pub is : IsText text w at have want these
+  pub put : Appends before after these
+
+-- some of the text was, from its beginning on
+pub record HasText (text : UnitText) (w : Writing) (before after : Option (List ℕ)) (at : ℕ) (have want : List ℕ) : Type 0 where
+  pub front : List ℕ
+  pub begun : IsBegunText text w at have want front
+  pub put : Appends before after front
+
+-- why it was not: an address is at fault, and nothing was written; or the writer failed, or a growth was refused
+abbrev pub StopsText : UnitText → Writing → Option (List ℕ) → Option (List ℕ) → ℕ → List ℕ → List ℕ → StepsFault → Type 0
+StopsText text w before after at have want (fault.Plan why) = IsFault w.streaming.meaning w.streaming.by at have want why × Appends before after []
+StopsText text w before after at have want fault.Write = HasText text w before after at have want
+StopsText text w before after at have want fault.Memory = HasText text w before after at have want ⊎ Appends before after []
