@@ -40,7 +40,7 @@ use Rattle.norprog.specs.declared.report.Report.{Report}
 use Rattle.nor_job.specs.Wanted.{wanted}
 use Rattle.norprog.specs.Build.{report_of, AreLargest, RunsAsPlanned, IsBuilt, IsLate, WorkCause, IsFrontOf, StopsWork}
 use Rattle.nor_job.specs.Filled.{target_from}
-use Rattle.norprog.specs.Windows.{CutCause, IsScripted, IsCutScript, job_report}
+use Rattle.norprog.specs.Windows.{CutCause, IsWorked, IsScripted, IsCutScript, job_report}
 use Rattle.norprog.proofs.CountLemmas.{erases_told, erased_told, programs_told}
 use Rattle.norprog.proofs.FillLemmas.{filled, filled_is}
 use Rattle.norprog.proofs.ImageLemmas.{image_bytes}
@@ -137,9 +137,9 @@ report_same by by' s s' e e' b b' p p' i i' first steps erases erased programs i
     ∙ ap (λ n. one by' s' e' n p i) erased ∙ ap (λ n. one by' s' e' b' n i) programs ∙ ap (λ n. one by' s' e' b' p' n) ignored
 
 -- the work of a whole content
-pub workable_is : (job : Job) (before after : Ahead) (x y : Option (List ℕ)) (told : Tally) → IsAccepted job.meaning → (done : IsScripted job before after x y told)
+pub workable_is : (job : Job) (before after : Ahead) (told : Tally) → IsAccepted job.meaning → (done : IsWorked job before after told)
     → IsWorkable job.meaning job.start done.part (target_from job 0 done.part)
-workable_is job before after x y told accepted done = record {
+workable_is job before after told accepted done = record {
   accepted = accepted;
   have_size = done.upto;
   want_size = length-target job 0 done.part ∙ done.upto;
@@ -169,13 +169,14 @@ pub built_is : (t : Task) (len : ℕ) (job : Job) (before after : Ahead) (x y : 
     → IsScripted job before after x y told → IsBuilt t len before after x y (job_report job told)
 built_is t len job before after x y told laws accepted is done =
     let m = job.meaning in
-    let part = done.part in
+    let work = done.work in
+    let part = work.part in
     let own = target_from job 0 part in
     let goal = wanted t job.image is.regions part in
     let these = planned m job.start job.verify part own in
     let steps = steps_of these in
     let same : own ≡ goal = target_is t len job is part in
-    let w : IsWorkable m job.start part own = workable_is job before after x y told accepted done in
+    let w : IsWorkable m job.start part own = workable_is job before after told accepted work in
     let spelled = spelled_is laws.spelled laws.has m job.start job.verify part own w in
     let w' : IsWorkable m (start_of t) part goal =
     subst (IsWorkable m (start_of t) part) same (subst (λ (s : Start). IsWorkable m s part own) is.start w) in
@@ -189,8 +190,8 @@ built_is t len job before after x y told laws accepted is done =
         m = m;
         accepted = is.accepted;
         content = part;
-        whole = done.upto ∙ sym is.accepted.size;
-        given = done.given;
+        whole = work.upto ∙ sym is.accepted.size;
+        given = work.given;
         text = _;
         put = done.put;
         steps = steps;
@@ -200,10 +201,10 @@ built_is t len job before after x y told laws accepted is done =
       work = record {
         workable = w';
         planned = are;
-        runs = runs_so laws t job.image is.regions m part goal steps (job_report job told) w' are (report_is t len job is part told done.its_tally);
+        runs = runs_so laws t job.image is.regions m part goal steps (job_report job told) w' are (report_is t len job is part told work.its_tally);
         unverified = λ asked. laws.unverified m (start_of t) part goal steps (subst (λ v. ArePlanned m (start_of t) v part goal steps) asked are);
         largest = largest_so laws m (strategy m (start_of t)) (is_due m part goal) accepted;
-        told = report_is t len job is part told done.its_tally;
+        told = report_is t len job is part told work.its_tally;
       };
     }
 

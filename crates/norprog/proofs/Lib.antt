@@ -3,8 +3,7 @@ pub mod ReportLemmas
 pub mod TargetLemmas
 pub mod StretchLemmas
 pub mod PlaceLemmas
-pub mod OutlineLemmas
-pub mod KindLemmas
+pub mod JoinLemmas
 pub mod WindowLemmas
 pub mod TextLemmas
 pub mod ScriptLemmas

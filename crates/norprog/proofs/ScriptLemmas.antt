@@ -17,9 +17,11 @@ use Rattle.nor_steps.specs.declared.tally.Tally.{Tally}
 use Rattle.nor_steps.specs.Faults.{IsOfWriting}
 use Rattle.nor_steps.specs.Tally.{tally_with}
 use Rattle.nor_steps.specs.Writing.{Writing, Begins, lines_of, next_lines}
-use Rattle.norprog.specs.declared.windows.Text.TheVariants.{Steps}
+use Rattle.nor_steps.specs.Texts.{UnitText, unit_steps}
+use Rattle.nor_steps.specs.Work.{stretch_units}
+use Rattle.nor_steps.proofs.TextLemmas.{units_steps}
 use Rattle.nor_job.specs.Filled.{target_from}
-use Rattle.norprog.specs.Windows.{first_writing, lifted_steps, IsAllDone, IsKnown, IsCut, IsScripted, IsScriptFront, IsCutScript}
+use Rattle.norprog.specs.Windows.{first_writing, lifted_steps, IsAllDone, IsKnown, IsCut, IsWorked, IsScripted, IsScriptFront, IsCutScript}
 use Rattle.norprog.proofs.PlaceLemmas.{some_page}
 use Rattle.norprog.proofs.TargetLemmas.{part_whole}
 use Rattle.norprog.proofs.TextLemmas.{closing_lines, job_ops, job_planned, job_text, body, planned_parts, text_is, header_front, known_front, whole_is, closing_front, end_front}
@@ -37,7 +39,7 @@ header_cut job w a x y size cut =
 
 -- in the windows
 pub windows_cut : (job : Job) (a b : Ahead) (x y z : Option (List ℕ)) (why : BuildFault) → IsAccepted job.meaning → Appends x y header
-    → IsCut (IsKnown Steps job) job a b y z why → IsCutScript job a b x z why
+    → IsCut (IsKnown unit_steps job) job a b y z why → IsCutScript job a b x z why
 windows_cut job a b x y z why accepted begun cut = record {
   part = cut.part;
   within = cut.within;
@@ -53,30 +55,38 @@ windows_cut job a b x y z why accepted begun cut = record {
 }
 
 -- the lines of the windows
-steps_put : (job : Job) (v : Writing) (a b : Ahead) (x y : Option (List ℕ)) (told : Tally) → (done : IsAllDone Steps job v a b x y told)
+steps_put : (job : Job) (v : Writing) (a b : Ahead) (x y : Option (List ℕ)) (told : Tally) → (done : IsAllDone unit_steps job v a b x y told)
     → Appends x y (next_lines (first_writing job) done.wrote.steps.ops)
-steps_put job v a b x y told done = subst (Appends x y) done.wrote.is done.wrote.put
+steps_put job v a b x y told done =
+    let w = first_writing job in
+    let part = done.part in
+    let goal = target_from job 0 part in
+    let text = done.wrote.is part goal (part_whole part) (part_whole goal) in
+    let work = done.wrote.steps.work part goal (part_whole part) (part_whole goal) in
+    subst (Appends x y)
+    (sym text.are ∙ units_steps w part goal (stretch_units w.streaming.meaning w.streaming.by 0 (length part) part goal) ∙ ap (next_lines w) work.are)
+    done.wrote.put
 
 pub closing_cut : (job : Job) (v : Writing) (w : ℕ) (a b : Ahead) (x y z u : Option (List ℕ)) (told : Tally) (why : StepsFault) → IsWindowSize job.meaning w
-    → Appends x y header → IsAllDone Steps job v a b y z told → Begins z u (lines_of (last v.streaming)) → IsOfWriting why → IsCutScript job a b x u (lifted_steps why)
+    → Appends x y header → IsAllDone unit_steps job v a b y z told → Begins z u (lines_of (last v.streaming)) → IsOfWriting why → IsCutScript job a b x u (lifted_steps why)
 closing_cut job v w a b x y z u told why size begun done close is =
     let its = done.wrote.steps in
     let lines : closing_lines (first_writing job) its.ops ≡ close.front ++ close.rest = ap (λ (t : Writing). lines_of (last t.streaming)) (sym its.state) ∙ close.whole in
-    cut_after (λ known part bytes why. IsScriptFront job known part bytes) Steps job v w a b y z x u told (header ++ (next_lines (first_writing job) its.ops ++ close.front)) why size done is
-    (closing_front job done.part close.front close.rest its.ops (whole_is Steps job v a b y z told done) lines)
+    cut_after (λ known part bytes why. IsScriptFront job known part bytes) unit_steps job v w a b y z x u told (header ++ (next_lines (first_writing job) its.ops ++ close.front)) why size done is
+    (closing_front job done.part close.front close.rest its.ops (whole_is unit_steps job v a b y z told done) lines)
     (Appends-append x y u header _ begun (Appends-append y z u _ close.front (steps_put job v a b y z told done) close.put))
 
 -- all that stands before the end line
-body_put : (job : Job) (v : Writing) (a b : Ahead) (x y z u : Option (List ℕ)) (told : Tally) → Appends x y header → (done : IsAllDone Steps job v a b y z told)
+body_put : (job : Job) (v : Writing) (a b : Ahead) (x y z u : Option (List ℕ)) (told : Tally) → Appends x y header → (done : IsAllDone unit_steps job v a b y z told)
     → Appends z u (lines_of (last v.streaming)) → Appends x u (body job done.wrote.steps.ops)
 body_put job v a b x y z u told begun done close =
     Appends-append x y u header _ begun
     (Appends-append y z u _ _ (steps_put job v a b y z told done) (subst (λ (t : Writing). Appends z u (lines_of (last t.streaming))) done.wrote.steps.state close))
 
-steps_are : (job : Job) (v : Writing) (a b : Ahead) (y z : Option (List ℕ)) (told : Tally) (more n : ℕ) → (done : IsAllDone Steps job v a b y z told)
+steps_are : (unit_text : UnitText) (job : Job) (v : Writing) (a b : Ahead) (y z : Option (List ℕ)) (told : Tally) (more n : ℕ) → (done : IsAllDone unit_text job v a b y z told)
     → more ≡ length (last v.streaming) → n ≡ told.steps + more
     → n ≡ length (next (first_writing job).streaming done.wrote.steps.ops ++ last (onward (first_writing job).streaming done.wrote.steps.ops))
-steps_are job v a b y z told more n done count sum =
+steps_are unit_text job v a b y z told more n done count sum =
     let s = (first_writing job).streaming in
     let its = done.wrote.steps in
     let first : told.steps ≡ length (next s its.ops) = ap (λ (t : Tally). t.steps) its.its_tally in
@@ -84,12 +94,12 @@ steps_are job v a b y z told more n done count sum =
     omega (arith, sum, first, second, length-append (next s its.ops) (last (onward s its.ops)))
 
 pub end_cut : (job : Job) (v : Writing) (w : ℕ) (a b : Ahead) (x y z u t : Option (List ℕ)) (told : Tally) (more n : ℕ) → IsWindowSize job.meaning w
-    → Appends x y header → IsAllDone Steps job v a b y z told → Appends z u (lines_of (last v.streaming)) → more ≡ length (last v.streaming)
+    → Appends x y header → IsAllDone unit_steps job v a b y z told → Appends z u (lines_of (last v.streaming)) → more ≡ length (last v.streaming)
     → n ≡ told.steps + more → Cuts u t (end_line n) → IsCutScript job a b x t fault.Write
 end_cut job v w a b x y z u t told more n size begun done close count sum cut =
     let ops = done.wrote.steps.ops in
-    cut_after (λ known part bytes why. IsScriptFront job known part bytes) Steps job v w a b y z x t told (body job ops ++ take cut.0 (end_line n)) steps.Write size done tt
-    (end_front job done.part ops n cut.0 (whole_is Steps job v a b y z told done) (steps_are job v a b y z told more n done count sum) cut.1)
+    cut_after (λ known part bytes why. IsScriptFront job known part bytes) unit_steps job v w a b y z x t told (body job ops ++ take cut.0 (end_line n)) steps.Write size done tt
+    (end_front job done.part ops n cut.0 (whole_is unit_steps job v a b y z told done) (steps_are unit_steps job v a b y z told more n done count sum) cut.1)
     (Appends-append x u t (body job ops) _ (body_put job v a b x y z u told begun done close) cut.2)
 
 abbrev tally : ℕ → ℕ → ℕ → ℕ → Tally
@@ -100,34 +110,47 @@ told_all : (told : Tally) (ops these : List Op) (k n : ℕ) → told ≡ tally_w
 told_all told ops these k n is same m count =
     ap (λ (t : Tally). tally n t.erases t.erased t.programs) is ∙ ap (λ i. tally_with i ops) count ∙ ap (tally_with m) (sym same)
 
--- the whole script, of the part that was read
-pub whole_with : (job : Job) (v : Writing) (a b : Ahead) (x y z u t : Option (List ℕ)) (told : Tally) (more : ℕ)
-    → Appends x y header → (done : IsAllDone Steps job v a b y z told) → Appends z u (lines_of (last v.streaming)) → more ≡ length (last v.streaming)
-    → Appends u t (end_line (told.steps + more))
-    → (whole : IsScripted job a b x t (record { steps = told.steps + more; erases = told.erases; erased = told.erased; programs = told.programs })) × (whole.part ≡ done.part)
-whole_with job v a b x y z u t told more begun done close count ended =
+-- the work on the part that was read, whatever is written of it
+pub whole_work : (unit_text : UnitText) (job : Job) (v : Writing) (a b : Ahead) (y z : Option (List ℕ)) (told : Tally) (more : ℕ)
+    → (done : IsAllDone unit_text job v a b y z told) → more ≡ length (last v.streaming)
+    → (whole : IsWorked job a b (record { steps = told.steps + more; erases = told.erases; erased = told.erased; programs = told.programs })) × (whole.part ≡ done.part)
+whole_work unit_text job v a b y z told more done count =
     let n = told.steps + more in
     let part = done.part in
     let ops = done.wrote.steps.ops in
     let goal = target_from job 0 part in
-    let whole = whole_is Steps job v a b y z told done in
+    let whole = whole_is unit_text job v a b y z told done in
     let are : job_ops job part goal ≡ ops = whole.are part goal done.size (part_whole part) (part_whole goal) in
-    let steps : n ≡ length (job_planned job part goal) = steps_are job v a b y z told more n done count refl ∙ sym (ap length (planned_parts job part goal ops are)) in
-    let text : body job ops ++ end_line n ≡ job_text job part goal = ap (λ i. body job ops ++ end_line i) steps ∙ sym (text_is job part goal ops are) in (
+    let steps : n ≡ length (job_planned job part goal) =
+    steps_are unit_text job v a b y z told more n done count refl ∙ sym (ap length (planned_parts job part goal ops are)) in (
       record {
         part = part;
         upto = done.size;
         given = done.given;
         bytes = done.bytes;
         sound = λ i inside. whole.sound part goal (part_whole part) (part_whole goal) i (omega arith) (omega (arith, inside, done.size));
-        put = subst (Appends x t) text (Appends-append x u t (body job ops) (end_line n) (body_put job v a b x y z u told begun done close) ended);
         its_tally = told_all told ops (job_ops job part goal) _ n done.wrote.steps.its_tally are _ steps;
       },
       refl,
     )
 
+-- the whole script
 pub whole_script : (job : Job) (v : Writing) (a b : Ahead) (x y z u t : Option (List ℕ)) (told : Tally) (more : ℕ)
-    → Appends x y header → IsAllDone Steps job v a b y z told → Appends z u (lines_of (last v.streaming)) → more ≡ length (last v.streaming)
+    → Appends x y header → IsAllDone unit_steps job v a b y z told → Appends z u (lines_of (last v.streaming)) → more ≡ length (last v.streaming)
     → Appends u t (end_line (told.steps + more))
     → IsScripted job a b x t (record { steps = told.steps + more; erases = told.erases; erased = told.erased; programs = told.programs })
-whole_script job v a b x y z u t told more begun done close count ended = (whole_with job v a b x y z u t told more begun done close count ended).0
+whole_script job v a b x y z u t told more begun done close count ended =
+    let n = told.steps + more in
+    let part = done.part in
+    let ops = done.wrote.steps.ops in
+    let goal = target_from job 0 part in
+    let are : job_ops job part goal ≡ ops = (whole_is unit_steps job v a b y z told done).are part goal done.size (part_whole part) (part_whole goal) in
+    let steps : n ≡ length (job_planned job part goal) =
+    steps_are unit_steps job v a b y z told more n done count refl ∙ sym (ap length (planned_parts job part goal ops are)) in
+    let text : body job ops ++ end_line n ≡ job_text job part goal = ap (λ i. body job ops ++ end_line i) steps ∙ sym (text_is job part goal ops are) in
+    let work = whole_work unit_steps job v a b y z told more done count in
+    record {
+      work = work.0;
+      put = subst (λ (part : List ℕ). Appends x t (job_text job part (target_from job 0 part))) (sym work.1)
+          (subst (Appends x t) text (Appends-append x u t (body job ops) (end_line n) (body_put job v a b x y z u told begun done close) ended));
+    }

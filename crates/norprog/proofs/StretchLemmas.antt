@@ -1,5 +1,5 @@
 -- The work of stretches side by side.
-use Rattle.std.proofs.Common.{◌≡◌, ℕ, zero, suc, ◌+◌, ◌*◌, ◌/◌, ◌%◌, ◌<◌, ◌≤◌, false, List, [], ◌∷◌, ◌++◌, length, sym, ◌∙◌, ap, subst, arith, inl, inr, length-append, append_assoc, append-nil}
+use Rattle.std.proofs.Common.{◌≡◌, ℕ, zero, suc, ◌+◌, ◌*◌, ◌/◌, ◌%◌, ◌<◌, ◌≤◌, false, List, [], ◌∷◌, ◌++◌, length, sym, ◌∙◌, ap, subst, arith, inl, inr, length-append}
 use Rattle.std.specs.Prelude.{flat_map}
 use Rattle.std.proofs.Math.Nat.{div-add-mod', mul-add-div_right, zero-div}
 use Rattle.std.proofs.lemmas.Bool.{cases_lt}
@@ -13,9 +13,8 @@ use Rattle.nor_geometry.specs.declared.fault.PlanFault.{PlanFault}
 use Rattle.nor_geometry.specs.declared.fault.PlanFault.TheVariants as plan
 use Rattle.nor_geometry.specs.Plan.{HasPart, IsLowestAt, IsFault, IsFaultOf}
 use Rattle.nor_outline.specs.Told.{IsFaultless}
-use Rattle.nor_steps.specs.Work.{stretch_units, stretch_ops, IsWork, IsWorkOf, IsBegun, IsBegunOf}
-use Rattle.nor_steps.specs.Writing.{Writing, next_lines, written_on}
-use Rattle.nor_steps.proofs.OpLemmas.{lines_join}
+use Rattle.nor_steps.specs.Work.{stretch_units, stretch_ops, IsWork, IsWorkOf}
+use Rattle.nor_steps.specs.Writing.{Writing, written_on}
 use Rattle.nor_work.proofs.Erased.Needed.{units_join}
 use Rattle.norprog.proofs.TargetLemmas.{part_left, part_right}
 
@@ -79,31 +78,6 @@ work_join w v at xs ys txs tys p q some whole upto upto' state first second cont
     subst (λ n. IsWorkOf w 0 n content target (p ++ q)) count (record {
       are = stretch_join w at (length ys) content target some whole ∙ ap (λ ops. ops ++ stretch_ops w at (length ys) content target) left.are
           ∙ ap (λ ops. p ++ ops) right.are;
-      sound = sound_join w.streaming.meaning w.streaming.by at (length ys) content target left.sound right.sound;
-    })
-
--- all of one stretch is a beginning of it
-pub begun_done : (w : Writing) (at : ℕ) (have want : List ℕ) (p : List Op) → IsWork w at have want p → IsBegun w at have want (next_lines w p)
-begun_done w at have want p work content target has has' =
-    let is = work content target has has' in
-    record { rest = []; whole = ap (next_lines w) is.are ∙ sym (append-nil (next_lines w p)); sound = is.sound }
-
--- one stretch, and the beginning of another
-pub begun_join : (w v : Writing) (at : ℕ) (xs ys txs tys : List ℕ) (p : List Op) (front : List ℕ) → 0 < w.streaming.meaning.page → at % w.streaming.meaning.page ≡ 0
-    → length xs ≡ at → length txs ≡ at → v ≡ written_on w p → IsWork w 0 xs txs p → IsBegun v at ys tys front
-    → IsBegun w 0 (xs ++ ys) (txs ++ tys) (next_lines w p ++ front)
-begun_join w v at xs ys txs tys p front some whole upto upto' state first second content target has has' =
-    let left : IsWorkOf w 0 at content target p =
-    subst (λ n. IsWorkOf w 0 n content target p) upto (first content target (part_left content xs ys has) (part_left target txs tys has')) in
-    let right : IsBegunOf (written_on w p) at (length ys) content target front =
-    subst (λ (u : Writing). IsBegunOf u at (length ys) content target front) state
-    (second content target (part_right content xs ys at upto has) (part_right target txs tys at upto' has')) in
-    let count : at + length ys ≡ length (xs ++ ys) = omega (arith, length-append xs ys, upto) in
-    let ops = stretch_ops w at (length ys) content target in
-    subst (λ n. IsBegunOf w 0 n content target (next_lines w p ++ front)) count (record {
-      rest = right.rest;
-      whole = ap (next_lines w) (stretch_join w at (length ys) content target some whole ∙ ap (λ these. these ++ ops) left.are)
-          ∙ lines_join w p ops ∙ ap (λ text. next_lines w p ++ text) right.whole ∙ sym (append_assoc (next_lines w p) front right.rest);
       sound = sound_join w.streaming.meaning w.streaming.by at (length ys) content target left.sound right.sound;
     })
 

@@ -17,15 +17,15 @@ use Rattle.nor_job.specs.declared.job.Job.{Job}
 use Rattle.nor_select.specs.Streamed.{Streaming, next, last, onward}
 use Rattle.nor_steps.specs.declared.tally.Tally.{Tally}
 use Rattle.nor_steps.specs.Lines.{step_of, steps_of}
+use Rattle.nor_steps.specs.Texts.{UnitText, unit_steps}
 use Rattle.nor_steps.specs.Work.{stretch_ops, IsSound, IsBegunOf}
 use Rattle.nor_steps.specs.Writing.{Writing, lines_of, next_lines, written_on}
 use Rattle.nor_steps.proofs.LineLemmas.{lines_append}
 use Rattle.nor_steps.proofs.OpLemmas.{lines_join}
-use Rattle.norprog.specs.declared.windows.Text.{Text}
-use Rattle.norprog.specs.declared.windows.Text.TheVariants.{Steps}
 use Rattle.nor_job.specs.Filled.{target_from}
 use Rattle.norprog.specs.Windows.{first_writing, IsAllDone, IsKnown, IsTextFront, IsScriptFront}
 use Rattle.nor_job.specs.Written.{AreBytes}
+use Rattle.norprog.proofs.JoinLemmas.{steps_begun}
 use Rattle.norprog.proofs.StretchLemmas.{stretch_join}
 
 abbrev streaming : Parameters → Start → Strategy → Streaming
@@ -123,7 +123,7 @@ join_texts xs ys front rest later close =
 
 -- windows that were begun
 pub known_front : (job : Job) (known : ℕ) (part front : List ℕ) (why : BuildFault) → 0 < job.meaning.page → known ≤ length part → length part ≤ job.meaning.size
-    → IsKnown Steps job known part front why → IsScriptFront job known part (header ++ front)
+    → IsKnown unit_steps job known part front why → IsScriptFront job known part (header ++ front)
 known_front job known part front why some within fits is =
     let w = first_writing job in
     let took : length (take known part) ≡ known = length-take-le known part within in
@@ -131,7 +131,7 @@ known_front job known part front why some within fits is =
       within = within;
       small = is.bytes;
       front = λ content target size has has'.
-          let begun : IsBegunOf w 0 known content target front = subst (λ n. IsBegunOf w 0 n content target front) took (is.begun content target has has') in
+          let begun : IsBegunOf w 0 known content target front = subst (λ n. IsBegunOf w 0 n content target front) took (steps_begun w _ _ front why is.begun content target has has') in
           let p = stretch_ops w 0 known content target in
           let q = stretch_ops w known (job.meaning.size - known) content target in
           let all : known + (job.meaning.size - known) ≡ length content = omega (arith, within, fits, size) in
@@ -142,7 +142,7 @@ known_front job known part front why some within fits is =
           let lines : next_lines w (p ++ q) ≡ (front ++ begun.rest) ++ later = lines_join w p q ∙ ap (λ text. text ++ later) begun.whole in
           front_body job content target (header ++ front) (begun.rest ++ (later ++ close))
           (ap (body job) ops ∙ ap (λ text. header ++ (text ++ close)) lines ∙ join_texts header [] front begun.rest later close);
-      sound = λ content target has has'. subst (λ n. IsSound w 0 n content target) took (is.begun content target has has').sound;
+      sound = λ content target has has'. subst (λ n. IsSound w 0 n content target) took (steps_begun w _ _ front why is.begun content target has has').sound;
     }
 
 -- all windows were written
@@ -152,9 +152,9 @@ pub record IsWhole (job : Job) (part : List ℕ) (ops : List Op) : Type 0 where
   pub are : (content target : List ℕ) → length content ≡ job.meaning.size → HasPart content part 0 → HasPart target (target_from job 0 part) 0 → job_ops job content target ≡ ops
   pub sound : (content target : List ℕ) → HasPart content part 0 → HasPart target (target_from job 0 part) 0 → IsSound (first_writing job) 0 (length part) content target
 
-pub whole_is : (kind : Text) (job : Job) (v : Writing) (a b : Ahead) (x y : Option (List ℕ)) (told : Tally) → (done : IsAllDone kind job v a b x y told)
+pub whole_is : (unit_text : UnitText) (job : Job) (v : Writing) (a b : Ahead) (x y : Option (List ℕ)) (told : Tally) → (done : IsAllDone unit_text job v a b x y told)
     → IsWhole job done.part done.wrote.steps.ops
-whole_is kind job v a b x y told done = record {
+whole_is unit_text job v a b x y told done = record {
   size = done.size;
   small = done.bytes;
   are = λ content target size has has'.

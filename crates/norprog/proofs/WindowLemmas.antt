@@ -1,5 +1,5 @@
 -- The windows of a content, one after another.
-use Rattle.std.proofs.Common.{◌≡◌, ℕ, ◌+◌, ◌%◌, ◌<◌, ◌≤◌, List, [], ◌++◌, length, take, Option, None, refl, sym, ◌∙◌, ap, subst, arith, inl, inr, length-append}
+use Rattle.std.proofs.Common.{◌≡◌, ℕ, ◌+◌, ◌%◌, ◌<◌, ◌≤◌, List, [], ◌++◌, length, take, Option, refl, sym, ◌∙◌, ap, subst, arith, inl, inr, length-append}
 use Rattle.std.specs.Io.KnownBytes.{Appends}
 use Rattle.std.proofs.lemmas.List.{append-nil, take_all}
 use Rattle.std.proofs.Math.Nat.{zero-mod}
@@ -20,23 +20,22 @@ use Rattle.nor_steps.specs.declared.fault.StepsFault.TheVariants as steps
 use Rattle.nor_steps.specs.declared.tally.Tally.{Tally}
 use Rattle.nor_steps.specs.Faults.{IsOfWriting}
 use Rattle.nor_steps.specs.Tally.{tally_of, sum_of, nothing_told, IsFew, erases_of, erased_of, programs_of}
-use Rattle.nor_steps.specs.Work.{WroteStretch}
+use Rattle.nor_steps.specs.Texts.{UnitText, IsTold, WroteText, HasText}
 use Rattle.nor_steps.specs.Writing.{Writing, written_on}
 use Rattle.nor_steps.proofs.OpLemmas.{more_steps, more_on}
-use Rattle.norprog.specs.declared.windows.Text.{Text}
 use Rattle.nor_job.specs.Filled.{target_from}
-use Rattle.norprog.specs.Windows.{first_writing, lifted_steps, WroteText, HasText, StopsWindow, IsUndone, IsDone, IsAllDone, CutCause, AreRecent, BeginsText, IsKnown, IsCut}
+use Rattle.norprog.specs.Windows.{first_writing, lifted_steps, StopsWindow, IsUndone, IsDone, IsAllDone, CutCause, AreRecent, BeginsText, IsKnown, IsCut}
 use Rattle.nor_job.specs.Written.{AreBytes}
-use Rattle.norprog.proofs.KindLemmas.{none_text, text_join, begun_join, text_begins, begun_begins}
+use Rattle.norprog.proofs.JoinLemmas.{none_text, text_join, begun_join, text_begins, begun_begins}
 use Rattle.norprog.proofs.PlaceLemmas.{IsPlace}
 use Rattle.norprog.proofs.StretchLemmas.{work_join, fault_join, work_none}
 use Rattle.nor_job.proofs.TargetLemmas.{gives_none, length-target}
 use Rattle.norprog.proofs.TargetLemmas.{target_of_parts, bytes_of_parts}
 
 -- at the beginning nothing has been read or written
-pub none_done : (kind : Text) (job : Job) (v : Writing) (before : Ahead) (held : Option (List ℕ)) → v ≡ first_writing job
-    → IsDone kind job (first_writing job) v 0 0 before before held held nothing_told
-none_done kind job v before held is = record {
+pub none_done : (unit_text : UnitText) (job : Job) (v : Writing) (before : Ahead) (held : Option (List ℕ)) → v ≡ first_writing job
+    → IsDone unit_text job (first_writing job) v 0 0 before before held held nothing_told
+none_done unit_text job v before held is = record {
   part = [];
   size = refl;
   given = gives_none before;
@@ -45,13 +44,12 @@ none_done kind job v before held is = record {
     steps = record {
       ops = [];
       work = work_none (first_writing job);
-      put = tt;
       state = is;
       its_tally = refl;
       few = record { steps = omega arith; erases = omega arith; erased = omega arith; programs = omega arith };
     };
-    text = [];
-    is = none_text kind (first_writing job);
+    these = [];
+    is = none_text unit_text (first_writing job);
     put = Appends-none held;
   };
 }
@@ -78,23 +76,22 @@ few_join n k one other first second = record {
 
 -- the steps of two parts
 steps_join : (w v u : Writing) (at : ℕ) (xs ys txs tys : List ℕ) (told more : Tally) → 0 < w.streaming.meaning.page → at % w.streaming.meaning.page ≡ 0
-    → length xs ≡ at → length txs ≡ at → WroteStretch w v None None 0 xs txs told → WroteStretch v u None None at ys tys more
-    → WroteStretch w u None None 0 (xs ++ ys) (txs ++ tys) (sum_of told more)
+    → length xs ≡ at → length txs ≡ at → IsTold w v 0 xs txs told → IsTold v u at ys tys more
+    → IsTold w u 0 (xs ++ ys) (txs ++ tys) (sum_of told more)
 steps_join w v u at xs ys txs tys told more some whole upto upto' first second = record {
   ops = first.ops ++ second.ops;
   work = work_join w v at xs ys txs tys first.ops second.ops some whole upto upto' first.state first.work second.work;
-  put = tt;
   state = second.state ∙ ap (λ (t : Writing). written_on t second.ops) first.state ∙ more_on w first.ops second.ops;
   its_tally = tally_join w.streaming first.ops second.ops told more first.its_tally (second.its_tally ∙ ap (λ (t : Writing). tally_of t.streaming second.ops) first.state);
   few = subst (λ n. IsFew n (sum_of told more)) (sym (length-append xs ys)) (few_join (length xs) (length ys) told more first.few second.few);
 }
 
 -- what was done up to an address, and then a window
-pub done_then : (kind : Text) (job : Job) (v u : Writing) (at n window : ℕ) (a b c : Ahead) (x y z : Option (List ℕ)) (told more : Tally) → IsPlace job.meaning window at n
-    → IsDone kind job (first_writing job) v 0 at a b x y told → IsDone kind job v u at n b c y z more
-    → IsDone kind job (first_writing job) u 0 (at + n) a c x z (sum_of told more)
+pub done_then : (unit_text : UnitText) (job : Job) (v u : Writing) (at n window : ℕ) (a b c : Ahead) (x y z : Option (List ℕ)) (told more : Tally) → IsPlace job.meaning window at n
+    → IsDone unit_text job (first_writing job) v 0 at a b x y told → IsDone unit_text job v u at n b c y z more
+    → IsDone unit_text job (first_writing job) u 0 (at + n) a c x z (sum_of told more)
 unfolding steps_join
-done_then kind job v u at n window a b c x y z told more place done next =
+done_then unit_text job v u at n window a b c x y z told more place done next =
     let w = first_writing job in
     let xs = done.part in
     let ys = next.part in
@@ -109,19 +106,19 @@ done_then kind job v u at n window a b c x y z told more place done next =
       size = omega (arith, length-append xs ys, done.size, next.size);
       given = Gives-append a b c xs ys done.given next.given;
       bytes = subst AreBytes (sym goal) (bytes_of_parts txs tys done.bytes next.bytes);
-      wrote = subst (λ (goal : List ℕ). WroteText kind w u x z 0 (xs ++ ys) goal (sum_of told more)) (sym goal) (record {
+      wrote = subst (λ (goal : List ℕ). WroteText unit_text w u x z 0 (xs ++ ys) goal (sum_of told more)) (sym goal) (record {
         steps = steps_join w v u at xs ys txs tys told more place.page place.pages done.size upto' first.steps second.steps;
-        text = first.text ++ second.text;
-        is = text_join kind w v at xs ys txs tys first.steps.ops second.steps.ops first.text second.text place.page place.pages done.size upto' first.steps.state first.is second.is;
-        put = Appends-append x y z first.text second.text first.put second.put;
+        these = first.these ++ second.these;
+        is = text_join unit_text w v at xs ys txs tys first.steps.ops first.these second.these place.page place.pages done.size upto' first.steps.state first.steps.work first.is second.is;
+        put = Appends-append x y z first.these second.these first.put second.put;
       });
     }
 
 -- what was done, and then nothing more was written
-cut_between : (kind : Text) (job : Job) (v : Writing) (at n window : ℕ) (a b c : Ahead) (x y z : Option (List ℕ)) (told : Tally) (ys : List ℕ) (why : BuildFault)
-    → IsPlace job.meaning window at n → length ys ≤ n → (done : IsDone kind job (first_writing job) v 0 at a b x y told) → Gives b ys c × Appends y z []
-    → CutCause job (done.part ++ ys) c why → AreRecent job.meaning.size window at (at + length ys) why → IsCut (IsKnown kind job) job a c x z why
-cut_between kind job v at n window a b c x y z told ys why place size done next cause recent =
+cut_between : (unit_text : UnitText) (job : Job) (v : Writing) (at n window : ℕ) (a b c : Ahead) (x y z : Option (List ℕ)) (told : Tally) (ys : List ℕ) (why : BuildFault)
+    → IsPlace job.meaning window at n → length ys ≤ n → (done : IsDone unit_text job (first_writing job) v 0 at a b x y told) → Gives b ys c × Appends y z []
+    → CutCause job (done.part ++ ys) c why → AreRecent job.meaning.size window at (at + length ys) why → IsCut (IsKnown unit_text job) job a c x z why
+cut_between unit_text job v at n window a b c x y z told ys why place size done next cause recent =
     let w = first_writing job in
     let xs = done.part in
     let first = done.wrote in
@@ -136,32 +133,32 @@ cut_between kind job v at n window a b c x y z told ys why place size done next 
       its_size = place.window;
       known = at;
       windows = record { within = omega (arith, count); whole = λ less. place.here; recent = subst (λ k. AreRecent job.meaning.size window at k why) count recent };
-      bytes = first.text;
+      bytes = first.these;
       front = record {
         pages = place.pages;
         bytes = subst (λ (part : List ℕ). AreBytes (target_from job 0 part)) (sym front) done.bytes;
-        begun = subst (λ (part : List ℕ). BeginsText kind w part (target_from job 0 part) first.text why) (sym front)
-            (text_begins kind w xs (target_from job 0 xs) first.steps.ops first.text why first.steps.work first.is);
+        begun = subst (λ (part : List ℕ). BeginsText unit_text w part (target_from job 0 part) first.these why) (sym front)
+            (text_begins unit_text w xs (target_from job 0 xs) first.these why first.is);
       };
-      put = subst (Appends x z) (append-nil first.text) (Appends-append x y z first.text [] first.put next.1);
+      put = subst (Appends x z) (append-nil first.these) (Appends-append x y z first.these [] first.put next.1);
     }
 
 -- or some of the window's text was
-cut_within : (kind : Text) (job : Job) (v : Writing) (at n window : ℕ) (a b c : Ahead) (x y z : Option (List ℕ)) (told : Tally) (ys : List ℕ) (why : StepsFault)
-    → IsPlace job.meaning window at n → length ys ≡ n → AreBytes (target_from job at ys) → (done : IsDone kind job (first_writing job) v 0 at a b x y told) → Gives b ys c
-    → HasText kind v y z at ys (target_from job at ys) → IsOfWriting why → CutCause job (done.part ++ ys) c (lifted_steps why)
-    → AreRecent job.meaning.size window (at + n) (at + n) (lifted_steps why) → IsCut (IsKnown kind job) job a c x z (lifted_steps why)
-cut_within kind job v at n window a b c x y z told ys why place size small done given has of cause recent =
+cut_within : (unit_text : UnitText) (job : Job) (v : Writing) (at n window : ℕ) (a b c : Ahead) (x y z : Option (List ℕ)) (told : Tally) (ys : List ℕ) (why : StepsFault)
+    → IsPlace job.meaning window at n → length ys ≡ n → AreBytes (target_from job at ys) → (done : IsDone unit_text job (first_writing job) v 0 at a b x y told) → Gives b ys c
+    → HasText unit_text v y z at ys (target_from job at ys) → IsOfWriting why → CutCause job (done.part ++ ys) c (lifted_steps why)
+    → AreRecent job.meaning.size window (at + n) (at + n) (lifted_steps why) → IsCut (IsKnown unit_text job) job a c x z (lifted_steps why)
+cut_within unit_text job v at n window a b c x y z told ys why place size small done given has of cause recent =
     let w = first_writing job in
     let xs = done.part in
     let txs = target_from job 0 xs in
     let tys = target_from job at ys in
     let first = done.wrote in
-    let text = first.text ++ has.front in
+    let text = first.these ++ has.front in
     let count : at + n ≡ length (xs ++ ys) = omega (arith, length-append xs ys, done.size, size) in
     let goal = target_of_parts job 0 at xs ys (omega (arith, done.size)) in
     let all : take (at + n) (xs ++ ys) ≡ xs ++ ys = take_all (at + n) (xs ++ ys) (omega (arith, count)) in
-    let begun = begun_join kind w v at xs ys txs tys first.steps.ops first.text has.front place.page place.pages done.size (length-target job 0 xs ∙ done.size) first.steps.state
+    let begun = begun_join unit_text w v at xs ys txs tys first.steps.ops first.these has.front place.page place.pages done.size (length-target job 0 xs ∙ done.size) first.steps.state
     first.steps.work first.is has.begun in
     record {
       part = xs ++ ys;
@@ -180,48 +177,48 @@ cut_within kind job v at n window a b c x y z told ys why place size small done 
       front = record {
         pages = place.whole;
         bytes = subst (λ (part : List ℕ). AreBytes (target_from job 0 part)) (sym all) (subst AreBytes (sym goal) (bytes_of_parts txs tys done.bytes small));
-        begun = subst (λ (part : List ℕ). BeginsText kind w part (target_from job 0 part) text (lifted_steps why)) (sym all)
-            (subst (λ (goal : List ℕ). BeginsText kind w (xs ++ ys) goal text (lifted_steps why)) (sym goal) (begun_begins kind w (xs ++ ys) (txs ++ tys) text why of begun));
+        begun = subst (λ (part : List ℕ). BeginsText unit_text w part (target_from job 0 part) text (lifted_steps why)) (sym all)
+            (subst (λ (goal : List ℕ). BeginsText unit_text w (xs ++ ys) goal text (lifted_steps why)) (sym goal) (begun_begins unit_text w (xs ++ ys) (txs ++ tys) text why of begun));
       };
-      put = Appends-append x y z first.text has.front first.put has.put;
+      put = Appends-append x y z first.these has.front first.put has.put;
     }
 
 -- a window that was read, and ended early
-pub ended : (kind : Text) (job : Job) (w : Writing) (at count : ℕ) (before after : Ahead) (x y : Option (List ℕ)) (why : StepsFault)
-    → IsUndone kind job w at count before after x y why → StopsWindow kind job w at count before after x y (lifted_steps why)
-ended kind job w at count before after x y (steps.Plan why) is = is
-ended kind job w at count before after x y steps.Write is = is
-ended kind job w at count before after x y steps.Memory is = is
+pub ended : (unit_text : UnitText) (job : Job) (w : Writing) (at count : ℕ) (before after : Ahead) (x y : Option (List ℕ)) (why : StepsFault)
+    → IsUndone unit_text job w at count before after x y why → StopsWindow unit_text job w at count before after x y (lifted_steps why)
+ended unit_text job w at count before after x y (steps.Plan why) is = is
+ended unit_text job w at count before after x y steps.Write is = is
+ended unit_text job w at count before after x y steps.Memory is = is
 
 -- what was done up to an address, and then it ended early
-pub done_then_cut : (kind : Text) (job : Job) (v : Writing) (at n window : ℕ) (a b c : Ahead) (x y z : Option (List ℕ)) (told : Tally) (why : BuildFault)
-    → IsPlace job.meaning window at n → IsDone kind job (first_writing job) v 0 at a b x y told → StopsWindow kind job v at n b c y z why
-    → IsCut (IsKnown kind job) job a c x z why
-done_then_cut kind job v at n window a b c x y z told fault.ContentShort place done stops =
+pub done_then_cut : (unit_text : UnitText) (job : Job) (v : Writing) (at n window : ℕ) (a b c : Ahead) (x y z : Option (List ℕ)) (told : Tally) (why : BuildFault)
+    → IsPlace job.meaning window at n → IsDone unit_text job (first_writing job) v 0 at a b x y told → StopsWindow unit_text job v at n b c y z why
+    → IsCut (IsKnown unit_text job) job a c x z why
+done_then_cut unit_text job v at n window a b c x y z told fault.ContentShort place done stops =
     let unread = stops.0 in
-    cut_between kind job v at n window a b c x y z told unread.part fault.ContentShort place (omega (arith, unread.few)) done (unread.given, unread.put)
+    cut_between unit_text job v at n window a b c x y z told unread.part fault.ContentShort place (omega (arith, unread.few)) done (unread.given, unread.put)
     (omega (arith, length-append done.part unread.part, done.size, unread.few, place.inside), stops.1) (omega (arith, unread.few, place.upto))
-done_then_cut kind job v at n window a b c x y z told fault.Read place done unread =
-    cut_between kind job v at n window a b c x y z told unread.part fault.Read place (omega (arith, unread.few)) done (unread.given, unread.put) tt
+done_then_cut unit_text job v at n window a b c x y z told fault.Read place done unread =
+    cut_between unit_text job v at n window a b c x y z told unread.part fault.Read place (omega (arith, unread.few)) done (unread.given, unread.put) tt
     (omega (arith, unread.few, place.upto))
-done_then_cut kind job v at n window a b c x y z told (fault.Plan why) place done stops =
+done_then_cut unit_text job v at n window a b c x y z told (fault.Plan why) place done stops =
     let w = first_writing job in
     let xs = done.part in
     let ys = stops.part in
     let first = done.wrote.steps in
     let goal = target_of_parts job 0 at xs ys (omega (arith, done.size)) in
-    cut_between kind job v at n window a b c x y z told ys (fault.Plan why) place (omega (arith, stops.size)) done (stops.given, stops.stops.1)
+    cut_between unit_text job v at n window a b c x y z told ys (fault.Plan why) place (omega (arith, stops.size)) done (stops.given, stops.stops.1)
     (subst (λ (goal : List ℕ). IsFault job.meaning (strategy job.meaning job.start) 0 (xs ++ ys) goal why) (sym goal)
     (fault_join w v at xs ys (target_from job 0 xs) (target_from job at ys) first.ops why done.size (length-target job 0 xs ∙ done.size) first.state first.work stops.stops.0))
     (omega (arith, stops.size, place.some), omega (arith, stops.size, place.upto))
-done_then_cut kind job v at n window a b c x y z told fault.Write place done stops =
-    cut_within kind job v at n window a b c x y z told stops.part steps.Write place stops.size stops.bytes done stops.given stops.stops tt tt refl
-done_then_cut kind job v at n window a b c x y z told fault.Memory place done stops = elim stops.stops [
-  | inl has ↦ cut_within kind job v at n window a b c x y z told stops.part steps.Memory place stops.size stops.bytes done stops.given has tt tt (inl refl)
-  | inr put ↦ cut_between kind job v at n window a b c x y z told stops.part fault.Memory place (omega (arith, stops.size)) done (stops.given, put) tt
+done_then_cut unit_text job v at n window a b c x y z told fault.Write place done stops =
+    cut_within unit_text job v at n window a b c x y z told stops.part steps.Write place stops.size stops.bytes done stops.given stops.stops tt tt refl
+done_then_cut unit_text job v at n window a b c x y z told fault.Memory place done stops = elim stops.stops [
+  | inl has ↦ cut_within unit_text job v at n window a b c x y z told stops.part steps.Memory place stops.size stops.bytes done stops.given has tt tt (inl refl)
+  | inr put ↦ cut_between unit_text job v at n window a b c x y z told stops.part fault.Memory place (omega (arith, stops.size)) done (stops.given, put) tt
       (inr (omega (arith, stops.size, place.upto)))
 ]
-done_then_cut kind job v at n window a b c x y z told other place done stops = absurd stops
+done_then_cut unit_text job v at n window a b c x y z told other place done stops = absurd stops
 
 of_writing : (job : Job) (part : List ℕ) (after : Ahead) (why : StepsFault) → IsOfWriting why → CutCause job part after (lifted_steps why)
 of_writing job part after steps.Write is = tt
@@ -251,20 +248,20 @@ cut_before IsFront job window a x y bytes why size of front put = record {
 }
 
 -- nor was anything written
-pub none_cut : (kind : Text) (job : Job) (window : ℕ) (a : Ahead) (x : Option (List ℕ)) → IsWindowSize job.meaning window → IsCut (IsKnown kind job) job a a x x fault.Memory
-none_cut kind job window a x size =
+pub none_cut : (unit_text : UnitText) (job : Job) (window : ℕ) (a : Ahead) (x : Option (List ℕ)) → IsWindowSize job.meaning window → IsCut (IsKnown unit_text job) job a a x x fault.Memory
+none_cut unit_text job window a x size =
     let w = first_writing job in
-    cut_before (IsKnown kind job) job window a x x [] steps.Memory size tt (record {
+    cut_before (IsKnown unit_text job) job window a x x [] steps.Memory size tt (record {
       pages = zero-mod job.meaning.page;
       bytes = λ k. omega arith;
-      begun = text_begins kind w [] [] [] [] fault.Memory (work_none w) (none_text kind w);
+      begun = text_begins unit_text w [] [] [] fault.Memory (none_text unit_text w);
     }) (Appends-none x)
 
 -- it ended after all windows
-pub cut_after : (IsFront : ℕ → List ℕ → List ℕ → BuildFault → Type 0) (kind : Text) (job : Job) (v : Writing) (window : ℕ) (a b : Ahead) (x y s t : Option (List ℕ)) (told : Tally)
-    (bytes : List ℕ) (why : StepsFault) → IsWindowSize job.meaning window → (done : IsAllDone kind job v a b x y told) → IsOfWriting why
+pub cut_after : (IsFront : ℕ → List ℕ → List ℕ → BuildFault → Type 0) (unit_text : UnitText) (job : Job) (v : Writing) (window : ℕ) (a b : Ahead) (x y s t : Option (List ℕ)) (told : Tally)
+    (bytes : List ℕ) (why : StepsFault) → IsWindowSize job.meaning window → (done : IsAllDone unit_text job v a b x y told) → IsOfWriting why
     → IsFront (length done.part) done.part bytes (lifted_steps why) → Appends s t bytes → IsCut IsFront job a b s t (lifted_steps why)
-cut_after IsFront kind job v window a b x y s t told bytes why size done of front put =
+cut_after IsFront unit_text job v window a b x y s t told bytes why size done of front put =
     let read = length done.part in
     record {
       part = done.part;

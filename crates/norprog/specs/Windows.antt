@@ -1,11 +1,9 @@
--- What a part of the work has done: content was read, and of its windows the steps were written, or the lines that tell
--- their plan (this project's).
-use Rattle.std.specs.Prelude.{◌≡◌, ◌≢◌, ◌⊎◌, ℕ, false, ◌+◌, ◌%◌, ◌<◌, ◌≤◌, min, ⊤, List, [], ◌++◌, length, map, take, count_by, Option, None, Result, Ok, Err}
+-- What a part of the work has done: content was read, and a text of its windows was written (this project's).
+use Rattle.std.specs.Prelude.{◌≡◌, ◌≢◌, ◌⊎◌, ℕ, false, ◌+◌, ◌%◌, ◌<◌, ◌≤◌, min, ⊤, List, [], ◌++◌, length, take, count_by, Option}
 use Rattle.std.specs.List.{enumerate_from}
 use Rattle.std.specs.Io.KnownBytes.{Appends}
 use Rattle.nor_base.specs.Device.{Ahead, Gives, IsAtEnd}
 use Rattle.nor_base.specs.Need.{is_at_fault}
-use Rattle.nor_base.specs.Operations.{Op}
 use Rattle.nor_base.specs.Planned.{planned, planned_ops}
 use Rattle.nor_base.specs.Script.{script_text}
 use Rattle.nor_base.specs.Strategies.{strategy}
@@ -17,18 +15,17 @@ use Rattle.nor_job.specs.declared.fault.BuildFault.{BuildFault}
 use Rattle.nor_job.specs.declared.fault.BuildFault.TheVariants as fault
 use Rattle.nor_job.specs.declared.job.Job.{Job}
 use Rattle.nor_layout.specs.Chosen.{has}
-use Rattle.nor_outline.specs.Told.{AreLines, AreBegun}
+use Rattle.nor_outline.specs.Told.{unit_outline}
 use Rattle.nor_steps.specs.declared.fault.StepsFault.{StepsFault}
 use Rattle.nor_steps.specs.declared.fault.StepsFault.TheVariants as steps
 use Rattle.nor_steps.specs.declared.tally.Tally.{Tally}
 use Rattle.nor_steps.specs.Lines.{steps_of}
 use Rattle.nor_steps.specs.Tally.{tally_with}
-use Rattle.nor_steps.specs.Work.{IsSound, IsBegun, WroteStretch}
-use Rattle.nor_steps.specs.Writing.{Writing, fresh, next_lines}
+use Rattle.nor_steps.specs.Texts.{UnitText, IsText, IsBegunText, WroteText, StopsText}
+use Rattle.nor_steps.specs.Work.{IsSound}
+use Rattle.nor_steps.specs.Writing.{Writing, fresh}
 use Rattle.norprog.specs.declared.report.Report.{Report}
-use Rattle.norprog.specs.declared.windows.Text.{Text}
-use Rattle.norprog.specs.declared.windows.Text.TheVariants.{Steps, Lines}
-use Rattle.norprog.specs.PlanWindows.{plan_text, TellsWindows}
+use Rattle.norprog.specs.PlanWindows.{plan_text}
 use Rattle.nor_job.specs.Written.{AreBytes}
 use Rattle.nor_job.specs.Filled.{target_from}
 
@@ -41,54 +38,25 @@ lifted_steps (steps.Plan why) = fault.Plan why
 lifted_steps steps.Write = fault.Write
 lifted_steps steps.Memory = fault.Memory
 
--- the text of the operations of a stretch: the lines of their steps, or those that tell the plan of the stretch
-abbrev pub IsText : Text → Writing → ℕ → List ℕ → List ℕ → List Op → List ℕ → Type 0
-IsText Steps w at have want ops text = text ≡ next_lines w ops
-IsText Lines w at have want ops text = AreLines w.streaming.meaning w.streaming.by at have want text
-
--- a text with which that of a stretch begins, of which no address is at fault
-abbrev pub IsBegunText : Text → Writing → ℕ → List ℕ → List ℕ → List ℕ → Type 0
-IsBegunText Steps w at have want front = IsBegun w at have want front
-IsBegunText Lines w at have want front = AreBegun w.streaming.meaning w.streaming.by at have want front
-
--- how much the steps of a stretch are is told, and its text was written
-pub record WroteText (kind : Text) (w v : Writing) (before after : Option (List ℕ)) (at : ℕ) (have want : List ℕ) (told : Tally) : Type 0 where
-  pub steps : WroteStretch w v None None at have want told
-  pub text : List ℕ
-  pub is : IsText kind w at have want steps.ops text
-  pub put : Appends before after text
-
--- some of it was, from its beginning on
-pub record HasText (kind : Text) (w : Writing) (before after : Option (List ℕ)) (at : ℕ) (have want : List ℕ) : Type 0 where
-  pub front : List ℕ
-  pub begun : IsBegunText kind w at have want front
-  pub put : Appends before after front
-
--- why it was not: an address is at fault, and nothing was written; or the writer failed, or a growth was refused
-abbrev pub StopsText : Text → Writing → Option (List ℕ) → Option (List ℕ) → ℕ → List ℕ → List ℕ → StepsFault → Type 0
-StopsText kind w before after at have want (steps.Plan why) = IsFault w.streaming.meaning w.streaming.by at have want why × Appends before after []
-StopsText kind w before after at have want steps.Write = HasText kind w before after at have want
-StopsText kind w before after at have want steps.Memory = HasText kind w before after at have want ⊎ Appends before after []
-
 -- so many bytes of the content from an address on were read, and the text of the work on them was written
-pub record IsDone (kind : Text) (job : Job) (w v : Writing) (at count : ℕ) (before after : Ahead) (held_before held_after : Option (List ℕ)) (told : Tally) : Type 0 where
+pub record IsDone (unit_text : UnitText) (job : Job) (w v : Writing) (at count : ℕ) (before after : Ahead) (held_before held_after : Option (List ℕ)) (told : Tally) : Type 0 where
   pub part : List ℕ
   pub size : length part ≡ count
   pub given : Gives before part after
   pub bytes : AreBytes (target_from job at part)
-  pub wrote : WroteText kind w v held_before held_after at part (target_from job at part) told
+  pub wrote : WroteText unit_text w v held_before held_after at part (target_from job at part) told
 
 -- all of it was
-abbrev pub IsAllDone : Text → Job → Writing → Ahead → Ahead → Option (List ℕ) → Option (List ℕ) → Tally → Type 0
-IsAllDone kind job v before after x y told = IsDone kind job (first_writing job) v 0 job.meaning.size before after x y told
+abbrev pub IsAllDone : UnitText → Job → Writing → Ahead → Ahead → Option (List ℕ) → Option (List ℕ) → Tally → Type 0
+IsAllDone unit_text job v before after x y told = IsDone unit_text job (first_writing job) v 0 job.meaning.size before after x y told
 
 -- a window of so many bytes was read, and its text was not all written
-pub record IsUndone (kind : Text) (job : Job) (w : Writing) (at count : ℕ) (before after : Ahead) (held_before held_after : Option (List ℕ)) (why : StepsFault) : Type 0 where
+pub record IsUndone (unit_text : UnitText) (job : Job) (w : Writing) (at count : ℕ) (before after : Ahead) (held_before held_after : Option (List ℕ)) (why : StepsFault) : Type 0 where
   pub part : List ℕ
   pub size : length part ≡ count
   pub given : Gives before part after
   pub bytes : AreBytes (target_from job at part)
-  pub stops : StopsText kind w held_before held_after at part (target_from job at part) why
+  pub stops : StopsText unit_text w held_before held_after at part (target_from job at part) why
 
 -- less than a window was read, and nothing was written
 pub record IsUnread (count : ℕ) (before after : Ahead) (held_before held_after : Option (List ℕ)) : Type 0 where
@@ -98,13 +66,13 @@ pub record IsUnread (count : ℕ) (before after : Ahead) (held_before held_after
   pub put : Appends held_before held_after []
 
 -- a window wasn't read, or it was, and its text was not all written
-abbrev pub StopsWindow : Text → Job → Writing → ℕ → ℕ → Ahead → Ahead → Option (List ℕ) → Option (List ℕ) → BuildFault → Type 0
-StopsWindow kind job w at count before after x y fault.ContentShort = IsUnread count before after x y × IsAtEnd after
-StopsWindow kind job w at count before after x y fault.Read = IsUnread count before after x y
-StopsWindow kind job w at count before after x y (fault.Plan why) = IsUndone kind job w at count before after x y (steps.Plan why)
-StopsWindow kind job w at count before after x y fault.Write = IsUndone kind job w at count before after x y steps.Write
-StopsWindow kind job w at count before after x y fault.Memory = IsUndone kind job w at count before after x y steps.Memory
-StopsWindow kind job w at count before after x y other = ⊥
+abbrev pub StopsWindow : UnitText → Job → Writing → ℕ → ℕ → Ahead → Ahead → Option (List ℕ) → Option (List ℕ) → BuildFault → Type 0
+StopsWindow unit_text job w at count before after x y fault.ContentShort = IsUnread count before after x y × IsAtEnd after
+StopsWindow unit_text job w at count before after x y fault.Read = IsUnread count before after x y
+StopsWindow unit_text job w at count before after x y (fault.Plan why) = IsUndone unit_text job w at count before after x y (steps.Plan why)
+StopsWindow unit_text job w at count before after x y fault.Write = IsUndone unit_text job w at count before after x y steps.Write
+StopsWindow unit_text job w at count before after x y fault.Memory = IsUndone unit_text job w at count before after x y steps.Memory
+StopsWindow unit_text job w at count before after x y other = ⊥
 
 -- why the work on a part of the content ended early
 abbrev pub CutCause : Job → List ℕ → Ahead → BuildFault → Type 0
@@ -132,17 +100,18 @@ pub record AreWindows (size window known read : ℕ) (why : BuildFault) : Type 0
   pub whole : known < size → known % window ≡ 0
   pub recent : AreRecent size window known read why
 
--- some of the text of a beginning of the content, from the text's beginning on: of steps any, of lines as many as why it
--- ended early says
-abbrev pub BeginsText : Text → Writing → List ℕ → List ℕ → List ℕ → BuildFault → Type 0
-BeginsText Steps w have want front why = IsBegun w 0 have want front
-BeginsText Lines w have want front why = TellsWindows w.streaming.meaning w.streaming.by have want front why
+-- some of the text of a beginning of the content, from the text's beginning on: all of it but where the writer failed or a
+-- growth was refused
+abbrev pub BeginsText : UnitText → Writing → List ℕ → List ℕ → List ℕ → BuildFault → Type 0
+BeginsText unit_text w have want front fault.Write = IsBegunText unit_text w 0 have want front
+BeginsText unit_text w have want front fault.Memory = IsBegunText unit_text w 0 have want front
+BeginsText unit_text w have want front other = IsText unit_text w 0 have want front
 
 -- so much of what was read is whole pages, and some of their text was written, from its beginning on
-pub record IsKnown (kind : Text) (job : Job) (known : ℕ) (part front : List ℕ) (why : BuildFault) : Type 0 where
+pub record IsKnown (unit_text : UnitText) (job : Job) (known : ℕ) (part front : List ℕ) (why : BuildFault) : Type 0 where
   pub pages : known % job.meaning.page ≡ 0
   pub bytes : AreBytes (target_from job 0 (take known part))
-  pub begun : BeginsText kind (first_writing job) (take known part) (target_from job 0 (take known part)) front why
+  pub begun : BeginsText unit_text (first_writing job) (take known part) (target_from job 0 (take known part)) front why
 
 -- some of the content was read, and what was written is such a front of the text of its windows
 pub record IsCut (IsFront : ℕ → List ℕ → List ℕ → BuildFault → Type 0) (job : Job) (before after : Ahead) (held_before held_after : Option (List ℕ)) (why : BuildFault) : Type 0 where
@@ -158,15 +127,19 @@ pub record IsCut (IsFront : ℕ → List ℕ → List ℕ → BuildFault → Typ
   pub front : IsFront known part bytes why
   pub put : Appends held_before held_after bytes
 
--- no address of a chip is at fault, and the text of the steps of the work on it was written, with what is told of them
-pub record IsScripted (job : Job) (before after : Ahead) (held_before held_after : Option (List ℕ)) (told : Tally) : Type 0 where
+-- the whole content was read, no address of the chip is at fault, and how much the steps of the work are is told
+pub record IsWorked (job : Job) (before after : Ahead) (told : Tally) : Type 0 where
   pub part : List ℕ
   pub upto : length part ≡ job.meaning.size
   pub given : Gives before part after
   pub bytes : AreBytes (target_from job 0 part)
   pub sound : (x : ℕ) → x < job.meaning.size → is_at_fault job.meaning (strategy job.meaning job.start) part (target_from job 0 part) x ≡ false
-  pub put : Appends held_before held_after (script_text (steps_of (planned job.meaning job.start job.verify part (target_from job 0 part))))
   pub its_tally : told ≡ tally_with (length (planned job.meaning job.start job.verify part (target_from job 0 part))) (planned_ops job.meaning job.start job.verify part (target_from job 0 part))
+
+-- and the text of these steps was written
+pub record IsScripted (job : Job) (before after : Ahead) (held_before held_after : Option (List ℕ)) (told : Tally) : Type 0 where
+  pub work : IsWorked job before after told
+  pub put : Appends held_before held_after (script_text (steps_of (planned job.meaning job.start job.verify work.part (target_from job 0 work.part))))
 
 -- what was written is a front of the text of the steps of the work on a content and a target, with something left
 pub record IsTextFront (job : Job) (content target bytes : List ℕ) : Type 0 where
@@ -189,12 +162,12 @@ IsCutScript job before after x y why = IsCut (λ known part bytes why. IsScriptF
 
 -- some of the content was read, and what was written is lines of its windows, as many as why it ended early says
 abbrev pub IsCutPlan : Job → Ahead → Ahead → Option (List ℕ) → Option (List ℕ) → BuildFault → Type 0
-IsCutPlan job before after x y why = IsCut (IsKnown Lines job) job before after x y why
+IsCutPlan job before after x y why = IsCut (IsKnown unit_outline job) job before after x y why
 
--- no address of a chip is at fault, the steps of the work on it are told, and the lines of its units were written
+-- or the lines of its units
 pub record IsToldWhole (job : Job) (before after : Ahead) (held_before held_after : Option (List ℕ)) (told : Tally) : Type 0 where
-  pub steps : IsScripted job before after None None told
-  pub put : Appends held_before held_after (plan_text job.meaning job.start steps.part (target_from job 0 steps.part))
+  pub work : IsWorked job before after told
+  pub put : Appends held_before held_after (plan_text job.meaning job.start work.part (target_from job 0 work.part))
 
 -- the report of a job of which so much is told
 abbrev pub job_report : Job → Tally → Report

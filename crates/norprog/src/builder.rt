@@ -12,13 +12,13 @@ ghost use Rattle.norprog.specs.Windows.{IsScripted, IsCutScript, job_report};
 ghost use Rattle.nor_job.specs.Written.{CountsReader, CountsWriter};
 
 use crate::report::Report;
-use crate::windows::{Text, lifted, room, write_windows};
+use crate::windows::{lifted, room, write_windows};
 use nor_base::{ByteIn, ByteOut};
 use nor_geometry::{strategy, window_size};
 use nor_job::{BuildFault, Inputs, Job, job_of};
 use nor_laws::{run_events, spelling};
 use nor_script::{begin, finish};
-use nor_steps::Tally;
+use nor_steps::{StepWriter, Tally};
 use nor_target::ignored;
 use nor_work::{erased_blocks, least_erasure, planned_runs, planned_work, there_is_planned_work};
 use std::alloc::Global;
@@ -90,15 +90,9 @@ fn write_script<R: ByteIn, W: ByteOut>(
         Ok(()) => {}
         Err(_) => return Err(BuildFault::Write),
     }
-    let (writer, mut told) = write_windows(
-        alloc,
-        job,
-        Text::Steps,
-        &mut have,
-        &mut want,
-        content,
-        out,
-    )?;
+    let strategy = strategy(&job.meaning, &job.start);
+    let mut writer = StepWriter::new(alloc, &job.meaning, &job.start, strategy, job.verify);
+    let mut told = write_windows(alloc, job, &mut writer, &mut have, &mut want, content, out)?;
     match writer.close(alloc, out) {
         Ok(last) => told.steps += last,
         Err(fault) => return Err(lifted(fault)),

@@ -14,12 +14,13 @@ ghost use Rattle.nor_job.specs.Written.{CountsReader, CountsWriter};
 
 use crate::builder::report_of;
 use crate::report::Report;
-use crate::windows::{Text, lifted, room, write_windows};
+use crate::windows::{lifted, room, write_windows};
 use nor_base::{ByteIn, ByteOut};
-use nor_geometry::window_size;
+use nor_geometry::{strategy, window_size};
 use nor_job::{BuildFault, Inputs, Job, job_of};
 use nor_laws::spelling;
-use nor_steps::{Tally, Unwritten};
+use nor_outline::PlanWriter;
+use nor_steps::Tally;
 use nor_work::there_is_planned_work;
 use std::alloc::Global;
 
@@ -81,16 +82,10 @@ fn tell_job<R: ByteIn, W: ByteOut>(
 {
     let window = window_size(&job.meaning) as usize;
     let (mut have, mut want) = room(alloc, window)?;
-    let (writer, mut told) = write_windows(
-        alloc,
-        job,
-        Text::Lines,
-        &mut have,
-        &mut want,
-        content,
-        out,
-    )?;
-    match writer.close(alloc, &mut Unwritten) {
+    let strategy = strategy(&job.meaning, &job.start);
+    let mut writer = PlanWriter::new(alloc, &job.meaning, &job.start, strategy, job.verify);
+    let mut told = write_windows(alloc, job, &mut writer, &mut have, &mut want, content, out)?;
+    match writer.close(alloc) {
         Ok(last) => told.steps += last,
         Err(fault) => return Err(lifted(fault)),
     }

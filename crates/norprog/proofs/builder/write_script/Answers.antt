@@ -15,26 +15,26 @@ returns-in-Err-clause-cut g c =
     let size = c.window_size-window.ensures.size in
     header_cut c.args.job.now c.window_size-window.result _ _ _ size c.in-Err.ensures.bytes
 
-pub returns-in_err-writer-clause-cut : goal.returns-in_err-writer-clause-cut
-returns-in_err-writer-clause-cut g c =
-    handed_on _ _ _ c.from_residual-in_err-writer.ensures.1
-    (windows_cut c.args.job.now _ _ _ _ _ c.in_err-writer.field-0.0 c.requires.accepted c.in-Ok.ensures.bytes c.in_err-writer.ensures.cut)
+pub returns-in_err-told-clause-cut : goal.returns-in_err-told-clause-cut
+returns-in_err-told-clause-cut g c =
+    handed_on _ _ _ c.from_residual-in_err-told.ensures.1
+    (windows_cut c.args.job.now _ _ _ _ _ c.in_err-told.field-0.0 c.requires.accepted c.in-Ok.ensures.bytes c.in_err-told.ensures.cut)
 
 pub returns-in-Err-close-clause-cut : goal.returns-in-Err-close-clause-cut
 returns-in-Err-close-clause-cut g c =
     let size = c.window_size-window.ensures.size in
     subst (IsCutScript c.args.job.now (g.R.ByteIn.ahead c.args.content.now) (g.R.ByteIn.ahead c.write_windows.new.content) (g.W.ByteOut.held c.args.out.now) (g.W.ByteOut.held c.close.new.out))
     (sym c.lifted.ensures)
-    (closing_cut c.args.job.now c.in_ok-writer.writer c.window_size-window.result _ _ _ _ _ _ c.in_ok-writer.told c.in-Err-close.fault size c.in-Ok.ensures.bytes c.in_ok-writer.ensures.done
+    (closing_cut c.args.job.now c.write_windows.new.writer c.window_size-window.result _ _ _ _ _ _ c.in_ok-told.told c.in-Err-close.fault size c.in-Ok.ensures.bytes c.in_ok-told.ensures.done
     c.in-Err-close.ensures.lines c.in-Err-close.ensures.why)
 
 pub returns-in-Ok-finish-clause-done : goal.returns-in-Ok-finish-clause-done
 returns-in-Ok-finish-clause-done g c =
-    whole_script c.args.job.now c.in_ok-writer.writer _ _ _ _ _ _ _ c.in_ok-writer.told c.in-Ok-close.last c.in-Ok.ensures.bytes c.in_ok-writer.ensures.done
+    whole_script c.args.job.now c.write_windows.new.writer _ _ _ _ _ _ _ c.in_ok-told.told c.in-Ok-close.last c.in-Ok.ensures.bytes c.in_ok-told.ensures.done
     c.in-Ok-close.ensures.lines c.in-Ok-close.ensures.steps c.in-Ok-finish.ensures.bytes
 
 pub returns-clause-cut : goal.returns-clause-cut
 returns-clause-cut g c =
     let size = c.window_size-window.ensures.size in
-    end_cut c.args.job.now c.in_ok-writer.writer c.window_size-window.result _ _ _ _ _ _ _ c.in_ok-writer.told c.in-Ok-close.last _ size c.in-Ok.ensures.bytes c.in_ok-writer.ensures.done
+    end_cut c.args.job.now c.write_windows.new.writer c.window_size-window.result _ _ _ _ _ _ _ c.in_ok-told.told c.in-Ok-close.last _ size c.in-Ok.ensures.bytes c.in_ok-told.ensures.done
     c.in-Ok-close.ensures.lines c.in-Ok-close.ensures.steps refl c.in-Err-finish.ensures.bytes

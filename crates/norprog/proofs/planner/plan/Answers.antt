@@ -40,5 +40,5 @@ returns-in_err-told-clause-within g c =
 
 pub returns-clause-within : goal.returns-clause-within
 returns-clause-within g c =
-    let done = c.in_ok-told.ensures.done.steps in
+    let done = c.in_ok-told.ensures.done.work in
     record { bytes = done.part; few = omega (arith, done.upto, c.in_ok-job.ensures.job.accepted.size); given = done.given }

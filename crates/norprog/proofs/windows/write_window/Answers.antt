@@ -1,6 +1,7 @@
 -- A window that was read, and its text.
 use Rattle.std.proofs.Common.{List, ℕ, rules, length, sym, subst}
-use Rattle.norprog.specs.Windows.{StopsText, StopsWindow}
+use Rattle.nor_steps.specs.Texts.{StopsText}
+use Rattle.norprog.specs.Windows.{StopsWindow}
 use Rattle.nor_job.specs.Written.{AreBytes}
 use Rattle.norprog.proofs.WindowLemmas.{ended}
 use Rattle.norprog.proofs.windows.write_window.Goals as goal
@@ -9,14 +10,14 @@ pub returns-in-Err-clause-stopped : goal.returns-in-Err-clause-stopped
 returns-in-Err-clause-stopped g c =
     let have = c.read_window.new.have in
     let target = c.fill.ensures.bytes in
-    subst (StopsWindow c.args.kind c.args.job.now c.args.writer.now c.args.at (length c.args.have.now) (g.R.ByteIn.ahead c.args.content.now) (g.R.ByteIn.ahead c.read_window.new.content)
-    (g.W.ByteOut.held c.args.out.now) (g.W.ByteOut.held c.write_text.new.out)) (sym c.lifted.ensures)
-    (ended c.args.kind c.args.job.now c.args.writer.now c.args.at (length c.args.have.now) _ _ _ _ c.in-Err.fault
+    subst (StopsWindow (g.T.WorkWriter.unit_text c.args.writer.now) c.args.job.now (g.T.WorkWriter.writing c.args.writer.now) c.args.at (length c.args.have.now) (g.R.ByteIn.ahead c.args.content.now) (g.R.ByteIn.ahead c.read_window.new.content)
+    (g.W.ByteOut.held c.args.out.now) (g.W.ByteOut.held c.write_window.new.out)) (sym c.lifted.ensures)
+    (ended (g.T.WorkWriter.unit_text c.args.writer.now) c.args.job.now (g.T.WorkWriter.writing c.args.writer.now) c.args.at (length c.args.have.now) _ _ _ _ c.in-Err.fault
     (record {
       part = have;
       size = c.read_window.auto.have;
       given = c.in_ok-read_window.ensures.bytes;
       bytes = subst AreBytes target (search rules);
-      stops = subst (λ (want : List ℕ). StopsText c.args.kind c.args.writer.now (g.W.ByteOut.held c.args.out.now) (g.W.ByteOut.held c.write_text.new.out) c.args.at have want c.in-Err.fault)
+      stops = subst (λ (want : List ℕ). StopsText (g.T.WorkWriter.unit_text c.args.writer.now) (g.T.WorkWriter.writing c.args.writer.now) (g.W.ByteOut.held c.args.out.now) (g.W.ByteOut.held c.write_window.new.out) c.args.at have want c.in-Err.fault)
           target c.in-Err.ensures.stopped;
     }))

@@ -5,7 +5,8 @@ use Rattle.norprog.proofs.windows.write_windows.Given as goal
 
 abbrev pub invariant-loop-at : goal.invariant-loop-at
 invariant-loop-at g l = record {
-  done : IsDone l.kind l.job (first_writing l.job) l.writer 0 l.at (g.R.ByteIn.ahead l.fn.content) (g.R.ByteIn.ahead l.content) (g.W.ByteOut.held l.fn.out) (g.W.ByteOut.held l.out) l.told;
+  done : IsDone (g.T.WorkWriter.unit_text l.fn.writer) l.job (first_writing l.job) (g.T.WorkWriter.writing l.writer) 0 l.at (g.R.ByteIn.ahead l.fn.content) (g.R.ByteIn.ahead l.content) (g.W.ByteOut.held l.fn.out) (g.W.ByteOut.held l.out) l.told;
+  text : g.T.WorkWriter.unit_text l.writer ≡ g.T.WorkWriter.unit_text l.fn.writer;
   room : length l.have ≡ l.window;
   room' : length l.want ≡ l.window;
   size : l.window ≡ length l.fn.have;
