@@ -197,6 +197,7 @@ fn commands_go_over_files_in_memory(rt: HostRuntime) -> Result<(), Fail> {
         script: Some("script"),
     };
     let mut out = IntoWrite::new(Vec::new(alloc));
+    let mut err = IntoWrite::new(Vec::new(alloc));
     let checked = check(alloc, &shelf, Ok(given), &mut out, &mut err);
     same(&rt, "the check", checked, 0);
     same(
@@ -206,6 +207,7 @@ fn commands_go_over_files_in_memory(rt: HostRuntime) -> Result<(), Fail> {
         b"yes\n".as_slice(),
     );
     let mut out = IntoWrite::new(Vec::new(alloc));
+    let mut err = IntoWrite::new(Vec::new(alloc));
     let played = run(alloc, &shelf, Ok(one_play()), &mut out, &mut err);
     same(&rt, "the play", played, 0);
     same(&rt, "its line", out.inner.as_slice(), b"ok 3\n".as_slice());
