@@ -212,11 +212,6 @@ fn commands_go_over_files_in_memory(rt: HostRuntime) -> Result<(), Fail> {
     same(&rt, "the play", played, 0);
     same(&rt, "its line", out.inner.as_slice(), b"ok 3\n".as_slice());
     let after = shelf.flushed.replace(Vec::new(alloc));
-    same(
-        &rt,
-        "the byte",
-        &after.as_slice()[..2],
-        [0, 0xFF].as_slice(),
-    );
+    same(&rt, "the byte", after.as_slice().first().copied(), Some(0));
     Ok(())
 }
