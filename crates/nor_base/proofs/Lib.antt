@@ -5,3 +5,4 @@ pub mod DeviceLaws
 pub mod SampledLaws
 pub mod RegionLaws
 pub mod ArrayLaws
+pub mod FaultLaws
