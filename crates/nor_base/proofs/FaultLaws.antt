@@ -8,6 +8,6 @@ handed_on P (Ok x) fault is p = tt
 handed_on P (Err told) fault is p = subst P (sym is) p
 
 -- what holds of an answer with that fault holds of the answer
-pub answered : {T E : Type 0} (P : Result T E → Type 0) (answer : Result T E) (fault : E) → IsErrAnd answer (λ told. told ≡ fault) → P (Err fault) → P answer
-answered P (Ok x) fault is p = absurd is
-answered P (Err told) fault is p = subst (λ why. P (Err why)) (sym is) p
+pub answered : {T E : Type 0} (answer : Result T E) (P : Result T E → Type 0) (fault : E) → P (Err fault) → IsErrAnd answer (λ told. told ≡ fault) → P answer
+answered (Ok x) P fault p is = absurd is
+answered (Err told) P fault p is = subst (λ why. P (Err why)) (sym is) p

@@ -1,20 +1,12 @@
 -- A fault that `?` hands on.
-use Rattle.std.proofs.Common.{◌≡◌, ◌≢◌, ℕ, Result, Ok, Err, None, sym, subst}
-use Rattle.std.specs.Prelude.{IfErr, IsErrAnd}
+use Rattle.std.proofs.Common.{◌≡◌, ◌≢◌, ℕ, None}
 use Rattle.nor_hex.specs.declared.fault.HexFault.{HexFault}
 use Rattle.nor_hex.specs.declared.fault.HexFault.TheVariants as hex
 use Rattle.nor_hex.specs.Faults.{IsFault, IsImage}
 use Rattle.nor_hex.specs.Image.{Pairs}
-use Rattle.nor_job.specs.declared.fault.BuildFault.{BuildFault}
 use Rattle.nor_job.specs.Task.{Task, contradiction}
 use Rattle.nor_job.specs.Causes.{HasImage, RefusesInputs}
 use Rattle.nor_job.specs.Lifted.{lifted_hex}
-
--- what is known of it is known of the result
-pub handed_on : {T : Type 0} (P : BuildFault → Type 0) (r : Result T BuildFault) (fault : BuildFault)
-    → IsErrAnd r (λ lifted. lifted ≡ fault) → P fault → IfErr r P
-handed_on P (Ok x) fault is p = tt
-handed_on P (Err lifted) fault is p = subst P (sym is) p
 
 -- the text's image is the task's
 pub has_image : (t : Task) (image : Pairs) → contradiction t ≡ None → IsImage t.hex image → HasImage t image

@@ -1,8 +1,8 @@
 -- One line more of a layout.
 use borrow.Author.Count.{below_more}
-use Rattle.std.proofs.Common.{◌≡◌, ◌∙◌, ℕ, ◌+◌, ◌<◌, ◌≤◌, Bool, true, false, if◌then◌else◌, List, [], ◌∷◌, ◌++◌, length, map, take, get_or, Option, Some, None, Result, Ok, Err, refl, sym, ap, subst, ⊎_elim, append-nil, arith}
+use Rattle.std.proofs.Common.{◌≡◌, ◌∙◌, ℕ, ◌+◌, ◌<◌, ◌≤◌, Bool, true, false, if◌then◌else◌, List, [], ◌∷◌, ◌++◌, length, map, take, Option, Some, None, Result, Ok, Err, refl, sym, ap, subst, ⊎_elim, append-nil, arith}
 use Rattle.std.specs.List.{filter_map}
-use Rattle.std.specs.Prelude.{MatchResult, IfErr, IsErrAnd}
+use Rattle.std.specs.Prelude.{MatchResult}
 use Rattle.std.specs.Option.{option_to_list}
 use Rattle.std.proofs.Math.Seq.{take-append_seam, get_or-append_seam}
 use Rattle.std.proofs.lemmas.Bool.{cases_lt}
@@ -117,11 +117,6 @@ pub read_further : {X : Type 0} (view : X → ℕ × List ℕ) (lines left rest 
 read_further view lines left rest given item regions after o read next tells added =
     subst (λ seen. IsRead lines seen rest after) (sym (map_push view given item))
     (one_more lines (map view given) rest (view item) regions after o (subst (λ left. IsRead lines (map view given) left regions) next read) (region_told (line_below regions (view item).1) (view item).0 o tells) added)
-
--- a fault that is handed on
-pub handed_on : {T : Type 0} (r : Result T LayoutFault) (P : LayoutFault → Type 0) (fault : LayoutFault) → P fault → IsErrAnd r (λ e. e ≡ fault) → IfErr r P
-handed_on (Ok x) P fault holds is = absurd is
-handed_on (Err e) P fault holds is = subst P (sym is) holds
 
 -- past the last line stands no cause
 none_past : (lines : List (ℕ × List ℕ)) (n : ℕ) → length lines ≤ n → cause_at lines n ≡ None

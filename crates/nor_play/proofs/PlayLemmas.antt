@@ -1,7 +1,7 @@
 -- Steps played one after another.
 use Rattle.std.proofs.Common.{◌≡◌, ℕ, suc, ◌+◌, ◌*◌, ◌<◌, ◌≤◌, true, false, if◌then◌else◌, List, [], ◌∷◌, ◌++◌, length, take, drop, Result, Ok, Err, refl, sym, ◌∙◌, ap, subst, arith, append_assoc, append-nil, length-append, get_or}
 use Rattle.std.proofs.lemmas.List.{drop_more, take_more, take-append-drop, length-take-le}
-use Rattle.std.specs.Prelude.{MatchResult, IsErrAnd}
+use Rattle.std.specs.Prelude.{MatchResult}
 use Rattle.nor_base.specs.declared.step.Step.{Step}
 use Rattle.nor_base.specs.declared.wrong.Wrong.{Wrong}
 use Rattle.nor_base.specs.declared.wrong.Wrong.TheVariants as wrong
@@ -182,8 +182,3 @@ halts_at before now after limit number steps x count fault.Memory has within is 
 
 pub one_taken : (steps : List Step) (at : ℕ) (x : Step) → at < length steps → x ≡ get_or steps at x → take (at + 1) steps ≡ take at steps ++ x ∷ []
 one_taken steps at x within is = take_more steps at x within ∙ ap (λ (y : Step). take at steps ++ y ∷ []) (sym is)
-
--- a fault that is handed on
-pub handed_on : (r : Result ℕ PlayFault) (P : Result ℕ PlayFault → Type 0) (f : PlayFault) → P (Err f) → IsErrAnd r (λ e. e ≡ f) → P r
-handed_on (Ok x) P f here is = absurd is
-handed_on (Err e) P f here is = subst (λ (k : PlayFault). P (Err k)) (sym is) here

@@ -1,6 +1,5 @@
 -- Steps of one transaction.
-use Rattle.std.proofs.Common.{◌≡◌, ℕ, ◌<◌, true, false, if◌then◌else◌, List, [], length, Result, Ok, Err, refl, sym, ◌∙◌, ap, subst}
-use Rattle.std.specs.Prelude.{IsErrAnd}
+use Rattle.std.proofs.Common.{◌≡◌, ℕ, ◌<◌, true, false, if◌then◌else◌, List, [], length, Result, Ok, Err, refl, sym, ◌∙◌, ap}
 use Rattle.std.specs.Str.{bytes_eq}
 use Rattle.std.proofs.lemmas.Slice.Eq.{bytes_eq-Decides}
 use Rattle.nor_base.specs.declared.step.Step.TheVariants.{Send, Poll, Verify}
@@ -14,11 +13,6 @@ use Rattle.nor_laws.specs.Spelling.{VerifyKeeps}
 use Rattle.nor_play.specs.declared.fault.Halt.TheVariants as halt
 use Rattle.nor_play.specs.declared.fault.Halt.{Halt as Stopped}
 use Rattle.nor_play.specs.Turns.{Gives, EndsStep, StopsStep, PlaysStep}
-
--- a halt that is handed on
-pub handed_on : {A : Type 0} (r : Result A Stopped) (P : Result A Stopped → Type 0) (h : Stopped) → P (Err h) → IsErrAnd r (λ e. e ≡ h) → P r
-handed_on (Ok x) P h here is = absurd is
-handed_on (Err e) P h here is = subst (λ (k : Stopped). P (Err k)) (sym is) here
 
 -- clocks sent once
 pub send_ends : (before after : Shown) (limit : ℕ) (clocks bytes : List ℕ) → 0 < limit → after.setting ≡ before.setting

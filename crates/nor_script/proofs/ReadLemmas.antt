@@ -1,6 +1,6 @@
 -- The reading of a script, line by line.
-use Rattle.std.proofs.Common.{◌≡◌, ◌≢◌, ℕ, ◌+◌, ◌-◌, ◌<◌, ◌≤◌, ◌==◌, ◌||◌, not, Bool, true, false, cond, if◌then◌else◌, List, [], ◌∷◌, ◌++◌, length, take, drop, get_or, Option, Some, None, Result, Ok, Err, ◌⊎◌, inl, inr, refl, sym, ◌∙◌, ap, subst, arith, append_assoc, append-nil, eqb-true}
-use Rattle.std.specs.Prelude.{codes, decimal, position, IfSome, IfErr, IsErrAnd}
+use Rattle.std.proofs.Common.{◌≡◌, ◌≢◌, ℕ, ◌+◌, ◌-◌, ◌<◌, ◌≤◌, ◌==◌, ◌||◌, not, Bool, true, false, cond, if◌then◌else◌, List, [], ◌∷◌, ◌++◌, length, take, drop, get_or, Option, Some, None, Ok, Err, ◌⊎◌, inl, inr, refl, sym, ◌∙◌, ap, subst, arith, append_assoc, append-nil, eqb-true}
+use Rattle.std.specs.Prelude.{codes, decimal, position, IfSome}
 use Rattle.std.specs.List.{AllByRecursion, list_any, list_all, position_or_len, before_first, after_first}
 use Rattle.std.specs.Str.{bytes_eq}
 use Rattle.std.proofs.lemmas.Bool.{ltb-true, ltb-false}
@@ -274,11 +274,6 @@ went_above text steps rest right = (record { rest = rest; right = right }, refl)
 -- the header is missing
 pub header_missing : (text : List ℕ) → ((rest : List ℕ) → text ≢ header ++ rest) → Refuses text (Header 1)
 header_missing text none = (refl, none)
-
--- a fault that is handed on
-pub handed_on : {T : Type 0} (r : Result T ScriptFault) (P : ScriptFault → Type 0) (fault : ScriptFault) → P fault → IsErrAnd r (λ e. e ≡ fault) → IfErr r P
-handed_on (Ok x) P fault here is = absurd is
-handed_on (Err e) P fault here is = subst P (sym is) here
 
 -- the fault of a line is of its number
 pub line_told : (steps : ℕ) (line : List ℕ) (fault : ScriptFault) → line_fault steps line ≡ Some fault → IsOfLine (steps + 2) fault

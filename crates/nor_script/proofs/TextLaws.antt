@@ -1,6 +1,5 @@
 -- The text of a script that came out of a device.
-use Rattle.std.proofs.Common.{◌≡◌, ℕ, inl, inr, List, [], ◌∷◌, ◌++◌, length, Result, Ok, Err, refl, sym, ◌∙◌, ap, subst, append_assoc, append-nil, false}
-use Rattle.std.specs.Prelude.{IfErr, IsErrAnd}
+use Rattle.std.proofs.Common.{◌≡◌, ℕ, inl, inr, List, [], ◌∷◌, ◌++◌, length, Ok, Err, refl, sym, ◌∙◌, ap, subst, append_assoc, append-nil, false}
 use Rattle.nor_base.specs.declared.step.Step.{Step}
 use Rattle.nor_base.specs.Device.{Ahead, Unknown, Finite, Endless, Gives, IsAtEnd}
 use Rattle.nor_base.specs.Script.{header, closed, step_line, end_line, step_lines, script_text, IsScript}
@@ -112,11 +111,6 @@ script_of before b c above steps step p number q =
         spelled = of.2 ∙ ap (λ l. bytes ++ (l ++ of.0)) q.1.none ∙ ap (λ l. bytes ++ l) none ∙ append-nil bytes ∙ append_assoc header (step_lines above) (end_line (length above));
       },
     )
-
--- what is known of a fault is known of the result that hands it on
-pub handed_on : {T E : Type 0} (P : E → Type 0) (r : Result T E) (fault : E) → IsErrAnd r (λ told. told ≡ fault) → P fault → IfErr r P
-handed_on P (Ok x) fault is p = tt
-handed_on P (Err told) fault is p = subst P (sym is) p
 
 -- why a reading stopped
 module _ (before : Ahead) where

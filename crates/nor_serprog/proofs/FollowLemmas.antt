@@ -1,6 +1,6 @@
 -- A wait turn by turn, and an operation by its clocks.
-use Rattle.std.proofs.Common.{◌≡◌, ◌≢◌, ℕ, ◌+◌, ◌<◌, ◌%◌, ◌==◌, true, List, [], ◌∷◌, ◌++◌, length, get_or, Option, Result, Ok, Err, refl, sym, ◌∙◌, ap, subst, append-nil, arith, length-append}
-use Rattle.std.specs.Prelude.{flat_map, IsErrAnd}
+use Rattle.std.proofs.Common.{◌≡◌, ◌≢◌, ℕ, ◌+◌, ◌<◌, ◌%◌, ◌==◌, true, List, [], ◌∷◌, ◌++◌, length, get_or, Option, Ok, Err, refl, sym, ◌∙◌, ap, subst, append-nil, arith, length-append}
+use Rattle.std.specs.Prelude.{flat_map}
 use Rattle.std.specs.Io.KnownBytes.{Appends}
 use Rattle.std.proofs.lemmas.Grind.{flat_map-append}
 use Rattle.std.proofs.lemmas.List.Folds.{list_all-append}
@@ -92,11 +92,6 @@ waits_fail {h} {m} {h'} {a} {b} {a'} turn turns got n why n_is within one p stop
 
 pub waits_never : {h h' : Option (List ℕ)} {a a' : Ahead} (turn turns : ℕ) → turn ≡ turns → HasWaitedFor h h' a a' turn → StaysBusy h h' a a' turns
 waits_never turn turns all p = record { busy = p.busy; all = p.all ∙ all; each = p.each; read = p.read }
-
--- what holds of an error that is handed on
-pub handed_on : {T F : Type 0} (r : Result T F) (P : Result T F → Type 0) (e : F) → P (Err e) → IsErrAnd r (λ x. x ≡ e) → P r
-handed_on (Ok x) P e holds is = absurd is
-handed_on (Err x) P e holds is = subst (λ y. P (Err y)) (sym is) holds
 
 -- an operation asks for as many bytes as its clocks sample
 pub of_want : (limits : Limits) (clocks sent want : List ℕ) (asked : ℕ) → IsOperation limits clocks sent asked → length want ≡ sampled_count clocks

@@ -1,4 +1,3 @@
-pub mod FaultLemmas
 pub mod ReportLemmas
 pub mod TargetLemmas
 pub mod StretchLemmas

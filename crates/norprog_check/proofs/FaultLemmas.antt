@@ -1,6 +1,5 @@
 -- Faults: what `?` hands on, and what each says.
-use Rattle.std.proofs.Common.{◌≡◌, ℕ, List, Result, Ok, Err, refl, sym, subst}
-use Rattle.std.specs.Prelude.{IfErr, IsErrAnd}
+use Rattle.std.proofs.Common.{◌≡◌, ℕ, List, refl, sym, subst}
 use Rattle.nor_base.specs.Device.{Ahead}
 use Rattle.nor_job.specs.declared.fault.BuildFault.{BuildFault}
 use Rattle.nor_job.specs.declared.fault.BuildFault.TheVariants as fault
@@ -9,11 +8,6 @@ use Rattle.nor_job.specs.Task.{Task}
 use Rattle.nor_job.specs.Written.{of_reader}
 use Rattle.norprog_check.specs.Checked.{IsLateFault}
 use Rattle.norprog_check.specs.Content.{ReadCause}
-
--- what is known of it is known of the result
-pub handed_on : {T E : Type 0} (P : E → Type 0) (r : Result T E) (fault : E) → IsErrAnd r (λ told. told ≡ fault) → P fault → IfErr r P
-handed_on P (Ok x) fault is p = tt
-handed_on P (Err told) fault is p = subst P (sym is) p
 
 pub memory_is_late : (why : BuildFault) → why ≡ fault.Memory → IsLateFault why
 memory_is_late why is = subst IsLateFault (sym is) tt

@@ -1,6 +1,5 @@
 -- What the lines of the steps that came are of the text.
-use Rattle.std.proofs.Common.{◌≡◌, ℕ, suc, ◌+◌, inl, inr, Bool, false, List, [], ◌∷◌, ◌++◌, length, Option, Result, Ok, Err, refl, sym, ◌∙◌, ap, subst, arith, append_assoc, append-nil}
-use Rattle.std.specs.Prelude.{IsErrAnd}
+use Rattle.std.proofs.Common.{◌≡◌, ℕ, suc, ◌+◌, inl, inr, Bool, false, List, [], ◌∷◌, ◌++◌, length, Option, Ok, Err, refl, sym, ◌∙◌, ap, subst, arith, append_assoc, append-nil}
 use Rattle.std.specs.Io.KnownBytes.{Appends}
 use Rattle.nor_base.specs.declared.step.Step.{Step}
 use Rattle.nor_base.specs.declared.device.Failed.{Failed}
@@ -196,9 +195,3 @@ pub mode_next : (m : Parameters) (first mode4 : Bool) (above : List Step) (step 
     → mode_past m mode4 shown ≡ mode_upto m first (above ++ step ∷ [])
 mode_next m first mode4 above step shown is mode =
     ap (mode_past m mode4) is ∙ ap (λ k. mode_past m k step) mode ∙ sym (mode_more m first above step)
-
--- a stop that is handed on
-pub handed_on : (r : Result (Unit {0}) Stop) (m : Parameters) (first : Bool) (before after : Ahead) (a w : Option (List ℕ)) (stop : Stop)
-    → IsErrAnd r (λ e. e ≡ stop) → Lists m first before after a w (Err stop) → Lists m first before after a w r
-handed_on (Ok x) m first before after a w stop is p = absurd is
-handed_on (Err e) m first before after a w stop is p = subst (λ (s : Stop). Lists m first before after a w (Err s)) (sym is) p

@@ -1,6 +1,6 @@
 -- The play that a request has is the one that its texts ask for.
 use Rattle.std.proofs.Common.{◌≡◌, option_map, refl, sym, subst, List, ℕ, None, Result, Ok, Err, IfOk, IfErr}
-use Rattle.std.specs.Prelude.{MatchResult, IsErrAnd}
+use Rattle.std.specs.Prelude.{MatchResult}
 use Rattle.nor_base.specs.declared.meaning.Start.{Start}
 use Rattle.nor_base.specs.declared.step.Step.{Step}
 use Rattle.nor_base.specs.Device.{Ahead}
@@ -98,8 +98,3 @@ module _ (files : FileFacts) (request : PlayRequest) (tables : List ℕ) (t : Ta
       asked = asked;
       has = record { after = after; m = m; steps = steps; content = content; ready = ready; stops = subst (λ (s : Start). EndsGreeting m s content steps why) begins is };
     }
-
--- a refusal that `?` hands on
-pub handed_on : {T : Type 0} (P : Unplayed → Type 0) (r : Result T Unplayed) (why : Refusal) → IsErrAnd r (λ told. told ≡ Refused why) → P (Refused why) → IfErr r P
-handed_on P (Ok x) why is p = tt
-handed_on P (Err told) why is p = subst P (sym is) p

@@ -1,6 +1,6 @@
 -- What the readings of a script come to.
-use Rattle.std.proofs.Common.{◌≡◌, ℕ, ◌+◌, inl, inr, List, length, Option, Result, Ok, Err, refl, sym, subst, arith}
-use Rattle.std.specs.Prelude.{◌⊎◌, IfOk, IfErr, IsErrAnd}
+use Rattle.std.proofs.Common.{◌≡◌, ℕ, ◌+◌, inl, inr, List, length, Option, Result, Ok, Err, refl, subst, arith}
+use Rattle.std.specs.Prelude.{◌⊎◌, IfOk, IfErr}
 use Rattle.std.specs.Io.KnownBytes.{Appends}
 use Rattle.nor_base.specs.Chip.{Setting, Chip, ready}
 use Rattle.nor_base.specs.Device.{Ahead, Finite, Gives}
@@ -105,10 +105,6 @@ module _ (t : Task) (bench : Bench) (kind : Kind) (len : ℕ) (sized : IsSized t
           → IfErr r (RefusesStreams t bench first first' again again' len before after held held' Untouched)
       refuses_again (Ok verdict) p = tt
       refuses_again (Err why) p = again_refused why p
-
-pub handed_on : {T : Type 0} (r : Result T Refusal) (P : Refusal → Type 0) (why : Refusal) → IsErrAnd r (λ e. e ≡ why) → P why → IfErr r P
-handed_on (Ok x) P why is p = absurd is
-handed_on (Err e) P why is p = subst P (sym is) p
 
 -- where both devices tell the same text, and neither fails
 

@@ -1,6 +1,5 @@
 -- Refusals: which command line has one, and why.
-use Rattle.std.proofs.Common.{◌≡◌, ℕ, ◌⊎◌, inl, inr, Option, None, Some, Result, Ok, Err, IfErr, ◌<◌, arith, sym, subst}
-use Rattle.std.specs.Prelude.{IsErrAnd}
+use Rattle.std.proofs.Common.{◌≡◌, ℕ, inl, inr, Option, None, ◌<◌, arith}
 use Rattle.nor_job.specs.declared.fault.BuildFault.{BuildFault}
 use Rattle.nor_job.specs.declared.fault.BuildFault.TheVariants as fault
 use Rattle.norprog_words.specs.declared.faults.Refusal.{Refusal}
@@ -84,11 +83,6 @@ refuses_wider F G D E wider more (Script why) is = wider (Script why) is
 -- a refusal of the work is one of a command line that has no fault
 pub refuses : (cause : Option Refusal) (Work : Refusal → Type 0) (why : Refusal) → cause ≡ None → Work why → Refuses cause Work why
 refuses cause Work why is work = rw is work
-
--- a refusal that `?` hands on
-pub handed_on : {T : Type 0} (P : Refusal → Type 0) (r : Result T Refusal) (why : Refusal) → IsErrAnd r (λ told. told ≡ why) → P why → IfErr r P
-handed_on P (Ok x) why is p = tt
-handed_on P (Err told) why is p = subst P (sym is) p
 
 -- no refusal ends with status 0
 pub refused_status : (why : Refusal) (status : ℕ) → status ≡ status_after why → 0 < status

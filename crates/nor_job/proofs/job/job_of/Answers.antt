@@ -3,7 +3,8 @@ use Rattle.std.proofs.Common.{sym, ap, subst}
 use Rattle.nor_hex.specs.Faults.{IsFault, IsImage}
 use Rattle.nor_job.specs.Lifted.{lifted_hex}
 use Rattle.nor_job.specs.Task.{Task}
-use Rattle.nor_job.proofs.FaultLemmas.{handed_on, has_image, refuses_text}
+use Rattle.nor_base.proofs.FaultLaws.{handed_on}
+use Rattle.nor_job.proofs.FaultLemmas.{has_image, refuses_text}
 use Rattle.nor_job.proofs.job.job_of.Goals as goal
 
 pub returns-in_err-consistent-clause-refused : goal.returns-in_err-consistent-clause-refused

@@ -1,13 +1,14 @@
 use Rattle.std.proofs.Common.{◌≡◌, Some, None, Ok, sym, subst, append-nil}
 use Rattle.nor_layout.specs.Line.{line_below}
 use Rattle.nor_layout.specs.Text.{Refuses}
-use Rattle.nor_layout.proofs.Reading.{Tells, handed_on, refused_here, read_further, all_read}
+use Rattle.nor_base.proofs.FaultLaws.{handed_on}
+use Rattle.nor_layout.proofs.Reading.{Tells, refused_here, read_further, all_read}
 use Rattle.nor_layout.proofs.reader.read.Goals as goal
 
 pub returns-in_err-region-clause-refused : goal.returns-in_err-region-clause-refused
 returns-in_err-region-clause-refused c =
     let refuses = refused_here c.args.text.now _ _ _ _ _ c.in_err-region.field-0.0 c.loop-number.invariant c.in-Some.ensures.steps (rw (← c.deref.ensures.value) c.in_err-region.ensures) in
-    handed_on c.from_residual.result (Refuses c.args.text.now) c.in_err-region.field-0.0 refuses c.from_residual.ensures.1
+    handed_on (Refuses c.args.text.now) c.from_residual.result c.in_err-region.field-0.0 c.from_residual.ensures.1 refuses
 
 pub loop-number-preserved-in-Continue-branch-3 : goal.loop-number-preserved-in-Continue-branch-3
 loop-number-preserved-in-Continue-branch-3 c =

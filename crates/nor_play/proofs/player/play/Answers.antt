@@ -4,7 +4,8 @@ use Rattle.nor_base.specs.declared.step.Step.{Step}
 use Rattle.nor_play.specs.Fed.{Player, past}
 use Rattle.nor_play.specs.Play.{Plays}
 use Rattle.nor_play.specs.Asks.{AsksPlay}
-use Rattle.nor_play.proofs.PlayLemmas.{at_one, one_taken, handed_on}
+use Rattle.nor_base.proofs.FaultLaws.{answered}
+use Rattle.nor_play.proofs.PlayLemmas.{at_one, one_taken}
 use Rattle.nor_play.proofs.AskLemmas.{HasAsked, nothing_asked}
 use Rattle.nor_play.proofs.FedLaws.{IsFed, fed_none, fed_more, fed_more_asks, fed_halts, fed_halts_asks}
 use Rattle.nor_play.proofs.player.play.Goals as goal
@@ -24,7 +25,7 @@ returns-in_err-step-clause-played g c =
     let before = g.P.Port.shown c.args.port.now in
     let now = g.P.Port.shown c.loop-step.port in
     let after = g.P.Port.shown c.step.new.port in
-    handed_on c.from_residual.result (Plays before after c.args.limit c.args.steps.now) c.in_err-step.field-0.0
+    answered c.from_residual.result (Plays before after c.args.limit c.args.steps.now) c.in_err-step.field-0.0
     (subst (λ (l : List Step). Plays before after c.args.limit l (Err c.in_err-step.field-0.0)) (at_one c.args.steps.now c.loop-step.step-index c.step-item.result c.loop-step-test.true c.step-item.is)
     (fed_halts before now after c.args.limit (take c.loop-step.step-index c.args.steps.now) c.loop-step.player c.loop-step.invariant.fed c.step-item.result
     (drop (c.loop-step.step-index + 1) c.args.steps.now) c.in_err-step.field-0.0 c.in_err-step.ensures.played))
@@ -38,7 +39,7 @@ returns-in_err-step-clause-asked g c =
     let P = g.P.Port.asked c.args.port.now in
     let Q = g.P.Port.asked c.loop-step.port in
     let R = g.P.Port.asked c.step.new.port in
-    handed_on c.from_residual.result (AsksPlay before P R c.args.limit c.args.steps.now) c.in_err-step.field-0.0
+    answered c.from_residual.result (AsksPlay before P R c.args.limit c.args.steps.now) c.in_err-step.field-0.0
     (subst (λ (l : List Step). AsksPlay before P R c.args.limit l (Err c.in_err-step.field-0.0)) (at_one c.args.steps.now c.loop-step.step-index c.step-item.result c.loop-step-test.true c.step-item.is)
     (fed_halts_asks before now after c.args.limit (take c.loop-step.step-index c.args.steps.now) c.loop-step.player c.loop-step.invariant.fed c.step-item.result
     (drop (c.loop-step.step-index + 1) c.args.steps.now) c.in_err-step.field-0.0 c.in_err-step.ensures.played P Q R c.loop-step.invariant.asked c.in_err-step.ensures.asked))

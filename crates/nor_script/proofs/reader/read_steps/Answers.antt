@@ -9,7 +9,8 @@ use Rattle.nor_script.specs.declared.fault.ScriptFault.TheVariants.{AfterEnd}
 use Rattle.nor_script.specs.Line.{count_fault, step_fault}
 use Rattle.nor_script.specs.Parts.{or_fault, TellsFault}
 use Rattle.nor_script.specs.Faults.{IsRight, GoesOn, Refuses, AreAbove}
-use Rattle.nor_script.proofs.ReadLemmas.{begun, one_more, all_read, went_on, went_above, step_refused, step_above, header_missing, handed_on}
+use Rattle.nor_base.proofs.FaultLaws.{handed_on}
+use Rattle.nor_script.proofs.ReadLemmas.{begun, one_more, all_read, went_on, went_above, step_refused, step_above, header_missing}
 use Rattle.nor_script.proofs.reader.read_steps.Goals as goal
 
 pub returns-in_default-clause-refused : goal.returns-in_default-clause-refused
@@ -53,14 +54,14 @@ returns-in_err-step_on-clause-refused c =
     let count : c.len-count.result ≡ length c.loop-line.steps.items = omega (arith, c.loop-line.steps.ok.0) in
     let refuses = step_refused c.args.text.now c.loop-line.steps.items _ _ _ c.in_err-step_on.field-0.0 c.loop-line.invariant c.in-Some-first_line.ensures
     c.in_default-strip_prefix.ensures.cases (subst (λ n. TellsFault (step_fault (n + 2) c.in-Some-first_line.line.now) c.in_err-step_on.field-0.0) count c.in_err-step_on.ensures.refused) in
-    handed_on c.from_residual-in_err-step_on.result (Refuses c.args.text.now) c.in_err-step_on.field-0.0 refuses c.from_residual-in_err-step_on.ensures.1
+    handed_on (Refuses c.args.text.now) c.from_residual-in_err-step_on.result c.in_err-step_on.field-0.0 c.from_residual-in_err-step_on.ensures.1 refuses
 
 pub returns-in_err-step_on-clause-above : goal.returns-in_err-step_on-clause-above
 returns-in_err-step_on-clause-above c =
     let count : c.len-count.result ≡ length c.loop-line.steps.items = omega (arith, c.loop-line.steps.ok.0) in
     let above = step_above c.args.text.now c.loop-line.steps.items _ c.in-Some-first_line.line.now c.in_err-step_on.field-0.0 c.loop-line.invariant
     (subst (λ n. TellsFault (step_fault (n + 2) c.in-Some-first_line.line.now) c.in_err-step_on.field-0.0) count c.in_err-step_on.ensures.refused) in
-    handed_on c.from_residual-in_err-step_on.result (AreAbove c.args.text.now c.loop-line.steps.items) c.in_err-step_on.field-0.0 above c.from_residual-in_err-step_on.ensures.1
+    handed_on (AreAbove c.args.text.now c.loop-line.steps.items) c.from_residual-in_err-step_on.result c.in_err-step_on.field-0.0 c.from_residual-in_err-step_on.ensures.1 above
 
 pub loop-line-preserved : goal.loop-line-preserved
 loop-line-preserved c =

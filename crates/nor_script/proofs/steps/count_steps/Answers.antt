@@ -2,7 +2,8 @@
 use Rattle.std.proofs.Common.{◌++◌, ◌∷◌, [], true, false, Ok, sym, ◌∙◌, subst, arith, length-append}
 use Rattle.nor_script.specs.Stream.{reading, Advances, CountsStep, StopsReader}
 use Rattle.nor_script.proofs.StreamLaws.{has_begun, has_more}
-use Rattle.nor_script.proofs.TextLaws.{handed_on, stops_header, stops_step, script_of}
+use Rattle.nor_base.proofs.FaultLaws.{handed_on}
+use Rattle.nor_script.proofs.TextLaws.{stops_header, stops_step, script_of}
 use Rattle.nor_script.proofs.ReaderLemmas.{tell_failed, begin_told, advance_told, all_told}
 use Rattle.nor_script.proofs.steps.count_steps.Goals as goal
 

@@ -2,7 +2,8 @@
 use Rattle.std.proofs.Common.{◌≡◌, ◌≢◌, ◌%◌, get_or, length, refl, ◌∙◌, arith}
 use Rattle.nor_serprog.specs.declared.fault.Reason.TheVariants.{Exchange}
 use Rattle.nor_serprog.specs.Follow.{Waits}
-use Rattle.nor_serprog.proofs.FollowLemmas.{waits_none, waits_on, waits_end, waits_fail, waits_never, handed_on}
+use Rattle.nor_base.proofs.FaultLaws.{answered}
+use Rattle.nor_serprog.proofs.FollowLemmas.{waits_none, waits_on, waits_end, waits_fail, waits_never}
 use Rattle.nor_serprog.proofs.follow.wait.Goals as goal
 
 pub loop-init : goal.loop-init
@@ -12,7 +13,7 @@ pub returns-in_err-operate-clause-waits : goal.returns-in_err-operate-clause-wai
 returns-in_err-operate-clause-waits g c =
     let one : length c.operate.new.got ≡ 1 = omega (arith, c.loop.invariant.one) in
     let why = c.in_err-operate.field-0.0 in
-    handed_on c.from_residual.result
+    answered c.from_residual.result
     (λ r. Waits (g.W.ByteOut.held c.args.to.now) (g.W.ByteOut.held c.operate.new.to) (g.R.ByteIn.ahead c.args.from.now) (g.R.ByteIn.ahead c.operate.new.from) r c.args.turns)
     (Exchange why) (waits_fail c.loop.counter c.args.turns c.operate.new.got _ why c.loop.invariant.one (omega (arith, c.loop-test.true)) one c.loop.invariant.busy c.in_err-operate.ensures.asked)
     c.from_residual.ensures.1

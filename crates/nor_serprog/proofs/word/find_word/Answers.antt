@@ -1,7 +1,7 @@
 -- Byte by byte.
 use Rattle.std.proofs.Common.{refl, sym, ◌∙◌, arith}
 use Rattle.nor_serprog.specs.Greeting.{Finds}
-use Rattle.nor_serprog.proofs.FollowLemmas.{handed_on}
+use Rattle.nor_base.proofs.FaultLaws.{answered}
 use Rattle.nor_serprog.proofs.WordLemmas.{begins, hears, tries_again, found, differs, silent, stops_hearing, stops_trying}
 use Rattle.nor_serprog.proofs.word.find_word.Goals as goal
 use Rattle.nor_serprog.proofs.word.find_word.Goals.{in-Some+else-ends_word, in-None+else-tries-eq-TRIES+in_ok-put_try-in-None}
@@ -12,7 +12,7 @@ loop-init g c = record { listening = begins (g.R.ByteIn.ahead c.args.from.now) c
 pub returns-in_err-byte-clause-word : goal.returns-in_err-byte-clause-word
 returns-in_err-byte-clause-word g c =
     let why = c.in_err-byte.field-0.0 in
-    handed_on c.from_residual-in_err-byte.result
+    answered c.from_residual-in_err-byte.result
     (λ r. Finds (g.W.ByteOut.held c.args.to.now) (g.W.ByteOut.held c.loop.to) (g.R.ByteIn.ahead c.args.from.now) (g.R.ByteIn.ahead c.take_byte.new.from) r)
     why (stops_hearing _ c.loop.tries c.loop.last c.loop.counter why c.loop.invariant.listening c.in_err-byte.ensures.hears) c.from_residual-in_err-byte.ensures.1
 
@@ -27,7 +27,7 @@ returns-then-tries-eq-TRIES-clause-word g c =
 pub returns-in_err-put_try-in-None-clause-word : goal.returns-in_err-put_try-in-None-clause-word
 returns-in_err-put_try-in-None-clause-word g c =
     let why = c.in_err-put_try-in-None.field-0.0 in
-    handed_on c.from_residual-in_err-put_try-in-None.result
+    answered c.from_residual-in_err-put_try-in-None.result
     (λ r. Finds (g.W.ByteOut.held c.args.to.now) (g.W.ByteOut.held c.put_try-in-None.new.to) (g.R.ByteIn.ahead c.args.from.now) (g.R.ByteIn.ahead c.take_byte.new.from) r)
     why (stops_trying _ _ c.loop.tries c.loop.last c.loop.counter c.in_ok-byte.field-0 why c.in-None.is c.if-tries-eq-TRIES.false c.loop.invariant.listening
     c.in_ok-byte.ensures.hears c.in_err-put_try-in-None.ensures.tries) c.from_residual-in_err-put_try-in-None.ensures.1

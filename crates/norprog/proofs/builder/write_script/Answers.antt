@@ -1,7 +1,7 @@
 -- The header, the windows, the lines that leave the mode, and the end line.
 use Rattle.std.proofs.Common.{refl, sym, subst}
 use Rattle.norprog.specs.Windows.{IsCutScript}
-use Rattle.norprog.proofs.FaultLemmas.{handed_on}
+use Rattle.nor_base.proofs.FaultLaws.{handed_on}
 use Rattle.norprog.proofs.ScriptLemmas.{memory_cut, header_cut, windows_cut, closing_cut, end_cut, whole_script}
 use Rattle.norprog.proofs.builder.write_script.Goals as goal
 

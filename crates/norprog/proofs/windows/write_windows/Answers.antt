@@ -1,11 +1,11 @@
 -- One window more follows those before.
-use Rattle.std.proofs.Common.{rules, ◌≡◌, ◌+◌, ◌-◌, ◌<◌, ◌∙◌, min, length, take, drop, refl, sym, ap, subst, arith, length-append, length-drop}
+use Rattle.std.proofs.Common.{◌≡◌, ◌+◌, ◌-◌, ◌<◌, ◌∙◌, min, length, take, drop, refl, sym, ap, subst, arith, length-append, length-drop}
 use Rattle.std.proofs.lemmas.List.{length-take-le}
 use Rattle.std.proofs.Math.Nat.{zero-mod}
 use Rattle.nor_job.specs.declared.job.Job.{Job}
 use Rattle.nor_steps.specs.Texts.{UnitText}
 use Rattle.norprog.specs.Windows.{first_writing, IsDone, StopsWindow}
-use Rattle.norprog.proofs.FaultLemmas.{handed_on}
+use Rattle.nor_base.proofs.FaultLaws.{handed_on}
 use Rattle.norprog.proofs.PlaceLemmas.{place_is}
 use Rattle.norprog.proofs.WindowLemmas.{none_done, done_then, done_then_cut}
 use Rattle.norprog.proofs.windows.write_windows.Goals as goal

@@ -3,7 +3,7 @@ use Rattle.std.proofs.Common.{◌++◌, ◌∷◌, [], true, false, Ok, refl, �
 use Rattle.nor_script.specs.Stream.{reading, Advances, CountsStep, StopsReader}
 use Rattle.nor_script.proofs.StreamLaws.{has_begun, has_more}
 use Rattle.nor_script.proofs.TextLaws.{stops_header, stops_step, stops_memory}
-use Rattle.norprog_check.proofs.FaultLemmas.{handed_on}
+use Rattle.nor_base.proofs.FaultLaws.{handed_on}
 use Rattle.norprog_check.proofs.ReadingLemmas.{fed_more, feeds_all}
 use Rattle.norprog_check.proofs.readings.feed_script.Goals as goal
 

@@ -5,7 +5,8 @@ use Rattle.norprog_check.specs.declared.fault.CheckStop.TheVariants.{Build}
 use Rattle.norprog_check.specs.declared.fault.StreamStop.TheVariants.{Check}
 use Rattle.norprog_check.specs.Streams.{IsLateStop, IsOfDevices}
 use Rattle.norprog_check.proofs.CheckLemmas.{IsJudged, goal_size, text_checked}
-use Rattle.norprog_check.proofs.FaultLemmas.{handed_on, memory_is_late}
+use Rattle.nor_base.proofs.FaultLaws.{handed_on}
+use Rattle.norprog_check.proofs.FaultLemmas.{memory_is_late}
 use Rattle.norprog_check.proofs.streams.check_streams.Goals as goal
 
 pub returns-in_err-job-clause-accepted : goal.returns-in_err-job-clause-accepted

@@ -1,7 +1,8 @@
 -- What was built is what the command line asks for.
 use Rattle.std.proofs.Common.{rules, ◌≡◌, inr, Some, None}
 use Rattle.norprog_words.specs.Told.{line_fault}
-use Rattle.norprog_words.proofs.ToldLemmas.{asked_wider, refuses, handed_on}
+use Rattle.nor_base.proofs.FaultLaws.{handed_on}
+use Rattle.norprog_words.proofs.ToldLemmas.{asked_wider, refuses}
 use Rattle.norprog_command.specs.Asked.{asks_build}
 use Rattle.norprog_command.specs.Builds.{IsReportOf}
 use Rattle.norprog_command.specs.Served.{Job, IsJobOf, OfBuild}

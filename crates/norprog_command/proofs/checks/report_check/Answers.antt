@@ -2,7 +2,8 @@
 use Rattle.std.proofs.Common.{rules, ◌≡◌, inr, None}
 use Rattle.norprog_words.specs.Shelf.{IsTextIn}
 use Rattle.norprog_words.specs.Told.{line_fault}
-use Rattle.norprog_words.proofs.ToldLemmas.{refuses, handed_on}
+use Rattle.nor_base.proofs.FaultLaws.{handed_on}
+use Rattle.norprog_words.proofs.ToldLemmas.{refuses}
 use Rattle.norprog_command.specs.Asked.{asks_check}
 use Rattle.norprog_command.specs.Served.{IsJobOf, OfCheck, OfScript}
 use Rattle.norprog_command.proofs.AskedLemmas.{check_wider, verdict_wider}

@@ -3,7 +3,8 @@ use Rattle.std.proofs.Common.{rules, ◌≡◌, inr, None}
 use Rattle.nor_job.specs.Task.{Task}
 use Rattle.norprog_words.specs.Chip.{origin_of}
 use Rattle.norprog_words.specs.Told.{line_fault}
-use Rattle.norprog_words.proofs.ToldLemmas.{asked_wider, refuses, handed_on}
+use Rattle.nor_base.proofs.FaultLaws.{handed_on}
+use Rattle.norprog_words.proofs.ToldLemmas.{asked_wider, refuses}
 use Rattle.norprog_command.specs.Asked.{asks_chip}
 use Rattle.norprog_command.specs.Meanings.{MeansThis}
 use Rattle.norprog_command.specs.Served.{IsChipTask, OfChip}

@@ -2,7 +2,8 @@
 use Rattle.std.proofs.Common.{sym, subst}
 use Rattle.norprog_words.specs.Chip.{origin_of}
 use Rattle.norprog_words.specs.Shelf.{AreTables}
-use Rattle.norprog_play.proofs.ServedLemmas.{no_job, was_played, was_stopped, handed_on}
+use Rattle.nor_base.proofs.FaultLaws.{handed_on}
+use Rattle.norprog_play.proofs.ServedLemmas.{no_job, was_played, was_stopped}
 use Rattle.norprog_play.proofs.command.play_request.Goals as goal
 
 pub returns-in_err-job-clause-refused : goal.returns-in_err-job-clause-refused

@@ -3,7 +3,7 @@ use Rattle.std.proofs.Common.{None, inr, refl, sym, subst}
 use Rattle.norprog_words.specs.Chip.{origin_of}
 use Rattle.norprog_words.specs.Shelf.{AreTables, IsTextIn}
 use Rattle.norprog_words.proofs.ShelfLemmas.{text_in}
-use Rattle.norprog_words.proofs.ToldLemmas.{handed_on}
+use Rattle.nor_base.proofs.FaultLaws.{handed_on}
 use Rattle.norprog_run.specs.Answer.{RefusesRun}
 use Rattle.norprog_run.specs.Served.{IsTaskOf}
 use Rattle.norprog_run.proofs.ServedLemmas.{asked_of, made_named, one_played, all_played, one_refused, all_refused}

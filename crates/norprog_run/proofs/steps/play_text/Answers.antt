@@ -4,7 +4,8 @@ use Rattle.nor_play.specs.Fed.{Player}
 use Rattle.nor_play.proofs.FedLaws.{IsFed, fed_none}
 use Rattle.nor_script.specs.Stream.{reading, Advances, CountsStep, StopsReader}
 use Rattle.nor_script.proofs.StreamLaws.{has_begun, has_more}
-use Rattle.nor_script.proofs.TextLaws.{handed_on, stops_header, stops_step, stops_memory}
+use Rattle.nor_base.proofs.FaultLaws.{handed_on}
+use Rattle.nor_script.proofs.TextLaws.{stops_header, stops_step, stops_memory}
 use Rattle.norprog_run.proofs.StepsLemmas.{Stands, stands_next, fed_of, kept_of, all_played, went_wrong}
 use Rattle.norprog_run.proofs.steps.play_text.Goals as goal
 

@@ -4,16 +4,16 @@ use Rattle.norprog_run.specs.declared.kind.Kind.{Kind}
 use Rattle.norprog_words.specs.Content.{StopsReading}
 use Rattle.norprog_run.specs.Streams.{RefusesStreams}
 use Rattle.norprog_run.proofs.ReadLemmas.{less_read}
-use Rattle.norprog_run.proofs.StreamLemmas.{first_refused, content_refused, plays_all, refuses_again, handed_on}
+use Rattle.nor_base.proofs.FaultLaws.{handed_on}
+use Rattle.norprog_run.proofs.StreamLemmas.{first_refused, content_refused, plays_all, refuses_again}
 use Rattle.norprog_run.proofs.streams.play_streams.Goals as goal
 
 pub returns-in_err-check_script-clause-refused : goal.returns-in_err-check_script-clause-refused
 returns-in_err-check_script-clause-refused g c =
-    handed_on c.from_residual-in_err-check_script.result
-    (RefusesStreams c.args.inputs.now c.args.bench (g.F.ByteIn.ahead c.args.first.now) (g.F.ByteIn.ahead c.check_script.new.script) (g.A.ByteIn.ahead c.args.again.now)
+    handed_on (RefusesStreams c.args.inputs.now c.args.bench (g.F.ByteIn.ahead c.args.first.now) (g.F.ByteIn.ahead c.check_script.new.script) (g.A.ByteIn.ahead c.args.again.now)
     (g.A.ByteIn.ahead c.args.again.now) c.args.len (g.R.ByteIn.ahead c.args.content.now) (g.R.ByteIn.ahead c.args.content.now) (g.W.ByteOut.held c.args.out.now)
     (g.W.ByteOut.held c.args.out.now) (c.args.again.now ≡ c.args.again.now × c.args.content.now ≡ c.args.content.now))
-    c.in_err-check_script.field-0.0 c.from_residual-in_err-check_script.ensures.1
+    c.from_residual-in_err-check_script.result c.in_err-check_script.field-0.0 c.from_residual-in_err-check_script.ensures.1
     (first_refused c.args.inputs.now c.args.bench c.in_ok-kind.kind c.args.len c.in_ok-kind.ensures.sized c.in_ok-kind.ensures.start c.in_ok-kind.ensures.page
     (g.F.ByteIn.ahead c.args.first.now) (g.F.ByteIn.ahead c.check_script.new.script) (g.A.ByteIn.ahead c.args.again.now) (g.A.ByteIn.ahead c.args.again.now)
     (g.R.ByteIn.ahead c.args.content.now) (g.R.ByteIn.ahead c.args.content.now) (g.W.ByteOut.held c.args.out.now) (g.W.ByteOut.held c.args.out.now)
@@ -26,11 +26,10 @@ returns-in_err-array-clause-refused g c =
     let before = g.R.ByteIn.ahead c.args.content.now in
     let after = g.R.ByteIn.ahead c.read_content.new.content in
     let stops = subst (λ n. StopsReading n before after c.in_err-array.field-0.0) (size ∙ sym sized.size) c.in_err-array.ensures.stopped in
-    handed_on c.from_residual-in_err-array.result
-    (RefusesStreams c.args.inputs.now c.args.bench (g.F.ByteIn.ahead c.args.first.now) (g.F.ByteIn.ahead c.check_script.new.script) (g.A.ByteIn.ahead c.args.again.now)
+    handed_on (RefusesStreams c.args.inputs.now c.args.bench (g.F.ByteIn.ahead c.args.first.now) (g.F.ByteIn.ahead c.check_script.new.script) (g.A.ByteIn.ahead c.args.again.now)
     (g.A.ByteIn.ahead c.args.again.now) c.args.len before after (g.W.ByteOut.held c.args.out.now) (g.W.ByteOut.held c.args.out.now)
     (c.args.again.now ≡ c.args.again.now × c.read_content.new.content ≡ c.args.content.now))
-    c.in_err-array.field-0.0 c.from_residual-in_err-array.ensures.1
+    c.from_residual-in_err-array.result c.in_err-array.field-0.0 c.from_residual-in_err-array.ensures.1
     (content_refused c.args.inputs.now c.args.bench c.in_ok-kind.kind c.args.len sized c.in_ok-kind.ensures.start c.in_ok-kind.ensures.page
     (g.F.ByteIn.ahead c.args.first.now) (g.F.ByteIn.ahead c.check_script.new.script) (g.A.ByteIn.ahead c.args.again.now) (g.A.ByteIn.ahead c.args.again.now) before after
     (g.W.ByteOut.held c.args.out.now) (g.W.ByteOut.held c.args.out.now) (c.args.again.now ≡ c.args.again.now × c.read_content.new.content ≡ c.args.content.now)
