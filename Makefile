@@ -9,7 +9,7 @@ job = build --hex data/one.hex --uniform 8192 --content data/chip.bin --out
 build:
 	@rm -f norprog crates/norprog_cli/out/norprog_cli
 	@tools/build
-	@dir=$$(mktemp -d) && (cd crates/norprog_cli && rt run -- $(job) $$dir/one.script); status=$$?; rm -rf "$$dir"; exit $$status
+	@dir=$$(mktemp -d) && (cd crates/norprog_cli && rt run --jobs $$(nproc) -- $(job) $$dir/one.script); status=$$?; rm -rf "$$dir"; exit $$status
 	@cp crates/norprog_cli/out/norprog_cli norprog
 	@tools/stamp norprog
 	@echo "proved and built: ./norprog"

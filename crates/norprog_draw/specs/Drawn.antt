@@ -1,5 +1,5 @@
 -- What a waveform of a script's text is, and why there is none (this project's).
-use Rattle.std.specs.Prelude.{◌≡◌, ℕ, ◌+◌, List, take, drop, Option, None, Some, Result, Ok, Err}
+use Rattle.std.specs.Prelude.{◌≡◌, ℕ, List, take, drop, Option, None, Some}
 use Rattle.std.specs.Io.KnownBytes.{Appends}
 use Rattle.nor_base.specs.Device.{Cuts}
 use Rattle.nor_base.specs.Script.{IsScript}
@@ -39,12 +39,3 @@ RefusesDrawing text from count before after (Script why) = IsFault text why × (
 RefusesDrawing text from count before after (Build fault.Write) = WasCut text from count before after
 RefusesDrawing text from count before after (Build fault.Memory) = after ≡ before
 RefusesDrawing text from count before after other = ⊥
-
-abbrev pub of_writer : Refusal → ℕ
-of_writer (Build fault.Write) = 1
-of_writer other = 0
-
--- the writer's count of failures rises by one exactly where Write is answered
-abbrev pub CountsWriter : {T : Type 0} → ℕ → ℕ → Result T Refusal → Type 0
-CountsWriter before after (Ok x) = after ≡ before
-CountsWriter before after (Err why) = after ≡ before + of_writer why

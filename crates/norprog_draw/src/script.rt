@@ -3,7 +3,8 @@
 ghost use Rattle.std.specs.Prelude.{◌≡◌, ◌≢◌, ◌<◌, ◌-◌, ◌^◌, IfOk, IfErr, length, min};
 ghost use Rattle.nor_job.specs.declared.fault.BuildFault.TheVariants.{Write};
 ghost use Rattle.norprog_words.specs.declared.faults.Refusal.TheVariants.{Build};
-ghost use Rattle.norprog_draw.specs.Drawn.{part, WasDrawn, RefusesDrawing, CountsWriter};
+ghost use Rattle.norprog_draw.specs.Drawn.{part, WasDrawn, RefusesDrawing};
+ghost use Rattle.norprog_words.specs.Content.{CountsWriter};
 
 use nor_base::{ByteOut, Step};
 use nor_waves::write_waves;

@@ -1,5 +1,5 @@
 -- What a listing of a script's text is, by the chip of the inputs, and why there is none (this project's).
-use Rattle.std.specs.Prelude.{◌≡◌, ℕ, Bool, true, false, ◌+◌, List, Option, None, Some, Result, Ok, Err}
+use Rattle.std.specs.Prelude.{◌≡◌, ℕ, Bool, true, false, ◌+◌, List, Option, Result, Ok, Err}
 use Rattle.nor_base.specs.Chip.{begins4}
 use Rattle.nor_base.specs.Device.{Ahead}
 use Rattle.nor_base.specs.Parameters.{Parameters}
@@ -61,15 +61,6 @@ may_print (Build fault.Write) = true
 may_print (Build fault.Memory) = true
 may_print (File file.Script) = true
 may_print other = false
-
-abbrev pub of_writer : Refusal → ℕ
-of_writer (Build fault.Write) = 1
-of_writer other = 0
-
--- the writer's count of failures rises by one exactly where Write is answered
-abbrev pub CountsWriter : {T : Type 0} → ℕ → ℕ → Result T Refusal → Type 0
-CountsWriter before after (Ok x) = after ≡ before
-CountsWriter before after (Err why) = after ≡ before + of_writer why
 
 abbrev pub of_source : Refusal → ℕ
 of_source (File file.Script) = 1

@@ -1,7 +1,8 @@
 //! From the bytes of the inputs to the lines of a listing.
 
 ghost use Rattle.std.specs.Prelude.{◌≡◌, ◌<◌, ◌-◌, ◌^◌, false, IfOk, IfErr};
-ghost use Rattle.norprog_list.specs.Listed.{ListsText, RefusesText, CountsWriter, CountsSource, may_print};
+ghost use Rattle.norprog_list.specs.Listed.{ListsText, RefusesText, CountsSource, may_print};
+ghost use Rattle.norprog_words.specs.Content.{CountsWriter};
 ghost use Rattle.norprog_list.specs.Stop.{refusal_of as told_of};
 
 use crate::steps::{Stop, list_steps};

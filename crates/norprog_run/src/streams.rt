@@ -9,8 +9,7 @@ ghost use Rattle.nor_job.specs.Wanted.{ReadsWithin};
 ghost use Rattle.norprog_words.specs.declared.faults.Refusal.TheVariants.{Build};
 ghost use Rattle.nor_script.specs.Stream.{HadText, IsSpelled};
 ghost use Rattle.norprog_run.specs.Kind.{kind_setting};
-ghost use Rattle.norprog_words.specs.Content.{CountsReader};
-ghost use Rattle.norprog_run.specs.Refusals.{CountsWriter};
+ghost use Rattle.norprog_words.specs.Content.{CountsReader, CountsWriter};
 ghost use Rattle.norprog_run.specs.Streams.{PlaysText, StopsText, PlaysStreams, RefusesStreams, IsOfChip, IsOfContent, CountsScript, CountsOne, RefusesScript, refusal_of as told_of};
 
 use crate::kind::{Kind, kind_of};

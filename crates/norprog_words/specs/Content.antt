@@ -1,4 +1,4 @@
--- Why what a chip holds wasn't read (this project's).
+-- Why what a chip holds wasn't read, and what reader and writer count of it (this project's).
 use Rattle.std.specs.Prelude.{◌≡◌, ℕ, ◌+◌, ◌<◌, List, length, Result, Ok, Err}
 use Rattle.nor_base.specs.Device.{Ahead, Gives, IsAtEnd}
 use Rattle.nor_job.specs.declared.fault.BuildFault.TheVariants as fault
@@ -24,3 +24,12 @@ of_reader other = 0
 abbrev pub CountsReader : {T : Type 0} → ℕ → ℕ → Result T Refusal → Type 0
 CountsReader before after (Ok x) = after ≡ before
 CountsReader before after (Err why) = after ≡ before + of_reader why
+
+abbrev pub of_writer : Refusal → ℕ
+of_writer (Build fault.Write) = 1
+of_writer other = 0
+
+-- the writer's count of failures rises by one exactly where Write is answered
+abbrev pub CountsWriter : {T : Type 0} → ℕ → ℕ → Result T Refusal → Type 0
+CountsWriter before after (Ok x) = after ≡ before
+CountsWriter before after (Err why) = after ≡ before + of_writer why
