@@ -4,12 +4,14 @@
 #![tactic(auto)]
 
 mod chip;
+mod content;
 mod fault;
 mod inputs;
 mod job;
 mod status;
 
 pub use chip::chip_of;
+pub use content::fill_window;
 pub use fault::BuildFault;
 pub use inputs::{Inputs, Source, contradiction};
 pub use job::{Job, job_of};

@@ -6,12 +6,11 @@ ghost use Rattle.nor_base.specs.Accepted.{IsAccepted};
 ghost use Rattle.nor_base.specs.Strategies.{strategy as driven_by};
 ghost use Rattle.nor_geometry.specs.Plan.{IsWindow};
 ghost use Rattle.nor_geometry.specs.Window.{IsWindowSize};
-ghost use Rattle.nor_job.specs.Filled.{FillsWindow};
 ghost use Rattle.norprog.specs.Windows.{first_writing, lifted_steps, StopsWindow, IsDone, IsAllDone, IsKnown, IsCut};
 ghost use Rattle.nor_job.specs.Written.{CountsReader, CountsWriter};
 
-use nor_base::{ByteIn, ByteOut, fill_from};
-use nor_job::{BuildFault, Job};
+use nor_base::{ByteIn, ByteOut};
+use nor_job::{BuildFault, Job, fill_window};
 use nor_steps::{StepsFault, Tally, WorkWriter};
 use nor_target::fill;
 use std::alloc::{AllocError, Global};
@@ -101,26 +100,11 @@ fn write_window<T: WorkWriter, R: ByteIn, W: ByteOut>(
     ensures reads { CountsReader (R.count content.old) (R.count content.new) result }
     ensures writes { CountsWriter (W.count out.old) (W.count out.new) result }
 {
-    read_window(content, have)?;
+    fill_window(content, have)?;
     fill(&job.image, job.base, &job.chosen, at, have, want);
     match writer.write_window(alloc, at, have, want, out) {
         Ok(told) => Ok(told),
         Err(fault) => Err(lifted(fault)),
-    }
-}
-
-/// Fills a window from the reader.
-///
-/// `ContentShort` where the reader ends before the window does, `Read` where it fails.
-fn read_window<R: ByteIn>(content: &mut R, have: &mut [u8]) -> Result<(), BuildFault>
-    requires { R.count content.old < 2 ^ 64 - 1 }
-    ensures bytes { FillsWindow (R.ahead content.old) (R.ahead content.new) result have.new }
-    ensures count { CountsReader (R.count content.old) (R.count content.new) result }
-{
-    match fill_from(content, have) {
-        Ok(given) if given == have.len() => Ok(()),
-        Ok(_) => Err(BuildFault::ContentShort),
-        Err(_) => Err(BuildFault::Read),
     }
 }
 

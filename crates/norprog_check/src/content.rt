@@ -1,12 +1,11 @@
 //! What a job's chip holds, and what it must hold.
 
 ghost use Rattle.std.specs.Prelude.{◌<◌, ◌-◌, ◌^◌, IfOk, IfErr};
-ghost use Rattle.nor_job.specs.Filled.{FillsWindow};
 ghost use Rattle.nor_job.specs.Written.{CountsReader as CountsRead};
 ghost use Rattle.norprog_check.specs.Content.{IsRead, StopsRead};
 
-use nor_base::{ByteIn, fill_from};
-use nor_job::{BuildFault, Job};
+use nor_base::ByteIn;
+use nor_job::{BuildFault, Job, fill_window};
 use nor_target::fill;
 use std::alloc::Global;
 
@@ -27,7 +26,7 @@ pub(crate) fn read_content<R: ByteIn>(
     let size = job.meaning.size as usize;
     let mut have = vec![in alloc; 0; size]?;
     let mut want = vec![in alloc; 0; size]?;
-    read_whole(content, have.as_mut_slice())?;
+    fill_window(content, have.as_mut_slice())?;
     fill(
         &job.image,
         job.base,
@@ -37,19 +36,4 @@ pub(crate) fn read_content<R: ByteIn>(
         want.as_mut_slice(),
     );
     Ok((have, want))
-}
-
-/// Fills an array from the reader.
-///
-/// `ContentShort` where the reader ends before the array does, `Read` where it fails.
-fn read_whole<R: ByteIn>(content: &mut R, array: &mut [u8]) -> Result<(), BuildFault>
-    requires { R.count content.old < 2 ^ 64 - 1 }
-    ensures bytes { FillsWindow (R.ahead content.old) (R.ahead content.new) result array.new }
-    ensures count { CountsRead (R.count content.old) (R.count content.new) result }
-{
-    match fill_from(content, array) {
-        Ok(given) if given == array.len() => Ok(()),
-        Ok(_) => Err(BuildFault::ContentShort),
-        Err(_) => Err(BuildFault::Read),
-    }
 }

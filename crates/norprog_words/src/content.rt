@@ -5,8 +5,8 @@ ghost use Rattle.nor_base.specs.Device.{Gives};
 ghost use Rattle.norprog_words.specs.Content.{StopsReading, CountsReader};
 
 use crate::faults::Refusal;
-use nor_base::{ByteIn, fill_from};
-use nor_job::BuildFault;
+use nor_base::ByteIn;
+use nor_job::fill_window;
 use std::alloc::Global;
 
 /// The next `len` bytes of the reader.
@@ -20,9 +20,8 @@ pub fn read_content<R: ByteIn>(alloc: Global, content: &mut R, len: u32) -> Resu
     ensures count { CountsReader (R.count content.old) (R.count content.new) result }
 {
     let mut bytes = vec![in alloc; 0u8; len as usize]?;
-    match fill_from(content, bytes.as_mut_slice()) {
-        Ok(given) if given == len as usize => Ok(bytes),
-        Ok(_) => Err(Refusal::Build(BuildFault::ContentShort)),
-        Err(_) => Err(Refusal::Build(BuildFault::Read)),
+    match fill_window(content, bytes.as_mut_slice()) {
+        Ok(()) => Ok(bytes),
+        Err(why) => Err(Refusal::Build(why)),
     }
 }

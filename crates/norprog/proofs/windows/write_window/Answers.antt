@@ -8,15 +8,15 @@ use Rattle.norprog.proofs.windows.write_window.Goals as goal
 
 pub returns-in-Err-clause-stopped : goal.returns-in-Err-clause-stopped
 returns-in-Err-clause-stopped g c =
-    let have = c.read_window.new.have in
+    let have = c.fill_window.new.window in
     let target = c.fill.ensures.bytes in
-    subst (StopsWindow (g.T.WorkWriter.unit_text c.args.writer.now) c.args.job.now (g.T.WorkWriter.writing c.args.writer.now) c.args.at (length c.args.have.now) (g.R.ByteIn.ahead c.args.content.now) (g.R.ByteIn.ahead c.read_window.new.content)
+    subst (StopsWindow (g.T.WorkWriter.unit_text c.args.writer.now) c.args.job.now (g.T.WorkWriter.writing c.args.writer.now) c.args.at (length c.args.have.now) (g.R.ByteIn.ahead c.args.content.now) (g.R.ByteIn.ahead c.fill_window.new.content)
     (g.W.ByteOut.held c.args.out.now) (g.W.ByteOut.held c.write_window.new.out)) (sym c.lifted.ensures)
     (ended (g.T.WorkWriter.unit_text c.args.writer.now) c.args.job.now (g.T.WorkWriter.writing c.args.writer.now) c.args.at (length c.args.have.now) _ _ _ _ c.in-Err.fault
     (record {
       part = have;
-      size = c.read_window.auto.have;
-      given = c.in_ok-read_window.ensures.bytes;
+      size = c.fill_window.auto.window;
+      given = c.in_ok-fill_window.ensures.bytes;
       bytes = subst AreBytes target (search rules);
       stops = subst (λ (want : List ℕ). StopsText (g.T.WorkWriter.unit_text c.args.writer.now) (g.T.WorkWriter.writing c.args.writer.now) (g.W.ByteOut.held c.args.out.now) (g.W.ByteOut.held c.write_window.new.out) c.args.at have want c.in-Err.fault)
           target c.in-Err.ensures.stopped;
