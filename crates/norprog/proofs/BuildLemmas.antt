@@ -27,17 +27,14 @@ use Rattle.nor_job.specs.Status.{start_of}
 use Rattle.nor_job.specs.Task.{Task}
 use Rattle.nor_layout.specs.Chosen.{has, is_chosen}
 use Rattle.nor_layout.specs.Region.{Region}
-use Rattle.nor_laws.specs.Laws.{EventsAreTrail}
 use Rattle.nor_laws.specs.Spelling.{HasSpelling}
 use Rattle.nor_steps.specs.declared.tally.Tally.{Tally}
 use Rattle.nor_steps.specs.Lines.{step_of, steps_of}
 use Rattle.nor_steps.specs.Tally.{tally_with}
 use Rattle.nor_work.specs.Exists.{PlannedCanBeSpelled}
-use Rattle.nor_work.specs.Laws.{PlannedDoesTask, OneUnitInTheMaking}
-use Rattle.nor_work.specs.Least.{ErasesBlocks, ErasesApart, ErasesLargest, NoScriptErasesLess}
-use Rattle.nor_work.specs.Runs.{PlannedErasesNeeded, ErasesOnce, ErasesCounted, ProgramsCounted, PlannedIsVerified, NoneVerifies}
 use Rattle.norprog.specs.declared.report.Report.{Report}
 use Rattle.nor_job.specs.Wanted.{wanted}
+use Rattle.norprog.specs.Laws.{Laws}
 use Rattle.norprog.specs.Build.{report_of, AreLargest, RunsAsPlanned, IsBuilt, IsLate, WorkCause, IsFrontOf, StopsWork}
 use Rattle.nor_job.specs.Filled.{target_from}
 use Rattle.norprog.specs.Windows.{CutCause, IsWorked, IsScripted, IsCutScript, job_report}
@@ -47,24 +44,6 @@ use Rattle.norprog.proofs.ImageLemmas.{image_bytes}
 use Rattle.norprog.proofs.OpBytes.{planned_bytes}
 use Rattle.norprog.proofs.StepLemmas.{plain_lowered, steps_spell, steps_pass}
 use Rattle.nor_job.proofs.TargetLemmas.{length-target, target_is}
-
--- what holds of planned work
-pub record Laws : Type 0 where
-  pub done : PlannedDoesTask
-  pub making : OneUnitInTheMaking
-  pub trail : EventsAreTrail
-  pub exact : PlannedErasesNeeded
-  pub once : ErasesOnce
-  pub erases : ErasesCounted
-  pub programs : ProgramsCounted
-  pub blocks : ErasesBlocks
-  pub apart : ErasesApart
-  pub largest : ErasesLargest
-  pub verified : PlannedIsVerified
-  pub unverified : NoneVerifies
-  pub least : NoScriptErasesLess
-  pub spelled : PlannedCanBeSpelled
-  pub has : HasSpelling
 
 counts_same : {X : Type 0} (f g : X → Bool) (n : ℕ) (xs : List X) → ((x : X) → f x ≡ g x)
     → fold (λ m x. m + cond (f x) 1 0) n xs ≡ fold (λ m x. m + cond (g x) 1 0) n xs

@@ -4,3 +4,4 @@ pub mod Build
 pub mod Plan
 pub mod Report
 pub mod ChipText
+pub mod Laws

@@ -8,6 +8,7 @@ ghost use Rattle.nor_job.specs.Causes.{AreAccepted, RefusesInputs};
 ghost use Rattle.nor_layout.specs.Region.{Region};
 ghost use Rattle.nor_job.specs.Wanted.{ReadsWithin};
 ghost use Rattle.norprog.specs.Build.{IsBuilt, StopsWork, IsLate};
+ghost use Rattle.norprog.specs.Laws.{Laws};
 ghost use Rattle.norprog.specs.Windows.{IsScripted, IsCutScript, job_report};
 ghost use Rattle.nor_job.specs.Written.{CountsReader, CountsWriter};
 
@@ -57,6 +58,16 @@ pub fn build<R: ByteIn, W: ByteOut>(
     ensures writes { CountsWriter (W.count out.old) (W.count out.new) result }
 {
     let job = job_of(alloc, inputs, len)?;
+    planned_work_does_the_task();
+    job.meaning.is_accepted();
+    let told = write_script(alloc, &job, content, out)?;
+    Ok(report_of(&job, told))
+}
+
+/// Does nothing: it is called for the laws that tie the planned work to what a build promises.
+fn planned_work_does_the_task()
+    ensures { Laws }
+{
     planned_work();
     planned_runs();
     there_is_planned_work();
@@ -64,9 +75,6 @@ pub fn build<R: ByteIn, W: ByteOut>(
     erased_blocks();
     spelling();
     run_events();
-    job.meaning.is_accepted();
-    let told = write_script(alloc, &job, content, out)?;
-    Ok(report_of(&job, told))
 }
 
 /// Writes the script of a job, and answers how much it is.

@@ -1,56 +1,22 @@
 -- The whole path.
 use Rattle.std.proofs.Common.{inr, [], sym, subst, arith}
 use Rattle.norprog.specs.Build.{IsBuilt, IsLate}
-use Rattle.norprog.proofs.BuildLemmas.{Laws, built_is, stops_is, cause_is_late}
+use Rattle.norprog.proofs.BuildLemmas.{built_is, stops_is, cause_is_late}
 use Rattle.nor_base.proofs.FaultLaws.{handed_on}
 use Rattle.nor_job.proofs.TargetLemmas.{gives_none}
 use Rattle.norprog.proofs.builder.build.Goals as goal
 
 pub returns-clause-built : goal.returns-clause-built
 returns-clause-built g c =
-    let laws : Laws = record {
-      done = c.planned_work.ensures.done;
-      making = c.planned_work.ensures.making;
-      trail = c.run_events.ensures;
-      exact = c.planned_runs.ensures.exact;
-      once = c.planned_runs.ensures.once;
-      erases = c.planned_runs.ensures.erases;
-      programs = c.planned_runs.ensures.programs;
-      blocks = c.erased_blocks.ensures.blocks;
-      apart = c.erased_blocks.ensures.apart;
-      largest = c.erased_blocks.ensures.largest;
-      verified = c.planned_runs.ensures.verified;
-      unverified = c.planned_runs.ensures.unverified;
-      least = c.least_erasure.ensures;
-      spelled = c.there_is_planned_work.ensures.spelled;
-      has = c.spelling.ensures.has;
-    } in
     subst (IsBuilt c.args.inputs.now c.args.len (g.R.ByteIn.ahead c.args.content.now) (g.R.ByteIn.ahead c.write_script.new.content)
     (g.W.ByteOut.held c.args.out.now) (g.W.ByteOut.held c.write_script.new.out))
     (sym c.report_of.ensures)
-    (built_is c.args.inputs.now c.args.len c.in_ok-job.job _ _ _ _ c.in_ok-told.told laws c.is_accepted.ensures c.in_ok-job.ensures.job c.in_ok-told.ensures.done)
+    (built_is c.args.inputs.now c.args.len c.in_ok-job.job _ _ _ _ c.in_ok-told.told c.planned_work_does_the_task.ensures c.is_accepted.ensures c.in_ok-job.ensures.job c.in_ok-told.ensures.done)
 
 pub returns-in_err-told-clause-refused : goal.returns-in_err-told-clause-refused
 returns-in_err-told-clause-refused g c =
-    let laws : Laws = record {
-      done = c.planned_work.ensures.done;
-      making = c.planned_work.ensures.making;
-      trail = c.run_events.ensures;
-      exact = c.planned_runs.ensures.exact;
-      once = c.planned_runs.ensures.once;
-      erases = c.planned_runs.ensures.erases;
-      programs = c.planned_runs.ensures.programs;
-      blocks = c.erased_blocks.ensures.blocks;
-      apart = c.erased_blocks.ensures.apart;
-      largest = c.erased_blocks.ensures.largest;
-      verified = c.planned_runs.ensures.verified;
-      unverified = c.planned_runs.ensures.unverified;
-      least = c.least_erasure.ensures;
-      spelled = c.there_is_planned_work.ensures.spelled;
-      has = c.spelling.ensures.has;
-    } in
     handed_on _ _ _ c.from_residual-in_err-told.ensures.1
-    (inr (stops_is c.args.inputs.now c.args.len c.in_ok-job.job _ _ _ _ c.in_err-told.field-0.0 laws c.is_accepted.ensures c.in_ok-job.ensures.job c.in_err-told.ensures.cut))
+    (inr (stops_is c.args.inputs.now c.args.len c.in_ok-job.job _ _ _ _ c.in_err-told.field-0.0 c.planned_work_does_the_task.ensures c.is_accepted.ensures c.in_ok-job.ensures.job c.in_err-told.ensures.cut))
 
 pub returns-in_err-job-clause-accepted : goal.returns-in_err-job-clause-accepted
 returns-in_err-job-clause-accepted g c = λ image regions m accepted.

@@ -1,0 +1,25 @@
+-- The laws by which planned work does what a build promises (this project's).
+use Rattle.nor_laws.specs.Laws.{EventsAreTrail}
+use Rattle.nor_laws.specs.Spelling.{HasSpelling}
+use Rattle.nor_work.specs.Exists.{PlannedCanBeSpelled}
+use Rattle.nor_work.specs.Laws.{PlannedDoesTask, OneUnitInTheMaking}
+use Rattle.nor_work.specs.Least.{ErasesBlocks, ErasesApart, ErasesLargest, NoScriptErasesLess}
+use Rattle.nor_work.specs.Runs.{PlannedErasesNeeded, ErasesOnce, ErasesCounted, ProgramsCounted, PlannedIsVerified, NoneVerifies}
+
+-- what holds of planned work
+pub record Laws : Type 0 where
+  pub done : PlannedDoesTask
+  pub making : OneUnitInTheMaking
+  pub trail : EventsAreTrail
+  pub exact : PlannedErasesNeeded
+  pub once : ErasesOnce
+  pub erases : ErasesCounted
+  pub programs : ProgramsCounted
+  pub blocks : ErasesBlocks
+  pub apart : ErasesApart
+  pub largest : ErasesLargest
+  pub verified : PlannedIsVerified
+  pub unverified : NoneVerifies
+  pub least : NoScriptErasesLess
+  pub spelled : PlannedCanBeSpelled
+  pub has : HasSpelling
