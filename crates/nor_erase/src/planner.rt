@@ -8,11 +8,8 @@ ghost use Rattle.nor_geometry.specs.Plan.{IsWindow, IsPlan, Refuses};
 use crate::bytes::next_due;
 use crate::tiles::{push_blocks, push_pages};
 use nor_base::{Meaning, Strategy};
-use nor_geometry::{PlanFault, PlanUnit, smallest};
+use nor_geometry::{FAR, PlanFault, PlanUnit, smallest};
 use std::alloc::Global;
-
-/// The first address that three bytes can't say.
-const FAR: u32 = 1 << 24;
 
 /// The units that start in a window of a chip, rising: `have` is what it holds from `at` on, `want` what it must hold.
 pub fn plan(

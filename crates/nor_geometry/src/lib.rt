@@ -14,6 +14,7 @@ mod blocks;
 mod fault;
 mod strategies;
 mod unit;
+mod widths;
 mod windows;
 
 pub use block::Block;
@@ -21,4 +22,5 @@ pub use blocks::{is_legal, legal, smallest};
 pub use fault::PlanFault;
 pub use strategies::strategy;
 pub use unit::PlanUnit;
+pub use widths::{FAR, legacy_width, takes_dedicated};
 pub use windows::window_size;

@@ -7,10 +7,8 @@ ghost use Rattle.nor_base.specs.Strategies.{strategy, are_dedicated, is_dedicate
 ghost use Rattle.nor_base.specs.Instructions.{dedicated, is_there};
 ghost use Rattle.nor_geometry.specs.Takes.{takes, is_least_dedicated};
 
+use crate::widths::FAR;
 use nor_base::{Meaning, Region, Start, Strategy, Switch};
-
-/// The first address that three bytes can't say.
-pub(crate) const FAR: u32 = 1 << 24;
 
 /// The numbers of the erase kinds.
 pub(crate) const KINDS: [u8; 4] = [1, 2, 3, 4];

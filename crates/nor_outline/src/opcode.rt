@@ -1,13 +1,10 @@
 //! The opcode that erases a block.
 
 ghost use Rattle.std.specs.Prelude.{◌≡◌};
-ghost use Rattle.nor_base.specs.Operations.{takes_dedicated, erasing};
+ghost use Rattle.nor_base.specs.Operations.{erasing};
 
 use nor_base::{Meaning, Strategy};
-use nor_geometry::Block;
-
-/// The first address that three bytes can't say.
-const FAR: u32 = 1 << 24;
+use nor_geometry::{Block, takes_dedicated};
 
 /// The opcode that erases a block: its kind's own, or the one with four address bytes where the strategy takes that.
 pub(crate) fn erase_opcode(meaning: &Meaning, strategy: Strategy, block: Block) -> u8
@@ -22,11 +19,4 @@ pub(crate) fn erase_opcode(meaning: &Meaning, strategy: Strategy, block: Block) 
     } else {
         op
     }
-}
-
-/// Whether an address takes an opcode that has four address bytes in each mode.
-fn takes_dedicated(strategy: Strategy, address: u32) -> bool
-    ensures { result ≡ takes_dedicated strategy address }
-{
-    strategy == Strategy::S3 && address >= FAR
 }

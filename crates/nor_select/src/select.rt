@@ -2,14 +2,14 @@
 
 ghost use Rattle.std.specs.Prelude.{◌≡◌, if◌then◌else◌, ◌++◌, [], ◌∷◌, map, flat_map, IfOk};
 ghost use Rattle.nor_base.specs.Instructions.{quad_read_dummies};
-ghost use Rattle.nor_base.specs.Operations.{takes_dedicated, legacy_width, enable, poll, erasing, programming, reading, instructions};
+ghost use Rattle.nor_base.specs.Operations.{enable, poll, erasing, programming, reading, instructions};
 ghost use Rattle.nor_select.specs.Coded.{plain, coded};
 ghost use Rattle.nor_select.specs.View.{op_of, coded_of, Adds, coded_at};
 
 use crate::instr::{Body, Instr};
 use crate::op::Op;
 use nor_base::{Meaning, Start, Strategy};
-use nor_geometry::Block;
+use nor_geometry::{Block, legacy_width, takes_dedicated};
 use std::alloc::{AllocError, Allocator};
 
 /// The write enable.
@@ -167,21 +167,4 @@ fn at_address<'a>(strategy: Strategy, op: u8, op4: u8, dummies: u8, address: u32
         dummies,
         body: Body::Plain,
     }
-}
-
-/// The address bytes of legacy opcodes.
-fn legacy_width(strategy: Strategy) -> u8
-    ensures { result ≡ legacy_width strategy }
-{
-    match strategy {
-        Strategy::S1 | Strategy::S4 => 4,
-        Strategy::S2 | Strategy::S3 | Strategy::S5 => 3,
-    }
-}
-
-/// Whether an address takes an opcode that has four address bytes in each mode.
-fn takes_dedicated(strategy: Strategy, address: u32) -> bool
-    ensures { result ≡ takes_dedicated strategy address }
-{
-    strategy == Strategy::S3 && address >= 0x100_0000
 }

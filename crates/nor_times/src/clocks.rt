@@ -1,13 +1,10 @@
 //! The clocks of instructions.
 
 ghost use Rattle.std.specs.Prelude.{◌≡◌, ◌≤◌, ◌<◌, ◌*◌, ◌+◌};
-ghost use Rattle.nor_base.specs.Operations.{takes_dedicated, legacy_width};
 ghost use Rattle.nor_times.specs.Bus.{change_clocks, head_clocks, mode_clocks, program_clocks, read_clocks, switch_clocks};
 
 use nor_base::{Meaning, Start, Strategy, Switch};
-
-/// The first address that three bytes can't say.
-const FAR: u32 = 1 << 24;
+use nor_geometry::{legacy_width, takes_dedicated};
 
 /// An opcode with four address bytes.
 const HEAD4: u64 = 40;
@@ -28,7 +25,7 @@ pub(crate) fn head_clocks(strategy: Strategy, address: u32) -> u64
     if takes_dedicated(strategy, address) {
         HEAD4
     } else {
-        8 + 8 * legacy_width(strategy)
+        8 + 8 * u64::from(legacy_width(strategy))
     }
 }
 
@@ -98,22 +95,4 @@ fn switch_clocks(switch: Switch) -> u64
         Switch::Plain => 8,
         Switch::Latched => 24,
     }
-}
-
-/// The address bytes of legacy opcodes.
-fn legacy_width(strategy: Strategy) -> u64
-    ensures value { result ≡ legacy_width strategy }
-    ensures small { result ≤ 4 }
-{
-    match strategy {
-        Strategy::S1 | Strategy::S4 => 4,
-        Strategy::S2 | Strategy::S3 | Strategy::S5 => 3,
-    }
-}
-
-/// Whether an address takes an opcode that has four address bytes in each mode.
-fn takes_dedicated(strategy: Strategy, address: u32) -> bool
-    ensures { result ≡ takes_dedicated strategy address }
-{
-    strategy == Strategy::S3 && address >= FAR
 }
