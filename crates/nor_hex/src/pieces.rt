@@ -7,7 +7,7 @@ ghost use Rattle.nor_hex.specs.declared.fault.HexFault.TheVariants.{Conflict, Me
 ghost use Rattle.nor_hex.specs.Pieces.{Gives, IsPieces, IsFree, IsNext, HasNoNext, AddsRun, ClashesRun, DiffersIn, Opens};
 
 use crate::fault::HexFault;
-use std::alloc::{AllocError, Allocator};
+use std::alloc::Allocator;
 use std::collections::BTreeMap;
 
 /// A run of bytes at rising addresses: its lowest address, and the place of the first of them.
@@ -68,15 +68,42 @@ fn add_part<A: Allocator + Clone>(
     ensures clash { IfErr result (λ fault. fault ≢ Memory
         → ClashesRun (Gives (get nat_cmp pieces.old.by_last) pieces.old.bytes.items) address bytes.now) }
 {
-    let count = match next_piece(&pieces.by_last, address) {
-        None => bytes.len(),
-        Some((last, piece)) if piece.first <= address => {
+    let count = match free_from(pieces, address, bytes.len()) {
+        Ok(count) => count,
+        Err((last, piece)) => {
             return repeat_part(pieces.bytes.as_slice(), last, piece, address, bytes, line);
         }
-        Some((_, piece)) => bytes.len().min((piece.first - address) as usize),
     };
-    lay(pieces, address, &bytes[..count])?;
+    // There are 2^32 addresses, so where one is free a place fits.
+    let Ok(place) = u32::try_from(pieces.bytes.len()) else {
+        return Err(HexFault::Memory);
+    };
+    let piece = open_piece(&mut pieces.by_last, place, address);
+    pieces.bytes.extend_from_slice(&bytes[..count])?;
+    pieces.by_last.insert(address + (count - 1) as u32, piece)?;
     Ok(count)
+}
+
+/// How many addresses from one on are free, at most `len`; else the piece that has the first of
+/// them, with its highest address.
+fn free_from<A: Allocator>(
+    pieces: &Pieces<A>,
+    address: u32,
+    len: usize,
+) -> Result<usize, (u32, Piece)>
+    requires some { 0 < len }
+    requires pieces { IsPieces (get nat_cmp pieces.now.by_last) pieces.now.bytes.items }
+    ensures some { IfOk result (λ count. 0 < count) }
+    ensures fits { IfOk result (λ count. count ≤ len) }
+    ensures free { IfOk result (λ count. IsFree (get nat_cmp pieces.now.by_last) address count) }
+    ensures next { IfErr result (λ found. IsNext (get nat_cmp pieces.now.by_last) address found.0 found.1) }
+    ensures from { IfErr result (λ found. found.1.first ≤ address) }
+{
+    match next_piece(&pieces.by_last, address) {
+        None => Ok(len),
+        Some((last, piece)) if piece.first <= address => Err((last, piece)),
+        Some((_, piece)) => Ok(len.min((piece.first - address) as usize)),
+    }
 }
 
 /// The first piece that ends at an address or past it, with its highest address.
@@ -117,32 +144,6 @@ fn repeat_part(
     } else {
         Err(HexFault::Conflict { line })
     }
-}
-
-/// Adds bytes where none is given.
-fn lay<A: Allocator + Clone>(
-    pieces: &mut Pieces<A>,
-    address: u32,
-    bytes: &[u8],
-) -> Result<(), AllocError>
-    requires some { 0 < length bytes.now }
-    requires fits { address + length bytes.now ≤ 2 ^ 32 }
-    requires pieces { IsPieces (get nat_cmp pieces.old.by_last) pieces.old.bytes.items }
-    requires free { IsFree (get nat_cmp pieces.old.by_last) address (length bytes.now) }
-    ensures pieces { OnOk result (IsPieces (get nat_cmp pieces.new.by_last) pieces.new.bytes.items) }
-    ensures added { OnOk result (AddsRun (Gives (get nat_cmp pieces.old.by_last) pieces.old.bytes.items)
-        (Gives (get nat_cmp pieces.new.by_last) pieces.new.bytes.items) address bytes.now) }
-{
-    // There are 2^32 addresses, so where one is free a place fits.
-    let Ok(place) = u32::try_from(pieces.bytes.len()) else {
-        return Err(AllocError);
-    };
-    let piece = open_piece(&mut pieces.by_last, place, address);
-    pieces.bytes.extend_from_slice(bytes)?;
-    pieces
-        .by_last
-        .insert(address + (bytes.len() - 1) as u32, piece)?;
-    Ok(())
 }
 
 /// Takes out the piece that ends right before the address, if its bytes are the last ones; else

@@ -1,9 +1,9 @@
 //! One record.
 
-ghost use Rattle.std.specs.Prelude.{◌≡◌, ◌+◌, ◌*◌, ◌<◌, ◌≤◌, true, false, ◌∷◌, IsTrue, IfOk, MatchOption, length, take, drop, slice_index};
+ghost use Rattle.std.specs.Prelude.{◌≡◌, ◌+◌, ◌*◌, ◌<◌, ◌≤◌, true, IsTrue, IfOk, length, take, drop, slice_index};
 ghost use Rattle.std.specs.List.{list_all};
 ghost use Rattle.hex.specs.Hex.{is_hex_digit};
-ghost use Rattle.nor_hex.specs.Record.{record_of, pair_bytes, has_colon, has_length, fits_type, length_field, offset_field, data_field};
+ghost use Rattle.nor_hex.specs.Record.{record_of, pair_bytes, has_length, fits_type, length_field, offset_field, data_field};
 
 use crate::digits::{are_digits, decode, pair};
 use crate::fault::HexFault;
@@ -65,7 +65,7 @@ pub(crate) fn record_in<'a>(
     ensures few { IfOk result (λ line. length line.bytes ≤ 255) }
     ensures bytes { IfOk result (λ line. take (length line.bytes) (drop 4 bytes.new) ≡ line.bytes) }
 {
-    let Some(digits) = after_colon(line) else {
+    let Some((b':', digits)) = line.split_first() else {
         return Err(HexFault::NoColon { line: number });
     };
     if !are_digits(digits) {
@@ -87,16 +87,6 @@ pub(crate) fn record_in<'a>(
         digits: data_in(digits),
         line: number,
     })
-}
-
-/// What follows a colon.
-fn after_colon(line: &[u8]) -> Option<&[u8]>
-    ensures { MatchOption result (has_colon line.now ≡ false) (λ digits. line.now ≡ 58 ∷ digits.now) }
-{
-    match line.split_first() {
-        Some((b':', digits)) => Some(digits),
-        _ => None,
-    }
 }
 
 /// The load offset.

@@ -1,6 +1,6 @@
 //! Bytes at rising addresses, in segments.
 
-ghost use Rattle.std.specs.Prelude.{◌≡◌, ℕ, slice_get, Some, ◌+◌, ◌^◌, ◌<◌, ◌≤◌, length, OnOk, IfOk, IfSome, MatchOption};
+ghost use Rattle.std.specs.Prelude.{◌≡◌, ℕ, List, slice_get, Some, ◌+◌, ◌++◌, ◌<◌, ◌≤◌, length, OnOk, IfOk, IfSome, MatchOption};
 ghost use Rattle.std.specs.Ordering.{nat_cmp};
 ghost use Rattle.std.specs.BTreeMap.{get};
 ghost use Rattle.nor_hex.specs.declared.segments.Segment.{Segment};
@@ -50,7 +50,8 @@ pub(crate) fn joined<A: Allocator + Clone>(
     while let Some((last, piece)) = piece_from(&pieces, from) {
         let place = piece.place as usize;
         let run = &pieces.bytes[place..place + (last - piece.first) as usize + 1];
-        join(&mut list, &mut bytes, piece.first, run)?;
+        add_segment(&mut list, piece.first, last, bytes.len())?;
+        bytes.extend_from_slice(run)?;
         from = u64::from(last) + 1;
     }
     Ok(Segments { list, bytes })
@@ -84,24 +85,21 @@ fn only_segment<A: Allocator>(pieces: &Pieces<A>) -> Option<Segment>
     None
 }
 
-/// Adds a run of bytes past all segments: to the last one if it begins right after it, else as a
-/// segment of its own.
-fn join<A: Allocator + Clone>(
+/// Adds a segment past all others: to the last one if it begins right after it, else as one of its
+/// own. The place is where the bytes of the others end.
+fn add_segment<A: Allocator + Clone>(
     list: &mut Vec<Segment, A>,
-    bytes: &mut Vec<u8, A>,
     first: u32,
-    run: &[u8],
+    last: u32,
+    place: usize,
 ) -> Result<(), AllocError>
-    requires some { 0 < length run.now }
-    requires fits { first + length run.now ≤ 2 ^ 32 }
-    requires right { IsSegments list.old.items bytes.old.items }
+    requires rises { first ≤ last }
     requires below { AreBelow first list.old.items }
-    requires last { EndsAt list.old.items (length bytes.old.items) }
-    ensures { OnOk result (IsJoined list.old.items bytes.old.items list.new.items bytes.new.items first run.now) }
+    requires place { EndsAt list.old.items place }
+    ensures { OnOk result ((bytes run : List ℕ) → IsSegments list.old.items bytes → length bytes ≡ place
+        → first + length run ≡ last + 1
+        → IsJoined list.old.items bytes list.new.items (bytes ++ run) first run) }
 {
-    let place = bytes.len();
-    bytes.extend_from_slice(run)?;
-    let last = first + (run.len() - 1) as u32;
     let fresh = Segment { first, last, place };
     match list.pop() {
         Some(before) if before.last + 1 == first => list.push(Segment { last, ..before })?,
