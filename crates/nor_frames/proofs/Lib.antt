@@ -2,3 +2,4 @@ mod LaneLemmas
 mod ChunkLemmas
 mod SpellLemmas
 mod HeadLemmas
+mod FrameLemmas

@@ -1,8 +1,8 @@
 //! The clocks of an instruction.
 
-ghost use Rattle.std.specs.Prelude.{◌≡◌, ◌≤◌, ◌++◌, length, IfOk, IfErr, IfSome};
+ghost use Rattle.std.specs.Prelude.{◌≡◌, ◌≤◌, ◌++◌, IfOk, IfErr, IfSome};
 ghost use Rattle.nor_select.specs.View.{coded_of, load_in};
-ghost use Rattle.nor_frames.specs.Frames.{load_clocks, load_len, head_of, frame, SpellsCoded};
+ghost use Rattle.nor_frames.specs.Frames.{load_len, head_of, frame, SpellsCoded};
 
 use crate::fault::FramesFault;
 use crate::spread::{spread1, spread4};
@@ -50,7 +50,13 @@ pub fn clocks_into(instr: &Instr<'_>, clocks: &mut Vec<u8>) -> Result<(), Frames
     let (middle, last) = rest.split_at_mut(dummies);
     spread1(head.as_slice(), front);
     middle.fill(b'-');
-    lay_body(&instr.body, last);
+    match instr.body {
+        Body::Plain => {}
+        Body::Poll | Body::Read1(_) => last.fill(b'.'),
+        Body::Read4(_) => last.fill(b'='),
+        Body::Write1(bytes) => spread1(bytes, last),
+        Body::Write4(bytes) => spread4(bytes, last),
+    }
     Ok(())
 }
 
@@ -63,19 +69,5 @@ fn body_len(body: &Body<'_>) -> Option<usize>
         Body::Poll => Some(8),
         Body::Write1(bytes) | Body::Read1(bytes) => bytes.len().checked_mul(8),
         Body::Write4(bytes) | Body::Read4(bytes) => bytes.len().checked_mul(2),
-    }
-}
-
-/// Writes the clocks of the data.
-fn lay_body(body: &Body<'_>, clocks: &mut [u8])
-    requires { length clocks.old ≡ load_len (load_in body.now) }
-    ensures { clocks.new ≡ load_clocks (load_in body.now) }
-{
-    match body {
-        Body::Plain => {}
-        Body::Poll | Body::Read1(_) => clocks.fill(b'.'),
-        Body::Read4(_) => clocks.fill(b'='),
-        Body::Write1(bytes) => spread1(bytes, clocks),
-        Body::Write4(bytes) => spread4(bytes, clocks),
     }
 }

@@ -61,7 +61,9 @@ pub fn spread1(bytes: &[u8], clocks: &mut [u8])
 {
     let (chunks, rest) = bytes.as_chunks::<4>();
     let (front, back) = clocks.split_at_mut(32 * chunks.len());
-    spread1_chunks(chunks, front);
+    for (j, chunk) in chunks.iter().enumerate() {
+        front[32 * j..32 * j + 32].copy_from_slice(&spread1_lanes(chunk).to_array());
+    }
     spread1_rest(rest, back);
 }
 
@@ -72,26 +74,10 @@ pub fn spread4(bytes: &[u8], clocks: &mut [u8])
 {
     let (chunks, rest) = bytes.as_chunks::<16>();
     let (front, back) = clocks.split_at_mut(32 * chunks.len());
-    spread4_chunks(chunks, front);
+    for (j, chunk) in chunks.iter().enumerate() {
+        front[32 * j..32 * j + 32].copy_from_slice(&spread4_lanes(chunk).to_array());
+    }
     spread4_rest(rest, back);
-}
-
-fn spread1_chunks(chunks: &[[u8; 4]], clocks: &mut [u8])
-    requires { length clocks.old ≡ 32 * length chunks.now }
-    ensures { clocks.new ≡ flat_map (flat_map bits) chunks.now }
-{
-    for (j, chunk) in chunks.iter().enumerate() {
-        clocks[32 * j..32 * j + 32].copy_from_slice(&spread1_lanes(chunk).to_array());
-    }
-}
-
-fn spread4_chunks(chunks: &[[u8; 16]], clocks: &mut [u8])
-    requires { length clocks.old ≡ 32 * length chunks.now }
-    ensures { clocks.new ≡ flat_map (flat_map nibbles) chunks.now }
-{
-    for (j, chunk) in chunks.iter().enumerate() {
-        clocks[32 * j..32 * j + 32].copy_from_slice(&spread4_lanes(chunk).to_array());
-    }
 }
 
 fn spread1_rest(bytes: &[u8], clocks: &mut [u8])

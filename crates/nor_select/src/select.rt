@@ -1,8 +1,7 @@
 //! The instruction that does an operation.
 
-ghost use Rattle.std.specs.Prelude.{◌≡◌, if◌then◌else◌, ◌++◌, [], ◌∷◌, map, flat_map, IfOk};
-ghost use Rattle.nor_base.specs.Instructions.{quad_read_dummies};
-ghost use Rattle.nor_base.specs.Operations.{enable, poll, erasing, programming, reading, instructions};
+ghost use Rattle.std.specs.Prelude.{◌≡◌, map, flat_map, IfOk};
+ghost use Rattle.nor_base.specs.Operations.{poll, erasing, programming, reading, instructions};
 ghost use Rattle.nor_select.specs.Coded.{plain, coded};
 ghost use Rattle.nor_select.specs.View.{op_of, coded_of, Adds, coded_at};
 
@@ -32,29 +31,17 @@ pub(crate) fn append_ops<'a, A: Allocator>(
         instrs.new.items) }
 {
     for op in ops {
-        match *op {
-            Op::Erase(block) => append_change(instrs, erasing(meaning, strategy, block))?,
-            Op::Program { at, bytes } => append_change(
-                instrs,
-                programming(meaning, start, strategy, at, bytes),
-            )?,
-            Op::Read { at, bytes } => instrs.push(reading(meaning, start, strategy, at, bytes))?,
-        }
+        let change = match *op {
+            Op::Erase(block) => erasing(meaning, strategy, block),
+            Op::Program { at, bytes } => programming(meaning, start, strategy, at, bytes),
+            Op::Read { at, bytes } => {
+                instrs.push(reading(meaning, start, strategy, at, bytes))?;
+                continue;
+            }
+        };
+        // a change of the array comes after the write enable, and is waited for
+        instrs.extend_from_slice(&[Instr::bare(ENABLE), change, poll()])?;
     }
-    Ok(())
-}
-
-/// Appends an instruction that changes the array: it comes after the write enable, and is waited for.
-fn append_change<'a, A: Allocator>(
-    instrs: &mut Vec<Instr<'a>, A>,
-    change: Instr<'a>,
-) -> Result<(), AllocError>
-    ensures { IfOk result (λ _. map coded_of instrs.new.items
-        ≡ map coded_of instrs.old.items ++ (coded enable ∷ coded_of change.entry ∷ coded poll ∷ [])) }
-{
-    instrs.push(Instr::bare(ENABLE))?;
-    instrs.push(change)?;
-    instrs.push(poll())?;
     Ok(())
 }
 

@@ -8,7 +8,7 @@ use Rattle.nor_steps.specs.declared.fault.StepsFault.{StepsFault}
 use Rattle.nor_steps.specs.declared.fault.StepsFault.TheVariants as fault
 use Rattle.nor_steps.specs.declared.tally.Tally.{Tally}
 use Rattle.nor_steps.specs.Texts.{unit_steps, units_text, IsText, IsBegunText, WroteText, StopsText}
-use Rattle.nor_steps.specs.Work.{stretch_units, IsWork, IsBegun, WroteStretch, StopsStretch}
+use Rattle.nor_steps.specs.Work.{IsWork, IsBegun, WroteStretch, StopsStretch}
 use Rattle.nor_steps.specs.Writing.{Writing, next_lines, written_on}
 use Rattle.nor_steps.proofs.OpLemmas.{lines_join}
 

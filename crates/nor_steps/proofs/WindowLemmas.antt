@@ -1,6 +1,6 @@
 -- From one unit of a window to the next.
-use Rattle.std.proofs.Common.{◌≡◌, ℕ, zero, suc, ◌+◌, ◌-◌, ◌*◌, ◌/◌, ◌%◌, ◌^◌, ◌<◌, ◌≤◌, List, [], ◌∷◌, ◌++◌, length, map, take, drop, replicate, get_or, Option, None, Result, Ok, Err, refl, sym, ◌∙◌, ap, subst, arith, inl, inr, length-append}
-use Rattle.std.specs.Prelude.{flat_map, IfErr, IsErrAnd}
+use Rattle.std.proofs.Common.{◌≡◌, ℕ, zero, suc, ◌+◌, ◌-◌, ◌*◌, ◌/◌, ◌%◌, ◌^◌, ◌<◌, ◌≤◌, List, [], ◌∷◌, ◌++◌, length, map, take, drop, replicate, get_or, Option, None, Ok, Err, refl, sym, ◌∙◌, ap, subst, arith, inl, inr, length-append}
+use Rattle.std.specs.Prelude.{flat_map}
 use Rattle.std.specs.List.{slice_index, slice_range, AllByRecursion}
 use Rattle.std.specs.Io.KnownBytes.{Appends}
 use Rattle.std.proofs.lemmas.List.{append_assoc, append-nil, length-map, length-replicate, get_or-append-add, take-append-drop, take_all}
@@ -33,6 +33,8 @@ use Rattle.nor_steps.specs.Writing.{Writing, Begins, next_lines, written_on}
 use Rattle.nor_steps.proofs.OpLemmas.{take_one, all_one, all_at, lines_join, more_lines, more_steps, more_on, done_none}
 use Rattle.nor_steps.proofs.TallyLemmas.{same_tally}
 use Rattle.nor_steps.proofs.Placed.{LiesIn, IsLevel, IsPlaced, level_of, length-level, units_placed, few_units, window_stretch}
+-- passed on to the crate above
+pub use Rattle.nor_base.proofs.FaultLaws.{handed_on}
 
 -- some content of the chip that has these bytes there
 abbrev pub filled : ℕ → List ℕ → List ℕ
@@ -322,10 +324,6 @@ pub no_plan : (w : Writing) (a : Option (List ℕ)) (at : ℕ) (have want : List
 no_plan w a at have want plan.Memory is = inr (Appends-none a)
 no_plan w a at have want (plan.NoErase x) is = (is, Appends-none a)
 no_plan w a at have want (plan.Unreachable x) is = (is, Appends-none a)
-
-pub handed_on : {T : Type 0} (P : StepsFault → Type 0) (r : Result T StepsFault) (why : StepsFault) → IsErrAnd r (λ lifted. lifted ≡ why) → P why → IfErr r P
-handed_on P (Ok x) why is p = tt
-handed_on P (Err lifted) why is p = subst P (sym is) p
 
 -- where the next unit lies
 pub record LiesHere (m : Parameters) (at count page : ℕ) (u : PlanUnit) : Type 0 where

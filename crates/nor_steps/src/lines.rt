@@ -37,7 +37,10 @@ impl<W: ByteOut> InstrOut for W {
     ghost count = { λ out. W.count out };
 
     fn take(&mut self, instrs: &[Instr<'_>], clocks: &mut Vec<u8>) -> Result<(), StepsFault> {
-        write_instrs(instrs, clocks, self)
+        for instr in instrs {
+            write_instr(instr, clocks, self)?;
+        }
+        Ok(())
     }
 }
 
@@ -53,26 +56,6 @@ impl InstrOut for Unwritten {
     fn take(&mut self, _instrs: &[Instr<'_>], _clocks: &mut Vec<u8>) -> Result<(), StepsFault> {
         Ok(())
     }
-}
-
-/// Writes the line of each instruction, in their order. `clocks` is memory for one step's clocks, which is used again.
-///
-/// `Write` where the writer fails, `Memory` where a growth is refused; a proper prefix of the lines was taken then.
-fn write_instrs<W: ByteOut>(
-    instrs: &[Instr<'_>],
-    clocks: &mut Vec<u8>,
-    out: &mut W,
-) -> Result<(), StepsFault>
-    requires narrow { AreNarrow instrs.now }
-    requires writer { W.count out.old < 2 ^ 64 - 1 }
-    ensures lines { Writes (W.held out.old) (W.held out.new) result (lines_out instrs.now) }
-    ensures count { CountsSteps (W.count out.old) (W.count out.new) result }
-    ensures why { IfErr result IsOfWriting }
-{
-    for instr in instrs {
-        write_instr(instr, clocks, out)?;
-    }
-    Ok(())
 }
 
 /// Writes the line of an instruction.

@@ -5,7 +5,7 @@ ghost use Rattle.std.specs.List.{AllByRecursion};
 ghost use Rattle.nor_pages.specs.Runs.{IsUnit, LiesBetween, AreBetween};
 ghost use Rattle.nor_select.specs.Streamed.{next};
 ghost use Rattle.nor_steps.specs.Faults.{CountsSteps, IsOfWriting};
-ghost use Rattle.nor_steps.specs.Units.{run_op, run_ops, page_reads, block_reads, block_ops, page_ops, Writes, WritesUnit};
+ghost use Rattle.nor_steps.specs.Units.{run_op, run_ops, page_reads, block_reads, block_ops, Writes, WritesUnit};
 ghost use Rattle.nor_steps.specs.Writing.{Adds, next_lines, written_on};
 
 use crate::fault::StepsFault;
@@ -18,7 +18,8 @@ use nor_select::Op;
 use std::alloc::Global;
 
 impl<'m> StepWriter<'m> {
-    /// Writes the steps of a unit. `have` and `want` are its bytes: what the chip holds there and what it must hold.
+    /// Writes the steps of a unit. `have` and `want` are its bytes: what the chip holds there and what it must hold. Of a
+    /// page they are a program of each run, and, where it is verified, a read of each.
     pub(crate) fn write_unit<W: InstrOut>(
         &mut self,
         alloc: Global,
@@ -38,10 +39,22 @@ impl<'m> StepWriter<'m> {
         let meaning = self.lowerer.meaning();
         meaning.is_accepted();
         let runs = split(alloc, meaning, unit, have, want)?;
-        match unit {
-            PlanUnit::Block(block) => self.write_block(alloc, *block, &runs, want, out),
-            PlanUnit::Page { start } => self.write_page(alloc, *start, &runs, want, out),
-        }
+        let start = match unit {
+            PlanUnit::Block(block) => return self.write_block(alloc, *block, &runs, want, out),
+            PlanUnit::Page { start } => *start,
+        };
+        let programs = self.write_runs(alloc, false, start, &runs, want, out)?;
+        let reads = if self.verify {
+            self.write_runs(alloc, true, start, &runs, want, out)?
+        } else {
+            0
+        };
+        Ok(Tally {
+            steps: programs + reads,
+            erases: 0,
+            erased: 0,
+            programs: runs.len() as u64,
+        })
     }
 
     /// Writes the steps of a block: its erase, a program of each run, and, where it is verified, a read of each page.
@@ -69,36 +82,6 @@ impl<'m> StepWriter<'m> {
             steps: erase + programs + reads,
             erases: 1,
             erased: u64::from(block.size),
-            programs: runs.len() as u64,
-        })
-    }
-
-    /// Writes the steps of a page: a program of each run, and, where it is verified, a read of each.
-    fn write_page<W: InstrOut>(
-        &mut self,
-        alloc: Global,
-        start: u32,
-        runs: &[Run],
-        want: &[u8],
-        out: &mut W,
-    ) -> Result<Tally, StepsFault>
-        requires between { AreBetween start (start + length want.now) (length want.now) runs.now }
-        requires few { length want.now ≤ 2 ^ 24 }
-        requires writer { W.count out.old < 2 ^ 64 - 1 }
-        ensures written { Writes self.old self.new (W.held out.old) (W.held out.new) 1 (page_ops self.old start runs.now want.now) result }
-        ensures count { CountsSteps (W.count out.old) (W.count out.new) result }
-        ensures why { IfErr result IsOfWriting }
-    {
-        let programs = self.write_runs(alloc, false, start, runs, want, out)?;
-        let reads = if self.verify {
-            self.write_runs(alloc, true, start, runs, want, out)?
-        } else {
-            0
-        };
-        Ok(Tally {
-            steps: programs + reads,
-            erases: 0,
-            erased: 0,
             programs: runs.len() as u64,
         })
     }

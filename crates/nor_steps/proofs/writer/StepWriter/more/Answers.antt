@@ -6,7 +6,8 @@ use Rattle.nor_base.specs.Parameters.{Parameters}
 use Rattle.nor_geometry.specs.Plan.{IsPlan, Refuses}
 use Rattle.nor_steps.specs.Faults.{lifted_plan}
 use Rattle.nor_steps.specs.Writing.{Writing}
-use Rattle.nor_steps.proofs.WindowLemmas.{no_plan, handed_on}
+use Rattle.nor_base.proofs.FaultLaws.{handed_on}
+use Rattle.nor_steps.proofs.WindowLemmas.{no_plan}
 use Rattle.nor_steps.proofs.writer.StepWriter.more.Goals as goal
 
 pub returns-in_err-units-clause-stopped : goal.returns-in_err-units-clause-stopped

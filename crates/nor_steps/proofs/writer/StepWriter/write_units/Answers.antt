@@ -1,10 +1,11 @@
 -- One unit after another.
 use Rattle.std.proofs.Common.{refl, sym, ◌∙◌, ap, subst, arith}
 use Rattle.nor_base.specs.Parameters.{Parameters}
+use Rattle.nor_base.proofs.FaultLaws.{handed_on}
 use Rattle.nor_pages.specs.Runs.{IsUnit}
 use Rattle.nor_steps.specs.Units.{unit_size}
 use Rattle.nor_steps.specs.Writing.{Writing}
-use Rattle.nor_steps.proofs.WindowLemmas.{IsSofar, lies_here, few_sofar, unit_length, sofar_none, next_here, cut_here, sofar_all, handed_on}
+use Rattle.nor_steps.proofs.WindowLemmas.{IsSofar, lies_here, few_sofar, unit_length, sofar_none, next_here, cut_here, sofar_all}
 use Rattle.nor_work.proofs.Units.Wider.{some_page}
 use Rattle.nor_steps.proofs.writer.StepWriter.write_units.Goals as goal
 

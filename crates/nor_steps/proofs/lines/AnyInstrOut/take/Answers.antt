@@ -2,7 +2,7 @@
 use Rattle.nor_base.proofs.DeviceLaws.{Cuts-at, Writes-cut}
 use Rattle.nor_select.specs.View.{coded_of}
 use Rattle.nor_steps.specs.Lines.{coded_line}
-use Rattle.nor_steps.proofs.lines.write_instrs.Goals as goal
+use Rattle.nor_steps.proofs.lines.AnyInstrOut.take.Goals as goal
 
 pub returns-in_err-write_instr-clause-lines : goal.returns-in_err-write_instr-clause-lines
 returns-in_err-write_instr-clause-lines g c =

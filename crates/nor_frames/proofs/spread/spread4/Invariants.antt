@@ -1,0 +1,8 @@
+use Rattle.std.proofs.Common.{◌≡◌, ◌*◌, take}
+use Rattle.std.specs.Prelude.{flat_map}
+use Rattle.nor_base.specs.Clocks.{nibbles}
+use Rattle.nor_frames.proofs.spread.spread4.Given as goal
+
+-- the symbols of the first so many chunks are written
+abbrev pub invariant-loop-j : goal.invariant-loop-j
+invariant-loop-j l = take (32 * l.j) l.front ≡ flat_map (flat_map nibbles) (take l.j l.chunks)
