@@ -1,8 +1,7 @@
 -- Operations one after another.
-use Rattle.std.proofs.Common.{◌≡◌, ℕ, zero, suc, ◌+◌, ◌*◌, ◌/◌, ◌%◌, ◌<◌, ◌≤◌, Bool, true, false, List, [], ◌∷◌, ◌++◌, length, map, take, drop, Option, get_or, refl, sym, ◌∙◌, ap, subst, arith, length-append}
+use Rattle.std.proofs.Common.{◌≡◌, ℕ, zero, suc, ◌+◌, ◌*◌, ◌<◌, Bool, true, false, List, [], ◌∷◌, ◌++◌, length, map, take, drop, Option, get_or, refl, sym, ◌∙◌, ap, subst, arith, length-append}
 use Rattle.std.specs.List.{AllByRecursion}
 use Rattle.std.specs.Io.KnownBytes.{Appends}
-use Rattle.std.proofs.Math.Nat.{div-add-mod', mul-le-mul_right, suc-mul}
 use Rattle.std.proofs.lemmas.List.{map-append}
 use Rattle.nor_base.specs.Operations.{Op}
 use Rattle.nor_base.specs.Units.{pages}
@@ -87,13 +86,6 @@ pages_at page (suc n) (suc k) start inside =
 pub map_parts : {X : Type 0} (f : X → Op) (xs : List X) (x : X) (ys zs : List X) → (xs ++ x ∷ []) ++ ys ≡ zs → (map f xs ++ f x ∷ []) ++ map f ys ≡ map f zs
 map_parts f xs x ys zs whole =
     ap (λ front. front ++ map f ys) (sym (map-append f xs (x ∷ []))) ∙ sym (map-append f (xs ++ x ∷ []) ys) ∙ ap (map f) whole
-
-pub fits_page : (k page n : ℕ) → k < n / page → k * page + page ≤ n
-fits_page k page n inside =
-    let all : n / page * page + n % page ≡ n = div-add-mod' n page in
-    let more : suc k * page ≤ n / page * page = mul-le-mul_right page inside in
-    let step : suc k * page ≡ k * page + page = suc-mul k page in
-    omega (arith, all, more, step)
 
 -- what the first of some operations are, and what they are at a fault in the next
 pub next_lines_one : (a b c : Option (List ℕ)) (w v : Writing) (xs ys zs rest : List Op) → Appends a b (next_lines w xs) → v ≡ written_on w xs

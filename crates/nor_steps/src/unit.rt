@@ -1,11 +1,11 @@
 //! The steps of a unit.
 
-ghost use Rattle.std.specs.Prelude.{◌≡◌, ◌≤◌, ◌<◌, ◌+◌, ◌*◌, ◌-◌, ◌^◌, [], ◌∷◌, length, IfOk, IfErr};
+ghost use Rattle.std.specs.Prelude.{◌≡◌, ◌≤◌, ◌<◌, ◌+◌, ◌*◌, ◌-◌, ◌^◌, length, IfOk, IfErr};
 ghost use Rattle.std.specs.List.{AllByRecursion};
 ghost use Rattle.nor_pages.specs.Runs.{IsUnit, LiesBetween, AreBetween};
 ghost use Rattle.nor_select.specs.Streamed.{next};
 ghost use Rattle.nor_steps.specs.Faults.{CountsSteps, IsOfWriting};
-ghost use Rattle.nor_steps.specs.Units.{run_op, run_ops, page_reads, block_reads, block_ops, Writes, WritesUnit};
+ghost use Rattle.nor_steps.specs.Units.{run_ops, page_reads, block_reads, block_ops, Writes, WritesUnit};
 ghost use Rattle.nor_steps.specs.Writing.{Adds, next_lines, written_on};
 
 use crate::fault::StepsFault;
@@ -136,38 +136,17 @@ impl<'m> StepWriter<'m> {
     {
         let mut steps = 0;
         for run in runs {
-            steps += self.write_run(alloc, read, start, run, want, out)?;
+            let low = (run.at - start) as usize;
+            let bytes = &want[low..low + run.len as usize];
+            let at = run.at;
+            let op = if read {
+                Op::Read { at, bytes }
+            } else {
+                Op::Program { at, bytes }
+            };
+            steps += self.write_ops(alloc, &[op], out)?;
         }
         Ok(steps)
-    }
-
-    /// Writes the steps of a program of a run, or of a read, and answers how many they are.
-    fn write_run<W: InstrOut>(
-        &mut self,
-        alloc: Global,
-        read: bool,
-        start: u32,
-        run: &Run,
-        want: &[u8],
-        out: &mut W,
-    ) -> Result<u64, StepsFault>
-        requires between { LiesBetween start (start + length want.now) run.now }
-        requires writer { W.count out.old < 2 ^ 64 - 1 }
-        ensures lines { Adds (W.held out.old) (W.held out.new) result (next_lines self.old (run_op read start want.now run.now ∷ [])) }
-        ensures steps { IfOk result (λ steps. steps ≡ length (next self.old.streaming (run_op read start want.now run.now ∷ []))) }
-        ensures few { IfOk result (λ steps. steps ≤ 6) }
-        ensures onward { IfOk result (λ _. self.new ≡ written_on self.old (run_op read start want.now run.now ∷ [])) }
-        ensures count { CountsSteps (W.count out.old) (W.count out.new) result }
-        ensures why { IfErr result IsOfWriting }
-    {
-        let low = (run.at - start) as usize;
-        let bytes = &want[low..low + run.len as usize];
-        let at = run.at;
-        if read {
-            self.write_ops(alloc, &[Op::Read { at, bytes }], out)
-        } else {
-            self.write_ops(alloc, &[Op::Program { at, bytes }], out)
-        }
     }
 
     /// Writes the steps of a read of each page of a block, and answers how many they are. `want` is what its bytes must
@@ -193,8 +172,10 @@ impl<'m> StepWriter<'m> {
     {
         let mut steps = 0;
         for number in 0..want.len() / page as usize {
-            let at = start + number as u32 * page;
-            steps += self.write_run(alloc, true, start, &Run { at, len: page }, want, out)?;
+            let low = number * page as usize;
+            let bytes = &want[low..low + page as usize];
+            let at = start + low as u32;
+            steps += self.write_ops(alloc, &[Op::Read { at, bytes }], out)?;
         }
         Ok(steps)
     }
