@@ -1,10 +1,10 @@
 //! What a row asks for.
 
 use crate::samples::{Sample, meaning_of};
-use crate::words::ODD;
 use crate::{chips, clocks, listings, meanings, scripts, verdicts};
 use nor_chip::Chip;
-use nor_samples::rows::Row;
+use nor_samples::rows::{Answers, Row};
+use nor_samples::words::ODD;
 use std::alloc::Global;
 use std::io;
 
@@ -25,11 +25,16 @@ impl<'a> Bench<'a> {
             chip: None,
         }
     }
+}
 
-    /// Does a row, and puts the lines of its answer behind `out`. It takes the first word off what is asked.
-    pub(crate) fn answer(&mut self, row: &mut Row<'_>, out: &mut String) -> io::Result<()> {
+impl<'a> Answers for Bench<'a> {
+    fn answer(&mut self, row: &Row<'_>, out: &mut String) -> io::Result<()> {
         let (kind, words) = row.asked.split_once(' ').unwrap_or((row.asked, ""));
-        row.asked = words;
+        // what does a row is asked without its first word
+        let row = &Row {
+            asked: words,
+            ..*row
+        };
         match kind {
             "symbols" => clocks::list_symbols(out),
             "symbol" => clocks::tell_symbols(words, out),

@@ -3,11 +3,12 @@
 use crate::bench::Bench;
 use crate::setup::Setup;
 use crate::steps::steps_of;
-use crate::words::{ODD, clocks_of, end_with, handed, number};
+use crate::words::{clocks_of, end_with, handed};
 use nor_base::{PortFault, sampled};
 use nor_chip::{Chip, Port};
 use nor_play::{PlayFault, play};
 use nor_samples::rows::Row;
+use nor_samples::words::{ODD, number};
 use std::alloc::{AllocError, Global};
 use std::fmt::Write;
 use std::io;

@@ -2,10 +2,11 @@
 
 use crate::bench::Bench;
 use crate::samples::{Sample, meaning_of};
-use crate::words::{ODD, clocks_of, handed};
+use crate::words::{clocks_of, handed};
 use nor_base::{What, clock_of, sample_of, sampled, symbol_of};
 use nor_decode::{Seen, decode, is_verify};
 use nor_samples::rows::Row;
+use nor_samples::words::ODD;
 use std::alloc::{AllocError, Global};
 use std::fmt::Write;
 use std::io;

@@ -4,10 +4,10 @@ use crate::bench::Bench;
 use crate::samples::meaning_of;
 use crate::scripts::text;
 use crate::steps::steps_of;
-use crate::words::ODD;
 use nor_base::{IntoWrite, Start};
 use nor_listing::write_listing;
 use nor_samples::rows::Row;
+use nor_samples::words::ODD;
 use std::io;
 
 /// The listing of steps on a chip, which begins in four-byte mode where a second word says so.

@@ -1,10 +1,11 @@
 //! What chips are, and what may be done with them.
 
 use crate::samples::{Sample, meaning_of};
-use crate::words::{ODD, byte, hexadecimal, number};
 use nor_base::{Meaning, Start};
 use nor_chip::may_program;
 use nor_geometry::is_legal;
+use nor_samples::meanings::{put_instructions, put_kind};
+use nor_samples::words::{ODD, byte, hexadecimal, number};
 use std::alloc::AllocError;
 use std::fmt::Write;
 use std::io;
@@ -25,12 +26,7 @@ pub(crate) fn tell(meaning: &Meaning, out: &mut String) -> io::Result<()> {
     let width = meaning.width;
     writeln!(out, "address {width:?}, four-byte first {fours:?}")?;
     tell_kinds(meaning, out)?;
-    writeln!(out, "enter {:?}\nleave {:?}", meaning.enter, meaning.leave)?;
-    match meaning.quad_read {
-        Some(read) => writeln!(out, "quadread {:02x} {}", read.op, read.dummies)?,
-        None => writeln!(out, "quadread none")?,
-    }
-    tell_offered(meaning, out)?;
+    put_instructions(meaning, out)?;
     for region in meaning.regions.iter() {
         write!(out, "region {} {} of", region.size, region.kinds)?;
         end_with_kinds(|kind| region.allows(kind), out)?;
@@ -43,13 +39,7 @@ fn tell_kinds(meaning: &Meaning, out: &mut String) -> Result<(), AllocError> {
     for kind in 0..=255u8 {
         let size = meaning.block_size(kind);
         match meaning.erase_kind(kind) {
-            Some(erase) => {
-                write!(out, "erase {kind} {size} {:02x} ", erase.op)?;
-                match erase.op4 {
-                    Some(opcode) => writeln!(out, "{opcode:02x}")?,
-                    None => writeln!(out, "--")?,
-                }
-            }
+            Some(erase) => put_kind(kind, size, erase, out)?,
             None if size > 0 => writeln!(out, "erase {kind} {size} of none")?,
             None => {}
         }
@@ -66,22 +56,6 @@ fn end_with_kinds<Is: Fn(u8) -> bool>(is: Is, out: &mut String) -> Result<(), Al
         if is(kind) {
             write!(out, " {kind}")?;
         }
-    }
-    writeln!(out)
-}
-
-/// The opcodes that are offered, and the profile of erased bytes.
-fn tell_offered(meaning: &Meaning, out: &mut String) -> Result<(), AllocError> {
-    write!(out, "offered")?;
-    for (is, word) in [
-        (meaning.read4, " 13"),
-        (meaning.quad_read4, " 6c"),
-        (meaning.program4, " 12"),
-        (meaning.quad4, " 34"),
-        (meaning.quad3, " 32"),
-        (meaning.erased_only, "\nerased only"),
-    ] {
-        out.push_str(if is { word } else { "" })?;
     }
     writeln!(out)
 }

@@ -1,11 +1,9 @@
 //! Chips by their names.
 
-use crate::words::ODD;
 use nor_base::{Erase, Meaning, QuadRead, Switch, Width};
-use nor_samples::{
-    erased_only_chip, large_chip, latched_chip, legacy_chip, legacy_latched_chip, mapped_chip,
-    open_page_chip, small_chip, w25q256jv_chip,
-};
+use nor_samples::meanings::named;
+use nor_samples::small_chip;
+use nor_samples::words::ODD;
 use std::alloc::Global;
 use std::io;
 
@@ -14,20 +12,11 @@ pub(crate) type Sample = (&'static str, Meaning);
 
 /// The chips that rows may name.
 pub(crate) fn samples(alloc: Global) -> io::Result<Vec<Sample>> {
-    let all = [
-        ("small", small_chip()),
-        ("open-page", open_page_chip()),
-        ("erased-only", erased_only_chip()),
-        ("mapped", mapped_chip()),
-        ("large", large_chip()),
-        ("w25q256jv", w25q256jv_chip()),
-        ("latched", latched_chip()),
-        ("legacy", legacy_chip()),
-        ("legacy-latched", legacy_latched_chip()),
+    let two_mode = [
         ("two-mode", two_mode_chip(Switch::Plain)),
         ("two-mode-latched", two_mode_chip(Switch::Latched)),
     ];
-    Ok(all.into_iter().collect(alloc)?)
+    Ok(named().into_iter().chain(two_mode).collect(alloc)?)
 }
 
 /// The chip of a name.

@@ -1,9 +1,10 @@
 //! Scripts as texts.
 
 use crate::steps::steps_of;
-use crate::words::{ODD, byte, end_with, handed};
+use crate::words::{end_with, handed};
 use nor_base::{ByteOut, IntoWrite, Step, is_step};
 use nor_samples::rows::Row;
+use nor_samples::words::{ODD, byte};
 use nor_script::{begin, finish, read, write_step};
 use std::alloc::Global;
 use std::fmt::Write;

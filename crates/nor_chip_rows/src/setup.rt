@@ -2,9 +2,10 @@
 
 use crate::bench::Bench;
 use crate::samples::meaning_of;
-use crate::words::{ODD, bytes_of, hexadecimal, number};
+use crate::words::bytes_of;
 use nor_base::{Meaning, Start, Width};
 use nor_chip::Chip;
+use nor_samples::words::{ODD, hexadecimal, number};
 use std::io;
 
 /// A chip and what it holds, by the words of a row: its name, and then any of `mode4`, `quad`, `keeps`, `page N`,

@@ -1,7 +1,8 @@
 //! The steps of rows.
 
-use crate::words::{ODD, bytes_of, clocks_of, handed};
+use crate::words::{bytes_of, clocks_of, handed};
 use nor_base::{Bytes, Step};
+use nor_samples::words::ODD;
 use std::alloc::Global;
 use std::io;
 

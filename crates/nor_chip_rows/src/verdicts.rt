@@ -3,10 +3,10 @@
 use crate::bench::Bench;
 use crate::setup::Setup;
 use crate::steps::steps_of;
-use crate::words::ODD;
 use nor_base::Width;
 use nor_check::{CheckFault, Verdict, Why, check};
 use nor_samples::rows::Row;
+use nor_samples::words::ODD;
 use std::fmt::Write;
 use std::io;
 

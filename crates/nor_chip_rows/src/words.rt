@@ -1,26 +1,9 @@
-//! The words of rows: numbers, bytes and clocks.
+//! The words of rows: bytes and clocks.
 
+use nor_samples::words::{ODD, number};
 use std::alloc::{AllocError, Global};
 use std::fmt::Write;
-use std::io::{self, ErrorKind};
-
-/// A word that no row has there, as an error.
-pub(crate) const ODD: ErrorKind = ErrorKind::InvalidInput;
-
-/// A number in decimal.
-pub(crate) fn number(word: &str) -> io::Result<u32> {
-    Ok(word.parse::<u32>().ok().ok_or(ODD)?)
-}
-
-/// A number in hexadecimal.
-pub(crate) fn hexadecimal(word: &str) -> io::Result<u32> {
-    Ok(u32::from_str_radix(word, 16).ok().ok_or(ODD)?)
-}
-
-/// A byte in hexadecimal.
-pub(crate) fn byte(word: &str) -> io::Result<u8> {
-    Ok(u8::from_str_radix(word, 16).ok().ok_or(ODD)?)
-}
+use std::io;
 
 /// What stands behind the sign of a line that is handed over.
 pub(crate) fn handed<'a>(line: &'a str) -> io::Result<&'a str> {

@@ -7,25 +7,35 @@ use Rattle.std.proofs.lemmas.Bool.{and_parts, ltb-true}
 use Rattle.std.proofs.lemmas.List.{append_cancel_left}
 use Rattle.nor_base.specs.declared.step.Step.{Step}
 use Rattle.nor_base.specs.declared.step.Step.TheVariants.{Send, Poll, Verify}
+use Rattle.nor_base.specs.Array.{are_bytes}
 use Rattle.nor_base.specs.Sample.{is_symbol}
 use Rattle.nor_base.specs.Step.{are_clocks, is_filled, IsStep}
 use Rattle.nor_base.specs.Script.{closed, hex_digit, hex_pair, step_line, header, end_line, step_lines, script_text, IsScript}
 
+-- two texts that are alike: in front, and what follows
+pub record Alike (a b x y : List ℕ) : Type 0 where
+  pub front : a ≡ b
+  pub rest : x ≡ y
+
+-- two texts that tell one number, and what follows
+pub record Agree (m n : ℕ) (x y : List ℕ) : Type 0 where
+  pub front : m ≡ n
+  pub rest : x ≡ y
+
 -- no element is c
-abbrev None_is : ℕ → List ℕ → Type 0
+abbrev pub None_is : ℕ → List ℕ → Type 0
 None_is c xs = AllByRecursion (λ x. x ≢ c) xs
 
 -- two lists up to a first c are alike where all is
-up_to : (c : ℕ) (xs ys x y : List ℕ) → None_is c xs → None_is c ys → xs ++ c ∷ x ≡ ys ++ c ∷ y → (xs ≡ ys) × (x ≡ y)
-up_to c [] [] x y p q h = let tails : x ≡ y = cc in (refl, tails)
+pub up_to : (c : ℕ) (xs ys x y : List ℕ) → None_is c xs → None_is c ys → xs ++ c ∷ x ≡ ys ++ c ∷ y → Alike xs ys x y
+up_to c [] [] x y p q h = let tails : x ≡ y = cc in record { front = refl; rest = tails }
 up_to c [] (b ∷ ys) x y p q h = let same : b ≡ c = cc in absurd (q.0 same)
 up_to c (a ∷ xs) [] x y p q h = let same : a ≡ c = cc in absurd (p.0 same)
 up_to c (a ∷ xs) (b ∷ ys) x y p q h =
     let same : a ≡ b = cc in
     let tails : xs ++ c ∷ x ≡ ys ++ c ∷ y = cc in
     let later = up_to c xs ys x y p.1 q.1 tails in
-    let lists : a ∷ xs ≡ b ∷ ys = ap (λ n. n ∷ xs) same ∙ ap (λ l. b ∷ l) later.0 in
-    (lists, later.1)
+    record { front = ap (λ n. n ∷ xs) same ∙ ap (λ l. b ∷ l) later.front; rest = later.rest }
 
 -- a byte that is no symbol isn't among symbols
 none_of_symbols : (c : ℕ) (xs : List ℕ) → is_symbol c ≡ false → list_all is_symbol xs ≡ true → None_is c xs
@@ -53,56 +63,67 @@ hex_digit_low n = grind (arith, nat_tests)
 digits_apart : (m n : ℕ) → m < 16 → n < 16 → hex_digit m ≡ hex_digit n → m ≡ n
 digits_apart m n p q h = sym (hex_digit_value m p) ∙ ap digit_value h ∙ hex_digit_value n q
 
-pairs_apart : (b c : ℕ) → b < 256 → c < 256 → hex_digit (b / 16) ≡ hex_digit (c / 16) → hex_digit (b % 16) ≡ hex_digit (c % 16) → b ≡ c
-pairs_apart b c p q high low =
+-- a byte, by its two digits
+pub pair_apart : (b c : ℕ) (x y : List ℕ) → b < 256 → c < 256 → hex_pair b ++ x ≡ hex_pair c ++ y → Agree b c x y
+pair_apart b c x y p q h =
+    let high : hex_digit (b / 16) ≡ hex_digit (c / 16) = ap (λ l. get_or l 0 0) h in
+    let low : hex_digit (b % 16) ≡ hex_digit (c % 16) = ap (λ l. get_or l 1 0) h in
     let highs : b / 16 ≡ c / 16 = digits_apart (b / 16) (c / 16) (omega arith) (omega arith) high in
     let lows : b % 16 ≡ c % 16 = digits_apart (b % 16) (c % 16) (omega arith) (omega arith) low in
-    omega (arith, highs, lows)
+    record { front = omega (arith, highs, lows); rest = ap (drop 2) h }
 
--- bytes by their digits
-bytes_apart : (xs ys x y : List ℕ) → list_all (λ byte. nat_lt byte 256) xs ≡ true → list_all (λ byte. nat_lt byte 256) ys ≡ true
-    → flat_map hex_pair xs ++ 0x0A ∷ x ≡ flat_map hex_pair ys ++ 0x0A ∷ y → (xs ≡ ys) × (x ≡ y)
-bytes_apart [] [] x y p q h = let tails : x ≡ y = cc in (refl, tails)
+-- numbers below 256
+abbrev pub Small : List ℕ → Type 0
+Small xs = AllByRecursion (λ n. n < 256) xs
+
+pub small_bytes : (bytes : List ℕ) → are_bytes bytes ≡ true → Small bytes
+small_bytes [] h = tt
+small_bytes (b ∷ bytes) h =
+    let parts = and_parts (nat_lt b 256) (list_all (λ n. nat_lt n 256) bytes) h in (ltb-true b 256 parts.0, small_bytes bytes parts.1)
+
+-- bytes up to LF, by their digits
+pub bytes_apart : (xs ys x y : List ℕ) → Small xs → Small ys → flat_map hex_pair xs ++ 0x0A ∷ x ≡ flat_map hex_pair ys ++ 0x0A ∷ y → Alike xs ys x y
+bytes_apart [] [] x y p q h = record { front = refl; rest = ap (drop 1) h }
 bytes_apart [] (c ∷ ys) x y p q h = let heads : 0x0A ≡ hex_digit (c / 16) = ap (λ l. get_or l 0 0) h in absurd (omega (arith, heads, hex_digit_low (c / 16)))
 bytes_apart (b ∷ xs) [] x y p q h = let heads : hex_digit (b / 16) ≡ 0x0A = ap (λ l. get_or l 0 0) h in absurd (omega (arith, heads, hex_digit_low (b / 16)))
 bytes_apart (b ∷ xs) (c ∷ ys) x y p q h =
-    let high : hex_digit (b / 16) ≡ hex_digit (c / 16) = ap (λ l. get_or l 0 0) h in
-    let low : hex_digit (b % 16) ≡ hex_digit (c % 16) = ap (λ l. get_or l 1 0) h in
-    let small_b : b < 256 = ltb-true b 256 (and_parts (nat_lt b 256) (list_all (λ byte. nat_lt byte 256) xs) p).0 in
-    let small_c : c < 256 = ltb-true c 256 (and_parts (nat_lt c 256) (list_all (λ byte. nat_lt byte 256) ys) q).0 in
-    let same : b ≡ c = pairs_apart b c small_b small_c high low in
-    let later = bytes_apart xs ys x y (and_parts (nat_lt b 256) (list_all (λ byte. nat_lt byte 256) xs) p).1
-    (and_parts (nat_lt c 256) (list_all (λ byte. nat_lt byte 256) ys) q).1 (ap (drop 2) h) in
-    let lists : b ∷ xs ≡ c ∷ ys = ap (λ n. n ∷ xs) same ∙ ap (λ l. c ∷ l) later.0 in
-    (lists, later.1)
+    let one = pair_apart b c (flat_map hex_pair xs ++ 0x0A ∷ x) (flat_map hex_pair ys ++ 0x0A ∷ y) p.0 q.0 h in
+    let later = bytes_apart xs ys x y p.1 q.1 one.rest in
+    record { front = ap (λ n. n ∷ xs) one.front ∙ ap (λ l. c ∷ l) later.front; rest = later.rest }
 
 -- a Verify's line after its letter and blank
 verify_line : (clocks digits x : List ℕ) → ((clocks ++ (codes " " ++ digits)) ++ 0x0A ∷ []) ++ x ≡ clocks ++ 0x20 ∷ (digits ++ 0x0A ∷ x)
 verify_line clocks digits x =
     append_assoc (clocks ++ (codes " " ++ digits)) (0x0A ∷ []) x ∙ append_assoc clocks (codes " " ++ digits) (0x0A ∷ x)
 
+-- two steps, and what follows their lines
+pub record SameStep (s t : Step) (x y : List ℕ) : Type 0 where
+  pub is : s ≡ t
+  pub rest : x ≡ y
+
+-- clocks up to LF
+clocks_apart : (a b x y : List ℕ) → are_clocks a ≡ true → are_clocks b ≡ true → (a ++ 0x0A ∷ []) ++ x ≡ (b ++ 0x0A ∷ []) ++ y → Alike a b x y
+clocks_apart a b x y p q h =
+    up_to 0x0A a b x y (none_of_clocks 0x0A a refl p) (none_of_clocks 0x0A b refl q) (sym (append_assoc a (0x0A ∷ []) x) ∙ h ∙ append_assoc b (0x0A ∷ []) y)
+
 -- the first byte
 head_of : List ℕ → ℕ
 head_of l = get_or l 0 0
 
 -- lines of two kinds of step differ in their first byte
-step_apart : (s t : Step) (x y : List ℕ) → IsStep s → IsStep t → closed (step_line s) ++ x ≡ closed (step_line t) ++ y → (s ≡ t) × (x ≡ y)
+pub step_apart : (s t : Step) (x y : List ℕ) → IsStep s → IsStep t → closed (step_line s) ++ x ≡ closed (step_line t) ++ y → SameStep s t x y
 unfolding step_line head_of
 step_apart (Send a) (Send b) x y p q h =
-    let lines : a ++ 0x0A ∷ x ≡ b ++ 0x0A ∷ y = sym (append_assoc a (0x0A ∷ []) x) ∙ ap (drop 2) h ∙ append_assoc b (0x0A ∷ []) y in
-    let both = up_to 0x0A a b x y (none_of_clocks 0x0A a refl p.passes) (none_of_clocks 0x0A b refl q.passes) lines in
-    (ap Send both.0, both.1)
+    let both = clocks_apart a b x y p.passes q.passes (ap (drop 2) h) in record { is = ap Send both.front; rest = both.rest }
 step_apart (Poll a) (Poll b) x y p q h =
-    let lines : a ++ 0x0A ∷ x ≡ b ++ 0x0A ∷ y = sym (append_assoc a (0x0A ∷ []) x) ∙ ap (drop 2) h ∙ append_assoc b (0x0A ∷ []) y in
-    let both = up_to 0x0A a b x y (none_of_clocks 0x0A a refl p.passes) (none_of_clocks 0x0A b refl q.passes) lines in
-    (ap Poll both.0, both.1)
+    let both = clocks_apart a b x y p.passes q.passes (ap (drop 2) h) in record { is = ap Poll both.front; rest = both.rest }
 step_apart (Verify a d) (Verify b e) x y p q h =
     let lines : a ++ 0x20 ∷ (flat_map hex_pair d ++ 0x0A ∷ x) ≡ b ++ 0x20 ∷ (flat_map hex_pair e ++ 0x0A ∷ y) =
     sym (verify_line a (flat_map hex_pair d) x) ∙ ap (drop 2) h ∙ verify_line b (flat_map hex_pair e) y in
     let clocks = up_to 0x20 a b _ _ (none_of_clocks 0x20 a refl (and_parts (are_clocks a) (is_filled d) p.passes).0)
     (none_of_clocks 0x20 b refl (and_parts (are_clocks b) (is_filled e) q.passes).0) lines in
-    let bytes = bytes_apart d e x y p.bytes q.bytes clocks.1 in
-    (ap (λ c. Verify c d) clocks.0 ∙ ap (Verify b) bytes.0, bytes.1)
+    let bytes = bytes_apart d e x y (small_bytes d p.bytes) (small_bytes e q.bytes) clocks.rest in
+    record { is = ap (λ c. Verify c d) clocks.front ∙ ap (Verify b) bytes.front; rest = bytes.rest }
 step_apart (Send a) (Poll b) x y p q h = let heads : 120 ≡ 112 = ap head_of h in absurd (omega (arith, heads))
 step_apart (Send a) (Verify b e) x y p q h = let heads : 120 ≡ 118 = ap head_of h in absurd (omega (arith, heads))
 step_apart (Poll a) (Send b) x y p q h = let heads : 112 ≡ 120 = ap head_of h in absurd (omega (arith, heads))
@@ -134,9 +155,9 @@ lines_apart (s ∷ a) (t ∷ b) k x y p q h =
     let count_a : k + length (s ∷ a) ≡ (k + 1) + length a = omega arith in
     let count_b : k + length (t ∷ b) ≡ (k + 1) + length b = omega arith in
     let rest : step_lines a ++ (end_line ((k + 1) + length a) ++ x) ≡ step_lines b ++ (end_line ((k + 1) + length b) ++ y) =
-    ap (λ n. step_lines a ++ (end_line n ++ x)) (sym count_a) ∙ split.1 ∙ ap (λ n. step_lines b ++ (end_line n ++ y)) count_b in
+    ap (λ n. step_lines a ++ (end_line n ++ x)) (sym count_a) ∙ split.rest ∙ ap (λ n. step_lines b ++ (end_line n ++ y)) count_b in
     let later = lines_apart a b (k + 1) x y p.1 q.1 rest in
-    let lists : s ∷ a ≡ t ∷ b = ap (λ step. step ∷ a) split.0 ∙ ap (λ steps. t ∷ steps) later.0 in
+    let lists : s ∷ a ≡ t ∷ b = ap (λ step. step ∷ a) split.is ∙ ap (λ steps. t ∷ steps) later.0 in
     (lists, later.1)
 
 -- a text by its parts

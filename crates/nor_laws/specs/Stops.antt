@@ -1,6 +1,6 @@
 -- Where a run stops, worked out by hand: a verifying read, polls and reads of other forms, the profile of erased bytes; and where
 -- a program goes round in its page.
-use Rattle.std.specs.Prelude.{◌≡◌, ℕ, Bool, true, false, List, [], ◌∷◌, ◌++◌, replicate, codes, Ok}
+use Rattle.std.specs.Prelude.{◌≡◌, ℕ, true, false, List, [], ◌∷◌, ◌++◌, replicate, codes, Ok}
 use Rattle.nor_base.specs.declared.meaning.Switch.TheVariants.{Plain}
 use Rattle.nor_base.specs.declared.step.Step.{Step}
 use Rattle.nor_base.specs.declared.step.Step.TheVariants.{Send, Poll, Verify}

@@ -6,6 +6,5 @@ mod ListLemmas
 mod ApartLemmas
 mod TakenLemmas
 mod TailLemmas
-mod ScriptLemmas
 mod ViewLemmas
 mod LawLemmas

@@ -12,7 +12,8 @@ use Rattle.nor_base.specs.Script.{hex_pair}
 use Rattle.nor_decode.proofs.SmallLemmas.{sent_below}
 use Rattle.nor_listing.specs.Listing.{in_eight, counted, spelled}
 use Rattle.nor_script.specs.Hexadecimal.{hex_number}
-use Rattle.nor_listing.proofs.ApartLemmas.{Agree, decimal_apart, number_apart, bytes_apart, Small}
+use Rattle.nor_laws.proofs.ScriptLaws.{Agree, Small, bytes_apart}
+use Rattle.nor_listing.proofs.ApartLemmas.{decimal_apart, number_apart}
 use Rattle.nor_listing.proofs.TakenLemmas.{taken_as, all_small}
 
 -- behind word and opcode

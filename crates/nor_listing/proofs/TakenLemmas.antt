@@ -13,7 +13,7 @@ use Rattle.nor_base.specs.Decoding.{Instruction, instruction, transaction, decod
 use Rattle.nor_base.specs.Effect.{is_broken, has_address}
 use Rattle.nor_base.specs.Spelling.{Instr, seen, bytes_to_send, count_to_read}
 use Rattle.nor_laws.specs.Spelling.{SameSpelling}
-use Rattle.nor_listing.proofs.ApartLemmas.{Small}
+use Rattle.nor_laws.proofs.ScriptLaws.{Small}
 
 -- what is found passes the test, and each that all pass
 record Passes {A : Type 0} (p q : A → Bool) (y : A) : Type 0 where

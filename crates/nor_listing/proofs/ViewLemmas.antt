@@ -19,8 +19,7 @@ use Rattle.nor_base.specs.Script.{closed, hex_pair, step_line}
 use Rattle.nor_laws.specs.Spelling.{SameSpelling}
 use Rattle.nor_listing.specs.Law.{clocks_in, IsListable}
 use Rattle.nor_listing.specs.Listing.{in_eight, counted, spelled, sent_words, send_words, read_words, verify_words, words}
-use Rattle.nor_listing.proofs.ApartLemmas.{pair_apart, bytes_apart}
-use Rattle.nor_listing.proofs.ScriptLemmas.{SameStep, small_bytes, step_apart}
+use Rattle.nor_laws.proofs.ScriptLaws.{SameStep, bytes_apart, pair_apart, small_bytes, step_apart}
 use Rattle.nor_listing.proofs.TailLemmas.{tail_words, tail_tells, placed, data_apart}
 use Rattle.nor_listing.proofs.TakenLemmas.{takes, taken_as, same_row, same_clocks, opcode_small}
 

@@ -4,8 +4,9 @@ use Rattle.std.specs.List.{slice_range}
 use Rattle.std.proofs.lemmas.List.{drop_more, drop_all, take_all, length-drop}
 use Rattle.nor_plan_read.specs.declared.line.PlanLine.{PlanLine}
 use Rattle.nor_plan_read.specs.declared.line.PlanLine.TheVariants.{Erase, Because, Program}
+use Rattle.nor_plan_read.specs.Lines.{line_text}
 use Rattle.nor_map.specs.Grid.{Grid}
-use Rattle.nor_map.specs.Blocks.{because_line, reasons, block_at, blocks}
+use Rattle.nor_map.specs.Blocks.{reasons, block_at, blocks}
 
 tail_is : (lines : List PlanLine) (n : ℕ) → slice_range lines n (length lines) ≡ drop n lines
 tail_is lines n = take_all (length lines - n) (drop n lines) (omega (arith, length-drop n lines))
@@ -23,9 +24,10 @@ no_block_left g lines n past_all = ap (blocks g) (drop_all n lines past_all)
 
 -- a line that is a reason, and one that isn't
 pub reason_left : (lines : List PlanLine) (n : ℕ) (d : PlanLine) (start cause : ℕ) → n < length lines → get_or lines n d ≡ Because start cause
-    → reasons (drop n lines) ≡ because_line start cause ++ reasons (drop (n + 1) lines)
+    → reasons (drop n lines) ≡ line_text (get_or lines n d) ++ reasons (drop (n + 1) lines)
 unfolding reasons
-reason_left lines n d start cause inside is = ap reasons (drop_more lines n d inside ∙ ap (λ x. x ∷ drop (n + 1) lines) is)
+reason_left lines n d start cause inside is =
+    ap reasons (drop_more lines n d inside ∙ ap (λ x. x ∷ drop (n + 1) lines) is) ∙ ap (λ x. line_text x ++ reasons (drop (n + 1) lines)) (sym is)
 
 pub no_reason_left : (lines : List PlanLine) (n : ℕ) → length lines ≤ n → reasons (drop n lines) ≡ []
 unfolding reasons

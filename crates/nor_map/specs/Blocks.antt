@@ -1,25 +1,15 @@
 -- The erased blocks of a plan: the outline of each, with its lines of the plan as its title.
 use Rattle.std.specs.Prelude.{ℕ, ◌+◌, ◌-◌, Bool, nat_le, if◌then◌else◌, List, [], ◌∷◌, ◌++◌, length, codes}
-use Rattle.nor_base.specs.Script.{hex_pair}
-use Rattle.nor_script.specs.Hexadecimal.{hex_number}
 use Rattle.nor_plan_read.specs.declared.line.PlanLine.{PlanLine}
 use Rattle.nor_plan_read.specs.declared.line.PlanLine.TheVariants.{Erase, Because, Program}
+use Rattle.nor_plan_read.specs.Lines.{line_text}
 use Rattle.nor_map.specs.Grid.{Grid}
 use Rattle.nor_map.specs.Shapes.{span}
-
--- `erase SSSSSSSS ZZZZZZZZ OO`: a block's start and size, and the opcode that is sent
-abbrev pub erase_line : ℕ → ℕ → ℕ → List ℕ
-erase_line start size opcode =
-    codes "erase " ++ (hex_number start ++ (codes " " ++ (hex_number size ++ (codes " " ++ (hex_pair opcode ++ codes "\n")))))
-
--- `because SSSSSSSS AAAAAAAA`: the start of a smallest block, and the lowest address in it that must be erased
-abbrev pub because_line : ℕ → ℕ → List ℕ
-because_line start cause = codes "because " ++ (hex_number start ++ (codes " " ++ (hex_number cause ++ codes "\n")))
 
 -- the lines `because` that stand first of these
 unfoldable pub reasons : List PlanLine → List ℕ
 reasons [] = []
-reasons (Because start cause ∷ rest) = because_line start cause ++ reasons rest
+reasons (Because start cause ∷ rest) = line_text (Because start cause) ++ reasons rest
 reasons (Erase start size opcode ∷ rest) = []
 reasons (Program start count ∷ rest) = []
 
@@ -30,7 +20,7 @@ block_shape g start size = span g start (start + (size - 1))
 -- a block that is erased, before the lines that follow its own: its outline, and as its title its line and its reasons
 abbrev pub block : Grid → ℕ → ℕ → ℕ → List PlanLine → List ℕ
 block g start size opcode rest =
-    codes "<path d=\"" ++ (block_shape g start size ++ (codes "\"><title>" ++ (erase_line start size opcode
+    codes "<path d=\"" ++ (block_shape g start size ++ (codes "\"><title>" ++ (line_text (Erase start size opcode)
     ++ (reasons rest ++ codes "</title></path>\n"))))
 
 abbrev pub block_at : Grid → PlanLine → List PlanLine → List ℕ

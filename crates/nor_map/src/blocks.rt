@@ -2,13 +2,12 @@
 
 ghost use Rattle.std.specs.Prelude.{◌≡◌, ◌<◌, ◌-◌, ◌^◌, ◌++◌};
 ghost use Rattle.nor_base.specs.Device.{Writes, Counts};
-ghost use Rattle.nor_map.specs.Blocks.{are_few, because_line, block, block_at, block_shape, blocks, erase_line, few_blocks, reasons};
+ghost use Rattle.nor_map.specs.Blocks.{are_few, block, block_at, block_shape, blocks, few_blocks, reasons};
 
 use crate::grid::Grid;
 use crate::shapes::put_span;
-use nor_base::{ByteOut, Failed, put_all, put_parts};
-use nor_plan_read::PlanLine;
-use nor_script::{hex_number, hex_pair};
+use nor_base::{ByteOut, Failed, put_all};
+use nor_plan_read::{PlanLine, write_line};
 
 /// As many lines as a plan may have whose erased blocks are outlined.
 const MOST_LINES: usize = 10000;
@@ -86,7 +85,12 @@ fn put_block<W: ByteOut>(
     put_all(out, b"<path d=\"")?;
     put_block_shape(grid, start, size, out)?;
     put_all(out, b"\"><title>")?;
-    put_erase_line(start, size, opcode, out)?;
+    let line = PlanLine::Erase {
+        start,
+        size,
+        opcode,
+    };
+    write_line(line, out)?;
     put_reasons(rest, out)?;
     put_all(out, b"</title></path>\n")
 }
@@ -107,26 +111,6 @@ fn put_block_shape<W: ByteOut>(
     put_span(grid, start, last, out)
 }
 
-/// Puts the line of a block: its start and size, and the opcode that is sent.
-fn put_erase_line<W: ByteOut>(start: u32, size: u32, opcode: u8, out: &mut W) -> Result<(), Failed>
-    requires { W.count out.old < 2 ^ 64 - 1 }
-    ensures bytes { Writes (W.held out.old) (W.held out.new) result (erase_line start size opcode) }
-    ensures count { Counts (W.count out.old) (W.count out.new) result }
-{
-    put_parts(
-        out,
-        &[
-            b"erase ",
-            &hex_number(start),
-            b" ",
-            &hex_number(size),
-            b" ",
-            &hex_pair(opcode),
-            b"\n",
-        ],
-    )
-}
-
 /// Puts the lines `because` that stand first of these.
 fn put_reasons<W: ByteOut>(lines: &[PlanLine], out: &mut W) -> Result<(), Failed>
     requires { W.count out.old < 2 ^ 64 - 1 }
@@ -134,28 +118,10 @@ fn put_reasons<W: ByteOut>(lines: &[PlanLine], out: &mut W) -> Result<(), Failed
     ensures count { Counts (W.count out.old) (W.count out.new) result }
 {
     for line in lines {
-        let PlanLine::Because { start, cause } = *line else {
+        let PlanLine::Because { .. } = *line else {
             return Ok(());
         };
-        put_because_line(start, cause, out)?;
+        write_line(*line, out)?;
     }
     Ok(())
-}
-
-/// Puts the start of a smallest block, and the lowest address in it that must be erased.
-fn put_because_line<W: ByteOut>(start: u32, cause: u32, out: &mut W) -> Result<(), Failed>
-    requires { W.count out.old < 2 ^ 64 - 1 }
-    ensures bytes { Writes (W.held out.old) (W.held out.new) result (because_line start cause) }
-    ensures count { Counts (W.count out.old) (W.count out.new) result }
-{
-    put_parts(
-        out,
-        &[
-            b"because ",
-            &hex_number(start),
-            b" ",
-            &hex_number(cause),
-            b"\n",
-        ],
-    )
 }

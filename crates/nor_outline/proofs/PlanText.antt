@@ -1,9 +1,7 @@
 -- The lines of units as a text of the work.
-use Rattle.std.proofs.Common.{◌≡◌, ℕ, ◌+◌, List, [], ◌∷◌, ◌++◌, length, Option, None, Result, Ok, Err, IfErr, refl, sym, ◌∙◌, ap, subst, arith, inl, inr}
+use Rattle.std.proofs.Common.{◌≡◌, ℕ, ◌+◌, List, [], ◌∷◌, ◌++◌, length, Option, None, Result, Ok, Err, IfErr, refl, sym, ◌∙◌, ap, arith, inl, inr}
 use Rattle.std.specs.Prelude.{flat_map}
-use Rattle.nor_base.specs.declared.meaning.Strategy.{Strategy}
 use Rattle.nor_base.specs.Operations.{unit_ops}
-use Rattle.nor_base.specs.Parameters.{Parameters}
 use Rattle.nor_base.specs.Units.{WorkUnit}
 use Rattle.nor_base.proofs.DeviceLaws.{Appends-none}
 use Rattle.nor_outline.specs.Outline.{unit_lines}

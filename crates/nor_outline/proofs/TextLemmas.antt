@@ -1,6 +1,6 @@
 -- The text of a unit by its own bytes is that of the whole chip's.
 use Rattle.std.proofs.Common.{◌≡◌, ℕ, ◌+◌, ◌-◌, ◌<◌, ◌≤◌, ◌==◌, not, ◌&&◌, if◌then◌else◌, Bool, List, [], ◌∷◌, ◌++◌, length, map, Option, Some, None, refl, sym, ◌∙◌, ap, arith, append_assoc}
-use Rattle.std.specs.Prelude.{flat_map, decimal, codes, slice_index}
+use Rattle.std.specs.Prelude.{flat_map, slice_index}
 use Rattle.std.specs.List.{slice_range, AllByRecursion}
 use Rattle.nor_base.specs.declared.meaning.Strategy.{Strategy}
 use Rattle.nor_base.specs.Parameters.{Parameters}
@@ -17,7 +17,8 @@ use Rattle.nor_erase.proofs.Runs.{at_address}
 use Rattle.nor_pages.specs.declared.run.Run.{Run}
 use Rattle.nor_pages.specs.Runs.{run_program, unit_start, LiesBetween, AreBetween}
 use Rattle.nor_outline.specs.Outline.{program_line, because, reason, reason_at, reasons, erase_line, IsPlanned, IsOutline}
-use Rattle.nor_script.specs.Hexadecimal.{hex_number}
+use Rattle.nor_plan_read.specs.declared.line.PlanLine.TheVariants.{Program}
+use Rattle.nor_plan_read.specs.Lines.{line_text}
 use Rattle.nor_outline.specs.Parts.{due_in, run_line, part_text}
 use Rattle.nor_outline.proofs.RangeLemmas.{find_same, flat_same}
 
@@ -64,7 +65,7 @@ reasons_same m b due other accepted legal same =
 run_told : (target : List ℕ) (r : Run) → r.at + r.len ≤ length target → run_line r ≡ program_line (run_program target r)
 run_told target r fits =
     let size : r.len ≡ length (slice_range target r.at (r.at + r.len)) = omega (arith, length-range target r.at (r.at + r.len) (omega arith) fits) in
-    ap (λ n. codes "program " ++ (hex_number r.at ++ (codes " " ++ (decimal n ++ codes "\n")))) size
+    ap (λ n. line_text (Program r.at n)) size
 
 runs_told : (target : List ℕ) (low high : ℕ) (runs : List Run) → high ≤ length target → AllByRecursion (LiesBetween low high) runs
     → flat_map run_line runs ≡ flat_map program_line (map (run_program target) runs)

@@ -1,5 +1,5 @@
 -- The lines that tell a plan (this project's).
-use Rattle.std.specs.Prelude.{◌≡◌, ℕ, Bool, true, ◌==◌, if◌then◌else◌, List, [], ◌∷◌, ◌++◌, length, map, flat_map, codes, decimal, Option, Some, None}
+use Rattle.std.specs.Prelude.{◌≡◌, ℕ, Bool, true, ◌==◌, if◌then◌else◌, List, [], ◌++◌, length, map, flat_map, Option, Some, None}
 use Rattle.std.specs.List.{find, range_with_len}
 use Rattle.std.specs.Option.{option_map_or}
 use Rattle.nor_base.specs.declared.meaning.Start.{Start}
@@ -9,7 +9,6 @@ use Rattle.nor_base.specs.Blocks.{Block, IsLegalBlock, smallest}
 use Rattle.nor_base.specs.Need.{is_due}
 use Rattle.nor_base.specs.Operations.{erasing}
 use Rattle.nor_base.specs.Programs.{Program}
-use Rattle.nor_base.specs.Script.{hex_pair}
 use Rattle.nor_base.specs.Strategies.{strategy, reaches}
 use Rattle.nor_base.specs.Units.{WorkUnit}
 use Rattle.nor_geometry.specs.declared.unit.PlanUnit.{PlanUnit}
@@ -17,25 +16,21 @@ use Rattle.nor_geometry.specs.declared.unit.PlanUnit.TheVariants as unit
 use Rattle.nor_geometry.specs.Plan.{HasPart}
 use Rattle.nor_pages.specs.declared.run.Run.{Run}
 use Rattle.nor_pages.specs.Runs.{run_program, unit_start}
-use Rattle.nor_script.specs.Hexadecimal.{hex_number}
+use Rattle.nor_plan_read.specs.declared.line.PlanLine.TheVariants as line
+use Rattle.nor_plan_read.specs.Lines.{line_text}
 
--- `erase SSSSSSSS ZZZZZZZZ OO`: a block's start, its size, and the opcode that erases it
+-- the line of a block: its start, its size, and the opcode that erases it
 abbrev pub erase_line : Parameters → Strategy → Block → List ℕ
-erase_line m by b =
-    codes "erase " ++ (hex_number b.start ++ (codes " " ++ (hex_number b.size ++ (codes " " ++ (hex_pair (erasing m by b).op ++ codes "\n")))))
+erase_line m by b = line_text (line.Erase b.start b.size (erasing m by b).op)
 
--- `because SSSSSSSS AAAAAAAA`: a smallest block's start, and the address that is due in it
-abbrev pub because_line : ℕ → ℕ → List ℕ
-because_line start cause = codes "because " ++ (hex_number start ++ (codes " " ++ (hex_number cause ++ codes "\n")))
-
--- `program SSSSSSSS n`: the address of the first byte, and how many there are
+-- the line of a program: the address of the first byte, and how many there are
 abbrev pub program_line : Program → List ℕ
-program_line p = codes "program " ++ (hex_number p.at ++ (codes " " ++ (decimal (length p.bytes) ++ codes "\n")))
+program_line p = line_text (line.Program p.at (length p.bytes))
 
--- of some address that is due, if there is one
+-- of a smallest block's start, and of some address that is due in it, if there is one
 abbrev pub because : ℕ → Option ℕ → List ℕ
 because start None = []
-because start (Some cause) = because_line start cause
+because start (Some cause) = line_text (line.Because start cause)
 
 -- of so many bytes from a start on: why the smallest block there is erased, the lowest address in it that is due
 abbrev pub reason : (ℕ → Bool) → ℕ → ℕ → List ℕ

@@ -2,13 +2,13 @@
 
 ghost use Rattle.std.specs.Prelude.{◌≡◌, ◌≤◌, ◌<◌, ◌+◌, ◌-◌, ◌^◌, length};
 ghost use Rattle.nor_base.specs.Device.{Writes, Counts};
-ghost use Rattle.nor_outline.specs.Outline.{MayErase, because_line, reason, reasons};
+ghost use Rattle.nor_outline.specs.Outline.{MayErase, reason, reasons};
 ghost use Rattle.nor_outline.specs.Parts.{due_in};
 
-use nor_base::{ByteOut, Failed, Meaning, Strategy, put_parts};
+use nor_base::{ByteOut, Failed, Meaning, Strategy};
 use nor_erase::first_due;
 use nor_geometry::{Block, smallest};
-use nor_script::hex_number;
+use nor_plan_read::{PlanLine, write_line};
 use nor_work::blocks;
 
 /// Puts a line for each smallest block of a block, rising, in which a byte is due: `have` and `want` are the block's
@@ -62,24 +62,6 @@ fn put_reason<W: ByteOut>(
 {
     match first_due(meaning, start, have, want) {
         None => Ok(()),
-        Some(cause) => put_because(start, cause, out),
+        Some(cause) => write_line(PlanLine::Because { start, cause }, out),
     }
-}
-
-/// Puts a line of a smallest block's start and the lowest address that is due in it.
-fn put_because<W: ByteOut>(start: u32, cause: u32, out: &mut W) -> Result<(), Failed>
-    requires { W.count out.old < 2 ^ 64 - 1 }
-    ensures bytes { Writes (W.held out.old) (W.held out.new) result (because_line start cause) }
-    ensures count { Counts (W.count out.old) (W.count out.new) result }
-{
-    put_parts(
-        out,
-        &[
-            b"because ",
-            &hex_number(start),
-            b" ",
-            &hex_number(cause),
-            b"\n",
-        ],
-    )
 }

@@ -8,11 +8,10 @@ ghost use Rattle.nor_outline.specs.Parts.{due_in, run_line, block_text, part_tex
 
 use crate::opcode::erase_opcode;
 use crate::reasons::put_reasons;
-use itoa::Buffer;
-use nor_base::{ByteOut, Failed, Meaning, Strategy, put_parts};
+use nor_base::{ByteOut, Failed, Meaning, Strategy};
 use nor_geometry::{Block, PlanUnit};
 use nor_pages::Run;
-use nor_script::{hex_number, hex_pair};
+use nor_plan_read::{PlanLine, write_line};
 
 /// Writes the lines of a unit, each closed by LF: where a block is erased `erase SSSSSSSS ZZZZZZZZ OO`, its start, its
 /// size and the opcode that is sent, and for each smallest legal block in it, rising, `because SSSSSSSS AAAAAAAA`, the
@@ -98,18 +97,12 @@ fn put_erase<W: ByteOut>(
     ensures bytes { Writes (W.held out.old) (W.held out.new) result (erase_line meaning.now strategy block) }
     ensures count { Counts (W.count out.old) (W.count out.new) result }
 {
-    put_parts(
-        out,
-        &[
-            b"erase ",
-            &hex_number(block.start),
-            b" ",
-            &hex_number(block.size),
-            b" ",
-            &hex_pair(erase_opcode(meaning, strategy, block)),
-            b"\n",
-        ],
-    )
+    let line = PlanLine::Erase {
+        start: block.start,
+        size: block.size,
+        opcode: erase_opcode(meaning, strategy, block),
+    };
+    write_line(line, out)
 }
 
 /// Puts the lines of runs.
@@ -130,15 +123,9 @@ fn put_run<W: ByteOut>(run: Run, out: &mut W) -> Result<(), Failed>
     ensures bytes { Writes (W.held out.old) (W.held out.new) result (run_line run) }
     ensures count { Counts (W.count out.old) (W.count out.new) result }
 {
-    let mut digits = Buffer::new();
-    put_parts(
-        out,
-        &[
-            b"program ",
-            &hex_number(run.at),
-            b" ",
-            digits.format(run.len).as_bytes(),
-            b"\n",
-        ],
-    )
+    let line = PlanLine::Program {
+        start: run.at,
+        count: run.len,
+    };
+    write_line(line, out)
 }

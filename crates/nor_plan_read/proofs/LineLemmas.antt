@@ -12,7 +12,7 @@ use Rattle.nor_script.specs.Hexadecimal.{hex_number}
 use Rattle.nor_plan_read.specs.declared.line.PlanLine.{PlanLine}
 use Rattle.nor_plan_read.specs.declared.line.PlanLine.TheVariants.{Erase, Because, Program}
 use Rattle.nor_plan_read.specs.Parts.{byte_of, number_in, erase_of, because_of, program_of}
-use Rattle.nor_plan_read.specs.Lines.{line_words, lines_text, erase_tail, because_tail, program_tail, IsSmall, IsText, ReadsLine}
+use Rattle.nor_plan_read.specs.Lines.{tail, line_words, lines_text, IsSmall, IsText, ReadsLine}
 use Rattle.nor_plan_read.specs.Number.{number_of}
 use Rattle.nor_plan_read.proofs.NumberLemmas.{number_of_number, number_of_pair, number_of_decimal}
 
@@ -23,10 +23,10 @@ pub record IsLeft (rest : List ℕ) (kept lines : List PlanLine) : Type 0 where
   pub text : IsText rest others
 
 -- what stands behind the word of a line is read as what was spelled
-pub erase_read : (s z o : ℕ) → IsSmall (Erase s z o) → erase_of (erase_tail s z o) ≡ Some (Erase s z o)
+pub erase_read : (s z o : ℕ) → IsSmall (Erase s z o) → erase_of (tail (Erase s z o)) ≡ Some (Erase s z o)
 unfolding hex_number
 erase_read s z o small =
-    let text = erase_tail s z o in
+    let text = tail (Erase s z o) in
     ap (λ r. option_and_then (λ start. option_and_then (λ size. option_and_then (λ opcode.
     option_map (λ byte. Erase start size byte) (byte_of opcode)) (number_in text 18 20)) (number_in text 9 17)) r) (number_of_number s small.0)
     ∙ ap (λ r. option_and_then (λ size. option_and_then (λ opcode.
@@ -34,17 +34,17 @@ erase_read s z o small =
     ∙ ap (λ r. option_and_then (λ opcode. option_map (λ byte. Erase s z byte) (byte_of opcode)) r) (number_of_pair o small.2)
     ∙ ap (λ b. option_map (λ byte. Erase s z byte) (if b then Some o else None)) (lt-ltb o 256 small.2)
 
-pub because_read : (s c : ℕ) → IsSmall (Because s c) → because_of (because_tail s c) ≡ Some (Because s c)
+pub because_read : (s c : ℕ) → IsSmall (Because s c) → because_of (tail (Because s c)) ≡ Some (Because s c)
 unfolding hex_number
 because_read s c small =
-    let text = because_tail s c in
+    let text = tail (Because s c) in
     ap (λ r. option_and_then (λ start. option_map (λ cause. Because start cause) (number_in text 9 17)) r) (number_of_number s small.0)
     ∙ ap (λ r. option_map (λ cause. Because s cause) r) (number_of_number c small.1)
 
-pub program_read : (s n : ℕ) → IsSmall (Program s n) → program_of (program_tail s n) ≡ Some (Program s n)
+pub program_read : (s n : ℕ) → IsSmall (Program s n) → program_of (tail (Program s n)) ≡ Some (Program s n)
 unfolding hex_number
 program_read s n small =
-    let text = program_tail s n in
+    let text = tail (Program s n) in
     let some : 0 < length (decimal n) = decimal_nonempty n (omega arith) in
     let long : nat_lt (length text) 10 ≡ false = le-ltb _ _ (omega (arith, some)) in
     let whole : take (length text - 9) (drop 9 text) ≡ decimal n = take_all _ _ (omega arith) in
@@ -77,9 +77,9 @@ program_line_read text rest (Program s n) begins small is = ap program_of (ap (d
 -- no line of a plan begins with none of the three words
 pub none_read : (text : List ℕ) (line : PlanLine) → ((rest : List ℕ) → text ≡ codes "erase " ++ rest → ⊥) → ((rest : List ℕ) → text ≡ codes "because " ++ rest → ⊥)
     → ((rest : List ℕ) → text ≡ codes "program " ++ rest → ⊥) → text ≡ line_words line → ⊥
-none_read text (Erase s z o) first second third is = first (erase_tail s z o) is
-none_read text (Because s c) first second third is = second (because_tail s c) is
-none_read text (Program s n) first second third is = third (program_tail s n) is
+none_read text (Erase s z o) first second third is = first (tail (Erase s z o)) is
+none_read text (Because s c) first second third is = second (tail (Because s c)) is
+none_read text (Program s n) first second third is = third (tail (Program s n)) is
 
 -- no byte is a line feed
 abbrev Low : List ℕ → Type 0

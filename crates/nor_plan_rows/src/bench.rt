@@ -1,9 +1,9 @@
 //! What a row asks for.
 
-use crate::words::{ODD, hexadecimal};
 use crate::{clocks, geometry, images, jobs, layouts, meanings, plans, sfdp, targets};
 use nor_base::Meaning;
-use nor_samples::rows::Row;
+use nor_samples::rows::{Answers, Row};
+use nor_samples::words::{ODD, hexadecimal};
 use std::alloc::Global;
 use std::io;
 
@@ -34,22 +34,6 @@ impl Bench {
         })
     }
 
-    /// Does a row, and puts the lines of its answer behind `out`. `bytes` and `chip` keep what they tell by the name of `as=`.
-    pub(crate) fn answer(&mut self, row: &Row<'_>, out: &mut String) -> io::Result<()> {
-        if row.asked.starts_with("bytes ") {
-            let kept = self.bytes(row)?;
-            writeln!(out, "{} bytes", kept.1.len())?;
-            self.tables.push(kept)?;
-        } else if row.asked.starts_with("chip ") {
-            let kept = self.meaning(row)?;
-            meanings::put_meaning(&kept.1, out)?;
-            self.chips.push(kept)?;
-        } else {
-            told(&self.asked(row)?, out)?;
-        }
-        Ok(())
-    }
-
     /// The bytes that a row keeps.
     fn bytes(&self, row: &Row<'_>) -> io::Result<(String, Vec<u8>)> {
         let asked = self.asked(row)?;
@@ -76,6 +60,24 @@ impl Bench {
     /// The bytes of a name.
     pub(crate) fn table(&self, name: &str) -> io::Result<&[u8]> {
         Ok(kept(&self.tables, name)?.as_slice())
+    }
+}
+
+impl Answers for Bench {
+    /// `bytes` and `chip` keep what they tell by the name of `as=`.
+    fn answer(&mut self, row: &Row<'_>, out: &mut String) -> io::Result<()> {
+        if row.asked.starts_with("bytes ") {
+            let kept = self.bytes(row)?;
+            writeln!(out, "{} bytes", kept.1.len())?;
+            self.tables.push(kept)?;
+        } else if row.asked.starts_with("chip ") {
+            let kept = self.meaning(row)?;
+            meanings::put_meaning(&kept.1, out)?;
+            self.chips.push(kept)?;
+        } else {
+            told(&self.asked(row)?, out)?;
+        }
+        Ok(())
     }
 }
 

@@ -2,10 +2,11 @@
 
 use crate::bench::Asked;
 use crate::geometry::{block_of, strategy_of};
-use crate::words::{ODD, bytes, hexadecimal, line_words};
+use crate::words::{bytes, line_words};
 use nor_base::Start;
 use nor_frames::clocks_into;
 use nor_geometry::{Block, strategy};
+use nor_samples::words::{ODD, hexadecimal};
 use nor_select::{Instr, Lowerer, Op, SelectFault, lower};
 use std::alloc::Global;
 use std::io;

@@ -1,8 +1,8 @@
 //! The lines of faults.
 
-use crate::words::ODD;
 use nor_base::IntoWrite;
 use nor_job::BuildFault;
+use nor_samples::words::ODD;
 use norprog_words::{Refusal, refuse};
 use std::io;
 

@@ -1,9 +1,9 @@
 //! Rows on how a chip is driven, and on its blocks.
 
 use crate::bench::Asked;
-use crate::words::{ODD, byte, hexadecimal};
 use nor_base::{Start, Strategy};
 use nor_geometry::{Block, is_legal, legal, smallest, strategy, window_size};
+use nor_samples::words::{ODD, byte, hexadecimal};
 use std::alloc::AllocError;
 use std::io;
 

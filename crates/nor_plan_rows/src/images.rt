@@ -2,9 +2,10 @@
 
 use crate::bench::Asked;
 use crate::faults::put_fault;
-use crate::words::{ODD, end_with, number, text};
+use crate::words::{end_with, text};
 use nor_hex::{HexFault, HexLine, Image, read, records};
 use nor_job::BuildFault;
+use nor_samples::words::{ODD, number};
 use std::alloc::AllocError;
 use std::io;
 

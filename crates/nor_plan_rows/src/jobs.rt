@@ -5,10 +5,11 @@ use crate::faults::put_fault;
 use crate::images::put_image;
 use crate::layouts::{owned, put_chosen};
 use crate::meanings::{part_of, put_named};
-use crate::words::{ODD, hexadecimal, number, text};
+use crate::words::text;
 use nor_base::{Bytes, Start};
 use nor_job::{Inputs, Job, Source, chip_of, contradiction, job_of};
 use nor_samples::texts::IMAGE;
+use nor_samples::words::{ODD, hexadecimal, number};
 use std::io;
 
 /// What a row's inputs borrow.

@@ -2,10 +2,11 @@
 
 use crate::bench::Asked;
 use crate::faults::put_fault;
-use crate::words::{ODD, text, unescaped};
+use crate::words::{text, unescaped};
 use nor_base::Bytes;
 use nor_job::BuildFault;
 use nor_layout::{Chosen, LayoutFault, read};
+use nor_samples::words::ODD;
 use std::alloc::{AllocError, Global};
 use std::io;
 

@@ -3,13 +3,14 @@
 use crate::bench::Asked;
 use crate::faults::put_fault;
 use crate::geometry::{block_of, put_block};
-use crate::words::{ODD, byte, hexadecimal, line_words};
+use crate::words::line_words;
 use nor_base::{IntoWrite, Start};
 use nor_erase::plan;
 use nor_geometry::{PlanFault, PlanUnit, strategy, window_size};
 use nor_job::BuildFault;
 use nor_outline::write_window;
 use nor_pages::split;
+use nor_samples::words::{ODD, byte, hexadecimal};
 use nor_steps::StepsFault;
 use std::io;
 

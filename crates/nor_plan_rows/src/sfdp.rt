@@ -2,10 +2,11 @@
 
 use crate::bench::Asked;
 use crate::faults::put_fault;
-use crate::words::{ODD, byte, bytes, number};
+use crate::words::bytes;
 use nor_base::Part;
 use nor_job::BuildFault;
 use nor_samples::sfdp::{LARGE, MAPPED, SMALL};
+use nor_samples::words::{ODD, byte, number};
 use nor_sfdp::{SfdpTable, read, table};
 use std::alloc::{AllocError, Global};
 use std::io;

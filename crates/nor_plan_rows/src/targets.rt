@@ -3,7 +3,8 @@
 use crate::bench::Asked;
 use crate::images::image_of;
 use crate::layouts::chosen;
-use crate::words::{ODD, bytes, end_with, hexadecimal, number};
+use crate::words::{bytes, end_with};
+use nor_samples::words::{ODD, hexadecimal, number};
 use nor_target::{fill, ignored};
 use std::io;
 

@@ -1,26 +1,9 @@
 //! The words of a row, and the texts that it hands over.
 
 use crate::bench::Asked;
+use nor_samples::words::{ODD, byte, number};
 use std::alloc::{AllocError, Global};
-use std::io::{self, ErrorKind};
-
-/// A word that no row has there, as an error.
-pub(crate) const ODD: ErrorKind = ErrorKind::InvalidInput;
-
-/// A number in hexadecimal.
-pub(crate) fn hexadecimal(word: &str) -> io::Result<u32> {
-    Ok(u32::from_str_radix(word, 16).ok().ok_or(ODD)?)
-}
-
-/// A byte of one or two hexadecimal digits.
-pub(crate) fn byte(word: &str) -> io::Result<u8> {
-    Ok(u8::from_str_radix(word, 16).ok().ok_or(ODD)?)
-}
-
-/// A number in decimal.
-pub(crate) fn number(word: &str) -> io::Result<u32> {
-    Ok(word.parse::<u32>().ok().ok_or(ODD)?)
-}
+use std::io;
 
 /// The bytes of pairs of hexadecimal digits.
 pub(crate) fn bytes(alloc: Global, digits: &str) -> io::Result<Vec<u8>> {

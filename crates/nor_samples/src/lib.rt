@@ -1,10 +1,12 @@
 //! Chips for tests: what SFDP says of a few sample chips, each with its literal parameters as contract, and their SFDP
-//! bytes.
+//! bytes. [`rows`] has what programs that do rows of data have in common, [`words`] and [`meanings`] what their rows have.
 #![tactic(auto)]
 
+pub mod meanings;
 pub mod rows;
 pub mod sfdp;
 pub mod texts;
+pub mod words;
 
 ghost use Rattle.std.specs.Prelude.{◌≡◌, ◌≤◌, length};
 ghost use Rattle.nor_base.specs.Accepted.{IsAccepted};

@@ -1,5 +1,5 @@
 -- By computation.
-use Rattle.std.proofs.Common.{◌≡◌, true, false, List, [], ◌∷◌, Result, Ok, refl, sym, ◌∙◌, ap}
+use Rattle.std.proofs.Common.{◌≡◌, true, false, [], ◌∷◌, Result, Ok, refl, sym, ◌∙◌, ap}
 use Rattle.nor_base.specs.Instructions.{row_of}
 use Rattle.nor_base.specs.Decoding.{decode, transaction, by_row, has_opcode, is_form, is_data, is_bit_sent, is_nibble_sent, is_bit_sampled, is_nibble_sampled, is_idle, bit, nibble}
 use Rattle.nor_base.specs.Blocks.{is_legal}

@@ -18,7 +18,7 @@ returns-in-None-clause-bytes g c =
 pub returns-in-Some-clause-bytes : goal.returns-in-Some-clause-bytes
 returns-in-Some-clause-bytes g c =
     let f = c.in-Some.ensures in
-    subst (Writes (g.W.ByteOut.held c.args.out.now) (g.W.ByteOut.held c.put_because.new.out) c.put_because.result)
+    subst (Writes (g.W.ByteOut.held c.args.out.now) (g.W.ByteOut.held c.write_line.new.out) c.write_line.result)
     (ap (because c.args.start)
     (sym (find_some (due_in c.args.meaning.now c.args.have.now c.args.want.now c.args.start) (length c.args.have.now) c.args.start c.in-Some.cause f.low f.high f.due f.before)))
-    c.put_because.ensures.bytes
+    c.write_line.ensures.bytes

@@ -1,5 +1,5 @@
 -- The steps are counted, then the lines are written.
-use Rattle.std.proofs.Common.{None, ◌∙◌, sym, subst, ap}
+use Rattle.std.proofs.Common.{None, ◌∙◌, subst, ap}
 use Rattle.nor_base.specs.declared.meaning.Strategy.{Strategy}
 use Rattle.nor_base.specs.Parameters.{Parameters}
 use Rattle.nor_outline.specs.Told.{TellsStretch, StopsTelling}
