@@ -1,7 +1,7 @@
 -- The whole path.
 use Rattle.std.proofs.Common.{inr, [], sym, subst, arith}
 use Rattle.norprog.specs.Build.{IsBuilt, IsLate}
-use Rattle.norprog.proofs.BuildLemmas.{built_is, stops_is, cause_is_late}
+use Rattle.norprog.proofs.Promise.Build.{built_is, stops_is, cause_is_late}
 use Rattle.nor_base.proofs.FaultLaws.{handed_on}
 use Rattle.nor_job.proofs.TargetLemmas.{gives_none}
 use Rattle.norprog.proofs.builder.build.Goals as goal

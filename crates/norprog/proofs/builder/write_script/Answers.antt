@@ -2,7 +2,7 @@
 use Rattle.std.proofs.Common.{refl, sym, subst}
 use Rattle.norprog.specs.Windows.{IsCutScript}
 use Rattle.nor_base.proofs.FaultLaws.{handed_on}
-use Rattle.norprog.proofs.ScriptLemmas.{memory_cut, header_cut, windows_cut, closing_cut, end_cut, whole_script}
+use Rattle.norprog.proofs.Script.Written.{memory_cut, header_cut, windows_cut, closing_cut, end_cut, whole_script}
 use Rattle.norprog.proofs.builder.write_script.Goals as goal
 
 pub returns-in_err-have-clause-cut : goal.returns-in_err-have-clause-cut

@@ -2,9 +2,9 @@
 use Rattle.std.proofs.Common.{inr, [], sym, subst, arith}
 use Rattle.norprog.specs.Build.{IsLate}
 use Rattle.norprog.specs.Plan.{IsPlanOf}
-use Rattle.norprog.proofs.BuildLemmas.{cause_is_late}
+use Rattle.norprog.proofs.Promise.Build.{cause_is_late}
 use Rattle.nor_base.proofs.FaultLaws.{handed_on}
-use Rattle.norprog.proofs.PlanLemmas.{plan_is, plan_stops}
+use Rattle.norprog.proofs.Promise.Plan.{plan_is, plan_stops}
 use Rattle.nor_job.proofs.TargetLemmas.{gives_none}
 use Rattle.norprog.proofs.planner.plan.Goals as goal
 

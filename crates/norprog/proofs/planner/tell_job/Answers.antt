@@ -3,8 +3,8 @@ use Rattle.std.proofs.Common.{sym, subst, ap, ◌∙◌}
 use Rattle.nor_outline.specs.Told.{unit_outline}
 use Rattle.norprog.specs.Windows.{lifted_steps, IsKnown, IsCut}
 use Rattle.nor_base.proofs.FaultLaws.{handed_on}
-use Rattle.norprog.proofs.PlanLemmas.{close_untold, whole_told}
-use Rattle.norprog.proofs.WindowLemmas.{none_cut}
+use Rattle.norprog.proofs.Promise.Plan.{close_untold, whole_told}
+use Rattle.norprog.proofs.Content.Windows.{none_cut}
 use Rattle.norprog.proofs.planner.tell_job.Goals as goal
 
 pub returns-in_err-have-clause-cut : goal.returns-in_err-have-clause-cut

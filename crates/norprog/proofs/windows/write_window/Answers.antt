@@ -3,7 +3,7 @@ use Rattle.std.proofs.Common.{List, ℕ, rules, length, sym, subst}
 use Rattle.nor_steps.specs.Texts.{StopsText}
 use Rattle.norprog.specs.Windows.{StopsWindow}
 use Rattle.nor_job.specs.Written.{AreBytes}
-use Rattle.norprog.proofs.WindowLemmas.{ended}
+use Rattle.norprog.proofs.Content.Windows.{ended}
 use Rattle.norprog.proofs.windows.write_window.Goals as goal
 
 pub returns-in-Err-clause-stopped : goal.returns-in-Err-clause-stopped

@@ -6,8 +6,8 @@ use Rattle.nor_job.specs.declared.job.Job.{Job}
 use Rattle.nor_steps.specs.Texts.{UnitText}
 use Rattle.norprog.specs.Windows.{first_writing, IsDone, StopsWindow}
 use Rattle.nor_base.proofs.FaultLaws.{handed_on}
-use Rattle.norprog.proofs.PlaceLemmas.{place_is}
-use Rattle.norprog.proofs.WindowLemmas.{none_done, done_then, done_then_cut}
+use Rattle.norprog.proofs.Content.Places.{place_is}
+use Rattle.norprog.proofs.Content.Windows.{none_done, done_then, done_then_cut}
 use Rattle.norprog.proofs.windows.write_windows.Goals as goal
 
 pub loop-at-init : goal.loop-at-init

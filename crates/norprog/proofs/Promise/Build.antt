@@ -38,11 +38,11 @@ use Rattle.norprog.specs.Laws.{Laws}
 use Rattle.norprog.specs.Build.{report_of, AreLargest, RunsAsPlanned, IsBuilt, IsLate, WorkCause, IsFrontOf, StopsWork}
 use Rattle.nor_job.specs.Filled.{target_from}
 use Rattle.norprog.specs.Windows.{CutCause, IsWorked, IsScripted, IsCutScript, job_report}
-use Rattle.norprog.proofs.CountLemmas.{erases_told, erased_told, programs_told}
-use Rattle.norprog.proofs.FillLemmas.{filled, filled_is}
-use Rattle.norprog.proofs.ImageLemmas.{image_bytes}
-use Rattle.norprog.proofs.OpBytes.{planned_bytes}
-use Rattle.norprog.proofs.StepLemmas.{plain_lowered, steps_spell, steps_pass}
+use Rattle.norprog.proofs.Promise.Counts.{erases_told, erased_told, programs_told}
+use Rattle.norprog.proofs.Promise.Filled.{filled, filled_is}
+use Rattle.norprog.proofs.Promise.Image.{image_bytes}
+use Rattle.norprog.proofs.Promise.OpBytes.{planned_bytes}
+use Rattle.norprog.proofs.Promise.Steps.{plain_lowered, steps_spell, steps_pass}
 use Rattle.nor_job.proofs.TargetLemmas.{length-target, target_is}
 
 counts_same : {X : Type 0} (f g : X → Bool) (n : ℕ) (xs : List X) → ((x : X) → f x ≡ g x)

@@ -19,9 +19,9 @@ use Rattle.nor_layout.specs.Chosen.{has}
 use Rattle.nor_job.specs.Filled.{target_from}
 use Rattle.norprog.specs.Windows.{IsScriptFront}
 use Rattle.nor_job.specs.Written.{AreBytes}
-use Rattle.norprog.proofs.ImageLemmas.{GivesBytes}
+use Rattle.norprog.proofs.Promise.Image.{GivesBytes}
 use Rattle.nor_job.proofs.TargetLemmas.{length-target}
-use Rattle.norprog.proofs.TargetLemmas.{target_of_parts, bytes_of_parts, part_front}
+use Rattle.norprog.proofs.Content.Targets.{target_of_parts, bytes_of_parts, part_front}
 
 byte_by : (b : Bool) (o : Option ℕ) (old : ℕ) → (if b then unwrap_or o (if b then unwrap_or o old else old) else (if b then unwrap_or o old else old)) ≡ (if b then unwrap_or o old else old)
 byte_by true (Some byte) old = refl

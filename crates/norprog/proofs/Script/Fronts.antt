@@ -25,8 +25,8 @@ use Rattle.nor_steps.proofs.OpLemmas.{lines_join}
 use Rattle.nor_job.specs.Filled.{target_from}
 use Rattle.norprog.specs.Windows.{first_writing, IsAllDone, IsKnown, IsTextFront, IsScriptFront}
 use Rattle.nor_job.specs.Written.{AreBytes}
-use Rattle.norprog.proofs.JoinLemmas.{steps_begun}
-use Rattle.norprog.proofs.StretchLemmas.{stretch_join}
+use Rattle.norprog.proofs.Content.Joined.{steps_begun}
+use Rattle.norprog.proofs.Content.Stretches.{stretch_join}
 
 abbrev streaming : Parameters → Start → Strategy → Streaming
 streaming m start by = record { meaning = m; start = start; by = by; started = false }

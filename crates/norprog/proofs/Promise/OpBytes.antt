@@ -12,8 +12,8 @@ use Rattle.nor_base.specs.Planned.{planned_units, planned_ops}
 use Rattle.nor_base.specs.Programs.{Program, target_bytes, last_of, span, is_closed, page_programs}
 use Rattle.nor_base.specs.Units.{WorkUnit, pages, page_unit, unit_by, units_over, units}
 use Rattle.nor_job.specs.Written.{AreBytes}
-use Rattle.norprog.proofs.ByteLemmas.{all_small, small_range}
-use Rattle.norprog.proofs.StepLemmas.{AreOpBytes}
+use Rattle.norprog.proofs.Promise.Bytes.{all_small, small_range}
+use Rattle.norprog.proofs.Promise.Steps.{AreOpBytes}
 
 abbrev HasBytes : Program → Type 0
 HasBytes p = are_bytes p.bytes ≡ true

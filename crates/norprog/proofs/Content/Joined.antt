@@ -18,8 +18,8 @@ use Rattle.nor_steps.proofs.OpLemmas.{more_on, done_none}
 use Rattle.nor_steps.proofs.TextLemmas.{units_steps}
 use Rattle.norprog.specs.PlanWindows.{TellsWindows}
 use Rattle.norprog.specs.Windows.{lifted_steps, BeginsText}
-use Rattle.norprog.proofs.StretchLemmas.{stretch_units_join, sound_join}
-use Rattle.norprog.proofs.TargetLemmas.{part_left, part_right}
+use Rattle.norprog.proofs.Content.Stretches.{stretch_units_join, sound_join}
+use Rattle.norprog.proofs.Content.Targets.{part_left, part_right}
 
 -- nothing
 pub none_text : (unit_text : UnitText) (w : Writing) → IsText unit_text w 0 [] [] []

@@ -26,11 +26,11 @@ use Rattle.nor_steps.proofs.OpLemmas.{more_steps, more_on}
 use Rattle.nor_job.specs.Filled.{target_from}
 use Rattle.norprog.specs.Windows.{first_writing, lifted_steps, StopsWindow, IsUndone, IsDone, IsAllDone, CutCause, AreRecent, BeginsText, IsKnown, IsCut}
 use Rattle.nor_job.specs.Written.{AreBytes}
-use Rattle.norprog.proofs.JoinLemmas.{none_text, text_join, begun_join, text_begins, begun_begins}
-use Rattle.norprog.proofs.PlaceLemmas.{IsPlace}
-use Rattle.norprog.proofs.StretchLemmas.{work_join, fault_join, work_none}
+use Rattle.norprog.proofs.Content.Joined.{none_text, text_join, begun_join, text_begins, begun_begins}
+use Rattle.norprog.proofs.Content.Places.{IsPlace}
+use Rattle.norprog.proofs.Content.Stretches.{work_join, fault_join, work_none}
 use Rattle.nor_job.proofs.TargetLemmas.{gives_none, length-target}
-use Rattle.norprog.proofs.TargetLemmas.{target_of_parts, bytes_of_parts}
+use Rattle.norprog.proofs.Content.Targets.{target_of_parts, bytes_of_parts}
 
 -- at the beginning nothing has been read or written
 pub none_done : (unit_text : UnitText) (job : Job) (v : Writing) (before : Ahead) (held : Option (List ℕ)) → v ≡ first_writing job

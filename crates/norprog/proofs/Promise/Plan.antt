@@ -32,12 +32,12 @@ use Rattle.nor_job.specs.Filled.{target_from}
 use Rattle.norprog.specs.Windows.{first_writing, IsAllDone, BeginsText, IsKnown, IsCut, IsToldWhole, job_report}
 use Rattle.nor_job.specs.Written.{AreBytes}
 use Rattle.nor_job.proofs.TargetLemmas.{target_is}
-use Rattle.norprog.proofs.BuildLemmas.{workable_is, spelled_is, report_is, work_cause}
-use Rattle.norprog.proofs.JoinLemmas.{text_begins, lines_tell}
-use Rattle.norprog.proofs.PlaceLemmas.{chip_pages}
-use Rattle.norprog.proofs.ScriptLemmas.{whole_work}
-use Rattle.norprog.proofs.TargetLemmas.{part_whole}
-use Rattle.norprog.proofs.WindowLemmas.{cut_after}
+use Rattle.norprog.proofs.Promise.Build.{workable_is, spelled_is, report_is, work_cause}
+use Rattle.norprog.proofs.Content.Joined.{text_begins, lines_tell}
+use Rattle.norprog.proofs.Content.Places.{chip_pages}
+use Rattle.norprog.proofs.Script.Written.{whole_work}
+use Rattle.norprog.proofs.Content.Targets.{part_whole}
+use Rattle.norprog.proofs.Content.Windows.{cut_after}
 
 -- the lines of a whole chip
 whole_lines : (m : Parameters) (start : Start) (part goal text : List ℕ) → length part ≡ m.size → AreLines m (strategy m start) 0 part goal text → text ≡ plan_text m start part goal

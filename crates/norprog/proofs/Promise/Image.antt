@@ -12,7 +12,7 @@ use Rattle.nor_hex.specs.Image.{Pairs, byte_at}
 use Rattle.nor_hex.specs.Record.{Record, digit, pair_bytes, has_colon, has_length, has_sum, type_field, length_field, fields, record_of}
 use Rattle.nor_hex.specs.Records.{record_at}
 use Rattle.nor_job.specs.Written.{AreBytes}
-use Rattle.norprog.proofs.ByteLemmas.{small_take, small_drop}
+use Rattle.norprog.proofs.Promise.Bytes.{small_take, small_drop}
 
 in_three : (b c d : Bool) (x y z : ℕ) → (b ≡ true → x < 16) → (c ≡ true → y < 16) → (d ≡ true → z < 16)
     → unwrap_or (if b then Some x else if c then Some y else if d then Some z else None) 0 < 16

@@ -22,10 +22,10 @@ use Rattle.nor_steps.specs.Work.{stretch_units}
 use Rattle.nor_steps.proofs.TextLemmas.{units_steps}
 use Rattle.nor_job.specs.Filled.{target_from}
 use Rattle.norprog.specs.Windows.{first_writing, lifted_steps, IsAllDone, IsKnown, IsCut, IsWorked, IsScripted, IsScriptFront, IsCutScript}
-use Rattle.norprog.proofs.PlaceLemmas.{some_page}
-use Rattle.norprog.proofs.TargetLemmas.{part_whole}
-use Rattle.norprog.proofs.TextLemmas.{closing_lines, job_ops, job_planned, job_text, body, planned_parts, text_is, header_front, known_front, whole_is, closing_front, end_front}
-use Rattle.norprog.proofs.WindowLemmas.{cut_before, cut_after}
+use Rattle.norprog.proofs.Content.Places.{some_page}
+use Rattle.norprog.proofs.Content.Targets.{part_whole}
+use Rattle.norprog.proofs.Script.Fronts.{closing_lines, job_ops, job_planned, job_text, body, planned_parts, text_is, header_front, known_front, whole_is, closing_front, end_front}
+use Rattle.norprog.proofs.Content.Windows.{cut_before, cut_after}
 
 -- before anything was written
 pub memory_cut : (job : Job) (w : ℕ) (a : Ahead) (x : Option (List ℕ)) → IsWindowSize job.meaning w → IsCutScript job a a x x fault.Memory
