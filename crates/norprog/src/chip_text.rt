@@ -24,9 +24,9 @@ pub fn sfdp_text<W: ByteOut>(meaning: &Meaning, writer: &mut W) -> Result<(), Fa
     put_front(meaning, writer)?;
     put_erases(meaning, writer)?;
     put_modes(meaning, writer)?;
-    put_fast_read(meaning, writer)?;
+    put_quad_read(meaning.quad_read, writer)?;
     put_dedicated(meaning, writer)?;
-    put_regions(meaning, writer)
+    put_regions(meaning.regions.as_slice(), writer)
 }
 
 /// Size, page and address bytes.
@@ -173,15 +173,6 @@ fn switch_end(switch: Switch) -> &'static [u8]
     }
 }
 
-/// The 1-1-4 fast read of a chip.
-fn put_fast_read<W: ByteOut>(meaning: &Meaning, writer: &mut W) -> Result<(), Failed>
-    requires { W.count writer.old < 2 ^ 64 - 1 }
-    ensures bytes { Writes (W.held writer.old) (W.held writer.new) result (quad_read_text meaning.now.quad_read) }
-    ensures count { Counts (W.count writer.old) (W.count writer.new) result }
-{
-    put_quad_read(meaning.quad_read, writer)
-}
-
 /// The 1-1-4 fast read, or that there is none.
 fn put_quad_read<W: ByteOut>(read: Option<QuadRead>, writer: &mut W) -> Result<(), Failed>
     requires { W.count writer.old < 2 ^ 64 - 1 }
@@ -240,16 +231,7 @@ fn where_offered(offered: bool, opcode: &'static [u8]) -> &'static [u8]
 }
 
 /// The regions of the sector map.
-fn put_regions<W: ByteOut>(meaning: &Meaning, writer: &mut W) -> Result<(), Failed>
-    requires { W.count writer.old < 2 ^ 64 - 1 }
-    ensures bytes { Writes (W.held writer.old) (W.held writer.new) result (flat_map region_text meaning.now.regions) }
-    ensures count { Counts (W.count writer.old) (W.count writer.new) result }
-{
-    put_each_region(meaning.regions.as_slice(), writer)
-}
-
-/// The lines of regions.
-fn put_each_region<W: ByteOut>(regions: &[Region], writer: &mut W) -> Result<(), Failed>
+fn put_regions<W: ByteOut>(regions: &[Region], writer: &mut W) -> Result<(), Failed>
     requires { W.count writer.old < 2 ^ 64 - 1 }
     ensures bytes { Writes (W.held writer.old) (W.held writer.new) result (flat_map region_text regions.now) }
     ensures count { Counts (W.count writer.old) (W.count writer.new) result }
