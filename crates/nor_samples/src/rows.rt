@@ -54,7 +54,7 @@ fn split_where<'a>(lines: &'a [&'a str], answer: bool) -> (&'a [&'a str], &'a [&
 
 /// What does rows.
 pub trait Answers {
-    /// Does a row, and puts the lines of its answer behind `out`.
+    /// Does a row, and puts the lines of its answer behind `out`; the last may be without its LF.
     fn answer(&mut self, row: &Row<'_>, out: &mut String) -> io::Result<()>;
 }
 
@@ -85,7 +85,7 @@ pub fn told<A: Answers>(
     Ok(out)
 }
 
-/// Whether a row has the answer that it says; otherwise both are put.
+/// Whether a row has the answer that it says, whose last line may be without its LF; otherwise both are put.
 fn is_right<A: Answers>(
     alloc: Global,
     name: &str,
@@ -96,6 +96,9 @@ fn is_right<A: Answers>(
     let mut found = String::new(alloc);
     if let Err(fault) = bench.answer(row, &mut found) {
         writeln!(found, "not done: {fault}")?;
+    }
+    if !found.is_empty() && !found.as_str().ends_with('\n') {
+        found.push_str("\n")?;
     }
     let mut want = String::new(alloc);
     for line in row.answer {

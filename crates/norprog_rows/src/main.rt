@@ -14,12 +14,17 @@ mod program;
 mod rows;
 mod scripts;
 
-use std::io;
+use crate::rows::Commands;
+use nor_samples::rows::told;
+use std::{fs, io};
 
 fn main(rt: HostRuntime) -> io::Result<()> {
+    let mut commands = Commands { rt: &rt };
     for name in rt.lines(rt.alloc()) {
         let name = name?;
-        rows::do_file(&rt, name.as_str())?;
+        let text = fs::read_to_string(&rt, name.as_str())?;
+        let told = told(rt.alloc(), name.as_str(), text.as_str(), &mut commands)?;
+        print!(rt; "{told}")?;
     }
     Ok(())
 }
