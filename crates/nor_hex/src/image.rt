@@ -64,6 +64,7 @@ impl Image {
     pub fn iter(&self) -> ImageIter<'_>
         ensures pairs { result ≡ self.now }
         ensures rising { IsStrictlyIncreasing (addresses self.now) }
+        ensures below { HasNoneFrom self.now (2 ^ 32) }
         ensures few { length self.now < 2 ^ 63 }
         ensures given { (address byte : ℕ) → (byte_at self.now address ≡ Some byte) ↔ Contains self.now (address, byte) }
     {

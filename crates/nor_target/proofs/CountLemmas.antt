@@ -8,7 +8,7 @@ use Rattle.std.proofs.lemmas.Option.{slice_get-get_or}
 use Rattle.std.proofs.lemmas.List.Kept.{AllPairs-from_increasing}
 use Rattle.std.proofs.lemmas.List.Sums.{sum_by-cons}
 use Rattle.nor_base.specs.Target.{is_ignored}
-use Rattle.nor_hex.specs.Image.{Pairs, addresses, byte_at}
+use Rattle.nor_hex.specs.Image.{Pairs, addresses, byte_at, HasNoneFrom}
 use Rattle.nor_target.specs.Ignored.{ignored_below}
 use Rattle.nor_target.specs.Runs.{HasNoChosen, IsNextChosen, HasNoRun, IsNextRun}
 
@@ -185,10 +185,14 @@ run_more base image done end first run rising next =
     gap ∙ ap (λ s. ignored_below image base (λ _. true) s) to ∙ bytes
 
 -- no run is left
-pub run_none : (base : ℕ) (image : Pairs) (done end : ℕ) → IsStrictlyIncreasing (addresses image) → done ≤ end → base + end ≤ 2 ^ 32 → HasNoRun (byte_at image) base 0 done end → ignored_below image base (λ _. true) done ≡ ignored_below image base (λ _. true) end
-run_none base image done end rising order fits none =
+pub run_none : (base : ℕ) (image : Pairs) (done end : ℕ) → IsStrictlyIncreasing (addresses image) → HasNoneFrom image (2 ^ 32) → done ≤ end → HasNoRun (byte_at image) base 0 done end → ignored_below image base (λ _. true) done ≡ ignored_below image base (λ _. true) end
+run_none base image done end rising past order none =
     let to : done + (end - done) ≡ end = omega arith in
-    none_more base (λ _. true) done image (end - done) rising (λ k le lt. let here : byte_at image (base + k) ≡ None = from_zero (λ m. byte_at image (base + m) ≡ None) k (none k le (omega arith) (omega arith)) in rw (here) refl)
+    let nothing : (k : ℕ) → done ≤ k → k < end → byte_at image (base + k) ≡ None = λ k le lt. elim (cases_lt (base + k) (2 ^ 32)) [
+      | inl below ↦ from_zero (λ m. byte_at image (base + m) ≡ None) k (none k le lt (omega arith))
+      | inr from ↦ past (base + k) from
+    ] in
+    none_more base (λ _. true) done image (end - done) rising (λ k le lt. let here : byte_at image (base + k) ≡ None = nothing k le (omega arith) in rw (here) refl)
     ∙ ap (λ s. ignored_below image base (λ _. true) s) to
 
 unchosen : (base : ℕ) (is_chosen : ℕ → Bool) (image : Pairs) (done end : ℕ) → IsStrictlyIncreasing (addresses image) → done ≤ end → ((k : ℕ) → done ≤ k → k < end → is_chosen k ≡ false) → ignored_below image base is_chosen done ≡ ignored_below image base is_chosen end

@@ -9,7 +9,7 @@ ghost use Rattle.std.specs.Prelude.{◌≡◌, ◌↔◌, ℕ, true, ◌+◌, �
 ghost use Rattle.std.specs.List.{enumerate_from};
 ghost use Rattle.std.specs.List.Sorted.{IsStrictlyIncreasing};
 ghost use Rattle.nor_base.specs.Target.{target, target_byte, is_ignored};
-ghost use Rattle.nor_hex.specs.Image.{byte_at, addresses};
+ghost use Rattle.nor_hex.specs.Image.{byte_at, addresses, HasNoneFrom};
 ghost use Rattle.nor_layout.specs.Chosen.{has};
 ghost use Rattle.nor_target.specs.Ignored.{HasNoPlace, ignored_below};
 ghost use Rattle.nor_target.specs.Runs.{HasNoChosen, IsNextChosen, HasNoRun, IsNextRun, IsLaid};
@@ -93,20 +93,7 @@ pub fn ignored(image: &Image, base: u32, chosen: &Chosen, size: u32) -> u64
     ensures each_once { IsStrictlyIncreasing (addresses image.now) }
     ensures which { (at : ℕ) → (is_ignored base (has chosen.now) size at ≡ true) ↔ HasNoPlace base (has chosen.now) size at }
 {
-    if u64::from(base) + u64::from(size) <= 1 << 32 {
-        ignored_by_runs(image, base, chosen, size)
-    } else {
-        ignored_one_by_one(image, base, chosen, size)
-    }
-}
-
-/// What `ignored` counts, where the chip ends in the image's address space.
-fn ignored_by_runs(image: &Image, base: u32, chosen: &Chosen, size: u32) -> u64
-    requires { base + size ≤ 2 ^ 32 }
-    ensures count { result ≡ ignored_below image.now base (has chosen.now) size }
-    ensures each_once { IsStrictlyIncreasing (addresses image.now) }
-{
-    // Called for what it promises: the addresses rise.
+    // Called for what it promises: the addresses rise, and none is past FFFFFFFFh.
     let _ = image.iter();
     let mut left = image.count();
     let mut done = 0;
@@ -117,32 +104,12 @@ fn ignored_by_runs(image: &Image, base: u32, chosen: &Chosen, size: u32) -> u64
     left
 }
 
-/// What `ignored` counts, byte by byte: for the odd chip that ends past the image's address space.
-fn ignored_one_by_one(image: &Image, base: u32, chosen: &Chosen, size: u32) -> u64
-    ensures count { result ≡ ignored_below image.now base (has chosen.now) size }
-    ensures each_once { IsStrictlyIncreasing (addresses image.now) }
-{
-    image
-        .iter()
-        .filter(|pair| is_ignored(base, chosen, size, pair.0))
-        .count() as u64
-}
-
-/// Whether an address of the image is that of no chosen address of a chip of this size.
-fn is_ignored(base: u32, chosen: &Chosen, size: u32, place: u32) -> bool
-    ensures { result ≡ is_ignored base (has chosen.now) size place }
-{
-    match place.checked_sub(base) {
-        Some(address) => address >= size || !chosen.has(address),
-        None => true,
-    }
-}
-
 /// How many addresses of the image are `base + a` for an address a of the chip from `begin` on and below `end`.
 fn given(image: &Image, base: u32, begin: usize, end: usize) -> u64
     requires order { begin ≤ end }
-    requires inside { base + end ≤ 2 ^ 32 }
+    requires inside { end ≤ 2 ^ 32 }
     requires rising { IsStrictlyIncreasing (addresses image.now) }
+    requires below { HasNoneFrom image.now (2 ^ 32) }
     ensures { result + ignored_below image.now base (λ _. true) end ≡ ignored_below image.now base (λ _. true) begin }
 {
     let mut count = 0;

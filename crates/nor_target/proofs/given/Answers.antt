@@ -17,5 +17,5 @@ loop-first-preserved c =
 
 pub returns : goal.returns
 returns c =
-    let rest = run_none c.args.base c.args.image.now c.loop-first.done c.args.end c.requires.rising c.loop-first.invariant.to c.requires.inside c.in_default.ensures in
+    let rest = run_none c.args.base c.args.image.now c.loop-first.done c.args.end c.requires.rising c.requires.below c.loop-first.invariant.to c.in_default.ensures in
     omega (arith, rest, c.loop-first.invariant.counted)

@@ -1,7 +1,7 @@
 use Rattle.std.proofs.Common.{◌∙◌, arith}
 use Rattle.nor_layout.specs.Chosen.{has}
 use Rattle.nor_target.proofs.CountLemmas.{all_ignored, part_more, part_none}
-use Rattle.nor_target.proofs.ignored_by_runs.Goals as goal
+use Rattle.nor_target.proofs.ignored.Goals as goal
 
 pub loop-begin-init : goal.loop-begin-init
 loop-begin-init c = record {

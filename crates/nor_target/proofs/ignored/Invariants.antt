@@ -1,7 +1,7 @@
 use Rattle.std.proofs.Common.{◌≡◌, ◌≤◌, ◌-◌}
 use Rattle.nor_layout.specs.Chosen.{has}
 use Rattle.nor_target.specs.Ignored.{ignored_below}
-use Rattle.nor_target.proofs.ignored_by_runs.Given as goal
+use Rattle.nor_target.proofs.ignored.Given as goal
 
 abbrev pub decreases-loop-begin : goal.decreases-loop-begin
 decreases-loop-begin l = l.size - l.done
