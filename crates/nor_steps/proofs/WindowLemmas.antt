@@ -33,8 +33,6 @@ use Rattle.nor_steps.specs.Writing.{Writing, Begins, next_lines, written_on}
 use Rattle.nor_steps.proofs.OpLemmas.{take_one, all_one, all_at, lines_join, more_lines, more_steps, more_on, done_none}
 use Rattle.nor_steps.proofs.TallyLemmas.{same_tally}
 use Rattle.nor_steps.proofs.Placed.{LiesIn, IsLevel, IsPlaced, level_of, length-level, units_placed, few_units, window_stretch}
--- passed on to the crate above
-pub use Rattle.nor_base.proofs.FaultLaws.{handed_on}
 
 -- some content of the chip that has these bytes there
 abbrev pub filled : ℕ → List ℕ → List ℕ

@@ -4,7 +4,8 @@ use Rattle.nor_base.specs.Parameters.{Parameters}
 use Rattle.nor_outline.specs.Outline.{IsPlanned}
 use Rattle.nor_pages.specs.Runs.{IsUnit, unit_start}
 use Rattle.nor_steps.specs.Units.{unit_size}
-use Rattle.nor_steps.proofs.WindowLemmas.{unit_length, handed_on}
+use Rattle.nor_base.proofs.FaultLaws.{handed_on}
+use Rattle.nor_steps.proofs.WindowLemmas.{unit_length}
 use Rattle.nor_outline.proofs.TellLemmas.{lies_here, told_none, next_here, cut_here, told_all}
 use Rattle.nor_outline.proofs.window.tell_units.Goals as goal
 

@@ -3,7 +3,7 @@ use Rattle.std.proofs.Common.{sym, subst}
 use Rattle.nor_geometry.specs.Plan.{IsPlan}
 use Rattle.nor_outline.proofs.TellLemmas.{no_plan}
 use Rattle.nor_steps.specs.Faults.{lifted_plan}
-use Rattle.nor_steps.proofs.WindowLemmas.{handed_on}
+use Rattle.nor_base.proofs.FaultLaws.{handed_on}
 use Rattle.nor_outline.proofs.window.write_window.Goals as goal
 
 pub returns-in_err-units-clause-stopped : goal.returns-in_err-units-clause-stopped

@@ -5,7 +5,7 @@ use Rattle.nor_base.specs.Parameters.{Parameters}
 use Rattle.nor_outline.specs.Told.{TellsStretch, StopsTelling}
 use Rattle.nor_steps.specs.Work.{WroteStretch, StopsStretch}
 use Rattle.nor_steps.specs.Writing.{Writing}
-use Rattle.nor_steps.proofs.WindowLemmas.{handed_on}
+use Rattle.nor_base.proofs.FaultLaws.{handed_on}
 use Rattle.nor_outline.proofs.PlanText.{uncounted, lines_wrote, lines_stop}
 use Rattle.nor_outline.proofs.plan.PlanWriterWorkWriter.write_window.Goals as goal
 
