@@ -6,3 +6,4 @@ pub mod SampledLaws
 pub mod RegionLaws
 pub mod ArrayLaws
 pub mod FaultLaws
+pub mod StretchLaws

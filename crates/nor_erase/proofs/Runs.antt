@@ -19,7 +19,8 @@ use Rattle.nor_geometry.proofs.WindowLemmas.{divides, multiple_of}
 use Rattle.nor_work.proofs.Erased.Best.{Best, best_is, picked, Among}
 use Rattle.nor_work.proofs.Units.Ranges.{aligned_le}
 use Rattle.nor_work.proofs.Erased.Erasing.{there, can_erase, erasable_is, is_block, floor_aligned, moved}
-use Rattle.nor_work.proofs.Erased.Reached.{any_at, four, small, holds_true}
+use Rattle.nor_base.proofs.StretchLaws.{any_at}
+use Rattle.nor_work.proofs.Erased.Reached.{four, small, holds_true}
 use Rattle.nor_work.proofs.Erased.Needed.{block_here, all_at}
 
 regions_apart : (regions : List Region) (i j : ℕ) (region : Region) → slice_get regions i ≡ Some region → i < j

@@ -1,7 +1,7 @@
 -- Cells that hold some of the bytes of a run.
 use Rattle.std.proofs.Common.{◌≡◌, ℕ, zero, suc, ◌+◌, ◌*◌, ◌/◌, ◌<◌, ◌≤◌, nat_le, nat_lt, min, Bool, true, false, ◌&&◌, ◌||◌, List, [], ◌∷◌, ◌++◌, length, take, get_or, replicate, ext_get_or, Some, None, refl, sym, ◌∙◌, ap, subst, arith, inl, inr, le-leb, lt-ltb, le-ltb, le-div_iff_mul-le, div-lt_iff_lt-mul}
 use Rattle.std.specs.List.{list_any, range_with_len}
-use Rattle.std.proofs.Math.Bool.{and-false, or-true, or-false, or_assoc}
+use Rattle.std.proofs.Math.Bool.{and-false, or-false, or_assoc}
 use Rattle.std.proofs.Math.Nat.{suc-mul}
 use Rattle.std.proofs.Math.Seq.{take-append_seam}
 use Rattle.std.proofs.lemmas.Bool.{cases_lt, lt-leb}
@@ -9,22 +9,11 @@ use Rattle.std.specs.Option.{option_map_or}
 use Rattle.std.proofs.lemmas.List.{length-replicate, get_or-replicate}
 use Rattle.std.proofs.lemmas.List.Folds.{list_any_more}
 use Rattle.std.proofs.lemmas.List.FromFn.{length-map-range_with_len, get_or-map-range_with_len}
+use Rattle.nor_base.proofs.StretchLaws.{any_at, none_over}
 use Rattle.nor_plan_read.specs.declared.line.PlanLine.{PlanLine}
 use Rattle.nor_map.specs.declared.cells.Work.{Work}
 use Rattle.nor_map.specs.Cells.{lies_in, run_of, works, is_worked, some_byte, some_bytes, doubled}
 use Rattle.nor_map.specs.Marks.{touches, MarkedBy}
-
--- tests over a stretch of addresses
-pub any_at : (test : ℕ → Bool) (n start x : ℕ) → start ≤ x → x < start + n → test x ≡ true → list_any test (range_with_len start n) ≡ true
-any_at test zero start x from upto h = absurd (omega arith)
-any_at test (suc n) start x from upto h = elim (cases_lt start x) [
-  | inl past ↦ rw (any_at test n (start + 1) x (omega arith) (omega arith) h) (or-true (test start))
-  | inr here' ↦ let here : x ≡ start = omega arith in rw (ap test (sym here) ∙ h) refl
-]
-
-pub none_over : (test : ℕ → Bool) (n start : ℕ) → ((x : ℕ) → start ≤ x → x < start + n → test x ≡ false) → list_any test (range_with_len start n) ≡ false
-none_over test zero start each = refl
-none_over test (suc n) start each = rw (each start (omega arith) (omega arith)) (none_over test n (start + 1) (λ x from upto. each x (omega arith) (omega arith)))
 
 -- one test or another, over a list
 or_swap : (a b c d : Bool) → (a || b) || (c || d) ≡ (a || c) || (b || d)

@@ -18,7 +18,7 @@ use Rattle.nor_work.specs.Small.{small_chip, small_start, small_have, small_want
 use Rattle.nor_work.proofs.Task.Whole.{planned_works}
 use Rattle.nor_work.proofs.Runs.Exact.{planned_erases_needed}
 use Rattle.nor_work.proofs.Erased.Erasing.{floor_aligned}
-use Rattle.nor_work.proofs.Erased.Reached.{any_at}
+use Rattle.nor_base.proofs.StretchLaws.{any_at}
 use Rattle.nor_work.proofs.Erased.Needed.{needed_caused, same_truth}
 
 pub accepted : IsAccepted small_chip

@@ -1,14 +1,13 @@
 //! From the files of a job to the library's inputs.
 
 ghost use Rattle.std.specs.Prelude.{◌≡◌, IfOk, IfErr, option_map};
-ghost use Rattle.norprog_words.specs.Chip.{origin_of};
 ghost use Rattle.norprog_words.specs.Files.{IsOfFiles};
-ghost use Rattle.norprog_words.specs.Shelf.{AreTables, WhereNamed};
+ghost use Rattle.norprog_words.specs.Shelf.{WhereNamed};
 ghost use Rattle.norprog_command.specs.Served.{task_by, held_in, AreGiven};
 
 use crate::request::Request;
 use norprog::Inputs;
-use norprog_words::{Chip, FileName, Place, Refusal, Shelf, source_of};
+use norprog_words::{FileName, Place, Refusal, Shelf, noted_tables, source_of};
 use std::alloc::Global;
 
 /// What the input files of a job hold, the content aside.
@@ -32,7 +31,7 @@ pub(crate) fn read_texts<S: Shelf>(
 {
     let hex = read_noted(alloc, shelf, request.hex, FileName::Hex, places)?;
     let layout = read_layout(alloc, shelf, request.layout, places)?;
-    let sfdp = read_tables(alloc, shelf, request.chip, places)?;
+    let sfdp = noted_tables(alloc, shelf, request.chip, places)?;
     Ok(Texts { hex, layout, sfdp })
 }
 
@@ -50,22 +49,6 @@ fn read_layout<S: Shelf>(
     match path {
         Some(path) => Ok(Some(read_noted(alloc, shelf, path, FileName::Layout, places)?)),
         None => Ok(None),
-    }
-}
-
-/// Reads the tables of a chip; nothing for a chip of a size, which has none.
-fn read_tables<S: Shelf>(
-    alloc: Global,
-    shelf: &S,
-    chip: Chip<'_>,
-    places: &mut Vec<Place>,
-) -> Result<Vec<u8>, Refusal>
-    ensures gave { IfOk result (λ tables. AreTables (S.facts shelf.now) (origin_of chip.entry) tables.items) }
-    ensures refused { IfErr result IsOfFiles }
-{
-    match chip {
-        Chip::Sfdp { file, bits: _ } => read_noted(alloc, shelf, file, FileName::Sfdp, places),
-        Chip::Uniform(_) => Ok(Vec::new(alloc)),
     }
 }
 

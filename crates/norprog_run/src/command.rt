@@ -2,9 +2,7 @@
 
 ghost use Rattle.std.specs.Prelude.{◌≡◌, ◌<◌, ◌≤◌, ◌-◌, ◌^◌, List, ℕ, None, Some, Option, IfOk, IfErr};
 ghost use Rattle.std.specs.Io.KnownBytes.{Appends};
-ghost use Rattle.norprog_words.specs.Chip.{origin_of};
-ghost use Rattle.norprog_words.specs.Files.{IsOfFiles};
-ghost use Rattle.norprog_words.specs.Shelf.{AreTables, DoNotFail, IsTextIn, IsTextOfFile};
+ghost use Rattle.norprog_words.specs.Shelf.{DoNotFail, IsTextIn, IsTextOfFile};
 ghost use Rattle.norprog_words.specs.Told.{RefusesFor, line_fault};
 ghost use Rattle.norprog_run.specs.Answer.{WasPlayedSo, IsPlayFault, IsPlayVerdict, CutsVerdict, RefusesRun, RefusesLine, AnswersRun};
 ghost use Rattle.norprog_run.specs.Request.{is_well_formed};
@@ -18,7 +16,7 @@ use crate::verdict::{Verdict, status_of, write_verdict};
 use nor_base::{ByteIn, ByteOut, Nowhere};
 use nor_job::Inputs;
 use norprog_words::{
-    Chip, FileName, GivenRun, Place, Refusal, ScriptFile, Shelf, refuse, setup_inputs,
+    FileName, GivenRun, Place, Refusal, ScriptFile, Shelf, noted_tables, refuse, setup_inputs,
 };
 use std::alloc::Global;
 
@@ -101,7 +99,7 @@ fn play_request<S: Shelf>(
         (IsTextIn (S.facts shelf.now) request.entry.script.now)) }
 {
     let mut places = Vec::new(alloc);
-    let sfdp = read_sfdp(alloc, shelf, request.setup.chip, &mut places)?;
+    let sfdp = noted_tables(alloc, shelf, request.setup.chip, &mut places)?;
     let (mut content, place, len) = shelf.open(request.content, FileName::Content)?;
     places.push(place)?;
     let (script, place) = shelf.open_script(alloc, request.script)?;
@@ -134,26 +132,6 @@ fn play_request<S: Shelf>(
     match shelf.flush(&mut file) {
         Ok(()) => Ok(verdict),
         Err(_) => Err(Refusal::WRITE),
-    }
-}
-
-/// The SFDP bytes of a chip's file, none of a uniform chip, and notes which file it is.
-fn read_sfdp<S: Shelf>(
-    alloc: Global,
-    shelf: &S,
-    chip: Chip<'_>,
-    places: &mut Vec<Place>,
-) -> Result<Vec<u8>, Refusal>
-    ensures tables { IfOk result (λ tables. AreTables (S.facts shelf.now) (origin_of chip.entry) tables.items) }
-    ensures refused { IfErr result IsOfFiles }
-{
-    match chip {
-        Chip::Sfdp { file, bits: _ } => {
-            let (bytes, place) = shelf.read(alloc, file, FileName::Sfdp)?;
-            places.push(place)?;
-            Ok(bytes)
-        }
-        Chip::Uniform(_) => Ok(Vec::new(alloc)),
     }
 }
 

@@ -23,6 +23,6 @@ pub use given::{
     GivenSetup,
 };
 pub use setup::{Setup, known_chip, setup_inputs, setup_of};
-pub use shelf::{Shelf, tables_of};
+pub use shelf::{Shelf, noted_tables, tables_of};
 pub use values::{base, decimal, limit, part};
 pub use wrongs::wrong_number;

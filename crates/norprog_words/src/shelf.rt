@@ -103,9 +103,24 @@ pub fn tables_of<S: Shelf>(alloc: Global, shelf: &S, chip: Chip<'_>) -> Result<V
     ensures refused { IfErr result (RefusesFile Sfdp) }
     ensures files { IfErr result IsOfFiles }
 {
+    noted_tables(alloc, shelf, chip, &mut Vec::new(alloc))
+}
+
+/// The same, and notes in `places` which file it is, so that no output is made over it.
+pub fn noted_tables<S: Shelf>(
+    alloc: Global,
+    shelf: &S,
+    chip: Chip<'_>,
+    places: &mut Vec<Place>,
+) -> Result<Vec<u8>, Refusal>
+    ensures tables { IfOk result (λ tables. AreTables (S.facts shelf.now) (origin_of chip.entry) tables.items) }
+    ensures refused { IfErr result (RefusesFile Sfdp) }
+    ensures files { IfErr result IsOfFiles }
+{
     match chip {
         Chip::Sfdp { file, bits: _ } => {
-            let (bytes, _place) = shelf.read(alloc, file, FileName::Sfdp)?;
+            let (bytes, place) = shelf.read(alloc, file, FileName::Sfdp)?;
+            places.push(place)?;
             Ok(bytes)
         }
         Chip::Uniform(_) => Ok(Vec::new(alloc)),

@@ -19,7 +19,8 @@ use Rattle.nor_work.specs.Least.{IsErased}
 use Rattle.nor_work.proofs.Erased.Best.{best_is, best_bounds, NoneLarger, Among, picked, some_best}
 use Rattle.nor_geometry.proofs.KindLemmas.{legal_kind, size_of}
 use Rattle.nor_work.proofs.Erased.Erasing.{there, can_erase, erased_all, erasable_is, is_block, legal_parts}
-use Rattle.nor_work.proofs.Erased.Reached.{all_over, four, small, erased_where_due}
+use Rattle.nor_base.proofs.StretchLaws.{all_over}
+use Rattle.nor_work.proofs.Erased.Reached.{four, small, erased_where_due}
 
 -- an address at which a test over a stretch passes
 record Finds (test : ℕ → Bool) (start n : ℕ) : Type 0 where

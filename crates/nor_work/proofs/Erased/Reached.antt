@@ -1,11 +1,12 @@
 -- Where an address is due and none is at fault, the strategy has a block to erase for it, inside the needed area.
 use Rattle.std.proofs.Common.{◌≡◌, ◌⊎◌, ℕ, zero, suc, ◌+◌, ◌-◌, ◌*◌, ◌/◌, ◌%◌, ◌<◌, ◌≤◌, nat_le, nat_lt, Bool, true, false, not, ◌&&◌, ◌||◌, if◌then◌else◌, List, [], ◌∷◌, length, Option, Some, None, refl, sym, ◌∙◌, ap, arith, inl, inr, leb-true, le-leb}
 use Rattle.std.specs.Prelude.{slice_get, is_some, option_and_then}
-use Rattle.std.specs.List.{list_any, list_all, range_with_len}
+use Rattle.std.specs.List.{list_any, range_with_len}
 use Rattle.std.specs.Option.{option_map_or}
 use Rattle.std.proofs.Math.Nat.{mod-lt, div-add-mod, mod-add-mod}
 use Rattle.std.proofs.Math.Bool.{or-true}
 use Rattle.std.proofs.lemmas.Bool.{and_parts, or_parts, cases_Bool, cases_lt, both_ways, lt-leb, leb-false, not-true, or_cases}
+use Rattle.nor_base.proofs.StretchLaws.{any_at, all_over}
 use Rattle.nor_base.specs.declared.meaning.Erase.{Erase}
 use Rattle.nor_base.specs.declared.meaning.Region.{Region}
 use Rattle.nor_base.specs.declared.meaning.Start.{Start}
@@ -24,18 +25,6 @@ use Rattle.nor_work.proofs.Erased.Best.{Among, some_best, smallest_of}
 use Rattle.nor_geometry.proofs.KindLemmas.{legal_kind, size_of, IsKind}
 use Rattle.nor_geometry.proofs.WindowLemmas.{divides, multiple_of}
 use Rattle.nor_work.proofs.Erased.Erasing.{IsThere, there, block_is, is_block, legal_parts, legal_of, some_size, floor_aligned, erasable_is}
-
--- tests over a stretch of addresses
-pub any_at : (test : ℕ → Bool) (n start x : ℕ) → start ≤ x → x < start + n → test x ≡ true → list_any test (range_with_len start n) ≡ true
-any_at test zero start x from upto h = absurd (omega arith)
-any_at test (suc n) start x from upto h = elim (cases_lt start x) [
-  | inl past ↦ rw (any_at test n (start + 1) x (omega arith) (omega arith) h) (or-true (test start))
-  | inr here' ↦ let here : x ≡ start = omega arith in rw (ap test (sym here) ∙ h) refl
-]
-
-pub all_over : (test : ℕ → Bool) (n start : ℕ) → ((x : ℕ) → start ≤ x → x < start + n → test x ≡ true) → list_all test (range_with_len start n) ≡ true
-all_over test zero start each = refl
-all_over test (suc n) start each = rw (each start (omega arith) (omega arith)) (all_over test n (start + 1) (λ x from upto. each x (omega arith) (omega arith)))
 
 past_end : (xs : List (Option Erase)) (i : ℕ) → length xs ≤ i → slice_get xs i ≡ None
 past_end [] i fits = refl

@@ -2,7 +2,7 @@
 use Rattle.std.proofs.Common.{◌-◌, sym, ◌∙◌, inl, inr, arith, lt-ltb, le-ltb}
 use Rattle.std.proofs.lemmas.Bool.{cases_lt}
 use Rattle.nor_layout.specs.Chosen.{has}
-use Rattle.nor_map.proofs.CellLemmas.{any_at, none_over}
+use Rattle.nor_base.proofs.StretchLaws.{any_at, none_over}
 use Rattle.nor_map.proofs.cells.is_some_chosen.Goals as goal
 
 pub returns-in-None : goal.returns-in-None
