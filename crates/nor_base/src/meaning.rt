@@ -200,7 +200,7 @@ impl Meaning {
         ensures number { IfSome result (λ _. kind ≤ 4) }
         ensures some { IfSome result (λ erase. 0 < erase.size) }
     {
-        self.is_accepted();
+        self.acceptance();
         if kind == 0 || kind > 4 {
             return None;
         }
@@ -250,7 +250,7 @@ impl Meaning {
     }
 
     /// What holds of every meaning: it is accepted.
-    pub fn is_accepted(&self)
+    pub fn acceptance(&self)
         ensures { IsAccepted self.now }
     {
         let _ = &self.size;

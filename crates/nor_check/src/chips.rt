@@ -198,7 +198,7 @@ impl<'a> AllChips<'a> {
         ensures stays { self.new.kind ≡ self.old.kind }
     {
         let meaning = self.meaning;
-        meaning.is_accepted();
+        meaning.acceptance();
         let size = meaning.block_size(kind);
         fill_block(self.array.as_mut_slice(), start as usize, size as usize);
         self.accept();
@@ -213,7 +213,7 @@ impl<'a> AllChips<'a> {
         ensures stays { self.new.kind ≡ self.old.kind }
     {
         let meaning = self.meaning;
-        meaning.is_accepted();
+        meaning.acceptance();
         program(self.page, seen, self.array.as_mut_slice());
         self.accept();
     }
@@ -255,7 +255,7 @@ impl<'a> AllChips<'a> {
         ensures accepted { IsAccepted self.now.kind.meaning }
     {
         let meaning = self.meaning;
-        meaning.is_accepted();
+        meaning.acceptance();
         match step {
             StepView::Send(clocks) | StepView::Verify(clocks, _) => self.leaves_page(clocks),
             StepView::Poll(_) => false,
@@ -267,7 +267,7 @@ impl<'a> AllChips<'a> {
         ensures { result ≡ leaves_page self.now.kind.meaning.page (decode_of self.now.kind.meaning self.now.chips.mode4 clocks.now) }
     {
         let meaning = self.meaning;
-        meaning.is_accepted();
+        meaning.acceptance();
         match decode(clocks, meaning, self.mode4) {
             Some(seen) => is_program(seen.what) && !lies_in_page(meaning.page, &seen),
             None => false,

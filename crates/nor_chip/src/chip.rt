@@ -198,7 +198,7 @@ impl<'a> Chip<'a> {
         ensures stays { self.new.setting ≡ self.old.setting }
     {
         let meaning = self.meaning;
-        meaning.is_accepted();
+        meaning.acceptance();
         let size = meaning.block_size(kind);
         fill_block(self.array.as_mut_slice(), start as usize, size as usize);
         self.accept();
@@ -213,7 +213,7 @@ impl<'a> Chip<'a> {
         ensures stays { self.new.setting ≡ self.old.setting }
     {
         let meaning = self.meaning;
-        meaning.is_accepted();
+        meaning.acceptance();
         program(self.page, seen, self.array.as_mut_slice());
         self.accept();
     }

@@ -57,7 +57,7 @@ pub fn refusal(state: &State<'_>, seen: &Seen<'_>) -> Option<Wrong>
     if is_out_of_range(meaning, seen) {
         return Some(Wrong::OutOfRange);
     }
-    meaning.is_accepted();
+    meaning.acceptance();
     if is_program(seen.what) && is_barred(meaning, state.page, seen, state.array) {
         return Some(barred(meaning));
     }

@@ -95,7 +95,7 @@ pub(crate) fn next_due(
     requires from { at ≤ from }
     ensures { MatchOption result (NoneDue meaning.now have.now want.now at from) (IsFirstDue meaning.now have.now want.now at from) }
 {
-    meaning.is_accepted();
+    meaning.acceptance();
     let quiet = skip_quiet(meaning, have, want, (from - at) as usize);
     for i in quiet..have.len() {
         if is_due(meaning, have[i], want[i]) {

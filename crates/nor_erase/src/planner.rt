@@ -25,7 +25,7 @@ pub fn plan(
     ensures plan { IfOk result (λ units. IsPlan meaning.now strategy at have.now want.now units.items) }
     ensures fault { IfErr result (Refuses meaning.now strategy at have.now want.now) }
 {
-    meaning.is_accepted();
+    meaning.acceptance();
     if let Some(address) = first_beyond(strategy, at, have, want) {
         return Err(PlanFault::Unreachable(address));
     }

@@ -32,7 +32,7 @@ pub(crate) fn push_blocks(
 fn largest(meaning: &Meaning, strategy: Strategy, start: u32, end: u32) -> Option<Block>
     ensures { MatchOption result (NoneFits meaning.now strategy start end) (IsLargestAt meaning.now strategy start end) }
 {
-    meaning.is_accepted();
+    meaning.acceptance();
     let mut best = None;
     for block in legal(meaning, strategy, start).as_slice() {
         if fits(block, start, end) {
@@ -61,7 +61,7 @@ pub(crate) fn push_pages(
     requires high_page { high % meaning.now.page ≡ 0 }
     ensures { IfOk result (λ _. AddsPages have.now want.now at meaning.now.page low high units.old.items units.new.items) }
 {
-    meaning.is_accepted();
+    meaning.acceptance();
     let mut start = low;
     while start < high {
         if differs_from(have, want, (start - at) as usize, meaning.page as usize) {

@@ -17,7 +17,7 @@ use nor_base::{Meaning, Region, Strategy};
 pub fn legal(meaning: &Meaning, strategy: Strategy, at: u32) -> ArrayVec<Block, 4>
     ensures { AreLegalAt meaning.now strategy at result.items }
 {
-    meaning.is_accepted();
+    meaning.acceptance();
     let mut blocks = ArrayVec::new();
     for kind in 1..5 {
         if let Some(block) = block_at(meaning, strategy, kind, at) {

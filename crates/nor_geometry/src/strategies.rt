@@ -47,7 +47,7 @@ fn is_there(switch: Switch) -> bool
 fn are_dedicated(meaning: &Meaning) -> bool
     ensures { result ≡ are_dedicated meaning.now 0 meaning.now.regions }
 {
-    meaning.is_accepted();
+    meaning.acceptance();
     let mut end = 0u64;
     for region in meaning.regions.as_slice() {
         end += u64::from(region.size);

@@ -19,7 +19,7 @@ pub fn window_size(meaning: &Meaning) -> u32
     ensures blocks { (border : ℕ) → border % result ≡ 0 → (b : Block) → IsLegalBlock meaning.now b → IsUncrossed border b.start b.size }
     ensures pages { (border start : ℕ) → border % result ≡ 0 → start % meaning.now.page ≡ 0 → IsUncrossed border start meaning.now.page }
 {
-    meaning.is_accepted();
+    meaning.acceptance();
     let mut window = LEAST;
     for kind in 1..5 {
         window = window.max(live_size(meaning, kind));

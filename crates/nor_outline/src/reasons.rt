@@ -29,7 +29,7 @@ pub(crate) fn put_reasons<W: ByteOut>(
         (reasons meaning.now (due_in meaning.now have.now want.now block.start) block.start block.size) }
     ensures count { Counts (W.count out.old) (W.count out.new) result }
 {
-    meaning.is_accepted();
+    meaning.acceptance();
     blocks();
     let mut done = 0;
     while done < have.len() {

@@ -38,7 +38,7 @@ pub fn write_window<W: ByteOut>(
     ensures count { CountsSteps (W.count out.old) (W.count out.new) result }
 {
     erased_blocks();
-    meaning.is_accepted();
+    meaning.acceptance();
     let units = plan(alloc, meaning, strategy, at, have, want)?;
     tell_units(alloc, meaning, strategy, at, &units, have, want, out)
 }

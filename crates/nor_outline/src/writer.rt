@@ -38,7 +38,7 @@ pub fn write_unit<W: ByteOut>(
         × Writes (W.held out.old) (W.held out.new) result text }
     ensures count { Counts (W.count out.old) (W.count out.new) result }
 {
-    meaning.is_accepted();
+    meaning.acceptance();
     put_unit(meaning, strategy, unit, runs, have, want, out)
 }
 

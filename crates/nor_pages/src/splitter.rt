@@ -26,7 +26,7 @@ pub fn split(
     ensures within { IfOk result (λ runs.
         AreBetween (unit_start unit.now) (unit_start unit.now + length want.now) (length want.now) runs.items) }
 {
-    meaning.is_accepted();
+    meaning.acceptance();
     match unit {
         PlanUnit::Block(block) => Ok(split_pages(alloc, meaning, block.start, true, have, want)?),
         PlanUnit::Page { start } => Ok(split_pages(alloc, meaning, *start, false, have, want)?),
@@ -47,7 +47,7 @@ fn split_pages<A: Allocator>(
     ensures { IfOk result (λ runs. runs.items
         ≡ pages_runs blank meaning.now.erased_only meaning.now.page have.now want.now start (length want.now / meaning.now.page)) }
 {
-    meaning.is_accepted();
+    meaning.acceptance();
     let mut runs = Vec::new(alloc);
     let page = meaning.page as usize;
     for number in 0..want.len() / page {

@@ -37,7 +37,7 @@ impl<'m> StepWriter<'m> {
         ensures why { IfErr result IsOfWriting }
     {
         let meaning = self.lowerer.meaning();
-        meaning.is_accepted();
+        meaning.acceptance();
         let runs = split(alloc, meaning, unit, have, want)?;
         let start = match unit {
             PlanUnit::Block(block) => return self.write_block(alloc, *block, &runs, want, out),
@@ -108,7 +108,7 @@ impl<'m> StepWriter<'m> {
             return Ok(0);
         }
         let meaning = self.lowerer.meaning();
-        meaning.is_accepted();
+        meaning.acceptance();
         let page = meaning.page;
         self.write_reads(alloc, page, start, want, out)
     }

@@ -39,7 +39,7 @@ impl<'m> StepWriter<'m> {
     {
         erased_blocks();
         let meaning = self.lowerer.meaning();
-        meaning.is_accepted();
+        meaning.acceptance();
         let units = plan(alloc, meaning, self.lowerer.strategy(), at, have, want)?;
         self.write_units(alloc, at, &units, have, want, out)
     }

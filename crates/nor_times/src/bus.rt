@@ -128,7 +128,7 @@ impl<'m> Job<'m> {
         ensures small { result ≤ 4096 }
     {
         let meaning = self.meaning;
-        meaning.is_accepted();
+        meaning.acceptance();
         meaning.page
     }
 }

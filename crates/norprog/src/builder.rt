@@ -59,7 +59,7 @@ pub fn build<R: ByteIn, W: ByteOut>(
 {
     let job = job_of(alloc, inputs, len)?;
     planned_work_does_the_task();
-    job.meaning.is_accepted();
+    job.meaning.acceptance();
     let told = write_script(alloc, &job, content, out)?;
     Ok(report_of(&job, told))
 }

@@ -60,7 +60,7 @@ pub fn plan<R: ByteIn, W: ByteOut>(
     let job = job_of(alloc, inputs, len)?;
     there_is_planned_work();
     spelling();
-    job.meaning.is_accepted();
+    job.meaning.acceptance();
     let told = tell_job(alloc, &job, content, out)?;
     Ok(report_of(&job, told))
 }

@@ -60,7 +60,7 @@ pub fn play_on_device<R: Read + Drop, W: Write + Drop, P: ByteOut>(
     }
     let mut room = vec![in alloc; 0u8; widest(steps)]?;
     let cells = touched_cells(alloc, meaning, &start, steps)?;
-    meaning.is_accepted();
+    meaning.acceptance();
     if let Err(why) = begin(port, meaning.begins4(&start), cells.as_slice(), trusted) {
         return Ok(Ending::Unlike { why });
     }

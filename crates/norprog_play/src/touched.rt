@@ -89,7 +89,7 @@ fn mark_program(marks: &mut [bool], meaning: &Meaning, seen: &Seen<'_>)
     requires { is_program seen.now.what ≡ true }
     ensures { MarkedBy (Programs meaning.now (instruction_of seen.now)) marks.old marks.new }
 {
-    meaning.is_accepted();
+    meaning.acceptance();
     let page = meaning.page;
     for index in 0..count_sent(seen) {
         let at = place(page, seen.address, index);

@@ -106,7 +106,10 @@ pub fn tables_of<S: Shelf>(alloc: Global, shelf: &S, chip: Chip<'_>) -> Result<V
     noted_tables(alloc, shelf, chip, &mut Vec::new(alloc))
 }
 
-/// The same, and notes in `places` which file it is, so that no output is made over it.
+/// What the file of a chip's SFDP tables holds, with which file it is put at the end of `places`, so that no output is made
+/// over it; nothing for a uniform chip, which has none, and `places` as they were.
+///
+/// `File` of `Sfdp` and `Memory`, as [`Shelf::read`] answers them; `Memory` too where `places` can't grow.
 pub fn noted_tables<S: Shelf>(
     alloc: Global,
     shelf: &S,

@@ -18,7 +18,7 @@ moved : (m : Parameters) (by : Strategy) (at : ℕ) (have want : List ℕ) (low 
 moved m by at have want low low' high high' items items' first second third p = rw (← first, ← second, ← third) p
 
 pub first_beyond-requires-clause-edge : goal.first_beyond-requires-clause-edge
-first_beyond-requires-clause-edge c = edge c.args.meaning.now c.args.strategy c.args.at (length c.args.have.now) c.is_accepted.ensures c.requires.window
+first_beyond-requires-clause-edge c = edge c.args.meaning.now c.args.strategy c.args.at (length c.args.have.now) c.acceptance.ensures c.requires.window
 
 pub returns-in-Some-clause-fault : goal.returns-in-Some-clause-fault
 returns-in-Some-clause-fault c =
@@ -27,18 +27,18 @@ returns-in-Some-clause-fault c =
 pub loop-address-init : goal.loop-address-init
 loop-address-init c =
     subst (λ (items : List PlanUnit). IsPlannedTo c.args.meaning.now c.args.strategy c.args.at c.args.have.now c.args.want.now c.args.at c.args.at items) (sym c.new-units.ensures.items)
-    (first_planned c.args.meaning.now c.args.strategy c.args.at c.args.have.now c.args.want.now c.is_accepted.ensures c.requires.window)
+    (first_planned c.args.meaning.now c.args.strategy c.args.at c.args.have.now c.args.want.now c.acceptance.ensures c.requires.window)
 
 pub returns-in-None-clause-fault : goal.returns-in-None-clause-fault
 returns-in-None-clause-fault c =
     no_erase c.args.meaning.now c.args.strategy c.args.at c.args.have.now c.args.want.now c.loop-address.low c.loop-address.high c.in-Some-next_due.address c.loop-address.units.items
-    c.is_accepted.ensures c.requires.window c.requires.lengths c.in_default.ensures c.loop-address.invariant c.in-Some-next_due.ensures c.in-None.ensures
+    c.acceptance.ensures c.requires.window c.requires.lengths c.in_default.ensures c.loop-address.invariant c.in-Some-next_due.ensures c.in-None.ensures
 
 pub push_pages-requires-clause-high_page : goal.push_pages-requires-clause-high_page
 push_pages-requires-clause-high_page c =
     let start : c.block.inside.start ≡ c.in-Some-smallest.block.start = ap (λ (b : Block). b.start) c.block.view_is in
     let next = next_is c.args.meaning.now c.args.strategy c.args.at c.args.have.now c.args.want.now c.loop-address.high c.in-Some-next_due.address c.in-Some-smallest.block
-    c.is_accepted.ensures c.requires.window c.in-Some-next_due.ensures c.in-Some-smallest.ensures in
+    c.acceptance.ensures c.requires.window c.in-Some-next_due.ensures c.in-Some-smallest.ensures in
     ap (λ n. n % c.args.meaning.now.page) start ∙ next.starts
 
 pub overflow_add-high : goal.overflow_add-high
@@ -46,8 +46,8 @@ overflow_add-high c =
     let start : c.block.inside.start ≡ c.in-Some-smallest.block.start = ap (λ (b : Block). b.start) c.block.view_is in
     let size : c.block.inside.size ≡ c.in-Some-smallest.block.size = ap (λ (b : Block). b.size) c.block.view_is in
     let next = next_is c.args.meaning.now c.args.strategy c.args.at c.args.have.now c.args.want.now c.loop-address.high c.in-Some-next_due.address c.in-Some-smallest.block
-    c.is_accepted.ensures c.requires.window c.in-Some-next_due.ensures c.in-Some-smallest.ensures in
-    omega (arith, next.fits, c.requires.window.inside, c.is_accepted.ensures.size_high)
+    c.acceptance.ensures c.requires.window c.in-Some-next_due.ensures c.in-Some-smallest.ensures in
+    omega (arith, next.fits, c.requires.window.inside, c.acceptance.ensures.size_high)
 
 pub loop-address-preserved : goal.loop-address-preserved
 loop-address-preserved c =
@@ -64,7 +64,7 @@ loop-address-preserved c =
           ∙ ap (λ n. w.push_blocks.new.units.items
           ++ flat_map (page_if c.args.have.now c.args.want.now c.args.at c.args.meaning.now.page) (pages c.args.meaning.now.page c.loop-address.high ((n - c.loop-address.high) / c.args.meaning.now.page))) start in
           let next = planned_over c.args.meaning.now c.args.strategy c.args.at c.args.have.now c.args.want.now c.loop-address.low c.loop-address.high c.in-Some-next_due.address
-          c.loop-address.units.items w.push_blocks.new.units.items c.if-block-high.units.items c.in-Some-smallest.block c.is_accepted.ensures c.requires.window c.requires.lengths
+          c.loop-address.units.items w.push_blocks.new.units.items c.if-block-high.units.items c.in-Some-smallest.block c.acceptance.ensures c.requires.window c.requires.lengths
           c.in_default.ensures c.loop-address.invariant c.in-Some-next_due.ensures c.in-Some-smallest.ensures apart w.in_ok-push_blocks.ensures now in
           moved c.args.meaning.now c.args.strategy c.args.at c.args.have.now c.args.want.now c.in-Some-smallest.block.start c.if-block-high.low
           (c.in-Some-smallest.block.start + c.in-Some-smallest.block.size) (c.block.inside.start + c.block.inside.size) c.if-block-high.units.items c.if-block-high.units.items
@@ -72,7 +72,7 @@ loop-address-preserved c =
       | else-block-high w ↦
           let touches : c.in-Some-smallest.block.start ≤ c.loop-address.high = omega (arith, w.if-block-high.false) in
           let next = planned_on c.args.meaning.now c.args.strategy c.args.at c.args.have.now c.args.want.now c.loop-address.low c.loop-address.high c.in-Some-next_due.address
-          c.loop-address.units.items c.in-Some-smallest.block c.is_accepted.ensures c.requires.window c.requires.lengths
+          c.loop-address.units.items c.in-Some-smallest.block c.acceptance.ensures c.requires.window c.requires.lengths
           c.in_default.ensures c.loop-address.invariant c.in-Some-next_due.ensures c.in-Some-smallest.ensures touches in
           moved c.args.meaning.now c.args.strategy c.args.at c.args.have.now c.args.want.now c.loop-address.low c.if-block-high.low
           (c.in-Some-smallest.block.start + c.in-Some-smallest.block.size) (c.block.inside.start + c.block.inside.size) c.loop-address.units.items c.if-block-high.units.items
@@ -80,10 +80,10 @@ loop-address-preserved c =
     ]
 
 pub push_pages-requires-2-clause-high_page : goal.push_pages-requires-2-clause-high_page
-push_pages-requires-2-clause-high_page c = ends_page c.args.meaning.now c.args.strategy c.args.at (length c.args.have.now) c.is_accepted.ensures c.requires.window
+push_pages-requires-2-clause-high_page c = ends_page c.args.meaning.now c.args.strategy c.args.at (length c.args.have.now) c.acceptance.ensures c.requires.window
 
 pub returns-clause-plan : goal.returns-clause-plan
 returns-clause-plan c =
     planned_all c.args.meaning.now c.args.strategy c.args.at c.args.have.now c.args.want.now c.loop-address.low c.loop-address.high c.loop-address.units.items
-    c.push_blocks-2.new.units.items c.push_pages-2.new.units.items c.is_accepted.ensures c.requires.window c.requires.lengths c.in_default.ensures c.loop-address.invariant
+    c.push_blocks-2.new.units.items c.push_pages-2.new.units.items c.acceptance.ensures c.requires.window c.requires.lengths c.in_default.ensures c.loop-address.invariant
     c.in_default-next_due.ensures c.in_ok-push_blocks-2.ensures c.in_ok-push_pages-2.ensures

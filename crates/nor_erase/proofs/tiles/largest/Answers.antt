@@ -20,4 +20,4 @@ returns c =
     let legal : AreLegalAt c.args.meaning.now c.args.strategy c.args.start c.as_slice-block-items.result.now =
     subst (λ (xs : List Block). AreLegalAt c.args.meaning.now c.args.strategy c.args.start xs) (sym c.as_slice-block-items.ensures.value) c.legal.ensures in
     last_is c.args.meaning.now c.args.strategy c.args.start c.args.end c.as_slice-block-items.result.now c.loop-block.block-index c.loop-block.best
-    c.is_accepted.ensures legal c.loop-block-test.false c.loop-block.auto.block-index-end c.loop-block.invariant
+    c.acceptance.ensures legal c.loop-block-test.false c.loop-block.auto.block-index-end c.loop-block.invariant

@@ -12,14 +12,14 @@ pub differs_from-requires-clause-inside : goal.differs_from-requires-clause-insi
 differs_from-requires-clause-inside c =
     let page : c.meaning.inside.page ≡ c.args.meaning.now.page = ap (λ (m : Parameters). m.page) c.meaning.view_is in
     let fits = page_fits c.args.meaning.now.page c.args.low c.args.high c.loop-start.start c.args.have.now c.args.want.now c.args.at c.args.units.now.items c.loop-start.units.items
-    (page_some c.args.meaning.now c.is_accepted.ensures) c.loop-start.invariant c.requires.low_page c.requires.high_page c.loop-start-test.true in
+    (page_some c.args.meaning.now c.acceptance.ensures) c.loop-start.invariant c.requires.low_page c.requires.high_page c.loop-start-test.true in
     omega (arith, fits, c.loop-start.invariant.upto)
 
 pub loop-start-preserved : goal.loop-start-preserved
 loop-start-preserved c =
     let page : c.meaning.inside.page ≡ c.args.meaning.now.page = ap (λ (m : Parameters). m.page) c.meaning.view_is in
     let fits = page_fits c.args.meaning.now.page c.args.low c.args.high c.loop-start.start c.args.have.now c.args.want.now c.args.at c.args.units.now.items c.loop-start.units.items
-    (page_some c.args.meaning.now c.is_accepted.ensures) c.loop-start.invariant c.requires.low_page c.requires.high_page c.loop-start-test.true in
+    (page_some c.args.meaning.now c.acceptance.ensures) c.loop-start.invariant c.requires.low_page c.requires.high_page c.loop-start-test.true in
     let told = c.differs_from.ensures ∙ ap (differs_from c.args.have.now c.args.want.now (c.loop-start.start - c.args.at)) page in
     let added : c.if-differs_from.units.items ≡ c.loop-start.units.items ++ page_if c.args.have.now c.args.want.now c.args.at c.args.meaning.now.page c.loop-start.start =
     (elim c.if-differs_from.branch [
@@ -37,4 +37,4 @@ loop-start-preserved c =
 pub returns : goal.returns
 returns c =
     all_paged c.args.have.now c.args.want.now c.args.at c.args.meaning.now.page c.args.low c.args.high c.loop-start.start c.args.units.now.items c.loop-start.units.items
-    (page_some c.args.meaning.now c.is_accepted.ensures) c.loop-start.invariant c.loop-start-test.false
+    (page_some c.args.meaning.now c.acceptance.ensures) c.loop-start.invariant c.loop-start-test.false

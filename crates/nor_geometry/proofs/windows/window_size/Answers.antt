@@ -14,10 +14,10 @@ loop-kind-preserved c = one_more c.args.meaning.now c.loop-kind.kind c.loop-kind
 pub returns : goal.returns
 returns c =
     let end : c.loop-kind.kind ≡ 5 = omega arith in
-    let size : IsWindowSize c.args.meaning.now c.loop-kind.window = all_kinds c.args.meaning.now c.loop-kind.window c.is_accepted.ensures (rw end at c.loop-kind.invariant) in
+    let size : IsWindowSize c.args.meaning.now c.loop-kind.window = all_kinds c.args.meaning.now c.loop-kind.window c.acceptance.ensures (rw end at c.loop-kind.invariant) in
     record {
       size = size;
-      power = window_power c.args.meaning.now c.loop-kind.window c.is_accepted.ensures size;
-      blocks = λ border whole b legal. blocks_uncrossed c.args.meaning.now c.loop-kind.window border b c.is_accepted.ensures size whole legal;
-      pages = λ border start whole aligned. pages_uncrossed c.args.meaning.now c.loop-kind.window border start c.is_accepted.ensures size whole aligned;
+      power = window_power c.args.meaning.now c.loop-kind.window c.acceptance.ensures size;
+      blocks = λ border whole b legal. blocks_uncrossed c.args.meaning.now c.loop-kind.window border b c.acceptance.ensures size whole legal;
+      pages = λ border start whole aligned. pages_uncrossed c.args.meaning.now c.loop-kind.window border start c.acceptance.ensures size whole aligned;
     }

@@ -28,10 +28,10 @@ next_at m by b have want start done least stay accepted may lengths count less s
 pub loop-done-init : goal.loop-done-init
 loop-done-init g c =
     let place : c.args.block.start ≡ c.args.block.start + 0 = omega arith in
-    let p = placed c.args.meaning.now c.args.block c.is_accepted.ensures c.requires.block.legal in
+    let p = placed c.args.meaning.now c.args.block c.acceptance.ensures c.requires.block.legal in
     record {
       upto = omega arith;
-      border = subst (IsBorder c.args.meaning.now) place (first_border c.args.meaning.now c.args.block c.is_accepted.ensures c.requires.block.legal p.some);
+      border = subst (IsBorder c.args.meaning.now) place (first_border c.args.meaning.now c.args.block c.acceptance.ensures c.requires.block.legal p.some);
       put = Appends-none _;
       count = refl;
     }
@@ -39,15 +39,15 @@ loop-done-init g c =
 pub overflow_add-start : goal.overflow_add-start
 overflow_add-start g c =
     let start : c.block.inside.start ≡ c.args.block.start = ap (λ (b : Block). b.start) c.block.view_is in
-    let fits = legal_on_chip c.args.meaning.now c.args.block c.is_accepted.ensures c.requires.block.legal in
-    omega (arith, fits, start, c.is_accepted.ensures.size_high)
+    let fits = legal_on_chip c.args.meaning.now c.args.block c.acceptance.ensures c.requires.block.legal in
+    omega (arith, fits, start, c.acceptance.ensures.size_high)
 
 pub slice_bounds-put_reason-end : goal.slice_bounds-put_reason-end
 slice_bounds-put_reason-end g c =
     let start : c.block.inside.start ≡ c.args.block.start = ap (λ (b : Block). b.start) c.block.view_is in
     let size : c.least.inside.size ≡ c.in-Some.least.size = ap (λ (b : Block). b.size) c.least.view_is in
     let next = next_at c.args.meaning.now c.args.strategy c.args.block c.args.have.now c.args.want.now c.block.inside.start c.loop-done.done c.in-Some.least c.blocks-2.ensures.blocks
-    c.is_accepted.ensures c.requires.block c.requires.lengths c.requires.count c.loop-done-test.true start c.loop-done.invariant.border c.in-Some.ensures in
+    c.acceptance.ensures c.requires.block c.requires.lengths c.requires.count c.loop-done-test.true start c.loop-done.invariant.border c.in-Some.ensures in
     let upto : c.loop-done.done + c.least.inside.size ≤ length c.args.have.now = omega (arith, next.fits, size) in
     search rules
 
@@ -56,9 +56,9 @@ put_reason-requires-clause-inside g c =
     let start : c.block.inside.start ≡ c.args.block.start = ap (λ (b : Block). b.start) c.block.view_is in
     let size : c.least.inside.size ≡ c.in-Some.least.size = ap (λ (b : Block). b.size) c.least.view_is in
     let next = next_at c.args.meaning.now c.args.strategy c.args.block c.args.have.now c.args.want.now c.block.inside.start c.loop-done.done c.in-Some.least c.blocks-2.ensures.blocks
-    c.is_accepted.ensures c.requires.block c.requires.lengths c.requires.count c.loop-done-test.true start c.loop-done.invariant.border c.in-Some.ensures in
+    c.acceptance.ensures c.requires.block c.requires.lengths c.requires.count c.loop-done-test.true start c.loop-done.invariant.border c.in-Some.ensures in
     let upto : c.loop-done.done + c.least.inside.size ≤ length c.args.have.now = omega (arith, next.fits, size) in
-    let fits = legal_on_chip c.args.meaning.now c.args.block c.is_accepted.ensures c.requires.block.legal in
+    let fits = legal_on_chip c.args.meaning.now c.args.block c.acceptance.ensures c.requires.block.legal in
     omega (arith, fits, start, length-range c.args.have.now c.loop-done.done (c.loop-done.done + c.least.inside.size) (omega arith) upto)
 
 pub returns-in_err-put_reason-clause-bytes : goal.returns-in_err-put_reason-clause-bytes
@@ -66,7 +66,7 @@ returns-in_err-put_reason-clause-bytes g c =
     let start : c.block.inside.start ≡ c.args.block.start = ap (λ (b : Block). b.start) c.block.view_is in
     let size : c.least.inside.size ≡ c.in-Some.least.size = ap (λ (b : Block). b.size) c.least.view_is in
     let next = next_at c.args.meaning.now c.args.strategy c.args.block c.args.have.now c.args.want.now c.block.inside.start c.loop-done.done c.in-Some.least c.blocks-2.ensures.blocks
-    c.is_accepted.ensures c.requires.block c.requires.lengths c.requires.count c.loop-done-test.true start c.loop-done.invariant.border c.in-Some.ensures in
+    c.acceptance.ensures c.requires.block c.requires.lengths c.requires.count c.loop-done-test.true start c.loop-done.invariant.border c.in-Some.ensures in
     let upto : c.loop-done.done + c.least.inside.size ≤ length c.args.have.now = omega (arith, next.fits, size) in
     Writes-cut _ _ _ _ c.from_residual.ensures.0
     (cut_there c.args.meaning.now c.args.block c.in-Some.least c.args.have.now c.args.want.now c.block.inside.start c.loop-done.done c.least.inside.size
@@ -78,7 +78,7 @@ loop-done-preserved g c =
     let start : c.block.inside.start ≡ c.args.block.start = ap (λ (b : Block). b.start) c.block.view_is in
     let size : c.least.inside.size ≡ c.in-Some.least.size = ap (λ (b : Block). b.size) c.least.view_is in
     let next = next_at c.args.meaning.now c.args.strategy c.args.block c.args.have.now c.args.want.now c.block.inside.start c.loop-done.done c.in-Some.least c.blocks-2.ensures.blocks
-    c.is_accepted.ensures c.requires.block c.requires.lengths c.requires.count c.loop-done-test.true start c.loop-done.invariant.border c.in-Some.ensures in
+    c.acceptance.ensures c.requires.block c.requires.lengths c.requires.count c.loop-done-test.true start c.loop-done.invariant.border c.in-Some.ensures in
     let upto : c.loop-done.done + c.least.inside.size ≤ length c.args.have.now = omega (arith, next.fits, size) in
     let place : (c.args.block.start + c.loop-done.done) + c.in-Some.least.size ≡ c.args.block.start + (c.loop-done.done + c.least.inside.size) = omega (arith, size) in
     record {

@@ -14,7 +14,7 @@ returns-in_err-units-clause-stopped g c =
 pub tell_units-requires-clause-planned : goal.tell_units-requires-clause-planned
 tell_units-requires-clause-planned g c = record {
   law = c.erased_blocks.ensures.blocks;
-  accepted = c.is_accepted.ensures;
+  accepted = c.acceptance.ensures;
   window = c.requires.window;
   lengths = c.requires.lengths;
   plan = subst (IsPlan c.args.meaning.now c.args.strategy c.args.at c.args.have.now c.args.want.now) (sym c.deref.ensures.value) c.in_ok-units.ensures.plan;

@@ -6,7 +6,7 @@ use Rattle.nor_outline.proofs.writer.write_unit.Goals as goal
 pub returns-clause-bytes : goal.returns-clause-bytes
 returns-clause-bytes g c = (
   part_text c.args.meaning.now c.args.strategy c.args.unit.now c.args.runs.now c.args.have.now c.args.want.now,
-  part_outline c.args.meaning.now c.args.strategy c.args.unit.now c.args.runs.now c.args.have.now c.args.want.now c.is_accepted.ensures c.requires.lengths
+  part_outline c.args.meaning.now c.args.strategy c.args.unit.now c.args.runs.now c.args.have.now c.args.want.now c.acceptance.ensures c.requires.lengths
       c.requires.planned c.requires.runs,
   c.put_unit.ensures.bytes,
 )

@@ -16,7 +16,7 @@ returns-in_ok-split_pages-in-Block-clause-split c =
 pub returns-in_ok-split_pages-in-Page-clause-split : goal.returns-in_ok-split_pages-in-Page-clause-split
 returns-in_ok-split_pages-in-Page-clause-split c =
     page_split c.args.meaning.now c.args.unit.now c.in-Page.start c.args.have.now c.args.want.now c.in_ok-split_pages-in-Page.field-0.items
-    (some_page c.args.meaning.now c.is_accepted.ensures.page) c.requires.lengths c.in-Page.is c.requires.unit c.in_ok-split_pages-in-Page.ensures
+    (some_page c.args.meaning.now c.acceptance.ensures.page) c.requires.lengths c.in-Page.is c.requires.unit c.in_ok-split_pages-in-Page.ensures
 
 pub returns-in_ok-split_pages-in-Block-clause-within : goal.returns-in_ok-split_pages-in-Block-clause-within
 returns-in_ok-split_pages-in-Block-clause-within c =

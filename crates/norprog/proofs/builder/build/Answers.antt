@@ -11,12 +11,12 @@ returns-clause-built g c =
     subst (IsBuilt c.args.inputs.now c.args.len (g.R.ByteIn.ahead c.args.content.now) (g.R.ByteIn.ahead c.write_script.new.content)
     (g.W.ByteOut.held c.args.out.now) (g.W.ByteOut.held c.write_script.new.out))
     (sym c.report_of.ensures)
-    (built_is c.args.inputs.now c.args.len c.in_ok-job.job _ _ _ _ c.in_ok-told.told c.planned_work_does_the_task.ensures c.is_accepted.ensures c.in_ok-job.ensures.job c.in_ok-told.ensures.done)
+    (built_is c.args.inputs.now c.args.len c.in_ok-job.job _ _ _ _ c.in_ok-told.told c.planned_work_does_the_task.ensures c.acceptance.ensures c.in_ok-job.ensures.job c.in_ok-told.ensures.done)
 
 pub returns-in_err-told-clause-refused : goal.returns-in_err-told-clause-refused
 returns-in_err-told-clause-refused g c =
     handed_on _ _ _ c.from_residual-in_err-told.ensures.1
-    (inr (stops_is c.args.inputs.now c.args.len c.in_ok-job.job _ _ _ _ c.in_err-told.field-0.0 c.planned_work_does_the_task.ensures c.is_accepted.ensures c.in_ok-job.ensures.job c.in_err-told.ensures.cut))
+    (inr (stops_is c.args.inputs.now c.args.len c.in_ok-job.job _ _ _ _ c.in_err-told.field-0.0 c.planned_work_does_the_task.ensures c.acceptance.ensures c.in_ok-job.ensures.job c.in_err-told.ensures.cut))
 
 pub returns-in_err-job-clause-accepted : goal.returns-in_err-job-clause-accepted
 returns-in_err-job-clause-accepted g c = λ image regions m accepted.

@@ -14,7 +14,7 @@ returns-clause-planned g c =
     (g.W.ByteOut.held c.args.out.now) (g.W.ByteOut.held c.tell_job.new.out))
     (sym c.report_of.ensures)
     (plan_is c.args.inputs.now c.args.len c.in_ok-job.job _ _ _ _ c.in_ok-told.told c.there_is_planned_work.ensures.spelled c.spelling.ensures.has
-    c.is_accepted.ensures c.in_ok-job.ensures.job c.in_ok-told.ensures.done)
+    c.acceptance.ensures c.in_ok-job.ensures.job c.in_ok-told.ensures.done)
 
 pub returns-in_err-told-clause-refused : goal.returns-in_err-told-clause-refused
 returns-in_err-told-clause-refused g c =

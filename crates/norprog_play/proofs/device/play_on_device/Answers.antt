@@ -17,7 +17,7 @@ returns-in-Err-begin g c =
     let before = moment c.args.port.now.chip (g.W.Write.contents c.args.port.now.to.inner) (g.R.Read.remaining c.args.port.now.from.inner) in
     let after = moment c.begin.new.port.chip (g.W.Write.contents c.begin.new.port.to.inner) (g.R.Read.remaining c.begin.new.port.from.inner) in
     let cells = as_cells (IsTouched c.args.meaning.now (begins4 c.args.meaning.now c.args.start) c.args.steps.now) c.in_ok-cells.cells.items (length c.args.port.now.chip.chip.array) c.args.meaning.now.size c.in_ok-cells.ensures c.requires.size
-    c.is_accepted.ensures.size_whole in
+    c.acceptance.ensures.size_whole in
     record {
       ends = record {
         may = record { well = c.requires.well; carried = c.in_default.ensures };
@@ -38,7 +38,7 @@ returns-in-Ok g c =
     let between = moment c.begin.new.port.chip (g.W.Write.contents c.begin.new.port.to.inner) (g.R.Read.remaining c.begin.new.port.from.inner) in
     let after = moment c.follow_steps.new.port.chip (g.W.Write.contents c.follow_steps.new.port.to.inner) (g.R.Read.remaining c.follow_steps.new.port.from.inner) in
     let cells = as_cells (IsTouched c.args.meaning.now (begins4 c.args.meaning.now c.args.start) c.args.steps.now) c.in_ok-cells.cells.items (length c.args.port.now.chip.chip.array) c.args.meaning.now.size c.in_ok-cells.ensures c.requires.size
-    c.is_accepted.ensures.size_whole in
+    c.acceptance.ensures.size_whole in
     let ends : played c.args.port.now.chip.setting 1 c.args.port.now.chip.chip c.args.steps.now ≡ Ok c.follow_steps.new.port.chip.chip =
     subst (λ (shown : Shown). played shown.setting 1 shown.chip c.args.steps.now ≡ Ok c.follow_steps.new.port.chip.chip) c.in_default-begin.ensures.chip c.in-Ok.ensures.chip in
     record {
@@ -60,7 +60,7 @@ returns g c =
     let between = moment c.begin.new.port.chip (g.W.Write.contents c.begin.new.port.to.inner) (g.R.Read.remaining c.begin.new.port.from.inner) in
     let after = moment c.follow_steps.new.port.chip (g.W.Write.contents c.follow_steps.new.port.to.inner) (g.R.Read.remaining c.follow_steps.new.port.from.inner) in
     let cells = as_cells (IsTouched c.args.meaning.now (begins4 c.args.meaning.now c.args.start) c.args.steps.now) c.in_ok-cells.cells.items (length c.args.port.now.chip.chip.array) c.args.meaning.now.size c.in_ok-cells.ensures c.requires.size
-    c.is_accepted.ensures.size_whole in
+    c.acceptance.ensures.size_whole in
     record {
       ends = stops c.args.port.now.limits c.args.port.now.turns c.args.trusted c.args.meaning.now c.args.start before between after c.args.steps.now
           c.in-Err-follow_steps.halt.step c.in-Err-follow_steps.halt.why (record { well = c.requires.well; carried = c.in_default.ensures })

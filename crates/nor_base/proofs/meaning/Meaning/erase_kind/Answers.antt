@@ -10,4 +10,4 @@ returns-clause-kind c =
     kind_of_slot c.args.self.now c.self.inside.erases c.args.kind c.from.result (ap (λ (m : Parameters). m.erases) c.self.view_is) (omega arith) inside
 
 pub returns-clause-some : goal.returns-clause-some
-returns-clause-some c = some_bytes_of c.args.self.now c.args.kind _ c.is_accepted.ensures (returns-clause-kind c)
+returns-clause-some c = some_bytes_of c.args.self.now c.args.kind _ c.acceptance.ensures (returns-clause-kind c)

@@ -9,7 +9,7 @@ pub fill_block-requires : goal.fill_block-requires
 fill_block-requires c =
     omega (
       arith,
-      legal_inside c.self.inside.meaning.now c.args.kind c.args.start c.is_accepted.ensures
+      legal_inside c.self.inside.meaning.now c.args.kind c.args.start c.acceptance.ensures
           (ap (λ (v : Together). is_legal v.kind.meaning c.args.kind c.args.start) c.self.view_is ∙ c.requires),
       c.block_size-size.ensures,
       c.self.invariant.0,

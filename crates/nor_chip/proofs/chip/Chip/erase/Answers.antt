@@ -7,4 +7,4 @@ use Rattle.nor_chip.proofs.chip.Chip.erase.Goals as goal
 
 pub fill_block-requires : goal.fill_block-requires
 fill_block-requires c =
-    omega (arith, legal_inside c.self.inside.meaning.now c.args.kind c.args.start c.is_accepted.ensures (ap (λ (v : Shown). is_legal v.setting.meaning c.args.kind c.args.start) c.self.view_is ∙ c.requires), c.block_size-size.ensures, c.self.invariant.0, c.as_mut_slice.ensures.len)
+    omega (arith, legal_inside c.self.inside.meaning.now c.args.kind c.args.start c.acceptance.ensures (ap (λ (v : Shown). is_legal v.setting.meaning c.args.kind c.args.start) c.self.view_is ∙ c.requires), c.block_size-size.ensures, c.self.invariant.0, c.as_mut_slice.ensures.len)

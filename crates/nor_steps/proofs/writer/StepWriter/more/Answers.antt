@@ -23,7 +23,7 @@ write_units-requires-clause-planned g c =
     let meaning = c.meaning-meaning.ensures ∙ ap (λ (w : Writing). w.streaming.meaning) c.self.view_is in
     record {
       law = c.erased_blocks.ensures.blocks;
-      accepted = subst IsAccepted meaning c.is_accepted.ensures;
+      accepted = subst IsAccepted meaning c.acceptance.ensures;
       window = c.requires.window;
       lengths = c.requires.lengths;
       plan =

@@ -18,7 +18,7 @@ write_block-requires-clause-inside g c =
     let meaning = c.meaning-meaning.ensures ∙ ap (λ (w : Writing). w.streaming.meaning) c.self.view_is in
     let its = subst (λ (u : PlanUnit). IsUnit c.args.self.now.streaming.meaning u (length c.args.want.now)) c.in-Block.is c.requires.unit in
     let size = ap (λ (m : Parameters). m.size) meaning in
-    omega (arith, its.1.1, size, c.is_accepted.ensures.size_high)
+    omega (arith, its.1.1, size, c.acceptance.ensures.size_high)
 
 pub returns-in-Block-clause-written : goal.returns-in-Block-clause-written
 returns-in-Block-clause-written g c =
