@@ -1,5 +1,5 @@
 -- What was done, and why nothing was, of a task that is asked for.
-use Rattle.std.proofs.Common.{◌≡◌, ℕ, ◌⊎◌, inl, inr, refl, ap, arith, ◌<◌, ◌++◌, [], length, Bool, false, true, is_some, option_map, List, Option, None, Some, Result, Ok, Err, IfOk, IfErr, subst, sym}
+use Rattle.std.proofs.Common.{◌≡◌, ℕ, ◌⊎◌, inl, inr, refl, ap, arith, ◌<◌, ◌++◌, [], length, Bool, true, is_some, List, Option, None, Some, Result, Ok, Err, IfOk, IfErr, subst, sym}
 use Rattle.std.specs.Prelude.{⊤}
 use Rattle.std.specs.Io.KnownBytes.{Appends}
 use Rattle.nor_base.specs.Device.{Ahead, Cuts}
@@ -26,9 +26,9 @@ use Rattle.norprog_words.specs.Told.{ForAsked, OfFault, Refuses}
 use Rattle.norprog_words.proofs.ToldLemmas.{asked_wider, fault_wider, by_fault, refuses_wider, refuses}
 use Rattle.norprog_command.specs.Builds.{IsReportOf, IsBuildReport, IsFaultOf, IsBuildFault, RefusesBuild, done}
 use Rattle.norprog_command.specs.Meanings.{MeansThis, IsMeaning, MeansNone, IsChipFault, RefusesMeaning}
-use Rattle.norprog_command.specs.Plans.{FailsToDraw, IsUndrawn, IsPart, in_memory, behind_lines, read_lines, Draws, IsLines, IsLinesOf, IsWhole, IsTold, PrintsPlan, CutsPlan, FailsToPrint, StopsPlanOf, StopsTask, IsPlanFault, RefusesPlan}
+use Rattle.norprog_command.specs.Plans.{FailsToDraw, IsUndrawn, IsPart, in_memory, behind_lines, read_lines, Draws, IsLines, IsWhole, IsTold, PrintsPlan, CutsPlan, FailsToPrint, StopsPlanOf, StopsTask, IsPlanFault, RefusesPlan}
 use Rattle.norprog_command.specs.Served.{Job, job_with, Is}
-use Rattle.norprog_command.specs.Verdicts.{IsVerdictOf, IsCheckVerdict, IsTextOfFile, IsStopOf, IsCheckFault, RefusesCheck, stop_refusal, stream_refusal}
+use Rattle.norprog_command.specs.Verdicts.{IsCheckVerdict, IsStopOf, IsCheckFault, RefusesCheck, stop_refusal, stream_refusal}
 
 -- what is asked for, where it is this job
 pub of_one : (Asked : Job → Type 0) (j : Job) → Asked j → (x : Job) → Is j x → Asked x

@@ -1,14 +1,16 @@
 -- Which job a request has, and that it is the one that its texts ask for.
-use Rattle.std.proofs.Common.{◌≡◌, ◌∙◌, ap, refl, sym, subst, inl, inr, is_some, option_map, Option, Some, None, Result, Ok, List, ℕ}
+use Rattle.std.proofs.Common.{◌≡◌, ◌∙◌, ap, refl, sym, subst, inl, inr, is_some, option_map, Option, Some, None, Result, Ok, List, [], ◌∷◌, ◌++◌, ℕ}
 use Rattle.nor_base.specs.Device.{Ahead}
 use Rattle.nor_base.specs.declared.meaning.Part.{Part}
 use Rattle.nor_job.specs.Task.{Task}
 use Rattle.nor_job.specs.Task as job
 use Rattle.norprog_words.specs.declared.faults.Refusal.{Refusal}
+use Rattle.norprog_words.specs.declared.files.Place.{Place}
 use Rattle.norprog_words.specs.declared.files.ScriptFile.{ScriptFile}
 use Rattle.norprog_words.specs.declared.files.ScriptFile.TheVariants.{Twice, Held as whole}
 use Rattle.norprog_words.specs.Chip.{Origin, origin_of, task_chip}
-use Rattle.norprog_words.specs.Shelf.{FileFacts, AreTables, IsOfScript, IsTextIn, Named, WhereNamed}
+use Rattle.norprog_words.specs.Shelf.{FileFacts, AreTables, IsMadeApart, IsOfScript, IsTextIn, Named, Notes, WhereNamed}
+use Rattle.norprog_words.proofs.ShelfLemmas.{made_apart, more_noted, one_noted}
 use Rattle.norprog_words.specs.Told.{OfLine}
 use Rattle.norprog_words.specs.Values.{part_of}
 use Rattle.norprog_words.specs.declared.given.GivenBuild.{GivenBuild}
@@ -19,7 +21,7 @@ use Rattle.norprog_words.specs.declared.given.Given.{Given}
 use Rattle.norprog_command.specs.declared.request.Request.{Request}
 use Rattle.norprog_command.specs.Asked.{chip_asked, family_asked}
 use Rattle.norprog_command.specs.Request.{AsksFor}
-use Rattle.norprog_command.specs.Served.{task_by, Job, job_with, AreGiven, IsJobOf, Serves, ServesBuild, ServesCheck, ServesPlan, ServesScript, ServesChip, Held, IsTaskAlone, IsChipTask, OfBuild, OfCheck, OfPlan, OfScript, OfChip}
+use Rattle.norprog_command.specs.Served.{task_by, Job, job_with, AreGiven, IsJobOf, text_files_of, input_files_of, input_files_asked, Serves, ServesBuild, ServesCheck, ServesPlan, ServesScript, ServesChip, Held, IsTaskAlone, IsChipTask, OfBuild, OfCheck, OfPlan, OfScript, OfChip}
 use Rattle.norprog_command.specs.Verdicts.{IsTextOfFile}
 
 -- there is something of an option where there is one
@@ -48,9 +50,21 @@ rebuilt_exactly request held hex layout regions chip h l r is = rw (h, l, r, is)
 -- the job of a request, of the task that its files' bytes make
 pub job_of : (files : FileFacts) (request : Request) (out : Option (List ℕ)) (t : Task) (content : Ahead) (len : ℕ) (begun : Option (Option (List ℕ)))
     (held : Held) → AreGiven files request held → t ≡ task_by request held → files.opened request.content.now content len
-    → WhereNamed files.made out begun → IsJobOf files request out (job_with t content len begun)
+    → WhereNamed (IsMadeApart files (input_files_of request)) out begun → IsJobOf files request out (job_with t content len begun)
 job_of files request out t content len begun held given is opened made =
     record { held = held; given = given; task = is; content = opened; made = made }
+
+-- an output that was made as none of the files that were noted: those that are read whole, and then the content's
+pub made_beside : (files : FileFacts) (request : Request) (path : List ℕ) (none noted places inputs : List Place) (place : Place) (held : Option (List ℕ)) → none ≡ []
+    → Notes files (text_files_of request) none noted → files.stood request.content.now place → places ≡ noted ++ place ∷ [] → inputs ≡ places
+    → files.made path inputs held → IsMadeApart files (input_files_of request) path held
+made_beside files request path none noted places inputs place held first texts stood pushed same made =
+    made_apart files (input_files_of request) path none places inputs held first
+    (more_noted files (text_files_of request) (request.content.now ∷ []) none noted places texts (one_noted files request.content.now place noted places stood pushed)) same made
+
+-- the files of a request are those that the texts name
+same_inputs : (given : Given) (request : Request) → AsksFor given request → input_files_of request ≡ input_files_asked given (origin_of request.chip)
+same_inputs given request asks = rw (asks.hex, asks.layout, asks.content) refl
 
 -- a job of a request that the texts ask for is one that they ask for
 pub serves : (files : FileFacts) (given : Given) (request : Request) (out named : Option (List ℕ)) → named ≡ out → AsksFor given request
@@ -74,7 +88,8 @@ serves files given request out named same asks j of = record {
   content = subst (λ name. Named (λ n. files.opened n j.content j.len) (option_map (λ t. t.now) name)) (sym asks.content) of.content;
   verify = ap (λ t. t.verify) of.task ∙ asks.verify;
   erased_only = ap (λ t. t.erased_only) of.task ∙ asks.erased_only;
-  made = subst (λ name. WhereNamed files.made name j.begun) (sym same) of.made;
+  made = subst (λ inputs. WhereNamed (IsMadeApart files inputs) named j.begun) (same_inputs given request asks)
+      (subst (λ name. WhereNamed (IsMadeApart files (input_files_of request)) name j.begun) (sym same) of.made);
 }
 
 -- the text of a script's file is that of the file of its name

@@ -1,11 +1,11 @@
 -- The job that a command line asks for (this project's). `files` is what is known of files by their names.
-use Rattle.std.specs.Prelude.{◌≡◌, ℕ, false, List, [], Option, None, Some, Result, option_map}
+use Rattle.std.specs.Prelude.{◌≡◌, ℕ, false, List, [], ◌++◌, Option, None, Some, Result, option_map, option_to_list}
 use Rattle.nor_base.specs.Device.{Ahead}
 use Rattle.nor_base.specs.declared.meaning.Part.{Part}
 use Rattle.nor_job.specs.Task.{Task}
 use Rattle.norprog_words.specs.declared.faults.Refusal.{Refusal}
 use Rattle.norprog_words.specs.Chip.{Origin, origin_of, task_chip}
-use Rattle.norprog_words.specs.Shelf.{FileFacts, AreTables, IsTextIn, Named, WhereNamed}
+use Rattle.norprog_words.specs.Shelf.{FileFacts, AreTables, IsMadeApart, IsTextIn, Named, WhereNamed, tables_file}
 use Rattle.norprog_words.specs.Told.{OfLine}
 use Rattle.norprog_words.specs.Values.{part_of, base_of, said_status}
 use Rattle.norprog_words.specs.declared.given.GivenBuild.{GivenBuild}
@@ -68,18 +68,36 @@ job_with t content len begun = record { task = t; content = content; len = len; 
 abbrev pub Is : Job → Job → Type 0
 Is one other = other ≡ one
 
+-- the names of the files that a job reads, in the order in which they are opened: image, layout and tables; behind them the content
+abbrev pub text_files : Option (List ℕ) → Option (List ℕ) → Origin → List (List ℕ)
+text_files hex layout origin = option_to_list hex ++ (option_to_list layout ++ tables_file origin)
+
+abbrev pub input_files : Option (List ℕ) → Option (List ℕ) → Origin → Option (List ℕ) → List (List ℕ)
+input_files hex layout origin content = text_files hex layout origin ++ option_to_list content
+
+-- those of a request, and those that the texts name
+abbrev pub text_files_of : Request → List (List ℕ)
+text_files_of request = text_files (Some request.hex.now) (option_map (λ t. t.now) request.layout) (origin_of request.chip)
+
+abbrev pub input_files_of : Request → List (List ℕ)
+input_files_of request = input_files (Some request.hex.now) (option_map (λ t. t.now) request.layout) (origin_of request.chip) (Some request.content.now)
+
+abbrev pub input_files_asked : Given → Origin → List (List ℕ)
+input_files_asked given origin =
+    input_files (option_map (λ t. t.now) given.hex) (option_map (λ t. t.now) given.layout) origin (option_map (λ t. t.now) given.content)
+
 -- the job of a request, whose output has this name: the files of its names gave what its task has, the content's file was opened,
--- and the output was made
+-- and the output was made, as none of them
 pub record IsJobOf (files : FileFacts) (request : Request) (out : Option (List ℕ)) (j : Job) : Type 0 where
   pub held : Held
   pub given : AreGiven files request held
   pub task : j.task ≡ task_by request held
   pub content : files.opened request.content.now j.content j.len
-  pub made : WhereNamed files.made out j.begun
+  pub made : WhereNamed (IsMadeApart files (input_files_of request)) out j.begun
 
 -- the job is the one that the texts ask for, and its output has this name: the image and the layout are what the files of their
 -- names gave, the chip is the one that the options name, by what its file gave, the content's file was opened, each value is the
--- one that its text spells, and the output was made
+-- one that its text spells, and the output was made, as none of the files that are read
 pub record Serves (files : FileFacts) (given : Given) (out : Option (List ℕ)) (j : Job) : Type 0 where
   pub hex : Named (λ name. files.gave name j.task.hex) (option_map (λ t. t.now) given.hex)
   pub layout : WhereNamed files.gave (option_map (λ t. t.now) given.layout) j.task.layout
@@ -97,7 +115,7 @@ pub record Serves (files : FileFacts) (given : Given) (out : Option (List ℕ)) 
   pub content : Named (λ name. files.opened name j.content j.len) (option_map (λ t. t.now) given.content)
   pub verify : j.task.verify ≡ given.verify
   pub erased_only : j.task.erased_only ≡ given.erased_only
-  pub made : WhereNamed files.made out j.begun
+  pub made : WhereNamed (IsMadeApart files (input_files_asked given origin)) out j.begun
 
 -- the script's file, or the picture's where there is one, is made
 abbrev pub ServesBuild : FileFacts → GivenBuild → Job → Type 0

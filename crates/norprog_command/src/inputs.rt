@@ -1,9 +1,9 @@
 //! From the files of a job to the library's inputs.
 
-ghost use Rattle.std.specs.Prelude.{◌≡◌, IfOk, IfErr, option_map};
+ghost use Rattle.std.specs.Prelude.{◌≡◌, [], ◌∷◌, IfOk, IfErr, option_map, option_to_list};
 ghost use Rattle.norprog_words.specs.Files.{IsOfFiles};
-ghost use Rattle.norprog_words.specs.Shelf.{WhereNamed};
-ghost use Rattle.norprog_command.specs.Served.{task_by, held_in, AreGiven};
+ghost use Rattle.norprog_words.specs.Shelf.{Notes, WhereNamed};
+ghost use Rattle.norprog_command.specs.Served.{task_by, held_in, text_files_of, AreGiven};
 
 use crate::request::Request;
 use norprog::Inputs;
@@ -27,6 +27,7 @@ pub(crate) fn read_texts<S: Shelf>(
     places: &mut Vec<Place>,
 ) -> Result<Texts, Refusal>
     ensures given { IfOk result (λ texts. AreGiven (S.facts shelf.now) request.now (held_in texts)) }
+    ensures noted { IfOk result (λ _. Notes (S.facts shelf.now) (text_files_of request.now) places.old.items places.new.items) }
     ensures refused { IfErr result IsOfFiles }
 {
     let hex = read_noted(alloc, shelf, request.hex, FileName::Hex, places)?;
@@ -44,6 +45,8 @@ fn read_layout<S: Shelf>(
 ) -> Result<Option<Vec<u8>>, Refusal>
     ensures gave { IfOk result (λ bytes. WhereNamed (S.facts shelf.now).gave (option_map (λ t. t.now) path.entry)
         (option_map (λ held. held.items) bytes)) }
+    ensures noted { IfOk result (λ _. Notes (S.facts shelf.now) (option_to_list (option_map (λ t. t.now) path.entry))
+        places.old.items places.new.items) }
     ensures refused { IfErr result IsOfFiles }
 {
     match path {
@@ -61,6 +64,7 @@ fn read_noted<S: Shelf>(
     places: &mut Vec<Place>,
 ) -> Result<Vec<u8>, Refusal>
     ensures gave { IfOk result (λ bytes. (S.facts shelf.now).gave path.now bytes.items) }
+    ensures noted { IfOk result (λ _. Notes (S.facts shelf.now) (path.now ∷ []) places.old.items places.new.items) }
     ensures refused { IfErr result IsOfFiles }
 {
     let (bytes, place) = shelf.read(alloc, path, name)?;

@@ -6,10 +6,10 @@ ghost use Rattle.nor_base.specs.Device.{Cuts};
 ghost use Rattle.nor_job.specs.declared.fault.BuildFault.TheVariants.{Write};
 ghost use Rattle.norprog_words.specs.declared.faults.Refusal.TheVariants.{Build};
 ghost use Rattle.norprog_words.specs.Files.{IsOfFiles};
-ghost use Rattle.norprog_words.specs.Shelf.{WhereNamed};
+ghost use Rattle.norprog_words.specs.Shelf.{IsMadeApart, WhereNamed};
 ghost use Rattle.norprog_words.specs.Told.{ForAsked, line_fault, Refuses};
 ghost use Rattle.norprog_command.specs.Plans.{asks_plan, asks_times, IsPart, IsWhole, StopsTask, PrintsPlan, CutsPlan, RefusesPlan, AnswersPlan};
-ghost use Rattle.norprog_command.specs.Served.{Job, IsJobOf, AreGiven, held_in, OfPlan};
+ghost use Rattle.norprog_command.specs.Served.{Job, IsJobOf, AreGiven, held_in, input_files_of, OfPlan};
 
 use crate::inputs::{Texts, inputs_of, read_texts};
 use crate::outline::{Outline, outline_of};
@@ -153,8 +153,8 @@ fn open_files<S: Shelf>(
     ensures given { IfOk result (λ files. AreGiven (S.facts shelf.now) request.now (held_in files.texts)) }
     ensures content { IfOk result (λ files. (S.facts shelf.now).opened request.now.content.now (S.Input.ahead files.content) files.len) }
     ensures count { IfOk result (λ files. S.Input.count files.content ≡ 0) }
-    ensures made { IfOk result (λ files. WhereNamed (S.facts shelf.now).made (option_map (λ t. t.now) map.entry)
-        (option_map S.Output.held files.map)) }
+    ensures made { IfOk result (λ files. WhereNamed (IsMadeApart (S.facts shelf.now) (input_files_of request.now))
+        (option_map (λ t. t.now) map.entry) (option_map S.Output.held files.map)) }
     ensures fresh { IfOk result (λ files. IfSome files.map (λ file. S.Output.count file ≡ 0)) }
     ensures refused { IfErr result IsOfFiles }
 {

@@ -1,7 +1,7 @@
 -- What is drawn for a request is what its texts ask for, and what is so of it is so of that.
-use Rattle.std.proofs.Common.{◌≡◌, option_map, refl, sym, subst, List, ℕ, Option, None, Result, Ok, Err, IfOk, IfErr, inr}
+use Rattle.std.proofs.Common.{◌≡◌, option_map, option_to_list, refl, sym, subst, List, [], ◌∷◌, ℕ, Option, None, Result, Ok, Err, IfOk, IfErr, inr}
 use Rattle.std.specs.Prelude.{⊤}
-use Rattle.norprog_words.specs.Shelf.{FileFacts, Named}
+use Rattle.norprog_words.specs.Shelf.{FileFacts, IsMadeApart, Named}
 use Rattle.norprog_words.specs.declared.faults.Refusal.{Refusal}
 use Rattle.norprog_words.specs.Told.{line_fault, Refuses}
 use Rattle.norprog_words.proofs.ToldLemmas.{asked_wider, refuses_wider, by_fault}
@@ -18,7 +18,8 @@ serves files given request asks t of = record {
   text = subst (λ s. Named (λ name. files.gave name t.text) (option_map (λ t. t.now) s)) (sym asks.script) of.text;
   from = rw of.from asks.from;
   count = rw of.count asks.count;
-  made = subst (λ s. Named (λ name. files.made name t.begun) (option_map (λ t. t.now) s)) (sym asks.out) of.made;
+  made = subst (λ s. Named (λ name. IsMadeApart files (option_to_list (option_map (λ t. t.now) given.script)) name t.begun) (option_map (λ t. t.now) s)) (sym asks.out)
+      (subst (λ s. IsMadeApart files (option_to_list (option_map (λ t. t.now) s)) request.out.now t.begun) (sym asks.script) of.made);
 }
 
 -- the same of the command line on which those texts stand
@@ -51,7 +52,7 @@ refusals_asked files line given request (Err why) is asks none of = rw none (ref
 
 -- a drawing whose file was flushed
 module _ (files : FileFacts) (request : DrawRequest) (text : List ℕ) (before after : Option (List ℕ)) (gave : files.gave request.script.now text)
-    (made : files.made request.out.now before) where
+    (made : IsMadeApart files (request.script.now ∷ []) request.out.now before) where
   abbrev task : DrawTask
   task = record { text = text; from = request.from; count = request.count; begun = before }
 

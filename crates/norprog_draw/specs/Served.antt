@@ -1,7 +1,7 @@
 -- The drawing that a command line of `draw` asks for (this project's). `files` is what is known of files by their names.
-use Rattle.std.specs.Prelude.{◌≡◌, ℕ, List, Option, Some, Result, option_map}
+use Rattle.std.specs.Prelude.{◌≡◌, ℕ, List, [], ◌∷◌, Option, Some, Result, option_map, option_to_list}
 use Rattle.norprog_words.specs.declared.faults.Refusal.{Refusal}
-use Rattle.norprog_words.specs.Shelf.{FileFacts, Named}
+use Rattle.norprog_words.specs.Shelf.{FileFacts, IsMadeApart, Named}
 use Rattle.norprog_words.specs.Told.{OfLine}
 use Rattle.norprog_words.specs.declared.given.GivenDraw.{GivenDraw}
 use Rattle.norprog_draw.specs.declared.request.DrawRequest.{DrawRequest}
@@ -14,19 +14,20 @@ pub record DrawTask : Type 0 where
   pub count : Option ℕ
   pub begun : Option (List ℕ)
 
--- those of a request: the text is what its file gave, and the output was made
+-- those of a request: the text is what its file gave, and the output was made, as another file
 pub record IsTaskOf (files : FileFacts) (request : DrawRequest) (t : DrawTask) : Type 0 where
   pub text : files.gave request.script.now t.text
   pub from : t.from ≡ request.from
   pub count : t.count ≡ request.count
-  pub made : files.made request.out.now t.begun
+  pub made : IsMadeApart files (request.script.now ∷ []) request.out.now t.begun
 
--- those that the texts ask for, each by the value that its text spells, each file by its name
+-- those that the texts ask for, each by the value that its text spells, each file by its name; the output was made as another file
+-- than the script's
 pub record Serves (files : FileFacts) (given : GivenDraw) (t : DrawTask) : Type 0 where
   pub text : Named (λ name. files.gave name t.text) (option_map (λ t. t.now) given.script)
   pub from : asked_from given ≡ Some t.from
   pub count : asked_count given ≡ Some t.count
-  pub made : Named (λ name. files.made name t.begun) (option_map (λ t. t.now) given.out)
+  pub made : Named (λ name. IsMadeApart files (option_to_list (option_map (λ t. t.now) given.script)) name t.begun) (option_map (λ t. t.now) given.out)
 
 -- of a command line: what it asks for, where it was read
 abbrev pub OfDraw : FileFacts → Result GivenDraw Refusal → DrawTask → Type 0

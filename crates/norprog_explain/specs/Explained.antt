@@ -1,5 +1,5 @@
 -- What is told of a text that the program prints (this project's).
-use Rattle.std.specs.Prelude.{◌≡◌, ℕ, Bool, nat_eq, List, [], ◌∷◌, ◌++◌, flat_map, map, Option, Some, None, option_map}
+use Rattle.std.specs.Prelude.{◌≡◌, ℕ, Bool, nat_eq, if◌then◌else◌, List, [], ◌∷◌, ◌++◌, flat_map, map, bytes_eq, codes, Option, Some, None, option_map}
 use Rattle.std.specs.Borrow.{Bor}
 use Rattle.std.specs.Io.KnownBytes.{Appends}
 use Rattle.std.specs.List.{find, starts_with}
@@ -37,9 +37,18 @@ abbrev pub listed : Topic → List ℕ
 listed topic = closed topic.0
 
 -- the paragraph of the first topic that the words asked begin with; without words the topics, one a line
+abbrev pub answered : List Topic → List (List ℕ) → Option (List ℕ)
+answered topics [] = Some (flat_map listed topics)
+answered topics (argument ∷ more) = option_map paragraph (find (is_about (in_a_row (argument ∷ more))) topics)
+
+-- arguments without the name in front of them that the line of a refusal begins with
+abbrev pub nameless : List (List ℕ) → List (List ℕ)
+nameless [] = []
+nameless (argument ∷ more) = if bytes_eq argument (codes "norprog:") then more else argument ∷ more
+
+-- what is told of the arguments of a command line
 abbrev pub explained : List Topic → List (List ℕ) → Option (List ℕ)
-explained topics [] = Some (flat_map listed topics)
-explained topics (argument ∷ more) = option_map paragraph (find (is_about (in_a_row (argument ∷ more))) topics)
+explained topics arguments = answered topics (nameless arguments)
 
 -- usage, where there is nothing to tell
 abbrev pub asked_fault : Option (List ℕ) → Option Refusal

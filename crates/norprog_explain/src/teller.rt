@@ -2,7 +2,7 @@
 
 ghost use Rattle.std.specs.Prelude.{◌≡◌, ◌<◌, ◌≤◌, ◌-◌, ◌^◌, flat_map, IfOk, IfErr};
 ghost use Rattle.nor_base.specs.Device.{Writes, Counts};
-ghost use Rattle.norprog_explain.specs.Explained.{explained, listed, told, in_order, Tells, CutsText, RefusesText, AnswersExplain};
+ghost use Rattle.norprog_explain.specs.Explained.{answered, explained, nameless, listed, told, in_order, Tells, CutsText, RefusesText, AnswersExplain};
 ghost use Rattle.norprog_explain.specs.Topics.{topics};
 
 use crate::matching::topic_of;
@@ -10,9 +10,13 @@ use crate::topics::{Topic, subjects};
 use nor_base::{ByteOut, Bytes, Failed, put_parts};
 use norprog_words::{Refusal, refuse};
 
+/// What the line of a refusal begins with.
+const NAME: &[u8] = b"norprog:";
+
 /// Writes to `out` what a text that the program prints means and what to do, a paragraph closed by LF: that of the first
 /// topic whose words the text begins with, word by word. Without words it writes the words of all topics, one a line. The text
-/// is the arguments in a row, cut at blanks. Where no topic is asked for, or `out` fails, the refusal is written to `err`.
+/// is the arguments in a row, cut at blanks; a first argument `norprog:`, with which the line of a refusal begins, is passed over.
+/// Where no topic is asked for, or `out` fails, the refusal is written to `err`.
 ///
 /// Answers the status: 0 done, 1 a write failed, 2 usage: there is no such topic.
 pub fn explain<O: ByteOut, E: ByteOut>(words: &[Bytes], out: &mut O, err: &mut E) -> u8
@@ -23,18 +27,28 @@ pub fn explain<O: ByteOut, E: ByteOut>(words: &[Bytes], out: &mut O, err: &mut E
     ensures answer { AnswersExplain (explained topics words.now) (O.held out.old) (O.held out.new) (err.new ≡ err.old)
         (E.count err.new ≡ E.count err.old) (E.held err.old) (E.held err.new) result }
 {
-    match tell(&subjects(), words, out) {
+    match tell(&subjects(), nameless(words), out) {
         Ok(()) => 0,
         Err(refusal) => refuse(&refusal, err),
+    }
+}
+
+/// Arguments without the name in front of them with which the line of a refusal begins.
+fn nameless(words: &[Bytes]) -> &[Bytes]
+    ensures { result.now ≡ nameless words.now }
+{
+    match words {
+        [first, more @ ..] if first.as_slice() == NAME => more,
+        _ => words,
     }
 }
 
 /// Tells what is asked for.
 fn tell<O: ByteOut>(subjects: &[&[Topic]], words: &[Bytes], out: &mut O) -> Result<(), Refusal>
     requires { O.count out.old < 2 ^ 64 - 1 }
-    ensures told { IfOk result (λ _. Tells (explained (in_order subjects.now) words.now) (O.held out.old) (O.held out.new)) }
-    ensures untold { IfErr result (λ _. CutsText (explained (in_order subjects.now) words.now) (O.held out.old) (O.held out.new)) }
-    ensures refused { IfErr result (RefusesText (explained (in_order subjects.now) words.now)) }
+    ensures told { IfOk result (λ _. Tells (answered (in_order subjects.now) words.now) (O.held out.old) (O.held out.new)) }
+    ensures untold { IfErr result (λ _. CutsText (answered (in_order subjects.now) words.now) (O.held out.old) (O.held out.new)) }
+    ensures refused { IfErr result (RefusesText (answered (in_order subjects.now) words.now)) }
 {
     if words.is_empty() {
         return list(subjects, out).map_err(|_| Refusal::WRITE);

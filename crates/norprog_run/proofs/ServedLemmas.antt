@@ -1,34 +1,41 @@
 -- The play that a request has is the one that its texts ask for.
-use Rattle.std.proofs.Common.{◌≡◌, Bor, ap, option_map, refl, sym, subst, inl, inr, List, [], ℕ, None, Some, Option, Result, Ok, Err, IfOk, IfErr}
+use Rattle.std.proofs.Common.{◌≡◌, Bor, option_map, refl, sym, subst, inl, inr, List, [], ◌∷◌, ◌++◌, ℕ, None, Some, Option, Result, Ok, Err, IfOk, IfErr}
 use Rattle.std.specs.Prelude.{⊤}
 use Rattle.nor_base.specs.Device.{Ahead}
 use Rattle.nor_job.specs.Task.{Task}
 use Rattle.nor_job.specs.declared.fault.BuildFault.TheVariants as fault
 use Rattle.nor_script.specs.Stream.{IsTextOf}
 use Rattle.norprog_words.specs.declared.faults.Refusal.{Refusal}
+use Rattle.norprog_words.specs.declared.files.Place.{Place}
 use Rattle.norprog_words.specs.declared.faults.Refusal.TheVariants.{Text, Usage, File, Build, Page, Script}
 use Rattle.norprog_words.specs.Chip.{origin_of}
 use Rattle.norprog_words.specs.Setup.{setup_task}
-use Rattle.norprog_words.specs.Shelf.{FileFacts, AreTables, GoesOut, IsTextIn, Named, WhereNamed}
+use Rattle.norprog_words.specs.Shelf.{FileFacts, AreTables, GoesOut, IsMadeApart, IsTextIn, Named, Notes, WhereNamed, tables_file}
+use Rattle.norprog_words.proofs.ShelfLemmas.{made_apart, more_noted, one_noted}
 use Rattle.norprog_words.specs.Told.{RefusesFor, line_fault}
 use Rattle.norprog_words.proofs.ToldLemmas.{asked_wider, by_fault, refuses_wider}
 use Rattle.norprog_run.specs.declared.request.Bench.{Bench}
 use Rattle.norprog_words.specs.declared.given.GivenRun.{GivenRun}
 use Rattle.norprog_run.specs.declared.request.RunRequest.{RunRequest}
 use Rattle.norprog_run.specs.declared.verdict.Verdict.{Verdict}
-use Rattle.norprog_run.specs.Answer.{WasPlayedSo, IsVerdictOf, IsPlayVerdict, IsStopOf, IsPlayFault, RefusesRun, RefusesLine}
+use Rattle.norprog_run.specs.Answer.{WasPlayedSo, IsPlayVerdict, IsStopOf, IsPlayFault, RefusesRun, RefusesLine}
 use Rattle.norprog_run.specs.Play.{WasPlayed}
 use Rattle.norprog_run.specs.Refusals.{RefusesPlay}
 use Rattle.norprog_run.specs.Request.{is_well_formed, AsksFor, RefusesGiven}
 use Rattle.norprog_run.specs.Streams.{PlaysStreams, RefusesStreams}
-use Rattle.norprog_run.specs.Served.{PlayTask, play_with, Is, IsTaskOf, Serves, ServesScript, OfRun, OfScript}
+use Rattle.norprog_run.specs.Served.{PlayTask, play_with, Is, IsTaskOf, input_files_of, input_files_asked, Serves, ServesScript, OfRun, OfScript}
+
+-- the files of a request are those that the texts name
+same_inputs : (given : GivenRun) (request : RunRequest) → AsksFor given request → input_files_of request ≡ input_files_asked given (origin_of request.setup.chip)
+same_inputs given request asks = rw (asks.beside.content, asks.beside.script) refl
 
 -- a play of a request that the texts ask for is one that they ask for, and so is its script
 serves : (files : FileFacts) (given : GivenRun) (request : RunRequest) → AsksFor given request → (t : PlayTask) → IsTaskOf files request t → Serves files given t
 serves files given request asks t of = record {
   chip = record { setup = request.setup; asks = asks.beside.setup; task = of.chip };
   content = subst (λ s. Named (λ name. files.opened name t.content t.len) (option_map (λ t. t.now) s)) (sym asks.beside.content) of.content;
-  made = subst (λ s. WhereNamed files.made (option_map (λ t. t.now) s) t.begun) asks.beside.out of.made;
+  made = subst (λ inputs. WhereNamed (IsMadeApart files inputs) (option_map (λ t. t.now) given.out) t.begun) (same_inputs given request asks)
+      (subst (λ s. WhereNamed (IsMadeApart files (input_files_of request)) (option_map (λ t. t.now) s) t.begun) asks.beside.out of.made);
   page = rw of.bench asks.beside.page;
   busy = rw of.bench asks.busy;
   keep = rw of.bench asks.beside.keep;
@@ -135,13 +142,21 @@ module _ (t : Task) (bench : Bench) (len : ℕ) (before after : Ahead) (held hel
 
 pub asked_of : (files : FileFacts) (request : RunRequest) (chip : Task) (bench : Bench) (tables : List ℕ) (content : Ahead) (len : ℕ) (begun : Option (Option (List ℕ)))
     → chip ≡ setup_task request.setup tables → bench ≡ request.bench → AreTables files (origin_of request.setup.chip) tables → files.opened request.content.now content len
-    → WhereNamed files.made (option_map (λ t. t.now) request.out) begun → IsTaskOf files request (play_with chip bench content len begun)
+    → WhereNamed (IsMadeApart files (input_files_of request)) (option_map (λ t. t.now) request.out) begun → IsTaskOf files request (play_with chip bench content len begun)
 asked_of files request chip bench tables content len begun is same gave opened made =
     record { chip = record { tables = tables; gave = gave; task = is }; bench = same; content = opened; made = made }
 
-pub made_named : (files : FileFacts) (out : Option (Bor (List ℕ))) (path : Bor (List ℕ)) (held : Option (List ℕ)) → out ≡ Some path → files.made path.now held
-    → WhereNamed files.made (option_map (λ t. t.now) out) (Some held)
-made_named files out path held is made = rw is made
+-- the output that is asked for was made as none of the files that were noted: the tables', the content's and the script's
+pub made_beside : (files : FileFacts) (request : RunRequest) (path : Bor (List ℕ)) (none tables noted places inputs : List Place) (content script : Place)
+    (held : Option (List ℕ)) → request.out ≡ Some path → none ≡ [] → Notes files (tables_file (origin_of request.setup.chip)) none tables
+    → files.stood request.content.now content → noted ≡ tables ++ content ∷ [] → files.stood request.script.now script → places ≡ noted ++ script ∷ []
+    → inputs ≡ places → files.made path.now inputs held → WhereNamed (IsMadeApart files (input_files_of request)) (option_map (λ t. t.now) request.out) (Some held)
+made_beside files request path none tables noted places inputs content script held asked first of_chip of_content pushed of_script last same made =
+    let chip = tables_file (origin_of request.setup.chip) in
+    let two = more_noted files chip (request.content.now ∷ []) none tables noted of_chip (one_noted files request.content.now content tables noted of_content pushed) in
+    let all = more_noted files (chip ++ request.content.now ∷ []) (request.script.now ∷ []) none noted places two
+    (one_noted files request.script.now script noted places of_script last) in
+    rw asked (made_apart files (input_files_of request) path.now none places inputs held first all same made)
 
 module _ (Asked : PlayTask → Type 0) (P Q : List ℕ → Type 0) (chip : Task) (bench : Bench) (content : Ahead) (len : ℕ) (begun : Option (Option (List ℕ)))
     (asked : Asked (play_with chip bench content len begun)) (texts : (text : List ℕ) → P text → Q text) (before after : Option (List ℕ)) where

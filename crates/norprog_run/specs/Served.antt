@@ -1,10 +1,11 @@
 -- The play that a command line of `run` asks for (this project's). `files` is what is known of files by their names.
-use Rattle.std.specs.Prelude.{◌≡◌, ℕ, List, Option, Some, Result, option_map}
+use Rattle.std.specs.Prelude.{◌≡◌, ℕ, List, ◌++◌, Option, Some, Result, option_map, option_to_list}
 use Rattle.nor_base.specs.Device.{Ahead}
 use Rattle.nor_job.specs.Task.{Task}
 use Rattle.norprog_words.specs.declared.faults.Refusal.{Refusal}
+use Rattle.norprog_words.specs.Chip.{Origin, origin_of}
 use Rattle.norprog_words.specs.Setup.{IsSetupTask, ServesSetup}
-use Rattle.norprog_words.specs.Shelf.{FileFacts, IsTextIn, Named, WhereNamed}
+use Rattle.norprog_words.specs.Shelf.{FileFacts, IsMadeApart, IsTextIn, Named, WhereNamed, tables_file}
 use Rattle.norprog_words.specs.Told.{OfLine}
 use Rattle.norprog_words.specs.Values.{limit_of}
 use Rattle.norprog_run.specs.declared.request.Bench.{Bench}
@@ -29,18 +30,31 @@ play_with chip bench content len begun = record { chip = chip; bench = bench; co
 abbrev pub Is : PlayTask → PlayTask → Type 0
 Is one other = other ≡ one
 
--- the play of a request: its tables are what their file gave, the content's file was opened, and the output was made
+-- the names of the files that a play reads, in the order in which they are opened: tables, content and script; those of a request,
+-- and those that the texts name
+abbrev pub input_files : Origin → Option (List ℕ) → Option (List ℕ) → List (List ℕ)
+input_files origin content script = (tables_file origin ++ option_to_list content) ++ option_to_list script
+
+abbrev pub input_files_of : RunRequest → List (List ℕ)
+input_files_of request = input_files (origin_of request.setup.chip) (Some request.content.now) (Some request.script.now)
+
+abbrev pub input_files_asked : GivenRun → Origin → List (List ℕ)
+input_files_asked given origin = input_files origin (option_map (λ t. t.now) given.content) (option_map (λ t. t.now) given.script)
+
+-- the play of a request: its tables are what their file gave, the content's file was opened, and the output was made, as none of
+-- the files that are read
 pub record IsTaskOf (files : FileFacts) (request : RunRequest) (t : PlayTask) : Type 0 where
   pub chip : IsSetupTask files request.setup t.chip
   pub bench : t.bench ≡ request.bench
   pub content : files.opened request.content.now t.content t.len
-  pub made : WhereNamed files.made (option_map (λ t. t.now) request.out) t.begun
+  pub made : WhereNamed (IsMadeApart files (input_files_of request)) (option_map (λ t. t.now) request.out) t.begun
 
--- the play is the one that the texts ask for, each value by the one that its text spells, each file by its name
+-- the play is the one that the texts ask for, each value by the one that its text spells, each file by its name; the output was made
+-- as none of the files that are read
 pub record Serves (files : FileFacts) (given : GivenRun) (t : PlayTask) : Type 0 where
   pub chip : ServesSetup files given.setup t.chip
   pub content : Named (λ name. files.opened name t.content t.len) (option_map (λ t. t.now) given.content)
-  pub made : WhereNamed files.made (option_map (λ t. t.now) given.out) t.begun
+  pub made : WhereNamed (IsMadeApart files (input_files_asked given (origin_of chip.setup.chip))) (option_map (λ t. t.now) given.out) t.begun
   pub page : said_page (option_map (λ t. t.now) given.page) ≡ Some t.bench.page
   pub busy : asked_busy given ≡ Some t.bench.busy.items
   pub keep : t.bench.keep ≡ given.keep

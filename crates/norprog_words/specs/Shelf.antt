@@ -1,28 +1,55 @@
 -- Which file gave what, and took what (this project's).
-use Rattle.std.specs.Prelude.{◌≡◌, ◌⊎◌, ⊤, ℕ, List, Option, Some, None}
+use Rattle.std.specs.Prelude.{◌≡◌, ◌⊎◌, ⊤, ℕ, List, [], ◌∷◌, ◌++◌, Option, Some, None}
 use Rattle.nor_base.specs.Device.{Ahead}
 use Rattle.nor_script.specs.Stream.{IsTextOf}
 use Rattle.norprog_words.specs.Chip.{Origin, Sfdp, Uniform}
+use Rattle.norprog_words.specs.declared.files.Place.{Place}
 use Rattle.norprog_words.specs.declared.files.ScriptFile.{ScriptFile}
 use Rattle.norprog_words.specs.declared.files.ScriptFile.TheVariants.{Twice, Held}
 
 -- what is known of files, each by its name. `gave`: the file gave these bytes, read whole. `opened`: it was opened, this is ahead
--- of its reader, and this is its length in bytes. `made`: it was made, or emptied, and held this then. `flushed`: some file that
--- was made had taken this, and all of it has gone out
+-- of its reader, and this is its length in bytes. `stood`: it was opened, and stood at this place. `made`: it was made, or emptied,
+-- at none of these places, and held this then. `flushed`: some file that was made had taken this, and all of it has gone out
 pub record FileFacts : Type 1 where
   pub gave : List ℕ → List ℕ → Type 0
   pub opened : List ℕ → Ahead → ℕ → Type 0
-  pub made : List ℕ → Option (List ℕ) → Type 0
+  pub stood : List ℕ → Place → Type 0
+  pub made : List ℕ → List Place → Option (List ℕ) → Type 0
   pub flushed : Option (List ℕ) → Type 0
 
 -- of the system's files nothing is known
 abbrev pub nothing_known : FileFacts
-nothing_known = record { gave = λ name bytes. ⊤; opened = λ name ahead len. ⊤; made = λ name held. ⊤; flushed = λ held. ⊤ }
+nothing_known = record {
+  gave = λ name bytes. ⊤;
+  opened = λ name ahead len. ⊤;
+  stood = λ name place. ⊤;
+  made = λ name places held. ⊤;
+  flushed = λ held. ⊤;
+}
 
 -- the tables of a chip are what the file of its name gave; a chip of a size has no file
 abbrev pub AreTables : FileFacts → Origin → List ℕ → Type 0
 AreTables files (Sfdp name bits) tables = files.gave name tables
 AreTables files (Uniform size) tables = ⊤
+
+-- the file of the tables of a chip, which one of a size has none of
+abbrev pub tables_file : Origin → List (List ℕ)
+tables_file (Sfdp name bits) = name ∷ []
+tables_file (Uniform size) = []
+
+-- the files of these names stood at these places, one at each
+abbrev pub StoodAt : FileFacts → List (List ℕ) → List Place → Type 0
+StoodAt files [] [] = ⊤
+StoodAt files (name ∷ names) (place ∷ places) = files.stood name place × StoodAt files names places
+StoodAt files names places = ⊥
+
+-- the places of the files of these names are noted behind those that were
+abbrev pub Notes : FileFacts → List (List ℕ) → List Place → List Place → Type 0
+Notes files names before after = (places : List Place) × StoodAt files names places × (after ≡ before ++ places)
+
+-- the output of this name was made as none of the files of those names, and held this then
+abbrev pub IsMadeApart : FileFacts → List (List ℕ) → List ℕ → Option (List ℕ) → Type 0
+IsMadeApart files inputs name held = (places : List Place) × StoodAt files inputs places × files.made name places held
 
 -- a file is named, and it has this
 abbrev pub Named : (List ℕ → Type 0) → Option (List ℕ) → Type 0

@@ -1,5 +1,5 @@
 -- The numbers by which it is told how a chip goes wrong (this project's).
-use Rattle.std.specs.Prelude.{ℕ, ◌++◌}
+use Rattle.std.specs.Prelude.{ℕ}
 use Rattle.nor_base.specs.declared.wrong.Wrong.{Wrong}
 use Rattle.nor_base.specs.declared.wrong.Wrong.TheVariants as wrong
 

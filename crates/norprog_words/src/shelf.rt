@@ -5,7 +5,7 @@ ghost use Rattle.std.specs.Io.KnownBytes.{Keeps};
 ghost use Rattle.norprog_words.specs.Chip.{origin_of};
 ghost use Rattle.norprog_words.specs.declared.faults.FileName.TheVariants.{Device, Script, Sfdp};
 ghost use Rattle.norprog_words.specs.Files.{RefusesFile, IsOfFiles};
-ghost use Rattle.norprog_words.specs.Shelf.{AreTables, FileFacts, IsOfScript, DoNotFail};
+ghost use Rattle.norprog_words.specs.Shelf.{AreTables, FileFacts, IsOfScript, DoNotFail, Notes, tables_file};
 
 use crate::chip::Chip;
 use crate::faults::{FileName, Refusal};
@@ -37,6 +37,7 @@ pub trait Shelf {
     /// is refused.
     fn read(&self, alloc: Global, path: &str, name: FileName) -> Result<(Vec<u8>, Place), Refusal>
         ensures gave { IfOk result (λ read. (facts self.now).gave path.now read.0.items) }
+        ensures stood { IfOk result (λ read. (facts self.now).stood path.now read.1) }
         ensures length { IfOk result (λ read. length read.0.items ≤ 2 ^ 36) }
         ensures refused { IfErr result (RefusesFile name) }
         ensures files { IfErr result IsOfFiles };
@@ -47,6 +48,7 @@ pub trait Shelf {
     /// that.
     fn open(&self, path: &str, name: FileName) -> Result<(Self::Input, Place, u64), Refusal>
         ensures opened { IfOk result (λ file. (facts self.now).opened path.now (Self.Input.ahead file.0) file.2) }
+        ensures stood { IfOk result (λ file. (facts self.now).stood path.now file.1) }
         ensures count { IfOk result (λ file. Self.Input.count file.0 ≡ 0) }
         ensures refused { IfErr result (RefusesFile name) }
         ensures files { IfErr result IsOfFiles };
@@ -62,6 +64,7 @@ pub trait Shelf {
         path: &str,
     ) -> Result<(ScriptFile<Self::Input>, Place), Refusal>
         ensures script { IfOk result (λ script. IsOfScript (facts self.now) path.now Self.Input.ahead script.0) }
+        ensures stood { IfOk result (λ script. (facts self.now).stood path.now script.1) }
         ensures count { IfOk result (λ script. DoNotFail Self.Input.count script.0) }
         ensures refused { IfErr result (RefusesFile Script) }
         ensures files { IfErr result IsOfFiles };
@@ -77,7 +80,7 @@ pub trait Shelf {
         name: FileName,
         inputs: &[Place],
     ) -> Result<Self::Output, Refusal>
-        ensures made { IfOk result (λ file. (facts self.now).made path.now (Self.Output.held file)) }
+        ensures made { IfOk result (λ file. (facts self.now).made path.now inputs.now (Self.Output.held file)) }
         ensures count { IfOk result (λ file. Self.Output.count file ≡ 0) }
         ensures refused { IfErr result (RefusesFile name) }
         ensures files { IfErr result IsOfFiles };
@@ -117,6 +120,7 @@ pub fn noted_tables<S: Shelf>(
     places: &mut Vec<Place>,
 ) -> Result<Vec<u8>, Refusal>
     ensures tables { IfOk result (λ tables. AreTables (S.facts shelf.now) (origin_of chip.entry) tables.items) }
+    ensures noted { IfOk result (λ _. Notes (S.facts shelf.now) (tables_file (origin_of chip.entry)) places.old.items places.new.items) }
     ensures refused { IfErr result (RefusesFile Sfdp) }
     ensures files { IfErr result IsOfFiles }
 {

@@ -1,10 +1,7 @@
 -- The chip and the lines are those of the plan.
-use Rattle.std.proofs.Common.{rules, ◌≡◌, ◌∙◌, sym, subst, Ok, IfOk, List}
-use Rattle.nor_base.specs.Parameters.{Parameters}
-use Rattle.nor_job.specs.Chip.{chip_says}
+use Rattle.std.proofs.Common.{rules, ◌≡◌, ◌∙◌, sym, subst, IfOk}
 use Rattle.nor_job.specs.Status.{start_of}
 use Rattle.nor_job.specs.Wanted.{wanted}
-use Rattle.nor_plan_read.specs.declared.line.PlanLine.{PlanLine}
 use Rattle.norprog_command.specs.Plans.{PutsMap, read_lines}
 use Rattle.norprog_command.proofs.drawing.draw.Goals as goal
 

@@ -1,5 +1,5 @@
 -- What is chosen is what the layout and the names choose.
-use Rattle.std.proofs.Common.{rules, ◌≡◌, ◌∙◌, refl, ap, subst, Bool, None, Some, [], List, ℕ}
+use Rattle.std.proofs.Common.{rules, ◌≡◌, ◌∙◌, ap, subst, None, Some, [], ℕ}
 use Rattle.nor_job.specs.Causes.{LayoutSays}
 use Rattle.nor_job.proofs.LayoutLemmas.{all_without_a_layout}
 use Rattle.nor_layout.specs.Chosen.{has, is_chosen}

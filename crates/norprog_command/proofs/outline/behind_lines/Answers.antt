@@ -1,5 +1,5 @@
 -- The times stand behind the report.
-use Rattle.std.proofs.Common.{rules, ◌≡◌, ◌∙◌, ap, true, ◌++◌, List, ℕ}
+use Rattle.std.proofs.Common.{rules, ◌≡◌, ◌∙◌, ap, true, ◌++◌}
 use Rattle.norprog.specs.Report.{report_text}
 use Rattle.norprog_command.specs.Plans.{times_lines, read_lines}
 use Rattle.norprog_command.proofs.outline.behind_lines.Goals as goal

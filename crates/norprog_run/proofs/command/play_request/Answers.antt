@@ -6,7 +6,7 @@ use Rattle.norprog_words.proofs.ShelfLemmas.{text_in}
 use Rattle.nor_base.proofs.FaultLaws.{handed_on}
 use Rattle.norprog_run.specs.Answer.{RefusesRun}
 use Rattle.norprog_run.specs.Served.{IsTaskOf}
-use Rattle.norprog_run.proofs.ServedLemmas.{asked_of, made_named, one_played, all_played, one_refused, all_refused}
+use Rattle.norprog_run.proofs.ServedLemmas.{asked_of, made_beside, one_played, all_played, one_refused, all_refused}
 use Rattle.norprog_run.proofs.command.play_request.Goals as goal
 
 pub returns-in-None-clause-played : goal.returns-in-None-clause-played
@@ -34,7 +34,8 @@ returns-in_err-verdict-clause-refused g c =
     let request = c.args.request in
     let tables = subst (AreTables files (origin_of request.setup.chip)) (sym c.as_slice.ensures.value) c.in_ok-sfdp.ensures.tables in
     let asked = asked_of files request c.setup_inputs-inputs.result request.bench _ _ c.in_ok-content.len _ c.setup_inputs-inputs.ensures refl tables
-    c.in_ok-content.ensures.opened (made_named files request.out c.in-Some.path _ c.in-Some.is c.in_ok-file.ensures.made) in
+    c.in_ok-content.ensures.opened (made_beside files request c.in-Some.path _ _ _ _ _ _ _ _ c.in-Some.is c.new-places.ensures.items c.in_ok-sfdp.ensures.noted
+    c.in_ok-content.ensures.stood c.in_ok-push.ensures.items c.in_ok-script.ensures.stood c.in_ok-push-2.ensures.items c.as_slice-2.ensures.value c.in_ok-file.ensures.made) in
     handed_on (RefusesRun (IsTaskOf files request) (IsTextIn files request.script.now)) _ _ c.from_residual-in_err-verdict.ensures.1
     (one_refused (IsTaskOf files request) (IsTextIn files request.script.now) _ asked _ (c.in_err-verdict.ensures.refused _))
 
@@ -44,7 +45,8 @@ returns-in-Ok-clause-played g c =
     let request = c.args.request in
     let tables = subst (AreTables files (origin_of request.setup.chip)) (sym c.as_slice.ensures.value) c.in_ok-sfdp.ensures.tables in
     let asked = asked_of files request c.setup_inputs-inputs.result request.bench _ _ c.in_ok-content.len _ c.setup_inputs-inputs.ensures refl tables
-    c.in_ok-content.ensures.opened (made_named files request.out c.in-Some.path _ c.in-Some.is c.in_ok-file.ensures.made) in
+    c.in_ok-content.ensures.opened (made_beside files request c.in-Some.path _ _ _ _ _ _ _ _ c.in-Some.is c.new-places.ensures.items c.in_ok-sfdp.ensures.noted
+    c.in_ok-content.ensures.stood c.in_ok-push.ensures.items c.in_ok-script.ensures.stood c.in_ok-push-2.ensures.items c.as_slice-2.ensures.value c.in_ok-file.ensures.made) in
     one_played (IsTaskOf files request) _ (IsTextIn files request.script.now) _ _ _ _ _ asked
     (λ text of. text_in files request.script.now _ c.in_ok-script.script text c.in_ok-script.ensures.script of) _ _ files.flushed c.in_ok-verdict.verdict (refl, c.in-Ok.ensures.flushed) c.in_ok-verdict.ensures.played
 
@@ -54,7 +56,8 @@ returns-clause-refused g c =
     let request = c.args.request in
     let tables = subst (AreTables files (origin_of request.setup.chip)) (sym c.as_slice.ensures.value) c.in_ok-sfdp.ensures.tables in
     let asked = asked_of files request c.setup_inputs-inputs.result request.bench _ _ c.in_ok-content.len _ c.setup_inputs-inputs.ensures refl tables
-    c.in_ok-content.ensures.opened (made_named files request.out c.in-Some.path _ c.in-Some.is c.in_ok-file.ensures.made) in
+    c.in_ok-content.ensures.opened (made_beside files request c.in-Some.path _ _ _ _ _ _ _ _ c.in-Some.is c.new-places.ensures.items c.in_ok-sfdp.ensures.noted
+    c.in_ok-content.ensures.stood c.in_ok-push.ensures.items c.in_ok-script.ensures.stood c.in_ok-push-2.ensures.items c.as_slice-2.ensures.value c.in_ok-file.ensures.made) in
     inr (
       c.in_ok-verdict.verdict,
       one_played (IsTaskOf files request) _ (IsTextIn files request.script.now) _ _ _ _ _ asked
