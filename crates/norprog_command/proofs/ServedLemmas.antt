@@ -1,15 +1,13 @@
 -- Which job a request has, and that it is the one that its texts ask for.
-use Rattle.std.proofs.Common.{◌≡◌, ◌∙◌, ap, refl, sym, subst, inl, inr, is_some, option_map, Option, Some, None, Result, Ok, List, [], ◌∷◌, ◌++◌, ℕ}
+use Rattle.std.proofs.Common.{◌≡◌, ◌∙◌, ap, refl, sym, subst, is_some, option_map, Option, Some, None, Result, Ok, List, [], ◌∷◌, ◌++◌, ℕ}
 use Rattle.nor_base.specs.Device.{Ahead}
 use Rattle.nor_base.specs.declared.meaning.Part.{Part}
 use Rattle.nor_job.specs.Task.{Task}
 use Rattle.nor_job.specs.Task as job
 use Rattle.norprog_words.specs.declared.faults.Refusal.{Refusal}
 use Rattle.norprog_words.specs.declared.files.Place.{Place}
-use Rattle.norprog_words.specs.declared.files.ScriptFile.{ScriptFile}
-use Rattle.norprog_words.specs.declared.files.ScriptFile.TheVariants.{Twice, Held as whole}
 use Rattle.norprog_words.specs.Chip.{Origin, origin_of, task_chip}
-use Rattle.norprog_words.specs.Shelf.{FileFacts, AreTables, IsMadeApart, IsOfScript, IsTextIn, Named, Notes, WhereNamed}
+use Rattle.norprog_words.specs.Shelf.{FileFacts, AreTables, IsMadeApart, IsTextIn, Named, Notes, WhereNamed}
 use Rattle.norprog_words.proofs.ShelfLemmas.{made_apart, more_noted, one_noted}
 use Rattle.norprog_words.specs.Told.{OfLine}
 use Rattle.norprog_words.specs.Values.{part_of}
@@ -22,7 +20,6 @@ use Rattle.norprog_command.specs.declared.request.Request.{Request}
 use Rattle.norprog_command.specs.Asked.{chip_asked, family_asked}
 use Rattle.norprog_command.specs.Request.{AsksFor}
 use Rattle.norprog_command.specs.Served.{task_by, Job, job_with, AreGiven, IsJobOf, text_files_of, input_files_of, input_files_asked, Serves, ServesBuild, ServesCheck, ServesPlan, ServesScript, ServesChip, Held, IsTaskAlone, IsChipTask, OfBuild, OfCheck, OfPlan, OfScript, OfChip}
-use Rattle.norprog_command.specs.Verdicts.{IsTextOfFile}
 
 -- there is something of an option where there is one
 pub same_some : {A B : Type 0} (f : A → B) (o : Option A) → is_some (option_map f o) ≡ is_some o
@@ -91,12 +88,6 @@ serves files given request out named same asks j of = record {
   made = subst (λ inputs. WhereNamed (IsMadeApart files inputs) named j.begun) (same_inputs given request asks)
       (subst (λ name. WhereNamed (IsMadeApart files (input_files_of request)) name j.begun) (sym same) of.made);
 }
-
--- the text of a script's file is that of the file of its name
-pub text_in : {F : Type 0} (files : FileFacts) (name : List ℕ) (ahead : F → Ahead) (script : ScriptFile F) → IsOfScript files name ahead script
-    → (text : List ℕ) → IsTextOfFile ahead script text → IsTextIn files name text
-text_in files name ahead (Twice first again) of text is = inr (ahead again, is.0, of.1, is.1)
-text_in files name ahead (whole held) of text is = inl (subst (files.gave name) (sym is) of)
 
 pub chip_task : (files : FileFacts) (origin : Origin) (part : Part) (tables : List ℕ) → AreTables files origin tables
     → (t : Task) → IsTaskAlone origin part tables t → IsChipTask files origin part t

@@ -4,7 +4,6 @@ use Rattle.std.specs.Io.KnownBytes.{Appends}
 use Rattle.nor_base.specs.Device.{Ahead, Cuts}
 use Rattle.nor_check.specs.declared.verdict.Verdict.{Verdict}
 use Rattle.nor_check.specs.declared.verdict.Verdict.TheVariants.{Yes, No}
-use Rattle.nor_script.specs.Stream.{IsTextOf}
 use Rattle.norprog_check.specs.declared.fault.CheckStop.{CheckStop}
 use Rattle.norprog_check.specs.declared.fault.CheckStop.TheVariants as stop
 use Rattle.norprog_check.specs.declared.fault.StreamStop.{StreamStop}
@@ -16,8 +15,6 @@ use Rattle.norprog_words.specs.declared.faults.FileName.TheVariants as file
 use Rattle.norprog_words.specs.declared.faults.Refusal.TheVariants.{File, Build, Script}
 use Rattle.norprog_words.specs.Lines.{script_refusal}
 use Rattle.norprog_words.specs.declared.given.GivenCheck.{GivenCheck}
-use Rattle.norprog_words.specs.declared.files.ScriptFile.{ScriptFile}
-use Rattle.norprog_words.specs.declared.files.ScriptFile.TheVariants.{Twice, Held}
 use Rattle.norprog_words.specs.Shelf.{FileFacts}
 use Rattle.norprog_words.specs.Told.{ForAsked, RefusesFor, line_fault, Refuses, Answers}
 use Rattle.norprog_command.specs.Asked.{asks_check}
@@ -27,11 +24,6 @@ use Rattle.norprog_command.specs.Served.{Job, OfCheck, OfScript}
 abbrev pub verdict_status : Verdict → ℕ
 verdict_status Yes = 0
 verdict_status (No step why) = 1
-
--- the text that a script's file holds, or that its second reader had ahead
-abbrev pub IsTextOfFile : {F : Type 0} → (F → Ahead) → ScriptFile F → List ℕ → Type 0
-IsTextOfFile ahead (Twice first again) text = (rest : Ahead) × IsTextOf (ahead again) rest text
-IsTextOfFile ahead (Held held) text = text ≡ held.items
 
 -- a text that is so was checked for the job, and this is the verdict
 pub record IsVerdictOf (IsText : List ℕ → Type 0) (verdict : Verdict) (j : Job) : Type 0 where

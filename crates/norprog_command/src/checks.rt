@@ -3,11 +3,11 @@
 ghost use Rattle.std.specs.Prelude.{◌≡◌, ◌<◌, ◌≤◌, ◌-◌, ◌^◌, None, IfOk, IfErr};
 ghost use Rattle.std.specs.Io.KnownBytes.{Appends};
 ghost use Rattle.norprog_check.specs.Line.{verdict_text};
-ghost use Rattle.norprog_words.specs.Shelf.{DoNotFail, IsTextIn};
+ghost use Rattle.norprog_words.specs.Shelf.{DoNotFail, IsTextIn, IsTextOfFile};
 ghost use Rattle.norprog_words.specs.Told.{line_fault, Refuses};
 ghost use Rattle.norprog_command.specs.Asked.{asks_check};
 ghost use Rattle.norprog_command.specs.Served.{job_with, Is, IsJobOf, OfCheck, OfScript};
-ghost use Rattle.norprog_command.specs.Verdicts.{verdict_status, stop_refusal, stream_refusal, IsCheckVerdict, IsTextOfFile, RefusesCheck, CutsVerdict, AnswersCheck};
+ghost use Rattle.norprog_command.specs.Verdicts.{verdict_status, stop_refusal, stream_refusal, IsCheckVerdict, RefusesCheck, CutsVerdict, AnswersCheck};
 
 use crate::inputs::{inputs_of, read_texts};
 use crate::request::{Request, request_of};

@@ -1,7 +1,7 @@
 -- The stop, of one reading or of two, is that of the job.
 use Rattle.std.proofs.Common.{None}
+use Rattle.norprog_words.specs.Shelf.{IsTextOfFile}
 use Rattle.norprog_command.specs.Served.{job_with}
-use Rattle.norprog_command.specs.Verdicts.{IsTextOfFile}
 use Rattle.norprog_command.proofs.AskedLemmas.{refusal_of_check, refusal_of_streams}
 use Rattle.norprog_command.proofs.checks.check_file.Goals as goal
 

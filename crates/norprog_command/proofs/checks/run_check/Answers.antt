@@ -1,9 +1,10 @@
 -- The verdict, or the stop, is that of the request's job and script.
 use Rattle.std.proofs.Common.{None}
 use Rattle.norprog_words.specs.Shelf.{IsTextIn}
+use Rattle.norprog_words.proofs.ShelfLemmas.{text_in}
 use Rattle.norprog_command.specs.Served.{IsJobOf, held_in}
 use Rattle.norprog_command.proofs.AskedLemmas.{of_one, verdicts_wider, refusals_wider}
-use Rattle.norprog_command.proofs.ServedLemmas.{job_of, text_in}
+use Rattle.norprog_command.proofs.ServedLemmas.{job_of}
 use Rattle.norprog_command.proofs.checks.run_check.Goals as goal
 
 pub returns-clause-checked : goal.returns-clause-checked
@@ -12,7 +13,7 @@ returns-clause-checked g c =
     let asked = job_of files c.args.request.now None c.inputs_of-inputs.result _ _ None (held_in c.in_ok-texts.texts)
     c.in_ok-texts.ensures.given c.inputs_of-inputs.ensures c.in_ok-content.ensures.opened tt in
     verdicts_wider _ (IsJobOf files c.args.request.now None) _ (IsTextIn files c.args.path.now) (of_one (IsJobOf files c.args.request.now None) _ asked)
-    (text_in files c.args.path.now g.S.Input.ByteIn.ahead _ c.in_ok-script.ensures.script) c.check_file.result c.check_file.ensures.checked
+    (λ text of. text_in files c.args.path.now g.S.Input.ByteIn.ahead c.in_ok-script.script text c.in_ok-script.ensures.script of) c.check_file.result c.check_file.ensures.checked
 
 pub returns-clause-refused : goal.returns-clause-refused
 returns-clause-refused g c =
@@ -20,4 +21,4 @@ returns-clause-refused g c =
     let asked = job_of files c.args.request.now None c.inputs_of-inputs.result _ _ None (held_in c.in_ok-texts.texts)
     c.in_ok-texts.ensures.given c.inputs_of-inputs.ensures c.in_ok-content.ensures.opened tt in
     refusals_wider _ (IsJobOf files c.args.request.now None) _ (IsTextIn files c.args.path.now) (of_one (IsJobOf files c.args.request.now None) _ asked)
-    (text_in files c.args.path.now g.S.Input.ByteIn.ahead _ c.in_ok-script.ensures.script) c.check_file.result c.check_file.ensures.refused
+    (λ text of. text_in files c.args.path.now g.S.Input.ByteIn.ahead c.in_ok-script.script text c.in_ok-script.ensures.script of) c.check_file.result c.check_file.ensures.refused
