@@ -6,4 +6,5 @@ pub mod SampledLaws
 pub mod RegionLaws
 pub mod ArrayLaws
 pub mod FaultLaws
+pub mod ListLaws
 pub mod StretchLaws

@@ -1,5 +1,5 @@
 -- Instructions as they are planned, and the steps that spell them (this project's).
-use Rattle.std.specs.Prelude.{◌≡◌, ℕ, Bool, true, false, List, [], ◌∷◌, length, Some}
+use Rattle.std.specs.Prelude.{◌≡◌, ℕ, Bool, true, false, List, [], ◌∷◌, length, Option, None, Some}
 use Rattle.nor_base.specs.declared.instruction.What.{What}
 use Rattle.nor_base.specs.declared.instruction.What.TheVariants as what
 use Rattle.nor_base.specs.declared.step.Step.{Step}
@@ -75,6 +75,11 @@ abbrev pub mode_after : What → Bool → Bool
 mode_after what.Enter mode4 = true
 mode_after what.Leave mode4 = false
 mode_after other mode4 = mode4
+
+-- and after what a chip sees in some clocks
+abbrev pub mode_by : Bool → Option Instruction → Bool
+mode_by mode4 None = mode4
+mode_by mode4 (Some i) = mode_after i.what mode4
 
 -- the steps are those of the instructions, one by one, from an address mode on
 abbrev pub AreStepsOf : Parameters → Bool → List Instr → List Step → Type 0

@@ -21,6 +21,12 @@ is_step (Send clocks) = are_clocks clocks
 is_step (Poll clocks) = are_clocks clocks
 is_step (Verify clocks expect) = are_clocks clocks && is_filled expect
 
+-- the clocks of a step
+abbrev pub step_clocks : Step → List ℕ
+step_clocks (Send clocks) = clocks
+step_clocks (Poll clocks) = clocks
+step_clocks (Verify clocks expect) = clocks
+
 -- the bytes that a step expects
 abbrev pub expected : Step → List ℕ
 expected (Send clocks) = []

@@ -3,7 +3,7 @@
 ghost use Rattle.std.specs.Prelude.{◌≡◌};
 ghost use Rattle.std.specs.List.{list_all};
 ghost use Rattle.nor_base.specs.Sample.{is_symbol};
-ghost use Rattle.nor_base.specs.Step.{is_step as passes, are_clocks};
+ghost use Rattle.nor_base.specs.Step.{is_step as passes, are_clocks, step_clocks};
 
 use crate::bytes::Bytes;
 use crate::clock::clock_of;
@@ -29,6 +29,19 @@ pub enum Step {
         /// The bytes expected.
         expect: Bytes,
     },
+}
+
+impl Step {
+    /// The symbols of its clocks.
+    pub fn clocks(&self) -> &[u8]
+        ensures { result.now ≡ step_clocks self.now }
+    {
+        match self {
+            Step::Send { clocks } | Step::Poll { clocks } | Step::Verify { clocks, .. } => {
+                clocks.as_slice()
+            }
+        }
+    }
 }
 
 /// Whether a step has a line in a script: its clocks are symbols and not none, and so are the bytes that a

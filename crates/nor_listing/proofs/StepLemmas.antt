@@ -8,7 +8,8 @@ use Rattle.nor_base.specs.Parameters.{Parameters}
 use Rattle.nor_base.specs.Decoding.{decode}
 use Rattle.nor_base.specs.Run.{poll_clocks, is_verify}
 use Rattle.nor_base.specs.Script.{closed, step_line}
-use Rattle.nor_listing.specs.Listing.{send_words, verify_words, words, mode_by, mode_past}
+use Rattle.nor_base.specs.Spelling.{mode_by}
+use Rattle.nor_listing.specs.Listing.{send_words, verify_words, words, mode_past}
 
 module _ (m : Parameters) (mode4 : Bool) (step : Step) (held clocks : List ℕ) (same : clocks ≡ held) where
   pub send_words_are : step ≡ Send held → closed (send_words m clocks (decode m mode4 clocks)) ≡ closed (words m mode4 step)

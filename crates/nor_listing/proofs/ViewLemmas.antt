@@ -14,10 +14,10 @@ use Rattle.nor_base.specs.Decoding.{Instruction, decode, opcode, bytes_asked}
 use Rattle.nor_base.specs.Effect.{is_broken, is_read, has_address}
 use Rattle.nor_base.specs.Run.{poll_clocks, is_verify}
 use Rattle.nor_base.specs.Array.{are_bytes}
-use Rattle.nor_base.specs.Step.{expected}
+use Rattle.nor_base.specs.Step.{expected, step_clocks}
 use Rattle.nor_base.specs.Script.{closed, hex_pair, step_line}
 use Rattle.nor_laws.specs.Spelling.{SameSpelling}
-use Rattle.nor_listing.specs.Law.{clocks_in, IsListable}
+use Rattle.nor_listing.specs.Law.{IsListable}
 use Rattle.nor_listing.specs.Listing.{in_eight, counted, spelled, sent_words, send_words, read_words, verify_words, words}
 use Rattle.nor_laws.proofs.ScriptLaws.{SameStep, bytes_apart, pair_apart, small_bytes, step_apart}
 use Rattle.nor_listing.proofs.TailLemmas.{tail_words, tail_tells, placed, data_apart}
@@ -275,7 +275,7 @@ module _ (m : Parameters) (mode4 : Bool) where
       same_word a b (u ++ p) (v ++ q) its other
       (sym (append_assoc a u p) ∙ ap (λ l. l ++ p) (sym first) ∙ h ∙ ap (λ l. l ++ q) second ∙ append_assoc b v q)
 
-  few_clocks : (x : Step) (clocks : List ℕ) → IsListable x → clocks_in x ≡ clocks → length clocks < 2 ^ 64
+  few_clocks : (x : Step) (clocks : List ℕ) → IsListable x → step_clocks x ≡ clocks → length clocks < 2 ^ 64
   few_clocks x clocks listed is = subst (λ (c : List ℕ). length c < 2 ^ 64) is listed.few
 
   module _ (law : SameSpelling) (x y : Step) (listed : IsListable x) (other : IsListable y) (p q : List ℕ)
@@ -291,8 +291,8 @@ module _ (m : Parameters) (mode4 : Bool) where
         let op = pair_apart (opcode v.clocks) (opcode w.clocks) (tail_words m v.i v.i.what ++ 0x0A ∷ p) (tail_words m w.i w.i.what ++ 0x0A ∷ q)
         (opcode_small v.clocks) (opcode_small w.clocks) after in
         let row = same_row m mode4 v.clocks w.clocks v.i w.i s t op.front in
-        let few = few_clocks x v.clocks listed (ap clocks_in v.is) in
-        let fewer = few_clocks y w.clocks other (ap clocks_in w.is) in
+        let few = few_clocks x v.clocks listed (ap step_clocks v.is) in
+        let fewer = few_clocks y w.clocks other (ap step_clocks w.is) in
         let its = s.few in
         let theirs = t.few in
         let second : taken_as s.r.what t.address t.body ≡ w.i = ap (λ r. taken_as r.what t.address t.body) row ∙ t.is in
@@ -330,8 +330,8 @@ module _ (m : Parameters) (mode4 : Bool) where
         let op = pair_apart (opcode v.clocks) (opcode w.clocks) (read_tail v.i v.expect ++ 0x0A ∷ p) (read_tail w.i w.expect ++ 0x0A ∷ q)
         (opcode_small v.clocks) (opcode_small w.clocks) after in
         let row = same_row m mode4 v.clocks w.clocks v.i w.i s t op.front in
-        let few = few_clocks x v.clocks listed (ap clocks_in v.is) in
-        let fewer = few_clocks y w.clocks other (ap clocks_in w.is) in
+        let few = few_clocks x v.clocks listed (ap step_clocks v.is) in
+        let fewer = few_clocks y w.clocks other (ap step_clocks w.is) in
         let its = s.few in
         let theirs = t.few in
         let kind = s.r.what in

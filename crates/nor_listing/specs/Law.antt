@@ -2,20 +2,14 @@
 use Rattle.std.specs.Prelude.{◌≡◌, ℕ, Bool, ◌<◌, ◌^◌, List, length}
 use Rattle.std.specs.List.{AllByRecursion}
 use Rattle.nor_base.specs.declared.step.Step.{Step}
-use Rattle.nor_base.specs.declared.step.Step.TheVariants.{Send, Poll, Verify}
 use Rattle.nor_base.specs.Parameters.{Parameters}
-use Rattle.nor_base.specs.Step.{IsStep}
+use Rattle.nor_base.specs.Step.{IsStep, step_clocks}
 use Rattle.nor_listing.specs.Listing.{listing}
-
-abbrev pub clocks_in : Step → List ℕ
-clocks_in (Send clocks) = clocks
-clocks_in (Poll clocks) = clocks
-clocks_in (Verify clocks expect) = clocks
 
 -- a step that a script may have, of fewer than 2^64 clocks; std's `decimal` is right for its numbers
 pub record IsListable (step : Step) : Type 0 where
   pub is_one : IsStep step
-  pub few : length (clocks_in step) < 2 ^ 64
+  pub few : length (step_clocks step) < 2 ^ 64
 
 -- fewer than 2^64 of them
 pub record AreListable (steps : List Step) : Type 0 where

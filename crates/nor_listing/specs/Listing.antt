@@ -10,7 +10,7 @@ use Rattle.nor_base.specs.Parameters.{Parameters, block_size}
 use Rattle.nor_base.specs.Decoding.{Instruction, decode, opcode}
 use Rattle.nor_base.specs.Run.{poll_clocks, is_verify}
 use Rattle.nor_base.specs.Script.{closed, hex_pair, step_line, end_line}
-use Rattle.nor_base.specs.Spelling.{mode_after}
+use Rattle.nor_base.specs.Spelling.{mode_by}
 use Rattle.nor_script.specs.Hexadecimal.{hex_number}
 
 -- ` AAAAAAAA`, ` n` and ` HEX`: an address or a size, a number of bytes, bytes
@@ -65,12 +65,7 @@ words m mode4 (Send clocks) = send_words m clocks (decode m mode4 clocks)
 words m mode4 (Poll clocks) = if bytes_eq clocks poll_clocks then codes "poll 05" else codes "unknown " ++ step_line (Poll clocks)
 words m mode4 (Verify clocks expect) = verify_words clocks expect (if is_verify clocks then decode m mode4 clocks else None)
 
--- the address mode after what a chip sees in clocks that are sent
-abbrev pub mode_by : Bool → Option Instruction → Bool
-mode_by mode4 None = mode4
-mode_by mode4 (Some i) = mode_after i.what mode4
-
--- and after a step: only clocks that are sent may switch it
+-- the address mode after a step: only clocks that are sent may switch it
 unfoldable pub mode_past : Parameters → Bool → Step → Bool
 mode_past m mode4 (Send clocks) = mode_by mode4 (decode m mode4 clocks)
 mode_past m mode4 (Poll clocks) = mode4

@@ -7,8 +7,9 @@ ghost use Rattle.nor_base.specs.Effect.{is_program};
 ghost use Rattle.nor_base.specs.Script.{closed, hex_pair, step_line};
 ghost use Rattle.nor_base.specs.Spelling.{mode_after};
 ghost use Rattle.nor_base.specs.declared.step.Step.TheVariants.{Send};
+ghost use Rattle.nor_base.specs.Spelling.{mode_by};
 ghost use Rattle.nor_decode.specs.Seen.{transaction_of};
-ghost use Rattle.nor_listing.specs.Listing.{in_eight, counted, spelled, sent_words, send_words, mode_by};
+ghost use Rattle.nor_listing.specs.Listing.{in_eight, counted, spelled, sent_words, send_words};
 
 use itoa::Buffer;
 use nor_base::{ByteOut, Failed, Meaning, What, put_all, put_parts};

@@ -6,6 +6,7 @@ use Rattle.std.specs.Io.KnownBytes.{Appends}
 use Rattle.std.proofs.lemmas.List.{drop_more, drop_all}
 use Rattle.nor_base.specs.Device.{Cuts}
 use Rattle.nor_base.proofs.DeviceLaws.{Appends-none, Appends-append, Cuts-then, Cuts-more}
+use Rattle.nor_base.proofs.ListLaws.{first_left}
 
 -- of a text the first part was put, and the rest is to come
 pub record IsPut (before now : Option (List ℕ)) (whole rest : List ℕ) : Type 0 where
@@ -33,10 +34,6 @@ module _ (a b : Option (List ℕ)) (whole rest : List ℕ) (p : IsPut a b whole 
 
   pub all_put : rest ≡ [] → Appends a b whole
   all_put none = subst (Appends a b) (sym (append-nil p.done) ∙ ap (λ l. p.done ++ l) (sym none) ∙ p.joined) p.put
-
--- what is left of a list
-pub first_left : {X : Type 0} (xs : List X) (n : ℕ) (x : X) → x ≡ get_or xs n x → n < length xs → drop n xs ≡ x ∷ drop (n + 1) xs
-first_left xs n x is inside = drop_more xs n x inside ∙ ap (λ y. y ∷ drop (n + 1) xs) (sym is)
 
 pub item_left : {X : Type 0} (f : X → List ℕ) (xs : List X) (n : ℕ) (x : X) → x ≡ get_or xs n x → n < length xs
     → flat_map f (drop n xs) ≡ f x ++ flat_map f (drop (n + 1) xs)

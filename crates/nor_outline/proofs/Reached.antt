@@ -16,7 +16,8 @@ use Rattle.nor_geometry.specs.Plan.{IsWindow, IsPlan, plan_unit}
 use Rattle.nor_outline.specs.Outline.{IsPlanned}
 use Rattle.nor_pages.specs.Runs.{IsUnit}
 use Rattle.nor_steps.proofs.OpLemmas.{all_at}
-use Rattle.nor_steps.proofs.Placed.{all_append, level_of}
+use Rattle.nor_base.proofs.ListLaws.{all_append}
+use Rattle.nor_steps.proofs.Placed.{level_of}
 use Rattle.nor_steps.proofs.WindowLemmas.{filled, part_filled}
 use Rattle.nor_work.specs.Least.{ErasesBlocks}
 

@@ -179,6 +179,3 @@ halts_at before now after limit number steps x count (fault.PortFailed at) has w
     subst (FailsPlay before limit steps) (sym told) (record { within = within; chip = now.chip; reached = has.bounded })
 halts_at before now after limit number steps x count fault.Memory has within is told =
     subst (λ (shown : Shown). LeavesPlay before shown limit steps) (sym told) (record { at = number; within = within; setting = has.setting; reached = has.bounded })
-
-pub one_taken : (steps : List Step) (at : ℕ) (x : Step) → at < length steps → x ≡ get_or steps at x → take (at + 1) steps ≡ take at steps ++ x ∷ []
-one_taken steps at x within is = take_more steps at x within ∙ ap (λ (y : Step). take at steps ++ y ∷ []) (sym is)

@@ -24,6 +24,7 @@ use Rattle.nor_work.proofs.Units.Ranges.{aligned_le}
 use Rattle.nor_work.proofs.Units.Wider.{some_page}
 use Rattle.nor_work.specs.Least.{ErasesBlocks}
 use Rattle.nor_steps.specs.Units.{unit_size, work_unit}
+use Rattle.nor_base.proofs.ListLaws.{all_append}
 
 -- where a unit lies
 pub record LiesIn (m : Parameters) (at count : ℕ) (p : PlanUnit) : Type 0 where
@@ -149,10 +150,6 @@ unit_placed m by content target at count size start (Some b) law s long is from 
     block_placed m by content target at count size start b (b.start == start) law s long is from upto refl
 unit_placed m by content target at count size start None law s long is from upto whole =
     page_placed m by content target at count size start (page_programs m (level_of m by content target) target start) s long is from upto whole refl
-
-pub all_append : {A : Type 0} (P : A → Type 0) (xs ys : List A) → AllByRecursion P xs → AllByRecursion P ys → AllByRecursion P (xs ++ ys)
-all_append P [] ys first second = second
-all_append P (x ∷ xs) ys first second = (first.0, all_append P xs ys first.1 second)
 
 over_placed : (m : Parameters) (by : Strategy) (content target : List ℕ) (at count size : ℕ) → ErasesBlocks → IsStretch m at count size → at + count ≤ length content
     → (n start : ℕ) → at ≤ start → start % m.page ≡ 0 → start + n * m.page ≤ at + count

@@ -16,13 +16,10 @@ use Rattle.nor_base.specs.Spelling.{Instr}
 use Rattle.nor_base.specs.Programs.{Program}
 use Rattle.nor_base.specs.Operations.{Op, erases, writes, reads, takes_dedicated, legacy_width, programming, reading, instructions, switching_by, entering, leaving}
 use Rattle.nor_select.specs.Streamed.{Streaming, entered, next, last, onward}
+use Rattle.nor_base.proofs.ListLaws.{all_append}
 
 abbrev IsThin : Instr → Type 0
 IsThin i = i.width ≤ 4
-
-all_append : {A : Type 0} (P : A → Type 0) (xs ys : List A) → AllByRecursion P xs → AllByRecursion P ys → AllByRecursion P (xs ++ ys)
-all_append P [] ys first second = second
-all_append P (x ∷ xs) ys first second = (first.0, all_append P xs ys first.1 second)
 
 thin_width : (by : Strategy) → legacy_width by ≤ 4
 thin_width S1 = omega arith

@@ -13,10 +13,7 @@ use Rattle.nor_plan_read.specs.declared.line.PlanLine.{PlanLine}
 use Rattle.nor_plan_read.specs.declared.line.PlanLine.TheVariants as line
 use Rattle.nor_times.specs.Bus.{Doing, change_clocks, program_clocks, read_clocks, lines_clocks, is_work}
 use Rattle.nor_times.specs.Plan.{because, reason_at, reasons, program_line}
-
-pub all_append : {A : Type 0} (P : A → Type 0) (xs ys : List A) → AllByRecursion P xs → AllByRecursion P ys → AllByRecursion P (xs ++ ys)
-all_append P [] ys first second = second
-all_append P (x ∷ xs) ys first second = (first.0, all_append P xs ys first.1 second)
+use Rattle.nor_base.proofs.ListLaws.{all_append}
 
 -- a line tells no instruction
 abbrev pub IsQuiet : PlanLine → Type 0

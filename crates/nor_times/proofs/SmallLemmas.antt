@@ -20,7 +20,8 @@ use Rattle.nor_work.proofs.Erased.Best.{smallest_of}
 use Rattle.nor_work.proofs.Erased.Erasing.{erased_for, there}
 use Rattle.nor_plan_read.specs.Lines.{IsSmall}
 use Rattle.nor_times.specs.Plan.{because, reason_at, erase_lines, program_line, unit_plan}
-use Rattle.nor_times.proofs.LineLemmas.{all_append, BeginsIn, programs_in}
+use Rattle.nor_base.proofs.ListLaws.{all_append}
+use Rattle.nor_times.proofs.LineLemmas.{BeginsIn, programs_in}
 
 -- a range's first number that passes
 find_below : (test : ℕ → Bool) (n a cause : ℕ) → find test (range_with_len a n) ≡ Some cause → cause < a + n

@@ -25,7 +25,8 @@ use Rattle.nor_plan_read.specs.declared.line.PlanLine.{PlanLine}
 use Rattle.nor_times.specs.Bus.{Doing, head4_clocks, read_clocks, lines_clocks}
 use Rattle.nor_times.specs.Plan.{reasons, program_line, unit_plan}
 use Rattle.nor_times.proofs.ClockLemmas.{op_clocks, erases_clocks, writes_clocks, reads_clocks}
-use Rattle.nor_times.proofs.LineLemmas.{all_append, reasons_quiet, quiet_clocks, written, reread, below_end, past_end, BeginsIn, programs_in}
+use Rattle.nor_base.proofs.ListLaws.{all_append}
+use Rattle.nor_times.proofs.LineLemmas.{reasons_quiet, quiet_clocks, written, reread, below_end, past_end, BeginsIn, programs_in}
 
 abbrev pub ops_clocks : Doing → List Op → ℕ
 ops_clocks d ops = sum_by (op_clocks d.meaning d.start d.by) ops

@@ -11,10 +11,11 @@ use Rattle.nor_waves.specs.declared.drawing.Drawing.{Drawing}
 use Rattle.nor_waves.specs.declared.wires.Level.TheVariants.{Low}
 use Rattle.nor_waves.specs.declared.wires.Levels.{Levels}
 use Rattle.nor_waves.specs.Wires.{changes}
-use Rattle.nor_base.specs.Step.{expected}
-use Rattle.nor_waves.specs.Ticks.{clock_ticks, clocks_in, clocks_ticks, lanes_in, sample_at, step_ticks, gap}
+use Rattle.nor_base.specs.Step.{expected, step_clocks}
+use Rattle.nor_waves.specs.Ticks.{clock_ticks, clocks_ticks, lanes_in, sample_at, step_ticks, gap}
 use Rattle.nor_waves.specs.Waves.{stamped}
 use Rattle.nor_waves.specs.Drawing.{past, after, drawn}
+use Rattle.nor_base.proofs.ListLaws.{first_left}
 
 pub drawn_append : (at : Drawing) (xs ys : List Levels) → drawn at (xs ++ ys) ≡ drawn at xs ++ drawn (after at xs) ys
 unfolding drawn after
@@ -65,10 +66,6 @@ module _ (from : Drawing) (all : List Levels) (a b : Option (List ℕ)) (at : Dr
 
   pub all_after : rest ≡ [] → at ≡ after from all
   all_after none = d.place ∙ ap (after from) (done_is_all none)
-
--- what is left of a list
-pub first_left : {X : Type 0} (xs : List X) (n : ℕ) (x : X) → x ≡ get_or xs n x → n < length xs → drop n xs ≡ x ∷ drop (n + 1) xs
-first_left xs n x is inside = drop_more xs n x inside ∙ ap (λ y. y ∷ drop (n + 1) xs) (sym is)
 
 -- what stands for a tick past the end of a list
 abbrev pub unset : Levels
@@ -124,19 +121,19 @@ second_put at next xs ys a b c r front is back =
 -- a step
 pub gap_cut : (at : Drawing) (x : Step) (a b : Option (List ℕ)) → Cuts a b (drawn at gap) → Cuts a b (drawn at (step_ticks x))
 unfolding step_ticks
-gap_cut at x a b cut = first_cut at gap (clocks_ticks (expected x) 0 (clocks_in x)) a b cut
+gap_cut at x a b cut = first_cut at gap (clocks_ticks (expected x) 0 (step_clocks x)) a b cut
 
-pub clocks_put : {T : Type 0} (at next : Drawing) (x : Step) (clocks bytes : List ℕ) (a b c : Option (List ℕ)) (r : Result T Failed) → clocks ≡ clocks_in x → bytes ≡ expected x
+pub clocks_put : {T : Type 0} (at next : Drawing) (x : Step) (clocks bytes : List ℕ) (a b c : Option (List ℕ)) (r : Result T Failed) → clocks ≡ step_clocks x → bytes ≡ expected x
     → Appends a b (drawn at gap) → next ≡ after at gap → Writes b c r (drawn next (clocks_ticks bytes 0 clocks)) → Writes a c r (drawn at (step_ticks x))
 unfolding step_ticks
 clocks_put at next x clocks bytes a b c r same expects front is back =
-    second_put at next gap (clocks_ticks (expected x) 0 (clocks_in x)) a b c r front is
-    (subst (Writes b c r) (ap (λ l. drawn next (clocks_ticks bytes 0 l)) same ∙ ap (λ l. drawn next (clocks_ticks l 0 (clocks_in x))) expects) back)
+    second_put at next gap (clocks_ticks (expected x) 0 (step_clocks x)) a b c r front is
+    (subst (Writes b c r) (ap (λ l. drawn next (clocks_ticks bytes 0 l)) same ∙ ap (λ l. drawn next (clocks_ticks l 0 (step_clocks x))) expects) back)
 
-pub clocks_after : (at next : Drawing) (x : Step) (clocks bytes : List ℕ) (r : Result Drawing Failed) → clocks ≡ clocks_in x → bytes ≡ expected x → next ≡ after at gap
+pub clocks_after : (at next : Drawing) (x : Step) (clocks bytes : List ℕ) (r : Result Drawing Failed) → clocks ≡ step_clocks x → bytes ≡ expected x → next ≡ after at gap
     → IfOk r (λ end. end ≡ after next (clocks_ticks bytes 0 clocks)) → IfOk r (λ end. end ≡ after at (step_ticks x))
 unfolding step_ticks
 clocks_after at next x clocks bytes (Err e) same expects is ends = tt
 clocks_after at next x clocks bytes (Ok end) same expects is ends =
-    ends ∙ ap (λ l. after next (clocks_ticks bytes 0 l)) same ∙ ap (λ l. after next (clocks_ticks l 0 (clocks_in x))) expects
-    ∙ ap (λ p. after p (clocks_ticks (expected x) 0 (clocks_in x))) is ∙ sym (after_append at gap (clocks_ticks (expected x) 0 (clocks_in x)))
+    ends ∙ ap (λ l. after next (clocks_ticks bytes 0 l)) same ∙ ap (λ l. after next (clocks_ticks l 0 (step_clocks x))) expects
+    ∙ ap (λ p. after p (clocks_ticks (expected x) 0 (step_clocks x))) is ∙ sym (after_append at gap (clocks_ticks (expected x) 0 (step_clocks x)))

@@ -4,9 +4,8 @@ use Rattle.std.specs.Prelude.{ℕ, Bool, ◌+◌, ◌-◌, ◌/◌, ◌%◌, ◌
 use Rattle.nor_base.specs.declared.clock.Clock.TheVariants.{Idle}
 use Rattle.nor_base.specs.declared.clock.Sample.{Sample}
 use Rattle.nor_base.specs.declared.step.Step.{Step}
-use Rattle.nor_base.specs.declared.step.Step.TheVariants.{Send, Poll, Verify}
 use Rattle.nor_base.specs.Sample.{clock_at, sample}
-use Rattle.nor_base.specs.Step.{expected}
+use Rattle.nor_base.specs.Step.{expected, step_clocks}
 use Rattle.nor_waves.specs.declared.wires.Level.{Level}
 use Rattle.nor_waves.specs.declared.wires.Level.TheVariants.{Low, High, Unknown, Floating}
 use Rattle.nor_waves.specs.declared.wires.Levels.{Levels}
@@ -61,18 +60,13 @@ clocks_ticks bytes k [] = []
 clocks_ticks bytes k (symbol ∷ rest) =
     clock_ticks bytes k (sample_at symbol) ++ clocks_ticks bytes (k + lanes_in (sample_at symbol).sampled) rest
 
-abbrev pub clocks_in : Step → List ℕ
-clocks_in (Send clocks) = clocks
-clocks_in (Poll clocks) = clocks
-clocks_in (Verify clocks expect) = clocks
-
 -- four ticks between transactions
 abbrev pub gap : List Levels
 gap = idle ∷ idle ∷ idle ∷ idle ∷ []
 
 -- a step: the gap before it, and its transaction, once
 unfoldable pub step_ticks : Step → List Levels
-step_ticks x = gap ++ clocks_ticks (expected x) 0 (clocks_in x)
+step_ticks x = gap ++ clocks_ticks (expected x) 0 (step_clocks x)
 
 -- steps, and the gap after the last
 unfoldable pub ticks : List Step → List Levels

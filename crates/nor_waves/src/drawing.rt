@@ -4,7 +4,7 @@ ghost use Rattle.std.specs.Prelude.{◌≡◌, ◌<◌, ◌-◌, ◌^◌, ◌++�
 ghost use Rattle.nor_base.specs.Device.{Writes, Counts};
 ghost use Rattle.nor_base.specs.Step.{expected};
 ghost use Rattle.nor_waves.specs.Drawing.{after, drawn};
-ghost use Rattle.nor_waves.specs.Ticks.{clocks_in, clocks_ticks, gap, step_ticks};
+ghost use Rattle.nor_waves.specs.Ticks.{clocks_ticks, gap, step_ticks};
 ghost use Rattle.nor_waves.specs.Waves.{stamp, stamped};
 
 use crate::lanes::{clock_ticks, lanes_in, sample_at};
@@ -51,7 +51,7 @@ impl Drawing {
         ensures count { Counts (W.count out.old) (W.count out.new) result }
     {
         let at = self.put_gap(out)?;
-        at.put_clocks(clocks_in(step), expected(step), out)
+        at.put_clocks(step.clocks(), expected(step), out)
     }
 
     /// Draws the gap between transactions.
@@ -127,16 +127,6 @@ pub(crate) fn put_stamp<W: ByteOut>(tick: u64, lines: &[u8], out: &mut W) -> Res
 {
     let mut digits = Buffer::new();
     put_parts(out, &[b"#", digits.format(tick).as_bytes(), b"\n", lines])
-}
-
-/// The clocks of a step.
-fn clocks_in(step: &Step) -> &[u8]
-    ensures { result.now ≡ clocks_in step.now }
-{
-    match step {
-        Step::Send { clocks } | Step::Poll { clocks } => clocks.as_slice(),
-        Step::Verify { clocks, expect: _ } => clocks.as_slice(),
-    }
 }
 
 /// The bytes that a step expects.

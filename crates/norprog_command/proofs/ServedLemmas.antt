@@ -17,7 +17,7 @@ use Rattle.norprog_words.specs.declared.given.GivenPlan.{GivenPlan}
 use Rattle.norprog_words.specs.declared.given.GivenChip.{GivenChip}
 use Rattle.norprog_words.specs.declared.given.Given.{Given}
 use Rattle.norprog_command.specs.declared.request.Request.{Request}
-use Rattle.norprog_command.specs.Asked.{chip_asked, family_asked}
+use Rattle.norprog_words.specs.Setup.{chip_asked, family_asked}
 use Rattle.norprog_command.specs.Request.{AsksFor}
 use Rattle.norprog_command.specs.Served.{task_by, Job, job_with, AreGiven, IsJobOf, text_files_of, input_files_of, input_files_asked, Serves, ServesBuild, ServesCheck, ServesPlan, ServesScript, ServesChip, Held, IsTaskAlone, IsChipTask, OfBuild, OfCheck, OfPlan, OfScript, OfChip}
 

@@ -15,7 +15,7 @@ use Rattle.norprog_words.specs.declared.given.GivenChip.{GivenChip}
 use Rattle.norprog_command.specs.declared.inputs.Texts.{Texts}
 use Rattle.norprog_words.specs.declared.given.Given.{Given}
 use Rattle.norprog_command.specs.declared.request.Request.{Request}
-use Rattle.norprog_command.specs.Asked.{chip_asked, family_asked}
+use Rattle.norprog_words.specs.Setup.{chip_asked, family_asked}
 use Rattle.norprog_command.specs.Request.{asked_chip, asked_part, asked_base}
 
 -- what the files of a job hold, the content aside; the tables' bytes have no part in a chip of a size

@@ -1,20 +1,15 @@
 -- What the values of a command line of `draw` ask for (this project's).
 use Rattle.std.specs.Prelude.{◌≡◌, ℕ, Bool, ◌&&◌, Option, Some, None, option_map, unwrap_or, is_some, List, codes}
-use Rattle.norprog_words.specs.Values.{decimal_of}
+use Rattle.norprog_words.specs.Values.{decimal_of, said_number}
 use Rattle.norprog_words.specs.declared.given.GivenDraw.{GivenDraw}
 use Rattle.norprog_draw.specs.declared.request.DrawRequest.{DrawRequest}
-
--- the number of steps, if one is given; None where it isn't of its form
-abbrev pub said_count : Option (List ℕ) → Option (Option ℕ)
-said_count None = Some None
-said_count (Some text) = option_map Some (decimal_of text)
 
 -- the number of the first step, `0` where none is given
 abbrev pub asked_from : GivenDraw → Option ℕ
 asked_from given = decimal_of (unwrap_or (option_map (λ t. t.now) given.from) (codes "0"))
 
 abbrev pub asked_count : GivenDraw → Option (Option ℕ)
-asked_count given = said_count (option_map (λ t. t.now) given.steps)
+asked_count given = said_number (option_map (λ t. t.now) given.steps)
 
 -- both files are named, and each value is of its form
 abbrev pub is_well_formed : GivenDraw → Bool

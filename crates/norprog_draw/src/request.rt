@@ -1,7 +1,8 @@
 //! What the values of a command line of `draw` ask for.
 
 ghost use Rattle.std.specs.Prelude.{◌≡◌, is_some, option_map, IfSome};
-ghost use Rattle.norprog_draw.specs.Request.{is_well_formed, said_count, AsksFor};
+ghost use Rattle.norprog_words.specs.Values.{said_number};
+ghost use Rattle.norprog_draw.specs.Request.{is_well_formed, AsksFor};
 
 use norprog_words::{GivenDraw, decimal};
 
@@ -31,7 +32,7 @@ pub fn request_of<'a>(given: GivenDraw<'a>) -> Option<DrawRequest<'a>>
 
 /// The number of steps, if one is given; None where it isn't of its form.
 fn optional_count(text: Option<&str>) -> Option<Option<u64>>
-    ensures { result ≡ said_count (option_map (λ t. t.now) text.entry) }
+    ensures { result ≡ said_number (option_map (λ t. t.now) text.entry) }
 {
     match text {
         Some(text) => Some(Some(u64::from(decimal(text)?))),

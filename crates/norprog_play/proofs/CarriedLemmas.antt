@@ -14,10 +14,11 @@ use Rattle.nor_serprog.specs.declared.fault.Reason.TheVariants as reason
 use Rattle.nor_serprog.specs.Follow.{Follows}
 use Rattle.norprog_play.specs.declared.ending.Ending.TheVariants.{Failed}
 use Rattle.nor_base.specs.Sample.{sampled_count}
+use Rattle.nor_base.specs.Step.{step_clocks}
 use Rattle.norprog_play.specs.Carried.{IsCarried, AreCarried, IsFirstNotCarried}
 use Rattle.norprog_play.specs.Likeness.{Begins}
 use Rattle.norprog_play.specs.Ending.{EndsSo, MayBegin}
-use Rattle.norprog_play.specs.Moment.{clocks_of, Moment, DoesAll, StopsAt}
+use Rattle.norprog_play.specs.Moment.{Moment, DoesAll, StopsAt}
 use Rattle.norprog_play.specs.Touched.{IsCompared}
 
 -- all of the steps so far, and one more
@@ -34,7 +35,7 @@ one_of P steps at x within is all = subst P (sym is) (All-get_or P steps at x wi
 
 -- clocks that are an operation are never refused as none
 never_none : (limits : Limits) (turns : ℕ) (b c : Moment) (x : Step) (given : List ℕ) → IsCarried limits x
-    → Follows b.held c.held b.ahead c.ahead (Err reason.Carried) limits turns (clocks_of x) given → ⊥
+    → Follows b.held c.held b.ahead c.ahead (Err reason.Carried) limits turns (step_clocks x) given → ⊥
 never_none limits turns b c x given can follows = (follows.other (λ is. follows.poll is)).none can.0 can.1 can.2
 
 -- where a play that began stops
@@ -54,15 +55,15 @@ not_carried limits steps at number x within is same before none =
     subst (IsFirstNotCarried limits steps) (sym same) (record { within = within; before = before; first = x; is = is; none = none })
 
 -- steps that sample no more than a number sample no more than a larger one
-pub wider : (n m : ℕ) (steps : List Step) → n ≤ m → All (λ x. sampled_count (clocks_of x) ≤ n) steps → All (λ x. sampled_count (clocks_of x) ≤ m) steps
+pub wider : (n m : ℕ) (steps : List Step) → n ≤ m → All (λ x. sampled_count (step_clocks x) ≤ n) steps → All (λ x. sampled_count (step_clocks x) ≤ m) steps
 wider n m steps le all k d lt = let one = all k d lt in omega (arith, le, one)
 
 -- what a test of the clocks tells
-pub told : (limits : Limits) (x : Step) (clocks : List ℕ) (r : Bool) → clocks ≡ clocks_of x → (IsTrue r ↔ ((sent : List ℕ) × (asked : ℕ) × IsOperation limits clocks sent asked))
+pub told : (limits : Limits) (x : Step) (clocks : List ℕ) (r : Bool) → clocks ≡ step_clocks x → (IsTrue r ↔ ((sent : List ℕ) × (asked : ℕ) × IsOperation limits clocks sent asked))
     → r ≡ true → IsCarried limits x
 told limits x clocks r is tells passed = subst (λ (l : List ℕ). (sent : List ℕ) × (asked : ℕ) × IsOperation limits l sent asked) is (tells.0 passed)
 
-pub told_not : (limits : Limits) (x : Step) (clocks : List ℕ) (r : Bool) → clocks ≡ clocks_of x → (IsTrue r ↔ ((sent : List ℕ) × (asked : ℕ) × IsOperation limits clocks sent asked))
+pub told_not : (limits : Limits) (x : Step) (clocks : List ℕ) (r : Bool) → clocks ≡ step_clocks x → (IsTrue r ↔ ((sent : List ℕ) × (asked : ℕ) × IsOperation limits clocks sent asked))
     → r ≡ false → IsCarried limits x → ⊥
 told_not limits x clocks r is tells failed can =
     let passed : r ≡ true = tells.1 (subst (λ (l : List ℕ). (sent : List ℕ) × (asked : ℕ) × IsOperation limits l sent asked) (sym is) can) in

@@ -8,17 +8,16 @@ use Rattle.nor_base.specs.Effect.{effect}
 use Rattle.nor_base.specs.Port.{Shown}
 use Rattle.nor_base.specs.Run.{played}
 use Rattle.nor_serprog.specs.declared.limits.Limits.{Limits}
-use Rattle.norprog_play.specs.Moment.{clocks_of, Moment, IsTaken, Does, DoesAll}
+use Rattle.norprog_play.specs.Moment.{Moment, IsTaken, Does, DoesAll}
 use Rattle.norprog_play.proofs.TakenLemmas.{goes_on, nothing_more}
+use Rattle.nor_base.proofs.ListLaws.{one_taken}
+use Rattle.nor_base.specs.Step.{step_clocks}
 
 -- one step more
-pub does_more : (limits : Limits) (turns : ℕ) (a b c : Moment) (xs : List Step) (x : Step) → DoesAll limits turns a xs b → Does limits turns b (clocks_of x) c
+pub does_more : (limits : Limits) (turns : ℕ) (a b c : Moment) (xs : List Step) (x : Step) → DoesAll limits turns a xs b → Does limits turns b (step_clocks x) c
     → DoesAll limits turns a (xs ++ x ∷ []) c
-does_more limits turns a b c [] x all one = (c, subst (λ (m : Moment). Does limits turns m (clocks_of x) c) all one, refl)
+does_more limits turns a b c [] x all one = (c, subst (λ (m : Moment). Does limits turns m (step_clocks x) c) all one, refl)
 does_more limits turns a b c (y ∷ ys) x all one = (all.0, all.1, does_more limits turns all.0 b c ys x all.2 one)
-
-one_taken : (steps : List Step) (at : ℕ) (x : Step) → at < length steps → x ≡ get_or steps at x → take (at + 1) steps ≡ take at steps ++ x ∷ []
-one_taken steps at x within is = take_more steps at x within ∙ ap (λ (y : Step). take at steps ++ y ∷ []) (sym is)
 
 one_dropped : (steps : List Step) (at : ℕ) (x : Step) → at < length steps → x ≡ get_or steps at x → drop at steps ≡ x ∷ drop (at + 1) steps
 one_dropped steps at x within is = drop_more steps at x within ∙ ap (λ (y : Step). y ∷ drop (at + 1) steps) (sym is)
@@ -29,7 +28,7 @@ bounded limits limits' turns turns' b c clocks same as_many one =
     subst (λ (l : Limits). Does l turns b clocks c) same (subst (λ n. Does limits' n b clocks c) as_many one)
 
 pub does_next : (limits : Limits) (turns : ℕ) (a b c : Moment) (steps : List Step) (at : ℕ) (x : Step) → at < length steps → x ≡ get_or steps at x
-    → DoesAll limits turns a (take at steps) b → Does limits turns b (clocks_of x) c → DoesAll limits turns a (take (at + 1) steps) c
+    → DoesAll limits turns a (take at steps) b → Does limits turns b (step_clocks x) c → DoesAll limits turns a (take (at + 1) steps) c
 does_next limits turns a b c steps at x within is all one =
     subst (λ (l : List Step). DoesAll limits turns a l c) (sym (one_taken steps at x within is)) (does_more limits turns a b c (take at steps) x all one)
 
@@ -41,7 +40,7 @@ abbrev pub Goes : Shown → List Step → Type 0
 Goes shown steps = (d : Chip) × (played shown.setting 1 shown.chip steps ≡ Ok d)
 
 pub takes_next : (before now : Shown) (steps : List Step) (at : ℕ) (x : Step) → at < length steps → x ≡ get_or steps at x
-    → Goes before steps → GoesOn before steps now (drop at steps) → IsTaken now (clocks_of x)
+    → Goes before steps → GoesOn before steps now (drop at steps) → IsTaken now (step_clocks x)
 takes_next before now steps at x within is goes on =
     let next = goes_on now.setting now.chip goes.0 x (drop (at + 1) steps)
     (subst (λ (l : List Step). played now.setting 1 now.chip l ≡ Ok goes.0) (one_dropped steps at x within is) (on goes.0 goes.1)) in
@@ -52,11 +51,11 @@ ok_is p q r first second = let both = sym first ∙ second in cc
 
 -- after a step what is left goes well
 pub goes_next : (limits : Limits) (turns : ℕ) (before : Shown) (b c : Moment) (steps : List Step) (at : ℕ) (x : Step) → at < length steps → x ≡ get_or steps at x
-    → GoesOn before steps b.shown (drop at steps) → Does limits turns b (clocks_of x) c → GoesOn before steps c.shown (drop (at + 1) steps)
+    → GoesOn before steps b.shown (drop at steps) → Does limits turns b (step_clocks x) c → GoesOn before steps c.shown (drop (at + 1) steps)
 goes_next limits turns before b c steps at x within is on one d goes =
     let next = goes_on b.shown.setting b.shown.chip d x (drop (at + 1) steps)
     (subst (λ (l : List Step). played b.shown.setting 1 b.shown.chip l ≡ Ok d) (one_dropped steps at x within is) (on d goes)) in
-    let same : (next.0, next.1.0) ≡ (c.shown.chip, one.given) = ok_is (next.0, next.1.0) (c.shown.chip, one.given) (effect b.shown.setting b.shown.chip (clocks_of x)) next.1.1 one.chip.0 in
+    let same : (next.0, next.1.0) ≡ (c.shown.chip, one.given) = ok_is (next.0, next.1.0) (c.shown.chip, one.given) (effect b.shown.setting b.shown.chip (step_clocks x)) next.1.1 one.chip.0 in
     let chip : next.0 ≡ c.shown.chip = ap (λ (p : Chip × List ℕ). p.0) same in
     subst (λ (s : Setting). played s 1 c.shown.chip (drop (at + 1) steps) ≡ Ok d) (sym one.chip.1)
     (subst (λ (e : Chip). played b.shown.setting 1 e (drop (at + 1) steps) ≡ Ok d) chip next.2)

@@ -14,7 +14,7 @@ use Rattle.nor_base.specs.Run.{Stop, Halt, poll_clocks, says_busy, is_verify, do
 use Rattle.nor_play.specs.Play.{at_end, play, EndsPlay, Plays}
 use Rattle.nor_play.specs.declared.fault.PlayFault.{PlayFault}
 use Rattle.nor_play.specs.declared.fault.PlayFault.TheVariants as fault
-use Rattle.norprog_play.specs.Moment.{clocks_of}
+use Rattle.nor_base.specs.Step.{step_clocks}
 
 -- the chip in memory takes these clocks, and is then so
 abbrev pub Takes : Setting → Chip → List ℕ → Chip → Type 0
@@ -51,7 +51,7 @@ verified c d expect (Ok after) h = by (bytes_eq after.1 expect) h
     by true h = let same : after.0 ≡ d = cc in (after.1, ap (λ (e : Chip). Ok (e, after.1)) same)
     by false h = cc
 
-step_takes : (s : Setting) (c d : Chip) (x : Step) → step_for s 1 c x ≡ Ok d → Takes s c (clocks_of x) d
+step_takes : (s : Setting) (c d : Chip) (x : Step) → step_for s 1 c x ≡ Ok d → Takes s c (step_clocks x) d
 unfolding step_for
 step_takes s c d (Send clocks) h = sent c d (effect s c clocks) h
 step_takes s c d (Poll clocks) h = by (bytes_eq clocks poll_clocks) refl h
@@ -71,12 +71,12 @@ not_later (Err stop) d h = cc
 
 -- a step that is followed by others
 pub goes_on : (s : Setting) (c d : Chip) (x : Step) (xs : List Step) → played s 1 c (x ∷ xs) ≡ Ok d
-    → (e : Chip) × Takes s c (clocks_of x) e × (played s 1 e xs ≡ Ok d)
+    → (e : Chip) × Takes s c (step_clocks x) e × (played s 1 e xs ≡ Ok d)
 unfolding played
 goes_on s c d x xs h = by (step_for s 1 c x) refl h
   where
     by : (r : Result Chip Halt) → step_for s 1 c x ≡ r → play_on r (λ e. played s 1 e xs) ≡ Ok d
-        → (e : Chip) × Takes s c (clocks_of x) e × (played s 1 e xs ≡ Ok d)
+        → (e : Chip) × Takes s c (step_clocks x) e × (played s 1 e xs ≡ Ok d)
     by (Ok e) is h = (e, step_takes s c e x is, not_later (played s 1 e xs) d h)
     by (Err halt) is h = cc
 

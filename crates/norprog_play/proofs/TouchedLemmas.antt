@@ -10,8 +10,10 @@ use Rattle.nor_base.specs.Decoding.{Transaction, Instruction, instruction, trans
 use Rattle.nor_base.specs.Effect.{place}
 use Rattle.nor_base.specs.Parameters.{Parameters}
 use Rattle.norprog_play.specs.Marks.{IsMarked, MarkedBy, AreMarks}
-use Rattle.norprog_play.specs.Moment.{clocks_of}
-use Rattle.norprog_play.specs.Touched.{LiesBetween, Programs, Changes, ChangesSeen, mode_by, Touches, mode_past, mode_past_all, IsTouched}
+use Rattle.nor_base.specs.Step.{step_clocks}
+use Rattle.nor_base.specs.Spelling.{mode_by}
+use Rattle.norprog_play.specs.Touched.{LiesBetween, Programs, Changes, ChangesSeen, Touches, mode_past, mode_past_all, IsTouched}
+use Rattle.nor_base.proofs.ListLaws.{one_taken}
 
 -- nothing is marked
 pub none_marked : (P : ℕ → Type 0) (marks : List Bool) → ((a : ℕ) → P a → ⊥) → MarkedBy P marks marks
@@ -91,9 +93,6 @@ mode_more : (m : Parameters) (mode4 : Bool) (xs : List Step) (x : Step) → mode
 mode_more m mode4 [] x = refl
 mode_more m mode4 (y ∷ ys) x = mode_more m (mode_past m mode4 y) ys x
 
-one_taken : (steps : List Step) (at : ℕ) (x : Step) → at < length steps → x ≡ get_or steps at x → take (at + 1) steps ≡ take at steps ++ x ∷ []
-one_taken steps at x within is = take_more steps at x within ∙ ap (λ (y : Step). take at steps ++ y ∷ []) (sym is)
-
 pub mode_next : (m : Parameters) (first mode4 after : Bool) (steps : List Step) (at : ℕ) (x : Step) → at < length steps → x ≡ get_or steps at x
     → mode4 ≡ mode_past_all m first (take at steps) → after ≡ mode_past m mode4 x → after ≡ mode_past_all m first (take (at + 1) steps)
 mode_next m first mode4 after steps at x within is so_far one =
@@ -123,26 +122,26 @@ not_decoded : (m : Parameters) (mode4 : Bool) (clocks : List ℕ) → None ≡ t
 unfolding decode
 not_decoded m mode4 clocks is = ap (option_map instruction) (sym is)
 
-pub seen_marked : (m : Parameters) (mode4 : Bool) (x : Step) (clocks : List ℕ) (t : Transaction) (old new : List Bool) → clocks ≡ clocks_of x
+pub seen_marked : (m : Parameters) (mode4 : Bool) (x : Step) (clocks : List ℕ) (t : Transaction) (old new : List Bool) → clocks ≡ step_clocks x
     → Some t ≡ transaction m mode4 clocks → MarkedBy (Changes m (instruction t) t.what) old new → MarkedBy (Touches m mode4 x) old new
 seen_marked m mode4 x clocks t old new is seen marked =
     let here : MarkedBy (ChangesSeen m (decode m mode4 clocks)) old new =
     subst (λ o. MarkedBy (ChangesSeen m o) old new) (sym (decoded m mode4 clocks t seen)) marked in
     subst (λ (l : List ℕ). MarkedBy (ChangesSeen m (decode m mode4 l)) old new) is here
 
-pub unseen_marked : (m : Parameters) (mode4 : Bool) (x : Step) (clocks : List ℕ) (marks : List Bool) → clocks ≡ clocks_of x → None ≡ transaction m mode4 clocks
+pub unseen_marked : (m : Parameters) (mode4 : Bool) (x : Step) (clocks : List ℕ) (marks : List Bool) → clocks ≡ step_clocks x → None ≡ transaction m mode4 clocks
     → MarkedBy (Touches m mode4 x) marks marks
 unseen_marked m mode4 x clocks marks is seen =
     let here : MarkedBy (ChangesSeen m (decode m mode4 clocks)) marks marks =
     subst (λ o. MarkedBy (ChangesSeen m o) marks marks) (sym (not_decoded m mode4 clocks seen)) (none_marked (λ a. ⊥) marks (λ a h. h)) in
     subst (λ (l : List ℕ). MarkedBy (ChangesSeen m (decode m mode4 l)) marks marks) is here
 
-pub seen_mode : (m : Parameters) (mode4 after : Bool) (x : Step) (clocks : List ℕ) (t : Transaction) → clocks ≡ clocks_of x → Some t ≡ transaction m mode4 clocks
+pub seen_mode : (m : Parameters) (mode4 after : Bool) (x : Step) (clocks : List ℕ) (t : Transaction) → clocks ≡ step_clocks x → Some t ≡ transaction m mode4 clocks
     → after ≡ mode_by mode4 (Some (instruction t)) → after ≡ mode_past m mode4 x
 seen_mode m mode4 after x clocks t is seen told =
     told ∙ ap (mode_by mode4) (sym (decoded m mode4 clocks t seen)) ∙ ap (λ (l : List ℕ). mode_by mode4 (decode m mode4 l)) is
 
-pub unseen_mode : (m : Parameters) (mode4 : Bool) (x : Step) (clocks : List ℕ) → clocks ≡ clocks_of x → None ≡ transaction m mode4 clocks → mode4 ≡ mode_past m mode4 x
+pub unseen_mode : (m : Parameters) (mode4 : Bool) (x : Step) (clocks : List ℕ) → clocks ≡ step_clocks x → None ≡ transaction m mode4 clocks → mode4 ≡ mode_past m mode4 x
 unseen_mode m mode4 x clocks is seen =
     ap (mode_by mode4) (sym (not_decoded m mode4 clocks seen)) ∙ ap (λ (l : List ℕ). mode_by mode4 (decode m mode4 l)) is
 

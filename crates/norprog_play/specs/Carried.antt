@@ -3,11 +3,11 @@ use Rattle.std.specs.Prelude.{◌≡◌, ℕ, ◌<◌, List, All, take, get_or, 
 use Rattle.nor_base.specs.declared.step.Step.{Step}
 use Rattle.nor_serprog.specs.declared.limits.Limits.{Limits}
 use Rattle.nor_serprog.specs.Carried.{IsOperation}
-use Rattle.norprog_play.specs.Moment.{clocks_of}
+use Rattle.nor_base.specs.Step.{step_clocks}
 
 -- the clocks of a step are one operation of the device
 abbrev pub IsCarried : Limits → Step → Type 0
-IsCarried limits x = (sent : List ℕ) × (asked : ℕ) × IsOperation limits (clocks_of x) sent asked
+IsCarried limits x = (sent : List ℕ) × (asked : ℕ) × IsOperation limits (step_clocks x) sent asked
 
 abbrev pub AreCarried : Limits → List Step → Type 0
 AreCarried limits steps = All (IsCarried limits) steps

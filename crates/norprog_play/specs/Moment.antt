@@ -1,7 +1,7 @@
 -- What a chip in memory and a device beside it do together (this project's).
 use Rattle.std.specs.Prelude.{◌≡◌, ℕ, ◌<◌, List, [], ◌∷◌, take, get_or, length, Option, Ok, Err}
 use Rattle.nor_base.specs.declared.step.Step.{Step}
-use Rattle.nor_base.specs.declared.step.Step.TheVariants.{Send, Poll, Verify}
+use Rattle.nor_base.specs.Step.{step_clocks}
 use Rattle.nor_base.specs.Chip.{Chip}
 use Rattle.nor_base.specs.Effect.{effect}
 use Rattle.nor_base.specs.Device.{Ahead, ahead_of}
@@ -9,12 +9,6 @@ use Rattle.nor_base.specs.Port.{Shown, Transacts}
 use Rattle.nor_serprog.specs.declared.fault.Reason.{Reason}
 use Rattle.nor_serprog.specs.declared.limits.Limits.{Limits}
 use Rattle.nor_serprog.specs.Follow.{Follows}
-
--- the clocks of a step
-abbrev pub clocks_of : Step → List ℕ
-clocks_of (Send clocks) = clocks
-clocks_of (Poll clocks) = clocks
-clocks_of (Verify clocks expect) = clocks
 
 -- at one moment: the chip in memory, what the device was sent so far, and what it has yet to give
 pub record Moment : Type 0 where
@@ -46,7 +40,7 @@ pub record Stops (limits : Limits) (turns : ℕ) (before : Moment) (clocks : Lis
 abbrev pub DoesAll : Limits → ℕ → Moment → List Step → Moment → Type 0
 DoesAll limits turns before [] after = after ≡ before
 DoesAll limits turns before (x ∷ xs) after =
-    (between : Moment) × Does limits turns before (clocks_of x) between × DoesAll limits turns between xs after
+    (between : Moment) × Does limits turns before (step_clocks x) between × DoesAll limits turns between xs after
 
 -- both did those before this one, which ended so, and nothing else
 pub record StopsAt (limits : Limits) (turns : ℕ) (before : Moment) (steps : List Step) (at : ℕ) (why : Reason) (after : Moment) : Type 0
@@ -56,4 +50,4 @@ pub record StopsAt (limits : Limits) (turns : ℕ) (before : Moment) (steps : Li
     pub done : DoesAll limits turns before (take at steps) reached
     pub last : Step
     pub is : last ≡ get_or steps at last
-    pub stop : Stops limits turns reached (clocks_of last) why after
+    pub stop : Stops limits turns reached (step_clocks last) why after

@@ -9,8 +9,8 @@ use Rattle.nor_base.specs.Chip.{begins4}
 use Rattle.nor_base.specs.Decoding.{Instruction, decode}
 use Rattle.nor_base.specs.Effect.{place}
 use Rattle.nor_base.specs.Parameters.{Parameters, block_size}
-use Rattle.nor_base.specs.Spelling.{mode_after}
-use Rattle.norprog_play.specs.Moment.{clocks_of}
+use Rattle.nor_base.specs.Spelling.{mode_by}
+use Rattle.nor_base.specs.Step.{step_clocks}
 
 -- some byte of a program goes there: on from its address, and round within its page
 abbrev pub Programs : Parameters → Instruction → ℕ → Type 0
@@ -32,18 +32,13 @@ abbrev pub ChangesSeen : Parameters → Option Instruction → ℕ → Type 0
 ChangesSeen m None a = ⊥
 ChangesSeen m (Some i) a = Changes m i i.what a
 
--- the address mode after it
-abbrev pub mode_by : Bool → Option Instruction → Bool
-mode_by mode4 None = mode4
-mode_by mode4 (Some i) = mode_after i.what mode4
-
 -- a step touches an address, on a chip in an address mode
 abbrev pub Touches : Parameters → Bool → Step → ℕ → Type 0
-Touches m mode4 x a = ChangesSeen m (decode m mode4 (clocks_of x)) a
+Touches m mode4 x a = ChangesSeen m (decode m mode4 (step_clocks x)) a
 
 -- the address mode after a step, and after steps
 abbrev pub mode_past : Parameters → Bool → Step → Bool
-mode_past m mode4 x = mode_by mode4 (decode m mode4 (clocks_of x))
+mode_past m mode4 x = mode_by mode4 (decode m mode4 (step_clocks x))
 
 abbrev pub mode_past_all : Parameters → Bool → List Step → Bool
 mode_past_all m mode4 [] = mode4

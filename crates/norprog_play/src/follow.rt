@@ -4,11 +4,11 @@ ghost use Rattle.std.specs.Prelude.{◌≡◌, ◌≤◌, ◌<◌, ◌-◌, ◌^
 ghost use Rattle.nor_base.specs.Chip.{Chip as ShownChip};
 ghost use Rattle.nor_base.specs.Run.{played};
 ghost use Rattle.nor_base.specs.Sample.{sampled_count};
+ghost use Rattle.nor_base.specs.Step.{step_clocks};
 ghost use Rattle.norprog_play.specs.Carried.{IsCarried, AreCarried};
-ghost use Rattle.norprog_play.specs.Moment.{clocks_of, moment, Does, DoesAll, Stops, StopsAt, IsTaken};
+ghost use Rattle.norprog_play.specs.Moment.{moment, Does, DoesAll, Stops, StopsAt, IsTaken};
 
 use crate::progress::Progress;
-use crate::step::clocks;
 use nor_base::{ByteOut, PortFault, Step, sampled};
 use nor_chip::Port;
 use nor_serprog::{Reason, Shadowed};
@@ -32,7 +32,7 @@ pub(crate) fn follow_steps<R: Read + Drop, W: Write + Drop, P: ByteOut>(
 ) -> Result<(), Halt>
     requires fresh { port.old.reason ≡ None }
     requires count { port.old.failed < 2 ^ 64 - 1 }
-    requires wide { All (λ step. sampled_count (clocks_of step) ≤ length room.old) steps.now }
+    requires wide { All (λ step. sampled_count (step_clocks step) ≤ length room.old) steps.now }
     requires goes { (chip : ShownChip) × (played port.old.chip.setting 1 port.old.chip.chip steps.now ≡ Ok chip) }
     requires carried { AreCarried port.old.limits steps.now }
     requires told { P.count progress.old < 2 ^ 64 - 1 }
@@ -65,20 +65,20 @@ fn follow_step<R: Read + Drop, W: Write + Drop>(
 ) -> Result<(), Reason>
     requires fresh { port.old.reason ≡ None }
     requires count { port.old.failed < 2 ^ 64 - 1 }
-    requires wide { sampled_count (clocks_of step.now) ≤ length room.old }
-    requires taken { IsTaken port.old.chip (clocks_of step.now) }
+    requires wide { sampled_count (step_clocks step.now) ≤ length room.old }
+    requires taken { IsTaken port.old.chip (step_clocks step.now) }
     ensures done { MatchResult result
         (λ _. Does port.old.limits port.old.turns (moment port.old.chip (W.contents port.old.to.inner) (R.remaining port.old.from.inner))
-        (clocks_of step.now) (moment port.new.chip (W.contents port.new.to.inner) (R.remaining port.new.from.inner)))
+        (step_clocks step.now) (moment port.new.chip (W.contents port.new.to.inner) (R.remaining port.new.from.inner)))
         (λ why. Stops port.old.limits port.old.turns (moment port.old.chip (W.contents port.old.to.inner) (R.remaining port.old.from.inner))
-        (clocks_of step.now) why (moment port.new.chip (W.contents port.new.to.inner) (R.remaining port.new.from.inner))) }
+        (step_clocks step.now) why (moment port.new.chip (W.contents port.new.to.inner) (R.remaining port.new.from.inner))) }
     ensures fresh { IfOk result (λ _. port.new.reason ≡ None) }
     ensures count { IfOk result (λ _. port.new.failed ≡ port.old.failed) }
     ensures limits { port.new.limits ≡ port.old.limits }
     ensures turns { port.new.turns ≡ port.old.turns }
     ensures room { length room.new ≡ length room.old }
 {
-    let clocks = clocks(step);
+    let clocks = step.clocks();
     match port.transact(clocks, &mut room[..sampled(clocks)]) {
         Ok(()) => Ok(()),
         Err(PortFault::Wrong(_)) => unreachable!("the chip in memory takes the step"),

@@ -4,7 +4,6 @@ ghost use Rattle.std.specs.Prelude.{◌≡◌, ◌<◌, ◌-◌, ◌^◌, true};
 ghost use Rattle.nor_base.specs.Device.{Writes, Counts};
 ghost use Rattle.norprog_play.specs.Line.{progress_line};
 
-use crate::step::clocks;
 use itoa::Buffer;
 use nor_base::{ByteOut, Failed, Step, put_all, put_parts};
 
@@ -93,5 +92,5 @@ impl Progress {
 
 /// The bytes of a step on the bus: eight clocks for each.
 fn bytes(step: &Step) -> u64 {
-    clocks(step).len() as u64 / 8
+    step.clocks().len() as u64 / 8
 }

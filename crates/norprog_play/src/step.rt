@@ -1,29 +1,18 @@
 //! What a step sends.
 
-ghost use Rattle.std.specs.Prelude.{◌≡◌, ◌≤◌, All};
+ghost use Rattle.std.specs.Prelude.{◌≤◌, All};
 ghost use Rattle.nor_base.specs.Sample.{sampled_count};
-ghost use Rattle.norprog_play.specs.Moment.{clocks_of};
+ghost use Rattle.nor_base.specs.Step.{step_clocks};
 
 use nor_base::{Step, sampled};
 
-/// The clocks of a step.
-pub(crate) fn clocks(step: &Step) -> &[u8]
-    ensures { result.now ≡ clocks_of step.now }
-{
-    match step {
-        Step::Send { clocks } | Step::Poll { clocks } | Step::Verify { clocks, .. } => {
-            clocks.as_slice()
-        }
-    }
-}
-
 /// A number of bytes that none of the steps samples more of, at once.
 pub(crate) fn widest(steps: &[Step]) -> usize
-    ensures { All (λ step. sampled_count (clocks_of step) ≤ result) steps.now }
+    ensures { All (λ step. sampled_count (step_clocks step) ≤ result) steps.now }
 {
     let mut most = 0;
     for step in steps {
-        most = larger(most, sampled(clocks(step)));
+        most = larger(most, sampled(step.clocks()));
     }
     most
 }

@@ -8,7 +8,6 @@ ghost use Rattle.nor_chip.specs.Sent.{instruction_of, sent};
 ghost use Rattle.norprog_play.specs.Marks.{MarkedBy, AreMarks};
 ghost use Rattle.norprog_play.specs.Touched.{LiesBetween, Changes, Programs, Touches, IsTouched, mode_past};
 
-use crate::step::clocks;
 use nor_base::{Meaning, Start, Step, What};
 use nor_chip::program::place;
 use nor_decode::{Seen, decode};
@@ -50,7 +49,7 @@ fn mark_step(marks: &mut [bool], meaning: &Meaning, mode4: bool, step: &Step) ->
     ensures marked { MarkedBy (Touches meaning.now mode4 step.now) marks.old marks.new }
     ensures mode { result ≡ mode_past meaning.now mode4 step.now }
 {
-    match decode(clocks(step), meaning, mode4) {
+    match decode(step.clocks(), meaning, mode4) {
         Some(seen) => {
             mark_seen(marks, meaning, &seen);
             mode_after(seen.what, mode4)

@@ -3,7 +3,6 @@
 ghost use Rattle.std.specs.Prelude.{MatchResult};
 ghost use Rattle.norprog_play.specs.Carried.{AreCarried, IsFirstNotCarried};
 
-use crate::step::clocks;
 use nor_base::Step;
 use nor_serprog::{Limits, is_carried};
 
@@ -14,7 +13,7 @@ pub fn carried(steps: &[Step], limits: &Limits) -> Result<(), u64>
 {
     let mut number: u64 = 0;
     for step in steps {
-        if !is_carried(clocks(step), limits) {
+        if !is_carried(step.clocks(), limits) {
             return Err(number);
         }
         number += 1;

@@ -7,12 +7,11 @@ use Rattle.norprog_words.specs.Chip.{Origin, origin_of}
 use Rattle.norprog_words.specs.Setup.{IsSetupTask, ServesSetup}
 use Rattle.norprog_words.specs.Shelf.{FileFacts, IsMadeApart, IsTextIn, Named, WhereNamed, tables_file}
 use Rattle.norprog_words.specs.Told.{OfLine}
-use Rattle.norprog_words.specs.Values.{limit_of}
+use Rattle.norprog_words.specs.Values.{limit_of, said_number}
 use Rattle.norprog_run.specs.declared.request.Bench.{Bench}
 use Rattle.norprog_words.specs.declared.given.GivenRun.{GivenRun}
 use Rattle.norprog_run.specs.declared.request.RunRequest.{RunRequest}
 use Rattle.norprog_run.specs.Request.{asked_busy, asked_limit}
-use Rattle.norprog_run.specs.Values.{said_page}
 
 -- what is asked of a play: the chip, in a task that has neither image nor layout; the bench; what is ahead of the content's reader,
 -- and its length in bytes; and what its output held when it was made, where it has one
@@ -55,7 +54,7 @@ pub record Serves (files : FileFacts) (given : GivenRun) (t : PlayTask) : Type 0
   pub chip : ServesSetup files given.setup t.chip
   pub content : Named (λ name. files.opened name t.content t.len) (option_map (λ t. t.now) given.content)
   pub made : WhereNamed (IsMadeApart files (input_files_asked given (origin_of chip.setup.chip))) (option_map (λ t. t.now) given.out) t.begun
-  pub page : said_page (option_map (λ t. t.now) given.page) ≡ Some t.bench.page
+  pub page : said_number (option_map (λ t. t.now) given.page) ≡ Some t.bench.page
   pub busy : asked_busy given ≡ Some t.bench.busy.items
   pub keep : t.bench.keep ≡ given.keep
   pub limit : limit_of (asked_limit given) ≡ Some t.bench.limit

@@ -27,7 +27,8 @@ use Rattle.nor_work.proofs.Task.Whole.{planned_works}
 use Rattle.nor_work.proofs.Erased.Erasing.{erased_for}
 use Rattle.nor_work.proofs.Erased.Needed.{erased_needed}
 use Rattle.nor_work.proofs.Erased.Least.{no_script_erases_less}
-use Rattle.nor_work.proofs.Spelling.Sent.{all_append, IsFrom, units_from}
+use Rattle.nor_base.proofs.ListLaws.{all_append}
+use Rattle.nor_work.proofs.Spelling.Sent.{IsFrom, units_from}
 use Rattle.nor_work.proofs.Runs.Lists.{all_flat, all_of, all_each, any_none}
 use Rattle.nor_work.proofs.Runs.Shown.{IsAddressed, passes, count_none}
 use Rattle.nor_work.proofs.Runs.Counted.{doing, planned_count}

@@ -31,10 +31,7 @@ use Rattle.nor_work.proofs.Erased.Reached.{four}
 use Rattle.nor_work.proofs.Erased.Needed.{erases_blocks}
 use Rattle.nor_work.proofs.Units.Wider.{some_page}
 use Rattle.nor_work.proofs.Task.Whole.{level_at, units_sound}
-
-pub all_append : {A : Type 0} (P : A → Type 0) (xs ys : List A) → AllByRecursion P xs → AllByRecursion P ys → AllByRecursion P (xs ++ ys)
-all_append P [] ys first second = second
-all_append P (x ∷ xs) ys first second = (first.0, all_append P xs ys first.1 second)
+use Rattle.nor_base.proofs.ListLaws.{all_append}
 
 -- parts of bytes are bytes
 bytes_of_each : (xs : List ℕ) → ((k : ℕ) → slice_index xs k < 256) → are_bytes xs ≡ true

@@ -9,6 +9,7 @@ use Rattle.nor_base.specs.Effect.{effect}
 use Rattle.nor_base.specs.Run.{poll_clocks, done, step, step_trail, go_on, one_later, run, trail}
 use Rattle.nor_base.specs.Spelling.{Instr, seen, IsSentBy, IsStepOf, AreStepsOf, mode_after}
 use Rattle.nor_laws.proofs.PollLaws.{poll_ends, poll_keeps_array}
+use Rattle.nor_base.proofs.ListLaws.{all_append}
 
 -- a chip takes a step, and what holds of the array holds after each of its transactions
 pub record Takes (P : List ℕ → Type 0) (s : Setting) (c : Chip) (x : Step) (d : Chip) : Type 0 where
@@ -19,10 +20,6 @@ pub record Takes (P : List ℕ → Type 0) (s : Setting) (c : Chip) (x : Step) (
 pub record Runs (P : List ℕ → Type 0) (s : Setting) (c : Chip) (steps : List Step) (d : Chip) : Type 0 where
   pub runs : run s c steps ≡ Ok d
   pub along : AllByRecursion (λ (e : Chip). P e.array) (trail s c steps)
-
-all_append : (P : Chip → Type 0) (xs ys : List Chip) → AllByRecursion P xs → AllByRecursion P ys → AllByRecursion P (xs ++ ys)
-all_append P [] ys these those = those
-all_append P (x ∷ xs) ys these those = (these.0, all_append P xs ys these.1 those)
 
 pub runs_none : (P : List ℕ → Type 0) (s : Setting) (c : Chip) → Runs P s c [] c
 unfolding run trail

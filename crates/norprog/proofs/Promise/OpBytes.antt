@@ -14,13 +14,10 @@ use Rattle.nor_base.specs.Units.{WorkUnit, pages, page_unit, unit_by, units_over
 use Rattle.nor_job.specs.Written.{AreBytes}
 use Rattle.norprog.proofs.Promise.Bytes.{all_small, small_range}
 use Rattle.norprog.proofs.Promise.Steps.{AreOpBytes}
+use Rattle.nor_base.proofs.ListLaws.{all_append}
 
 abbrev HasBytes : Program → Type 0
 HasBytes p = are_bytes p.bytes ≡ true
-
-all_append : {A : Type 0} (P : A → Type 0) (xs ys : List A) → AllByRecursion P xs → AllByRecursion P ys → AllByRecursion P (xs ++ ys)
-all_append P [] ys first second = second
-all_append P (x ∷ xs) ys first second = (first.0, all_append P xs ys first.1 second)
 
 all_flat : {A B : Type 0} (P : B → Type 0) (f : A → List B) → ((x : A) → AllByRecursion P (f x)) → (xs : List A) → AllByRecursion P (flat_map f xs)
 all_flat P f each [] = tt

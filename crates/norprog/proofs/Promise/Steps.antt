@@ -23,6 +23,7 @@ use Rattle.nor_base.specs.Spelling.{Instr, Spells, IsStepBy, AreStepsOf, mode_af
 use Rattle.nor_base.specs.Step.{are_clocks, is_filled, IsStep}
 use Rattle.nor_laws.specs.Spelling.{HasSpelling}
 use Rattle.nor_steps.specs.Lines.{step_by, steps_of}
+use Rattle.nor_base.proofs.ListLaws.{all_append}
 
 -- a status read is the poll, and what is sent or read are bytes
 abbrev IsPollBy : What → Instr → Type 0
@@ -32,10 +33,6 @@ IsPollBy other i = ⊤
 pub record IsPlain (i : Instr) : Type 0 where
   pub poll : IsPollBy i.what i
   pub bytes : are_bytes i.bytes ≡ true
-
-all_append : {A : Type 0} (P : A → Type 0) (xs ys : List A) → AllByRecursion P xs → AllByRecursion P ys → AllByRecursion P (xs ++ ys)
-all_append P [] ys first second = second
-all_append P (x ∷ xs) ys first second = (first.0, all_append P xs ys first.1 second)
 
 plain_if : (b : Bool) (x y : Instr) → IsPlain x → IsPlain y → IsPlain (if b then x else y)
 plain_if true x y p q = p

@@ -5,7 +5,8 @@ use Rattle.nor_play.specs.Fed.{Player, past}
 use Rattle.nor_play.specs.Play.{Plays}
 use Rattle.nor_play.specs.Asks.{AsksPlay}
 use Rattle.nor_base.proofs.FaultLaws.{answered}
-use Rattle.nor_play.proofs.PlayLemmas.{at_one, one_taken}
+use Rattle.nor_base.proofs.ListLaws.{one_taken}
+use Rattle.nor_play.proofs.PlayLemmas.{at_one}
 use Rattle.nor_play.proofs.AskLemmas.{HasAsked, nothing_asked}
 use Rattle.nor_play.proofs.FedLaws.{IsFed, fed_none, fed_more, fed_more_asks, fed_halts, fed_halts_asks}
 use Rattle.nor_play.proofs.player.play.Goals as goal

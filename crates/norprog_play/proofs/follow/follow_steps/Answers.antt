@@ -1,6 +1,7 @@
 -- One step more.
 use Rattle.std.proofs.Common.{◌+◌, ◌∙◌, ap, arith}
-use Rattle.norprog_play.specs.Moment.{clocks_of, moment}
+use Rattle.nor_base.specs.Step.{step_clocks}
+use Rattle.norprog_play.specs.Moment.{moment}
 use Rattle.norprog_play.proofs.FollowedLemmas.{takes_next, bounded, does_next, goes_next, goes_to_end}
 use Rattle.norprog_play.proofs.follow.follow_steps.Goals as goal
 
@@ -14,7 +15,7 @@ loop-step-preserved g c =
     let before = moment c.args.port.now.chip (g.W.Write.contents c.args.port.now.to.inner) (g.R.Read.remaining c.args.port.now.from.inner) in
     let now = moment c.loop-step.port.chip (g.W.Write.contents c.loop-step.port.to.inner) (g.R.Read.remaining c.loop-step.port.from.inner) in
     let after = moment c.follow_step.new.port.chip (g.W.Write.contents c.follow_step.new.port.to.inner) (g.R.Read.remaining c.follow_step.new.port.from.inner) in
-    let one = bounded c.args.port.now.limits c.loop-step.port.limits c.args.port.now.turns c.loop-step.port.turns now after (clocks_of c.step-item.result)
+    let one = bounded c.args.port.now.limits c.loop-step.port.limits c.args.port.now.turns c.loop-step.port.turns now after (step_clocks c.step-item.result)
     c.loop-step.invariant.limits c.loop-step.invariant.turns c.in_default.ensures.done in
     record {
       does = does_next c.args.port.now.limits c.args.port.now.turns before now after c.args.steps.now c.loop-step.step-index c.step-item.result c.loop-step-test.true c.step-item.is

@@ -10,9 +10,9 @@ returns-in_err-at-clause-bytes g c = Writes-cut _ _ _ _ c.from_residual.ensures.
 
 pub returns-clause-bytes : goal.returns-clause-bytes
 returns-clause-bytes g c =
-    clocks_put c.args.self c.in_ok-at.at c.args.step.now _ _ _ _ _ c.put_clocks.result c.clocks_in.ensures c.expected.ensures c.in_ok-at.ensures.bytes
+    clocks_put c.args.self c.in_ok-at.at c.args.step.now _ _ _ _ _ c.put_clocks.result c.clocks.ensures c.expected.ensures c.in_ok-at.ensures.bytes
     c.in_ok-at.ensures.drawn c.put_clocks.ensures.bytes
 
 pub returns-clause-drawn : goal.returns-clause-drawn
 returns-clause-drawn g c =
-    clocks_after c.args.self c.in_ok-at.at c.args.step.now _ _ c.put_clocks.result c.clocks_in.ensures c.expected.ensures c.in_ok-at.ensures.drawn c.put_clocks.ensures.drawn
+    clocks_after c.args.self c.in_ok-at.at c.args.step.now _ _ c.put_clocks.result c.clocks.ensures c.expected.ensures c.in_ok-at.ensures.drawn c.put_clocks.ensures.drawn
