@@ -1,10 +1,10 @@
 -- The parts of a waveform's text.
-use Rattle.std.proofs.Common.{◌≡◌, ℕ, ◌+◌, ◌%◌, ◌^◌, zero, suc, List, [], ◌∷◌, ◌++◌, length, Option, Result, refl, sym, ◌∙◌, ap, subst, append_assoc, append-nil, add_assoc, add-one, zero-add, add-zero, add-suc, suc-add, arith}
+use Rattle.std.proofs.Common.{◌≡◌, ℕ, ◌+◌, ◌%◌, ◌^◌, suc, List, [], ◌∷◌, ◌++◌, length, Option, Result, refl, sym, ◌∙◌, ap, subst, append_assoc, append-nil, zero-add, add-zero, arith}
 use Rattle.std.specs.Prelude.{codes, decimal, flat_map}
 use Rattle.std.specs.Io.KnownBytes.{Appends}
 use Rattle.std.proofs.Math.Nat.{mod-add-mod}
 use Rattle.nor_base.specs.Device.{Cuts, Writes}
-use Rattle.nor_base.proofs.DeviceLaws.{Appends-append, Cuts-then, Cuts-more, Writes-then}
+use Rattle.nor_base.proofs.DeviceLaws.{Cuts-then, Cuts-more, Writes-then}
 use Rattle.nor_base.specs.declared.device.Failed.{Failed}
 use Rattle.nor_base.specs.Script.{closed}
 use Rattle.nor_base.specs.declared.step.Step.{Step}

@@ -1,5 +1,5 @@
 -- The wires of a waveform, and the lines of a Value Change Dump that say which of them change (IEEE 1364).
-use Rattle.std.specs.Prelude.{ℕ, ◌==◌, if◌then◌else◌, List, [], ◌∷◌, ◌++◌, codes}
+use Rattle.std.specs.Prelude.{ℕ, ◌==◌, if◌then◌else◌, List, [], ◌∷◌, ◌++◌}
 use Rattle.nor_waves.specs.declared.wires.Level.{Level}
 use Rattle.nor_waves.specs.declared.wires.Level.TheVariants.{Low, High, Unknown, Floating}
 use Rattle.nor_waves.specs.declared.wires.Levels.{Levels}

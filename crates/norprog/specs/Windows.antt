@@ -1,16 +1,14 @@
 -- What a part of the work has done: content was read, and a text of its windows was written (this project's).
 use Rattle.std.specs.Prelude.{◌≡◌, ◌≢◌, ◌⊎◌, ℕ, false, ◌+◌, ◌%◌, ◌<◌, ◌≤◌, min, ⊤, List, [], ◌++◌, length, take, count_by, Option}
-use Rattle.std.specs.List.{enumerate_from}
 use Rattle.std.specs.Io.KnownBytes.{Appends}
 use Rattle.nor_base.specs.Device.{Ahead, Gives, IsAtEnd}
 use Rattle.nor_base.specs.Need.{is_at_fault}
 use Rattle.nor_base.specs.Planned.{planned, planned_ops}
 use Rattle.nor_base.specs.Script.{script_text}
 use Rattle.nor_base.specs.Strategies.{strategy}
-use Rattle.nor_base.specs.Target.{target_byte, is_ignored}
+use Rattle.nor_base.specs.Target.{is_ignored}
 use Rattle.nor_geometry.specs.Plan.{HasPart, IsFault}
 use Rattle.nor_geometry.specs.Window.{IsWindowSize}
-use Rattle.nor_hex.specs.Image.{byte_at}
 use Rattle.nor_job.specs.declared.fault.BuildFault.{BuildFault}
 use Rattle.nor_job.specs.declared.fault.BuildFault.TheVariants as fault
 use Rattle.nor_job.specs.declared.job.Job.{Job}

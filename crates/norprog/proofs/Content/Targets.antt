@@ -1,12 +1,10 @@
 -- The target of parts of a content.
-use Rattle.std.proofs.Common.{◌≡◌, ℕ, suc, ◌+◌, ◌-◌, List, [], ◌∷◌, ◌++◌, length, map, refl, ◌∙◌, ap, arith, inl, inr, length-append}
+use Rattle.std.proofs.Common.{◌≡◌, ℕ, suc, ◌+◌, ◌-◌, List, [], ◌∷◌, ◌++◌, length, map, ◌∙◌, ap, arith, inl, inr, length-append}
 use Rattle.std.specs.List.{slice_index, enumerate_from}
 use Rattle.std.proofs.Math.ListN.{get_or-append}
 use Rattle.std.proofs.Math.Seq.{get_or-append_right}
 use Rattle.std.proofs.lemmas.Bool.{cases_lt}
-use Rattle.std.proofs.lemmas.List.{map-append, length-map, get_or-append-add}
-use Rattle.std.proofs.lemmas.List.FromFn.{length-enumerate_from}
-use Rattle.nor_base.specs.Device.{Ahead, Unknown, Finite, Endless, Gives}
+use Rattle.std.proofs.lemmas.List.{map-append, get_or-append-add}
 use Rattle.nor_base.specs.Target.{target_byte}
 use Rattle.nor_geometry.specs.Plan.{HasPart}
 use Rattle.nor_hex.specs.Image.{byte_at}

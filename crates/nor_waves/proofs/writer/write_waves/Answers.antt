@@ -1,5 +1,4 @@
 -- The header, the steps, the gap after the last, and the stamp of the end.
-use Rattle.std.proofs.Common.{◌≡◌, refl}
 use Rattle.nor_base.proofs.DeviceLaws.{Writes-cut}
 use Rattle.nor_waves.proofs.TextLemmas.{header_cut, steps_cut, last_cut, all_put}
 use Rattle.nor_waves.proofs.writer.write_waves.Goals as goal

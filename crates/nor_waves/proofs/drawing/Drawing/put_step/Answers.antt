@@ -1,6 +1,4 @@
 -- The gap, and then the clocks.
-use Rattle.std.proofs.Common.{◌≡◌, ◌∙◌, ap, sym, subst}
-use Rattle.nor_base.specs.Device.{Cuts}
 use Rattle.nor_base.proofs.DeviceLaws.{Writes-cut}
 use Rattle.nor_waves.proofs.DrawLemmas.{gap_cut, clocks_put, clocks_after}
 use Rattle.nor_waves.proofs.drawing.Drawing.put_step.Goals as goal

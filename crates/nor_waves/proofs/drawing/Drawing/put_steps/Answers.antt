@@ -1,9 +1,7 @@
 -- One step more, a step that is cut, and the last one.
-use Rattle.std.proofs.Common.{◌≡◌, ◌∙◌, ◌+◌, drop, get_or, refl, arith}
-use Rattle.std.specs.Prelude.{flat_map}
+use Rattle.std.proofs.Common.{◌∙◌, refl}
 use Rattle.nor_base.proofs.DeviceLaws.{Writes-cut}
-use Rattle.nor_waves.specs.Ticks.{step_ticks}
-use Rattle.nor_waves.proofs.DrawLemmas.{none_drawn, more_drawn, cut_drawn, all_drawn, all_after, step_left, no_step_left}
+use Rattle.nor_waves.proofs.DrawLemmas.{none_drawn, more_drawn, cut_drawn, step_left}
 use Rattle.nor_waves.proofs.drawing.Drawing.put_steps.Goals as goal
 
 pub loop-step-init : goal.loop-step-init

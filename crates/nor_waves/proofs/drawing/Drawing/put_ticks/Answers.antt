@@ -1,7 +1,5 @@
 -- One tick more, a tick that is cut, and the last one.
-use Rattle.std.proofs.Common.{◌≡◌, ◌∙◌, [], ◌∷◌, ◌+◌, drop, get_or, refl, arith, subst}
-use Rattle.std.specs.Io.KnownBytes.{Appends}
-use Rattle.nor_base.specs.Device.{Cuts}
+use Rattle.std.proofs.Common.{◌∙◌, [], ◌∷◌, ◌+◌, drop, get_or, refl}
 use Rattle.nor_base.proofs.DeviceLaws.{Writes-cut}
 use Rattle.nor_waves.proofs.DrawLemmas.{none_drawn, more_drawn, cut_drawn, tick_left, one_put, one_cut, one_after, unset}
 use Rattle.nor_waves.proofs.drawing.Drawing.put_ticks.Goals as goal
