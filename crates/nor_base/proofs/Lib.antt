@@ -7,4 +7,6 @@ pub mod RegionLaws
 pub mod ArrayLaws
 pub mod FaultLaws
 pub mod ListLaws
+pub mod OutcomeLaws
+pub mod BitLaws
 pub mod StretchLaws

@@ -1,15 +1,12 @@
 -- One more part of a byte string.
-use Rattle.std.proofs.Common.{◌≡◌, ℕ, ◌≤◌, ◌+◌, List, ◌++◌, length, take, drop, Option, sym, ◌∙◌, ap, subst, arith, length-append, length-drop}
+use Rattle.std.proofs.Common.{◌≡◌, ℕ, ◌≤◌, ◌+◌, List, ◌++◌, length, take, drop, Option, sym, ap, subst, arith, length-append, length-drop}
 use Rattle.std.specs.Io.KnownBytes.{Appends}
-use Rattle.std.proofs.Math.Seq.{take-add, take-append-add}
-use Rattle.std.proofs.lemmas.List.{take-append-drop, take-append-le, length-take-le}
+use Rattle.std.proofs.Math.Seq.{take-add}
+use Rattle.std.proofs.lemmas.List.{take-append-drop, length-take-le}
 use borrow.Rule.Slice.PartMut.{put_mid, post_of}
 use Rattle.nor_base.specs.Device.{Ahead, Gives}
 use Rattle.nor_base.proofs.DeviceLaws.{Appends-append, Gives-append}
-
-shorter_front : (xs : List ℕ) (n m : ℕ) → n ≤ length (take m xs) → take n (take m xs) ≡ take n xs
-shorter_front xs n m fits =
-    sym (take-append-le n (take m xs) (drop m xs) fits) ∙ ap (take n) (take-append-drop m xs)
+use Rattle.nor_base.proofs.ListLaws.{shorter_front, front_and_part}
 
 -- n more bytes of xs, of the m from a on
 pub appends_more : (before between after : Option (List ℕ)) (xs : List ℕ) (a m n : ℕ) → n ≤ length (take m (drop a xs))
@@ -17,13 +14,6 @@ pub appends_more : (before between after : Option (List ℕ)) (xs : List ℕ) (a
 appends_more before between after xs a m n fits p q =
     let rest : Appends between after (take n (drop a xs)) = subst (Appends between after) (shorter_front (drop a xs) n m fits) q in
     subst (Appends before after) (sym (take-add a n xs)) (Appends-append before between after (take a xs) (take n (drop a xs)) p rest)
-
-front_and_part : (xs ys : List ℕ) (a k n : ℕ) → a ≤ length xs → n ≤ length ys → take (a + n) (put_mid a k xs ys) ≡ take a xs ++ take n ys
-front_and_part xs ys a k n a_fits n_fits =
-    let whole : length (take a xs) ≡ a = length-take-le a xs a_fits in
-    ap (λ m. take (m + n) (put_mid a k xs ys)) (sym whole)
-    ∙ take-append-add (take a xs) (ys ++ post_of a k xs) n
-    ∙ ap (λ part. take a xs ++ part) (take-append-le n ys (post_of a k xs) n_fits)
 
 pub within_buffer : (xs ys : List ℕ) (a k n : ℕ) → a ≤ length xs → n ≤ length ys → a + n ≤ length (put_mid a k xs ys)
 within_buffer xs ys a k n a_fits n_fits =

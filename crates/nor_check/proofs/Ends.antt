@@ -9,7 +9,8 @@ use Rattle.nor_base.specs.declared.wrong.Wrong.TheVariants as wrong
 use Rattle.nor_base.specs.Parameters.{Parameters}
 use Rattle.nor_base.specs.Chip.{Setting, Chip, is_settled, ready}
 use Rattle.nor_base.specs.Effect.{effect}
-use Rattle.nor_base.specs.Run.{Stop, one_later, done, matched, go_on, poll_clocks, polled, is_verify, run, step, DoesTask, DoesTaskOnEvery}
+use Rattle.nor_base.specs.Run.{Stop, done, matched, go_on, poll_clocks, polled, is_verify, run, step, DoesTask, DoesTaskOnEvery}
+use Rattle.nor_base.proofs.OutcomeLaws.{later_ok}
 use Rattle.nor_laws.specs.Laws.{KeepsSize, PollEnds}
 use Rattle.nor_check.specs.declared.verdict.Verdict.{Verdict}
 use Rattle.nor_check.specs.declared.verdict.Verdict.TheVariants.{Yes, No}
@@ -49,13 +50,9 @@ step_size s c d (Poll clocks) keeps ends h =
 step_size s c d (Verify clocks expect) keeps ends h =
     done_size s c d clocks (effect s c clocks) keeps refl (matched_done expect d (effect s c clocks) (past (is_verify clocks) _ d h))
 
-not_later : (r : Result Chip Stop) (d : Chip) → one_later r ≡ Ok d → r ≡ Ok d
-not_later (Ok c) d h = h
-not_later (Err stop) d h = cc
-
 run_size_by : (s : Setting) (c d : Chip) (x : Step) (f : Chip → Result Chip Stop) (r : Result Chip Wrong) → KeepsSize → PollEnds → step s c x ≡ r
     → ((e : Chip) → f e ≡ Ok d → length d.array ≡ length e.array) → go_on c r f ≡ Ok d → length d.array ≡ length c.array
-run_size_by s c d x f (Ok e) keeps ends is more h = more e (not_later (f e) d h) ∙ step_size s c e x keeps ends is
+run_size_by s c d x f (Ok e) keeps ends is more h = more e (later_ok (f e) d h) ∙ step_size s c e x keeps ends is
 run_size_by s c d x f (Err cause) keeps ends is more h = cc
 
 run_size : (s : Setting) (c d : Chip) (steps : List Step) → KeepsSize → PollEnds → run s c steps ≡ Ok d → length d.array ≡ length c.array

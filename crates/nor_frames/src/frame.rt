@@ -25,8 +25,8 @@ pub fn head(instr: &Instr<'_>) -> ArrayVec<u8, 5>
     bytes
 }
 
-/// Appends the clocks of an instruction: opcode, address, dummies, data. It has at most four address bytes. It asks for
-/// their memory at once.
+/// Appends the clocks of an instruction: opcode, address, dummies, data. They spell the instruction, wherever its opcode has
+/// a row that agrees with it and it fits its clocks. It has at most four address bytes. It asks for their memory at once.
 ///
 /// `Memory` where the growth is refused; the vector is as it was then.
 pub fn clocks_into(instr: &Instr<'_>, clocks: &mut Vec<u8>) -> Result<(), FramesFault>

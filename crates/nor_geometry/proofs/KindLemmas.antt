@@ -115,7 +115,7 @@ floor_is n s a some aligned low high =
     let rest : a % n ≡ a - s = ap (λ x. x % n) split ∙ same_rest n (s / n) (a - s) (omega arith) in
     omega arith
 
-none_some : (b : Block) (o : Option Block) → o ≡ None → o ≡ Some b → ⊥
+pub none_some : (b : Block) (o : Option Block) → o ≡ None → o ≡ Some b → ⊥
 none_some b o none is = let both : None ≡ Some b = sym none ∙ is in cc
 
 kept_some : (test : Block → Bool) (x b : Block) → kept_if test (Some x) ≡ Some b → (test b ≡ true) × (x ≡ b)
@@ -177,7 +177,7 @@ same_place m by a b c accepted r s size =
     floor_is b.size b.start a p.some p.aligned r.here.0 r.here.1 ∙ ap (λ n. a - a % n) size
     ∙ sym (floor_is c.size c.start a q.some q.aligned s.here.0 s.here.1)
 
-past_end : (xs : List (Option Erase)) (i : ℕ) → length xs ≤ i → slice_get xs i ≡ None
+pub past_end : (xs : List (Option Erase)) (i : ℕ) → length xs ≤ i → slice_get xs i ≡ None
 past_end [] i fits = refl
 past_end (x ∷ xs) zero fits = absurd (omega arith)
 past_end (x ∷ xs) (suc i) fits = past_end xs i (omega arith)

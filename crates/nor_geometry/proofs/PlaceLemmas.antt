@@ -10,7 +10,7 @@ use Rattle.nor_base.specs.Accepted.{IsAccepted}
 use Rattle.nor_base.specs.Blocks.{Block}
 use Rattle.nor_geometry.specs.Legal.{IsReachedAt, IsListedAt, AreLegalAt, IsSmallestAt}
 use Rattle.nor_geometry.specs.Takes.{reached_at, with_block}
-use Rattle.nor_geometry.proofs.KindLemmas.{reached_is, is_reached, placed, few_kinds}
+use Rattle.nor_geometry.proofs.KindLemmas.{none_some, reached_is, is_reached, placed, few_kinds}
 use Rattle.nor_geometry.proofs.ListLemmas.{Covers, IsRising, AreAbove, rising_with, each_with, covers_still, covers_new, all_of, pairs_of, length_with}
 
 -- reached, of a kind below one
@@ -42,9 +42,6 @@ each_wider m by a kind (b ∷ bs) h = (record { is = h.0.is; below = omega (arit
 low_kinds : (m : Parameters) (by : Strategy) (a kind : ℕ) (bs : List Block) → AllByRecursion (IsBelow m by a kind) bs → AllByRecursion (λ c. c.kind ≤ kind) bs
 low_kinds m by a kind [] h = tt
 low_kinds m by a kind (b ∷ bs) h = (omega (arith, h.0.below), low_kinds m by a kind bs h.1)
-
-none_some : (b : Block) (o : Option Block) → o ≡ None → o ≡ Some b → ⊥
-none_some b o none is = let both : None ≡ Some b = sym none ∙ is in cc
 
 pub without : (m : Parameters) (by : Strategy) (a kind : ℕ) (bs : List Block) → IsAccepted m → AreBelow m by a kind bs → reached_at m by a kind ≡ None → AreBelow m by a (kind + 1) bs
 without m by a kind bs accepted h none = record {

@@ -3,11 +3,12 @@ use Rattle.std.proofs.Common.{◌≡◌, ℕ, zero, suc, ◌+◌, ◌*◌, ◌/�
 use Rattle.std.specs.Prelude.{flat_map, nat_lt}
 use Rattle.std.specs.List.{list_all}
 use Rattle.std.proofs.Math.Arith.{mod-mul}
-use Rattle.std.proofs.lemmas.Bool.{agree_below_at, and_parts, lt-ltb, ltb-true}
+use Rattle.std.proofs.lemmas.Bool.{agree_below_at, lt-ltb}
 use Rattle.std.proofs.lemmas.List.Folds.{list_all-append}
 use Rattle.nor_base.specs.Array.{are_bytes}
 use Rattle.nor_base.specs.Decoding.{is_bit_sent, is_nibble_sent, bit, nibble, number, bytes_of_bits, bytes_of_nibbles}
 use Rattle.nor_base.specs.Clocks.{bits, nibbles, address_bytes}
+use Rattle.nor_base.proofs.BitLaws.{length-all_bits, first_byte, later_bytes}
 
 -- a byte's symbols stand for it
 pub number_of_bits : (byte : ℕ) → byte < 256 → number (bits byte) ≡ byte
@@ -28,31 +29,6 @@ number_of_nibbles byte h = ap (λ n. n ∷ []) (eqb-true (16 * nibble (0x61 + by
 are_sent4 : (byte : ℕ) → byte < 256 → list_all is_nibble_sent (nibbles byte) ≡ true
 unfolding nibbles is_nibble_sent
 are_sent4 byte h = agree_below_at (λ n. list_all is_nibble_sent (nibbles n)) (λ n. true) 256 byte refl h
-
-pub length-bits : (byte : ℕ) → length (bits byte) ≡ 8
-unfolding bits
-length-bits byte = refl
-
-pub length-nibbles : (byte : ℕ) → length (nibbles byte) ≡ 2
-unfolding nibbles
-length-nibbles byte = refl
-
--- eight clocks a byte, or two
-pub length-all_bits : (bytes : List ℕ) → length (flat_map bits bytes) ≡ 8 * length bytes
-length-all_bits [] = refl
-length-all_bits (byte ∷ bytes) = let later = length-all_bits bytes in omega (arith, length-append (bits byte) (flat_map bits bytes), length-bits byte, later)
-
-pub length-all_nibbles : (bytes : List ℕ) → length (flat_map nibbles bytes) ≡ 2 * length bytes
-length-all_nibbles [] = refl
-length-all_nibbles (byte ∷ bytes) =
-    let later = length-all_nibbles bytes in omega (arith, length-append (nibbles byte) (flat_map nibbles bytes), length-nibbles byte, later)
-
--- the first of some bytes is one, and so are the others
-pub first_byte : (byte : ℕ) (bytes : List ℕ) → are_bytes (byte ∷ bytes) ≡ true → byte < 256
-first_byte byte bytes h = ltb-true byte 256 (and_parts (nat_lt byte 256) (are_bytes bytes) h).0
-
-pub later_bytes : (byte : ℕ) (bytes : List ℕ) → are_bytes (byte ∷ bytes) ≡ true → are_bytes bytes ≡ true
-later_bytes byte bytes h = (and_parts (nat_lt byte 256) (are_bytes bytes) h).1
 
 list_all_both : (p : ℕ → Bool) (xs ys : List ℕ) → list_all p xs ≡ true → list_all p ys ≡ true → list_all p (xs ++ ys) ≡ true
 list_all_both p xs ys first second = list_all-append p xs ys ∙ (rw (first, second))

@@ -14,7 +14,7 @@ use Rattle.nor_base.specs.Effect.{after, effect_if, effect}
 use Rattle.nor_base.specs.Run.{poll_clocks, polled, is_verify, done, matched, step, go_on, one_later, run, Halt, halt_on, poll_or_halt, polled_for, step_for, play_on, played}
 use Rattle.nor_laws.specs.Laws.{IsBelow}
 use Rattle.nor_laws.proofs.EffectLaws.{taken}
-use Rattle.nor_laws.proofs.PollLaws.{read_busy, read_idle, poll_ends}
+use Rattle.nor_laws.proofs.PollLaws.{read_busy, read_idle, poll_ends, left_with}
 
 -- what the next of the busy times is below, so are the others
 later_below : (times : List ℕ) (limit n : ℕ) → ((k : ℕ) → slice_index times k < limit) → slice_index (drop 1 times) n < limit
@@ -61,9 +61,6 @@ matched_below s c d clocks expect limit (Ok (e, bytes)) below is h =
     is_it e false h = cc
 
 -- a poll with enough turns ends as it would
-abbrev left_with : Chip → ℕ → Chip
-left_with c n = record c { left = n }
-
 idle_halts : (c d : Chip) (latch : Bool) (again : Chip → Result Chip Halt) → poll_or_halt c (Ok (d, (if latch then 2 else 0) ∷ [])) again ≡ Ok d
 idle_halts c d true again = refl
 idle_halts c d false again = refl

@@ -20,7 +20,7 @@ unfolding decode transaction by_row has_opcode is_form is_data is_bit_sent is_ni
 poll_is_status m mode4 = refl
 
 -- the chip with so many status reads left
-abbrev left_with : Chip → ℕ → Chip
+abbrev pub left_with : Chip → ℕ → Chip
 left_with c n = record c { left = n }
 
 -- with some left, a status read says busy and leaves one fewer
@@ -33,7 +33,7 @@ pub read_idle : (s : Setting) (c : Chip) → effect s (left_with c 0) poll_clock
 unfolding effect effect_of after answer is_out_of_range
 read_idle s c = rw (poll_is_status s.meaning c.mode4) refl
 
-says_idle : (latch : Bool) → says_busy ((if latch then 2 else 0) ∷ []) ≡ false
+pub says_idle : (latch : Bool) → says_busy ((if latch then 2 else 0) ∷ []) ≡ false
 says_idle true = refl
 says_idle false = refl
 

@@ -7,7 +7,8 @@ use Rattle.nor_base.specs.declared.wrong.Wrong.{Wrong}
 use Rattle.nor_base.specs.declared.wrong.Wrong.TheVariants as wrong
 use Rattle.nor_base.specs.Chip.{Setting, Chip}
 use Rattle.nor_base.specs.Effect.{effect}
-use Rattle.nor_base.specs.Run.{poll_clocks, poll_on, says_busy, polled, polled_trail, is_verify, done, matched, step, step_trail, Stop, go_on, one_later, run, trail_on, trail_after, trail}
+use Rattle.nor_base.specs.Run.{poll_clocks, poll_on, says_busy, polled, polled_trail, is_verify, done, matched, step, step_trail, go_on, run, trail_on, trail_after, trail}
+use Rattle.nor_base.proofs.OutcomeLaws.{later_ok}
 use Rattle.nor_laws.specs.Laws.{last_of}
 
 last_of-append : (c : Chip) (xs ys : List Chip) → last_of c (xs ++ ys) ≡ last_of (last_of c xs) ys
@@ -59,10 +60,6 @@ unfolding step step_trail
 step_ends s c d (Send clocks) h = done_ends c d (effect s c clocks) h
 step_ends s c d (Poll clocks) h = poll_if s c d (bytes_eq clocks poll_clocks) h
 step_ends s c d (Verify clocks expect) h = verify_if c d expect (effect s c clocks) (is_verify clocks) h
-
-later_ok : (r : Result Chip Stop) (d : Chip) → one_later r ≡ Ok d → r ≡ Ok d
-later_ok (Ok c) d h = h
-later_ok (Err stop) d h = cc
 
 run_on : (s : Setting) (c d : Chip) (x : Step) (xs : List Step) (first : Result Chip Wrong) → step s c x ≡ first
     → ((e : Chip) → run s e xs ≡ Ok d → last_of e (trail s e xs) ≡ d)

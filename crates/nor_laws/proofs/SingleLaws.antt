@@ -13,8 +13,9 @@ use Rattle.nor_base.specs.Run.{poll_clocks}
 use Rattle.nor_base.specs.Spelling.{Instr, Spells, seen}
 use Rattle.nor_base.specs.Operations.{poll}
 use Rattle.nor_base.specs.Clocks.{bits, clocks_of, HasRow, IsSendable}
+use Rattle.nor_base.proofs.ListLaws.{found_passes}
 use Rattle.nor_laws.proofs.SpelledLaws.{has_spelling}
-use Rattle.nor_laws.proofs.SymbolLemmas.{found_passes, bit_is, nibble_is, bit_sampled_is, nibble_sampled_is, idle_is}
+use Rattle.nor_laws.proofs.SymbolLemmas.{bit_is, nibble_is, bit_sampled_is, nibble_sampled_is, idle_is}
 
 -- bits of one length and number are the same
 number_small : (xs : List ℕ) → list_all is_bit_sent xs ≡ true → number xs < 2 ^ length xs

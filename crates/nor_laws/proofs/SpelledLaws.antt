@@ -10,7 +10,8 @@ use Rattle.nor_base.specs.Instructions.{Form, nothing, sends, sends4, samples, s
 use Rattle.nor_base.specs.Decoding.{instruction, decode, transaction, by_row, has_opcode, is_form, is_data, is_bit_sent, is_bit_sampled, is_nibble_sampled, is_idle, number, bytes_sent, bytes_asked, opcode}
 use Rattle.nor_base.specs.Spelling.{Instr, Spells, seen, bytes_to_send, count_to_read}
 use Rattle.nor_base.specs.Clocks.{bits, nibbles, address_bytes, body_clocks, clocks_of, HasRow, CanCarry, IsSendable}
-use Rattle.nor_laws.proofs.BitLemmas.{length-bits, length-all_bits, length-all_nibbles, all_sent, all_sent4, bytes_of_all_bits, bytes_of_all_nibbles, number_of_bits, are_sent, number_of_address, address_small, length-address_bytes}
+use Rattle.nor_base.proofs.BitLaws.{length-bits, length-all_bits, length-all_nibbles}
+use Rattle.nor_laws.proofs.BitLemmas.{all_sent, all_sent4, bytes_of_all_bits, bytes_of_all_nibbles, number_of_bits, are_sent, number_of_address, address_small, length-address_bytes}
 
 all_alike : (p : ℕ → Bool) (n symbol : ℕ) → p symbol ≡ true → list_all p (replicate n symbol) ≡ true
 all_alike p zero symbol h = refl

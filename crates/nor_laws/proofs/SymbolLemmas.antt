@@ -1,29 +1,13 @@
 -- A clock of each sort is one symbol, or one of a few.
-use Rattle.std.proofs.Common.{◌≡◌, ℕ, ◌+◌, ◌<◌, ◌==◌, ◌&&◌, ◌||◌, not, Bool, true, false, cond, List, [], ◌∷◌, Option, Some, None, refl, subst, eqb-true}
+use Rattle.std.proofs.Common.{◌≡◌, ℕ, ◌+◌, ◌<◌, ◌==◌, ◌&&◌, ◌||◌, not, Bool, true, false, Option, Some, None, refl, subst, eqb-true}
 use Rattle.std.specs.Prelude.{nat_lt, option_map}
-use Rattle.std.specs.List.{list_all, find}
 use Rattle.std.specs.Option.{option_map_or}
 use Rattle.std.proofs.lemmas.Bool.{agree_below_at, and_parts, ltb-true}
 use Rattle.nor_base.specs.declared.clock.Clock.{Clock}
 use Rattle.nor_base.specs.declared.clock.Sample.{Sample}
 use Rattle.nor_base.specs.Sample.{clocks, symbol, clock_at, sample}
 use Rattle.nor_base.specs.Decoding.{has_lanes, is_bit_sent, is_nibble_sent, is_bit_sampled, is_nibble_sampled, is_idle, bit, nibble}
-
--- what is found passes the test, and each that all pass
-pub record Passes {A : Type 0} (p q : A → Bool) (y : A) : Type 0 where
-  pub its : p y ≡ true
-  pub all : q y ≡ true
-
-found_step : {A : Type 0} (p q : A → Bool) (x y : A) (xs : List A) (b : Bool) → p x ≡ b → q x ≡ true → (find p xs ≡ Some y → Passes p q y)
-    → cond b (Some x) (find p xs) ≡ Some y → Passes p q y
-found_step p q x y xs true is whole later h = let same : x ≡ y = cc in subst (Passes p q) same (record { its = is; all = whole })
-found_step p q x y xs false is whole later h = later h
-
-pub found_passes : {A : Type 0} (p q : A → Bool) (xs : List A) (y : A) → list_all q xs ≡ true → find p xs ≡ Some y → Passes p q y
-found_passes p q [] y whole h = cc
-found_passes p q (x ∷ xs) y whole h =
-    let parts = and_parts (q x) (list_all q xs) whole in
-    found_step p q x y xs (p x) refl parts.0 (found_passes p q xs y parts.1) h
+use Rattle.nor_base.proofs.ListLaws.{found_passes}
 
 -- a clock's symbol is below 128
 symbol_small : (byte : ℕ) (clock : Clock) → clock_at byte ≡ Some clock → byte < 128
@@ -39,7 +23,7 @@ some_clock byte test (Some clock) is h = symbol_small byte clock is
 lanes_small : (driven sampled byte : ℕ) → has_lanes driven sampled byte ≡ true → byte < 128
 lanes_small driven sampled byte h = some_clock byte (λ sample. (sample.driven == driven) && (sample.sampled == sampled)) (clock_at byte) refl h
 
-implied : (a b : Bool) → not a || b ≡ true → a ≡ true → b ≡ true
+pub implied : (a b : Bool) → not a || b ≡ true → a ≡ true → b ≡ true
 implied true b h is = h
 implied false b h is = cc
 

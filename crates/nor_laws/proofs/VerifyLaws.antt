@@ -22,8 +22,9 @@ use Rattle.nor_base.specs.Chip.{Setting, Chip}
 use Rattle.nor_base.specs.Effect.{is_broken, is_status, after, effect_if, effect}
 use Rattle.nor_base.specs.Run.{samples_some, is_verify, matched, step}
 use Rattle.nor_base.specs.Clocks.{bits}
+use Rattle.nor_base.proofs.ListLaws.{found_passes}
 use Rattle.nor_laws.proofs.EffectLaws.{taken}
-use Rattle.nor_laws.proofs.SymbolLemmas.{found_passes}
+use Rattle.nor_laws.proofs.SymbolLemmas.{implied}
 use Rattle.nor_laws.proofs.SingleLaws.{same_number, HasForm, form_parts, HasOpcode, opcode_parts}
 
 -- a clock that samples lanes of one mask samples none of another
@@ -124,10 +125,6 @@ unfolding decode transaction
 seen_by m mode4 clocks i known h = by_rows m mode4 clocks i (has_opcode clocks) (row_of m mode4 (opcode clocks)) refl refl known h
 
 -- a status read has the opcode 05h, so it begins with its eight clocks
-implied : (a b : Bool) → not a || b ≡ true → a ≡ true → b ≡ true
-implied true b h is = h
-implied false b h is = cc
-
 status_opcode : (m : Parameters) (mode4 : Bool) (op : ℕ) (r : Row) → row_of m mode4 op ≡ Some r → is_status r.what ≡ true → op ≡ 0x05
 unfolding row_of
 status_opcode m mode4 op r h is =

@@ -15,7 +15,7 @@ use Rattle.nor_base.specs.Programs.{Program}
 use Rattle.nor_base.specs.Units.{WorkUnit, units}
 use Rattle.nor_base.specs.Spelling.{Instr}
 use Rattle.nor_base.specs.Planned.{IsInTheMaking}
-use Rattle.nor_base.specs.Operations.{Op, erases, writes, reads, enable, poll, disable, unit_ops, lowered}
+use Rattle.nor_base.specs.Operations.{Op, erases, writes, reads, bare, enable, poll, disable, unit_ops, lowered}
 use Rattle.nor_laws.specs.Worked.{tiny}
 
 -- 16 bytes, pages of 2, blocks of 4 bytes, and two kinds of 8 bytes
@@ -151,9 +151,6 @@ Strategies = strategy (big true Plain) (begin true false) ∷ strategy (tiny Pla
 -- an instruction of one byte at an address
 abbrev pub at : What → ℕ → ℕ → ℕ → ℕ → Instr
 at is op address width dummies = record { what = is; op = op; address = address; width = width; dummies = dummies; bytes = 0 ∷ [] }
-
-abbrev pub bare : What → ℕ → Instr
-bare is op = record { what = is; op = op; address = 0; width = 0; dummies = 0; bytes = [] }
 
 -- a program of 00h below 2^24 and one from there on
 abbrev pub both : List Op

@@ -28,8 +28,8 @@ pub fn instruction_rows()
     ensures finds { RowFound }
 {}
 
-/// A block is legal exactly where it is aligned and lies in one region that allows its kind; it lies on the chip. Two
-/// legal blocks are disjoint, or one holds the other.
+/// A block is legal exactly where it is aligned and lies in one region that allows its kind. In an accepted meaning it lies
+/// on the chip, and two legal blocks are disjoint, or one holds the other.
 pub fn legal_blocks()
     ensures region { LegalInRegion }
     ensures legal { RegionLegal }
@@ -97,8 +97,8 @@ pub fn readers()
     ensures first { FirstInParts }
 {}
 
-/// An instruction whose opcode has a row of the table that agrees with it is spelled by its clocks, and by no others. A poll
-/// has just its clocks on every chip.
+/// An instruction whose opcode has a row of the table that agrees with it, and that fits its clocks, is spelled by them, and by
+/// no others. A poll has just its clocks on every chip.
 pub fn spelling()
     ensures has { HasSpelling }
     ensures one { OneSpelling }

@@ -1,21 +1,13 @@
 -- What a chip sees in clocks, by the transaction that they are.
 use Rattle.std.proofs.Common.{◌≡◌, ℕ, ◌≤◌, Bool, true, false, List, take, length, Option, Some, None, refl, sym, ◌∙◌, ap}
-use Rattle.std.specs.Prelude.{nat_le, if◌then◌else◌, option_map}
+use Rattle.std.specs.Prelude.{nat_le, if◌then◌else◌}
 use Rattle.std.specs.List.{list_all}
 use Rattle.std.proofs.lemmas.Bool.{and_parts, leb-true}
 use Rattle.nor_base.specs.Parameters.{Parameters}
-use Rattle.nor_base.specs.Decoding.{Transaction, Instruction, instruction, transaction, decode, has_opcode, is_bit_sent}
+use Rattle.nor_base.specs.Decoding.{Transaction, Instruction, transaction, decode, has_opcode, is_bit_sent}
 use Rattle.nor_base.specs.Run.{is_verify}
 use Rattle.nor_base.specs.Script.{closed}
 use Rattle.nor_listing.specs.Listing.{verify_words}
-
-pub decoded : (m : Parameters) (mode4 : Bool) (clocks : List ℕ) (t : Transaction) → Some t ≡ transaction m mode4 clocks → decode m mode4 clocks ≡ Some (instruction t)
-unfolding decode
-decoded m mode4 clocks t is = ap (option_map instruction) (sym is)
-
-pub not_decoded : (m : Parameters) (mode4 : Bool) (clocks : List ℕ) → None ≡ transaction m mode4 clocks → decode m mode4 clocks ≡ None
-unfolding decode
-not_decoded m mode4 clocks is = ap (option_map instruction) (sym is)
 
 -- with a transaction there is an opcode
 pub has_eight : (m : Parameters) (mode4 : Bool) (clocks : List ℕ) (t : Transaction) → Some t ≡ transaction m mode4 clocks → 8 ≤ length clocks

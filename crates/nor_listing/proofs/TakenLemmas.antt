@@ -1,35 +1,19 @@
 -- Clocks that a chip takes are told by their opcode and what it sees in them.
-use Rattle.std.proofs.Common.{◌≡◌, ℕ, zero, suc, ◌+◌, ◌*◌, ◌/◌, ◌^◌, ◌<◌, ◌≤◌, ◌==◌, ◌&&◌, ◌||◌, Bool, true, false, List, [], ◌∷◌, length, take, drop, get_or, Option, Some, None, refl, sym, ◌∙◌, ap, subst, arith, eqb-true, length-take, length-drop}
+use Rattle.std.proofs.Common.{◌≡◌, ℕ, suc, ◌*◌, ◌/◌, ◌^◌, ◌<◌, ◌≤◌, ◌==◌, ◌&&◌, ◌||◌, Bool, true, false, List, [], ◌∷◌, length, take, drop, get_or, Option, Some, None, refl, sym, ◌∙◌, ap, arith, eqb-true, length-take, length-drop}
 use Rattle.std.specs.Prelude.{nat_le, if◌then◌else◌, option_map, replicate}
-use Rattle.std.specs.List.{list_all, find}
-use Rattle.std.proofs.Math.Nat.{pow-succ', pow-le-pow_right}
-use Rattle.std.proofs.lemmas.Bool.{and_parts, leb-true}
+use Rattle.std.proofs.lemmas.Bool.{leb-true}
 use Rattle.std.proofs.lemmas.List.{length-replicate}
 use Rattle.nor_base.specs.declared.instruction.What.{What}
 use Rattle.nor_base.specs.declared.instruction.What.TheVariants as what
 use Rattle.nor_base.specs.Parameters.{Parameters}
 use Rattle.nor_base.specs.Instructions.{Form, nothing, sends, sends4, samples, samples4, form_of, Row, row_of, table}
-use Rattle.nor_base.specs.Decoding.{Instruction, instruction, transaction, decode, by_row, broken, has_opcode, is_form, bit, number, opcode, address_clocks, data_clocks, bytes_of_bits, bytes_of_nibbles, bytes_sent, bytes_asked}
+use Rattle.nor_base.specs.Decoding.{Instruction, instruction, transaction, decode, by_row, broken, has_opcode, is_form, number, opcode, address_clocks, data_clocks, bytes_of_bits, bytes_of_nibbles, bytes_sent, bytes_asked}
 use Rattle.nor_base.specs.Effect.{is_broken, has_address}
 use Rattle.nor_base.specs.Spelling.{Instr, seen, bytes_to_send, count_to_read}
+use Rattle.nor_base.proofs.ListLaws.{found_passes}
 use Rattle.nor_laws.specs.Spelling.{SameSpelling}
 use Rattle.nor_laws.proofs.ScriptLaws.{Small}
-
--- what is found passes the test, and each that all pass
-record Passes {A : Type 0} (p q : A → Bool) (y : A) : Type 0 where
-  its : p y ≡ true
-  all : q y ≡ true
-
-found_step : {A : Type 0} (p q : A → Bool) (x y : A) (xs : List A) (b : Bool) → p x ≡ b → q x ≡ true → (find p xs ≡ Some y → Passes p q y)
-    → (if b then Some x else find p xs) ≡ Some y → Passes p q y
-found_step p q x y xs true is whole later h = let same : x ≡ y = cc in subst (Passes p q) same (record { its = is; all = whole })
-found_step p q x y xs false is whole later h = later h
-
-found_passes : {A : Type 0} (p q : A → Bool) (xs : List A) (y : A) → list_all q xs ≡ true → find p xs ≡ Some y → Passes p q y
-found_passes p q [] y whole h = cc
-found_passes p q (x ∷ xs) y whole h =
-    let parts = and_parts (q x) (list_all q xs) whole in
-    found_step p q x y xs (p x) refl parts.0 (found_passes p q xs y parts.1) h
+use Rattle.nor_decode.proofs.NumberLemmas.{number_fits}
 
 -- at most four address bytes, and none where an instruction names no address
 row_narrow : (m : Parameters) (mode4 : Bool) (op : ℕ) (r : Row) → row_of m mode4 op ≡ Some r → nat_le r.width 4 ≡ true
@@ -41,25 +25,6 @@ row_bare : (m : Parameters) (mode4 : Bool) (op : ℕ) (r : Row) → row_of m mod
 unfolding row_of
 row_bare m mode4 op r h =
     (found_passes (λ (r : Row). (op == r.opcode) && r.offered) (λ (r : Row). has_address r.what || (r.width == 0)) (table m mode4) r refl h).all
-
--- numbers of bits
-bit_small : (symbol : ℕ) → bit symbol < 2
-unfolding bit
-bit_small symbol = omega arith
-
-bit_before : (b n p : ℕ) → b < 2 → n < p → b * p + n < 2 * p
-bit_before zero n p small below = omega arith
-bit_before (suc zero) n p small below = omega arith
-bit_before (suc (suc b)) n p small below = absurd (omega arith)
-
-number_below : (bits : List ℕ) → number bits < 2 ^ length bits
-number_below [] = omega arith
-number_below (symbol ∷ bits) =
-    rw (pow-succ' 2 (length bits)) (bit_before (bit symbol) (number bits) (2 ^ length bits) (bit_small symbol) (number_below bits))
-
-number_fits : (n : ℕ) (bits : List ℕ) → length bits ≤ n → number bits < 2 ^ n
-number_fits n bits few =
-    let wide : 2 ^ length bits ≤ 2 ^ n = pow-le-pow_right (omega arith) few in omega (arith, number_below bits)
 
 pub opcode_small : (clocks : List ℕ) → opcode clocks < 256
 opcode_small clocks = number_fits 8 (take 8 clocks) (omega (arith, length-take 8 clocks))

@@ -43,7 +43,7 @@ impl<'m> PlanWriter<'m> {
         }
     }
 
-    /// How many steps leave the mode that the work entered.
+    /// How many steps leave the mode that the work entered, at most three.
     ///
     /// `Memory` where a growth is refused.
     pub fn close(self, alloc: Global) -> Result<u64, StepsFault>

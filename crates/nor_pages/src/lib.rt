@@ -2,7 +2,7 @@
 //!
 //! In a page of an erased block a run goes from the first byte whose target isn't FFh to the last; in a page outside, from
 //! the first byte that differs to the last. Where only erased bytes may be programmed, a page outside is cut at each byte
-//! that isn't FFh, and each part has its own run. [`split`] goes over the bytes once, and takes no memory but its answer.
+//! that isn't FFh, and each part has its own run. [`split`] looks at no byte twice, and takes no memory but its answer.
 #![tactic(auto)]
 
 mod fault;

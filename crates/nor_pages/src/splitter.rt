@@ -9,8 +9,8 @@ use nor_base::Meaning;
 use nor_geometry::PlanUnit;
 use std::alloc::{AllocError, Allocator, Global};
 
-/// The runs of a unit, rising: `have` and `want` are its bytes, what the chip holds there and what it must hold. Each
-/// lies within the unit, and there are no more of them than bytes.
+/// The runs of a unit, rising: `have` and `want` are its bytes, what the chip holds there and what it must hold, whole
+/// pages of one length on the chip. Each lies within the unit, and there are no more of them than bytes.
 ///
 /// `Memory` where a growth is refused.
 pub fn split(

@@ -11,6 +11,7 @@ use Rattle.nor_base.specs.Chip.{Setting, Chip}
 use Rattle.nor_base.specs.Effect.{effect}
 use Rattle.nor_base.specs.Port.{Shown, Transacts}
 use Rattle.nor_base.specs.Run.{Stop, Halt, poll_clocks, says_busy, is_verify, step_for, play_on, played}
+use Rattle.nor_base.proofs.OutcomeLaws.{later_ok}
 use Rattle.nor_chip.specs.Asked.{AsksMore}
 use Rattle.nor_play.specs.declared.fault.Halt.{Halt as Stopped}
 use Rattle.nor_play.specs.declared.fault.Halt.TheVariants as halt
@@ -20,7 +21,7 @@ use Rattle.nor_play.specs.Halt.{halt_of, play_fault}
 use Rattle.nor_play.specs.Numbered.{PlaysNumbered}
 use Rattle.nor_play.specs.Asks.{turns_on, turns_for, asks_of, asks_after, asks, AsksPart, AsksOnce, AsksStep, AsksNumbered, AsksPlay}
 use Rattle.nor_play.proofs.PollLemmas.{IsPolling}
-use Rattle.nor_play.proofs.PlayLemmas.{HasPlayed, at_one, not_later}
+use Rattle.nor_play.proofs.PlayLemmas.{HasPlayed, at_one}
 
 pub never_asked : (P : ℕ → Type 0) → AsksMore P P 0
 never_asked P n h = let same : n ≡ n + 0 = omega arith in subst P same h
@@ -147,7 +148,7 @@ asks_then s limit c d (x ∷ xs) ys h =
   where
     by : (r : Result Chip Halt) (f : Chip → Result Chip Stop) (g k : Chip → ℕ) (more : ℕ) (d : Chip) → play_on r f ≡ Ok d
         → ((e : Chip) → f e ≡ Ok d → g e ≡ k e + more) → asks_after r g ≡ asks_after r k + more
-    by (Ok e) f g k more d h same = same e (not_later (f e) d h)
+    by (Ok e) f g k more d h same = same e (later_ok (f e) d h)
     by (Err stop) f g k more d h same = cc
 
 last_asks : (s : Setting) (limit : ℕ) (c : Chip) (x : Step) → asks s limit c (x ∷ []) ≡ asks_of s limit c x

@@ -8,6 +8,7 @@ use Rattle.nor_base.specs.declared.wrong.Wrong.TheVariants as wrong
 use Rattle.nor_base.specs.Chip.{Setting, Chip, is_settled}
 use Rattle.nor_base.specs.Port.{Shown}
 use Rattle.nor_base.specs.Run.{Stop, Halt, one_later, play_on, played, go_on, run, step, step_for, step_trail, trail_after, trail}
+use Rattle.nor_base.proofs.OutcomeLaws.{later_ok}
 use Rattle.nor_play.specs.declared.fault.Halt.{Halt as Stopped}
 use Rattle.nor_play.specs.declared.fault.Halt.TheVariants as halt
 use Rattle.nor_play.specs.declared.fault.PlayFault.{PlayFault}
@@ -30,10 +31,6 @@ later_one : (n : ℕ) (r : Result Chip Stop) → one_later (later n r) ≡ later
 later_one n (Ok c) = refl
 later_one n (Err stop) = let same : stop.at + n + 1 ≡ stop.at + suc n = omega arith in ap (λ n. Err (record stop { at = n })) same
 
-pub not_later : (r : Result Chip Stop) (d : Chip) → one_later r ≡ Ok d → r ≡ Ok d
-not_later (Ok c) d h = h
-not_later (Err stop) d h = cc
-
 -- what follows steps that were played
 played_then : (s : Setting) (limit : ℕ) (c d : Chip) (xs ys : List Step) → played s limit c xs ≡ Ok d
     → played s limit c (xs ++ ys) ≡ later (length xs) (played s limit d ys)
@@ -44,7 +41,7 @@ played_then s limit c d (x ∷ xs) ys h =
   where
     by : (n : ℕ) (r : Result Chip Halt) (f g : Chip → Result Chip Stop) (rest : Result Chip Stop) (d : Chip) → play_on r f ≡ Ok d
         → ((e : Chip) → f e ≡ Ok d → g e ≡ later n rest) → play_on r g ≡ later (suc n) rest
-    by n (Ok e) f g rest d h more = ap one_later (more e (not_later (f e) d h)) ∙ later_one n rest
+    by n (Ok e) f g rest d h more = ap one_later (more e (later_ok (f e) d h)) ∙ later_one n rest
     by n (Err stop) f g rest d h more = cc
 
 run_then : (s : Setting) (c d e : Chip) (xs ys : List Step) → run s c xs ≡ Ok d → run s d ys ≡ Ok e → run s c (xs ++ ys) ≡ Ok e
@@ -54,7 +51,7 @@ run_then s c d e (x ∷ xs) ys h k =
     by c (step s c x) (λ f. run s f xs) (λ f. run s f (xs ++ ys)) d e h (λ f is. run_then s f d e xs ys is k)
   where
     by : (c : Chip) (r : Result Chip Wrong) (f g : Chip → Result Chip Stop) (d e : Chip) → go_on c r f ≡ Ok d → ((x : Chip) → f x ≡ Ok d → g x ≡ Ok e) → go_on c r g ≡ Ok e
-    by c (Ok x) f g d e h more = ap one_later (more x (not_later (f x) d h))
+    by c (Ok x) f g d e h more = ap one_later (more x (later_ok (f x) d h))
     by c (Err why) f g d e h more = cc
 
 trail_then : (s : Setting) (c d : Chip) (xs ys : List Step) → run s c xs ≡ Ok d → trail s c (xs ++ ys) ≡ trail s c xs ++ trail s d ys
@@ -66,7 +63,7 @@ trail_then s c d (x ∷ xs) ys h =
   where
     by : (c : Chip) (r : Result Chip Wrong) (f : Chip → Result Chip Stop) (g k : Chip → List Chip) (rest : List Chip) (d : Chip) → go_on c r f ≡ Ok d
         → ((x : Chip) → f x ≡ Ok d → k x ≡ g x ++ rest) → trail_after r k ≡ trail_after r g ++ rest
-    by c (Ok x) f g k rest d h more = more x (not_later (f x) d h)
+    by c (Ok x) f g k rest d h more = more x (later_ok (f x) d h)
     by c (Err why) f g k rest d h more = cc
 
 -- these steps were played, by so many transactions

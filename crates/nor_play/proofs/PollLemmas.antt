@@ -1,5 +1,5 @@
 -- The turns of a poll.
-use Rattle.std.proofs.Common.{◌≡◌, ◌≢◌, get_or, ℕ, zero, suc, ◌+◌, ◌-◌, ◌%◌, ◌<◌, Bool, true, false, if◌then◌else◌, List, [], ◌∷◌, length, Result, Ok, Err, refl, sym, ◌∙◌, ap, subst, arith}
+use Rattle.std.proofs.Common.{◌≡◌, ◌≢◌, get_or, ℕ, zero, suc, ◌+◌, ◌-◌, ◌%◌, ◌<◌, Bool, true, false, if◌then◌else◌, List, [], length, Result, Ok, Err, refl, sym, ◌∙◌, ap, subst, arith}
 use Rattle.std.proofs.lemmas.Bool.Decides.{nat_tests}
 use Rattle.std.specs.Str.{bytes_eq}
 use Rattle.nor_base.specs.declared.step.Step.TheVariants.{Poll}
@@ -11,19 +11,10 @@ use Rattle.nor_base.specs.Chip.{Setting, Chip}
 use Rattle.nor_base.specs.Effect.{effect}
 use Rattle.nor_base.specs.Port.{Shown, Transacts}
 use Rattle.nor_base.specs.Run.{poll_clocks, says_busy, polled, poll_or_halt, polled_for, step, step_for, polled_trail, step_trail}
-use Rattle.nor_laws.proofs.PollLaws.{read_busy, read_idle, poll_ends, poll_count}
+use Rattle.nor_base.proofs.OutcomeLaws.{ok_is}
+use Rattle.nor_laws.proofs.PollLaws.{left_with, says_idle, read_busy, read_idle, poll_ends, poll_count}
 use Rattle.nor_play.specs.Halt.{halt_of}
 use Rattle.nor_play.specs.Turns.{EndsStep, StopsStep, PlaysStep}
-
-abbrev left_with : Chip → ℕ → Chip
-left_with c n = record c { left = n }
-
-says_idle : (latch : Bool) → says_busy ((if latch then 2 else 0) ∷ []) ≡ false
-says_idle true = refl
-says_idle false = refl
-
-ok_is : (p q : Chip × List ℕ) (r : Result (Chip × List ℕ) Wrong) → r ≡ Ok p → r ≡ Ok q → p ≡ q
-ok_is p q r first second = let both = sym first ∙ second in cc
 
 same_pair : (c d : Chip) (xs ys : List ℕ) (r : Result (Chip × List ℕ) Wrong) → r ≡ Ok (c, xs) → r ≡ Ok (d, ys) → (c ≡ d) × (xs ≡ ys)
 same_pair c d xs ys r first second =

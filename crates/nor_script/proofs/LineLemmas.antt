@@ -17,6 +17,7 @@ use Rattle.nor_script.specs.declared.line.Kind.{Kind}
 use Rattle.nor_script.specs.declared.line.Kind.TheVariants as kind
 use Rattle.nor_script.specs.Parts.{AreParts, AreVerifyParts, SpellsBytes, TellsFault, or_fault}
 use Rattle.nor_script.specs.LineParts.{step_by, AreOfLine}
+use Rattle.nor_script.proofs.ReadLemmas.{none_left}
 
 -- a line by its first two bytes
 pub by_two : (line : List ℕ) (a b : ℕ) → 2 ≤ length line → get_or line 0 0 ≡ a → get_or line 1 0 ≡ b → line ≡ a ∷ b ∷ take (length line - 2) (drop 2 line)
@@ -96,10 +97,6 @@ clocks_place line rest clocks a b is n fits from =
       omega (arith, size, fits, ap length is),
       from ∙ ap (λ k. take k rest) (sym whole) ∙ ap (λ l. take (2 + length clocks - 2) (drop 2 l)) (sym is),
     )
-
-none_left : (o : Option ScriptFault) → or_fault o ≡ Ok tt → o ≡ None
-none_left None h = refl
-none_left (Some fault) h = cc
 
 once_of_line : (line rest clocks digits : List ℕ) (a : ℕ) (kind : Kind) → line ≡ a ∷ 32 ∷ rest → clocks ≡ rest → digits ≡ []
     → ((expect : List ℕ) → SpellsStep line (step_by kind rest expect)) → AreOfLine line kind clocks digits

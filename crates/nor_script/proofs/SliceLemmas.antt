@@ -2,13 +2,14 @@
 use Rattle.std.proofs.Common.{◌≡◌, ℕ, zero, suc, ◌+◌, ◌-◌, ◌<◌, ◌≤◌, Bool, true, false, ◌||◌, List, [], ◌∷◌, ◌++◌, length, take, drop, Some, None, Result, Ok, Err, refl, sym, ◌∙◌, ap, subst, arith, append_assoc, append-nil, length-append, length-drop}
 use Rattle.std.specs.Prelude.{position}
 use Rattle.std.specs.List.{list_any, slice_range}
-use Rattle.std.proofs.Math.Seq.{take-add, take-append-add}
+use Rattle.std.proofs.Math.Seq.{take-add}
 use Rattle.std.proofs.lemmas.List.{drop-take, length-take-le, take-append-drop, take-append-le, take_all}
 use Rattle.std.proofs.lemmas.List.Folds.{list_any-append}
 use borrow.Rule.Slice.PartMut.{put_mid, post_of}
 use Rattle.nor_base.specs.declared.device.Failed.{Failed}
 use Rattle.nor_base.specs.Device.{Ahead, Takes}
 use Rattle.nor_base.specs.Script.{closed, header}
+use Rattle.nor_base.proofs.ListLaws.{front_and_part}
 use Rattle.nor_script.specs.Faults.{is_line_feed, BeginsWith}
 use Rattle.nor_script.specs.Stream.{reading}
 use Rattle.nor_script.specs.Lines.{FillsPast, FillsBy, Comes}
@@ -161,13 +162,6 @@ unfolding header
 header_inside buffer held rest f u p is = omega (arith, ap length is, length-append header rest, held_size buffer held f u p, p.order)
 
 -- bytes that were put into a buffer from a place on
-front_and_part : (xs ys : List ℕ) (a k n : ℕ) → a ≤ length xs → n ≤ length ys → take (a + n) (put_mid a k xs ys) ≡ take a xs ++ take n ys
-front_and_part xs ys a k n a_fits n_fits =
-    let whole : length (take a xs) ≡ a = length-take-le a xs a_fits in
-    ap (λ m. take (m + n) (put_mid a k xs ys)) (sym whole)
-    ∙ take-append-add (take a xs) (ys ++ post_of a k xs) n
-    ∙ ap (λ part. take a xs ++ part) (take-append-le n ys (post_of a k xs) n_fits)
-
 pub filled_past : (before after : Ahead) (xs ys : List ℕ) (a k : ℕ) (r : Result ℕ Failed) → a ≤ length xs → length ys ≡ length xs - a → Takes before after r ys
     → FillsPast before after xs (put_mid a k xs ys) a r
 filled_past before after xs ys a k (Ok n) fits size takes = record {

@@ -1,5 +1,5 @@
 -- Clocks and the bytes that they send and sample.
-use Rattle.std.proofs.Common.{◌≡◌, ◌⊎◌, inl, inr, ℕ, zero, suc, ◌+◌, ◌*◌, ◌/◌, ◌%◌, ◌<◌, ◌≤◌, ◌==◌, ◌&&◌, ◌||◌, not, Bool, true, false, cond, List, [], ◌∷◌, ◌++◌, length, take, Some, None, refl, sym, ◌∙◌, ap, arith, eqb-true, length-append}
+use Rattle.std.proofs.Common.{◌≡◌, ◌⊎◌, inl, inr, ℕ, zero, suc, ◌+◌, ◌*◌, ◌/◌, ◌%◌, ◌<◌, ◌≤◌, ◌==◌, ◌&&◌, ◌||◌, not, Bool, true, false, cond, List, [], ◌∷◌, ◌++◌, length, take, Some, None, refl, sym, ◌∙◌, ap, arith, eqb-true}
 use Rattle.std.specs.Prelude.{flat_map, replicate, nat_lt, nat_le, count_by, unwrap_or}
 use Rattle.std.specs.List.{list_all, position, position_or_len}
 use Rattle.std.proofs.Math.Seq.{take-append_seam}
@@ -12,6 +12,7 @@ use Rattle.nor_base.specs.Array.{are_bytes}
 use Rattle.nor_base.specs.Clocks.{bits}
 use Rattle.nor_base.specs.Decoding.{bit, number, bytes_of_bits}
 use Rattle.nor_base.specs.Sample.{sampled_count}
+use Rattle.nor_base.proofs.BitLaws.{length-all_bits, first_byte, later_bytes}
 use Rattle.nor_serprog.specs.declared.limits.Limits.{Limits}
 use Rattle.nor_serprog.specs.Carried.{is_bit, is_sample, are_bytes_sent, are_bytes_sampled, fits, IsOperation, IsNoOperation}
 
@@ -86,22 +87,6 @@ spelled_by (a ∷ b ∷ c ∷ d ∷ e ∷ f ∷ g ∷ h ∷ more) all whole =
       spelled = ap (λ front. front ++ flat_map bits (bytes_of_bits more)) symbols ∙ ap (λ rest. a ∷ b ∷ c ∷ d ∷ e ∷ f ∷ g ∷ h ∷ rest) later.spelled;
       bytes = rw small later.bytes;
     }
-
--- eight clocks a byte
-length-bits : (byte : ℕ) → length (bits byte) ≡ 8
-unfolding bits
-length-bits byte = refl
-
-length-all_bits : (bytes : List ℕ) → length (flat_map bits bytes) ≡ 8 * length bytes
-length-all_bits [] = refl
-length-all_bits (byte ∷ bytes) = let later = length-all_bits bytes in omega (arith, length-append (bits byte) (flat_map bits bytes), length-bits byte, later)
-
--- the first of some bytes is one, and so are the others
-first_byte : (byte : ℕ) (bytes : List ℕ) → are_bytes (byte ∷ bytes) ≡ true → byte < 256
-first_byte byte bytes h = ltb-true byte 256 (and_parts (nat_lt byte 256) (are_bytes bytes) h).0
-
-later_bytes : (byte : ℕ) (bytes : List ℕ) → are_bytes (byte ∷ bytes) ≡ true → are_bytes bytes ≡ true
-later_bytes byte bytes h = (and_parts (nat_lt byte 256) (are_bytes bytes) h).1
 
 pub length_of_bytes : (xs : List ℕ) → length (bytes_of_bits xs) ≡ length xs / 8
 length_of_bytes (a ∷ b ∷ c ∷ d ∷ e ∷ f ∷ g ∷ h ∷ more) = omega (arith, length_of_bytes more)

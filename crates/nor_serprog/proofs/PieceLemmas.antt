@@ -3,9 +3,10 @@ use Rattle.std.proofs.Common.{◌≡◌, ℕ, ◌+◌, ◌-◌, ◌<◌, ◌≤�
 use Rattle.std.specs.List.{slice_range}
 use Rattle.std.specs.Io.KnownBytes.{Appends}
 use Rattle.std.proofs.Math.Seq.{take-add}
-use Rattle.std.proofs.lemmas.List.{get_or-drop, take_more, take_more_set, take_all, take-append-le, take-append-drop}
+use Rattle.std.proofs.lemmas.List.{get_or-drop, take_more, take_more_set, take_all}
 use Rattle.nor_base.specs.Device.{Cuts}
 use Rattle.nor_base.proofs.DeviceLaws.{Appends-append}
+use Rattle.nor_base.proofs.ListLaws.{shorter_front}
 
 pub copied_more : (bytes part : List ℕ) (from i v : ℕ) → i < length part → from + length part ≤ length bytes → v ≡ get_or bytes (from + i) 0
     → take i part ≡ take i (drop from bytes) → take (i + 1) (set part i v) ≡ take (i + 1) (drop from bytes)
@@ -26,9 +27,6 @@ put_more before between after bytes part done room is p q =
     let long : done + room - done ≡ room = omega arith in
     let piece : part ≡ take room (drop done bytes) = is ∙ ap (λ n. take n (drop done bytes)) long in
     subst (Appends before after) (sym (take-add done room bytes)) (Appends-append before between after (take done bytes) (take room (drop done bytes)) p (subst (Appends between after) piece q))
-
-shorter_front : (xs : List ℕ) (n m : ℕ) → n ≤ length (take m xs) → take n (take m xs) ≡ take n xs
-shorter_front xs n m fits = sym (take-append-le n (take m xs) (drop m xs) fits) ∙ ap (take n) (take-append-drop m xs)
 
 pub put_cut : (before between after : Option (List ℕ)) (bytes part : List ℕ) (done room : ℕ) → done + room ≤ length bytes → part ≡ slice_range bytes done (done + room)
     → Appends before between (take done bytes) → Cuts between after part → Cuts before after bytes

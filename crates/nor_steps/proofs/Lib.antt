@@ -1,7 +1,7 @@
 pub mod LineLemmas
 pub mod StreamLemmas
 pub mod OpLemmas
-mod TallyLemmas
+pub mod TallyLemmas
 mod UnitLemmas
 pub mod Placed
 pub mod WindowLemmas

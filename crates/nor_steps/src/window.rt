@@ -17,11 +17,12 @@ use nor_work::erased_blocks;
 use std::alloc::Global;
 
 impl<'m> StepWriter<'m> {
-    /// Plans the units that start in a window of the chip, and writes their steps: `have` is what it holds from `at` on,
-    /// `want` what it must hold.
+    /// Plans the units that start in a window of the chip (one that [`plan`] takes), and writes their steps: `have` is what
+    /// it holds from `at` on, `want` what it must hold. Answers how much these steps are, no number above 2^30 for each byte
+    /// of the window.
     ///
     /// `Plan` where an address of the window is at fault: it names the lowest, and nothing was written then. `Write` where
-    /// the writer fails; `Memory` where a growth is refused.
+    /// the writer fails, `Memory` where a growth is refused: at most a beginning of these steps was written then.
     pub fn more<W: InstrOut>(
         &mut self,
         alloc: Global,

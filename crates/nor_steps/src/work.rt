@@ -22,11 +22,12 @@ pub trait WorkWriter {
     /// The text of a unit of the work on a content and its target, by how far the work is before it.
     ghost unit_text: { Self → Writing → List ℕ → List ℕ → WorkUnit → List ℕ };
 
-    /// Writes the text of the units that start in a window of the chip: `have` is what it holds from `at` on, `want` what
-    /// it must hold. Answers how much their steps are.
+    /// Writes the text of the units that start in a window of the chip (one that [`plan`](nor_erase::plan) takes): `have` is
+    /// what it holds from `at` on, `want` what it must hold. Answers how much their steps are, no number above 2^30 for each
+    /// byte of the window.
     ///
     /// `Plan` where an address of the window is at fault: it names the lowest, and nothing was written then. `Write` where
-    /// the writer fails; `Memory` where a growth is refused.
+    /// the writer fails, `Memory` where a growth is refused: at most a beginning of this text was written then.
     fn write_window<W: ByteOut>(
         &mut self,
         alloc: Global,

@@ -82,9 +82,9 @@ impl<'m> StepWriter<'m> {
         Ok(instrs.len() as u64)
     }
 
-    /// Writes the steps that leave the mode that was entered, and answers how many they are.
+    /// Writes the steps that leave the mode that was entered, and answers how many they are, at most three.
     ///
-    /// `Write` where the writer fails; `Memory` where a growth is refused.
+    /// `Write` where the writer fails, `Memory` where a growth is refused: a beginning of these steps was written then.
     pub fn close<W: InstrOut>(self, alloc: Global, out: &mut W) -> Result<u64, StepsFault>
         requires { W.count out.old < 2 ^ 64 - 1 }
         ensures lines { Adds (W.held out.old) (W.held out.new) result (lines_of (last self.entry.streaming)) }

@@ -10,11 +10,12 @@ use Rattle.nor_base.specs.declared.meaning.Start.{Start}
 use Rattle.nor_base.specs.declared.meaning.Strategy.{Strategy}
 use Rattle.nor_base.specs.Parameters.{Parameters}
 use Rattle.nor_base.specs.Blocks.{Block}
-use Rattle.nor_base.specs.Clocks.{bits, nibbles, address_bytes, body_clocks, clocks_of}
+use Rattle.nor_base.specs.Clocks.{bits, address_bytes, body_clocks, clocks_of}
 use Rattle.nor_base.specs.Instructions.{Form, nothing, sends, sends4, samples, samples4, form_of, quad_read_dummies}
 use Rattle.nor_base.specs.Programs.{Program}
 use Rattle.nor_base.specs.Spelling.{Instr}
 use Rattle.nor_base.specs.Operations.{Op, erases, writes, reads, enable, poll, takes_dedicated, legacy_width, at_address, erasing, programming, reading, instructions}
+use Rattle.nor_base.proofs.BitLaws.{length-all_bits, length-all_nibbles}
 use Rattle.nor_steps.specs.Lines.{step_by, steps_of}
 use Rattle.nor_times.specs.Bus.{step_clocks, steps_clocks, head4_clocks, head_clocks, erase_clocks, program_clocks, read_clocks, change_clocks}
 
@@ -41,17 +42,6 @@ clocks_steps (i ∷ these) =
     sum_by-cons step_clocks (step_by i.what i) (steps_of these) ∙ ap (λ n. n + steps_clocks (steps_of these)) (clocks_step i.what i)
     ∙ ap (λ n. instr_clocks i + n) (clocks_steps these) ∙ sym (sum_by-cons instr_clocks i these)
 
--- bytes on one lane, and on four
-length-bits : (xs : List ℕ) → length (flat_map bits xs) ≡ 8 * length xs
-unfolding bits
-length-bits [] = refl
-length-bits (x ∷ xs) = omega (arith, length-bits xs)
-
-length-nibbles : (xs : List ℕ) → length (flat_map nibbles xs) ≡ 2 * length xs
-unfolding nibbles
-length-nibbles [] = refl
-length-nibbles (x ∷ xs) = omega (arith, length-nibbles xs)
-
 length-address : (n a : ℕ) → length (address_bytes n a) ≡ n
 length-address zero a = refl
 length-address (suc n) a = omega (arith, length-address n a)
@@ -65,15 +55,15 @@ data_clocks samples4 n = 2 * n
 
 length-body : (f : Form) (bytes : List ℕ) → length (body_clocks f bytes) ≡ data_clocks f (length bytes)
 length-body nothing bytes = refl
-length-body sends bytes = length-bits bytes
-length-body sends4 bytes = length-nibbles bytes
+length-body sends bytes = length-all_bits bytes
+length-body sends4 bytes = length-all_nibbles bytes
 length-body samples bytes = length-replicate (8 * length bytes) 0x2E
 length-body samples4 bytes = length-replicate (2 * length bytes) 0x3D
 
 -- opcode and address, dummies, data
 pub clocks_are : (i : Instr) → instr_clocks i ≡ 8 + 8 * i.width + (i.dummies + data_clocks (form_of i.what) (length i.bytes))
 clocks_are i =
-    let head = length-bits (i.op ∷ address_bytes i.width i.address) in
+    let head = length-all_bits (i.op ∷ address_bytes i.width i.address) in
     let address = length-address i.width i.address in
     let both = length-append (flat_map bits (i.op ∷ address_bytes i.width i.address)) (replicate i.dummies 0x2D ++ body_clocks (form_of i.what) i.bytes) in
     let rest = length-append (replicate i.dummies 0x2D) (body_clocks (form_of i.what) i.bytes) in

@@ -1,5 +1,5 @@
 -- Ranges read one after the other.
-use Rattle.std.proofs.Common.{◌≡◌, Bool, ℕ, ◌+◌, ◌-◌, ◌<◌, ◌≤◌, ◌⊎◌, inl, inr, List, [], ◌∷◌, ◌++◌, take, drop, length, Option, Err, refl, sym, ◌∙◌, ap, subst, arith, append-nil}
+use Rattle.std.proofs.Common.{◌≡◌, Bool, ℕ, ◌+◌, ◌-◌, ◌<◌, ◌≤◌, ◌⊎◌, inl, inr, List, [], ◌∷◌, ◌++◌, take, drop, length, Option, Err, sym, ◌∙◌, ap, subst, arith, append-nil}
 use Rattle.std.specs.Prelude.{flat_map, ◌↔◌}
 use Rattle.std.specs.List.{slice_range}
 use Rattle.std.specs.Io.KnownBytes.{Appends}
@@ -7,13 +7,14 @@ use Rattle.std.proofs.lemmas.Bool.{cases_lt}
 use Rattle.std.proofs.lemmas.Grind.{flat_map-append}
 use Rattle.std.proofs.lemmas.List.{length-take-le}
 use Rattle.std.proofs.Common.{length-drop}
-use Rattle.nor_base.specs.Device.{Ahead, Unknown, Finite, Endless, Gives}
+use Rattle.nor_base.specs.Device.{Ahead, Gives}
 use Rattle.nor_base.proofs.DeviceLaws.{Appends-append, Appends-none, Gives-append}
 use Rattle.nor_serprog.specs.declared.fault.Fault.{Fault}
 use Rattle.nor_serprog.specs.Exchange.{Asks, AnswersWith}
 use Rattle.nor_serprog.specs.Protocol.{request, answer}
 use Rattle.norprog_play.specs.Compared.{Range, LiesIn, LiesInOne, AreInOrder, read_from, read_of, bytes_in, HasComparedTo, HasCompared, StopsComparing}
 use Rattle.norprog_play.specs.Marks.{IsMarked, IsNextMarked, AreMarkedFrom}
+use Rattle.nor_job.proofs.TargetLemmas.{gives_none}
 
 -- one range more
 in_one_more : (rs : List Range) (r : Range) (a : ℕ) → LiesInOne (rs ++ r ∷ []) a → LiesInOne rs a ⊎ LiesIn r a
@@ -39,11 +40,6 @@ in_order_more : (low high higher : ℕ) (rs : List Range) (r : Range) → AreInO
     → AreInOrder low higher (rs ++ r ∷ [])
 in_order_more low high higher [] r order past some upto = (omega arith, some, upto)
 in_order_more low high higher (x ∷ xs) r order past some upto = (order.0, order.1, in_order_more (x.start + x.len) high higher xs r order.2 past some upto)
-
-gives_none : (before : Ahead) → Gives before [] before
-gives_none Unknown = tt
-gives_none (Finite bytes) = refl
-gives_none (Endless byte_at) = ((λ k inside. absurd (omega (arith, inside))), (λ k. ap byte_at (omega arith)))
 
 -- nothing was read yet
 pub none_read : (held : Option (List ℕ)) (a : Ahead) (mode4 : Bool) (content : List ℕ) (Wanted : ℕ → Type 0) → HasComparedTo held held a a mode4 content Wanted 0

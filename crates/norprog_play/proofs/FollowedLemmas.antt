@@ -1,8 +1,7 @@
 -- Steps done one after the other.
-use Rattle.std.proofs.Common.{◌≡◌, ℕ, ◌+◌, ◌<◌, ◌≤◌, List, [], ◌∷◌, ◌++◌, take, drop, length, get_or, Result, Ok, refl, sym, ◌∙◌, ap, subst}
-use Rattle.std.proofs.lemmas.List.{drop_more, drop_all, take_all}
+use Rattle.std.proofs.Common.{◌≡◌, ℕ, ◌+◌, ◌<◌, ◌≤◌, List, [], ◌∷◌, ◌++◌, take, drop, length, get_or, Ok, refl, sym, ◌∙◌, ap, subst}
+use Rattle.std.proofs.lemmas.List.{drop_all, take_all}
 use Rattle.nor_base.specs.declared.step.Step.{Step}
-use Rattle.nor_base.specs.declared.wrong.Wrong.{Wrong}
 use Rattle.nor_base.specs.Chip.{Setting, Chip}
 use Rattle.nor_base.specs.Effect.{effect}
 use Rattle.nor_base.specs.Port.{Shown}
@@ -10,17 +9,15 @@ use Rattle.nor_base.specs.Run.{played}
 use Rattle.nor_serprog.specs.declared.limits.Limits.{Limits}
 use Rattle.norprog_play.specs.Moment.{Moment, IsTaken, Does, DoesAll}
 use Rattle.norprog_play.proofs.TakenLemmas.{goes_on, nothing_more}
-use Rattle.nor_base.proofs.ListLaws.{one_taken}
+use Rattle.nor_base.proofs.ListLaws.{one_taken, first_left}
 use Rattle.nor_base.specs.Step.{step_clocks}
+use Rattle.nor_base.proofs.OutcomeLaws.{ok_is}
 
 -- one step more
 pub does_more : (limits : Limits) (turns : ℕ) (a b c : Moment) (xs : List Step) (x : Step) → DoesAll limits turns a xs b → Does limits turns b (step_clocks x) c
     → DoesAll limits turns a (xs ++ x ∷ []) c
 does_more limits turns a b c [] x all one = (c, subst (λ (m : Moment). Does limits turns m (step_clocks x) c) all one, refl)
 does_more limits turns a b c (y ∷ ys) x all one = (all.0, all.1, does_more limits turns all.0 b c ys x all.2 one)
-
-one_dropped : (steps : List Step) (at : ℕ) (x : Step) → at < length steps → x ≡ get_or steps at x → drop at steps ≡ x ∷ drop (at + 1) steps
-one_dropped steps at x within is = drop_more steps at x within ∙ ap (λ (y : Step). y ∷ drop (at + 1) steps) (sym is)
 
 -- of limits and turns that stayed
 pub bounded : (limits limits' : Limits) (turns turns' : ℕ) (b c : Moment) (clocks : List ℕ) → limits' ≡ limits → turns' ≡ turns → Does limits' turns' b clocks c → Does limits turns b clocks c
@@ -43,18 +40,15 @@ pub takes_next : (before now : Shown) (steps : List Step) (at : ℕ) (x : Step) 
     → Goes before steps → GoesOn before steps now (drop at steps) → IsTaken now (step_clocks x)
 takes_next before now steps at x within is goes on =
     let next = goes_on now.setting now.chip goes.0 x (drop (at + 1) steps)
-    (subst (λ (l : List Step). played now.setting 1 now.chip l ≡ Ok goes.0) (one_dropped steps at x within is) (on goes.0 goes.1)) in
+    (subst (λ (l : List Step). played now.setting 1 now.chip l ≡ Ok goes.0) (first_left steps at x is within) (on goes.0 goes.1)) in
     (next.0, next.1.0, next.1.1)
-
-ok_is : (p q : Chip × List ℕ) (r : Result (Chip × List ℕ) Wrong) → r ≡ Ok p → r ≡ Ok q → p ≡ q
-ok_is p q r first second = let both = sym first ∙ second in cc
 
 -- after a step what is left goes well
 pub goes_next : (limits : Limits) (turns : ℕ) (before : Shown) (b c : Moment) (steps : List Step) (at : ℕ) (x : Step) → at < length steps → x ≡ get_or steps at x
     → GoesOn before steps b.shown (drop at steps) → Does limits turns b (step_clocks x) c → GoesOn before steps c.shown (drop (at + 1) steps)
 goes_next limits turns before b c steps at x within is on one d goes =
     let next = goes_on b.shown.setting b.shown.chip d x (drop (at + 1) steps)
-    (subst (λ (l : List Step). played b.shown.setting 1 b.shown.chip l ≡ Ok d) (one_dropped steps at x within is) (on d goes)) in
+    (subst (λ (l : List Step). played b.shown.setting 1 b.shown.chip l ≡ Ok d) (first_left steps at x is within) (on d goes)) in
     let same : (next.0, next.1.0) ≡ (c.shown.chip, one.given) = ok_is (next.0, next.1.0) (c.shown.chip, one.given) (effect b.shown.setting b.shown.chip (step_clocks x)) next.1.1 one.chip.0 in
     let chip : next.0 ≡ c.shown.chip = ap (λ (p : Chip × List ℕ). p.0) same in
     subst (λ (s : Setting). played s 1 c.shown.chip (drop (at + 1) steps) ≡ Ok d) (sym one.chip.1)

@@ -10,11 +10,12 @@ use Rattle.nor_base.specs.Chip.{Setting, Chip, is_settled, ready}
 use Rattle.nor_base.specs.Port.{Shown}
 use Rattle.nor_chip.specs.Ready.{ready_chip}
 use Rattle.nor_base.specs.Effect.{effect}
-use Rattle.nor_base.specs.Run.{Stop, Halt, poll_clocks, says_busy, is_verify, done, matched, halt_on, poll_or_halt, polled_for, step_for, one_later, play_on, played, trail}
+use Rattle.nor_base.specs.Run.{Stop, Halt, poll_clocks, says_busy, is_verify, done, matched, halt_on, poll_or_halt, polled_for, step_for, play_on, played, trail}
 use Rattle.nor_play.specs.Play.{at_end, play, EndsPlay, Plays}
 use Rattle.nor_play.specs.declared.fault.PlayFault.{PlayFault}
 use Rattle.nor_play.specs.declared.fault.PlayFault.TheVariants as fault
 use Rattle.nor_base.specs.Step.{step_clocks}
+use Rattle.nor_base.proofs.OutcomeLaws.{later_ok}
 
 -- the chip in memory takes these clocks, and is then so
 abbrev pub Takes : Setting → Chip → List ℕ → Chip → Type 0
@@ -65,10 +66,6 @@ step_takes s c d (Verify clocks expect) h = by (is_verify clocks) h
     by true h = verified c d expect (effect s c clocks) h
     by false h = cc
 
-not_later : (r : Result Chip Stop) (d : Chip) → one_later r ≡ Ok d → r ≡ Ok d
-not_later (Ok c) d h = h
-not_later (Err stop) d h = cc
-
 -- a step that is followed by others
 pub goes_on : (s : Setting) (c d : Chip) (x : Step) (xs : List Step) → played s 1 c (x ∷ xs) ≡ Ok d
     → (e : Chip) × Takes s c (step_clocks x) e × (played s 1 e xs ≡ Ok d)
@@ -77,7 +74,7 @@ goes_on s c d x xs h = by (step_for s 1 c x) refl h
   where
     by : (r : Result Chip Halt) → step_for s 1 c x ≡ r → play_on r (λ e. played s 1 e xs) ≡ Ok d
         → (e : Chip) × Takes s c (step_clocks x) e × (played s 1 e xs ≡ Ok d)
-    by (Ok e) is h = (e, step_takes s c e x is, not_later (played s 1 e xs) d h)
+    by (Ok e) is h = (e, step_takes s c e x is, later_ok (played s 1 e xs) d h)
     by (Err halt) is h = cc
 
 pub nothing_more : (s : Setting) (c d : Chip) → played s 1 c [] ≡ Ok d → c ≡ d

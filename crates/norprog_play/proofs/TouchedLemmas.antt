@@ -1,6 +1,5 @@
 -- Cells that are marked for what steps touch.
 use Rattle.std.proofs.Common.{◌≡◌, Bool, true, false, ℕ, ◌+◌, ◌-◌, ◌*◌, ◌/◌, ◌<◌, ◌≤◌, ◌⊎◌, inl, inr, nat_le, nat_lt, ◌&&◌, ◌||◌, min, List, [], ◌∷◌, ◌++◌, take, length, get_or, replicate, Some, None, refl, sym, ◌∙◌, ap, subst, arith}
-use Rattle.std.specs.Prelude.{option_map}
 use Rattle.std.proofs.lemmas.Bool.{cases_lt, and_parts, leb-true, ltb-true, le-leb, lt-ltb}
 use Rattle.std.proofs.lemmas.List.{take_all, get_or_past, get_or-replicate, length-replicate}
 use Rattle.nor_base.specs.declared.step.Step.{Step}
@@ -14,6 +13,7 @@ use Rattle.nor_base.specs.Step.{step_clocks}
 use Rattle.nor_base.specs.Spelling.{mode_by}
 use Rattle.norprog_play.specs.Touched.{LiesBetween, Programs, Changes, ChangesSeen, Touches, mode_past, mode_past_all, IsTouched}
 use Rattle.nor_base.proofs.ListLaws.{one_taken}
+use Rattle.nor_decode.proofs.DecodedLemmas.{decoded, not_decoded}
 
 -- nothing is marked
 pub none_marked : (P : ℕ → Type 0) (marks : List Bool) → ((a : ℕ) → P a → ⊥) → MarkedBy P marks marks
@@ -114,14 +114,6 @@ pub marked_to_end : (m : Parameters) (first : Bool) (steps : List Step) (at : �
 marked_to_end m first steps at old new all marked = subst (λ (l : List Step). MarkedBy (IsTouched m first l) old new) (take_all at steps all) marked
 
 -- what a chip sees in clocks
-decoded : (m : Parameters) (mode4 : Bool) (clocks : List ℕ) (t : Transaction) → Some t ≡ transaction m mode4 clocks → decode m mode4 clocks ≡ Some (instruction t)
-unfolding decode
-decoded m mode4 clocks t is = ap (option_map instruction) (sym is)
-
-not_decoded : (m : Parameters) (mode4 : Bool) (clocks : List ℕ) → None ≡ transaction m mode4 clocks → decode m mode4 clocks ≡ None
-unfolding decode
-not_decoded m mode4 clocks is = ap (option_map instruction) (sym is)
-
 pub seen_marked : (m : Parameters) (mode4 : Bool) (x : Step) (clocks : List ℕ) (t : Transaction) (old new : List Bool) → clocks ≡ step_clocks x
     → Some t ≡ transaction m mode4 clocks → MarkedBy (Changes m (instruction t) t.what) old new → MarkedBy (Touches m mode4 x) old new
 seen_marked m mode4 x clocks t old new is seen marked =

@@ -23,10 +23,11 @@ use Rattle.nor_base.specs.Decoding.{Instruction, decode}
 use Rattle.nor_base.specs.Blocks.{Block, IsLegalBlock, is_legal, smallest}
 use Rattle.nor_base.specs.Chip.{Setting, Chip, IsChipOf, ready}
 use Rattle.nor_base.specs.Effect.{may_program, is_barred, is_out_of_range, is_program, written, programmed, erased, after, effect, effect_if}
-use Rattle.nor_base.specs.Run.{Stop, poll_clocks, says_busy, poll_on, polled, done, matched, is_verify, step, one_later, go_on, run, DoesTask}
+use Rattle.nor_base.specs.Run.{poll_clocks, says_busy, poll_on, polled, done, matched, is_verify, step, go_on, run, DoesTask}
 use Rattle.nor_base.specs.Need.{is_due, is_needed}
 use Rattle.nor_base.specs.Events.{Event, event_on, polled_events, step_events, events_after, events_from, events, erases_address, is_erased_by}
 use Rattle.nor_base.proofs.ArrayLaws.{length-each, slice_index-each, some-false, erased_keeps}
+use Rattle.nor_base.proofs.OutcomeLaws.{later_ok}
 use Rattle.nor_laws.proofs.EffectLaws.{taken}
 use Rattle.nor_geometry.proofs.KindLemmas.{legal_kind, size_of}
 use Rattle.nor_work.proofs.Erased.Erasing.{moved}
@@ -220,10 +221,6 @@ first_any test (e ∷ xs) ys h = by_first (test e) refl h (first_any test xs ys)
 second_any : (test : Event → Bool) (xs ys : List Event) → list_any test ys ≡ true → list_any test (xs ++ ys) ≡ true
 second_any test [] ys h = h
 second_any test (e ∷ xs) ys h = rw (second_any test xs ys h) (or-true (test e))
-
-pub later_ok : (r : Result Chip Stop) (d : Chip) → one_later r ≡ Ok d → r ≡ Ok d
-later_ok (Ok c) d h = h
-later_ok (Err stop) d h = cc
 
 run_step : (s : Setting) (n : ℕ) (c d : Chip) (y : Step) (ys : List Step) (want : List ℕ) (x a : ℕ) (r : Result Chip Wrong) → step s c y ≡ r
     → ((e : Chip) → step s c y ≡ Ok e → Kept s want x a e (step_events s n c y))

@@ -1,5 +1,5 @@
 -- Where an address is due and none is at fault, the strategy has a block to erase for it, inside the needed area.
-use Rattle.std.proofs.Common.{◌≡◌, ◌⊎◌, ℕ, zero, suc, ◌+◌, ◌-◌, ◌*◌, ◌/◌, ◌%◌, ◌<◌, ◌≤◌, nat_le, nat_lt, Bool, true, false, not, ◌&&◌, ◌||◌, if◌then◌else◌, List, [], ◌∷◌, length, Option, Some, None, refl, sym, ◌∙◌, ap, arith, inl, inr, leb-true, le-leb}
+use Rattle.std.proofs.Common.{◌≡◌, ◌⊎◌, ℕ, zero, suc, ◌+◌, ◌-◌, ◌*◌, ◌/◌, ◌%◌, ◌<◌, ◌≤◌, nat_le, nat_lt, Bool, true, false, not, ◌&&◌, ◌||◌, if◌then◌else◌, List, [], ◌∷◌, Option, Some, None, refl, sym, ◌∙◌, ap, arith, inl, inr, leb-true, le-leb}
 use Rattle.std.specs.Prelude.{slice_get, is_some, option_and_then}
 use Rattle.std.specs.List.{list_any, range_with_len}
 use Rattle.std.specs.Option.{option_map_or}
@@ -22,14 +22,9 @@ use Rattle.nor_base.specs.Need.{differs, is_due, is_needed, lies_in_needed, eras
 use Rattle.nor_work.proofs.Units.Ranges.{aligned_le}
 use Rattle.nor_work.proofs.Units.Walk.{next_aligned}
 use Rattle.nor_work.proofs.Erased.Best.{Among, some_best, smallest_of}
-use Rattle.nor_geometry.proofs.KindLemmas.{legal_kind, size_of, IsKind}
+use Rattle.nor_geometry.proofs.KindLemmas.{legal_kind, size_of, past_end, IsKind}
 use Rattle.nor_geometry.proofs.WindowLemmas.{divides, multiple_of}
 use Rattle.nor_work.proofs.Erased.Erasing.{IsThere, there, block_is, is_block, legal_parts, legal_of, some_size, floor_aligned, erasable_is}
-
-past_end : (xs : List (Option Erase)) (i : ℕ) → length xs ≤ i → slice_get xs i ≡ None
-past_end [] i fits = refl
-past_end (x ∷ xs) zero fits = absurd (omega arith)
-past_end (x ∷ xs) (suc i) fits = past_end xs i (omega arith)
 
 -- a kind with a legal block is one of four
 pub four : (m : Parameters) (k : ℕ) → IsAccepted m → IsKind m k → Among kinds k

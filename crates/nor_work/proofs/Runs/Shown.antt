@@ -17,9 +17,10 @@ use Rattle.nor_base.specs.Run.{poll_clocks, says_busy, done, matched, is_verify,
 use Rattle.nor_base.specs.Spelling.{Instr, seen, IsSentBy, IsReadBy, IsStepBy, AreStepsOf, mode_after}
 use Rattle.nor_base.specs.Operations.{poll}
 use Rattle.nor_base.specs.Events.{Event, event_on, polled_events, step_events, events_after, events_from}
+use Rattle.nor_base.proofs.OutcomeLaws.{later_ok}
 use Rattle.nor_laws.proofs.PollLaws.{poll_is_status, poll_ends}
 use Rattle.nor_laws.proofs.EffectLaws.{taken}
-use Rattle.nor_work.proofs.Erased.Least.{later_ok, matched_done}
+use Rattle.nor_work.proofs.Erased.Least.{matched_done}
 
 -- the transactions of the step of a number, that of a poll or of another instruction
 abbrev pub ShownBy : ℕ → Instr → Bool → List Event → Type 0

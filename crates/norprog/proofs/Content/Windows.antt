@@ -23,6 +23,7 @@ use Rattle.nor_steps.specs.Tally.{tally_of, sum_of, nothing_told, IsFew, erases_
 use Rattle.nor_steps.specs.Texts.{UnitText, IsTold, WroteText, HasText}
 use Rattle.nor_steps.specs.Writing.{Writing, written_on}
 use Rattle.nor_steps.proofs.OpLemmas.{more_steps, more_on}
+use Rattle.nor_steps.proofs.TallyLemmas.{same_tally}
 use Rattle.nor_job.specs.Filled.{target_from}
 use Rattle.norprog.specs.Windows.{first_writing, lifted_steps, StopsWindow, IsUndone, IsDone, IsAllDone, CutCause, AreRecent, BeginsText, IsKnown, IsCut}
 use Rattle.nor_job.specs.Written.{AreBytes}
@@ -53,12 +54,6 @@ none_done unit_text job v before held is = record {
     put = Appends-none held;
   };
 }
-
-abbrev tally : ℕ → ℕ → ℕ → ℕ → Tally
-tally a b c d = record { steps = a; erases = b; erased = c; programs = d }
-
-same_tally : (a b c d a' b' c' d' : ℕ) → a ≡ a' → b ≡ b' → c ≡ c' → d ≡ d' → tally a b c d ≡ tally a' b' c' d'
-same_tally a b c d a' b' c' d' p q r s = cc
 
 -- what two parts tell together
 tally_join : (s : Streaming) (p q : List Op) (one other : Tally) → one ≡ tally_of s p → other ≡ tally_of (onward s p) q → sum_of one other ≡ tally_of s (p ++ q)

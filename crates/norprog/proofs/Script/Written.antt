@@ -20,6 +20,7 @@ use Rattle.nor_steps.specs.Writing.{Writing, Begins, lines_of, next_lines}
 use Rattle.nor_steps.specs.Texts.{UnitText, unit_steps}
 use Rattle.nor_steps.specs.Work.{stretch_units}
 use Rattle.nor_steps.proofs.TextLemmas.{units_steps}
+use Rattle.nor_steps.proofs.TallyLemmas.{tally}
 use Rattle.nor_job.specs.Filled.{target_from}
 use Rattle.norprog.specs.Windows.{first_writing, lifted_steps, IsAllDone, IsKnown, IsCut, IsWorked, IsScripted, IsScriptFront, IsCutScript}
 use Rattle.norprog.proofs.Content.Places.{some_page}
@@ -101,9 +102,6 @@ end_cut job v w a b x y z u t told more n size begun done close count sum cut =
     cut_after (λ known part bytes why. IsScriptFront job known part bytes) unit_steps job v w a b y z x t told (body job ops ++ take cut.0 (end_line n)) steps.Write size done tt
     (end_front job done.part ops n cut.0 (whole_is unit_steps job v a b y z told done) (steps_are unit_steps job v a b y z told more n done count sum) cut.1)
     (Appends-append x u t (body job ops) _ (body_put job v a b x y z u told begun done close) cut.2)
-
-abbrev tally : ℕ → ℕ → ℕ → ℕ → Tally
-tally a b c d = record { steps = a; erases = b; erased = c; programs = d }
 
 told_all : (told : Tally) (ops these : List Op) (k n : ℕ) → told ≡ tally_with k ops → these ≡ ops → (m : ℕ) → n ≡ m
     → tally n told.erases told.erased told.programs ≡ tally_with m these

@@ -6,8 +6,9 @@ use Rattle.nor_base.specs.Script.{closed}
 use Rattle.nor_base.proofs.DeviceLaws.{Writes-cut}
 use Rattle.nor_base.specs.Spelling.{mode_by}
 use Rattle.nor_decode.specs.Seen.{transaction_of}
+use Rattle.nor_decode.proofs.DecodedLemmas.{decoded, not_decoded}
 use Rattle.nor_listing.specs.Listing.{send_words}
-use Rattle.nor_listing.proofs.SeenLemmas.{decoded, not_decoded, has_eight}
+use Rattle.nor_listing.proofs.SeenLemmas.{has_eight}
 use Rattle.nor_listing.proofs.sent.put_sent.Goals as goal
 
 pub put_seen-requires-clause-opcode : goal.put_seen-requires-clause-opcode

@@ -4,7 +4,8 @@ use Rattle.nor_base.specs.Decoding.{instruction}
 use Rattle.nor_base.specs.Device.{Writes}
 use Rattle.nor_base.specs.Run.{is_verify}
 use Rattle.nor_decode.specs.Seen.{transaction_of}
-use Rattle.nor_listing.proofs.SeenLemmas.{decoded, not_decoded, has_eight, verified_by}
+use Rattle.nor_decode.proofs.DecodedLemmas.{decoded, not_decoded}
+use Rattle.nor_listing.proofs.SeenLemmas.{has_eight, verified_by}
 use Rattle.nor_listing.proofs.verified.put_verified.Goals as goal
 
 pub put_seen-requires-clause-opcode : goal.put_seen-requires-clause-opcode
