@@ -19,6 +19,7 @@ use std::alloc::Global;
 use std::marker::Model;
 
 /// A checker that is fed with the steps of a script, one after another, and says at their end what [`check`] says of them all.
+/// Its clauses speak of the verdict to come: what it will say at the end, if some steps come and then the end.
 ///
 /// It holds no step. Its memory is one array of the meaning's size; where the page is only known to be so large or larger,
 /// and from the first program on that leaves the least page, one for each page that may be.
@@ -79,7 +80,7 @@ impl<'a> StepChecker<'a> {
         self.number
     }
 
-    /// Takes the next step. `Memory` where a growth is refused, which only the first step asks for that tells chips of
+    /// Takes the next step: the verdict to come is then what it was with this step in front of those that follow. `Memory` where a growth is refused, which only the first step asks for that tells chips of
     /// different pages apart; the step isn't taken then, and may be given again.
     pub fn step(&mut self, alloc: Global, step: &Step) -> Result<(), CheckFault>
         requires { self.old.number < 2 ^ 64 - 1 }

@@ -58,8 +58,8 @@ impl<'a> Chip<'a> {
     ///
     /// `content` holds the bytes from address 0 on, as many as the meaning's size. Each program and each erase that it
     /// takes keeps it busy for the next number of status reads in `busy`, and for none past the list's end. `keeps` is
-    /// whether a set write enable latch stays set where the address mode is entered or left. A meaning that is always in
-    /// four-byte addresses has no start in three-byte ones.
+    /// whether a set write enable latch stays set where the address mode is entered or left. A chip that has three address
+    /// bytes alone doesn't begin in four-byte mode.
     pub fn new(
         meaning: &'a Meaning,
         start: Start,

@@ -11,7 +11,7 @@ use std::simd::prelude::*;
 /// The clocks of a poll: read status (05h), and one byte sampled.
 pub const POLL: &[u8; 16] = b"00000101........";
 
-/// Whether a verify may have these clocks: they sample something, and aren't those of a status read (05h).
+/// Whether a verify may have these clocks: they sample something, and don't begin with the opcode of a status read (05h).
 #[tactic(auto, unfolding(nor_base::specs::Run::is_verify))]
 pub fn is_verify(clocks: &[u8]) -> bool
     ensures { result ≡ is_verify clocks.now }

@@ -44,7 +44,8 @@ impl Model for Grid {
 }
 
 impl Grid {
-    /// The grid of a chip of `size` bytes and this page, under a plan of these lines, with what is chosen of it. A cell has as many
+    /// The grid of a chip of `size` bytes and this page, under a plan of these lines, with what is chosen of it. The lines may
+    /// overlap, stand in any order and lie past the chip. A cell has as many
     /// bytes as a page, doubled until 65,536 cells hold the chip; a row has so many cells that it is about as wide as the grid is
     /// high, a power of two.
     ///

@@ -23,6 +23,7 @@ use nor_plan_read::PlanLine;
 
 /// Writes a map as an SVG image (W3C): the cells of a chip by their states, the erased blocks of the plan's lines, each with its lines
 /// of the plan as its title, the regions of a layout, a legend, and the lines of a report. Past 10,000 lines the blocks are left out.
+/// The lines may overlap, stand in any order and lie past the chip.
 /// Names and report may hold any bytes: those that aren't printable ASCII become `?`, and LF begins a line of the report.
 ///
 /// The image has room for 255 regions and some 30 lines of report. It takes no memory. At `Failed` a proper prefix was taken; it comes

@@ -13,7 +13,7 @@ use nor_script::{hex_number, hex_pair};
 
 /// Writes a line of a plan, closed by LF: `erase SSSSSSSS ZZZZZZZZ OO`, `because SSSSSSSS AAAAAAAA` or
 /// `program SSSSSSSS n`. The number of bytes of a program is in decimal, all other numbers are in lower-case hexadecimal
-/// digits. It takes no memory.
+/// digits. Without its LF it is a text of which [`read_line`](crate::read_line) reads just this line. It takes no memory.
 ///
 /// At `Failed` a proper prefix was taken; it comes from the writer alone, whose count of failures rose by one.
 pub fn write_line<W: ByteOut>(line: PlanLine, out: &mut W) -> Result<(), Failed>

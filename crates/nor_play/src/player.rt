@@ -23,7 +23,8 @@ use std::marker::Model;
 /// one poll all said busy, `NotIdleAtEnd` where the chip is busy at the end, or has its latch set, or isn't in its first
 /// address mode. `PortFailed` tells the step whose transaction failed. `Memory` where a growth is refused.
 ///
-/// The port is left as the transactions done so far left it, and is asked for none besides these and the one that failed.
+/// The port is left as the transactions done so far left it, and is asked for none besides these and the one that failed. What
+/// is fixed with its chip stays, but for `PortFailed`.
 pub fn play<P: Port>(
     alloc: Global,
     steps: &[Step],
@@ -83,7 +84,8 @@ impl StepPlayer {
     /// Plays a step that sends these clocks, and answers how many transactions it took: 1. The bytes that the clocks sample are
     /// dropped; where they sample none, no memory is taken.
     ///
-    /// The faults are those of [`play`], with the number of the step. After one the player is as it was.
+    /// Fewer than 2^64 - 1 steps were played before. The faults are those of [`play`], with the number of the step. After one the
+    /// player is as it was.
     pub fn send<P: Port>(
         &mut self,
         alloc: Global,
@@ -104,7 +106,8 @@ impl StepPlayer {
     /// Plays a step that polls with these clocks until the chip says idle, and answers how many transactions it took. No memory
     /// is taken.
     ///
-    /// The faults are those of [`play`], with the number of the step. After one the player is as it was.
+    /// Fewer than 2^64 - 1 steps were played before. The faults are those of [`play`], with the number of the step. After one the
+    /// player is as it was.
     pub fn poll<P: Port>(&mut self, clocks: &[u8], port: &mut P) -> Result<u64, PlayFault>
         requires number { self.old.number < 2 ^ 64 - 1 }
         requires room { P.count port.old < 2 ^ 64 - 1 }
@@ -120,7 +123,8 @@ impl StepPlayer {
     /// Plays a step that sends these clocks and compares the bytes that they sample, and answers how many transactions it
     /// took: 1.
     ///
-    /// The faults are those of [`play`], with the number of the step. After one the player is as it was.
+    /// Fewer than 2^64 - 1 steps were played before. The faults are those of [`play`], with the number of the step. After one the
+    /// player is as it was.
     pub fn verify<P: Port>(
         &mut self,
         alloc: Global,

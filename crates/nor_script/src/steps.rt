@@ -22,7 +22,7 @@ const MOST: u64 = 1 << 62;
 
 /// Reads a script out of a device, step by step, in a buffer that it uses again.
 ///
-/// The buffer has room for 256 KiB at first, and grows to twice its size where a line fills more than half of it; so a line of
+/// The buffer has room for 256 KiB at first, and grows to twice its size where a line fills half of it or more; so a line of
 /// any length is read. A step's clocks are borrowed from the buffer, and the bytes that it expects from a second one.
 #[derive(Drop)]
 pub struct StepReader {
@@ -75,8 +75,8 @@ impl StepReader {
         })
     }
 
-    /// Goes on to the next step, which [`StepReader::view`] shows then. `false` where the end line came with the right number,
-    /// and the device is at its end.
+    /// Goes on to the next step, which [`StepReader::view`] shows then; it is one that a script may have. `false` where the end
+    /// line came with the right number, and the device is at its end.
     ///
     /// A fault is that which [`crate::read`] tells of the whole text. `Device` where the device failed. `Memory` where a growth
     /// is refused, or 2^62 steps were read and a further one comes. After each of them the reader stands where it stood, before

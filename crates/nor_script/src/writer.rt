@@ -21,7 +21,7 @@ pub fn begin<W: ByteOut>(writer: &mut W) -> Result<(), Failed>
     put_all(writer, b"norscript 1\n")
 }
 
-/// Writes a step's line: `x CLOCKS`, `p CLOCKS` or `v CLOCKS HEX`.
+/// Writes the line of a step that a script may have ([`nor_base::is_step`]): `x CLOCKS`, `p CLOCKS` or `v CLOCKS HEX`.
 ///
 /// At `Failed` a proper prefix of it was taken; it comes from the writer alone, whose count of failures rose by one.
 pub fn write_step<W: ByteOut>(step: &Step, writer: &mut W) -> Result<(), Failed>

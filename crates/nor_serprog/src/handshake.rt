@@ -29,6 +29,9 @@ const MOST: u32 = (1 << 24) - 1;
 /// (12h 08h) and, where it offers them, the most bytes that an operation sends (08h) and gives (11h), and the chip's pins
 /// (15h 01h). A reader that waits for bytes has to end where the device is silent.
 ///
+/// On Ok just these bytes went out and just their answers came, but for noise before the first word and late answers behind it. A
+/// most that isn't told, or is 0, is taken for 2^24 - 1.
+///
 /// `Command` tells the first command whose exchange ended early, and how: the reader or the writer failed, the device was
 /// silent, answered NAK, or another byte than ACK; of the first word `Silent` after the last try, and `Differs` where it
 /// stood in none of 4096 bytes. `Version` where that isn't 1, `NoOperation` where 13h isn't offered.

@@ -1,12 +1,13 @@
 //! What the lines of a plan are to its text, and their clocks to its script. Each function does nothing: its contract is the
-//! law.
+//! law, of an accepted meaning, and of a content and a target of the chip's size of which no address is at fault.
 
 ghost use Rattle.nor_times.specs.Law.{BusIsOfScript, BusyIsOfUnits, ErasesAreNamed, PlanIsText};
 
 use nor_laws::instruction_rows;
 use nor_work::{blocks, erased_blocks};
 
-/// The clocks that [`crate::bus_clocks`] gives for the lines of a plan are those of the steps of its script.
+/// The clocks that [`crate::bus_clocks`] gives for the lines of a plan are those of the steps of its script, verified or not; each
+/// poll counts once.
 pub fn clocks_of_script()
     ensures { BusIsOfScript }
 {
@@ -21,8 +22,8 @@ pub fn text_of_plan()
     erased_blocks();
 }
 
-/// The opcode that erases a block, as each erased block of a plan is, names the block's kind and no other: the erase takes the
-/// time of that kind.
+/// The opcode that erases a legal block that the strategy reaches, as each erased block of a plan is, names the block's kind and no
+/// other: the erase takes the time of that kind.
 pub fn erases_are_named()
     ensures { ErasesAreNamed }
 {

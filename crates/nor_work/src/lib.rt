@@ -1,5 +1,7 @@
 //! The law behind the whole project: planned work does the task on every chip, and no script erases less. Each function
-//! does nothing: its contract is the law, and the gate proves it.
+//! does nothing: its contract is the law, and the gate proves it. A law of planned work is of an accepted meaning and each
+//! start, so of each strategy, and of a content and a target of the chip's size, the target of bytes, without an address at
+//! fault.
 #![tactic(auto)]
 
 ghost use Rattle.nor_work.specs.Laws.{PlannedDoesTask, OneUnitInTheMaking};
@@ -37,13 +39,14 @@ pub fn erased_blocks()
     ensures largest { ErasesLargest }
 {}
 
-/// On a chip at rest the instructions of an operation do what it does to the array, and leave the chip at rest.
+/// On a chip at rest, which can do it over what the array holds, the instructions of an operation do what it does to the array,
+/// and leave the chip at rest.
 pub fn operations()
     ensures { OperationIsDone }
 {}
 
-/// The smallest block that the strategy reaches at an address is the smallest legal one there, but for its kind. No legal
-/// block and no page lies across 2^24.
+/// The smallest block that the strategy reaches at an address, where it reaches that, is the smallest legal one there, but for its
+/// kind. No legal block and no page lies across 2^24.
 pub fn blocks()
     ensures smallest { SmallestAgree }
     ensures blocks { BlocksStay }
@@ -62,7 +65,7 @@ pub fn least_erasure()
 
 /// What a run of planned work shows, on every chip. It erases just the needed area, each address once, and it erases and
 /// programs as often as the units do. Where the work is verified each address that it erases or programs is read later,
-/// against the target; else no step verifies.
+/// against the target; else no step verifies, also where an address is at fault.
 pub fn planned_runs()
     ensures exact { PlannedErasesNeeded }
     ensures once { ErasesOnce }

@@ -34,9 +34,9 @@ use std::alloc::Global;
 /// for the build.
 ///
 /// Of the inputs' faults the first of these is told, before anything is read or written: `Contradiction`, `Hex`,
-/// `Layout`, `Sfdp`, `Status`, `ModeImpossible`, `ContentSize`; their causes stand at [`BuildFault`]. In the work the
-/// first that it meets is told: `ContentShort` where the reader ends before `len` bytes, `Plan` with the lowest address
-/// that can't be made to hold its target, `Read` and `Write` where that device fails, which is final. `Memory` comes
+/// `Layout`, `Sfdp`, `Status`, `ModeImpossible`, `ContentSize`; their causes stand at [`BuildFault`]. In the work:
+/// `ContentShort` where the reader ends before `len` bytes, `Read` where it fails, `Plan` with the lowest address that can't
+/// be made to hold its target, the first of these; `Write` where the writer fails, which is final; `Memory` comes
 /// where a growth is refused. After `ContentShort`, `Read` and `Plan` what was written is all lines of the windows before;
 /// after `Write` and `Memory` it is some of the lines of the windows that were read, from their beginning on.
 pub fn plan<R: ByteIn, W: ByteOut>(

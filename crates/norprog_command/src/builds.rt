@@ -14,7 +14,8 @@ use norprog_words::{FileName, GivenBuild, Refusal, Shelf, refuse};
 use std::alloc::Global;
 
 /// Does what the texts of a command line ask for. It opens the files that they name, writes the report to `out` and a
-/// refusal to `err` (docs/FORMATS.md, section 9), and answers the status: 0 done, 1 refused, 2 usage.
+/// refusal to `err` (docs/FORMATS.md, section 9), and answers the status: 0 done, 1 refused, 2 usage. The script's file is
+/// made as none of the files that are read.
 ///
 /// `given` is what stands on the command line, or why that couldn't be read, which is told. Usage is told where the texts
 /// ask for no build.

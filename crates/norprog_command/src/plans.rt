@@ -20,7 +20,7 @@ use std::alloc::Global;
 
 /// Writes to `out` the lines of the plan of the job on a command line, the report that a build of it would have and, where they
 /// are asked for, the lines of its times; or a refusal to `err` (docs/FORMATS.md, sections 9 and 15). Where a picture is asked for
-/// it goes to its file first (section 16). Answers the status: 0 done, 1 refused, 2 usage. Lines of windows before the one at fault
+/// it goes to its file first (section 16), which is made as none of the files that are read. Answers the status: 0 done, 1 refused, 2 usage. Lines of windows before the one at fault
 /// stand in `out` also where the job is refused. Memory is taken for the text.
 ///
 /// `given` is what stands on the command line, or why that couldn't be read, which is told. Usage is told where the texts

@@ -13,7 +13,8 @@ use norprog_words::{FileName, GivenDraw, Refusal, Shelf, refuse};
 use std::alloc::Global;
 
 /// Draws the script on a command line into the file that it names, or writes a refusal to `err` (docs/FORMATS.md, section 9), and
-/// answers the status: 0 done, 1 refused, 2 usage. Nothing is printed where it is done.
+/// answers the status: 0 done, 1 refused, 2 usage. Nothing is printed where it is done. That file is made as another one than the
+/// script's.
 ///
 /// `given` is what stands on the command line, or why that couldn't be read, which is told. Usage is told where the texts ask for
 /// no waveform.

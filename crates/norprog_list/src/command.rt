@@ -13,7 +13,8 @@ use norprog_words::{FileName, GivenList, Refusal, Shelf, refuse, setup_inputs, t
 use std::alloc::Global;
 
 /// Writes to `out` the listing of the script on a command line, by the chip that it names, or a refusal to `err`
-/// (docs/FORMATS.md, section 9), and answers the status: 0 done, 1 refused, 2 usage.
+/// (docs/FORMATS.md, section 9), and answers the status: 0 done, 1 refused, 2 usage. Where the script is refused, the lines of the
+/// steps above its fault may stand in `out`.
 ///
 /// `given` is what stands on the command line, or why that couldn't be read, which is told. Usage is told where the texts
 /// ask for no listing.

@@ -29,7 +29,8 @@ pub enum Asked<'a> {
     Explain(Vec<Bytes>),
 }
 
-/// Reads the words behind the program's name, by the command line library. Each value is the text of the option of its name.
+/// Reads the words behind the program's name, by the command line library. Each value is the text of the option of its name, among
+/// the matches that the library gives for the words; which words it refuses is its own.
 ///
 /// A fault of the words, and a request for help, is `Text` of that library; where it names no command, `Usage`; `Memory` where
 /// a growth is refused.

@@ -31,7 +31,7 @@ use std::io::BufReader;
 /// done it tells that to `err` too. It answers the status: 0 all done, 1 not so or refused, 2 usage.
 ///
 /// Where steps are sent to the device, how many are done is told to `progress` after each hundred and at the end, in a line that is
-/// written over; where that fails nothing changes.
+/// written over; where that fails nothing changes. What is said of the device is so of some device, from its handshake on.
 ///
 /// `given` is what stands on the command line, or why that couldn't be read, which is told. Usage is told where the texts
 /// ask for no play.

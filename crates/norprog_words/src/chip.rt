@@ -50,7 +50,7 @@ pub fn source_of<'a>(chip: Chip<'a>, tables: &'a [u8]) -> Source<'a>
     }
 }
 
-/// The status, if one is given; None where it isn't of its form.
+/// The status, if one is given: exactly six hexadecimal digits of either case. None where it isn't so.
 pub fn optional_status(text: Option<&str>) -> Option<Option<u32>>
     ensures { result ≡ said_status (option_map (λ t. t.now) text.entry) }
 {
