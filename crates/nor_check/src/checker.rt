@@ -18,8 +18,8 @@ use nor_laws::{effects, polls, verifying_reads};
 use std::alloc::Global;
 use std::marker::Model;
 
-/// A checker that is fed with the steps of a script, one after another, and says at their end what [`check`] says of them all.
-/// Its clauses speak of the verdict to come: what it will say at the end, if some steps come and then the end.
+/// A checker that is fed with the steps of a script, one after another, and says at their end what [`check`] says of them
+/// all. Its clauses speak of the verdict to come: what it will say at the end, if some steps come and then the end.
 ///
 /// It holds no step. Its memory is one array of the meaning's size; where the page is only known to be so large or larger,
 /// and from the first program on that leaves the least page, one for each page that may be.
@@ -46,8 +46,8 @@ impl<'a> Model for StepChecker<'a> {
 
 impl<'a> StepChecker<'a> {
     /// A checker before the first step: of the scripts on ready chips of a meaning and a start that hold `have` and, at the
-    /// end, are to hold `want`. Both go as for [`check`], and what it says of steps to come is what that says. It asks for no
-    /// memory: `have` becomes its array.
+    /// end, are to hold `want`. Both go as for [`check`], and what it says of steps to come is what that says. It asks for
+    /// no memory: `have` becomes its array.
     pub fn new(
         alloc: Global,
         meaning: &'a Meaning,
@@ -80,8 +80,9 @@ impl<'a> StepChecker<'a> {
         self.number
     }
 
-    /// Takes the next step: the verdict to come is then what it was with this step in front of those that follow. `Memory` where a growth is refused, which only the first step asks for that tells chips of
-    /// different pages apart; the step isn't taken then, and may be given again.
+    /// Takes the next step: the verdict to come is then what it was with this step in front of those that follow. `Memory`
+    /// where a growth is refused, which only the first step asks for that tells chips of different pages apart; the step
+    /// isn't taken then, and may be given again.
     pub fn step(&mut self, alloc: Global, step: &Step) -> Result<(), CheckFault>
         requires { self.old.number < 2 ^ 64 - 1 }
         ensures fed { IfOk result (λ _. (more : List Step) → to_come self.new more ≡ to_come self.old (step.now ∷ more)) }

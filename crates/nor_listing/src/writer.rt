@@ -11,8 +11,8 @@ use itoa::Buffer;
 use nor_base::{ByteOut, Failed, Meaning, Start, Step, put_parts};
 
 /// Writes the listing of steps: the chip and its first address mode, a line for each step, and `end N` with their number. The
-/// mode is that of the start until an Enter (B7h) or Leave (E9h) that is sent. The steps may also be such as no script has. It takes no
-/// memory.
+/// mode is that of the start until an Enter (B7h) or Leave (E9h) that is sent. The steps may also be such as no script has.
+/// It takes no memory.
 ///
 /// At `Failed` a proper prefix was taken; it comes from the writer alone, whose count of failures rose by one.
 pub fn write_listing<W: ByteOut>(
@@ -29,8 +29,8 @@ pub fn write_listing<W: ByteOut>(
     finish(steps.len() as u64, out)
 }
 
-/// Writes the listing of steps without its end line, so that it is none: what is told of steps that something at fault follows.
-/// It takes no memory.
+/// Writes the listing of steps without its end line, so that it is none: what is told of steps that something at fault
+/// follows. It takes no memory.
 ///
 /// At `Failed` a proper prefix was taken; it comes from the writer alone, whose count of failures rose by one.
 pub fn write_unended<W: ByteOut>(

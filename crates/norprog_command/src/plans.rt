@@ -19,9 +19,10 @@ use norprog_words::{FileName, GivenPlan, Refusal, Shelf, refuse};
 use std::alloc::Global;
 
 /// Writes to `out` the lines of the plan of the job on a command line, the report that a build of it would have and, where they
-/// are asked for, the lines of its times; or a refusal to `err` (docs/FORMATS.md, sections 9 and 15). Where a picture is asked for
-/// it goes to its file first (section 16), which is made as none of the files that are read. Answers the status: 0 done, 1 refused, 2 usage. Lines of windows before the one at fault
-/// stand in `out` also where the job is refused. Memory is taken for the text.
+/// are asked for, the lines of its times; or a refusal to `err` (docs/FORMATS.md, sections 9 and 15). Where a picture is asked
+/// for it goes to its file first (section 16), which is made as none of the files that are read. Answers the status: 0 done, 1
+/// refused, 2 usage. Lines of windows before the one at fault stand in `out` also where the job is refused. Memory is taken for
+/// the text.
 ///
 /// `given` is what stands on the command line, or why that couldn't be read, which is told. Usage is told where the texts
 /// ask for no plan.
@@ -85,7 +86,8 @@ fn print_whole<O: ByteOut>(lines: &[u8], rest: &[u8], out: &mut O) -> Result<(),
     }
 }
 
-/// Prints the lines that were told before a refusal, and answers what is to be told: that refusal, or `Write` where `out` fails.
+/// Prints the lines that were told before a refusal, and answers what is to be told: that refusal, or `Write` where `out`
+/// fails.
 fn print_lines<O: ByteOut>(lines: &[u8], refusal: Refusal, out: &mut O) -> Refusal
     requires { O.count out.old < 2 ^ 64 - 1 }
     ensures { ((lines.now ≡ []) × (out.new ≡ out.old) × (result ≡ refusal))

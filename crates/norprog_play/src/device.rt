@@ -22,11 +22,12 @@ use std::io::{Read, Write};
 /// Plays steps on a device, after its handshake, beside a ready chip in memory that is never busy, on which they go well in so
 /// many transactions ([`ends_early`](crate::ends_early) tells).
 ///
-/// First each is looked at: `Failed` for `Carried` with the first whose clocks are no operation of the device. Then, unless the chip
-/// behind the device is trusted to hold what the chip in memory does, the device reads each cell of 256 bytes of which some step
-/// erases or programs a byte: `Unlike` where a byte is another, or where the reading stops. It reads by 03h with the address bytes of
-/// the chip's first mode, so a chip in the other mode gives other bytes, and past 2^24 in three-byte mode by 13h. Then the device is asked for one step
-/// after the other: `Failed` with the first that it didn't do as the chip in memory did, and why. `Done` where it did all.
+/// First each is looked at: `Failed` for `Carried` with the first whose clocks are no operation of the device. Then, unless the
+/// chip behind the device is trusted to hold what the chip in memory does, the device reads each cell of 256 bytes of which some
+/// step erases or programs a byte: `Unlike` where a byte is another, or where the reading stops. It reads by 03h with the address
+/// bytes of the chip's first mode, so a chip in the other mode gives other bytes, and past 2^24 in three-byte mode by 13h. Then the
+/// device is asked for one step after the other: `Failed` with the first that it didn't do as the chip in memory did, and why.
+/// `Done` where it did all.
 ///
 /// How many steps are done is told to `progress` after each hundred and at the end; where that fails nothing changes.
 ///
