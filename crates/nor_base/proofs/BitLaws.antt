@@ -1,5 +1,5 @@
 -- How many clocks send bytes, and that each of some bytes is one.
-use Rattle.std.proofs.Common.{◌≡◌, ℕ, ◌*◌, ◌<◌, Bool, true, List, [], ◌∷◌, length, refl, arith, length-append}
+use Rattle.std.proofs.Common.{◌≡◌, ℕ, ◌*◌, ◌<◌, true, List, [], ◌∷◌, length, refl, arith, length-append}
 use Rattle.std.specs.Prelude.{flat_map, nat_lt}
 use Rattle.std.proofs.lemmas.Bool.{and_parts, ltb-true}
 use Rattle.nor_base.specs.Array.{are_bytes}

@@ -1,7 +1,8 @@
 //! From the files of a job to the library's inputs.
 
 ghost use Rattle.std.specs.Prelude.{◌≡◌, [], ◌∷◌, IfOk, IfErr, option_map, option_to_list};
-ghost use Rattle.norprog_words.specs.Files.{IsOfFiles};
+ghost use Rattle.norprog_words.specs.declared.faults.FileName.TheVariants.{Layout};
+ghost use Rattle.norprog_words.specs.Files.{RefusesFile, IsOfFiles};
 ghost use Rattle.norprog_words.specs.Shelf.{Notes, WhereNamed};
 ghost use Rattle.norprog_command.specs.Served.{task_by, held_in, text_files_of, AreGiven};
 
@@ -36,7 +37,7 @@ pub(crate) fn read_texts<S: Shelf>(
     Ok(Texts { hex, layout, sfdp })
 }
 
-/// Reads the layout, where one is named.
+/// Reads the layout, where one is named. `File` of `Layout`, or `Memory`.
 fn read_layout<S: Shelf>(
     alloc: Global,
     shelf: &S,
@@ -47,7 +48,8 @@ fn read_layout<S: Shelf>(
         (option_map (λ held. held.items) bytes)) }
     ensures noted { IfOk result (λ _. Notes (S.facts shelf.now) (option_to_list (option_map (λ t. t.now) path.entry))
         places.old.items places.new.items) }
-    ensures refused { IfErr result IsOfFiles }
+    ensures refused { IfErr result (RefusesFile Layout) }
+    ensures files { IfErr result IsOfFiles }
 {
     match path {
         Some(path) => Ok(Some(read_noted(alloc, shelf, path, FileName::Layout, places)?)),
@@ -55,7 +57,7 @@ fn read_layout<S: Shelf>(
     }
 }
 
-/// Reads a file whole, and notes which one it is.
+/// Reads a file whole, and notes which one it is. `File` of `name`, or `Memory`.
 fn read_noted<S: Shelf>(
     alloc: Global,
     shelf: &S,
@@ -65,7 +67,8 @@ fn read_noted<S: Shelf>(
 ) -> Result<Vec<u8>, Refusal>
     ensures gave { IfOk result (λ bytes. (S.facts shelf.now).gave path.now bytes.items) }
     ensures noted { IfOk result (λ _. Notes (S.facts shelf.now) (path.now ∷ []) places.old.items places.new.items) }
-    ensures refused { IfErr result IsOfFiles }
+    ensures refused { IfErr result (RefusesFile name) }
+    ensures files { IfErr result IsOfFiles }
 {
     let (bytes, place) = shelf.read(alloc, path, name)?;
     places.push(place)?;
