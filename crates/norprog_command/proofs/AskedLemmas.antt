@@ -20,6 +20,8 @@ use Rattle.norprog_check.specs.declared.fault.StreamStop.TheVariants as stream
 use Rattle.norprog_check.specs.Checked.{RefusesTexts, StopsCheck}
 use Rattle.norprog_check.specs.Streams.{RefusesTask, StopsReading, StopsAtContent, StopsFeeding}
 use Rattle.norprog_check.proofs.StopLaws.{some_text}
+use Rattle.norprog_words.specs.declared.faults.FileName.{FileName}
+use Rattle.norprog_words.specs.declared.faults.FileName.TheVariants as file
 use Rattle.norprog_words.specs.declared.faults.Refusal.{Refusal}
 use Rattle.norprog_words.specs.declared.faults.Refusal.TheVariants.{Text, Usage, File, Build, Page, Script}
 use Rattle.norprog_words.specs.Told.{ForAsked, OfFault, Refuses}
@@ -47,19 +49,19 @@ report_of Asked Sent t len before after held held' (Ok report) (Ok u) r asked bu
   has = record { after = after; held_before = held; held_after = held'; begun = refl; sent = sent; built = built };
 })
 
-pub refusal_of_build : {U E : Type 0} (A B : Type 0) (Asked : Job → Type 0) (t : Task) (len : ℕ) (before after : Ahead) (held held' : Option (List ℕ))
+pub refusal_of_build : {U E : Type 0} (Lacked : FileName → Type 0) (A B : Type 0) (Asked : Job → Type 0) (t : Task) (len : ℕ) (before after : Ahead) (held held' : Option (List ℕ))
     (answer : Result Report BuildFault) (flushed : Result U E) (r : Result Report Refusal) → Asked (job_with t before len (Some held))
     → IfOk answer (IsBuilt t len before after held held')
     → IfErr answer (λ why. (RefusesInputs t len why × A × B) ⊎ StopsWork t len before after held held' why)
-    → r ≡ done answer flushed → IfErr r (RefusesBuild Asked)
-refusal_of_build A B Asked t len before after held held' (Err why) flushed r asked built refused is =
+    → r ≡ done answer flushed → IfErr r (RefusesBuild Lacked Asked)
+refusal_of_build Lacked A B Asked t len before after held held' (Err why) flushed r asked built refused is =
     let cause : RefusesInputs t len why ⊎ StopsWork t len before after held held' why = elim refused [ inl early ↦ inl early.0 | inr late ↦ inr late ] in
-    rw is (by_fault (OfFault (IsBuildFault Asked)) _ (Build why) (record {
+    rw is (by_fault Lacked (OfFault (IsBuildFault Asked)) _ (Build why) (record {
       it = job_with t before len (Some held);
       asked = asked;
       has = record { after = after; held_before = held; held_after = held'; begun = refl; refused = cause };
     }))
-refusal_of_build A B Asked t len before after held held' (Ok report) (Err e) r asked built refused is = rw is (inr (
+refusal_of_build Lacked A B Asked t len before after held held' (Ok report) (Err e) r asked built refused is = rw is (inr (
   report,
   record {
     it = job_with t before len (Some held);
@@ -67,12 +69,13 @@ refusal_of_build A B Asked t len before after held held' (Ok report) (Err e) r a
     has = record { after = after; held_before = held; held_after = held'; begun = refl; sent = tt; built = built };
   },
 ))
-refusal_of_build A B Asked t len before after held held' (Ok report) (Ok u) r asked built refused is = rw is tt
+refusal_of_build Lacked A B Asked t len before after held held' (Ok report) (Ok u) r asked built refused is = rw is tt
 
-pub build_wider : (A B : Job → Type 0) → ((j : Job) → A j → B j) → (why : Refusal) → RefusesBuild A why → RefusesBuild B why
-build_wider A B wider =
-    refuses_wider (OfFault (IsBuildFault A)) (OfFault (IsBuildFault B)) ((report : Report) × IsBuildReport A (λ held. ⊤) report) ((report : Report) × IsBuildReport B (λ held. ⊤) report)
-    (fault_wider (IsBuildFault A) (IsBuildFault B) (λ why of. asked_wider Job A B (IsFaultOf why) wider of))
+pub build_wider : (Lacked : FileName → Type 0) (A B : Job → Type 0) → ((j : Job) → A j → B j) → (why : Refusal) → RefusesBuild Lacked A why
+    → RefusesBuild Lacked B why
+build_wider Lacked A B wider =
+    refuses_wider Lacked Lacked (OfFault (IsBuildFault A)) (OfFault (IsBuildFault B)) ((report : Report) × IsBuildReport A (λ held. ⊤) report) ((report : Report) × IsBuildReport B (λ held. ⊤) report)
+    (λ name lacks. lacks) (fault_wider (IsBuildFault A) (IsBuildFault B) (λ why of. asked_wider Job A B (IsFaultOf why) wider of))
     (λ late. (late.0, asked_wider Job A B (IsReportOf (λ held. ⊤) late.0) wider late.1))
 
 -- a report that wasn't printed is one that was built, whether it has gone out or not
@@ -107,11 +110,11 @@ told_so P (fault.Plan why) is lacks = is
 told_so P fault.ContentShort is lacks = is
 told_so P fault.Read is lacks = is
 
-pub stops_of_plan : (C D : Type 0) (j : Job) (behind : Ahead) (before after : Option (List ℕ)) (why : BuildFault)
-    → (RefusesInputs j.task j.len why × C × D) ⊎ StopsPlan j.task j.len j.content behind before after why → StopsTask (Is j) (in_memory why)
-stops_of_plan C D j behind before after why refused =
+pub stops_of_plan : (Lacked : FileName → Type 0) (C D : Type 0) (j : Job) (behind : Ahead) (before after : Option (List ℕ)) (why : BuildFault)
+    → (RefusesInputs j.task j.len why × C × D) ⊎ StopsPlan j.task j.len j.content behind before after why → StopsTask Lacked (Is j) (in_memory why)
+stops_of_plan Lacked C D j behind before after why refused =
     let cause : RefusesInputs j.task j.len why ⊎ StopsPlan j.task j.len j.content behind before after why = elim refused [ inl early ↦ inl early.0 | inr late ↦ inr late ] in
-    told_so (StopsTask (Is j)) why (by_fault (OfFault (IsPlanFault (Is j))) (FailsToDraw (Is j)) (Build why) (record {
+    told_so (StopsTask Lacked (Is j)) why (by_fault Lacked (OfFault (IsPlanFault (Is j))) (FailsToDraw (Is j)) (Build why) (record {
       it = j;
       asked = refl;
       has = record { behind = behind; before = before; after = after; refused = cause };
@@ -130,17 +133,18 @@ parts_of (Ok rest) lines Asked j asked of = tt
 parts_of (Err why) lines Asked j asked (inl none) = inl none
 parts_of (Err why) lines Asked j asked (inr of) = inr (record { it = j; asked = asked; has = of })
 
-pub stops_wider : (A B : Job → Type 0) → ((j : Job) → A j → B j) → (why : Refusal) → StopsTask A why → StopsTask B why
-stops_wider A B wider =
-    refuses_wider (OfFault (IsPlanFault A)) (OfFault (IsPlanFault B)) (FailsToDraw A) (FailsToDraw B)
-    (fault_wider (IsPlanFault A) (IsPlanFault B) (λ why of. asked_wider Job A B (StopsPlanOf why) wider of)) (asked_wider Job A B IsUndrawn wider)
+pub stops_wider : (Lacked : FileName → Type 0) (A B : Job → Type 0) → ((j : Job) → A j → B j) → (why : Refusal) → StopsTask Lacked A why
+    → StopsTask Lacked B why
+stops_wider Lacked A B wider =
+    refuses_wider Lacked Lacked (OfFault (IsPlanFault A)) (OfFault (IsPlanFault B)) (FailsToDraw A) (FailsToDraw B)
+    (λ name lacks. lacks) (fault_wider (IsPlanFault A) (IsPlanFault B) (λ why of. asked_wider Job A B (StopsPlanOf why) wider of)) (asked_wider Job A B IsUndrawn wider)
 
 -- why a plan wasn't made is why it isn't told
-pub unmade : (Sent : Option (List ℕ) → Type 0) (times : Bool) (Asked : Job → Type 0) (before after : Option (List ℕ)) (why : Refusal) → StopsTask Asked why
-    → RefusesPlan Sent times Asked before after why
-unmade Sent times Asked before after =
-    refuses_wider (OfFault (IsPlanFault Asked)) (OfFault (IsPlanFault Asked)) (FailsToDraw Asked)
-    (FailsToDraw Asked ⊎ FailsToPrint Sent times Asked before after) (λ why of. of) (λ late. inl late)
+pub unmade : (Lacked : FileName → Type 0) (Sent : Option (List ℕ) → Type 0) (times : Bool) (Asked : Job → Type 0) (before after : Option (List ℕ)) (why : Refusal) → StopsTask Lacked Asked why
+    → RefusesPlan Lacked Sent times Asked before after why
+unmade Lacked Sent times Asked before after =
+    refuses_wider Lacked Lacked (OfFault (IsPlanFault Asked)) (OfFault (IsPlanFault Asked)) (FailsToDraw Asked)
+    (FailsToDraw Asked ⊎ FailsToPrint Sent times Asked before after) (λ name lacks. lacks) (λ why of. of) (λ late. inl late)
 
 -- what a plan is told with
 
@@ -174,20 +178,20 @@ outline_lines j behind begun lines report (Ok rest) none planned = tt
 outline_lines j behind begun lines report (Err why) none planned =
     inr (inr (report, lines_in j.task j.len j.content behind begun lines report none planned))
 
-pub outline_stops : {V F : Type 0} (r : Result V Refusal) (j : Job) (map : Option F) (behind : Ahead) (begun lines : List ℕ)
+pub outline_stops : {V F : Type 0} (Lacked : FileName → Type 0) (r : Result V Refusal) (j : Job) (map : Option F) (behind : Ahead) (begun lines : List ℕ)
     (report : Report) → begun ≡ [] → is_some j.begun ≡ is_some map → IsPlanOf j.task j.len j.content behind (Some begun) (Some lines) report
-    → IfErr r (λ why. (why ≡ Build fault.Memory) ⊎ ((is_some map ≡ true) × (why ≡ Build fault.Write))) → IfErr r (StopsTask (Is j))
-outline_stops (Ok rest) j map behind begun lines report none there planned lacks = tt
-outline_stops (Err why) j map behind begun lines report none there planned (inl memory) = rw memory tt
-outline_stops (Err why) j map behind begun lines report none there planned (inr output) = rw output.1 (inr (record {
+    → IfErr r (λ why. (why ≡ Build fault.Memory) ⊎ ((is_some map ≡ true) × (why ≡ Build fault.Write))) → IfErr r (StopsTask Lacked (Is j))
+outline_stops Lacked (Ok rest) j map behind begun lines report none there planned lacks = tt
+outline_stops Lacked (Err why) j map behind begun lines report none there planned (inl memory) = rw memory tt
+outline_stops Lacked (Err why) j map behind begun lines report none there planned (inr output) = rw output.1 (inr (record {
   it = j;
   asked = refl;
   has = (rw there output.0, lines, report, lines_in j.task j.len j.content behind begun lines report none planned);
 }))
 
-pub stops_for : {V : Type 0} (r : Result V Refusal) (Asked : Job → Type 0) (j : Job) → Asked j → IfErr r (StopsTask (Is j)) → IfErr r (StopsTask Asked)
-stops_for (Ok x) Asked j of stops = tt
-stops_for (Err why) Asked j of stops = stops_wider (Is j) Asked (of_one Asked j of) why stops
+pub stops_for : {V : Type 0} (Lacked : FileName → Type 0) (r : Result V Refusal) (Asked : Job → Type 0) (j : Job) → Asked j → IfErr r (StopsTask Lacked (Is j)) → IfErr r (StopsTask Lacked Asked)
+stops_for Lacked (Ok x) Asked j of stops = tt
+stops_for Lacked (Err why) Asked j of stops = stops_wider Lacked (Is j) Asked (of_one Asked j of) why stops
 
 told_wider : (Sent : Option (List ℕ) → Type 0) (times : Bool) (A B : Job → Type 0) → ((j : Job) → A j → B j) → (lines : List ℕ)
     → (lines ≡ []) ⊎ ForAsked Job A (IsPart lines) → (lines ≡ []) ⊎ ForAsked Job B (IsTold Sent times lines)
@@ -217,12 +221,12 @@ whole_cut Sent times A B wider lines rest before after (Err why) of put = inr (r
   put = inr put;
 })
 
-pub whole_refused : {U : Type 0} (Sent : Option (List ℕ) → Type 0) (times : Bool) (A B : Job → Type 0) → ((j : Job) → A j → B j) → (lines rest : List ℕ) (before after : Option (List ℕ))
+pub whole_refused : {U : Type 0} (Lacked : FileName → Type 0) (Sent : Option (List ℕ) → Type 0) (times : Bool) (A B : Job → Type 0) → ((j : Job) → A j → B j) → (lines rest : List ℕ) (before after : Option (List ℕ))
     (cause : Option Refusal) (r : Result U Refusal) → cause ≡ None → ForAsked Job A (IsWhole Sent times lines rest)
     → IfErr r (λ why. Cuts before after (lines ++ rest)) → IfErr r (λ why. why ≡ Build fault.Write)
-    → IfErr r (Refuses cause (RefusesPlan Sent times B before after))
-whole_refused Sent times A B wider lines rest before after cause (Ok u) none of put is = tt
-whole_refused Sent times A B wider lines rest before after cause (Err why) none of put is = refuses _ _ _ none (rw is (inr (inr (record {
+    → IfErr r (Refuses cause (RefusesPlan Lacked Sent times B before after))
+whole_refused Lacked Sent times A B wider lines rest before after cause (Ok u) none of put is = tt
+whole_refused Lacked Sent times A B wider lines rest before after cause (Err why) none of put is = refuses _ _ _ none (rw is (inr (inr (record {
   bytes = lines ++ rest;
   of = whole_is_told Sent times B lines rest (asked_wider Job A B (IsWhole Sent times lines rest) wider of);
   put = put;
@@ -249,65 +253,66 @@ pub lines_cut : (Same : Type 0) (before after : Option (List ℕ)) → (Same →
 lines_cut Same before after same Sent times A B wider lines why told part =
     lines_cut_of Same before after same Sent times B lines why told (told_wider Sent times A B wider lines part)
 
-lines_refused_of : (Same : Type 0) (before after : Option (List ℕ)) (Sent : Option (List ℕ) → Type 0) (times : Bool) (B : Job → Type 0) (lines : List ℕ) (why told : Refusal)
-    → (lines ≡ []) ⊎ ForAsked Job B (IsTold Sent times lines) → StopsTask B why → PrintsLines Same lines before after why told → RefusesPlan Sent times B before after told
-lines_refused_of Same before after Sent times B lines why told part stops (inl none) = rw none.2 (unmade Sent times B before after why stops)
-lines_refused_of Same before after Sent times B lines why told part stops (inr (inl all)) = rw all.2 (unmade Sent times B before after why stops)
-lines_refused_of Same before after Sent times B lines why told (inr of) stops (inr (inr cut)) = rw cut.1 (inr (inr (record { bytes = lines; of = of; put = cut.0 })))
-lines_refused_of Same before after Sent times B lines why told (inl none) stops (inr (inr cut)) = absurd (omega (arith, cut.0.1, ap length none))
+lines_refused_of : (Lacked : FileName → Type 0) (Same : Type 0) (before after : Option (List ℕ)) (Sent : Option (List ℕ) → Type 0) (times : Bool) (B : Job → Type 0) (lines : List ℕ) (why told : Refusal)
+    → (lines ≡ []) ⊎ ForAsked Job B (IsTold Sent times lines) → StopsTask Lacked B why → PrintsLines Same lines before after why told
+    → RefusesPlan Lacked Sent times B before after told
+lines_refused_of Lacked Same before after Sent times B lines why told part stops (inl none) = rw none.2 (unmade Lacked Sent times B before after why stops)
+lines_refused_of Lacked Same before after Sent times B lines why told part stops (inr (inl all)) = rw all.2 (unmade Lacked Sent times B before after why stops)
+lines_refused_of Lacked Same before after Sent times B lines why told (inr of) stops (inr (inr cut)) = rw cut.1 (inr (inr (record { bytes = lines; of = of; put = cut.0 })))
+lines_refused_of Lacked Same before after Sent times B lines why told (inl none) stops (inr (inr cut)) = absurd (omega (arith, cut.0.1, ap length none))
 
-pub lines_refused : (Same : Type 0) (before after : Option (List ℕ)) (Sent : Option (List ℕ) → Type 0) (times : Bool) (A B : Job → Type 0) → ((j : Job) → A j → B j)
-    → (lines : List ℕ) (cause : Option Refusal) (why told : Refusal) → cause ≡ None → (lines ≡ []) ⊎ ForAsked Job A (IsPart lines) → StopsTask A why
-    → PrintsLines Same lines before after why told → Refuses cause (RefusesPlan Sent times B before after) told
-lines_refused Same before after Sent times A B wider lines cause why told none part stops prints =
-    refuses _ _ _ none (lines_refused_of Same before after Sent times B lines why told (told_wider Sent times A B wider lines part) (stops_wider A B wider why stops) prints)
+pub lines_refused : (Lacked : FileName → Type 0) (Same : Type 0) (before after : Option (List ℕ)) (Sent : Option (List ℕ) → Type 0) (times : Bool) (A B : Job → Type 0) → ((j : Job) → A j → B j)
+    → (lines : List ℕ) (cause : Option Refusal) (why told : Refusal) → cause ≡ None → (lines ≡ []) ⊎ ForAsked Job A (IsPart lines) → StopsTask Lacked A why
+    → PrintsLines Same lines before after why told → Refuses cause (RefusesPlan Lacked Sent times B before after) told
+lines_refused Lacked Same before after Sent times A B wider lines cause why told none part stops prints =
+    refuses _ _ _ none (lines_refused_of Lacked Same before after Sent times B lines why told (told_wider Sent times A B wider lines part) (stops_wider Lacked A B wider why stops) prints)
 
 -- a check
 
-pub stop_of : (Asked : Job → Type 0) (IsText : List ℕ → Type 0) (j : Job) (text : List ℕ) (after : Ahead) (why : CheckStop) → Asked j
-    → RefusesTexts j.task j.len text why ⊎ StopsCheck j.task j.len text j.content after why → RefusesCheck Asked IsText (stop_refusal why)
-stop_of Asked IsText j text after (stop.Build why) asked stopped = by_fault (IsCheckFault Asked) _ (Build why) (record {
+pub stop_of : (Lacked : FileName → Type 0) (Asked : Job → Type 0) (IsText : List ℕ → Type 0) (j : Job) (text : List ℕ) (after : Ahead) (why : CheckStop) → Asked j
+    → RefusesTexts j.task j.len text why ⊎ StopsCheck j.task j.len text j.content after why → RefusesCheck Lacked Asked IsText (stop_refusal why)
+stop_of Lacked Asked IsText j text after (stop.Build why) asked stopped = by_fault Lacked (IsCheckFault Asked) _ (Build why) (record {
   it = j;
   asked = asked;
   has = record { text = text; after = after; stopped = stopped };
 })
-stop_of Asked IsText j text after (stop.Script script.Memory) asked stopped = tt
-stop_of Asked IsText j text after (stop.Script (script.Header line)) asked stopped = record {
+stop_of Lacked Asked IsText j text after (stop.Script script.Memory) asked stopped = tt
+stop_of Lacked Asked IsText j text after (stop.Script (script.Header line)) asked stopped = record {
   it = j;
   asked = asked;
   has = record { text = text; after = after; stopped = stopped };
 }
-stop_of Asked IsText j text after (stop.Script (script.BadLine line)) asked stopped = record {
+stop_of Lacked Asked IsText j text after (stop.Script (script.BadLine line)) asked stopped = record {
   it = j;
   asked = asked;
   has = record { text = text; after = after; stopped = stopped };
 }
-stop_of Asked IsText j text after (stop.Script (script.BadSymbol line)) asked stopped = record {
+stop_of Lacked Asked IsText j text after (stop.Script (script.BadSymbol line)) asked stopped = record {
   it = j;
   asked = asked;
   has = record { text = text; after = after; stopped = stopped };
 }
-stop_of Asked IsText j text after (stop.Script (script.BadCount line)) asked stopped = record {
+stop_of Lacked Asked IsText j text after (stop.Script (script.BadCount line)) asked stopped = record {
   it = j;
   asked = asked;
   has = record { text = text; after = after; stopped = stopped };
 }
-stop_of Asked IsText j text after (stop.Script (script.NoEnd line)) asked stopped = record {
+stop_of Lacked Asked IsText j text after (stop.Script (script.NoEnd line)) asked stopped = record {
   it = j;
   asked = asked;
   has = record { text = text; after = after; stopped = stopped };
 }
-stop_of Asked IsText j text after (stop.Script (script.AfterEnd line)) asked stopped = record {
+stop_of Lacked Asked IsText j text after (stop.Script (script.AfterEnd line)) asked stopped = record {
   it = j;
   asked = asked;
   has = record { text = text; after = after; stopped = stopped };
 }
 
-pub refusal_of_check : (C : Type 0) (IsText : List ℕ → Type 0) (j : Job) (text : List ℕ) (after : Ahead) (why : CheckStop) (told : Refusal)
-    → (RefusesTexts j.task j.len text why × C) ⊎ StopsCheck j.task j.len text j.content after why → told ≡ stop_refusal why → RefusesCheck (Is j) IsText told
-refusal_of_check C IsText j text after why told refused is =
+pub refusal_of_check : (Lacked : FileName → Type 0) (C : Type 0) (IsText : List ℕ → Type 0) (j : Job) (text : List ℕ) (after : Ahead) (why : CheckStop) (told : Refusal)
+    → (RefusesTexts j.task j.len text why × C) ⊎ StopsCheck j.task j.len text j.content after why → told ≡ stop_refusal why → RefusesCheck Lacked (Is j) IsText told
+refusal_of_check Lacked C IsText j text after why told refused is =
     let cause : RefusesTexts j.task j.len text why ⊎ StopsCheck j.task j.len text j.content after why = elim refused [ inl early ↦ inl early.0 | inr late ↦ inr late ] in
-    rw is (stop_of (Is j) IsText j text after why refl cause)
+    rw is (stop_of Lacked (Is j) IsText j text after why refl cause)
 
 -- a check of a script that is read twice
 
@@ -315,12 +320,12 @@ pub refusal_of_streams : (P Q R S : Type 0) (IsText : List ℕ → Type 0) (j : 
     → (RefusesTask j.task j.len why × P × Q × S)
     ⊎ ((StopsReading j.task j.len first over why × R × S)
     ⊎ ((StopsAtContent j.task j.len first over j.content after why × R) ⊎ StopsFeeding j.task j.len first over again rest j.content after why))
-    → told ≡ stream_refusal why → RefusesCheck (Is j) IsText told
+    → told ≡ stream_refusal why → RefusesCheck (λ name. name ≡ file.Script) (Is j) IsText told
 refusal_of_streams P Q R S IsText j first over again rest after (stream.Check why) told refused is =
     let of = some_text j.task j.len first over again rest j.content after P Q R S why refused in
-    rw is (stop_of (Is j) IsText j of.0 after why refl of.1)
-refusal_of_streams P Q R S IsText j first over again rest after (stream.First failed) told refused is = rw is tt
-refusal_of_streams P Q R S IsText j first over again rest after (stream.Again failed) told refused is = rw is tt
+    rw is (stop_of (λ name. name ≡ file.Script) (Is j) IsText j of.0 after why refl of.1)
+refusal_of_streams P Q R S IsText j first over again rest after (stream.First failed) told refused is = rw is (inl refl)
+refusal_of_streams P Q R S IsText j first over again rest after (stream.Again failed) told refused is = rw is (inl refl)
 
 check_fault_wider : (A B : Job → Type 0) → ((j : Job) → A j → B j) → (why : Refusal) → IsCheckFault A why → IsCheckFault B why
 check_fault_wider A B wider (Build why) of = asked_wider Job A B (IsStopOf (stop.Build why)) wider of
@@ -338,11 +343,11 @@ verdict_wider A B P Q wider more verdict of = record {
   has = record { text = of.has.text; script = more of.has.text of.has.script; after = of.has.after; checked = of.has.checked };
 }
 
-pub check_wider : (A B : Job → Type 0) (P Q : List ℕ → Type 0) → ((j : Job) → A j → B j) → ((text : List ℕ) → P text → Q text) → (why : Refusal)
-    → RefusesCheck A P why → RefusesCheck B Q why
-check_wider A B P Q wider more =
-    refuses_wider (IsCheckFault A) (IsCheckFault B) ((verdict : Verdict) × IsCheckVerdict A P verdict) ((verdict : Verdict) × IsCheckVerdict B Q verdict)
-    (check_fault_wider A B wider) (λ late. (late.0, verdict_wider A B P Q wider more late.0 late.1))
+pub check_wider : (L M : FileName → Type 0) (A B : Job → Type 0) (P Q : List ℕ → Type 0) → ((name : FileName) → L name → M name) → ((j : Job) → A j → B j) → ((text : List ℕ) → P text → Q text) → (why : Refusal)
+    → RefusesCheck L A P why → RefusesCheck M B Q why
+check_wider L M A B P Q files wider more =
+    refuses_wider L M (IsCheckFault A) (IsCheckFault B) ((verdict : Verdict) × IsCheckVerdict A P verdict) ((verdict : Verdict) × IsCheckVerdict B Q verdict)
+    files (check_fault_wider A B wider) (λ late. (late.0, verdict_wider A B P Q wider more late.0 late.1))
 
 -- the same of an answer
 pub verdicts_wider : (A B : Job → Type 0) (P Q : List ℕ → Type 0) → ((j : Job) → A j → B j) → ((text : List ℕ) → P text → Q text) → (r : Result Verdict Refusal)
@@ -350,17 +355,18 @@ pub verdicts_wider : (A B : Job → Type 0) (P Q : List ℕ → Type 0) → ((j 
 verdicts_wider A B P Q wider more (Ok verdict) of = verdict_wider A B P Q wider more verdict of
 verdicts_wider A B P Q wider more (Err why) of = tt
 
-pub refusals_wider : (A B : Job → Type 0) (P Q : List ℕ → Type 0) → ((j : Job) → A j → B j) → ((text : List ℕ) → P text → Q text) → (r : Result Verdict Refusal)
-    → IfErr r (RefusesCheck A P) → IfErr r (RefusesCheck B Q)
-refusals_wider A B P Q wider more (Ok verdict) of = tt
-refusals_wider A B P Q wider more (Err why) of = check_wider A B P Q wider more why of
+pub refusals_wider : (L M : FileName → Type 0) (A B : Job → Type 0) (P Q : List ℕ → Type 0) → ((name : FileName) → L name → M name) → ((j : Job) → A j → B j) → ((text : List ℕ) → P text → Q text) → (r : Result Verdict Refusal)
+    → IfErr r (RefusesCheck L A P) → IfErr r (RefusesCheck M B Q)
+refusals_wider L M A B P Q files wider more (Ok verdict) of = tt
+refusals_wider L M A B P Q files wider more (Err why) of = check_wider L M A B P Q files wider more why of
 
 -- a chip's meaning
 
-pub chip_wider : (A B : Task → Type 0) → ((t : Task) → A t → B t) → (why : Refusal) → RefusesMeaning A why → RefusesMeaning B why
-chip_wider A B wider =
-    refuses_wider (OfFault (IsChipFault A)) (OfFault (IsChipFault B)) ((m : Parameters) × IsMeaning A m) ((m : Parameters) × IsMeaning B m)
-    (fault_wider (IsChipFault A) (IsChipFault B) (λ why of. asked_wider Task A B (MeansNone why) wider of))
+pub chip_wider : (L M : FileName → Type 0) (A B : Task → Type 0) → ((name : FileName) → L name → M name) → ((t : Task) → A t → B t) → (why : Refusal)
+    → RefusesMeaning L A why → RefusesMeaning M B why
+chip_wider L M A B files wider =
+    refuses_wider L M (OfFault (IsChipFault A)) (OfFault (IsChipFault B)) ((m : Parameters) × IsMeaning A m) ((m : Parameters) × IsMeaning B m)
+    files (fault_wider (IsChipFault A) (IsChipFault B) (λ why of. asked_wider Task A B (MeansNone why) wider of))
     (λ late. (late.0, asked_wider Task A B (MeansThis late.0) wider late.1))
 
 -- the same of an answer
@@ -369,6 +375,7 @@ pub means_wider : (A B : Task → Type 0) → ((t : Task) → A t → B t) → (
 means_wider A B wider (Ok m) of = asked_wider Task A B (MeansThis m) wider of
 means_wider A B wider (Err why) of = tt
 
-pub chips_wider : (A B : Task → Type 0) → ((t : Task) → A t → B t) → (r : Result Parameters Refusal) → IfErr r (RefusesMeaning A) → IfErr r (RefusesMeaning B)
-chips_wider A B wider (Ok m) of = tt
-chips_wider A B wider (Err why) of = chip_wider A B wider why of
+pub chips_wider : (L M : FileName → Type 0) (A B : Task → Type 0) → ((name : FileName) → L name → M name) → ((t : Task) → A t → B t)
+    → (r : Result Parameters Refusal) → IfErr r (RefusesMeaning L A) → IfErr r (RefusesMeaning M B)
+chips_wider L M A B files wider (Ok m) of = tt
+chips_wider L M A B files wider (Err why) of = chip_wider L M A B files wider why of

@@ -8,6 +8,7 @@ use Rattle.nor_job.specs.Causes.{RefusesInputs}
 use Rattle.norprog.specs.Build.{IsBuilt, StopsWork}
 use Rattle.norprog.specs.Report.{report_text}
 use Rattle.norprog.specs.declared.report.Report.{Report}
+use Rattle.norprog_words.specs.declared.faults.FileName.{FileName}
 use Rattle.norprog_words.specs.declared.faults.Refusal.{Refusal}
 use Rattle.norprog_words.specs.declared.faults.Refusal.TheVariants.{Build}
 use Rattle.norprog_words.specs.declared.given.GivenBuild.{GivenBuild}
@@ -40,8 +41,8 @@ abbrev pub IsBuildFault : (Job → Type 0) → BuildFault → Type 0
 IsBuildFault Asked why = ForAsked Job Asked (IsFaultOf why)
 
 -- why a build that was asked for isn't done; one that was may have failed to go out
-abbrev pub RefusesBuild : (Job → Type 0) → Refusal → Type 0
-RefusesBuild Asked = RefusesFor (OfFault (IsBuildFault Asked)) ((report : Report) × IsBuildReport Asked (λ held. ⊤) report)
+abbrev pub RefusesBuild : (FileName → Type 0) → (Job → Type 0) → Refusal → Type 0
+RefusesBuild Lacked Asked = RefusesFor Lacked (OfFault (IsBuildFault Asked)) ((report : Report) × IsBuildReport Asked (λ held. ⊤) report)
 
 -- the report of a job that was asked for and built was printed, and nothing else
 pub record PrintsReport (Asked : Job → Type 0) (Sent : Option (List ℕ) → Type 0) (before after : Option (List ℕ)) : Type 0 where
@@ -66,5 +67,5 @@ AnswersBuild files line before after Quiet Works told_before told_after status =
     Answers (line_fault asks_build line)
     ((status ≡ 0) × PrintsReport (OfBuild files line) files.flushed before after × Quiet)
     (CutsReport (OfBuild files line) files.flushed before after)
-    (Refuses (line_fault asks_build line) (RefusesBuild (OfBuild files line)))
+    (Refuses (line_fault asks_build line) (RefusesBuild files.lacked (OfBuild files line)))
     Works told_before told_after status

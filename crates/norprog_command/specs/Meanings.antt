@@ -8,6 +8,7 @@ use Rattle.nor_job.specs.declared.fault.BuildFault.TheVariants as fault
 use Rattle.nor_job.specs.Chip.{HasChip, RefusesChip}
 use Rattle.nor_job.specs.Task.{Task, contradiction}
 use Rattle.norprog.specs.ChipText.{meaning_text}
+use Rattle.norprog_words.specs.declared.faults.FileName.{FileName}
 use Rattle.norprog_words.specs.declared.faults.Refusal.{Refusal}
 use Rattle.norprog_words.specs.declared.given.GivenChip.{GivenChip}
 use Rattle.norprog_words.specs.Shelf.{FileFacts}
@@ -31,8 +32,8 @@ abbrev pub IsChipFault : (Task → Type 0) → BuildFault → Type 0
 IsChipFault Asked why = ForAsked Task Asked (MeansNone why)
 
 -- why no meaning is told of a chip that was asked for
-abbrev pub RefusesMeaning : (Task → Type 0) → Refusal → Type 0
-RefusesMeaning Asked = RefusesFor (OfFault (IsChipFault Asked)) ((m : Parameters) × IsMeaning Asked m)
+abbrev pub RefusesMeaning : (FileName → Type 0) → (Task → Type 0) → Refusal → Type 0
+RefusesMeaning Lacked Asked = RefusesFor Lacked (OfFault (IsChipFault Asked)) ((m : Parameters) × IsMeaning Asked m)
 
 -- the lines of the meaning of a chip that was asked for were printed, and nothing else
 abbrev pub PrintsMeaning : (Task → Type 0) → Option (List ℕ) → Option (List ℕ) → Type 0
@@ -49,5 +50,5 @@ AnswersChip files line before after Quiet Works told_before told_after status =
     Answers (line_fault asks_chip line)
     ((status ≡ 0) × PrintsMeaning (OfChip files line) before after × Quiet)
     (CutsMeaning (OfChip files line) before after)
-    (Refuses (line_fault asks_chip line) (RefusesMeaning (OfChip files line)))
+    (Refuses (line_fault asks_chip line) (RefusesMeaning files.lacked (OfChip files line)))
     Works told_before told_after status

@@ -23,6 +23,7 @@ use Rattle.nor_times.specs.Text.{times_text}
 use Rattle.norprog.specs.Plan.{IsPlanOf, StopsPlan}
 use Rattle.norprog.specs.Report.{report_text}
 use Rattle.norprog.specs.declared.report.Report.{Report}
+use Rattle.norprog_words.specs.declared.faults.FileName.{FileName}
 use Rattle.norprog_words.specs.declared.faults.Refusal.{Refusal}
 use Rattle.norprog_words.specs.declared.faults.Refusal.TheVariants.{Build}
 use Rattle.norprog_words.specs.declared.given.GivenPlan.{GivenPlan}
@@ -154,13 +155,13 @@ abbrev pub FailsToDraw : (Job → Type 0) → Type 0
 FailsToDraw Asked = ForAsked Job Asked IsUndrawn
 
 -- why a plan that was asked for isn't made, or not drawn
-abbrev pub StopsTask : (Job → Type 0) → Refusal → Type 0
-StopsTask Asked = RefusesFor (OfFault (IsPlanFault Asked)) (FailsToDraw Asked)
+abbrev pub StopsTask : (FileName → Type 0) → (Job → Type 0) → Refusal → Type 0
+StopsTask Lacked Asked = RefusesFor Lacked (OfFault (IsPlanFault Asked)) (FailsToDraw Asked)
 
 -- why a plan that was asked for isn't told
-abbrev pub RefusesPlan : (Option (List ℕ) → Type 0) → Bool → (Job → Type 0) → Option (List ℕ) → Option (List ℕ) → Refusal → Type 0
-RefusesPlan Sent times Asked before after =
-    RefusesFor (OfFault (IsPlanFault Asked)) (FailsToDraw Asked ⊎ FailsToPrint Sent times Asked before after)
+abbrev pub RefusesPlan : (FileName → Type 0) → (Option (List ℕ) → Type 0) → Bool → (Job → Type 0) → Option (List ℕ) → Option (List ℕ) → Refusal → Type 0
+RefusesPlan Lacked Sent times Asked before after =
+    RefusesFor Lacked (OfFault (IsPlanFault Asked)) (FailsToDraw Asked ⊎ FailsToPrint Sent times Asked before after)
 
 -- whether a command line asks for the times
 abbrev pub asks_times : Result GivenPlan Refusal → Bool
@@ -174,5 +175,5 @@ AnswersPlan files line before after Quiet Works told_before told_after status =
     Answers (line_fault asks_plan line)
     ((status ≡ 0) × PrintsPlan files.flushed (asks_times line) (OfPlan files line) before after × Quiet)
     (CutsPlan files.flushed (asks_times line) (OfPlan files line) before after)
-    (Refuses (line_fault asks_plan line) (RefusesPlan files.flushed (asks_times line) (OfPlan files line) before after))
+    (Refuses (line_fault asks_plan line) (RefusesPlan files.lacked files.flushed (asks_times line) (OfPlan files line) before after))
     Works told_before told_after status

@@ -10,13 +10,14 @@ use Rattle.norprog_check.specs.declared.fault.StreamStop.{StreamStop}
 use Rattle.norprog_check.specs.declared.fault.StreamStop.TheVariants as stream
 use Rattle.norprog_check.specs.Checked.{IsChecked, RefusesTexts, StopsCheck}
 use Rattle.norprog_check.specs.Line.{verdict_text}
+use Rattle.norprog_words.specs.declared.faults.FileName.{FileName}
 use Rattle.norprog_words.specs.declared.faults.Refusal.{Refusal}
 use Rattle.norprog_words.specs.declared.faults.FileName.TheVariants as file
 use Rattle.norprog_words.specs.declared.faults.Refusal.TheVariants.{File, Build, Script}
 use Rattle.norprog_words.specs.Lines.{script_refusal}
 use Rattle.norprog_words.specs.declared.given.GivenCheck.{GivenCheck}
 use Rattle.norprog_words.specs.Shelf.{FileFacts}
-use Rattle.norprog_words.specs.Told.{ForAsked, RefusesFor, line_fault, Refuses, Answers}
+use Rattle.norprog_words.specs.Told.{ForAsked, RefusesFor, OrScript, line_fault, Refuses, Answers}
 use Rattle.norprog_command.specs.Asked.{asks_check}
 use Rattle.norprog_command.specs.Served.{Job, OfCheck, OfScript}
 
@@ -47,8 +48,8 @@ IsCheckFault Asked (Script why) = ForAsked Job Asked (IsStopOf (stop.Script why)
 IsCheckFault Asked other = ⊥
 
 -- why a check that was asked for has no verdict
-abbrev pub RefusesCheck : (Job → Type 0) → (List ℕ → Type 0) → Refusal → Type 0
-RefusesCheck Asked IsText = RefusesFor (IsCheckFault Asked) ((verdict : Verdict) × IsCheckVerdict Asked IsText verdict)
+abbrev pub RefusesCheck : (FileName → Type 0) → (Job → Type 0) → (List ℕ → Type 0) → Refusal → Type 0
+RefusesCheck Lacked Asked IsText = RefusesFor Lacked (IsCheckFault Asked) ((verdict : Verdict) × IsCheckVerdict Asked IsText verdict)
 
 -- a check's stop as a refusal: want of memory is the program's own
 abbrev pub stop_refusal : CheckStop → Refusal
@@ -77,5 +78,5 @@ AnswersCheck files line before after Quiet Works told_before told_after status =
     Answers (line_fault asks_check line)
     (PrintsJudgement (OfCheck files line) (OfScript files line) before after status × Quiet)
     (CutsVerdict (OfCheck files line) (OfScript files line) before after)
-    (Refuses (line_fault asks_check line) (RefusesCheck (OfCheck files line) (OfScript files line)))
+    (Refuses (line_fault asks_check line) (RefusesCheck (OrScript files.lacked) (OfCheck files line) (OfScript files line)))
     Works told_before told_after status

@@ -52,7 +52,7 @@ fn report_build<S: Shelf, O: ByteOut>(
     ensures unprinted { IfErr result (λ _. CutsReport (OfBuild (S.facts shelf.now) given.entry) (S.facts shelf.now).flushed
         (O.held out.old) (O.held out.new)) }
     ensures asked { IfOk result (λ _. line_fault asks_build given.entry ≡ None) }
-    ensures first { IfErr result (Refuses (line_fault asks_build given.entry) (RefusesBuild (OfBuild (S.facts shelf.now) given.entry))) }
+    ensures first { IfErr result (Refuses (line_fault asks_build given.entry) (RefusesBuild (S.facts shelf.now).lacked (OfBuild (S.facts shelf.now) given.entry))) }
 {
     let given = given?;
     let request = request_of(given.job).ok_or(Refusal::Usage)?;
@@ -72,7 +72,7 @@ fn run_build<S: Shelf>(
     path: &str,
 ) -> Result<Report, Refusal>
     ensures built { IfOk result (IsBuildReport (IsJobOf (S.facts shelf.now) request.now (Some path.now)) (S.facts shelf.now).flushed) }
-    ensures refused { IfErr result (RefusesBuild (IsJobOf (S.facts shelf.now) request.now (Some path.now))) }
+    ensures refused { IfErr result (RefusesBuild (S.facts shelf.now).lacked (IsJobOf (S.facts shelf.now) request.now (Some path.now))) }
 {
     let mut places = Vec::new(alloc);
     let texts = read_texts(alloc, shelf, request, &mut places)?;

@@ -49,7 +49,7 @@ fn report_meaning<S: Shelf, O: ByteOut>(
     ensures printed { IfOk result (λ _. PrintsMeaning (OfChip (S.facts shelf.now) given.entry) (O.held out.old) (O.held out.new)) }
     ensures unprinted { IfErr result (λ _. CutsMeaning (OfChip (S.facts shelf.now) given.entry) (O.held out.old) (O.held out.new)) }
     ensures asked { IfOk result (λ _. line_fault asks_chip given.entry ≡ None) }
-    ensures first { IfErr result (Refuses (line_fault asks_chip given.entry) (RefusesMeaning (OfChip (S.facts shelf.now) given.entry))) }
+    ensures first { IfErr result (Refuses (line_fault asks_chip given.entry) (RefusesMeaning (S.facts shelf.now).lacked (OfChip (S.facts shelf.now) given.entry))) }
 {
     let given = given?;
     let chip = chip_of(given.sfdp, given.uniform, given.bits).ok_or(Refusal::Usage)?;
@@ -69,7 +69,7 @@ fn run_meaning<S: Shelf>(
     part: Part,
 ) -> Result<Meaning, Refusal>
     ensures means { IfOk result (IsMeaning (IsChipTask (S.facts shelf.now) (origin_of chip.entry) part)) }
-    ensures refused { IfErr result (RefusesMeaning (IsChipTask (S.facts shelf.now) (origin_of chip.entry) part)) }
+    ensures refused { IfErr result (RefusesMeaning (S.facts shelf.now).lacked (IsChipTask (S.facts shelf.now) (origin_of chip.entry) part)) }
 {
     let tables = tables_of(alloc, shelf, chip)?;
     chip_alone(chip, part, tables.as_slice())
@@ -78,7 +78,7 @@ fn run_meaning<S: Shelf>(
 /// The meaning of a chip of which nothing else is known.
 fn chip_alone<'a>(chip: Chip<'a>, part: Part, tables: &'a [u8]) -> Result<Meaning, Refusal>
     ensures means { IfOk result (IsMeaning (IsTaskAlone (origin_of chip.entry) part tables.entry.now)) }
-    ensures refused { IfErr result (RefusesMeaning (IsTaskAlone (origin_of chip.entry) part tables.entry.now)) }
+    ensures refused { IfErr result (RefusesMeaning (λ told. ⊥) (IsTaskAlone (origin_of chip.entry) part tables.entry.now)) }
 {
     let inputs = Inputs {
         hex: &[],

@@ -2,7 +2,7 @@
 
 ghost use Rattle.std.specs.Prelude.{◌≡◌, [], ◌∷◌, IfOk, IfErr, option_map, option_to_list};
 ghost use Rattle.norprog_words.specs.declared.faults.FileName.TheVariants.{Layout};
-ghost use Rattle.norprog_words.specs.Files.{RefusesFile, IsOfFiles};
+ghost use Rattle.norprog_words.specs.Files.{RefusesFile, TellsFile};
 ghost use Rattle.norprog_words.specs.Shelf.{Notes, WhereNamed};
 ghost use Rattle.norprog_command.specs.Served.{task_by, held_in, text_files_of, AreGiven};
 
@@ -29,7 +29,7 @@ pub(crate) fn read_texts<S: Shelf>(
 ) -> Result<Texts, Refusal>
     ensures given { IfOk result (λ texts. AreGiven (S.facts shelf.now) request.now (held_in texts)) }
     ensures noted { IfOk result (λ _. Notes (S.facts shelf.now) (text_files_of request.now) places.old.items places.new.items) }
-    ensures refused { IfErr result IsOfFiles }
+    ensures lacked { IfErr result (TellsFile (S.facts shelf.now).lacked) }
 {
     let hex = read_noted(alloc, shelf, request.hex, FileName::Hex, places)?;
     let layout = read_layout(alloc, shelf, request.layout, places)?;
@@ -49,7 +49,7 @@ fn read_layout<S: Shelf>(
     ensures noted { IfOk result (λ _. Notes (S.facts shelf.now) (option_to_list (option_map (λ t. t.now) path.entry))
         places.old.items places.new.items) }
     ensures refused { IfErr result (RefusesFile Layout) }
-    ensures files { IfErr result IsOfFiles }
+    ensures lacked { IfErr result (TellsFile (S.facts shelf.now).lacked) }
 {
     match path {
         Some(path) => Ok(Some(read_noted(alloc, shelf, path, FileName::Layout, places)?)),
@@ -68,7 +68,7 @@ fn read_noted<S: Shelf>(
     ensures gave { IfOk result (λ bytes. (S.facts shelf.now).gave path.now bytes.items) }
     ensures noted { IfOk result (λ _. Notes (S.facts shelf.now) (path.now ∷ []) places.old.items places.new.items) }
     ensures refused { IfErr result (RefusesFile name) }
-    ensures files { IfErr result IsOfFiles }
+    ensures lacked { IfErr result (TellsFile (S.facts shelf.now).lacked) }
 {
     let (bytes, place) = shelf.read(alloc, path, name)?;
     places.push(place)?;

@@ -5,7 +5,7 @@ ghost use Rattle.std.specs.Io.KnownBytes.{Appends};
 ghost use Rattle.nor_base.specs.Device.{Cuts};
 ghost use Rattle.nor_job.specs.declared.fault.BuildFault.TheVariants.{Write};
 ghost use Rattle.norprog_words.specs.declared.faults.Refusal.TheVariants.{Build};
-ghost use Rattle.norprog_words.specs.Files.{IsOfFiles};
+ghost use Rattle.norprog_words.specs.Files.{TellsFile};
 ghost use Rattle.norprog_words.specs.Shelf.{IsMadeApart, WhereNamed};
 ghost use Rattle.norprog_words.specs.Told.{ForAsked, line_fault, Refuses};
 ghost use Rattle.norprog_command.specs.Plans.{asks_plan, asks_times, IsPart, IsWhole, StopsTask, PrintsPlan, CutsPlan, RefusesPlan, AnswersPlan};
@@ -60,7 +60,7 @@ fn report_plan<S: Shelf, O: ByteOut>(
         (OfPlan (S.facts shelf.now) given.entry) (O.held out.old) (O.held out.new)) }
     ensures asked { IfOk result (λ _. line_fault asks_plan given.entry ≡ None) }
     ensures first { IfErr result (Refuses (line_fault asks_plan given.entry)
-        (RefusesPlan (S.facts shelf.now).flushed (asks_times given.entry) (OfPlan (S.facts shelf.now) given.entry)
+        (RefusesPlan (S.facts shelf.now).lacked (S.facts shelf.now).flushed (asks_times given.entry) (OfPlan (S.facts shelf.now) given.entry)
         (O.held out.old) (O.held out.new))) }
 {
     let given = given?;
@@ -125,7 +125,7 @@ fn run_plan<S: Shelf>(
         (IsWhole (S.facts shelf.now).flushed times result.lines.items rest.items)) }
     ensures part { IfErr result.rest (λ _. (result.lines.items ≡ [])
         ⊎ ForAsked Job (IsJobOf (S.facts shelf.now) request.now (option_map (λ t. t.now) map.entry)) (IsPart result.lines.items)) }
-    ensures refused { IfErr result.rest (StopsTask (IsJobOf (S.facts shelf.now) request.now (option_map (λ t. t.now) map.entry))) }
+    ensures refused { IfErr result.rest (StopsTask (S.facts shelf.now).lacked (IsJobOf (S.facts shelf.now) request.now (option_map (λ t. t.now) map.entry))) }
 {
     match open_files(alloc, shelf, request, map) {
         Ok(files) => {
@@ -158,7 +158,7 @@ fn open_files<S: Shelf>(
     ensures made { IfOk result (λ files. WhereNamed (IsMadeApart (S.facts shelf.now) (input_files_of request.now))
         (option_map (λ t. t.now) map.entry) (option_map S.Output.held files.map)) }
     ensures fresh { IfOk result (λ files. IfSome files.map (λ file. S.Output.count file ≡ 0)) }
-    ensures refused { IfErr result IsOfFiles }
+    ensures lacked { IfErr result (TellsFile (S.facts shelf.now).lacked) }
 {
     let mut places = Vec::new(alloc);
     let texts = read_texts(alloc, shelf, request, &mut places)?;

@@ -37,16 +37,16 @@ drawings_asked files line given request (Ok x) is asks of = drawing_asked files 
 drawings_asked files line given request (Err why) is asks of = tt
 
 refusal_asked : (files : FileFacts) (line : Result GivenDraw Refusal) (given : GivenDraw) (request : DrawRequest) (why : Refusal) → line ≡ Ok given → AsksFor given request
-    → RefusesDraw (IsTaskOf files request) why → RefusesDraw (OfDraw files line) why
+    → RefusesDraw files.lacked (IsTaskOf files request) why → RefusesDraw files.lacked (OfDraw files line) why
 refusal_asked files line given request why is asks =
-    refuses_wider (IsDrawFault (IsTaskOf files request)) (IsDrawFault (OfDraw files line)) (IsDrawing (IsTaskOf files request) (λ held. ⊤)) (IsDrawing (OfDraw files line) (λ held. ⊤))
-    (λ why of. asked_wider DrawTask (IsTaskOf files request) (OfDraw files line) (IsStopOf why) (on_line files line given request is asks) of)
+    refuses_wider files.lacked files.lacked (IsDrawFault (IsTaskOf files request)) (IsDrawFault (OfDraw files line)) (IsDrawing (IsTaskOf files request) (λ held. ⊤)) (IsDrawing (OfDraw files line) (λ held. ⊤))
+    (λ name lacks. lacks) (λ why of. asked_wider DrawTask (IsTaskOf files request) (OfDraw files line) (IsStopOf why) (on_line files line given request is asks) of)
     (drawing_asked files line given request (λ held. ⊤) is asks) why
 
 -- the same of whichever came
 pub refusals_asked : {T : Type 0} (files : FileFacts) (line : Result GivenDraw Refusal) (given : GivenDraw) (request : DrawRequest) (r : Result T Refusal)
-    → line ≡ Ok given → AsksFor given request → line_fault is_well_formed line ≡ None → IfErr r (RefusesDraw (IsTaskOf files request))
-    → IfErr r (Refuses (line_fault is_well_formed line) (RefusesDraw (OfDraw files line)))
+    → line ≡ Ok given → AsksFor given request → line_fault is_well_formed line ≡ None → IfErr r (RefusesDraw files.lacked (IsTaskOf files request))
+    → IfErr r (Refuses (line_fault is_well_formed line) (RefusesDraw files.lacked (OfDraw files line)))
 refusals_asked files line given request (Ok x) is asks none of = tt
 refusals_asked files line given request (Err why) is asks none of = rw none (refusal_asked files line given request why is asks of)
 
@@ -62,8 +62,8 @@ module _ (files : FileFacts) (request : DrawRequest) (text : List ℕ) (before a
   was_drawn : (Sent : Option (List ℕ) → Type 0) → Sent after → WasDrawn text request.from request.count before after → IsDrawing (IsTaskOf files request) Sent
   was_drawn Sent sent is = record { it = task; asked = asked; has = record { after = after; sent = sent; drawn = is } }
 
-  was_refused : (why : Refusal) → RefusesDrawing text request.from request.count before after why → RefusesDraw (IsTaskOf files request) why
-  was_refused why is = by_fault (IsDrawFault (IsTaskOf files request)) (IsDrawing (IsTaskOf files request) (λ held. ⊤)) why (record {
+  was_refused : (why : Refusal) → RefusesDrawing text request.from request.count before after why → RefusesDraw files.lacked (IsTaskOf files request) why
+  was_refused why is = by_fault files.lacked (IsDrawFault (IsTaskOf files request)) (IsDrawing (IsTaskOf files request) (λ held. ⊤)) why (record {
     it = task;
     asked = asked;
     has = record { after = after; refused = is };
@@ -76,7 +76,7 @@ module _ (files : FileFacts) (request : DrawRequest) (text : List ℕ) (before a
   done_is_drawn (Ok x) (Ok u) r drawn sent is = rw is (was_drawn files.flushed sent drawn)
 
   pub done_is_refused : {T U E : Type 0} (answer : Result T Refusal) (flushed : Result U E) (r : Result T Refusal) → IfOk answer (λ _. WasDrawn text request.from request.count before after)
-      → IfErr answer (RefusesDrawing text request.from request.count before after) → r ≡ done answer flushed → IfErr r (RefusesDraw (IsTaskOf files request))
+      → IfErr answer (RefusesDrawing text request.from request.count before after) → r ≡ done answer flushed → IfErr r (RefusesDraw files.lacked (IsTaskOf files request))
   done_is_refused (Err why) flushed r drawn refused is = rw is (was_refused why refused)
   done_is_refused (Ok x) (Err e) r drawn refused is = rw is (inr (was_drawn (λ held. ⊤) tt drawn))
   done_is_refused (Ok x) (Ok u) r drawn refused is = rw is tt

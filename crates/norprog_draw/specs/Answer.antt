@@ -1,6 +1,7 @@
 -- What is told of a drawing (this project's).
 use Rattle.std.specs.Prelude.{◌≡◌, ⊤, ℕ, List, Option, Result, Ok, Err}
 use Rattle.nor_job.specs.declared.fault.BuildFault.TheVariants.{Write}
+use Rattle.norprog_words.specs.declared.faults.FileName.{FileName}
 use Rattle.norprog_words.specs.declared.faults.Refusal.{Refusal}
 use Rattle.norprog_words.specs.declared.faults.Refusal.TheVariants.{Build}
 use Rattle.norprog_words.specs.Shelf.{FileFacts}
@@ -30,8 +31,8 @@ IsDrawFault Asked why = ForAsked DrawTask Asked (IsStopOf why)
 
 -- why what was asked for isn't drawn: a file can't be used, or a growth was refused; the output failed while it was drawn, or
 -- after; else the fault of the work
-abbrev pub RefusesDraw : (DrawTask → Type 0) → Refusal → Type 0
-RefusesDraw Asked = RefusesFor (IsDrawFault Asked) (IsDrawing Asked (λ held. ⊤))
+abbrev pub RefusesDraw : (FileName → Type 0) → (DrawTask → Type 0) → Refusal → Type 0
+RefusesDraw Lacked Asked = RefusesFor Lacked (IsDrawFault Asked) (IsDrawing Asked (λ held. ⊤))
 
 -- a drawing is done where its file was flushed as well
 abbrev pub done : {T U E : Type 0} → Result T Refusal → Result U E → Result T Refusal
@@ -45,5 +46,5 @@ AnswersDraw files line Quiet Works told_before told_after status =
     Answers (line_fault is_well_formed line)
     ((status ≡ 0) × IsDrawing (OfDraw files line) files.flushed × Quiet)
     (Unit {0})
-    (Refuses (line_fault is_well_formed line) (RefusesDraw (OfDraw files line)))
+    (Refuses (line_fault is_well_formed line) (RefusesDraw files.lacked (OfDraw files line)))
     Works told_before told_after status

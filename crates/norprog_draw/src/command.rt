@@ -44,7 +44,7 @@ fn drawn_in<S: Shelf>(
 ) -> Result<(), Refusal>
     ensures drawn { IfOk result (λ _. IsDrawing (OfDraw (S.facts shelf.now) given.entry) (S.facts shelf.now).flushed) }
     ensures asked { IfOk result (λ _. line_fault is_well_formed given.entry ≡ None) }
-    ensures first { IfErr result (Refuses (line_fault is_well_formed given.entry) (RefusesDraw (OfDraw (S.facts shelf.now) given.entry))) }
+    ensures first { IfErr result (Refuses (line_fault is_well_formed given.entry) (RefusesDraw (S.facts shelf.now).lacked (OfDraw (S.facts shelf.now) given.entry))) }
 {
     let request = request_of(given?).ok_or(Refusal::Usage)?;
     run_draw(alloc, shelf, request)
@@ -53,7 +53,7 @@ fn drawn_in<S: Shelf>(
 /// Opens the files of a request in their order, and draws the script into the second.
 fn run_draw<S: Shelf>(alloc: Global, shelf: &S, request: DrawRequest<'_>) -> Result<(), Refusal>
     ensures drawn { IfOk result (λ _. IsDrawing (IsTaskOf (S.facts shelf.now) request.entry) (S.facts shelf.now).flushed) }
-    ensures refused { IfErr result (RefusesDraw (IsTaskOf (S.facts shelf.now) request.entry)) }
+    ensures refused { IfErr result (RefusesDraw (S.facts shelf.now).lacked (IsTaskOf (S.facts shelf.now) request.entry)) }
 {
     let (script, place) = shelf.read(alloc, request.script, FileName::Script)?;
     let mut out = shelf.create(alloc, request.out, FileName::Out, &[place])?;

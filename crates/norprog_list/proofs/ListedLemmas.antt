@@ -9,6 +9,7 @@ use Rattle.nor_job.specs.declared.fault.BuildFault.TheVariants as fault
 use Rattle.nor_script.specs.declared.fault.ReadFault.TheVariants as read
 use Rattle.nor_script.specs.declared.fault.ScriptFault.TheVariants as script
 use Rattle.norprog_words.specs.declared.faults.FileName.TheVariants as file
+use Rattle.norprog_words.specs.declared.faults.FileName.{FileName}
 use Rattle.norprog_words.specs.declared.faults.Refusal.{Refusal}
 use Rattle.norprog_words.specs.declared.faults.Refusal.TheVariants.{Text, Usage, File, Build, Page, Script}
 use Rattle.norprog_list.specs.declared.steps.Stop.{Stop}
@@ -85,9 +86,9 @@ module _ (Asked : ListTask → Type 0) (t : ListTask) (asked : Asked t) (rest : 
   all_printed (Ok x) h = record { it = t; asked = asked; has = (rest, h) }
   all_printed (Err why) h = tt
 
-  pub refused_so : {T : Type 0} (r : Result T Refusal) → IfErr r (RefusesText t.chip t.script rest before after) → IfErr r (RefusesList Asked before after)
-  refused_so (Ok x) h = tt
-  refused_so (Err why) h = by_fault (IsListFault Asked before after) ⊥ why (record { it = t; asked = asked; has = (rest, h) })
+  pub refused_so : {T : Type 0} (Lacked : FileName → Type 0) (r : Result T Refusal) → IfErr r (RefusesText t.chip t.script rest before after) → IfErr r (RefusesList Lacked Asked before after)
+  refused_so Lacked (Ok x) h = tt
+  refused_so Lacked (Err why) h = by_fault Lacked (IsListFault Asked before after) ⊥ why (record { it = t; asked = asked; has = (rest, h) })
 
 -- what was read of the files that a request names
 pub asked_of : (files : FileFacts) (request : ListRequest) (chip : Task) (tables : List ℕ) (ahead : Ahead) (len : ℕ) → chip ≡ setup_task request.setup tables

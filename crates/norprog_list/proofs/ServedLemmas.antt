@@ -25,15 +25,15 @@ on_line : (files : FileFacts) (line : Result GivenList Refusal) (given : GivenLi
 on_line files line given request is asks t of = rw is (serves files given request asks t of)
 
 refusal_asked : (files : FileFacts) (line : Result GivenList Refusal) (given : GivenList) (request : ListRequest) (before after : Option (List ℕ)) (why : Refusal)
-    → line ≡ Ok given → AsksFor given request → RefusesList (IsTaskOf files request) before after why → RefusesList (OfList files line) before after why
+    → line ≡ Ok given → AsksFor given request → RefusesList files.lacked (IsTaskOf files request) before after why → RefusesList files.lacked (OfList files line) before after why
 refusal_asked files line given request before after why is asks =
-    refuses_wider (IsListFault (IsTaskOf files request) before after) (IsListFault (OfList files line) before after) ⊥ ⊥
-    (λ why of. asked_wider ListTask (IsTaskOf files request) (OfList files line) (StopsScript before after why) (on_line files line given request is asks) of)
+    refuses_wider files.lacked files.lacked (IsListFault (IsTaskOf files request) before after) (IsListFault (OfList files line) before after) ⊥ ⊥
+    (λ name lacks. lacks) (λ why of. asked_wider ListTask (IsTaskOf files request) (OfList files line) (StopsScript before after why) (on_line files line given request is asks) of)
     (λ none. none) why
 
 -- the same of whichever came
 pub refusals_asked : {T : Type 0} (files : FileFacts) (line : Result GivenList Refusal) (given : GivenList) (request : ListRequest) (before after : Option (List ℕ)) (r : Result T Refusal)
-    → line ≡ Ok given → AsksFor given request → line_fault is_well_formed line ≡ None → IfErr r (RefusesList (IsTaskOf files request) before after)
-    → IfErr r (Refuses (line_fault is_well_formed line) (RefusesList (OfList files line) before after))
+    → line ≡ Ok given → AsksFor given request → line_fault is_well_formed line ≡ None → IfErr r (RefusesList files.lacked (IsTaskOf files request) before after)
+    → IfErr r (Refuses (line_fault is_well_formed line) (RefusesList files.lacked (OfList files line) before after))
 refusals_asked files line given request before after (Ok done) is asks none of = tt
 refusals_asked files line given request before after (Err why) is asks none of = rw none (refusal_asked files line given request before after why is asks of)

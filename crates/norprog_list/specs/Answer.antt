@@ -4,6 +4,7 @@ use Rattle.nor_base.specs.Device.{Ahead}
 use Rattle.nor_script.specs.declared.fault.ScriptFault.{ScriptFault}
 use Rattle.nor_script.specs.Stream.{HadText}
 use Rattle.norprog_words.specs.Shelf.{FileFacts}
+use Rattle.norprog_words.specs.declared.faults.FileName.{FileName}
 use Rattle.norprog_words.specs.declared.faults.Refusal.{Refusal}
 use Rattle.norprog_words.specs.declared.given.GivenList.{GivenList}
 use Rattle.norprog_words.specs.Told.{ForAsked, RefusesFor, Refuses, line_fault, Answers}
@@ -38,8 +39,8 @@ abbrev pub IsListFault : (ListTask → Type 0) → Option (List ℕ) → Option 
 IsListFault Asked before after why = ForAsked ListTask Asked (StopsScript before after why)
 
 -- why a listing that was asked for isn't printed: a file can't be used, or a growth was refused; else the fault of the work
-abbrev pub RefusesList : (ListTask → Type 0) → Option (List ℕ) → Option (List ℕ) → Refusal → Type 0
-RefusesList Asked before after = RefusesFor (IsListFault Asked before after) ⊥
+abbrev pub RefusesList : (FileName → Type 0) → (ListTask → Type 0) → Option (List ℕ) → Option (List ℕ) → Refusal → Type 0
+RefusesList Lacked Asked before after = RefusesFor Lacked (IsListFault Asked before after) ⊥
 
 -- what `list` answers to a command line: the listing at status 0, or a refusal
 abbrev pub AnswersList : FileFacts → Result GivenList Refusal → Option (List ℕ) → Option (List ℕ) → Type 0 → Type 0 → Option (List ℕ) → Option (List ℕ) → ℕ → Type 0
@@ -47,5 +48,5 @@ AnswersList files line before after Quiet Works told_before told_after status =
     Answers (line_fault is_well_formed line)
     ((status ≡ 0) × PrintsListing (OfList files line) before after × Quiet)
     (CutsListing (OfList files line) before after)
-    (Refuses (line_fault is_well_formed line) (RefusesList (OfList files line) before after))
+    (Refuses (line_fault is_well_formed line) (RefusesList files.lacked (OfList files line) before after))
     Works told_before told_after status

@@ -50,12 +50,13 @@ endings_asked files line given request (Err why) is asks of = tt
 
 -- and why it isn't played
 pub refusals_asked : (files : FileFacts) (line : Result GivenPlay Refusal) (given : GivenPlay) (request : PlayRequest) (r : Result Ending Unplayed) → line ≡ Ok given → AsksFor given request
-    → line_fault is_well_formed line ≡ None → IfErr r (IsUnplayed (IsTaskOf files request)) → IfErr r (RefusesLine (line_fault is_well_formed line) (OfPlay files line))
+    → line_fault is_well_formed line ≡ None → IfErr r (IsUnplayed files.lacked (IsTaskOf files request))
+    → IfErr r (RefusesLine (line_fault is_well_formed line) files.lacked (OfPlay files line))
 refusals_asked files line given request (Ok ending) is asks none of = tt
 refusals_asked files line given request (Err (Refused why)) is asks none of = rw none (
-    refuses_wider (IsPlayFault (IsTaskOf files request)) (IsPlayFault (OfPlay files line))
+    refuses_wider files.lacked files.lacked (IsPlayFault (IsTaskOf files request)) (IsPlayFault (OfPlay files line))
     ((ending : Ending) × IsEnding (IsTaskOf files request) ending) ((ending : Ending) × IsEnding (OfPlay files line) ending)
-    (λ why of. asked_wider PlayTask (IsTaskOf files request) (OfPlay files line) (IsStopOf why) (on_line files line given request is asks) of)
+    (λ name lacks. lacks) (λ why of. asked_wider PlayTask (IsTaskOf files request) (OfPlay files line) (IsStopOf why) (on_line files line given request is asks) of)
     (λ late. (late.0, ending_asked files line given request late.0 is asks late.1)) why of
     )
 refusals_asked files line given request (Err (Device why)) is asks none of =
@@ -71,8 +72,8 @@ module _ (files : FileFacts) (request : PlayRequest) (tables : List ℕ) (t : Ta
   asked : IsTaskOf files request task
   asked = record { chip = record { tables = tables; gave = tables_gave; task = same }; text = script_gave; content = opened; limit = refl; trusted = refl }
 
-  pub no_job : (after : Ahead) (why : Refusal) → RefusesJob t text len before after why → RefusesPlay (IsTaskOf files request) why
-  no_job after why refused = by_fault (IsPlayFault (IsTaskOf files request)) _ why (record {
+  pub no_job : (after : Ahead) (why : Refusal) → RefusesJob t text len before after why → RefusesPlay files.lacked (IsTaskOf files request) why
+  no_job after why refused = by_fault files.lacked (IsPlayFault (IsTaskOf files request)) _ why (record {
     it = task;
     asked = asked;
     has = record { after = after; refused = refused };
@@ -80,7 +81,7 @@ module _ (files : FileFacts) (request : PlayRequest) (tables : List ℕ) (t : Ta
 
   module _ (after : Ahead) (m : Parameters) (start : Start) (steps : List Step) (content : List ℕ)
       (ready : IsReady t text len before after m steps content) (begins : start ≡ start_of t) where
-    pub was_played : (r : Result Ending Unplayed) → MatchResult r (Ends request.limit request.trust m start content steps) (StopsPlay m start content steps)
+    pub was_played : (r : Result Ending Unplayed) → MatchResult r (Ends request.limit request.trust m start content steps) (StopsPlay files.lacked m start content steps)
         → IfOk r (IsEnding (IsTaskOf files request))
     was_played (Ok ending) is = record {
       it = task;
@@ -89,10 +90,10 @@ module _ (files : FileFacts) (request : PlayRequest) (tables : List ℕ) (t : Ta
     }
     was_played (Err why) is = tt
 
-    pub was_stopped : (r : Result Ending Unplayed) → MatchResult r (Ends request.limit request.trust m start content steps) (StopsPlay m start content steps)
-        → IfErr r (IsUnplayed (IsTaskOf files request))
+    pub was_stopped : (r : Result Ending Unplayed) → MatchResult r (Ends request.limit request.trust m start content steps) (StopsPlay files.lacked m start content steps)
+        → IfErr r (IsUnplayed files.lacked (IsTaskOf files request))
     was_stopped (Ok ending) is = tt
-    was_stopped (Err (Refused why)) is = by_files (IsPlayFault (IsTaskOf files request)) _ why is
+    was_stopped (Err (Refused why)) is = by_files files.lacked files.lacked (IsPlayFault (IsTaskOf files request)) _ why (λ name lacks. lacks) is
     was_stopped (Err (Device why)) is = record {
       it = task;
       asked = asked;

@@ -6,6 +6,7 @@ use Rattle.nor_base.specs.Device.{Ahead, Cuts}
 use Rattle.nor_base.specs.Parameters.{Parameters}
 use Rattle.nor_job.specs.Status.{start_of}
 use Rattle.nor_serprog.specs.declared.fault.GreetFault.{GreetFault}
+use Rattle.norprog_words.specs.declared.faults.FileName.{FileName}
 use Rattle.norprog_words.specs.declared.faults.Refusal.{Refusal}
 use Rattle.norprog_words.specs.declared.given.GivenPlay.{GivenPlay}
 use Rattle.norprog_words.specs.Shelf.{FileFacts}
@@ -41,8 +42,8 @@ abbrev pub IsPlayFault : (PlayTask → Type 0) → Refusal → Type 0
 IsPlayFault Asked why = ForAsked PlayTask Asked (IsStopOf why)
 
 -- why a play that was asked for has no ending
-abbrev pub RefusesPlay : (PlayTask → Type 0) → Refusal → Type 0
-RefusesPlay Asked = RefusesFor (IsPlayFault Asked) ((ending : Ending) × IsEnding Asked ending)
+abbrev pub RefusesPlay : (FileName → Type 0) → (PlayTask → Type 0) → Refusal → Type 0
+RefusesPlay Lacked Asked = RefusesFor Lacked (IsPlayFault Asked) ((ending : Ending) × IsEnding Asked ending)
 
 -- the script's steps might be played on that chip with that content, but the handshake ended so
 pub record IsGreetingOf (why : GreetFault) (t : PlayTask) : Type 0 where
@@ -56,14 +57,14 @@ pub record IsGreetingOf (why : GreetFault) (t : PlayTask) : Type 0 where
 abbrev pub IsGreeting : (PlayTask → Type 0) → GreetFault → Type 0
 IsGreeting Asked why = ForAsked PlayTask Asked (IsGreetingOf why)
 
-abbrev pub IsUnplayed : (PlayTask → Type 0) → Unplayed → Type 0
-IsUnplayed Asked (Refused why) = RefusesPlay Asked why
-IsUnplayed Asked (Device why) = IsGreeting Asked why
+abbrev pub IsUnplayed : (FileName → Type 0) → (PlayTask → Type 0) → Unplayed → Type 0
+IsUnplayed Lacked Asked (Refused why) = RefusesPlay Lacked Asked why
+IsUnplayed Lacked Asked (Device why) = IsGreeting Asked why
 
 -- the fault of the command line where there is one, else why its work isn't done
-abbrev pub RefusesLine : Option Refusal → (PlayTask → Type 0) → Unplayed → Type 0
-RefusesLine cause Asked (Refused why) = Refuses cause (RefusesPlay Asked) why
-RefusesLine cause Asked (Device why) = (cause ≡ None) × IsGreeting Asked why
+abbrev pub RefusesLine : Option Refusal → (FileName → Type 0) → (PlayTask → Type 0) → Unplayed → Type 0
+RefusesLine cause Lacked Asked (Refused why) = Refuses cause (RefusesPlay Lacked Asked) why
+RefusesLine cause Lacked Asked (Device why) = (cause ≡ None) × IsGreeting Asked why
 
 -- nothing was printed, or a proper prefix of the line of such an ending
 abbrev pub CutsEnding : (PlayTask → Type 0) → Option (List ℕ) → Option (List ℕ) → Type 0
@@ -102,4 +103,4 @@ AnswersPlay files line before after Quiet Works told_before told_after status =
     ((line_fault is_well_formed line ≡ None) × PrintsEnding (OfPlay files line) before after Quiet Works told_before told_after status)
     ⊎ (((line_fault is_well_formed line ≡ None) × TellsGreeting (OfPlay files line) before after Works told_before told_after status)
     ⊎ (CutsEnding (OfPlay files line) before after
-    × TellsOf (Refuses (line_fault is_well_formed line) (RefusesPlay (OfPlay files line))) Works told_before told_after status))
+    × TellsOf (Refuses (line_fault is_well_formed line) (RefusesPlay files.lacked (OfPlay files line))) Works told_before told_after status))

@@ -4,7 +4,8 @@ use Rattle.nor_base.specs.declared.meaning.Start.{Start}
 use Rattle.nor_base.specs.declared.step.Step.{Step}
 use Rattle.nor_base.specs.Parameters.{Parameters}
 use Rattle.nor_serprog.specs.declared.fault.GreetFault.{GreetFault}
-use Rattle.norprog_words.specs.Files.{IsOfFiles}
+use Rattle.norprog_words.specs.declared.faults.FileName.{FileName}
+use Rattle.norprog_words.specs.Files.{TellsFile}
 use Rattle.norprog_play.specs.declared.ending.Ending.{Ending}
 use Rattle.norprog_play.specs.declared.unplayed.Unplayed.{Unplayed}
 use Rattle.norprog_play.specs.declared.unplayed.Unplayed.TheVariants.{Refused, Device}
@@ -35,6 +36,6 @@ pub record EndsGreeting (m : Parameters) (start : Start) (content : List ℕ) (s
   pub greeted : GreetsSo before after (Err why)
 
 -- why they aren't played: that, or a device that can't be opened, or want of memory
-abbrev pub StopsPlay : Parameters → Start → List ℕ → List Step → Unplayed → Type 0
-StopsPlay m start content steps (Device why) = EndsGreeting m start content steps why
-StopsPlay m start content steps (Refused why) = IsOfFiles why
+abbrev pub StopsPlay : (FileName → Type 0) → Parameters → Start → List ℕ → List Step → Unplayed → Type 0
+StopsPlay Lacked m start content steps (Device why) = EndsGreeting m start content steps why
+StopsPlay Lacked m start content steps (Refused why) = TellsFile Lacked why

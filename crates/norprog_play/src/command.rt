@@ -72,7 +72,7 @@ fn report_play<S: Shelf, O: ByteOut, P: ByteOut>(
     ensures printed { IfOk result (λ ending. Appends (O.held out.old) (O.held out.new) (ending_line ending)) }
     ensures unprinted { IfErr result (IsUnprinted (OfPlay (S.facts shelf.now) given.entry) (O.held out.old) (O.held out.new)) }
     ensures asked { IfOk result (λ _. line_fault is_well_formed given.entry ≡ None) }
-    ensures first { IfErr result (RefusesLine (line_fault is_well_formed given.entry) (OfPlay (S.facts shelf.now) given.entry)) }
+    ensures first { IfErr result (RefusesLine (line_fault is_well_formed given.entry) (S.facts shelf.now).lacked (OfPlay (S.facts shelf.now) given.entry)) }
 {
     let ending = ending_of(alloc, shelf, given, progress)?;
     match write_ending(&ending, out) {
@@ -91,7 +91,7 @@ fn ending_of<S: Shelf, P: ByteOut>(
     requires { P.count progress.old < 2 ^ 64 - 1 }
     ensures played { IfOk result (IsEnding (OfPlay (S.facts shelf.now) given.entry)) }
     ensures asked { IfOk result (λ _. line_fault is_well_formed given.entry ≡ None) }
-    ensures first { IfErr result (RefusesLine (line_fault is_well_formed given.entry) (OfPlay (S.facts shelf.now) given.entry)) }
+    ensures first { IfErr result (RefusesLine (line_fault is_well_formed given.entry) (S.facts shelf.now).lacked (OfPlay (S.facts shelf.now) given.entry)) }
 {
     let request = request_of(given?).ok_or(Refusal::Usage)?;
     play_request(alloc, shelf, request, progress)
@@ -106,7 +106,7 @@ fn play_request<S: Shelf, P: ByteOut>(
 ) -> Result<Ending, Unplayed>
     requires { P.count progress.old < 2 ^ 64 - 1 }
     ensures played { IfOk result (IsEnding (IsTaskOf (S.facts shelf.now) request.entry)) }
-    ensures refused { IfErr result (IsUnplayed (IsTaskOf (S.facts shelf.now) request.entry)) }
+    ensures refused { IfErr result (IsUnplayed (S.facts shelf.now).lacked (IsTaskOf (S.facts shelf.now) request.entry)) }
 {
     let tables = tables_of(alloc, shelf, request.setup.chip)?;
     let (mut content, _place, len) = shelf.open(request.content, FileName::Content)?;
@@ -138,7 +138,7 @@ fn play_job<S: Shelf, P: ByteOut>(
     requires mode { IsPossible job.meaning job.start }
     requires progress { P.count progress.old < 2 ^ 64 - 1 }
     ensures { MatchResult result (Ends limit trust job.meaning job.start job.content.items job.steps.items)
-        (StopsPlay job.meaning job.start job.content.items job.steps.items) }
+        (StopsPlay (S.facts shelf.now).lacked job.meaning job.start job.content.items job.steps.items) }
 {
     let Job {
         meaning,

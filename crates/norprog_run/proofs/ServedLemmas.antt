@@ -5,6 +5,8 @@ use Rattle.nor_base.specs.Device.{Ahead}
 use Rattle.nor_job.specs.Task.{Task}
 use Rattle.nor_job.specs.declared.fault.BuildFault.TheVariants as fault
 use Rattle.nor_script.specs.Stream.{IsTextOf}
+use Rattle.norprog_words.specs.declared.faults.FileName.{FileName}
+use Rattle.norprog_words.specs.declared.faults.FileName.TheVariants as file
 use Rattle.norprog_words.specs.declared.faults.Refusal.{Refusal}
 use Rattle.norprog_words.specs.declared.files.Place.{Place}
 use Rattle.norprog_words.specs.declared.faults.Refusal.TheVariants.{Text, Usage, File, Build, Page, Script}
@@ -12,7 +14,7 @@ use Rattle.norprog_words.specs.Chip.{origin_of}
 use Rattle.norprog_words.specs.Setup.{setup_task}
 use Rattle.norprog_words.specs.Shelf.{FileFacts, AreTables, GoesOut, IsMadeApart, IsTextIn, Named, Notes, WhereNamed, tables_file}
 use Rattle.norprog_words.proofs.ShelfLemmas.{made_apart, more_noted, one_noted}
-use Rattle.norprog_words.specs.Told.{RefusesFor, line_fault}
+use Rattle.norprog_words.specs.Told.{RefusesFor, OrScript, line_fault}
 use Rattle.norprog_words.proofs.ToldLemmas.{asked_wider, by_fault, refuses_wider}
 use Rattle.norprog_run.specs.declared.request.Bench.{Bench}
 use Rattle.norprog_words.specs.declared.given.GivenRun.{GivenRun}
@@ -75,12 +77,13 @@ module _ (files : FileFacts) (line : Result GivenRun Refusal) (given : GivenRun)
   verdict_asked Sent verdict = verdict_wider (IsTaskOf files request) (OfRun files line) (IsTextIn files request.script.now) (OfScript files line) Sent verdict
       (on_line files line given request is asks) (script_on_line files line given request is asks)
 
-  refusal_asked : (why : Refusal) → RefusesRun (IsTaskOf files request) (IsTextIn files request.script.now) why → RefusesRun (OfRun files line) (OfScript files line) why
+  refusal_asked : (why : Refusal) → RefusesRun (OrScript files.lacked) (IsTaskOf files request) (IsTextIn files request.script.now) why
+      → RefusesRun (OrScript files.lacked) (OfRun files line) (OfScript files line) why
   refusal_asked why =
-      refuses_wider (IsPlayFault (IsTaskOf files request)) (IsPlayFault (OfRun files line))
+      refuses_wider (OrScript files.lacked) (OrScript files.lacked) (IsPlayFault (IsTaskOf files request)) (IsPlayFault (OfRun files line))
       ((verdict : Verdict) × IsPlayVerdict (IsTaskOf files request) (IsTextIn files request.script.now) (λ held. ⊤) verdict)
       ((verdict : Verdict) × IsPlayVerdict (OfRun files line) (OfScript files line) (λ held. ⊤) verdict)
-      (λ why of. asked_wider PlayTask (IsTaskOf files request) (OfRun files line) (IsStopOf why) (on_line files line given request is asks) of)
+      (λ name lacks. lacks) (λ why of. asked_wider PlayTask (IsTaskOf files request) (OfRun files line) (IsStopOf why) (on_line files line given request is asks) of)
       (λ late. (late.0, verdict_asked (λ held. ⊤) late.0 late.1)) why
 
   -- the same of whichever came
@@ -90,8 +93,8 @@ module _ (files : FileFacts) (line : Result GivenRun Refusal) (given : GivenRun)
   verdicts_asked Sent (Ok verdict) of = verdict_asked Sent verdict of
   verdicts_asked Sent (Err why) of = tt
 
-  pub refusals_asked : (r : Result Verdict Refusal) → line_fault is_well_formed line ≡ None → IfErr r (RefusesRun (IsTaskOf files request) (IsTextIn files request.script.now))
-      → IfErr r (RefusesLine (line_fault is_well_formed line) (RefusesRun (OfRun files line) (OfScript files line)))
+  pub refusals_asked : (r : Result Verdict Refusal) → line_fault is_well_formed line ≡ None → IfErr r (RefusesRun (OrScript files.lacked) (IsTaskOf files request) (IsTextIn files request.script.now))
+      → IfErr r (RefusesLine (line_fault is_well_formed line) (RefusesRun (OrScript files.lacked) (OfRun files line) (OfScript files line)))
   refusals_asked (Ok verdict) none of = tt
   refusals_asked (Err why) none of = rw none (inl (refusal_asked why of))
 
@@ -104,15 +107,15 @@ module _ (t : Task) (bench : Bench) (len : ℕ) (before after : Ahead) (held hel
   of_play text (Err why) played = tt
 
   stopped : (begun : Option (Option (List ℕ))) (text : List ℕ) (why : Refusal) → RefusesPlay t bench text len before after held held' why
-      → RefusesFor (IsPlayFault (Is (play_with t bench before len begun))) ⊥ why
-  stopped begun text why refused = by_fault (IsPlayFault (Is (play_with t bench before len begun))) ⊥ why (record {
+      → RefusesFor (λ told. told ≡ file.Script) (IsPlayFault (Is (play_with t bench before len begun))) ⊥ why
+  stopped begun text why refused = by_fault (λ told. told ≡ file.Script) (IsPlayFault (Is (play_with t bench before len begun))) ⊥ why (record {
     it = play_with t bench before len begun;
     asked = refl;
     has = record { text = text; after = after; held_before = held; held_after = held'; refused = refused };
   })
 
   pub of_stop : (begun : Option (Option (List ℕ))) (text : List ℕ) (r : Result Verdict Refusal) → IfErr r (RefusesPlay t bench text len before after held held')
-      → IfErr r (RefusesFor (IsPlayFault (Is (play_with t bench before len begun))) ⊥)
+      → IfErr r (RefusesFor (λ told. told ≡ file.Script) (IsPlayFault (Is (play_with t bench before len begun))) ⊥)
   of_stop begun text (Ok verdict) refused = tt
   of_stop begun text (Err why) refused = stopped begun text why refused
 
@@ -124,17 +127,17 @@ module _ (t : Task) (bench : Bench) (len : ℕ) (before after : Ahead) (held hel
     of_streams (Err why) p = tt
 
     streams_stop : (begun : Option (Option (List ℕ))) (Untouched : Type 0) (why : Refusal)
-        → RefusesStreams t bench first first' again again' len before after held held' Untouched why → RefusesFor (IsPlayFault (Is (play_with t bench before len begun))) ⊥ why
+        → RefusesStreams t bench first first' again again' len before after held held' Untouched why → RefusesFor (λ told. told ≡ file.Script) (IsPlayFault (Is (play_with t bench before len begun))) ⊥ why
     streams_stop begun Untouched (Script why) p = elim p [ inl q ↦ stopped begun q.0.0 (Script why) q.0.2 | inr q ↦ stopped begun q.2.0 (Script why) q.2.2 ]
     streams_stop begun Untouched (Build fault.ContentShort) p = stopped begun p.0 (Build fault.ContentShort) p.2
     streams_stop begun Untouched (Build fault.Read) p = stopped begun p.0 (Build fault.Read) p.2
     streams_stop begun Untouched (Build fault.Write) p = stopped begun p.1.0 (Build fault.Write) p.1.2
     streams_stop begun Untouched (Build fault.Memory) p = tt
-    streams_stop begun Untouched (File name) p = tt
+    streams_stop begun Untouched (File file.Script) p = inl refl
     streams_stop begun Untouched other p = stopped begun [] other p
 
     pub of_streams_stop : (begun : Option (Option (List ℕ))) (Untouched : Type 0) (r : Result Verdict Refusal)
-        → IfErr r (RefusesStreams t bench first first' again again' len before after held held' Untouched) → IfErr r (RefusesFor (IsPlayFault (Is (play_with t bench before len begun))) ⊥)
+        → IfErr r (RefusesStreams t bench first first' again again' len before after held held' Untouched) → IfErr r (RefusesFor (λ told. told ≡ file.Script) (IsPlayFault (Is (play_with t bench before len begun))) ⊥)
     of_streams_stop begun Untouched (Ok verdict) p = tt
     of_streams_stop begun Untouched (Err why) p = streams_stop begun Untouched why p
 
@@ -173,16 +176,16 @@ module _ (Asked : PlayTask → Type 0) (P Q : List ℕ → Type 0) (chip : Task)
   all_played Sent (Ok verdict) out of = one_played Sent verdict out of
   all_played Sent (Err why) out of = tt
 
-pub one_refused : (Asked : PlayTask → Type 0) (Spoken : List ℕ → Type 0) (t : PlayTask) (asked : Asked t) (why : Refusal) → RefusesFor (IsPlayFault (Is t)) ⊥ why
-    → RefusesRun Asked Spoken why
-one_refused Asked Spoken t asked why =
-    refuses_wider (IsPlayFault (Is t)) (IsPlayFault Asked) ⊥ ((verdict : Verdict) × IsPlayVerdict Asked Spoken (λ held. ⊤) verdict)
-    (λ why of. asked_wider PlayTask (Is t) Asked (IsStopOf why) (λ u same. subst Asked (sym same) asked) of) (λ none. absurd none) why
+pub one_refused : (Lacked : FileName → Type 0) (Asked : PlayTask → Type 0) (Spoken : List ℕ → Type 0) (t : PlayTask) (asked : Asked t) (why : Refusal) → RefusesFor (λ told. told ≡ file.Script) (IsPlayFault (Is t)) ⊥ why
+    → RefusesRun (OrScript Lacked) Asked Spoken why
+one_refused Lacked Asked Spoken t asked why =
+    refuses_wider (λ told. told ≡ file.Script) (OrScript Lacked) (IsPlayFault (Is t)) (IsPlayFault Asked) ⊥ ((verdict : Verdict) × IsPlayVerdict Asked Spoken (λ held. ⊤) verdict)
+    (λ name is. inr is) (λ why of. asked_wider PlayTask (Is t) Asked (IsStopOf why) (λ u same. subst Asked (sym same) asked) of) (λ none. absurd none) why
 
-pub all_refused : (Asked : PlayTask → Type 0) (Spoken : List ℕ → Type 0) (t : PlayTask) (asked : Asked t) (r : Result Verdict Refusal)
-    → IfErr r (RefusesFor (IsPlayFault (Is t)) ⊥) → IfErr r (RefusesRun Asked Spoken)
-all_refused Asked Spoken t asked (Ok verdict) of = tt
-all_refused Asked Spoken t asked (Err why) of = one_refused Asked Spoken t asked why of
+pub all_refused : (Lacked : FileName → Type 0) (Asked : PlayTask → Type 0) (Spoken : List ℕ → Type 0) (t : PlayTask) (asked : Asked t) (r : Result Verdict Refusal)
+    → IfErr r (RefusesFor (λ told. told ≡ file.Script) (IsPlayFault (Is t)) ⊥) → IfErr r (RefusesRun (OrScript Lacked) Asked Spoken)
+all_refused Lacked Asked Spoken t asked (Ok verdict) of = tt
+all_refused Lacked Asked Spoken t asked (Err why) of = one_refused Lacked Asked Spoken t asked why of
 
 -- where only the verdict's line, or what the chip holds, didn't go out, the play was one that was asked for
 goes : (Sent : Option (List ℕ) → Type 0) (begun : Option (Option (List ℕ))) (before after : Option (List ℕ)) → GoesOut Sent begun before after
@@ -192,7 +195,7 @@ goes Sent None before after out = tt
 
 pub late_refused : (files : FileFacts) (line : Result GivenRun Refusal) (verdict : Verdict) → line_fault is_well_formed line ≡ None
     → IsPlayVerdict (OfRun files line) (OfScript files line) files.flushed verdict
-    → RefusesLine (line_fault is_well_formed line) (RefusesRun (OfRun files line) (OfScript files line)) (Build fault.Write)
+    → RefusesLine (line_fault is_well_formed line) (RefusesRun (OrScript files.lacked) (OfRun files line) (OfScript files line)) (Build fault.Write)
 late_refused files line verdict none of = rw none (inl (inr (
   verdict,
   record {

@@ -4,11 +4,12 @@ use Rattle.std.specs.Io.KnownBytes.{Appends}
 use Rattle.nor_base.specs.Device.{Ahead, Cuts}
 use Rattle.nor_job.specs.Task.{Task}
 use Rattle.nor_job.specs.declared.fault.BuildFault.TheVariants.{Memory}
+use Rattle.norprog_words.specs.declared.faults.FileName.{FileName}
 use Rattle.norprog_words.specs.declared.faults.Refusal.{Refusal}
 use Rattle.norprog_words.specs.declared.faults.Refusal.TheVariants.{Build}
 use Rattle.norprog_words.specs.declared.given.GivenRun.{GivenRun}
 use Rattle.norprog_words.specs.Shelf.{FileFacts, GoesOut}
-use Rattle.norprog_words.specs.Told.{ForAsked, RefusesFor, Refuses, line_fault, Answers}
+use Rattle.norprog_words.specs.Told.{ForAsked, RefusesFor, OrScript, Refuses, line_fault, Answers}
 use Rattle.norprog_run.specs.Request.{is_well_formed}
 use Rattle.norprog_run.specs.declared.request.Bench.{Bench}
 use Rattle.norprog_run.specs.declared.verdict.Verdict.{Verdict}
@@ -47,8 +48,8 @@ abbrev pub IsPlayFault : (PlayTask → Type 0) → Refusal → Type 0
 IsPlayFault Asked why = ForAsked PlayTask Asked (IsStopOf why)
 
 -- why a play that was asked for has no verdict; that of one that was played may have failed to go out
-abbrev pub RefusesRun : (PlayTask → Type 0) → (List ℕ → Type 0) → Refusal → Type 0
-RefusesRun Asked Script = RefusesFor (IsPlayFault Asked) ((verdict : Verdict) × IsPlayVerdict Asked Script (λ held. ⊤) verdict)
+abbrev pub RefusesRun : (FileName → Type 0) → (PlayTask → Type 0) → (List ℕ → Type 0) → Refusal → Type 0
+RefusesRun Lacked Asked Script = RefusesFor Lacked (IsPlayFault Asked) ((verdict : Verdict) × IsPlayVerdict Asked Script (λ held. ⊤) verdict)
 
 -- the line of the verdict of a play that was asked for was printed, whose status it is
 abbrev pub PrintsVerdict : (PlayTask → Type 0) → (List ℕ → Type 0) → (Option (List ℕ) → Type 0) → Option (List ℕ) → Option (List ℕ) → ℕ → Type 0
@@ -72,5 +73,5 @@ AnswersRun files line before after Quiet Works told_before told_after status =
     Answers (line_fault is_well_formed line)
     (PrintsVerdict (OfRun files line) (OfScript files line) files.flushed before after status × Quiet)
     (CutsVerdict (OfRun files line) (OfScript files line) files.flushed before after)
-    (RefusesLine (line_fault is_well_formed line) (RefusesRun (OfRun files line) (OfScript files line)))
+    (RefusesLine (line_fault is_well_formed line) (RefusesRun (OrScript files.lacked) (OfRun files line) (OfScript files line)))
     Works told_before told_after status

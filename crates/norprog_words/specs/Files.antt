@@ -5,17 +5,19 @@ use Rattle.norprog_words.specs.declared.faults.FileName.{FileName}
 use Rattle.norprog_words.specs.declared.faults.Refusal.{Refusal}
 use Rattle.norprog_words.specs.declared.faults.Refusal.TheVariants.{File, Build}
 
+-- a file of which this is so is told, or want of memory
+abbrev pub TellsFile : (FileName → Type 0) → Refusal → Type 0
+TellsFile Lacked (File told) = Lacked told
+TellsFile Lacked (Build Memory) = ⊤
+TellsFile Lacked other = ⊥
+
 -- this file is told, or want of memory
 abbrev pub RefusesFile : FileName → Refusal → Type 0
-RefusesFile name (File told) = told ≡ name
-RefusesFile name (Build Memory) = ⊤
-RefusesFile name other = ⊥
+RefusesFile name = TellsFile (λ told. told ≡ name)
 
 -- some file is told, or want of memory
 abbrev pub IsOfFiles : Refusal → Type 0
-IsOfFiles (File told) = ⊤
-IsOfFiles (Build Memory) = ⊤
-IsOfFiles other = ⊥
+IsOfFiles = TellsFile (λ told. ⊤)
 
 -- bits 12 to 15 of a file's mode tell its kind: 2 is a character device (POSIX, S_IFMT and S_IFCHR)
 abbrev pub is_character_device : ℕ → Bool

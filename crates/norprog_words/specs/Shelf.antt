@@ -3,19 +3,22 @@ use Rattle.std.specs.Prelude.{◌≡◌, ◌⊎◌, ⊤, ℕ, List, [], ◌∷�
 use Rattle.nor_base.specs.Device.{Ahead}
 use Rattle.nor_script.specs.Stream.{IsTextOf}
 use Rattle.norprog_words.specs.Chip.{Origin, Sfdp, Uniform}
+use Rattle.norprog_words.specs.declared.faults.FileName.{FileName}
 use Rattle.norprog_words.specs.declared.files.Place.{Place}
 use Rattle.norprog_words.specs.declared.files.ScriptFile.{ScriptFile}
 use Rattle.norprog_words.specs.declared.files.ScriptFile.TheVariants.{Twice, Held}
 
 -- what is known of files, each by its name. `gave`: the file gave these bytes, read whole. `opened`: it was opened, this is ahead
 -- of its reader, and this is its length in bytes. `stood`: it was opened, and stood at this place. `made`: it was made, or emptied,
--- at none of these places, and held this then. `flushed`: some file that was made had taken this, and all of it has gone out
+-- at none of these places, and held this then. `flushed`: some file that was made had taken this, and all of it has gone out.
+-- `lacked`: of a file that is told so some couldn't be used
 pub record FileFacts : Type 1 where
   pub gave : List ℕ → List ℕ → Type 0
   pub opened : List ℕ → Ahead → ℕ → Type 0
   pub stood : List ℕ → Place → Type 0
   pub made : List ℕ → List Place → Option (List ℕ) → Type 0
   pub flushed : Option (List ℕ) → Type 0
+  pub lacked : FileName → Type 0
 
 -- of the system's files nothing is known
 abbrev pub nothing_known : FileFacts
@@ -25,6 +28,7 @@ nothing_known = record {
   stood = λ name place. ⊤;
   made = λ name places held. ⊤;
   flushed = λ held. ⊤;
+  lacked = λ told. ⊤;
 }
 
 -- the tables of a chip are what the file of its name gave; a chip of a size has no file

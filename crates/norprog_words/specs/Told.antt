@@ -3,6 +3,8 @@ use Rattle.std.specs.Prelude.{◌≡◌, ◌⊎◌, ⊤, ℕ, Bool, if◌then◌
 use Rattle.std.specs.Io.KnownBytes.{Appends}
 use Rattle.nor_job.specs.declared.fault.BuildFault.{BuildFault}
 use Rattle.nor_job.specs.declared.fault.BuildFault.TheVariants.{Memory, Write}
+use Rattle.norprog_words.specs.declared.faults.FileName.{FileName}
+use Rattle.norprog_words.specs.declared.faults.FileName.TheVariants.{Script}
 use Rattle.norprog_words.specs.declared.faults.Refusal.{Refusal}
 use Rattle.norprog_words.specs.declared.faults.Refusal.TheVariants.{Usage, File, Build}
 use Rattle.norprog_words.specs.Lines.{printed, status_after}
@@ -28,13 +30,17 @@ abbrev pub OfFault : (BuildFault → Type 0) → Refusal → Type 0
 OfFault Fault (Build why) = Fault why
 OfFault Fault other = ⊥
 
--- why work isn't done: a file can't be used, or a growth was refused; an output failed in the work, or after it was done; else
--- the fault of the work
-abbrev pub RefusesFor : (Refusal → Type 0) → Type 0 → Refusal → Type 0
-RefusesFor Fault Done (File name) = ⊤
-RefusesFor Fault Done (Build Memory) = ⊤
-RefusesFor Fault Done (Build Write) = Fault (Build Write) ⊎ Done
-RefusesFor Fault Done why = Fault why
+-- why work isn't done: a file that is told so couldn't be used, or a growth was refused; an output failed in the work, or after it
+-- was done; else the fault of the work
+abbrev pub RefusesFor : (FileName → Type 0) → (Refusal → Type 0) → Type 0 → Refusal → Type 0
+RefusesFor Lacked Fault Done (File name) = Lacked name ⊎ Fault (File name)
+RefusesFor Lacked Fault Done (Build Memory) = ⊤
+RefusesFor Lacked Fault Done (Build Write) = Fault (Build Write) ⊎ Done
+RefusesFor Lacked Fault Done why = Fault why
+
+-- a script's file may also fail where it is read
+abbrev pub OrScript : (FileName → Type 0) → FileName → Type 0
+OrScript Lacked name = Lacked name ⊎ (name ≡ Script)
 
 -- the fault of the command line where there is one, else a refusal of its work
 abbrev pub Refuses : Option Refusal → (Refusal → Type 0) → Refusal → Type 0

@@ -4,7 +4,7 @@ ghost use Rattle.std.specs.Prelude.{◌≡◌, ◌≤◌, ◌^◌, length, IfOk,
 ghost use Rattle.std.specs.Io.KnownBytes.{Keeps};
 ghost use Rattle.norprog_words.specs.Chip.{origin_of};
 ghost use Rattle.norprog_words.specs.declared.faults.FileName.TheVariants.{Device, Script, Sfdp};
-ghost use Rattle.norprog_words.specs.Files.{RefusesFile, IsOfFiles};
+ghost use Rattle.norprog_words.specs.Files.{RefusesFile, TellsFile};
 ghost use Rattle.norprog_words.specs.Shelf.{AreTables, FileFacts, IsOfScript, DoNotFail, Notes, tables_file};
 
 use crate::chip::Chip;
@@ -40,7 +40,7 @@ pub trait Shelf {
         ensures stood { IfOk result (λ read. (facts self.now).stood path.now read.1) }
         ensures length { IfOk result (λ read. length read.0.items ≤ 2 ^ 36) }
         ensures refused { IfErr result (RefusesFile name) }
-        ensures files { IfErr result IsOfFiles };
+        ensures lacked { IfErr result (TellsFile (facts self.now).lacked) };
 
     /// Opens a file that isn't a folder, and answers which one it is and its length in bytes.
     ///
@@ -51,7 +51,7 @@ pub trait Shelf {
         ensures stood { IfOk result (λ file. (facts self.now).stood path.now file.1) }
         ensures count { IfOk result (λ file. Self.Input.count file.0 ≡ 0) }
         ensures refused { IfErr result (RefusesFile name) }
-        ensures files { IfErr result IsOfFiles };
+        ensures lacked { IfErr result (TellsFile (facts self.now).lacked) };
 
     /// Opens a script's file twice, where it is a regular one, so that it needn't be held; any other is read whole. Answers which
     /// file it is as well.
@@ -67,7 +67,7 @@ pub trait Shelf {
         ensures stood { IfOk result (λ script. (facts self.now).stood path.now script.1) }
         ensures count { IfOk result (λ script. DoNotFail Self.Input.count script.0) }
         ensures refused { IfErr result (RefusesFile Script) }
-        ensures files { IfErr result IsOfFiles };
+        ensures lacked { IfErr result (TellsFile (facts self.now).lacked) };
 
     /// Makes an output file, or empties the one that is there, unless it is one of the inputs. What is written to it goes out
     /// where it is flushed, if not before.
@@ -83,7 +83,7 @@ pub trait Shelf {
         ensures made { IfOk result (λ file. (facts self.now).made path.now inputs.now (Self.Output.held file)) }
         ensures count { IfOk result (λ file. Self.Output.count file ≡ 0) }
         ensures refused { IfErr result (RefusesFile name) }
-        ensures files { IfErr result IsOfFiles };
+        ensures lacked { IfErr result (TellsFile (facts self.now).lacked) };
 
     /// Has all go out that a file took. `Failed` where some of it may not have.
     fn flush(&self, file: &mut Self::Output) -> Result<(), Failed>
@@ -95,7 +95,7 @@ pub trait Shelf {
     /// Where it isn't one, can't be opened or asked, `File` of `Device`; `Memory` where the system says that it lacks that.
     fn open_device(&self, path: &str) -> Result<(Self::FromDevice, Self::ToDevice), Refusal>
         ensures refused { IfErr result (RefusesFile Device) }
-        ensures files { IfErr result IsOfFiles };
+        ensures lacked { IfErr result (TellsFile (facts self.now).lacked) };
 }
 
 /// What the file of a chip's SFDP tables holds; nothing for a uniform chip, which has none.
@@ -104,7 +104,7 @@ pub trait Shelf {
 pub fn tables_of<S: Shelf>(alloc: Global, shelf: &S, chip: Chip<'_>) -> Result<Vec<u8>, Refusal>
     ensures tables { IfOk result (λ tables. AreTables (S.facts shelf.now) (origin_of chip.entry) tables.items) }
     ensures refused { IfErr result (RefusesFile Sfdp) }
-    ensures files { IfErr result IsOfFiles }
+    ensures lacked { IfErr result (TellsFile (S.facts shelf.now).lacked) }
 {
     noted_tables(alloc, shelf, chip, &mut Vec::new(alloc))
 }
@@ -122,7 +122,7 @@ pub fn noted_tables<S: Shelf>(
     ensures tables { IfOk result (λ tables. AreTables (S.facts shelf.now) (origin_of chip.entry) tables.items) }
     ensures noted { IfOk result (λ _. Notes (S.facts shelf.now) (tables_file (origin_of chip.entry)) places.old.items places.new.items) }
     ensures refused { IfErr result (RefusesFile Sfdp) }
-    ensures files { IfErr result IsOfFiles }
+    ensures lacked { IfErr result (TellsFile (S.facts shelf.now).lacked) }
 {
     match chip {
         Chip::Sfdp { file, bits: _ } => {

@@ -26,7 +26,7 @@ returns-in_err-report-clause-first g c =
     let wider = build_line files c.args.given c.in_ok-given.given c.in_ok-request.request c.in_ok-path.path.now (search rules) (search rules) (search rules) in
     let none : line_fault asks_build c.args.given ≡ None = search rules in
     handed_on _ _ _ c.from_residual-in_err-report.ensures.1
-    (refuses _ _ _ none (build_wider (IsJobOf files c.in_ok-request.request (Some c.in_ok-path.path.now)) (OfBuild files c.args.given) wider _ c.in_err-report.ensures.refused))
+    (refuses _ _ _ none (build_wider files.lacked (IsJobOf files c.in_ok-request.request (Some c.in_ok-path.path.now)) (OfBuild files c.args.given) wider _ c.in_err-report.ensures.refused))
 
 pub returns-clause-unprinted : goal.returns-clause-unprinted
 returns-clause-unprinted g c =

@@ -22,5 +22,5 @@ returns-clause-refused g c =
     c.in_ok-push.ensures.items c.as_slice.ensures.value c.in_ok-script.ensures.made in
     let asked = job_of files c.args.request.now (Some c.args.path.now) c.inputs_of-inputs.result _ _ (Some _) (held_in c.in_ok-texts.texts)
     c.in_ok-texts.ensures.given c.inputs_of-inputs.ensures c.in_ok-content.ensures.opened made in
-    refusal_of_build _ _ (IsJobOf files c.args.request.now (Some c.args.path.now)) _ _ _ _ _ _ c.build-answer.result c.flush-flushed.result _ asked
+    refusal_of_build files.lacked _ _ (IsJobOf files c.args.request.now (Some c.args.path.now)) _ _ _ _ _ _ c.build-answer.result c.flush-flushed.result _ asked
     c.build-answer.ensures.built c.build-answer.ensures.refused c.done.ensures

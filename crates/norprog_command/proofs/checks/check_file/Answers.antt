@@ -12,5 +12,5 @@ returns-in-Twice-clause-refused g c =
 
 pub returns-clause-refused : goal.returns-clause-refused
 returns-clause-refused g c =
-    refusal_of_check _ (IsTextOfFile g.F.ByteIn.ahead c.args.script) (job_with c.args.inputs.now (g.R.ByteIn.ahead c.args.content.now) c.args.len None)
+    refusal_of_check _ _ (IsTextOfFile g.F.ByteIn.ahead c.args.script) (job_with c.args.inputs.now (g.R.ByteIn.ahead c.args.content.now) c.args.len None)
     _ _ c.in-Err-check_script.stop _ c.in-Err-check_script.ensures.refused c.refused.ensures

@@ -1,7 +1,7 @@
 -- The verdict is on what the command line asks for.
 use Rattle.std.proofs.Common.{rules, ◌≡◌, inr, None}
 use Rattle.norprog_words.specs.Shelf.{IsTextIn}
-use Rattle.norprog_words.specs.Told.{line_fault}
+use Rattle.norprog_words.specs.Told.{OrScript, line_fault}
 use Rattle.nor_base.proofs.FaultLaws.{handed_on}
 use Rattle.norprog_words.proofs.ToldLemmas.{refuses}
 use Rattle.norprog_command.specs.Asked.{asks_check}
@@ -24,7 +24,7 @@ returns-in_err-verdict-clause-first g c =
     let more = script_line files c.args.given c.in_ok-given.given c.in_ok-path.path.now (search rules) (search rules) in
     let none : line_fault asks_check c.args.given ≡ None = search rules in
     handed_on _ _ _ c.from_residual-in_err-verdict.ensures.1
-    (refuses _ _ _ none (check_wider (IsJobOf files c.in_ok-request.request None) (OfCheck files c.args.given) (IsTextIn files c.in_ok-path.path.now) (OfScript files c.args.given) wider more _ c.in_err-verdict.ensures.refused))
+    (refuses _ _ _ none (check_wider (OrScript files.lacked) (OrScript files.lacked) (IsJobOf files c.in_ok-request.request None) (OfCheck files c.args.given) (IsTextIn files c.in_ok-path.path.now) (OfScript files c.args.given) (λ name lacks. lacks) wider more _ c.in_err-verdict.ensures.refused))
 
 pub returns-clause-unprinted : goal.returns-clause-unprinted
 returns-clause-unprinted g c =

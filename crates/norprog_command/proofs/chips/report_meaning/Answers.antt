@@ -24,7 +24,7 @@ returns-in_err-meaning-clause-first g c =
     let wider = chip_line files c.args.given c.in_ok-given.given (origin_of c.in_ok-chip.chip) c.in_ok-part.part (search rules) (search rules) (search rules) in
     let none : line_fault asks_chip c.args.given ≡ None = search rules in
     handed_on _ _ _ c.from_residual-in_err-meaning.ensures.1
-    (refuses _ _ _ none (chip_wider (IsChipTask files (origin_of c.in_ok-chip.chip) c.in_ok-part.part) (OfChip files c.args.given) wider _ c.in_err-meaning.ensures.refused))
+    (refuses _ _ _ none (chip_wider files.lacked files.lacked (IsChipTask files (origin_of c.in_ok-chip.chip) c.in_ok-part.part) (OfChip files c.args.given) (λ name lacks. lacks) wider _ c.in_err-meaning.ensures.refused))
 
 pub returns-in-Err-clause-unprinted : goal.returns-in-Err-clause-unprinted
 returns-in-Err-clause-unprinted g c =

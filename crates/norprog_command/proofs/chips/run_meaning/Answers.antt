@@ -14,5 +14,6 @@ returns-clause-means g c =
 pub returns-clause-refused : goal.returns-clause-refused
 returns-clause-refused g c =
     let files = g.S.Shelf.facts c.args.shelf.now in
-    chips_wider (IsTaskAlone (origin_of c.args.chip) c.args.part c.as_slice.result.now) (IsChipTask files (origin_of c.args.chip) c.args.part)
+    chips_wider (λ told. ⊥) files.lacked (IsTaskAlone (origin_of c.args.chip) c.args.part c.as_slice.result.now) (IsChipTask files (origin_of c.args.chip) c.args.part)
+    (λ name none. absurd none)
     (chip_task files (origin_of c.args.chip) c.args.part c.as_slice.result.now (rw c.as_slice.ensures.value c.in_ok-tables.ensures.tables)) c.chip_alone.result c.chip_alone.ensures.refused

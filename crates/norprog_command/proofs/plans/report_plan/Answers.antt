@@ -33,7 +33,7 @@ returns-in-Ok-clause-first g c =
     let wider = plan_line files c.args.given c.in_ok-given.given c.in_ok-request.request line (search rules) in
     let none : line_fault asks_plan c.args.given ≡ None = search rules in
     let whole : ForAsked Job (IsJobOf files c.in_ok-request.request (option_map (λ t. t.now) c.in_ok-given.given.map)) (IsWhole files.flushed c.in_ok-given.given.times c.as_slice.result.now c.as_slice-in-Ok.result.now) = search rules in
-    rw asked (whole_refused files.flushed _ _ _ wider _ _ _ _ _ _ none whole c.print_whole.ensures.cut c.print_whole.ensures.failed)
+    rw asked (whole_refused files.lacked files.flushed _ _ _ wider _ _ _ _ _ _ none whole c.print_whole.ensures.cut c.print_whole.ensures.failed)
 
 pub returns-clause-unprinted : goal.returns-clause-unprinted
 returns-clause-unprinted g c =
@@ -52,5 +52,5 @@ returns-clause-first g c =
     let wider = plan_line files c.args.given c.in_ok-given.given c.in_ok-request.request line (search rules) in
     let none : line_fault asks_plan c.args.given ≡ None = search rules in
     let part : (c.as_slice-in-Err.result.now ≡ []) ⊎ ForAsked Job (IsJobOf files c.in_ok-request.request (option_map (λ t. t.now) c.in_ok-given.given.map)) (IsPart c.as_slice-in-Err.result.now) = search rules in
-    let stops : StopsTask (IsJobOf files c.in_ok-request.request (option_map (λ t. t.now) c.in_ok-given.given.map)) c.in-Err.refusal = search rules in
-    rw asked (lines_refused _ _ _ files.flushed c.in_ok-given.given.times _ _ wider _ _ _ _ none part stops c.print_lines.ensures)
+    let stops : StopsTask files.lacked (IsJobOf files c.in_ok-request.request (option_map (λ t. t.now) c.in_ok-given.given.map)) c.in-Err.refusal = search rules in
+    rw asked (lines_refused files.lacked _ _ _ files.flushed c.in_ok-given.given.times _ _ wider _ _ _ _ none part stops c.print_lines.ensures)

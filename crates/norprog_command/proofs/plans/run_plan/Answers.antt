@@ -27,4 +27,4 @@ returns-in-Ok-clause-refused g c =
     let out = option_map (λ t. t.now) c.args.map in
     let asked = job_of files c.args.request.now out c.inputs_of-inputs.result _ _ _ (held_in c.in-Ok.files.texts)
     c.in-Ok.ensures.given c.inputs_of-inputs.ensures c.in-Ok.ensures.content c.in-Ok.ensures.made in
-    stops_for c.outline_of.result.rest (IsJobOf files c.args.request.now out) _ asked c.outline_of.ensures.refused
+    stops_for files.lacked c.outline_of.result.rest (IsJobOf files c.args.request.now out) _ asked c.outline_of.ensures.refused

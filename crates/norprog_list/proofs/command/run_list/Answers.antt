@@ -24,4 +24,4 @@ returns-clause-unprinted g c =
 
 pub returns-clause-refused : goal.returns-clause-refused
 returns-clause-refused g c =
-    refused_so (IsTaskOf (g.S.Shelf.facts c.args.shelf.now) c.args.request) _ (asked g c _ _ c.in_ok-script.ensures.opened) _ _ _ _ c.list_script.ensures.refused
+    refused_so (IsTaskOf (g.S.Shelf.facts c.args.shelf.now) c.args.request) _ (asked g c _ _ c.in_ok-script.ensures.opened) _ _ _ _ _ c.list_script.ensures.refused

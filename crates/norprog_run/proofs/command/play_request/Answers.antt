@@ -4,6 +4,7 @@ use Rattle.norprog_words.specs.Chip.{origin_of}
 use Rattle.norprog_words.specs.Shelf.{AreTables, IsTextIn}
 use Rattle.norprog_words.proofs.ShelfLemmas.{text_in}
 use Rattle.nor_base.proofs.FaultLaws.{handed_on}
+use Rattle.norprog_words.specs.Told.{OrScript}
 use Rattle.norprog_run.specs.Answer.{RefusesRun}
 use Rattle.norprog_run.specs.Served.{IsTaskOf}
 use Rattle.norprog_run.proofs.ServedLemmas.{asked_of, made_beside, one_played, all_played, one_refused, all_refused}
@@ -26,7 +27,7 @@ returns-in-None-clause-refused g c =
     let tables = subst (AreTables files (origin_of request.setup.chip)) (sym c.as_slice.ensures.value) c.in_ok-sfdp.ensures.tables in
     let asked = asked_of files request c.setup_inputs-inputs.result request.bench _ _ c.in_ok-content.len None c.setup_inputs-inputs.ensures refl tables
     c.in_ok-content.ensures.opened (rw c.in-None.is tt) in
-    all_refused (IsTaskOf files request) (IsTextIn files request.script.now) _ asked c.play_file.result (c.play_file.ensures.refused None)
+    all_refused files.lacked (IsTaskOf files request) (IsTextIn files request.script.now) _ asked c.play_file.result (c.play_file.ensures.refused None)
 
 pub returns-in_err-verdict-clause-refused : goal.returns-in_err-verdict-clause-refused
 returns-in_err-verdict-clause-refused g c =
@@ -36,8 +37,8 @@ returns-in_err-verdict-clause-refused g c =
     let asked = asked_of files request c.setup_inputs-inputs.result request.bench _ _ c.in_ok-content.len _ c.setup_inputs-inputs.ensures refl tables
     c.in_ok-content.ensures.opened (made_beside files request c.in-Some.path _ _ _ _ _ _ _ _ c.in-Some.is c.new-places.ensures.items c.in_ok-sfdp.ensures.noted
     c.in_ok-content.ensures.stood c.in_ok-push.ensures.items c.in_ok-script.ensures.stood c.in_ok-push-2.ensures.items c.as_slice-2.ensures.value c.in_ok-file.ensures.made) in
-    handed_on (RefusesRun (IsTaskOf files request) (IsTextIn files request.script.now)) _ _ c.from_residual-in_err-verdict.ensures.1
-    (one_refused (IsTaskOf files request) (IsTextIn files request.script.now) _ asked _ (c.in_err-verdict.ensures.refused _))
+    handed_on (RefusesRun (OrScript files.lacked) (IsTaskOf files request) (IsTextIn files request.script.now)) _ _ c.from_residual-in_err-verdict.ensures.1
+    (one_refused files.lacked (IsTaskOf files request) (IsTextIn files request.script.now) _ asked _ (c.in_err-verdict.ensures.refused _))
 
 pub returns-in-Ok-clause-played : goal.returns-in-Ok-clause-played
 returns-in-Ok-clause-played g c =
