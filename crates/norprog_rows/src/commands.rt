@@ -1,14 +1,11 @@
 //! Norprog's commands, by their command lines.
 
+use crate::answers::status_of;
 use crate::line::{Line, line_of};
-use nor_base::{Bytes, IntoWrite, Nowhere};
-use norprog_command::{build, check, plan, sfdp};
-use norprog_list::list;
-use norprog_play::play;
-use norprog_run::run;
+use nor_base::Bytes;
+use norprog_options::Asked;
 use norprog_words::{
-    Disk, Given, GivenBuild, GivenCheck, GivenChip, GivenList, GivenPlan, GivenPlay, GivenRun,
-    GivenSetup,
+    Given, GivenBuild, GivenCheck, GivenChip, GivenList, GivenPlan, GivenPlay, GivenRun, GivenSetup,
 };
 use std::alloc::{AllocError, Global};
 use std::{fs, io};
@@ -47,10 +44,10 @@ pub(crate) fn answer_to(
 ) -> io::Result<u8> {
     let sent = [line.value(">"), line.value("2>")];
     let [out, err] = OUTPUTS;
+    let asked = asked_in(rt.alloc(), command, line)?;
     let status = status_of(
         rt,
-        command,
-        line,
+        Ok(asked),
         sent[0].unwrap_or(out),
         sent[1].unwrap_or(err),
     )?;
@@ -62,64 +59,26 @@ pub(crate) fn answer_to(
     Ok(status)
 }
 
-/// Does a command whose outputs go to these files.
-fn status_of(
-    rt: &HostRuntime,
-    command: &str,
-    line: &Line<'_>,
-    out: &str,
-    err: &str,
-) -> io::Result<u8> {
-    let alloc = rt.alloc();
-    let files = Disk::new(rt);
-    let mut out = IntoWrite::new(fs::create(rt, out)?);
-    let mut err = IntoWrite::new(fs::create(rt, err)?);
-    if command == "run" {
-        return Ok(run(alloc, &files, Ok(run_in(line)), &mut out, &mut err));
-    }
-    if command == "list" {
-        return Ok(list(alloc, &files, Ok(list_in(line)), &mut out, &mut err));
-    }
-    if command == "play" {
-        return Ok(play(
-            alloc,
-            &files,
-            Ok(play_in(line)),
-            &mut out,
-            &mut err,
-            &mut Nowhere,
-        ));
-    }
-    if command == "sfdp" {
-        return Ok(sfdp(alloc, &files, Ok(chip_in(line)), &mut out, &mut err));
-    }
-    let job = job_in(alloc, line)?;
+/// What the line of a command asks for.
+fn asked_in<'a>(alloc: Global, command: &str, line: &Line<'a>) -> Result<Asked<'a>, AllocError> {
     Ok(match command {
-        "build" => {
-            let out_file = line.value("--out");
-            let given = GivenBuild { job, out: out_file };
-            build(alloc, &files, Ok(given), &mut out, &mut err)
-        }
-        "check" => {
-            let script = line.value("--script");
-            check(
-                alloc,
-                &files,
-                Ok(GivenCheck { job, script }),
-                &mut out,
-                &mut err,
-            )
-        }
-        _ => {
-            let (times, map) = (line.has("--times"), line.value("--map"));
-            plan(
-                alloc,
-                &files,
-                Ok(GivenPlan { job, times, map }),
-                &mut out,
-                &mut err,
-            )
-        }
+        "build" => Asked::Build(GivenBuild {
+            job: job_in(alloc, line)?,
+            out: line.value("--out"),
+        }),
+        "check" => Asked::Check(GivenCheck {
+            job: job_in(alloc, line)?,
+            script: line.value("--script"),
+        }),
+        "run" => Asked::Run(run_in(line)),
+        "list" => Asked::List(list_in(line)),
+        "play" => Asked::Play(play_in(line)),
+        "sfdp" => Asked::Sfdp(chip_in(line)),
+        _ => Asked::Plan(GivenPlan {
+            job: job_in(alloc, line)?,
+            times: line.has("--times"),
+            map: line.value("--map"),
+        }),
     })
 }
 

@@ -5,6 +5,7 @@
 //! that isn't answered as it says is told with its line, and of each file the number of those that are.
 #![tactic(auto)]
 
+mod answers;
 mod commands;
 mod files;
 mod jobs;

@@ -1,14 +1,7 @@
 //! Command lines that the command line library reads, as the program does.
 
-use nor_base::{IntoWrite, Nowhere};
-use norprog_command::{build, check, plan, sfdp};
-use norprog_draw::draw;
-use norprog_explain::explain;
-use norprog_list::list;
-use norprog_options::{Asked, asked_by};
-use norprog_play::play;
-use norprog_run::run;
-use norprog_words::{Disk, refuse};
+use crate::answers::status_of;
+use norprog_options::asked_by;
 use std::alloc::{AllocError, Global};
 use std::{fs, io};
 
@@ -25,7 +18,8 @@ pub(crate) fn program(
     parts: &[&str],
     found: &mut String,
 ) -> io::Result<()> {
-    let status = status_of(rt, words_of(rt.alloc(), line)?.as_slice())?;
+    let words = words_of(rt.alloc(), line)?;
+    let status = status_of(rt, asked_by(rt.alloc(), words.as_slice()), OUTPUT, ERRORS)?;
     let mut text = fs::read_to_string(rt, OUTPUT)?;
     text.push_str(fs::read_to_string(rt, ERRORS)?.as_str())?;
     if parts.is_empty() {
@@ -50,24 +44,4 @@ fn words_of(alloc: Global, line: &str) -> Result<Vec<String>, AllocError> {
         words.push(String::from_str(alloc, if word == "''" { "" } else { word })?)?;
     }
     Ok(words)
-}
-
-/// Does what the words ask for.
-fn status_of(rt: &HostRuntime, words: &[String]) -> io::Result<u8> {
-    let alloc = rt.alloc();
-    let files = Disk::new(rt);
-    let mut out = IntoWrite::new(fs::create(rt, OUTPUT)?);
-    let mut err = IntoWrite::new(fs::create(rt, ERRORS)?);
-    Ok(match asked_by(alloc, words) {
-        Ok(Asked::Build(given)) => build(alloc, &files, Ok(given), &mut out, &mut err),
-        Ok(Asked::Plan(given)) => plan(alloc, &files, Ok(given), &mut out, &mut err),
-        Ok(Asked::Check(given)) => check(alloc, &files, Ok(given), &mut out, &mut err),
-        Ok(Asked::Run(given)) => run(alloc, &files, Ok(given), &mut out, &mut err),
-        Ok(Asked::List(given)) => list(alloc, &files, Ok(given), &mut out, &mut err),
-        Ok(Asked::Draw(given)) => draw(alloc, &files, Ok(given), &mut err),
-        Ok(Asked::Play(given)) => play(alloc, &files, Ok(given), &mut out, &mut err, &mut Nowhere),
-        Ok(Asked::Sfdp(given)) => sfdp(alloc, &files, Ok(given), &mut out, &mut err),
-        Ok(Asked::Explain(words)) => explain(words.as_slice(), &mut out, &mut err),
-        Err(refusal) => refuse(&refusal, &mut err),
-    })
 }
