@@ -61,11 +61,15 @@ done (Err why) flushed = Err (Build why)
 done (Ok report) (Err e) = Err (Build Write)
 done (Ok report) (Ok u) = Ok report
 
+-- why what a command line asks for isn't built
+abbrev pub RefusesToBuild : FileFacts → Result GivenBuild Refusal → Refusal → Type 0
+RefusesToBuild files line = Refuses (line_fault asks_build line) (RefusesBuild files.lacked (OfBuild files line))
+
 -- what `build` answers to a command line: the report at status 0, after the script has gone out; or a refusal
 abbrev pub AnswersBuild : FileFacts → Result GivenBuild Refusal → Option (List ℕ) → Option (List ℕ) → Type 0 → Type 0 → Option (List ℕ) → Option (List ℕ) → ℕ → Type 0
 AnswersBuild files line before after Quiet Works told_before told_after status =
     Answers (line_fault asks_build line)
     ((status ≡ 0) × PrintsReport (OfBuild files line) files.flushed before after × Quiet)
     (CutsReport (OfBuild files line) files.flushed before after)
-    (Refuses (line_fault asks_build line) (RefusesBuild files.lacked (OfBuild files line)))
+    (RefusesToBuild files line)
     Works told_before told_after status

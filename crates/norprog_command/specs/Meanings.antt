@@ -44,11 +44,15 @@ abbrev pub CutsMeaning : (Task → Type 0) → Option (List ℕ) → Option (Lis
 CutsMeaning Asked before after =
     (after ≡ before) ⊎ ((m : Parameters) × IsMeaning Asked m × Cuts before after (meaning_text m))
 
+-- why what a command line asks for isn't told
+abbrev pub RefusesToTell : FileFacts → Result GivenChip Refusal → Refusal → Type 0
+RefusesToTell files line = Refuses (line_fault asks_chip line) (RefusesMeaning files.lacked (OfChip files line))
+
 -- what `sfdp` answers to a command line: the lines of the meaning at status 0, or a refusal
 abbrev pub AnswersChip : FileFacts → Result GivenChip Refusal → Option (List ℕ) → Option (List ℕ) → Type 0 → Type 0 → Option (List ℕ) → Option (List ℕ) → ℕ → Type 0
 AnswersChip files line before after Quiet Works told_before told_after status =
     Answers (line_fault asks_chip line)
     ((status ≡ 0) × PrintsMeaning (OfChip files line) before after × Quiet)
     (CutsMeaning (OfChip files line) before after)
-    (Refuses (line_fault asks_chip line) (RefusesMeaning files.lacked (OfChip files line)))
+    (RefusesToTell files line)
     Works told_before told_after status

@@ -168,6 +168,11 @@ abbrev pub asks_times : Result GivenPlan Refusal → Bool
 asks_times (Ok given) = given.times
 asks_times (Err why) = false
 
+-- why what a command line asks for isn't planned
+abbrev pub RefusesToPlan : FileFacts → Result GivenPlan Refusal → Option (List ℕ) → Option (List ℕ) → Refusal → Type 0
+RefusesToPlan files line before after =
+    Refuses (line_fault asks_plan line) (RefusesPlan files.lacked files.flushed (asks_times line) (OfPlan files line) before after)
+
 -- what `plan` answers to a command line: the lines and the report at status 0, after the picture has gone out where one is asked
 -- for; or a refusal
 abbrev pub AnswersPlan : FileFacts → Result GivenPlan Refusal → Option (List ℕ) → Option (List ℕ) → Type 0 → Type 0 → Option (List ℕ) → Option (List ℕ) → ℕ → Type 0
@@ -175,5 +180,5 @@ AnswersPlan files line before after Quiet Works told_before told_after status =
     Answers (line_fault asks_plan line)
     ((status ≡ 0) × PrintsPlan files.flushed (asks_times line) (OfPlan files line) before after × Quiet)
     (CutsPlan files.flushed (asks_times line) (OfPlan files line) before after)
-    (Refuses (line_fault asks_plan line) (RefusesPlan files.lacked files.flushed (asks_times line) (OfPlan files line) before after))
+    (RefusesToPlan files line before after)
     Works told_before told_after status

@@ -72,11 +72,15 @@ abbrev pub CutsVerdict : (Job → Type 0) → (List ℕ → Type 0) → Option (
 CutsVerdict Asked IsText before after =
     (after ≡ before) ⊎ ((verdict : Verdict) × IsCheckVerdict Asked IsText verdict × Cuts before after (verdict_text verdict))
 
+-- why what a command line asks for isn't checked
+abbrev pub RefusesToCheck : FileFacts → Result GivenCheck Refusal → Refusal → Type 0
+RefusesToCheck files line = Refuses (line_fault asks_check line) (RefusesCheck (OrScript files.lacked) (OfCheck files line) (OfScript files line))
+
 -- what `check` answers to a command line: the line of the verdict, whose status it is, or a refusal
 abbrev pub AnswersCheck : FileFacts → Result GivenCheck Refusal → Option (List ℕ) → Option (List ℕ) → Type 0 → Type 0 → Option (List ℕ) → Option (List ℕ) → ℕ → Type 0
 AnswersCheck files line before after Quiet Works told_before told_after status =
     Answers (line_fault asks_check line)
     (PrintsJudgement (OfCheck files line) (OfScript files line) before after status × Quiet)
     (CutsVerdict (OfCheck files line) (OfScript files line) before after)
-    (Refuses (line_fault asks_check line) (RefusesCheck (OrScript files.lacked) (OfCheck files line) (OfScript files line)))
+    (RefusesToCheck files line)
     Works told_before told_after status

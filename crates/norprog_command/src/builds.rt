@@ -1,9 +1,9 @@
 //! `build`: from the texts of the command line to the script in its file.
 
 ghost use Rattle.std.specs.Prelude.{◌≡◌, ◌<◌, ◌≤◌, ◌-◌, ◌^◌, None, Some, IfOk, IfErr};
-ghost use Rattle.norprog_words.specs.Told.{line_fault, Refuses};
+ghost use Rattle.norprog_words.specs.Told.{line_fault};
 ghost use Rattle.norprog_command.specs.Asked.{asks_build};
-ghost use Rattle.norprog_command.specs.Builds.{IsBuildReport, RefusesBuild, PrintsReport, CutsReport, AnswersBuild, done};
+ghost use Rattle.norprog_command.specs.Builds.{IsBuildReport, RefusesBuild, RefusesToBuild, PrintsReport, CutsReport, AnswersBuild, done};
 ghost use Rattle.norprog_command.specs.Served.{IsJobOf, OfBuild};
 
 use crate::inputs::{inputs_of, read_texts};
@@ -52,7 +52,7 @@ fn report_build<S: Shelf, O: ByteOut>(
     ensures unprinted { IfErr result (λ _. CutsReport (OfBuild (S.facts shelf.now) given.entry) (S.facts shelf.now).flushed
         (O.held out.old) (O.held out.new)) }
     ensures asked { IfOk result (λ _. line_fault asks_build given.entry ≡ None) }
-    ensures first { IfErr result (Refuses (line_fault asks_build given.entry) (RefusesBuild (S.facts shelf.now).lacked (OfBuild (S.facts shelf.now) given.entry))) }
+    ensures first { IfErr result (RefusesToBuild (S.facts shelf.now) given.entry) }
 {
     let given = given?;
     let request = request_of(given.job).ok_or(Refusal::Usage)?;

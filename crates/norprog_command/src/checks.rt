@@ -5,10 +5,10 @@ ghost use Rattle.std.specs.Io.KnownBytes.{Appends};
 ghost use Rattle.norprog_check.specs.Line.{verdict_text};
 ghost use Rattle.norprog_words.specs.Shelf.{DoNotFail, IsTextIn, IsTextOfFile};
 ghost use Rattle.norprog_words.specs.declared.faults.FileName.TheVariants.{Script};
-ghost use Rattle.norprog_words.specs.Told.{OrScript, line_fault, Refuses};
+ghost use Rattle.norprog_words.specs.Told.{OrScript, line_fault};
 ghost use Rattle.norprog_command.specs.Asked.{asks_check};
 ghost use Rattle.norprog_command.specs.Served.{job_with, Is, IsJobOf, OfCheck, OfScript};
-ghost use Rattle.norprog_command.specs.Verdicts.{verdict_status, stop_refusal, stream_refusal, IsCheckVerdict, RefusesCheck, CutsVerdict, AnswersCheck};
+ghost use Rattle.norprog_command.specs.Verdicts.{verdict_status, stop_refusal, stream_refusal, IsCheckVerdict, RefusesCheck, RefusesToCheck, CutsVerdict, AnswersCheck};
 
 use crate::inputs::{inputs_of, read_texts};
 use crate::request::{Request, request_of};
@@ -67,8 +67,7 @@ fn report_check<S: Shelf, O: ByteOut>(
     ensures unprinted { IfErr result (λ _. CutsVerdict (OfCheck (S.facts shelf.now) given.entry) (OfScript (S.facts shelf.now) given.entry)
         (O.held out.old) (O.held out.new)) }
     ensures asked { IfOk result (λ _. line_fault asks_check given.entry ≡ None) }
-    ensures first { IfErr result (Refuses (line_fault asks_check given.entry)
-        (RefusesCheck (OrScript (S.facts shelf.now).lacked) (OfCheck (S.facts shelf.now) given.entry) (OfScript (S.facts shelf.now) given.entry))) }
+    ensures first { IfErr result (RefusesToCheck (S.facts shelf.now) given.entry) }
 {
     let given = given?;
     let request = request_of(given.job).ok_or(Refusal::Usage)?;
@@ -88,7 +87,8 @@ fn run_check<S: Shelf>(
     path: &str,
 ) -> Result<Verdict, Refusal>
     ensures checked { IfOk result (IsCheckVerdict (IsJobOf (S.facts shelf.now) request.now None) (IsTextIn (S.facts shelf.now) path.now)) }
-    ensures refused { IfErr result (RefusesCheck (OrScript (S.facts shelf.now).lacked) (IsJobOf (S.facts shelf.now) request.now None) (IsTextIn (S.facts shelf.now) path.now)) }
+    ensures refused { IfErr result (RefusesCheck (OrScript (S.facts shelf.now).lacked)
+        (IsJobOf (S.facts shelf.now) request.now None) (IsTextIn (S.facts shelf.now) path.now)) }
 {
     let mut places = Vec::new(alloc);
     let texts = read_texts(alloc, shelf, request, &mut places)?;
@@ -109,7 +109,8 @@ fn check_file<F: ByteIn + Drop, R: ByteIn>(
     requires script { DoNotFail F.count script }
     requires count { R.count content.old < 2 ^ 64 - 1 }
     ensures checked { IfOk result (IsCheckVerdict (Is (job_with inputs.now (R.ahead content.old) len None)) (IsTextOfFile F.ahead script)) }
-    ensures refused { IfErr result (RefusesCheck (λ told. told ≡ Script) (Is (job_with inputs.now (R.ahead content.old) len None)) (IsTextOfFile F.ahead script)) }
+    ensures refused { IfErr result (RefusesCheck (λ told. told ≡ Script)
+        (Is (job_with inputs.now (R.ahead content.old) len None)) (IsTextOfFile F.ahead script)) }
 {
     match script {
         ScriptFile::Twice(mut first, mut again) => {

@@ -2,9 +2,9 @@
 
 ghost use Rattle.std.specs.Prelude.{◌≡◌, ◌<◌, ◌≤◌, ◌-◌, ◌^◌, None, IfOk, IfErr};
 ghost use Rattle.norprog_words.specs.Chip.{origin_of};
-ghost use Rattle.norprog_words.specs.Told.{line_fault, Refuses};
+ghost use Rattle.norprog_words.specs.Told.{line_fault};
 ghost use Rattle.norprog_command.specs.Asked.{asks_chip};
-ghost use Rattle.norprog_command.specs.Meanings.{IsMeaning, RefusesMeaning, PrintsMeaning, CutsMeaning, AnswersChip};
+ghost use Rattle.norprog_command.specs.Meanings.{IsMeaning, RefusesMeaning, RefusesToTell, PrintsMeaning, CutsMeaning, AnswersChip};
 ghost use Rattle.norprog_command.specs.Served.{IsChipTask, IsTaskAlone, OfChip};
 
 use nor_base::{ByteOut, Meaning, Part};
@@ -49,7 +49,7 @@ fn report_meaning<S: Shelf, O: ByteOut>(
     ensures printed { IfOk result (λ _. PrintsMeaning (OfChip (S.facts shelf.now) given.entry) (O.held out.old) (O.held out.new)) }
     ensures unprinted { IfErr result (λ _. CutsMeaning (OfChip (S.facts shelf.now) given.entry) (O.held out.old) (O.held out.new)) }
     ensures asked { IfOk result (λ _. line_fault asks_chip given.entry ≡ None) }
-    ensures first { IfErr result (Refuses (line_fault asks_chip given.entry) (RefusesMeaning (S.facts shelf.now).lacked (OfChip (S.facts shelf.now) given.entry))) }
+    ensures first { IfErr result (RefusesToTell (S.facts shelf.now) given.entry) }
 {
     let given = given?;
     let chip = chip_of(given.sfdp, given.uniform, given.bits).ok_or(Refusal::Usage)?;
@@ -69,7 +69,8 @@ fn run_meaning<S: Shelf>(
     part: Part,
 ) -> Result<Meaning, Refusal>
     ensures means { IfOk result (IsMeaning (IsChipTask (S.facts shelf.now) (origin_of chip.entry) part)) }
-    ensures refused { IfErr result (RefusesMeaning (S.facts shelf.now).lacked (IsChipTask (S.facts shelf.now) (origin_of chip.entry) part)) }
+    ensures refused { IfErr result (RefusesMeaning (S.facts shelf.now).lacked
+        (IsChipTask (S.facts shelf.now) (origin_of chip.entry) part)) }
 {
     let tables = tables_of(alloc, shelf, chip)?;
     chip_alone(chip, part, tables.as_slice())

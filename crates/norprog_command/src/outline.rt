@@ -48,7 +48,8 @@ pub(crate) fn outline_of<S: Shelf, R: ByteIn>(
         (job_with inputs.now (R.ahead content.old) len (option_map S.Output.held map))) }
     ensures part { IfErr result.rest (λ _. (result.lines.items ≡ [])
         ⊎ IsPart result.lines.items (job_with inputs.now (R.ahead content.old) len (option_map S.Output.held map))) }
-    ensures refused { IfErr result.rest (StopsTask (S.facts shelf.now).lacked (Is (job_with inputs.now (R.ahead content.old) len (option_map S.Output.held map)))) }
+    ensures refused { IfErr result.rest (StopsTask (S.facts shelf.now).lacked
+        (Is (job_with inputs.now (R.ahead content.old) len (option_map S.Output.held map)))) }
 {
     let mut lines = IntoWrite::new(Vec::new(alloc));
     match plan(alloc, inputs, content, len, &mut lines) {

@@ -7,8 +7,8 @@ ghost use Rattle.nor_job.specs.declared.fault.BuildFault.TheVariants.{Write};
 ghost use Rattle.norprog_words.specs.declared.faults.Refusal.TheVariants.{Build};
 ghost use Rattle.norprog_words.specs.Files.{TellsFile};
 ghost use Rattle.norprog_words.specs.Shelf.{IsMadeApart, WhereNamed};
-ghost use Rattle.norprog_words.specs.Told.{ForAsked, line_fault, Refuses};
-ghost use Rattle.norprog_command.specs.Plans.{asks_plan, asks_times, IsPart, IsWhole, StopsTask, PrintsPlan, CutsPlan, RefusesPlan, AnswersPlan};
+ghost use Rattle.norprog_words.specs.Told.{ForAsked, line_fault};
+ghost use Rattle.norprog_command.specs.Plans.{asks_plan, asks_times, IsPart, IsWhole, StopsTask, PrintsPlan, CutsPlan, RefusesToPlan, AnswersPlan};
 ghost use Rattle.norprog_command.specs.Served.{Job, IsJobOf, AreGiven, held_in, input_files_of, OfPlan};
 
 use crate::inputs::{Texts, inputs_of, read_texts};
@@ -59,9 +59,7 @@ fn report_plan<S: Shelf, O: ByteOut>(
     ensures unprinted { IfErr result (λ _. CutsPlan (S.facts shelf.now).flushed (asks_times given.entry)
         (OfPlan (S.facts shelf.now) given.entry) (O.held out.old) (O.held out.new)) }
     ensures asked { IfOk result (λ _. line_fault asks_plan given.entry ≡ None) }
-    ensures first { IfErr result (Refuses (line_fault asks_plan given.entry)
-        (RefusesPlan (S.facts shelf.now).lacked (S.facts shelf.now).flushed (asks_times given.entry) (OfPlan (S.facts shelf.now) given.entry)
-        (O.held out.old) (O.held out.new))) }
+    ensures first { IfErr result (RefusesToPlan (S.facts shelf.now) given.entry (O.held out.old) (O.held out.new)) }
 {
     let given = given?;
     let GivenPlan { job, times, map } = given;
@@ -125,7 +123,8 @@ fn run_plan<S: Shelf>(
         (IsWhole (S.facts shelf.now).flushed times result.lines.items rest.items)) }
     ensures part { IfErr result.rest (λ _. (result.lines.items ≡ [])
         ⊎ ForAsked Job (IsJobOf (S.facts shelf.now) request.now (option_map (λ t. t.now) map.entry)) (IsPart result.lines.items)) }
-    ensures refused { IfErr result.rest (StopsTask (S.facts shelf.now).lacked (IsJobOf (S.facts shelf.now) request.now (option_map (λ t. t.now) map.entry))) }
+    ensures refused { IfErr result.rest (StopsTask (S.facts shelf.now).lacked
+        (IsJobOf (S.facts shelf.now) request.now (option_map (λ t. t.now) map.entry))) }
 {
     match open_files(alloc, shelf, request, map) {
         Ok(files) => {

@@ -40,11 +40,15 @@ done (Err why) flushed = Err why
 done (Ok drawn) (Err e) = Err (Build Write)
 done (Ok drawn) (Ok u) = Ok drawn
 
+-- why what a command line asks for isn't drawn
+abbrev pub RefusesToDraw : FileFacts → Result GivenDraw Refusal → Refusal → Type 0
+RefusesToDraw files line = Refuses (line_fault is_well_formed line) (RefusesDraw files.lacked (OfDraw files line))
+
 -- what `draw` answers to a command line: status 0 where it was drawn and has gone out, or a refusal. It prints nothing else
 abbrev pub AnswersDraw : FileFacts → Result GivenDraw Refusal → Type 0 → Type 0 → Option (List ℕ) → Option (List ℕ) → ℕ → Type 0
 AnswersDraw files line Quiet Works told_before told_after status =
     Answers (line_fault is_well_formed line)
     ((status ≡ 0) × IsDrawing (OfDraw files line) files.flushed × Quiet)
     (Unit {0})
-    (Refuses (line_fault is_well_formed line) (RefusesDraw files.lacked (OfDraw files line)))
+    (RefusesToDraw files line)
     Works told_before told_after status

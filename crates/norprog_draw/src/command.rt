@@ -1,8 +1,8 @@
 //! `draw`: from the texts of the command line to a waveform in its file.
 
 ghost use Rattle.std.specs.Prelude.{◌≡◌, ◌<◌, ◌≤◌, ◌-◌, ◌^◌, None, IfOk, IfErr};
-ghost use Rattle.norprog_words.specs.Told.{line_fault, Refuses};
-ghost use Rattle.norprog_draw.specs.Answer.{IsDrawing, RefusesDraw, AnswersDraw, done};
+ghost use Rattle.norprog_words.specs.Told.{line_fault};
+ghost use Rattle.norprog_draw.specs.Answer.{IsDrawing, RefusesDraw, RefusesToDraw, AnswersDraw, done};
 ghost use Rattle.norprog_draw.specs.Request.{is_well_formed};
 ghost use Rattle.norprog_draw.specs.Served.{IsTaskOf, OfDraw};
 
@@ -44,7 +44,7 @@ fn drawn_in<S: Shelf>(
 ) -> Result<(), Refusal>
     ensures drawn { IfOk result (λ _. IsDrawing (OfDraw (S.facts shelf.now) given.entry) (S.facts shelf.now).flushed) }
     ensures asked { IfOk result (λ _. line_fault is_well_formed given.entry ≡ None) }
-    ensures first { IfErr result (Refuses (line_fault is_well_formed given.entry) (RefusesDraw (S.facts shelf.now).lacked (OfDraw (S.facts shelf.now) given.entry))) }
+    ensures first { IfErr result (RefusesToDraw (S.facts shelf.now) given.entry) }
 {
     let request = request_of(given?).ok_or(Refusal::Usage)?;
     run_draw(alloc, shelf, request)

@@ -42,11 +42,15 @@ IsListFault Asked before after why = ForAsked ListTask Asked (StopsScript before
 abbrev pub RefusesList : (FileName → Type 0) → (ListTask → Type 0) → Option (List ℕ) → Option (List ℕ) → Refusal → Type 0
 RefusesList Lacked Asked before after = RefusesFor Lacked (IsListFault Asked before after) ⊥
 
+-- why what a command line asks for isn't listed
+abbrev pub RefusesToList : FileFacts → Result GivenList Refusal → Option (List ℕ) → Option (List ℕ) → Refusal → Type 0
+RefusesToList files line before after = Refuses (line_fault is_well_formed line) (RefusesList files.lacked (OfList files line) before after)
+
 -- what `list` answers to a command line: the listing at status 0, or a refusal
 abbrev pub AnswersList : FileFacts → Result GivenList Refusal → Option (List ℕ) → Option (List ℕ) → Type 0 → Type 0 → Option (List ℕ) → Option (List ℕ) → ℕ → Type 0
 AnswersList files line before after Quiet Works told_before told_after status =
     Answers (line_fault is_well_formed line)
     ((status ≡ 0) × PrintsListing (OfList files line) before after × Quiet)
     (CutsListing (OfList files line) before after)
-    (Refuses (line_fault is_well_formed line) (RefusesList files.lacked (OfList files line) before after))
+    (RefusesToList files line before after)
     Works told_before told_after status

@@ -1,8 +1,8 @@
 //! `list`: from the texts of the command line to the lines of a listing.
 
 ghost use Rattle.std.specs.Prelude.{◌≡◌, ◌<◌, ◌≤◌, ◌-◌, ◌^◌, None, IfOk, IfErr};
-ghost use Rattle.norprog_words.specs.Told.{line_fault, Refuses};
-ghost use Rattle.norprog_list.specs.Answer.{PrintsListing, CutsListing, RefusesList, AnswersList};
+ghost use Rattle.norprog_words.specs.Told.{line_fault};
+ghost use Rattle.norprog_list.specs.Answer.{PrintsListing, CutsListing, RefusesList, RefusesToList, AnswersList};
 ghost use Rattle.norprog_list.specs.Request.{is_well_formed};
 ghost use Rattle.norprog_list.specs.Served.{IsTaskOf, OfList};
 
@@ -49,8 +49,7 @@ fn listed_in<S: Shelf, O: ByteOut>(
     ensures printed { IfOk result (λ _. PrintsListing (OfList (S.facts shelf.now) given.entry) (O.held out.old) (O.held out.new)) }
     ensures unprinted { IfErr result (λ _. CutsListing (OfList (S.facts shelf.now) given.entry) (O.held out.old) (O.held out.new)) }
     ensures asked { IfOk result (λ _. line_fault is_well_formed given.entry ≡ None) }
-    ensures first { IfErr result (Refuses (line_fault is_well_formed given.entry)
-        (RefusesList (S.facts shelf.now).lacked (OfList (S.facts shelf.now) given.entry) (O.held out.old) (O.held out.new))) }
+    ensures first { IfErr result (RefusesToList (S.facts shelf.now) given.entry (O.held out.old) (O.held out.new)) }
 {
     let request = request_of(given?).ok_or(Refusal::Usage)?;
     run_list(alloc, shelf, request, out)
@@ -66,7 +65,8 @@ fn run_list<S: Shelf, O: ByteOut>(
     requires { O.count out.old < 2 ^ 64 - 1 }
     ensures printed { IfOk result (λ _. PrintsListing (IsTaskOf (S.facts shelf.now) request.entry) (O.held out.old) (O.held out.new)) }
     ensures unprinted { IfErr result (λ _. CutsListing (IsTaskOf (S.facts shelf.now) request.entry) (O.held out.old) (O.held out.new)) }
-    ensures refused { IfErr result (RefusesList (S.facts shelf.now).lacked (IsTaskOf (S.facts shelf.now) request.entry) (O.held out.old) (O.held out.new)) }
+    ensures refused { IfErr result (RefusesList (S.facts shelf.now).lacked
+        (IsTaskOf (S.facts shelf.now) request.entry) (O.held out.old) (O.held out.new)) }
 {
     let tables = tables_of(alloc, shelf, request.setup.chip)?;
     let (mut script, _place, _len) = shelf.open(request.script, FileName::Script)?;

@@ -66,6 +66,10 @@ abbrev pub RefusesLine : Option Refusal → (FileName → Type 0) → (PlayTask 
 RefusesLine cause Lacked Asked (Refused why) = Refuses cause (RefusesPlay Lacked Asked) why
 RefusesLine cause Lacked Asked (Device why) = (cause ≡ None) × IsGreeting Asked why
 
+-- why what a command line asks for isn't played
+abbrev pub RefusesToPlay : FileFacts → Result GivenPlay Refusal → Unplayed → Type 0
+RefusesToPlay files line = RefusesLine (line_fault is_well_formed line) files.lacked (OfPlay files line)
+
 -- nothing was printed, or a proper prefix of the line of such an ending
 abbrev pub CutsEnding : (PlayTask → Type 0) → Option (List ℕ) → Option (List ℕ) → Type 0
 CutsEnding Asked before after = (after ≡ before) ⊎ ((ending : Ending) × IsEnding Asked ending × Cuts before after (ending_line ending))

@@ -4,7 +4,7 @@ ghost use Rattle.std.specs.Prelude.{◌≡◌, ◌<◌, ◌≤◌, ◌-◌, ◌^
 ghost use Rattle.std.specs.Io.KnownBytes.{Appends};
 ghost use Rattle.nor_base.specs.Chip.{IsPossible};
 ghost use Rattle.norprog_words.specs.Told.{line_fault};
-ghost use Rattle.norprog_play.specs.Answer.{IsEnding, IsUnplayed, IsUnprinted, RefusesLine, AnswersPlay};
+ghost use Rattle.norprog_play.specs.Answer.{IsEnding, IsUnplayed, IsUnprinted, RefusesToPlay, AnswersPlay};
 ghost use Rattle.norprog_play.specs.Line.{ending_line};
 ghost use Rattle.norprog_play.specs.Played.{Ends, StopsPlay};
 ghost use Rattle.norprog_play.specs.Request.{is_well_formed};
@@ -72,7 +72,7 @@ fn report_play<S: Shelf, O: ByteOut, P: ByteOut>(
     ensures printed { IfOk result (λ ending. Appends (O.held out.old) (O.held out.new) (ending_line ending)) }
     ensures unprinted { IfErr result (IsUnprinted (OfPlay (S.facts shelf.now) given.entry) (O.held out.old) (O.held out.new)) }
     ensures asked { IfOk result (λ _. line_fault is_well_formed given.entry ≡ None) }
-    ensures first { IfErr result (RefusesLine (line_fault is_well_formed given.entry) (S.facts shelf.now).lacked (OfPlay (S.facts shelf.now) given.entry)) }
+    ensures first { IfErr result (RefusesToPlay (S.facts shelf.now) given.entry) }
 {
     let ending = ending_of(alloc, shelf, given, progress)?;
     match write_ending(&ending, out) {
@@ -91,7 +91,7 @@ fn ending_of<S: Shelf, P: ByteOut>(
     requires { P.count progress.old < 2 ^ 64 - 1 }
     ensures played { IfOk result (IsEnding (OfPlay (S.facts shelf.now) given.entry)) }
     ensures asked { IfOk result (λ _. line_fault is_well_formed given.entry ≡ None) }
-    ensures first { IfErr result (RefusesLine (line_fault is_well_formed given.entry) (S.facts shelf.now).lacked (OfPlay (S.facts shelf.now) given.entry)) }
+    ensures first { IfErr result (RefusesToPlay (S.facts shelf.now) given.entry) }
 {
     let request = request_of(given?).ok_or(Refusal::Usage)?;
     play_request(alloc, shelf, request, progress)

@@ -1,6 +1,6 @@
 //! What the chip behind a device holds, compared with a content.
 
-ghost use Rattle.std.specs.Prelude.{◌≡◌, ◌≤◌, ◌<◌, ◌-◌, ◌*◌, ◌^◌, length, MatchResult};
+ghost use Rattle.std.specs.Prelude.{◌≡◌, ◌<◌, ◌-◌, ◌*◌, ◌^◌, length, MatchResult};
 ghost use Rattle.nor_serprog.specs.Exchange.{Asks, AnswersWith, CountsReads, CountsWrites};
 ghost use Rattle.nor_serprog.specs.Protocol.{request};
 ghost use Rattle.norprog_play.specs.Compared.{read_from, HasCompared, StopsComparing};

@@ -1,11 +1,11 @@
 //! Steps done by a device, beside a chip in memory.
 
-ghost use Rattle.std.specs.Prelude.{◌≡◌, ◌≤◌, ◌<◌, ◌-◌, ◌^◌, None, Ok, length, All, MatchResult, IfOk, IfErr};
+ghost use Rattle.std.specs.Prelude.{◌≡◌, ◌≤◌, ◌<◌, ◌-◌, ◌^◌, None, Ok, length, All, MatchResult, IfOk};
 ghost use Rattle.nor_base.specs.Chip.{Chip as ShownChip};
 ghost use Rattle.nor_base.specs.Run.{played};
 ghost use Rattle.nor_base.specs.Sample.{sampled_count};
 ghost use Rattle.nor_base.specs.Step.{step_clocks};
-ghost use Rattle.norprog_play.specs.Carried.{IsCarried, AreCarried};
+ghost use Rattle.norprog_play.specs.Carried.{AreCarried};
 ghost use Rattle.norprog_play.specs.Moment.{moment, Does, DoesAll, Stops, StopsAt, IsTaken};
 
 use crate::progress::Progress;

@@ -4,7 +4,7 @@ ghost use Rattle.std.specs.Prelude.{◌≡◌, ◌<◌, ◌-◌, ◌^◌};
 ghost use Rattle.std.specs.Io.KnownBytes.{Appends};
 ghost use Rattle.nor_base.specs.Device.{Writes, Counts};
 ghost use Rattle.norprog_play.specs.Answer.{TellsState};
-ghost use Rattle.norprog_play.specs.State.{is_partial, state_line, status_of, greet_word, device_line};
+ghost use Rattle.norprog_play.specs.State.{is_partial, status_of, greet_word, device_line};
 
 use crate::ending::Ending;
 use crate::line::word;

@@ -1,6 +1,6 @@
 //! Which cells of a chip hold a byte that steps touch.
 
-ghost use Rattle.std.specs.Prelude.{◌≡◌, ◌<◌, ◌≤◌, ◌+◌, ◌/◌, ◌^◌, IfOk, IfSome, false, true, length, replicate};
+ghost use Rattle.std.specs.Prelude.{◌≡◌, ◌<◌, ◌+◌, ◌/◌, ◌^◌, IfOk, false, true, length};
 ghost use Rattle.nor_base.specs.Chip.{begins4};
 ghost use Rattle.nor_base.specs.Effect.{is_program};
 ghost use Rattle.nor_base.specs.Spelling.{mode_after};

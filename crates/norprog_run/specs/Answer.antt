@@ -66,6 +66,10 @@ CutsVerdict Asked Script Sent before after =
 abbrev pub RefusesLine : Option Refusal → (Refusal → Type 0) → Refusal → Type 0
 RefusesLine cause Work why = Refuses cause Work why ⊎ (why ≡ Build Memory)
 
+-- why what a command line asks for isn't run
+abbrev pub RefusesToRun : FileFacts → Result GivenRun Refusal → Refusal → Type 0
+RefusesToRun files line = RefusesLine (line_fault is_well_formed line) (RefusesRun (OrScript files.lacked) (OfRun files line) (OfScript files line))
+
 -- what `run` answers to a command line: the line of the verdict, whose status it is, after what the chip holds has gone out; or a
 -- refusal
 abbrev pub AnswersRun : FileFacts → Result GivenRun Refusal → Option (List ℕ) → Option (List ℕ) → Type 0 → Type 0 → Option (List ℕ) → Option (List ℕ) → ℕ → Type 0
@@ -73,5 +77,5 @@ AnswersRun files line before after Quiet Works told_before told_after status =
     Answers (line_fault is_well_formed line)
     (PrintsVerdict (OfRun files line) (OfScript files line) files.flushed before after status × Quiet)
     (CutsVerdict (OfRun files line) (OfScript files line) files.flushed before after)
-    (RefusesLine (line_fault is_well_formed line) (RefusesRun (OrScript files.lacked) (OfRun files line) (OfScript files line)))
+    (RefusesToRun files line)
     Works told_before told_after status

@@ -5,7 +5,7 @@ ghost use Rattle.std.specs.Io.KnownBytes.{Appends};
 ghost use Rattle.norprog_words.specs.Shelf.{DoNotFail, IsTextIn, IsTextOfFile};
 ghost use Rattle.norprog_words.specs.declared.faults.FileName.TheVariants.{Script};
 ghost use Rattle.norprog_words.specs.Told.{RefusesFor, OrScript, line_fault};
-ghost use Rattle.norprog_run.specs.Answer.{WasPlayedSo, IsPlayFault, IsPlayVerdict, CutsVerdict, RefusesRun, RefusesLine, AnswersRun};
+ghost use Rattle.norprog_run.specs.Answer.{WasPlayedSo, IsPlayFault, IsPlayVerdict, CutsVerdict, RefusesRun, RefusesToRun, AnswersRun};
 ghost use Rattle.norprog_run.specs.Request.{is_well_formed};
 ghost use Rattle.norprog_run.specs.Served.{play_with, Is, IsTaskOf, OfRun, OfScript};
 ghost use Rattle.norprog_run.specs.Verdict.{verdict_line};
@@ -62,8 +62,7 @@ fn report_run<S: Shelf, O: ByteOut>(
     ensures unprinted { IfErr result (λ _. CutsVerdict (OfRun (S.facts shelf.now) given.entry)
         (OfScript (S.facts shelf.now) given.entry) (S.facts shelf.now).flushed (O.held out.old) (O.held out.new)) }
     ensures asked { IfOk result (λ _. line_fault is_well_formed given.entry ≡ None) }
-    ensures first { IfErr result (RefusesLine (line_fault is_well_formed given.entry)
-        (RefusesRun (OrScript (S.facts shelf.now).lacked) (OfRun (S.facts shelf.now) given.entry) (OfScript (S.facts shelf.now) given.entry))) }
+    ensures first { IfErr result (RefusesToRun (S.facts shelf.now) given.entry) }
 {
     let verdict = verdict_of(alloc, shelf, given)?;
     match write_verdict(&verdict, out) {
@@ -81,8 +80,7 @@ fn verdict_of<S: Shelf>(
     ensures played { IfOk result (IsPlayVerdict (OfRun (S.facts shelf.now) given.entry)
         (OfScript (S.facts shelf.now) given.entry) (S.facts shelf.now).flushed) }
     ensures asked { IfOk result (λ _. line_fault is_well_formed given.entry ≡ None) }
-    ensures first { IfErr result (RefusesLine (line_fault is_well_formed given.entry)
-        (RefusesRun (OrScript (S.facts shelf.now).lacked) (OfRun (S.facts shelf.now) given.entry) (OfScript (S.facts shelf.now) given.entry))) }
+    ensures first { IfErr result (RefusesToRun (S.facts shelf.now) given.entry) }
 {
     let request = request_of(alloc, given?)?;
     play_request(alloc, shelf, request)
@@ -154,7 +152,8 @@ fn play_file<F: ByteIn + Drop, R: ByteIn, W: ByteOut>(
     ensures played { IfOk result (WasPlayedSo (IsTextOfFile F.ahead script) inputs.now bench (R.ahead content.old) len
         (W.held out.old) (W.held out.new)) }
     ensures refused { (begun : Option (Option (List ℕ)))
-        → IfErr result (RefusesFor (λ told. told ≡ Script) (IsPlayFault (Is (play_with inputs.now bench (R.ahead content.old) len begun))) ⊥) }
+        → IfErr result (RefusesFor (λ told. told ≡ Script)
+        (IsPlayFault (Is (play_with inputs.now bench (R.ahead content.old) len begun))) ⊥) }
 {
     match script {
         ScriptFile::Twice(mut first, mut again) => play_streams(
