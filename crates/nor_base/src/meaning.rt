@@ -1,6 +1,6 @@
 //! What a chip's SFDP parameters say of it.
 
-ghost use Rattle.std.specs.Prelude.{◌≡◌, ◌↔◌, ◌<◌, ◌≤◌, ◌%◌, ◌^◌, IsSome, IfSome, ◌==◌};
+ghost use Rattle.std.specs.Prelude.{◌≡◌, ◌↔◌, ◌<◌, ◌≤◌, ◌%◌, IsSome, IfSome, ◌==◌};
 ghost use Rattle.std.specs.List.{list_any};
 ghost use Rattle.nor_base.specs.Parameters.{allows, block_size, erase_kind, erased_only_set};
 ghost use Rattle.nor_base.specs.Chip.{begins4, may_page, page_sizes};

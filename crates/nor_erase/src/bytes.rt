@@ -2,7 +2,6 @@
 
 ghost use Rattle.std.specs.Prelude.{◌≡◌, ◌≤◌, ◌<◌, ◌+◌, ◌-◌, ℕ, false, length, zip, MatchOption};
 ghost use Rattle.std.specs.List.{list_any};
-ghost use Rattle.nor_base.specs.Effect.{may_program};
 ghost use Rattle.nor_base.specs.Need.{is_due};
 ghost use Rattle.nor_erase.specs.Bytes.{any_pair, raises_bit, is_kept, is_due_over, IsFirstDue, NoneDue};
 

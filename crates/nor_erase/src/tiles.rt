@@ -1,7 +1,6 @@
 //! The blocks of a run, and the pages of a gap.
 
-ghost use Rattle.std.specs.Prelude.{◌≡◌, ◌≤◌, ◌+◌, ◌-◌, ◌/◌, ◌%◌, ◌++◌, ◌==◌, ◌&&◌, length, flat_map, nat_le, IfOk, MatchOption};
-ghost use Rattle.nor_base.specs.Units.{pages};
+ghost use Rattle.std.specs.Prelude.{◌≡◌, ◌≤◌, ◌+◌, ◌-◌, ◌%◌, ◌==◌, ◌&&◌, length, nat_le, IfOk, MatchOption};
 ghost use Rattle.nor_erase.specs.Tiles.{IsLargestAt, NoneFits, AddsTiles, AddsPages, differs_from};
 
 use nor_base::{Meaning, Strategy};

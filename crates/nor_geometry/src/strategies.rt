@@ -1,6 +1,6 @@
 //! By which opcodes and how many address bytes a chip is driven.
 
-ghost use Rattle.std.specs.Prelude.{◌≡◌, ◌≤◌, ◌^◌, ◌*◌, ◌&&◌, nat_lt, length, is_some};
+ghost use Rattle.std.specs.Prelude.{◌≡◌, ◌*◌, ◌&&◌, nat_lt, is_some};
 ghost use Rattle.std.specs.List.{list_any};
 ghost use Rattle.nor_base.specs.Parameters.{block_size};
 ghost use Rattle.nor_base.specs.Strategies.{strategy, are_dedicated, is_dedicated, erases_in, is_least};

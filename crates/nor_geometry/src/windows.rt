@@ -1,6 +1,6 @@
 //! Windows: the parts in which a chip's content is worked on.
 
-ghost use Rattle.std.specs.Prelude.{◌≡◌, ℕ, ◌<◌, ◌≤◌, ◌+◌, ◌%◌};
+ghost use Rattle.std.specs.Prelude.{◌≡◌, ℕ, ◌%◌};
 ghost use Rattle.nor_base.specs.Accepted.{IsPowerOfTwo};
 ghost use Rattle.nor_base.specs.Blocks.{Block, IsLegalBlock};
 ghost use Rattle.nor_geometry.specs.Window.{IsWindowSize, IsUncrossed, live_size};

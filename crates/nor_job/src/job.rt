@@ -1,6 +1,6 @@
 //! What a build has to do, once its inputs are accepted.
 
-ghost use Rattle.std.specs.Prelude.{◌≡◌, ℕ, List, None, IsOk, OnOk, IfOk, IfErr};
+ghost use Rattle.std.specs.Prelude.{◌≡◌, ℕ, List, None, IsOk, IfOk, IfErr};
 ghost use Rattle.nor_base.specs.Parameters.{Parameters};
 ghost use Rattle.nor_hex.specs.Image.{Pairs};
 ghost use Rattle.nor_layout.specs.Region.{Region};

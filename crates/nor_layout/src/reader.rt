@@ -1,6 +1,6 @@
 //! The reader of a layout's text.
 
-ghost use Rattle.std.specs.Prelude.{◌≡◌, IfOk, IfErr};
+ghost use Rattle.std.specs.Prelude.{IfOk, IfErr};
 ghost use Rattle.nor_layout.specs.Region.{AreRegions};
 ghost use Rattle.nor_layout.specs.Text.{IsLayout, Refuses};
 

@@ -1,6 +1,6 @@
 //! The words of clocks that are to read the bytes expected.
 
-ghost use Rattle.std.specs.Prelude.{◌≡◌, ◌<◌, ◌≤◌, ◌-◌, ◌^◌, ◌++◌, if◌then◌else◌, None, length};
+ghost use Rattle.std.specs.Prelude.{◌<◌, ◌≤◌, ◌-◌, ◌^◌, ◌++◌, if◌then◌else◌, None, length};
 ghost use Rattle.nor_base.specs.Device.{Writes, Counts};
 ghost use Rattle.nor_base.specs.Decoding.{decode, instruction, opcode};
 ghost use Rattle.nor_base.specs.Run.{is_verify};

@@ -1,6 +1,6 @@
 //! The cells of a map as they are drawn.
 
-ghost use Rattle.std.specs.Prelude.{◌≡◌, ◌<◌, ◌≤◌, ◌+◌, ◌-◌, ◌^◌, ◌++◌, flat_map};
+ghost use Rattle.std.specs.Prelude.{◌≡◌, ◌<◌, ◌+◌, ◌-◌, ◌^◌, flat_map};
 ghost use Rattle.nor_base.specs.Device.{Writes, Counts};
 ghost use Rattle.nor_map.specs.Runs.{begins, cells, is_in, path, path_begin, row_rest, run_length, segment, segment_at, segments};
 

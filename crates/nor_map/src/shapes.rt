@@ -1,6 +1,6 @@
 //! Outlines of cells, and those of a layout's regions.
 
-ghost use Rattle.std.specs.Prelude.{◌≡◌, ◌<◌, ◌≤◌, ◌+◌, ◌/◌, ◌-◌, ◌^◌, ◌++◌};
+ghost use Rattle.std.specs.Prelude.{◌<◌, ◌+◌, ◌/◌, ◌-◌, ◌^◌};
 ghost use Rattle.nor_base.specs.Device.{Writes, Counts};
 ghost use Rattle.nor_map.specs.Shapes.{rectangle, region_shape, region_shapes, shape, span, staircase};
 

@@ -1,6 +1,6 @@
 //! Texts of any bytes in an image (W3C, Extensible Markup Language 1.0).
 
-ghost use Rattle.std.specs.Prelude.{◌<◌, ◌-◌, ◌^◌, ◌++◌};
+ghost use Rattle.std.specs.Prelude.{◌<◌, ◌-◌, ◌^◌};
 ghost use Rattle.nor_base.specs.Device.{Writes, Counts};
 ghost use Rattle.nor_map.specs.Words.{escaped, lines_of, text, told};
 

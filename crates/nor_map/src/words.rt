@@ -1,6 +1,6 @@
 //! The words of a map: the addresses of rows, the names of regions, and their list.
 
-ghost use Rattle.std.specs.Prelude.{◌≡◌, ◌<◌, ◌≤◌, ◌*◌, ◌/◌, ◌%◌, ◌-◌, ◌^◌, ◌++◌};
+ghost use Rattle.std.specs.Prelude.{◌≡◌, ◌<◌, ◌*◌, ◌/◌, ◌%◌, ◌-◌, ◌^◌};
 ghost use Rattle.nor_base.specs.Device.{Writes, Counts};
 ghost use Rattle.nor_map.specs.Grid.{scale};
 ghost use Rattle.nor_map.specs.Words.{at_cell, entries, entry, entry_begin, is_labelled, label, label_at, labels, name, name_begin, names};

@@ -1,6 +1,6 @@
 //! The writer of maps.
 
-ghost use Rattle.std.specs.Prelude.{◌≡◌, ◌<◌, ◌≤◌, ◌-◌, ◌^◌, ◌++◌, length};
+ghost use Rattle.std.specs.Prelude.{◌≡◌, ◌<◌, ◌-◌, ◌^◌};
 ghost use Rattle.nor_base.specs.Device.{Writes, Counts};
 ghost use Rattle.nor_map.specs.Constants.{blocks_legend, legend_of};
 ghost use Rattle.nor_map.specs.Map.{beside, caption, drawing, frame, head, height, map_text, marks};

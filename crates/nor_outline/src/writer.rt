@@ -1,10 +1,10 @@
 //! The lines of a unit.
 
-ghost use Rattle.std.specs.Prelude.{◌≡◌, ◌<◌, ◌+◌, ◌-◌, ◌^◌, ◌++◌, List, ℕ, length, flat_map};
+ghost use Rattle.std.specs.Prelude.{◌≡◌, ◌<◌, ◌+◌, ◌-◌, ◌^◌, List, ℕ, length, flat_map};
 ghost use Rattle.nor_base.specs.Device.{Writes, Counts};
 ghost use Rattle.nor_pages.specs.Runs.{AreBetween, unit_start};
 ghost use Rattle.nor_outline.specs.Outline.{IsOutline, IsPlanned, MayErase, erase_line, reasons};
-ghost use Rattle.nor_outline.specs.Parts.{due_in, run_line, block_text, part_text};
+ghost use Rattle.nor_outline.specs.Parts.{run_line, block_text, part_text};
 
 use crate::opcode::erase_opcode;
 use crate::reasons::put_reasons;

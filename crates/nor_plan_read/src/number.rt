@@ -1,6 +1,6 @@
 //! The numbers of a plan's lines.
 
-ghost use Rattle.std.specs.Prelude.{◌≡◌, ◌≤◌, length};
+ghost use Rattle.std.specs.Prelude.{◌≡◌, ◌≤◌};
 ghost use Rattle.nor_plan_read.specs.Number.{number_of};
 
 /// The value of digits of a radix up to 16, of either case; 0 where there is none. None where a byte is no digit, and where

@@ -2,7 +2,6 @@
 
 ghost use Rattle.std.specs.Prelude.{◌≡◌, ◌<◌, ◌-◌, ◌^◌};
 ghost use Rattle.nor_base.specs.declared.step.Step.TheVariants.{Send, Poll, Verify};
-ghost use Rattle.nor_base.specs.Run.{poll_clocks};
 ghost use Rattle.nor_base.specs.Sample.{sampled_count};
 ghost use Rattle.nor_play.specs.Turns.{Gives, PlaysStep, CountsHalt};
 ghost use Rattle.nor_play.specs.Asks.{AsksStep, AsksOnce};

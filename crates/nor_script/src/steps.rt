@@ -1,8 +1,6 @@
 //! The reader that gives a script's steps one after another.
 
-ghost use Rattle.std.specs.Prelude.{◌≡◌, ◌<◌, ◌≤◌, ◌-◌, ◌/◌, ◌^◌, true, length, IfOk, IfErr, OnOk};
-ghost use Rattle.nor_script.specs.Line.{are_pairs};
-ghost use Rattle.nor_script.specs.Parts.{SpellsBytes};
+ghost use Rattle.std.specs.Prelude.{◌≡◌, ◌<◌, ◌≤◌, ◌-◌, ◌^◌, true, length, IfOk, IfErr};
 ghost use Rattle.nor_script.specs.View.{step_of};
 ghost use Rattle.nor_script.specs.Lines.{IsFirstLine, ReadsEnd};
 ghost use Rattle.nor_script.specs.Stream.{reading, Advances, Begins, CountsRead, CountsStep, HadText, IsScriptOf, StopsReader, TellsScript};

@@ -1,6 +1,6 @@
 //! One command and its answer.
 
-ghost use Rattle.std.specs.Prelude.{◌≡◌, ◌<◌, ◌-◌, ◌^◌, [], flat_map};
+ghost use Rattle.std.specs.Prelude.{◌<◌, ◌-◌, ◌^◌, [], flat_map};
 ghost use Rattle.nor_serprog.specs.Exchange.{Fills, Meets, Answers, AnswersWith, Asks, CountsReads, CountsWrites};
 
 use crate::fault::Fault;

@@ -1,6 +1,6 @@
 //! The handshake with a device.
 
-ghost use Rattle.std.specs.Prelude.{◌≡◌, ◌<◌, ◌-◌, ◌^◌, length};
+ghost use Rattle.std.specs.Prelude.{◌≡◌, ◌<◌, ◌-◌, ◌^◌};
 ghost use Rattle.nor_serprog.specs.Greeting.{Greeted, BeginsGreeting, Tells, TellsIf, CountsGreetReads, CountsGreetWrites, offers, most};
 
 use crate::exchange::ask;

@@ -1,7 +1,6 @@
 //! One SPI operation of a device.
 
 ghost use Rattle.std.specs.Prelude.{◌≡◌, ◌<◌, ◌-◌, ◌^◌, length};
-ghost use Rattle.nor_base.specs.Decoding.{bytes_of_bits};
 ghost use Rattle.nor_serprog.specs.Protocol.{head, request};
 ghost use Rattle.nor_serprog.specs.Exchange.{Answers, AnswersWith, Asks, CountsReads, CountsWrites};
 

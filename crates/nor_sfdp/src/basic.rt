@@ -1,6 +1,6 @@
 //! The basic flash parameter table FF00h.
 
-ghost use Rattle.std.specs.Prelude.{◌≡◌, ◌≢◌, ◌<◌, ◌≤◌, ◌%◌, ◌^◌, IfOk, IfSome, MatchResult, IsTrue};
+ghost use Rattle.std.specs.Prelude.{◌≡◌, ◌≢◌, ◌<◌, ◌≤◌, ◌%◌, ◌^◌, IfOk, IfSome};
 ghost use Rattle.nor_base.specs.Accepted.{IsPowerOfTwo};
 ghost use Rattle.nor_base.specs.declared.meaning.Switch.TheVariants.{Absent};
 ghost use Rattle.nor_base.specs.declared.meaning.Width.TheVariants.{Both};

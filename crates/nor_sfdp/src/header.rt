@@ -1,6 +1,6 @@
 //! The SFDP header and the parameter headers.
 
-ghost use Rattle.std.specs.Prelude.{◌≡◌, ◌+◌, ◌*◌, ◌≤◌, ◌<◌, length, IfOk, IfSome};
+ghost use Rattle.std.specs.Prelude.{◌≡◌, ◌+◌, ◌*◌, ◌≤◌, ◌<◌, length, IfOk};
 ghost use Rattle.nor_sfdp.specs.Headers.{header_count_of, header_at, headers_of, newest, is_signed, newer, is_header_of};
 
 use crate::fault::SfdpFault;

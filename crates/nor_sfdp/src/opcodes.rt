@@ -1,6 +1,6 @@
 //! The opcodes of a chip's own instructions, no two of which may be the same.
 
-ghost use Rattle.std.specs.Prelude.{◌≡◌, ◌+◌, ◌<◌, ◌≤◌, ◌++◌, ◌==◌, length};
+ghost use Rattle.std.specs.Prelude.{◌≡◌, ◌+◌, ◌<◌, ◌≤◌, ◌++◌, ◌==◌};
 ghost use Rattle.std.specs.List.{list_any};
 ghost use Rattle.nor_base.specs.Accepted.{are_distinct, fixed_opcodes};
 ghost use Rattle.nor_sfdp.specs.Opcodes.{is_allowed, kind_opcodes, taken_opcodes};

@@ -1,6 +1,6 @@
 //! The tables behind the parameter headers.
 
-ghost use Rattle.std.specs.Prelude.{◌≡◌, ◌+◌, ◌*◌, ◌≤◌, ◌<◌, ◌^◌, length, IfSome};
+ghost use Rattle.std.specs.Prelude.{◌≡◌, ◌+◌, ◌*◌, ◌<◌, ◌^◌, length};
 ghost use Rattle.nor_sfdp.specs.Bits.{dword_at, dword_count, word, word_in};
 ghost use Rattle.std.specs.Option.{option_map};
 ghost use Rattle.nor_sfdp.specs.Tables.{cut_of, cut_where_there, is_short, table_of, tables_of};

@@ -1,6 +1,6 @@
 //! What becomes of instructions: their lines are written, or they are counted alone.
 
-ghost use Rattle.std.specs.Prelude.{◌≡◌, ◌≤◌, ◌<◌, ◌-◌, ◌^◌, ℕ, List, Option, None, IfErr};
+ghost use Rattle.std.specs.Prelude.{◌<◌, ◌-◌, ◌^◌, ℕ, List, Option, None, IfErr};
 ghost use Rattle.nor_base.specs.Device.{Writes};
 ghost use Rattle.nor_select.specs.View.{coded_of};
 ghost use Rattle.nor_steps.specs.Faults.{CountsSteps, IsOfWriting};

@@ -1,6 +1,6 @@
 //! How long a chip is busy with a plan.
 
-ghost use Rattle.std.specs.Prelude.{◌≡◌, ◌≤◌, ◌<◌, ◌+◌, ◌*◌, ◌^◌, ◌-◌, find, IfSome, sum_by};
+ghost use Rattle.std.specs.Prelude.{◌≡◌, ◌≤◌, ◌<◌, ◌+◌, ◌*◌, ◌-◌, find, IfSome};
 ghost use Rattle.nor_base.specs.Blocks.{kinds};
 ghost use Rattle.nor_times.specs.Busy.{busy_of, is_named, program_time, time_of, typical_of, worst_of};
 

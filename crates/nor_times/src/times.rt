@@ -1,7 +1,6 @@
 //! What a chip's basic table tells of its times.
 
 ghost use Rattle.std.specs.Prelude.{◌≡◌, ◌≤◌, ◌<◌, Option};
-ghost use Rattle.nor_sfdp.specs.Bits.{dword_at};
 ghost use Rattle.nor_times.specs.Times.{byte_time, erase_time, erase_unit, page_time, byte_unit, page_unit, factor, times_by, times_in, times_of};
 
 use nor_sfdp::{SfdpTable, bits, is_set, table};

@@ -1,6 +1,6 @@
 //! From the bytes of the inputs to the lines that tell the plan of their work.
 
-ghost use Rattle.std.specs.Prelude.{◌≡◌, ◌⊎◌, ◌<◌, ◌≤◌, ◌-◌, ◌+◌, ◌*◌, ◌^◌, ℕ, List, None, IfOk, IfErr};
+ghost use Rattle.std.specs.Prelude.{◌≡◌, ◌⊎◌, ◌<◌, ◌-◌, ◌+◌, ◌^◌, List, IfOk, IfErr};
 ghost use Rattle.nor_base.specs.Accepted.{IsAccepted};
 ghost use Rattle.nor_base.specs.Parameters.{Parameters};
 ghost use Rattle.nor_hex.specs.Image.{Pairs};

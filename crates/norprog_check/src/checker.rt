@@ -1,6 +1,6 @@
 //! From the bytes of inputs, script and content to a verdict.
 
-ghost use Rattle.std.specs.Prelude.{◌≡◌, ◌⊎◌, ◌<◌, ◌-◌, ◌^◌, ℕ, List, IfOk, IfErr};
+ghost use Rattle.std.specs.Prelude.{◌≡◌, ◌⊎◌, ◌<◌, ◌-◌, ◌^◌, List, IfOk, IfErr};
 ghost use Rattle.nor_base.specs.declared.step.Step.{Step};
 ghost use Rattle.nor_base.specs.Parameters.{Parameters};
 ghost use Rattle.nor_base.specs.Script.{IsScript};

@@ -1,6 +1,6 @@
 //! The line that tells a verdict.
 
-ghost use Rattle.std.specs.Prelude.{◌≡◌, ◌<◌, ◌-◌, ◌^◌};
+ghost use Rattle.std.specs.Prelude.{◌<◌, ◌-◌, ◌^◌};
 ghost use Rattle.nor_base.specs.Device.{Writes, Counts};
 ghost use Rattle.nor_check.specs.declared.verdict.Verdict.TheVariants.{No};
 ghost use Rattle.nor_check.specs.declared.verdict.Why.TheVariants as why;
