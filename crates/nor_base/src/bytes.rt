@@ -5,7 +5,7 @@ ghost use Rattle.std.specs.Prelude.{◌≡◌};
 use std::marker::Model;
 
 /// A list of bytes that owns its memory.
-#[derive(Drop, Debug)]
+#[derive(Drop)]
 pub struct Bytes {
     held: Vec<u8>,
 }

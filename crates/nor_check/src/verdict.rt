@@ -10,7 +10,7 @@ use std::alloc::AllocError;
 use thiserror::Error;
 
 /// Whether steps do a task on every chip.
-#[derive(Clone, Copy, Debug, PartialEq, Eq, Drop)]
+#[derive(Clone, Copy, PartialEq, Eq, Drop)]
 pub enum Verdict {
     /// They do.
     Yes,
@@ -24,7 +24,7 @@ pub enum Verdict {
 }
 
 /// Why steps don't do a task.
-#[derive(Clone, Copy, Debug, PartialEq, Eq, Drop)]
+#[derive(Clone, Copy, PartialEq, Eq, Drop)]
 pub enum Why {
     /// A chip goes wrong so.
     Wrong(Wrong),

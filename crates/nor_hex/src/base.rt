@@ -7,7 +7,7 @@ use crate::record::HexLine;
 
 /// What the latest extended address record says: a segment base has the address's bits 4 to 19,
 /// and a linear base its bits 16 to 31.
-#[derive(Clone, Copy, Debug)]
+#[derive(Clone, Copy)]
 pub(crate) enum Base {
     Linear(u16),
     Segment(u16),

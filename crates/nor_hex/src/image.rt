@@ -11,7 +11,7 @@ use std::marker::Model;
 
 /// The bytes that a text gives, each at its address. Clauses see an image as the list of its
 /// addresses with their bytes, the addresses rising.
-#[derive(Debug, Drop)]
+#[derive(Drop)]
 pub struct Image {
     pub(crate) segments: Segments<Global>,
 }

@@ -11,7 +11,7 @@ use std::alloc::Allocator;
 use std::collections::BTreeMap;
 
 /// A run of bytes at rising addresses: its lowest address, and the place of the first of them.
-#[derive(Clone, Copy, Debug)]
+#[derive(Clone, Copy)]
 pub(crate) struct Piece {
     pub(crate) first: u32,
     pub(crate) place: u32,

@@ -10,7 +10,7 @@ use crate::fault::HexFault;
 use std::marker::Model;
 
 /// A record of a text. Clauses see it with its data as bytes.
-#[derive(Debug, Drop)]
+#[derive(Drop)]
 pub struct HexLine<'a> {
     /// The record type, 0 to 5.
     pub kind: u8,

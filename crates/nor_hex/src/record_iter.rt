@@ -11,7 +11,7 @@ use nor_lines::{FilledLines, filled};
 use std::marker::Model;
 
 /// An iterator over the records of a text. Clauses see it as the list of what it has left.
-#[derive(Debug, Drop)]
+#[derive(Drop)]
 pub struct RecordIter<'a> {
     lines: FilledLines<'a>,
     ended: bool,

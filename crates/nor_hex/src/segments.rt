@@ -11,7 +11,7 @@ use crate::pieces::{Piece, Pieces, next_piece};
 use std::alloc::{AllocError, Allocator};
 
 /// Bytes at gapless addresses: the lowest and the highest of these, and the place of the first byte.
-#[derive(Clone, Copy, Debug)]
+#[derive(Clone, Copy)]
 pub(crate) struct Segment {
     pub(crate) first: u32,
     pub(crate) last: u32,
@@ -19,7 +19,7 @@ pub(crate) struct Segment {
 }
 
 /// Segments of rising addresses with gaps between them, over their bytes in this order.
-#[derive(Debug, Drop)]
+#[derive(Drop)]
 pub(crate) struct Segments<A: Allocator> {
     pub(crate) list: Vec<Segment, A>,
     pub(crate) bytes: Vec<u8, A>,

@@ -7,7 +7,7 @@ use nor_base::{Bytes, Part};
 use std::marker::Model;
 
 /// Where the meaning of a chip comes from.
-#[derive(Clone, Copy, Debug)]
+#[derive(Clone, Copy)]
 pub enum Source<'a> {
     /// The chip's SFDP bytes (JESD216B), and the configuration bits of its sector map.
     Sfdp {
@@ -21,7 +21,7 @@ pub enum Source<'a> {
 }
 
 /// What a build is asked for.
-#[derive(Drop, Debug)]
+#[derive(Drop)]
 pub struct Inputs<'a> {
     /// The image, as Intel HEX text.
     pub hex: &'a [u8],

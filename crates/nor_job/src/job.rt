@@ -19,7 +19,7 @@ use nor_target::{Chosen, Image};
 use std::alloc::Global;
 
 /// What a build has to do.
-#[derive(Drop, Debug)]
+#[derive(Drop)]
 pub struct Job {
     /// The image of the text.
     pub image: Image,

@@ -11,14 +11,14 @@ use std::alloc::Global;
 use std::marker::Model;
 
 /// The addresses from `start` to `end`, both included.
-#[derive(Clone, Copy, Debug)]
+#[derive(Clone, Copy)]
 pub(crate) struct Interval {
     start: u32,
     end: u32,
 }
 
 /// A set of addresses: every address, or those of some regions.
-#[derive(Drop, Debug)]
+#[derive(Drop)]
 pub struct Chosen {
     intervals: Option<Vec<Interval>>,
 }

@@ -12,7 +12,7 @@ use std::alloc::Global;
 use std::marker::Model;
 
 /// The regions of a layout, in the order of their lines. It borrows the names from the text.
-#[derive(Drop, Debug)]
+#[derive(Drop)]
 pub struct Layout<'a> {
     pub(crate) regions: Vec<Region<'a>>,
 }

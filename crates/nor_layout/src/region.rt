@@ -3,7 +3,7 @@
 use std::marker::Model;
 
 /// The addresses from `start` to `end`, both included, under a name.
-#[derive(Drop, Debug)]
+#[derive(Drop)]
 pub struct Region<'a> {
     /// Its first address.
     pub start: u32,

@@ -14,7 +14,7 @@ use std::marker::Model;
 
 /// The lines of a text that are not blank, each with its number among all lines, from 1, and
 /// without the blanks at its end. Clauses see an iterator as the list of what it has left.
-#[derive(Debug, Drop)]
+#[derive(Drop)]
 pub struct FilledLines<'a> {
     lines: Lines<'a>,
     before: u64,

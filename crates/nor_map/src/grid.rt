@@ -14,7 +14,7 @@ use std::alloc::{AllocError, Global};
 use std::marker::Model;
 
 /// The cells of a chip in rows, at most 65,536 of them in rows of at most 256, and what a plan does to each.
-#[derive(Drop, Debug)]
+#[derive(Drop)]
 pub struct Grid {
     pub(crate) size: u32,
     pub(crate) cell: u32,

@@ -13,7 +13,7 @@ use std::alloc::Global;
 use std::marker::Model;
 
 /// Writes the lines that tell the plan of the work, window after window. Its steps are counted and not written.
-#[derive(Drop, Debug)]
+#[derive(Drop)]
 pub struct PlanWriter<'m> {
     steps: StepWriter<'m>,
 }

@@ -5,7 +5,7 @@ ghost use Rattle.nor_select.specs.Coded.{plain};
 ghost use Rattle.nor_select.specs.View.{coded_of};
 
 /// What the data clocks of an instruction carry.
-#[derive(Clone, Copy, Debug)]
+#[derive(Clone, Copy)]
 pub enum Body<'a> {
     /// There are none.
     Plain,
@@ -22,7 +22,7 @@ pub enum Body<'a> {
 }
 
 /// An instruction as it goes out.
-#[derive(Clone, Copy, Debug)]
+#[derive(Clone, Copy)]
 pub struct Instr<'a> {
     /// The opcode.
     pub op: u8,

@@ -45,7 +45,7 @@ pub fn lower<'a>(
 
 /// Gives the instructions of operations that come in parts. What its calls give, one after the other, is what [`lower`]
 /// gives for all the operations.
-#[derive(Drop, Debug)]
+#[derive(Drop)]
 pub struct Lowerer<'m> {
     meaning: &'m Meaning,
     start: Start,

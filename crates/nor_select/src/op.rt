@@ -3,7 +3,7 @@
 use nor_geometry::Block;
 
 /// An operation on a chip's array. Addresses are bytes from 0 on.
-#[derive(Clone, Copy, Debug)]
+#[derive(Clone, Copy)]
 pub enum Op<'a> {
     /// Sets each bit of a block.
     Erase(Block),

@@ -11,7 +11,7 @@ use crate::fields::{bits, is_set};
 use nor_base::{QuadRead, Switch, Width};
 
 /// What a basic table tells of the page.
-#[derive(Clone, Copy, Debug)]
+#[derive(Clone, Copy)]
 pub(crate) struct Page {
     /// Bytes; the least number that it may be where it is open.
     pub size: u32,

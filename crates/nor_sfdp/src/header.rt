@@ -6,7 +6,7 @@ ghost use Rattle.nor_sfdp.specs.Headers.{header_count_of, header_at, headers_of,
 use crate::fault::SfdpFault;
 
 /// A parameter header: which table it is for, in which revision, and where that stands.
-#[derive(Clone, Copy, Debug)]
+#[derive(Clone, Copy)]
 pub(crate) struct Header {
     /// The table's ID.
     pub id: u16,

@@ -14,7 +14,7 @@ use arrayvec::ArrayVec;
 use nor_base::Region;
 
 /// A map, and where its regions stand in the table.
-#[derive(Clone, Copy, Debug)]
+#[derive(Clone, Copy)]
 struct SectorMap {
     /// The map's ID.
     id: u32,

@@ -11,7 +11,7 @@ use byteorder::{ByteOrder, LittleEndian};
 use std::marker::Model;
 
 /// A parameter table. It borrows its DWORDs; clauses see their bytes.
-#[derive(Drop, Debug)]
+#[derive(Drop)]
 pub struct SfdpTable<'a> {
     bytes: &'a [u8],
 }
@@ -102,7 +102,7 @@ fn table_where_there<'a>(
 }
 
 /// The tables that a meaning is read from.
-#[derive(Drop, Debug)]
+#[derive(Drop)]
 pub(crate) struct Tables<'a> {
     /// The basic flash parameter table FF00h.
     pub basic: SfdpTable<'a>,

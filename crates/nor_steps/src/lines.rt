@@ -45,7 +45,7 @@ impl<W: ByteOut> InstrOut for W {
 }
 
 /// For instructions that are counted alone: it makes no clocks of them and no lines, and never fails.
-#[derive(Clone, Copy, Debug)]
+#[derive(Clone, Copy)]
 pub struct Unwritten;
 
 impl InstrOut for Unwritten {

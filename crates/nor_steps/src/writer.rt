@@ -14,7 +14,7 @@ use std::alloc::Global;
 use std::marker::Model;
 
 /// Writes the steps of the work, window after window.
-#[derive(Drop, Debug)]
+#[derive(Drop)]
 pub struct StepWriter<'m> {
     pub(crate) lowerer: Lowerer<'m>,
     pub(crate) verify: bool,

@@ -11,7 +11,7 @@ use nor_plan_read::PlanLine;
 use std::marker::Model;
 
 /// How a plan is done.
-#[derive(Drop, Debug)]
+#[derive(Drop)]
 struct Job<'m> {
     meaning: &'m Meaning,
     start: Start,

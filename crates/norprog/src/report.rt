@@ -9,7 +9,7 @@ use itoa::Buffer;
 use nor_base::{ByteOut, Failed, Strategy, put_parts};
 
 /// What a build did.
-#[derive(Clone, Copy, Debug, PartialEq, Eq)]
+#[derive(Clone, Copy, PartialEq, Eq)]
 pub struct Report {
     /// By which opcodes and how many address bytes.
     pub strategy: Strategy,

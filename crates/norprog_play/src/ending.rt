@@ -4,7 +4,7 @@ use nor_base::Wrong;
 use nor_serprog::{Fault, Reason};
 
 /// How a script ends on a device.
-#[derive(Clone, Copy, Debug, PartialEq, Eq, Drop)]
+#[derive(Clone, Copy, PartialEq, Eq, Drop)]
 pub enum Ending {
     /// The device did each step, and gave the bytes that the chip in memory gave.
     Done {

@@ -10,7 +10,7 @@ use norprog_words::Refusal;
 use std::alloc::AllocError;
 
 /// Why a script isn't played.
-#[derive(Drop, Debug)]
+#[derive(Drop)]
 pub enum Unplayed {
     /// As other commands are refused.
     Refused(Refusal),

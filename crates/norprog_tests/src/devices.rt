@@ -149,7 +149,7 @@ pub(crate) fn with_devices<'d, T: Drop>(
 }
 
 /// What is done over devices.
-#[derive(Clone, Copy, Debug)]
+#[derive(Clone, Copy)]
 pub(crate) enum Work {
     Build,
     Plan,

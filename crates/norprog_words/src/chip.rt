@@ -9,7 +9,7 @@ use crate::values::{decimal, status};
 use nor_job::Source;
 
 /// Where the meaning of the chip comes from.
-#[derive(Clone, Copy, Debug)]
+#[derive(Clone, Copy)]
 pub enum Chip<'a> {
     /// The file of its SFDP bytes, and the configuration bits.
     Sfdp { file: &'a str, bits: &'a str },

@@ -18,7 +18,7 @@ use nor_sfdp::SfdpFault;
 use std::alloc::{AllocError, AllocFailed};
 
 /// A file of the command line.
-#[derive(Clone, Copy, Debug, PartialEq, Eq)]
+#[derive(Clone, Copy, PartialEq, Eq)]
 pub enum FileName {
     Hex,
     Layout,
@@ -31,7 +31,7 @@ pub enum FileName {
 }
 
 /// What stands behind the words of a refusal.
-#[derive(Clone, Copy, Debug, PartialEq, Eq)]
+#[derive(Clone, Copy, PartialEq, Eq)]
 pub(crate) enum Behind {
     Nothing,
     /// A number in decimal.
@@ -41,7 +41,7 @@ pub(crate) enum Behind {
 }
 
 /// Why a command isn't done.
-#[derive(Drop, Debug)]
+#[derive(Drop)]
 pub enum Refusal {
     /// The words are no command line, or ask for help: the text of the command line library.
     Text(String),

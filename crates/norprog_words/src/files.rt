@@ -15,7 +15,7 @@ use std::os::unix::fs::MetadataExt;
 const MOST_BYTES: u64 = 1 << 36;
 
 /// Which file of the system it is, by whatever name it was opened.
-#[derive(Clone, Copy, Debug, PartialEq, Eq)]
+#[derive(Clone, Copy, PartialEq, Eq)]
 pub struct Place {
     /// The device that the file is on.
     pub device: u64,

@@ -4,7 +4,7 @@ use std::alloc::Global;
 use std::io;
 
 /// How a device ends.
-#[derive(Clone, Copy, Debug, PartialEq, Eq)]
+#[derive(Clone, Copy, PartialEq, Eq)]
 pub(crate) enum End {
     /// It is silent.
     Silent,
