@@ -7,7 +7,7 @@ ghost use Rattle.std.specs.Prelude.{◌≡◌, ◌≤◌, ◌==◌, length, coun
 ghost use Rattle.nor_base.specs.Sample.{symbol, sample, clock_at, sampled_count};
 
 /// One clock of a transaction, by its symbol.
-#[derive(Clone, Copy, PartialEq, Eq)]
+#[derive(Clone, Copy)]
 pub enum Clock {
     /// `0`: a 0 is sent on IO0; IO2 and IO3 are held high.
     Zero,
@@ -54,7 +54,7 @@ pub enum Clock {
 }
 
 /// What the lanes do at one clock. Bit l of each mask stands for lane IOl.
-#[derive(Clone, Copy, PartialEq, Eq)]
+#[derive(Clone, Copy)]
 pub struct Sample {
     /// The lanes that the host drives.
     pub driven: u8,

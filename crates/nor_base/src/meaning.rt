@@ -11,7 +11,7 @@ use arrayvec::ArrayVec;
 use std::marker::Model;
 
 /// The family of a chip, where its part number says more than its SFDP does.
-#[derive(Clone, Copy, PartialEq, Eq)]
+#[derive(Clone, Copy)]
 pub enum Part {
     /// Nothing is known but the SFDP.
     Generic,
@@ -20,7 +20,7 @@ pub enum Part {
 }
 
 /// How many address bytes a chip's legacy opcodes take (JESD216B, basic DWORD 1, bits 18:17).
-#[derive(Clone, Copy, Debug, PartialEq, Eq)]
+#[derive(Clone, Copy, Debug)]
 pub enum Width {
     /// Three.
     Three,
@@ -31,7 +31,7 @@ pub enum Width {
 }
 
 /// How a chip enters or leaves four-byte address mode (JESD216B, basic DWORD 16).
-#[derive(Clone, Copy, Debug, PartialEq, Eq)]
+#[derive(Clone, Copy, Debug)]
 pub enum Switch {
     /// Not at all.
     Absent,
@@ -42,7 +42,7 @@ pub enum Switch {
 }
 
 /// A region of the sector map (JESD216B, FF81h).
-#[derive(Clone, Copy, PartialEq, Eq, Default)]
+#[derive(Clone, Copy, Default)]
 pub struct Region {
     /// Bytes.
     pub size: u32,
@@ -64,7 +64,7 @@ impl Region {
 }
 
 /// An erase kind (JESD216B, basic DWORDs 8 and 9, and FF84h).
-#[derive(Clone, Copy, PartialEq, Eq)]
+#[derive(Clone, Copy)]
 pub struct Erase {
     /// Bytes of a block.
     pub size: u32,
@@ -75,7 +75,7 @@ pub struct Erase {
 }
 
 /// The 1-1-4 fast read (JESD216B, basic DWORD 3).
-#[derive(Clone, Copy, PartialEq, Eq)]
+#[derive(Clone, Copy)]
 pub struct QuadRead {
     /// The legacy opcode.
     pub op: u8,
@@ -84,7 +84,7 @@ pub struct QuadRead {
 }
 
 /// Where a run of a script begins.
-#[derive(Clone, Copy, PartialEq, Eq)]
+#[derive(Clone, Copy)]
 pub struct Start {
     /// The chip is in four-byte address mode.
     pub mode4: bool,
@@ -108,7 +108,7 @@ pub enum Strategy {
 }
 
 /// What a chip's SFDP parameters say of it, where they are accepted.
-#[derive(Drop, PartialEq, Eq)]
+#[derive(Drop)]
 pub struct Meaning {
     /// Bytes: a multiple of 4096 from 4096 to 256 MiB.
     pub size: u32,

@@ -10,7 +10,7 @@ use crate::clock::clock_of;
 
 /// One step of a bus script. Its clocks are those of one transaction: chip select falls before the first and rises
 /// after the last.
-#[derive(Drop, PartialEq, Eq)]
+#[derive(Drop)]
 pub enum Step {
     /// The transaction, once.
     Send {

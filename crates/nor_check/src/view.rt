@@ -6,7 +6,7 @@ ghost use Rattle.nor_check.specs.View.{step_of};
 use nor_base::Step;
 
 /// A step that borrows its clocks and the bytes expected.
-#[derive(Clone, Copy, PartialEq, Eq, Drop)]
+#[derive(Clone, Copy, Drop)]
 pub(crate) enum StepView<'a> {
     /// As [`Step::Send`].
     Send(&'a [u8]),

@@ -69,7 +69,7 @@ fn tell(seen: &Seen<'_>, out: &mut String) -> Result<(), AllocError> {
     if !seen.body.is_empty() {
         write!(out, " {}", str::from_utf8(seen.body).unwrap_or(""))?;
     }
-    if seen.what == What::Program || seen.what == What::QuadProgram {
+    if matches!(seen.what, What::Program | What::QuadProgram) {
         for i in 0..seen.count() {
             write!(out, " {:02x}", seen.byte(i))?;
         }

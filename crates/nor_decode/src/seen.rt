@@ -8,7 +8,7 @@ use crate::clocks::{byte, level};
 use nor_base::What;
 
 /// A transaction: a row of the instruction table, or a known opcode in another form than its row's.
-#[derive(Clone, Copy, PartialEq, Eq)]
+#[derive(Clone, Copy)]
 pub struct Seen<'a> {
     /// The instruction.
     pub what: What,

@@ -3,7 +3,7 @@
 use std::marker::Model;
 
 /// So many bytes from an address on, which an erase of a kind takes at once.
-#[derive(Clone, Copy, PartialEq, Eq, Default)]
+#[derive(Clone, Copy, Default)]
 pub struct Block {
     /// The address of its first byte.
     pub start: u32,

@@ -3,7 +3,7 @@
 use crate::block::Block;
 
 /// A unit: what is erased and written as one.
-#[derive(Clone, Copy, PartialEq, Eq)]
+#[derive(Clone, Copy)]
 pub enum PlanUnit {
     /// A block is erased, and its pages are written.
     Block(Block),

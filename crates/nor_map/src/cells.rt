@@ -11,7 +11,7 @@ use nor_plan_read::PlanLine;
 use std::alloc::{AllocError, Global};
 
 /// What a line of a plan does to the bytes that it names.
-#[derive(Clone, Copy, PartialEq, Eq)]
+#[derive(Clone, Copy)]
 pub(crate) enum Work {
     /// They are erased.
     Erased,

@@ -4,7 +4,7 @@ ghost use Rattle.std.specs.Prelude.{◌≡◌};
 ghost use Rattle.nor_map.specs.Grid.{letter, state_of};
 
 /// What a plan does to a cell.
-#[derive(Clone, Copy, PartialEq, Eq)]
+#[derive(Clone, Copy)]
 pub enum State {
     /// No byte of it is chosen, erased or programmed.
     Untouched,

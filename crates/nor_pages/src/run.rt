@@ -1,7 +1,7 @@
 //! A run of bytes.
 
 /// So many bytes from an address on, which one program writes.
-#[derive(Clone, Copy, PartialEq, Eq)]
+#[derive(Clone, Copy)]
 pub struct Run {
     /// The address of the first byte.
     pub at: u32,

@@ -7,7 +7,7 @@ ghost use Rattle.nor_plan_read.specs.Parts.{erase_of, because_of, program_of};
 use crate::number::value_of;
 
 /// A line of a plan.
-#[derive(Clone, Copy, PartialEq, Eq)]
+#[derive(Clone, Copy)]
 pub enum PlanLine {
     /// A block is erased: its start and its size in bytes, and the opcode that is sent.
     Erase { start: u32, size: u32, opcode: u8 },

@@ -10,7 +10,7 @@ use nor_script::first_line;
 use std::alloc::{AllocFailed, Global};
 
 /// Why a plan isn't read.
-#[derive(Clone, Copy, PartialEq, Eq)]
+#[derive(Clone, Copy)]
 pub enum PlanFault {
     /// The text isn't that of a plan.
     NoPlan,

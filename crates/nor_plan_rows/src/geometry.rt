@@ -44,7 +44,8 @@ pub(crate) fn blocks(asked: &Asked<'_, '_>, out: &mut String) -> io::Result<()> 
         }
     }
     let first = smallest(chip, by, at);
-    if first != blocks.first().copied() {
+    let place = |block: &Block| (block.kind, block.start, block.size);
+    if first.as_ref().map(place) != blocks.first().map(place) {
         out.push_str("of which the first isn't the smallest\n")?;
     }
     if blocks.is_empty() {

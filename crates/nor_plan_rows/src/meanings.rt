@@ -56,10 +56,20 @@ pub(crate) fn put_named(
     meaning: &Meaning,
     out: &mut String,
 ) -> io::Result<()> {
-    match asked.bench.chips.iter().find(|(_, chip)| chip == meaning) {
-        Some((name, _)) => Ok(writeln!(out, "chip {name}")?),
-        None => Ok(put_meaning(meaning, out)?),
+    let this = told(asked.alloc, meaning)?;
+    for (name, chip) in &asked.bench.chips {
+        if told(asked.alloc, chip)?.as_str() == this.as_str() {
+            return Ok(writeln!(out, "chip {name}")?);
+        }
     }
+    Ok(out.push_str(this.as_str())?)
+}
+
+/// All that a chip is, as text.
+fn told(alloc: Global, meaning: &Meaning) -> Result<String, AllocError> {
+    let mut told = String::new(alloc);
+    put_meaning(meaning, &mut told)?;
+    Ok(told)
 }
 
 /// Says what a chip is.

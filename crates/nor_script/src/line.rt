@@ -12,7 +12,7 @@ use itoa::Buffer;
 use memchr::memchr;
 
 /// The kind of a step.
-#[derive(Clone, Copy, PartialEq, Eq, Drop)]
+#[derive(Clone, Copy, Drop)]
 pub(crate) enum Kind {
     Send,
     Poll,

@@ -22,7 +22,7 @@ fn checks(alloc: Global) -> Option<Result<Verdict, CheckFault>> {
 #[test]
 fn says_yes(rt: HostRuntime) {
     let said = checks(rt.alloc());
-    same(&rt, "said", said, Some(Ok(Verdict::Yes)));
+    holds(&rt, "said", said == Some(Ok(Verdict::Yes)));
 }
 
 /// With each growth refused in turn, as `tools/refused-growths` does, the fault is Memory.
@@ -64,5 +64,5 @@ fn feeds(alloc: Global) -> Option<Result<Verdict, CheckFault>> {
 #[test]
 fn says_yes_when_fed(rt: HostRuntime) {
     let said = feeds(rt.alloc());
-    same(&rt, "said", said, Some(Ok(Verdict::Yes)));
+    holds(&rt, "said", said == Some(Ok(Verdict::Yes)));
 }

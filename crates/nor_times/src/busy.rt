@@ -9,7 +9,7 @@ use nor_base::Meaning;
 use nor_plan_read::PlanLine;
 
 /// How long a chip is busy, in microseconds.
-#[derive(Clone, Copy, PartialEq, Eq)]
+#[derive(Clone, Copy)]
 pub struct Busy {
     /// Where each erase and program takes its typical time.
     pub typical: u128,

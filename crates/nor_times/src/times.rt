@@ -9,7 +9,7 @@ use nor_sfdp::{SfdpTable, bits, is_set, table};
 const BASIC: u16 = 0xFF00;
 
 /// How long a chip is busy with its erases and programs (JESD216B, FF00h DWORDs 10 and 11), in microseconds.
-#[derive(Clone, Copy, PartialEq, Eq)]
+#[derive(Clone, Copy)]
 pub struct Times {
     /// A block's typical erase, by its kind, 1 to 4. Of an absent kind it says nothing.
     pub erases: [u32; 4],

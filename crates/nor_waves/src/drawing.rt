@@ -16,7 +16,7 @@ use nor_base::{ByteOut, Failed, Step, put_parts};
 const GAP: [Levels; 4] = [Levels::IDLE; 4];
 
 /// How far it is drawn.
-#[derive(Clone, Copy, PartialEq, Eq)]
+#[derive(Clone, Copy)]
 pub(crate) struct Drawing {
     /// The tick that comes next, counted from 0 in 64 bits.
     pub tick: u64,

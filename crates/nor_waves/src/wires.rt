@@ -7,7 +7,7 @@ ghost use Rattle.nor_waves.specs.Wires.{letter, change, changes};
 use arrayvec::ArrayVec;
 
 /// The level of a wire.
-#[derive(Clone, Copy, PartialEq, Eq)]
+#[derive(Clone, Copy)]
 pub(crate) enum Level {
     Low,
     High,
@@ -18,7 +18,7 @@ pub(crate) enum Level {
 }
 
 /// The levels of the wires at a tick.
-#[derive(Clone, Copy, PartialEq, Eq)]
+#[derive(Clone, Copy)]
 pub(crate) struct Levels {
     /// Chip select, low while a transaction lasts.
     pub select: Level,

@@ -26,7 +26,7 @@ pub(crate) fn widest() -> Limits
 }
 
 /// What is known of a play before a device is asked.
-#[derive(Clone, Copy, PartialEq, Eq, Drop)]
+#[derive(Clone, Copy, Drop)]
 pub enum Early {
     /// It ends so whatever the device is.
     Ends(Ending),

@@ -10,7 +10,7 @@ use nor_play::{PlayFault, play};
 use std::alloc::{AllocError, Global};
 
 /// How a script goes on a chip in memory.
-#[derive(Clone, Copy, PartialEq, Eq, Drop)]
+#[derive(Clone, Copy, Drop)]
 pub enum Rehearsal {
     /// Nothing goes wrong, and the chip is settled at the end.
     Well {

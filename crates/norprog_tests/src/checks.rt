@@ -2,7 +2,7 @@
 
 use crate::builds::one_name;
 use crate::devices::{BLANK, content, inputs, run_check};
-use crate::same::same;
+use crate::same::{holds, same};
 use nor_samples::texts::{IMAGE, ONE_BYTE};
 use norprog::{BuildFault, Inputs};
 use norprog_check::{CheckStop, Verdict};
@@ -26,12 +26,8 @@ fn one_byte_job(alloc: Global) -> Result<Result<Verdict, CheckStop>, AllocError>
 /// Memory is not wanting.
 #[test]
 fn says_yes(rt: HostRuntime) -> Result<(), Fail> {
-    same(
-        &rt,
-        "the verdict",
-        one_byte_job(rt.alloc())?,
-        Ok(Verdict::Yes),
-    );
+    let said = one_byte_job(rt.alloc())?;
+    holds(&rt, "the verdict", said == Ok(Verdict::Yes));
     Ok(())
 }
 

@@ -26,7 +26,7 @@ pub(crate) fn one_byte_plan(
 #[test]
 fn tells_the_one_byte_job(rt: HostRuntime) -> Result<(), Fail> {
     let told = one_byte_plan(rt.alloc(), usize::MAX, 0)?;
-    same(&rt, "the report", told.answer, Ok(ONE_PROGRAM));
+    holds(&rt, "the report", told.answer == Ok(ONE_PROGRAM));
     let held = told.writer.held.as_slice();
     holds(&rt, "the line", held == ONE_LINE.as_bytes());
     Ok(())
@@ -40,7 +40,7 @@ fn a_refused_growth_is_memory(rt: HostRuntime) {
         let held = told.writer.held.as_slice();
         match answer {
             Ok(report) => {
-                same(&rt, "the report", report, ONE_PROGRAM);
+                holds(&rt, "the report", report == ONE_PROGRAM);
                 holds(&rt, "the line", held == ONE_LINE.as_bytes());
             }
             Err(fault) => {

@@ -54,7 +54,7 @@ fn play(
 fn ends(rt: &impl Abort, played: &Played<'_>) {
     let (verdict, _) = played.answer;
     let done = Verdict::Done { transactions: 4 };
-    same(rt, "the verdict", verdict, Some(done));
+    holds(rt, "the verdict", verdict == Some(done));
     same(rt, "bytes left", played.reader.ahead.len(), 1);
     let held = played.writer.held.as_slice();
     same(rt, "bytes written", held.len(), 8192);
@@ -105,7 +105,7 @@ fn devices_that_end_or_fail(rt: HostRuntime) -> Result<(), Fail> {
         let label = format!(in rt.alloc(); "{has}, {read_fails_at}, {write_fails_at}")?;
         let label = label.as_str();
         let played = play(rt.alloc(), has, read_fails_at, write_fails_at)?;
-        same(&rt, label, played.answer, (None, Some(fault)));
+        holds(&rt, label, played.answer == (None, Some(fault)));
         same(&rt, label, played.reader.ahead.len(), left);
         same(&rt, label, played.writer.held.len(), written);
         let want = (

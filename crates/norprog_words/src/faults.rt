@@ -18,7 +18,7 @@ use nor_sfdp::SfdpFault;
 use std::alloc::{AllocError, AllocFailed};
 
 /// A file of the command line.
-#[derive(Clone, Copy, PartialEq, Eq)]
+#[derive(Clone, Copy)]
 pub enum FileName {
     Hex,
     Layout,
@@ -31,7 +31,7 @@ pub enum FileName {
 }
 
 /// What stands behind the words of a refusal.
-#[derive(Clone, Copy, PartialEq, Eq)]
+#[derive(Clone, Copy)]
 pub(crate) enum Behind {
     Nothing,
     /// A number in decimal.

@@ -4,7 +4,7 @@ use std::alloc::Global;
 use std::io;
 
 /// How a device ends.
-#[derive(Clone, Copy, PartialEq, Eq)]
+#[derive(Clone, Copy)]
 pub(crate) enum End {
     /// It is silent.
     Silent,

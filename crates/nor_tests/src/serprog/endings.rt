@@ -181,12 +181,12 @@ fn jobs_end(rt: HostRuntime) -> Result<(), Fail> {
     ];
     for (text, given, sent, want, count, all) in rows {
         let (ending, put) = ends(&rt, alloc, text, given, sent, false)?;
-        same(&rt, "ending", ending, want);
+        holds(&rt, "ending", ending == want);
         same(&rt, "how many were put", put.len(), count);
         holds(&rt, "what was put", all.starts_with(put.as_slice()));
     }
     let (ending, put) = ends(&rt, alloc, ONE_BYTE, STEPS, 255, true)?;
-    same(&rt, "trusted", ending, done(3));
+    holds(&rt, "trusted", ending == done(3));
     holds(&rt, "the steps alone", PUT.ends_with(put.as_slice()));
     same(&rt, "how many were put", put.len(), 28);
     Ok(())
