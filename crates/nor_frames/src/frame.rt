@@ -1,8 +1,8 @@
 //! The clocks of an instruction.
 
-ghost use Rattle.std.specs.Prelude.{◌≡◌, ◌≤◌, ◌++◌, IfOk, IfErr, IfSome};
+ghost use Rattle.std.specs.Prelude.{◌≡◌, ◌≤◌, ◌+◌, ◌++◌, length, IfOk, IfErr, IfSome};
 ghost use Rattle.nor_select.specs.View.{coded_of, load_in};
-ghost use Rattle.nor_frames.specs.Frames.{load_len, head_of, frame, SpellsCoded};
+ghost use Rattle.nor_frames.specs.Frames.{load_clocks, load_len, head_of, frame, SpellsCoded};
 
 use crate::fault::FramesFault;
 use crate::spread::{spread1, spread4};
@@ -40,24 +40,37 @@ pub fn clocks_into(instr: &Instr<'_>, clocks: &mut Vec<u8>) -> Result<(), Frames
     let start = clocks.len();
     let lead = head.len() * 8;
     let dummies = usize::from(instr.dummies);
-    let load = body_len(&instr.body).ok_or(AllocError)?;
-    let fixed = lead.checked_add(dummies).ok_or(AllocError)?;
-    let more = fixed.checked_add(load).ok_or(AllocError)?;
-    let end = start.checked_add(more).ok_or(AllocError)?;
+    let end = end_after(start, lead, dummies, &instr.body).ok_or(AllocError)?;
     clocks.resize(end, b'-')?;
     let (_before, after) = clocks.split_at_mut(start);
     let (front, rest) = after.split_at_mut(lead);
     let (middle, last) = rest.split_at_mut(dummies);
     spread1(head.as_slice(), front);
     middle.fill(b'-');
-    match instr.body {
-        Body::Plain => {}
-        Body::Poll | Body::Read1(_) => last.fill(b'.'),
-        Body::Read4(_) => last.fill(b'='),
-        Body::Write1(bytes) => spread1(bytes, last),
-        Body::Write4(bytes) => spread4(bytes, last),
-    }
+    put_data(&instr.body, last);
     Ok(())
+}
+
+/// Puts the clocks of the data into the place for them.
+fn put_data(body: &Body<'_>, place: &mut [u8])
+    requires { length place.old ≡ load_len (load_in body.now) }
+    ensures { place.new ≡ load_clocks (load_in body.now) }
+{
+    match *body {
+        Body::Plain => {}
+        Body::Poll | Body::Read1(_) => place.fill(b'.'),
+        Body::Read4(_) => place.fill(b'='),
+        Body::Write1(bytes) => spread1(bytes, place),
+        Body::Write4(bytes) => spread4(bytes, place),
+    }
+}
+
+/// Where the clocks of an instruction end that begins there, with so many for opcode and address and so many dummies; `None`
+/// where that is more than a block of memory can have.
+fn end_after(start: usize, lead: usize, dummies: usize, body: &Body<'_>) -> Option<usize>
+    ensures { IfSome result (λ end. end ≡ start + (lead + (dummies + load_len (load_in body.now)))) }
+{
+    start.checked_add(lead.checked_add(dummies.checked_add(body_len(body)?)?)?)
 }
 
 /// How many clocks the data takes; `None` where they are more than a block of memory can have.
