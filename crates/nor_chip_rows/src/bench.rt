@@ -36,23 +36,48 @@ impl<'a> Answers for Bench<'a> {
             ..*row
         };
         match kind {
-            "symbols" => clocks::list_symbols(out),
-            "symbol" => clocks::tell_symbols(words, out),
-            "sampled" => clocks::count_sampled(words, out),
-            "verify" => clocks::tell_verify(self.alloc, words, out),
             "decode" => clocks::tell_all(self, row, out),
-            "meaning" => meanings::tell(meaning_of(self.all, words)?, out),
-            "uniform" => meanings::tell_uniform(words, out),
-            "pages" | "legal" | "program" => meanings::filter(self.all, kind, words, out),
-            "script" => scripts::read_text(self.alloc, row.given, out),
-            "fronts" => scripts::read_fronts(self.alloc, row.given, out),
-            "writable" => scripts::tell_writable(self.alloc, row.given, out),
-            "written" => scripts::write_all(self.alloc, row, out),
             "listing" => listings::tell(self, row, out),
             "chip" => chips::transact(self, row, out),
             "play" => chips::play_on(self, row, out),
             "check" => verdicts::tell(self, row, out),
-            _ => Err(ODD.into()),
+            "symbols" | "symbol" | "sampled" | "verify" => tell_clocks(
+                self.alloc, kind, words, out,
+            ),
+            "meaning" | "uniform" | "pages" | "legal" | "program" => {
+                tell_meaning(self.all, kind, words, out)
+            }
+            _ => tell_script(self.alloc, kind, row, out),
         }
+    }
+}
+
+/// What a row asks for on symbols of clocks.
+fn tell_clocks(alloc: Global, kind: &str, words: &str, out: &mut String) -> io::Result<()> {
+    match kind {
+        "symbols" => clocks::list_symbols(out),
+        "symbol" => clocks::tell_symbols(words, out),
+        "sampled" => clocks::count_sampled(words, out),
+        _ => clocks::tell_verify(alloc, words, out),
+    }
+}
+
+/// What a row asks for on a meaning.
+fn tell_meaning(all: &[Sample], kind: &str, words: &str, out: &mut String) -> io::Result<()> {
+    match kind {
+        "meaning" => meanings::tell(meaning_of(all, words)?, out),
+        "uniform" => meanings::tell_uniform(words, out),
+        _ => meanings::filter(all, kind, words, out),
+    }
+}
+
+/// What a row asks for on the text of a script.
+fn tell_script(alloc: Global, kind: &str, row: &Row<'_>, out: &mut String) -> io::Result<()> {
+    match kind {
+        "script" => scripts::read_text(alloc, row.given, out),
+        "fronts" => scripts::read_fronts(alloc, row.given, out),
+        "writable" => scripts::tell_writable(alloc, row.given, out),
+        "written" => scripts::write_all(alloc, row, out),
+        _ => Err(ODD.into()),
     }
 }

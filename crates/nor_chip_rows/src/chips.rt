@@ -4,7 +4,7 @@ use crate::bench::Bench;
 use crate::setup::Setup;
 use crate::steps::steps_of;
 use crate::words::{clocks_of, end_with, handed};
-use nor_base::{PortFault, sampled};
+use nor_base::{PortFault, Step, sampled};
 use nor_chip::{Chip, Port};
 use nor_play::{PlayFault, play};
 use nor_samples::rows::Row;
@@ -18,16 +18,29 @@ pub(crate) fn transact(bench: &mut Bench<'_>, row: &Row<'_>, out: &mut String) -
     let alloc = bench.alloc;
     let chip = set_up(bench, row.asked)?;
     for line in row.given {
-        match handed(line)? {
-            "held" => tell_held(chip.content(), out)?,
-            line => do_one(alloc, chip, line, out)?,
-        }
+        do_line(alloc, chip, handed(line)?, out)?;
     }
+    Ok(tell_end(chip, out)?)
+}
+
+/// Does the transaction of a line, or tells what the chip holds.
+fn do_line(alloc: Global, chip: &mut Chip<'_>, line: &str, out: &mut String) -> io::Result<()> {
+    match line {
+        "held" => Ok(tell_held(chip.content(), out)?),
+        line => do_one(alloc, chip, line, out),
+    }
+}
+
+/// How often the chip failed, if it did, and whether it is settled.
+fn tell_end(chip: &Chip<'_>, out: &mut String) -> Result<(), AllocError> {
     if chip.failures() > 0 {
         writeln!(out, "failures {}", chip.failures())?;
     }
-    let settled = chip.settled();
-    Ok(writeln!(out, "{}", if settled { "settled" } else { "unsettled" })?)
+    out.push_str(if chip.settled() {
+        "settled\n"
+    } else {
+        "unsettled\n"
+    })
 }
 
 /// The chip that the words say, ready, or as it is behind the rows before where they are `same`.
@@ -60,17 +73,27 @@ fn do_one(alloc: Global, chip: &mut Chip<'_>, line: &str, out: &mut String) -> i
     let clocks = clocks_of(alloc, line)?;
     let mut bytes = vec![in alloc; 0xEEu8; sampled(clocks.as_slice())]?;
     let (before, was_settled) = (Vec::from_slice(alloc, front(chip))?, chip.settled());
-    match chip.transact(clocks.as_slice(), bytes.as_mut_slice()) {
-        Ok(()) if bytes.is_empty() => writeln!(out, "done")?,
-        Ok(()) => end_with(bytes.as_slice(), out)?,
-        Err(PortFault::Failed) => writeln!(out, "failed")?,
+    let done = chip.transact(clocks.as_slice(), bytes.as_mut_slice());
+    let same = front(chip) == before.as_slice() && chip.settled() == was_settled;
+    Ok(tell_done(done, same, bytes.as_slice(), out)?)
+}
+
+/// What is read, or why it is refused and whether the chip and what was there for the bytes stayed the same.
+fn tell_done(
+    done: Result<(), PortFault>,
+    same: bool,
+    bytes: &[u8],
+    out: &mut String,
+) -> Result<(), AllocError> {
+    match done {
+        Ok(()) if bytes.is_empty() => out.push_str("done\n"),
+        Ok(()) => end_with(bytes, out),
+        Err(PortFault::Failed) => out.push_str("failed\n"),
         Err(PortFault::Wrong(why)) => {
-            let same = front(chip) == before.as_slice() && chip.settled() == was_settled;
             let kept = same && bytes.iter().all(|byte| *byte == 0xEE);
-            writeln!(out, "{why:?}{}", if kept { "" } else { ", but changed" })?;
+            writeln!(out, "{why:?}{}", if kept { "" } else { ", but changed" })
         }
     }
-    Ok(())
 }
 
 /// Plays steps with a limit of turns, on the chip that the words behind it say, and says how many transactions there were,
@@ -78,17 +101,36 @@ fn do_one(alloc: Global, chip: &mut Chip<'_>, line: &str, out: &mut String) -> i
 pub(crate) fn play_on(bench: &mut Bench<'_>, row: &Row<'_>, out: &mut String) -> io::Result<()> {
     let alloc = bench.alloc;
     let steps = steps_of(alloc, row.given)?;
-    let (limit, words) = row.asked.split_once(' ').ok_or(ODD)?;
-    let limit = u64::from(number(limit)?);
-    let chip = set_up(bench, words)?;
+    let (limit, words) = limited(row.asked)?;
+    let played = play_within(alloc, steps.as_slice(), set_up(bench, words)?, limit)?;
+    Ok(tell_played(played, out)?)
+}
+
+/// The limit that the first word says, and the words behind it.
+fn limited<'w>(words: &'w str) -> io::Result<(u64, &'w str)> {
+    let (limit, words) = words.split_once(' ').ok_or(ODD)?;
+    Ok((u64::from(number(limit)?), words))
+}
+
+/// Plays steps with a limit of turns, which isn't 0.
+fn play_within(
+    alloc: Global,
+    steps: &[Step],
+    chip: &mut Chip<'_>,
+    limit: u64,
+) -> io::Result<Result<u128, PlayFault>> {
     if limit == 0 {
         return Err(ODD.into());
     }
-    match play(alloc, steps.as_slice(), chip, limit) {
-        Ok(done) => writeln!(out, "ok {done}")?,
-        Err(PlayFault::Wrong { step, why }) => writeln!(out, "{why:?} at {step}")?,
-        Err(PlayFault::PortFailed { step }) => writeln!(out, "failed at {step}")?,
-        Err(PlayFault::Memory) => writeln!(out, "memory")?,
+    Ok(play(alloc, steps, chip, limit))
+}
+
+/// How many transactions a play had, or what went wrong at which step.
+fn tell_played(played: Result<u128, PlayFault>, out: &mut String) -> Result<(), AllocError> {
+    match played {
+        Ok(done) => writeln!(out, "ok {done}"),
+        Err(PlayFault::Wrong { step, why }) => writeln!(out, "{why:?} at {step}"),
+        Err(PlayFault::PortFailed { step }) => writeln!(out, "failed at {step}"),
+        Err(PlayFault::Memory) => out.push_str("memory\n"),
     }
-    Ok(())
 }

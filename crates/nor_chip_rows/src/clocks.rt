@@ -3,7 +3,7 @@
 use crate::bench::Bench;
 use crate::samples::{Sample, meaning_of};
 use crate::words::{clocks_of, handed};
-use nor_base::{What, clock_of, sample_of, sampled, symbol_of};
+use nor_base::{Meaning, What, clock_of, sample_of, sampled, symbol_of};
 use nor_decode::{Seen, decode, is_verify};
 use nor_samples::rows::Row;
 use nor_samples::words::ODD;
@@ -55,12 +55,22 @@ fn tell_each(all: &[Sample], words: &str, clocks: &[u8], out: &mut String) -> io
     let names = words.strip_prefix("mode4 ");
     for name in names.unwrap_or(words).split_whitespace() {
         write!(out, "{name} ")?;
-        match decode(clocks, meaning_of(all, name)?, names.is_some()) {
-            Some(seen) => tell(&seen, out)?,
-            None => writeln!(out, "None")?,
-        }
+        tell_to(meaning_of(all, name)?, clocks, names.is_some(), out)?;
     }
     Ok(())
+}
+
+/// Says of clocks what they are to a chip.
+fn tell_to(
+    meaning: &Meaning,
+    clocks: &[u8],
+    mode4: bool,
+    out: &mut String,
+) -> Result<(), AllocError> {
+    match decode(clocks, meaning, mode4) {
+        Some(seen) => tell(&seen, out),
+        None => out.push_str("None\n"),
+    }
 }
 
 /// The row of the instruction table, the address, the number of data bytes, the data clocks and the bytes that are sent.

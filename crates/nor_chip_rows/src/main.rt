@@ -18,18 +18,22 @@ mod verdicts;
 mod words;
 
 use crate::bench::Bench;
-use crate::samples::samples;
+use crate::samples::{Sample, samples};
 use nor_samples::rows::told;
 use std::{fs, io};
 
 fn main(rt: HostRuntime) -> io::Result<()> {
     let all = samples(rt.alloc())?;
     for name in rt.lines(rt.alloc()) {
-        let name = name?;
-        let text = fs::read_to_string(&rt, name.as_str())?;
-        let mut bench = Bench::new(rt.alloc(), all.as_slice());
-        let told = told(rt.alloc(), name.as_str(), text.as_str(), &mut bench)?;
+        let told = told_of(&rt, all.as_slice(), name?.as_str())?;
         print!(rt; "{told}")?;
     }
     Ok(())
+}
+
+/// What the rows of a file come to.
+fn told_of(rt: &HostRuntime, all: &[Sample], name: &str) -> io::Result<String> {
+    let text = fs::read_to_string(rt, name)?;
+    let mut bench = Bench::new(rt.alloc(), all);
+    Ok(told(rt.alloc(), name, text.as_str(), &mut bench)?)
 }

@@ -20,11 +20,8 @@ pub(crate) fn tell_uniform(words: &str, out: &mut String) -> io::Result<()> {
 
 /// Says what a chip is, nearly as `norprog sfdp` does.
 pub(crate) fn tell(meaning: &Meaning, out: &mut String) -> io::Result<()> {
-    let more = if meaning.open_page { " or more" } else { "" };
-    writeln!(out, "size {}\npage {}{more}", meaning.size, meaning.page)?;
-    let fours = [false, true].map(|mode4| meaning.begins4(&Start { mode4, quad: false }));
-    let width = meaning.width;
-    writeln!(out, "address {width:?}, four-byte first {fours:?}")?;
+    tell_sizes(meaning, out)?;
+    tell_width(meaning, out)?;
     tell_kinds(meaning, out)?;
     put_instructions(meaning, out)?;
     for region in meaning.regions.iter() {
@@ -32,6 +29,19 @@ pub(crate) fn tell(meaning: &Meaning, out: &mut String) -> io::Result<()> {
         end_with_kinds(|kind| region.allows(kind), out)?;
     }
     Ok(())
+}
+
+/// The bytes of the chip and of its page.
+fn tell_sizes(meaning: &Meaning, out: &mut String) -> Result<(), AllocError> {
+    let more = if meaning.open_page { " or more" } else { "" };
+    writeln!(out, "size {}\npage {}{more}", meaning.size, meaning.page)
+}
+
+/// The bytes of its addresses, and whether it begins with four, by the mode that it is found in.
+fn tell_width(meaning: &Meaning, out: &mut String) -> Result<(), AllocError> {
+    let fours = [false, true].map(|mode4| meaning.begins4(&Start { mode4, quad: false }));
+    let width = meaning.width;
+    writeln!(out, "address {width:?}, four-byte first {fours:?}")
 }
 
 /// The erase kinds that are there: the bytes of a block, the opcode and the dedicated one. Then all that some region allows.
@@ -68,14 +78,20 @@ pub(crate) fn filter(all: &[Sample], kind: &str, words: &str, out: &mut String) 
     let meaning = meaning_of(all, name)?;
     out.push_str(kind)?;
     for word in words.split_whitespace() {
-        let is_so = match kind {
-            "pages" => meaning.may_page(number(word)?),
-            "legal" => is_legal(meaning, byte(over)?, hexadecimal(word)?),
-            _ => may_program(meaning, byte(over)?, byte(word)?),
-        };
-        if is_so {
-            write!(out, " {word}")?;
+        if is_so(meaning, kind, over, word)? {
+            out.push(' ')?;
+            out.push_str(word)?;
         }
     }
-    Ok(writeln!(out)?)
+    Ok(out.push('\n')?)
+}
+
+/// Whether a word is a page, the address of a legal block of the kind `over` or a byte that may be programmed over the byte
+/// `over`.
+fn is_so(meaning: &Meaning, kind: &str, over: &str, word: &str) -> io::Result<bool> {
+    Ok(match kind {
+        "pages" => meaning.may_page(number(word)?),
+        "legal" => is_legal(meaning, byte(over)?, hexadecimal(word)?),
+        _ => may_program(meaning, byte(over)?, byte(word)?),
+    })
 }

@@ -6,28 +6,38 @@ use nor_base::{ByteOut, IntoWrite, Step, is_step};
 use nor_samples::rows::Row;
 use nor_samples::words::{ODD, byte};
 use nor_script::{begin, finish, read, write_step};
-use std::alloc::Global;
+use std::alloc::{AllocError, Global};
 use std::fmt::Write;
 use std::io;
 
 /// The steps of the text that the lines are, or its fault.
 pub(crate) fn read_text(alloc: Global, given: &[&str], out: &mut String) -> io::Result<()> {
-    let steps = match read(alloc, text_of(alloc, given)?.as_slice()) {
-        Ok(steps) => steps,
-        Err(fault) => return Ok(writeln!(out, "{fault:?}")?),
-    };
+    let text = text_of(alloc, given)?;
+    Ok(match read(alloc, text.as_slice()) {
+        Ok(steps) => tell_steps(steps.as_slice(), out)?,
+        Err(fault) => writeln!(out, "{fault:?}")?,
+    })
+}
+
+/// How many steps there are, and each of them.
+fn tell_steps(steps: &[Step], out: &mut String) -> Result<(), AllocError> {
     writeln!(out, "{} steps", steps.len())?;
-    for step in steps.iter() {
-        match step {
-            Step::Send { clocks } => writeln!(out, "send {}", text(clocks.as_slice()))?,
-            Step::Poll { clocks } => writeln!(out, "poll {}", text(clocks.as_slice()))?,
-            Step::Verify { clocks, expect } => {
-                write!(out, "verify {} for ", text(clocks.as_slice()))?;
-                end_with(expect.as_slice(), out)?;
-            }
-        }
+    for step in steps {
+        tell_step(step, out)?;
     }
     Ok(())
+}
+
+/// A step's kind and clocks, and the bytes that it expects.
+fn tell_step(step: &Step, out: &mut String) -> Result<(), AllocError> {
+    match step {
+        Step::Send { clocks } => writeln!(out, "send {}", text(clocks.as_slice())),
+        Step::Poll { clocks } => writeln!(out, "poll {}", text(clocks.as_slice())),
+        Step::Verify { clocks, expect } => {
+            write!(out, "verify {} for ", text(clocks.as_slice()))?;
+            end_with(expect.as_slice(), out)
+        }
+    }
 }
 
 /// Bytes as text.
@@ -41,16 +51,21 @@ pub(crate) fn read_fronts(alloc: Global, given: &[&str], out: &mut String) -> io
     let text = text_of(alloc, given)?;
     let mut before = String::new(alloc);
     for taken in 0..=text.len() {
-        let answer = match read(alloc, text.get(..taken).unwrap_or(&[])) {
-            Ok(steps) => format!(in alloc; "{} steps", steps.len())?,
-            Err(fault) => format!(in alloc; "{fault:?}")?,
-        };
+        let answer = answer_of(alloc, text.get(..taken).unwrap_or(&[]))?;
         if answer.as_str() != before.as_str() {
             writeln!(out, "{taken} {answer}")?;
         }
         before = answer;
     }
     Ok(())
+}
+
+/// The number of a text's steps, or its fault.
+fn answer_of(alloc: Global, text: &[u8]) -> Result<String, AllocError> {
+    match read(alloc, text) {
+        Ok(steps) => format!(in alloc; "{} steps", steps.len()),
+        Err(fault) => format!(in alloc; "{fault:?}"),
+    }
 }
 
 /// The text of the lines: an LF behind each that doesn't end with a backslash.
@@ -97,15 +112,17 @@ pub(crate) fn write_all(alloc: Global, row: &Row<'_>, out: &mut String) -> io::R
         word => word.parse::<u64>().ok().ok_or(ODD)?,
     };
     let mut writer = IntoWrite::new(Vec::new(alloc));
-    let mut well = begin(&mut writer).is_ok();
-    for step in steps.iter() {
-        well = well
-            && is_step(step)
-            && writer.failures() == 0
-            && write_step(step, &mut writer).is_ok();
-    }
-    if !well || writer.failures() > 0 || finish(count, &mut writer).is_err() {
+    if !write_script(steps.as_slice(), count, &mut writer) {
         return Err(ODD.into());
     }
     Ok(out.push_str(text(writer.into_inner().as_slice()))?)
+}
+
+/// Writes steps and the number of the end line, and says whether each step has a line and all was written.
+fn write_script(steps: &[Step], count: u64, writer: &mut IntoWrite<Vec<u8>>) -> bool {
+    let mut well = writer.failures() == 0 && begin(writer).is_ok();
+    for step in steps {
+        well = well && is_step(step) && writer.failures() == 0 && write_step(step, writer).is_ok();
+    }
+    well && writer.failures() == 0 && finish(count, writer).is_ok()
 }

@@ -3,30 +3,49 @@
 use crate::bench::Bench;
 use crate::setup::Setup;
 use crate::steps::steps_of;
-use nor_base::Width;
+use nor_base::{Step, Width};
 use nor_check::{CheckFault, Verdict, Why, check};
 use nor_samples::rows::Row;
 use nor_samples::words::ODD;
+use std::alloc::{AllocError, Global};
 use std::fmt::Write;
 use std::io;
 
 /// Says whether steps do the task that the words say, on each chip.
 pub(crate) fn tell(bench: &Bench<'_>, row: &Row<'_>, out: &mut String) -> io::Result<()> {
     let setup = Setup::of(bench, row.asked)?;
-    let (meaning, start) = (setup.meaning, setup.start);
     let steps = steps_of(bench.alloc, row.given)?;
-    let (have, want) = (setup.have.as_slice(), setup.wanted()?);
+    Ok(put(verdict(bench.alloc, &setup, steps.as_slice())?, out)?)
+}
+
+/// The verdict on steps, from what a chip has to what it is to hold, if there is such a chip.
+fn verdict(
+    alloc: Global,
+    setup: &Setup<'_, '_>,
+    steps: &[Step],
+) -> io::Result<Result<Verdict, CheckFault>> {
+    let (meaning, start, have) = (setup.meaning, setup.start, setup.have.as_slice());
+    let want = setup.wanted()?;
     let size = meaning.size as usize;
     if have.len() != size || want.len() != size || start.mode4 && meaning.width == Width::Three {
         return Err(ODD.into());
     }
-    match check(bench.alloc, steps.as_slice(), meaning, &start, have, &want) {
-        Ok(Verdict::Yes) => writeln!(out, "yes")?,
-        Ok(Verdict::No { step, why }) => match why {
-            Why::Wrong(why) => writeln!(out, "no at {step} wrong {}", why as u8)?,
-            Why::Differs(address) => writeln!(out, "no at {step} differs {address:08x}")?,
-        },
-        Err(CheckFault::Memory) => writeln!(out, "memory")?,
+    Ok(check(alloc, steps, meaning, &start, have, &want))
+}
+
+/// Puts a verdict, or why there is none.
+fn put(verdict: Result<Verdict, CheckFault>, out: &mut String) -> Result<(), AllocError> {
+    match verdict {
+        Ok(Verdict::Yes) => out.push_str("yes\n"),
+        Ok(Verdict::No { step, why }) => put_why(step, why, out),
+        Err(CheckFault::Memory) => out.push_str("memory\n"),
     }
-    Ok(())
+}
+
+/// Puts the step at which a chip goes wrong, and why.
+fn put_why(step: u64, why: Why, out: &mut String) -> Result<(), AllocError> {
+    match why {
+        Why::Wrong(why) => writeln!(out, "no at {step} wrong {}", why as u8),
+        Why::Differs(address) => writeln!(out, "no at {step} differs {address:08x}"),
+    }
 }

@@ -1,7 +1,7 @@
 //! Rows on how a chip is driven, and on its blocks.
 
 use crate::bench::Asked;
-use nor_base::{Start, Strategy};
+use nor_base::{Meaning, Start, Strategy};
 use nor_geometry::{Block, is_legal, legal, smallest, strategy, window_size};
 use nor_samples::words::{ODD, byte, hexadecimal};
 use std::alloc::AllocError;
@@ -38,17 +38,31 @@ pub(crate) fn blocks(asked: &Asked<'_, '_>, out: &mut String) -> io::Result<()> 
     );
     let blocks = legal(chip, by, at);
     for block in blocks.as_slice() {
-        put_block(*block, out)?;
-        if !is_legal(chip, block.kind, block.start) {
-            out.push_str("that isn't legal\n")?;
-        }
+        put_legal(chip, *block, out)?;
     }
-    let first = smallest(chip, by, at);
+    Ok(put_first(blocks.first(), smallest(chip, by, at), out)?)
+}
+
+/// Puts a block, and says it where it isn't legal.
+fn put_legal(chip: &Meaning, block: Block, out: &mut String) -> Result<(), AllocError> {
+    put_block(block, out)?;
+    if !is_legal(chip, block.kind, block.start) {
+        out.push_str("that isn't legal\n")?;
+    }
+    Ok(())
+}
+
+/// Says it where the first block isn't the smallest, and where there is none.
+fn put_first(
+    first: Option<&Block>,
+    smallest: Option<Block>,
+    out: &mut String,
+) -> Result<(), AllocError> {
     let place = |block: &Block| (block.kind, block.start, block.size);
-    if first.as_ref().map(place) != blocks.first().map(place) {
+    if smallest.as_ref().map(place) != first.map(place) {
         out.push_str("of which the first isn't the smallest\n")?;
     }
-    if blocks.is_empty() {
+    if first.is_none() {
         out.push_str("none\n")?;
     }
     Ok(())

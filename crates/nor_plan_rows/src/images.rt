@@ -28,10 +28,7 @@ pub(crate) fn put_image(image: &Image, out: &mut String) -> Result<(), AllocErro
     write!(out, "count {}", image.count())?;
     let mut next = None;
     for (address, byte) in image.iter() {
-        if next != Some(address) {
-            write!(out, "\n{address:08x}")?;
-        }
-        write!(out, " {byte:02x}")?;
+        put_byte(address, byte, next != Some(address), out)?;
         if image.at(address) != Some(byte) {
             out.push_str(" (not so by its address)")?;
         }
@@ -42,6 +39,14 @@ pub(crate) fn put_image(image: &Image, out: &mut String) -> Result<(), AllocErro
         out.push_str("\n80000000 has a byte")?;
     }
     writeln!(out)
+}
+
+/// A byte, on a new line and behind its address where it begins a run.
+fn put_byte(address: u32, byte: u8, begins: bool, out: &mut String) -> Result<(), AllocError> {
+    if begins {
+        write!(out, "\n{address:08x}")?;
+    }
+    write!(out, " {byte:02x}")
 }
 
 /// The run of an image from an address on.

@@ -37,18 +37,11 @@ fn texts_of(asked: &Asked<'_, '_>) -> io::Result<Texts> {
 /// The inputs that words say: `chip=` and `bits=` have SFDP bytes and their configuration bits, `uniform=` the size of a chip
 /// without them.
 fn inputs<'x>(asked: &Asked<'x, 'x>, texts: &'x Texts) -> io::Result<Inputs<'x>> {
-    let chip = match asked.value("uniform") {
-        Some(size) => Source::Uniform(number(size)?),
-        None => Source::Sfdp {
-            bytes: asked.bench.table(asked.value("chip").unwrap_or("none"))?,
-            bits: asked.value("bits").unwrap_or(""),
-        },
-    };
     Ok(Inputs {
         hex: &texts.hex,
         layout: texts.layout.as_deref(),
         regions: &texts.names,
-        chip,
+        chip: source_of(asked)?,
         part: part_of(asked)?,
         status: asked.value("status").map(hexadecimal).transpose()?,
         mode4: asked.has("mode4"),
@@ -59,11 +52,23 @@ fn inputs<'x>(asked: &Asked<'x, 'x>, texts: &'x Texts) -> io::Result<Inputs<'x>>
     })
 }
 
+/// Where the chip of words comes from.
+fn source_of<'x>(asked: &Asked<'x, 'x>) -> io::Result<Source<'x>> {
+    match asked.value("uniform") {
+        Some(size) => Ok(Source::Uniform(number(size)?)),
+        None => Ok(Source::Sfdp {
+            bytes: asked.bench.table(asked.value("chip").unwrap_or("none"))?,
+            bits: asked.value("bits").unwrap_or(""),
+        }),
+    }
+}
+
 /// Tells the job of inputs on a chip whose content has `len=` bytes, or why there is none.
 pub(crate) fn job(asked: &Asked<'_, '_>, out: &mut String) -> io::Result<()> {
-    let texts = texts_of(asked)?;
     let len = asked.value("len").ok_or(ODD)?.parse::<u64>();
-    match job_of(asked.alloc, &inputs(asked, &texts)?, len.ok().ok_or(ODD)?) {
+    let len = len.ok().ok_or(ODD)?;
+    let texts = texts_of(asked)?;
+    match job_of(asked.alloc, &inputs(asked, &texts)?, len) {
         Ok(job) => put_job(asked, &job, out),
         Err(fault) => put_fault(out, fault),
     }

@@ -58,16 +58,22 @@ pub(crate) fn put_chosen(chosen: &Chosen, out: &mut String) -> Result<(), AllocE
         let Some((first, last)) = from.and_then(|from| whole_run(chosen, from)) else {
             break;
         };
-        writeln!(out, "{first:08x} {last:08x}")?;
+        put_run(chosen, first, last, out)?;
         count = count.saturating_add(u64::from(last.saturating_sub(first)).saturating_add(1));
         from = last.checked_add(1);
-        let below = first.checked_sub(1);
-        let is_beside = [below, from].iter().flatten().any(|at| chosen.has(*at));
-        if is_beside || !chosen.has(first) || !chosen.has(last) {
-            out.push_str("not so by its addresses\n")?;
-        }
     }
     writeln!(out, "count {count}")
+}
+
+/// The first and last address of a run, and whether a choice has other addresses at its ends.
+fn put_run(chosen: &Chosen, first: u32, last: u32, out: &mut String) -> Result<(), AllocError> {
+    writeln!(out, "{first:08x} {last:08x}")?;
+    let beside = [first.checked_sub(1), last.checked_add(1)];
+    let is_beside = beside.iter().flatten().any(|at| chosen.has(*at));
+    if is_beside || !chosen.has(first) || !chosen.has(last) {
+        out.push_str("not so by its addresses\n")?;
+    }
+    Ok(())
 }
 
 /// The next run of a choice, whose next address isn't chosen.

@@ -23,11 +23,15 @@ use std::{fs, io};
 
 fn main(rt: HostRuntime) -> io::Result<()> {
     for name in rt.lines(rt.alloc()) {
-        let name = name?;
-        let text = fs::read_to_string(&rt, name.as_str())?;
-        let mut bench = Bench::new(rt.alloc())?;
-        let told = told(rt.alloc(), name.as_str(), text.as_str(), &mut bench)?;
+        let told = told_of(&rt, name?.as_str())?;
         print!(rt; "{told}")?;
     }
     Ok(())
+}
+
+/// What the rows of a file come to.
+fn told_of(rt: &HostRuntime, name: &str) -> io::Result<String> {
+    let text = fs::read_to_string(rt, name)?;
+    let mut bench = Bench::new(rt.alloc())?;
+    Ok(told(rt.alloc(), name, text.as_str(), &mut bench)?)
 }

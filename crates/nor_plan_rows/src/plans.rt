@@ -9,9 +9,10 @@ use nor_erase::plan;
 use nor_geometry::{PlanFault, PlanUnit, strategy, window_size};
 use nor_job::BuildFault;
 use nor_outline::write_window;
-use nor_pages::split;
+use nor_pages::{Run, split};
 use nor_samples::words::{ODD, byte, hexadecimal};
 use nor_steps::StepsFault;
+use std::alloc::AllocError;
 use std::io;
 
 /// In three-byte mode, without the quad setting.
@@ -35,13 +36,18 @@ impl Part {
             want: vec![in asked.alloc; 0xFFu8; count as usize]?,
         };
         for line in asked.given {
-            match line_words(asked.alloc, line)?.as_slice() {
-                [from, count, old, new] => part.change(from, count, "1", old, new)?,
-                [from, count, apart, old, new] => part.change(from, count, apart, old, new)?,
-                _ => return Err(ODD.into()),
-            }
+            part.take(line_words(asked.alloc, line)?.as_slice())?;
         }
         Ok(part)
+    }
+
+    /// The change that the words of a line say; without a distance the bytes stand side by side.
+    fn take(&mut self, words: &[&str]) -> io::Result<()> {
+        match words {
+            [from, count, old, new] => self.change(from, count, "1", old, new),
+            [from, count, apart, old, new] => self.change(from, count, apart, old, new),
+            _ => Err(ODD.into()),
+        }
     }
 
     /// So many bytes from a place on, each so far from the one before, hold a byte and are to hold another.
@@ -127,7 +133,12 @@ pub(crate) fn runs(asked: &Asked<'_, '_>, out: &mut String) -> io::Result<()> {
         return Err(ODD.into());
     }
     let runs = split(asked.alloc, chip, &unit, &have, &want);
-    for run in runs.ok().ok_or(ODD)?.iter() {
+    Ok(put_runs(&runs.ok().ok_or(ODD)?, out)?)
+}
+
+/// Puts the address and the number of bytes of each run.
+fn put_runs(runs: &[Run], out: &mut String) -> Result<(), AllocError> {
+    for run in runs {
         writeln!(out, "{:08x} {}", run.at, run.len)?;
     }
     Ok(())

@@ -30,9 +30,15 @@ pub(crate) fn samples(alloc: Global) -> Result<Vec<(String, Vec<u8>)>, AllocErro
 /// The bytes that words say: of a name; then each word changes what the words before it say. `N=HH` sets byte N, `cut=N`
 /// leaves the first N, `+HEX` and `+HEX*N` put more behind the last; what other keys say is left to others.
 pub(crate) fn bytes_of(asked: &Asked<'_, '_>) -> io::Result<Vec<u8>> {
-    let mut bytes = Vec::from_slice(asked.alloc, asked.bench.table(asked.word(1)?)?)?;
-    for word in asked.words.get(2..).unwrap_or(&[]) {
-        change(asked.alloc, &mut bytes, word)?;
+    let table = asked.bench.table(asked.word(1)?)?;
+    changed(asked.alloc, table, asked.words.get(2..).unwrap_or(&[]))
+}
+
+/// Bytes with the changes that words say, one after the other.
+fn changed(alloc: Global, table: &[u8], words: &[&str]) -> io::Result<Vec<u8>> {
+    let mut bytes = Vec::from_slice(alloc, table)?;
+    for word in words {
+        change(alloc, &mut bytes, word)?;
     }
     Ok(bytes)
 }
@@ -40,18 +46,30 @@ pub(crate) fn bytes_of(asked: &Asked<'_, '_>) -> io::Result<Vec<u8>> {
 /// Changes bytes as a word says.
 fn change(alloc: Global, all: &mut Vec<u8>, word: &str) -> io::Result<()> {
     if let Some(more) = word.strip_prefix('+') {
-        let (digits, times) = more.split_once('*').unwrap_or((more, "1"));
-        let more = bytes(alloc, digits)?;
-        for _ in 0..number(times)? {
-            all.extend_from_slice(&more)?;
-        }
-        return Ok(());
+        return put_more(alloc, all, more);
     }
     match word.split_once('=').ok_or(ODD)? {
         ("as" | "bits" | "part" | "id" | "at", _) => {}
         ("cut", count) => all.truncate(number(count)? as usize),
-        (place, digits) => *all.get_mut(number(place)? as usize).ok_or(ODD)? = byte(digits)?,
+        (place, digits) => set(all.as_mut_slice(), place, digits)?,
     }
+    Ok(())
+}
+
+/// Puts the bytes of digits behind the last, so many times where a `*` says it.
+fn put_more(alloc: Global, all: &mut Vec<u8>, more: &str) -> io::Result<()> {
+    let (digits, times) = more.split_once('*').unwrap_or((more, "1"));
+    let more = bytes(alloc, digits)?;
+    for _ in 0..number(times)? {
+        all.extend_from_slice(&more)?;
+    }
+    Ok(())
+}
+
+/// Sets the byte of a number.
+fn set(all: &mut [u8], place: &str, digits: &str) -> io::Result<()> {
+    let new = byte(digits)?;
+    *all.get_mut(number(place)? as usize).ok_or(ODD)? = new;
     Ok(())
 }
 
@@ -59,7 +77,12 @@ fn change(alloc: Global, all: &mut Vec<u8>, word: &str) -> io::Result<()> {
 pub(crate) fn dwords(asked: &Asked<'_, '_>, out: &mut String) -> io::Result<()> {
     let id = u16::from_str_radix(asked.value("id").ok_or(ODD)?, 16);
     let numbers = asked.value("at").ok_or(ODD)?;
-    match table(&bytes_of(asked)?, id.ok().ok_or(ODD)?) {
+    put_table(&bytes_of(asked)?, id.ok().ok_or(ODD)?, numbers, out)
+}
+
+/// The DWORDs of the table that bytes have by an identifier.
+fn put_table(bytes: &[u8], id: u16, numbers: &str, out: &mut String) -> io::Result<()> {
+    match table(bytes, id) {
         Ok(Some(table)) => put_dwords(&table, numbers, out),
         Ok(None) => Ok(out.push_str("none\n")?),
         Err(fault) => put_fault(out, BuildFault::Sfdp(fault)),
@@ -69,12 +92,17 @@ pub(crate) fn dwords(asked: &Asked<'_, '_>, out: &mut String) -> io::Result<()> 
 /// Each number with its DWORD.
 fn put_dwords(table: &SfdpTable<'_>, numbers: &str, out: &mut String) -> io::Result<()> {
     for word in numbers.split(',') {
-        match table.dword(number(word)? as usize) {
-            Some(dword) => writeln!(out, "{word} {dword:08x}")?,
-            None => writeln!(out, "{word} none")?,
-        }
+        put_dword(word, table.dword(number(word)? as usize), out)?;
     }
     Ok(())
+}
+
+/// A number with its DWORD.
+fn put_dword(word: &str, dword: Option<u32>, out: &mut String) -> Result<(), AllocError> {
+    match dword {
+        Some(dword) => writeln!(out, "{word} {dword:08x}"),
+        None => writeln!(out, "{word} none"),
+    }
 }
 
 /// From how many bytes on their first so many are refused, each time for another reason, and how many there are.

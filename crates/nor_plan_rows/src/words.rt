@@ -80,16 +80,22 @@ fn put_escape<'a>(text: &mut Vec<u8>, piece: &'a str, time: u32) -> io::Result<&
     match letter {
         "t" => text.push(b'\t')?,
         "r" => text.push(b'\r')?,
-        "#" => {
-            let digits = format!(in *text.allocator(); "{time:x}")?;
-            text.extend_from_slice(digits.as_bytes())?;
-        }
-        "x" => {
-            let (digits, rest) = rest.split_at_checked(2).ok_or(ODD)?;
-            text.push(byte(digits)?)?;
-            return Ok(rest);
-        }
+        "#" => put_time(text, time)?,
+        "x" => return put_byte(text, rest),
         _ => return Err(ODD.into()),
     }
+    Ok(rest)
+}
+
+/// Puts a number in hexadecimal.
+fn put_time(text: &mut Vec<u8>, time: u32) -> Result<(), AllocError> {
+    let digits = format!(in *text.allocator(); "{time:x}")?;
+    text.extend_from_slice(digits.as_bytes())
+}
+
+/// Puts the byte of two digits, and answers what stands behind them.
+fn put_byte<'a>(text: &mut Vec<u8>, rest: &'a str) -> io::Result<&'a str> {
+    let (digits, rest) = rest.split_at_checked(2).ok_or(ODD)?;
+    text.push(byte(digits)?)?;
     Ok(rest)
 }

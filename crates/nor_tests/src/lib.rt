@@ -15,6 +15,8 @@ mod lanes;
 #[cfg(test)]
 mod layout;
 #[cfg(test)]
+mod owned;
+#[cfg(test)]
 mod planners;
 #[cfg(test)]
 mod play;

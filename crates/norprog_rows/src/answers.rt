@@ -9,7 +9,8 @@ use norprog_options::Asked;
 use norprog_play::play;
 use norprog_run::run;
 use norprog_words::{Disk, Refusal, refuse};
-use std::{fs, io};
+use std::fs::{self, File};
+use std::io;
 
 /// Does what is asked for, or tells why the line asks for nothing. What is printed goes to files of these names. Answers the
 /// status.
@@ -19,11 +20,18 @@ pub(crate) fn status_of(
     out: &str,
     err: &str,
 ) -> io::Result<u8> {
+    let out = fs::create(rt, out)?;
+    let err = fs::create(rt, err)?;
+    Ok(status_into(rt, asked, out, err))
+}
+
+/// The status, with what is printed in these files.
+fn status_into(rt: &HostRuntime, asked: Result<Asked<'_>, Refusal>, out: File, err: File) -> u8 {
     let alloc = rt.alloc();
     let files = Disk::new(rt);
-    let mut out = IntoWrite::new(fs::create(rt, out)?);
-    let mut err = IntoWrite::new(fs::create(rt, err)?);
-    Ok(match asked {
+    let mut out = IntoWrite::new(out);
+    let mut err = IntoWrite::new(err);
+    match asked {
         Ok(Asked::Build(given)) => build(alloc, &files, Ok(given), &mut out, &mut err),
         Ok(Asked::Plan(given)) => plan(alloc, &files, Ok(given), &mut out, &mut err),
         Ok(Asked::Check(given)) => check(alloc, &files, Ok(given), &mut out, &mut err),
@@ -34,5 +42,5 @@ pub(crate) fn status_of(
         Ok(Asked::Sfdp(given)) => sfdp(alloc, &files, Ok(given), &mut out, &mut err),
         Ok(Asked::Explain(words)) => explain(words.as_slice(), &mut out, &mut err),
         Err(refusal) => refuse(&refusal, &mut err),
-    })
+    }
 }

@@ -1,6 +1,7 @@
 //! Norprog's commands, by their command lines.
 
 use crate::answers::status_of;
+use crate::files::push_text;
 use crate::line::{Line, line_of};
 use nor_base::Bytes;
 use norprog_options::Asked;
@@ -10,8 +11,8 @@ use norprog_words::{
 use std::alloc::{AllocError, Global};
 use std::{fs, io};
 
-/// The files to which outputs go that aren't sent elsewhere.
-const OUTPUTS: [&str; 2] = ["standard.output", "standard.error"];
+/// What sends each output to a file, and the file to which it goes else.
+const OUTPUTS: [(&str, &str); 2] = [(">", "standard.output"), ("2>", "standard.error")];
 
 /// Does a command line. What it prints is found, on standard output and then on standard error, and its status where that
 /// isn't 0; also that a refused build left a whole script.
@@ -22,15 +23,36 @@ pub(crate) fn command(
     found: &mut String,
 ) -> io::Result<()> {
     let line = line_of(rt.alloc(), command, words)?;
-    if let Some(word) = line.unknown {
-        return writeln!(found, "unknown: {word}").map_err(io::Error::from);
+    match line.unknown {
+        Some(word) => tell_unknown(word, found),
+        None => known_command(rt, command, &line, found),
     }
-    let status = answer_to(rt, command, &line, found)?;
+}
+
+/// Tells a word that a command doesn't know, or whose value is missing.
+pub(crate) fn tell_unknown(word: &str, found: &mut String) -> io::Result<()> {
+    Ok(writeln!(found, "unknown: {word}")?)
+}
+
+/// Does a command line whose words the command knows.
+fn known_command(
+    rt: &HostRuntime,
+    command: &str,
+    line: &Line<'_>,
+    found: &mut String,
+) -> io::Result<()> {
+    let status = answer_to(rt, command, line, found)?;
+    tell_status(status, found)?;
+    if status != 0 && command == "build" && holds_script(rt, line.value("--out").unwrap_or(""))? {
+        found.push_str("a whole script is left\n")?;
+    }
+    Ok(())
+}
+
+/// Tells a status that isn't 0.
+pub(crate) fn tell_status(status: u8, found: &mut String) -> Result<(), AllocError> {
     if status != 0 {
         writeln!(found, "status {status}")?;
-        if command == "build" && holds_script(rt, line.value("--out").unwrap_or(""))? {
-            writeln!(found, "a whole script is left")?;
-        }
     }
     Ok(())
 }
@@ -42,65 +64,88 @@ pub(crate) fn answer_to(
     line: &Line<'_>,
     found: &mut String,
 ) -> io::Result<u8> {
-    let sent = [line.value(">"), line.value("2>")];
-    let [out, err] = OUTPUTS;
+    let [(to_out, out), (to_err, err)] = OUTPUTS;
+    let out = line.value(to_out).unwrap_or(out);
+    let err = line.value(to_err).unwrap_or(err);
     let asked = asked_in(rt.alloc(), command, line)?;
-    let status = status_of(
-        rt,
-        Ok(asked),
-        sent[0].unwrap_or(out),
-        sent[1].unwrap_or(err),
-    )?;
-    for (path, sent) in OUTPUTS.into_iter().zip(sent) {
-        if sent.is_none() {
-            found.push_str(fs::read_to_string(rt, path)?.as_str())?;
+    let status = status_of(rt, Ok(asked), out, err)?;
+    push_outputs(rt, line, found)?;
+    Ok(status)
+}
+
+/// Pushes what a command printed, but for the outputs that its line sends elsewhere.
+fn push_outputs(rt: &HostRuntime, line: &Line<'_>, found: &mut String) -> io::Result<()> {
+    for (sent, path) in OUTPUTS {
+        if line.value(sent).is_none() {
+            push_text(rt, path, found)?;
         }
     }
-    Ok(status)
+    Ok(())
 }
 
 /// What the line of a command asks for.
 fn asked_in<'a>(alloc: Global, command: &str, line: &Line<'a>) -> Result<Asked<'a>, AllocError> {
     Ok(match command {
-        "build" => Asked::Build(GivenBuild {
-            job: job_in(alloc, line)?,
-            out: line.value("--out"),
-        }),
-        "check" => Asked::Check(GivenCheck {
-            job: job_in(alloc, line)?,
-            script: line.value("--script"),
-        }),
         "run" => Asked::Run(run_in(line)),
         "list" => Asked::List(list_in(line)),
         "play" => Asked::Play(play_in(line)),
         "sfdp" => Asked::Sfdp(chip_in(line)),
+        _ => asked_of(command, line, job_in(line, regions_in(alloc, line)?)),
+    })
+}
+
+/// What the line of a command asks for that has a job.
+fn asked_of<'a>(command: &str, line: &Line<'a>, job: Given<'a>) -> Asked<'a> {
+    match command {
+        "build" => Asked::Build(GivenBuild {
+            job,
+            out: line.value("--out"),
+        }),
+        "check" => Asked::Check(GivenCheck {
+            job,
+            script: line.value("--script"),
+        }),
         _ => Asked::Plan(GivenPlan {
-            job: job_in(alloc, line)?,
+            job,
             times: line.has("--times"),
             map: line.value("--map"),
         }),
-    })
+    }
 }
 
 /// Whether a file of this name is a text that has a script's last line.
 fn holds_script(rt: &HostRuntime, path: &str) -> io::Result<bool> {
-    match fs::metadata(rt, path) {
-        Ok(metadata) if metadata.is_file() => {}
-        _ => return Ok(false),
-    }
-    Ok(match String::from_utf8(fs::read(rt, path)?) {
-        Ok(text) => text.as_str().contains("end "),
-        Err(_) => false,
-    })
+    Ok(is_file(rt, path) && has_end(fs::read(rt, path)?))
 }
 
-/// The job of a line.
-fn job_in<'a>(alloc: Global, line: &Line<'a>) -> Result<Given<'a>, AllocError> {
+/// Whether there is a file of this name.
+fn is_file(rt: &HostRuntime, path: &str) -> bool {
+    match fs::metadata(rt, path) {
+        Ok(metadata) => metadata.is_file(),
+        Err(_) => false,
+    }
+}
+
+/// Whether bytes are a text that has a script's last line.
+fn has_end(bytes: Vec<u8>) -> bool {
+    match String::from_utf8(bytes) {
+        Ok(text) => text.as_str().contains("end "),
+        Err(_) => false,
+    }
+}
+
+/// The names of regions of a line.
+fn regions_in(alloc: Global, line: &Line<'_>) -> Result<Vec<Bytes>, AllocError> {
     let mut regions = Vec::new(alloc);
     for name in line.names.as_slice() {
         regions.push(Bytes::new(Vec::from_slice(alloc, name.as_bytes())?))?;
     }
-    Ok(Given {
+    Ok(regions)
+}
+
+/// The job of a line, in these regions.
+fn job_in<'a>(line: &Line<'a>, regions: Vec<Bytes>) -> Given<'a> {
+    Given {
         hex: line.value("--hex"),
         layout: line.value("--layout"),
         sfdp: line.value("--sfdp"),
@@ -115,7 +160,7 @@ fn job_in<'a>(alloc: Global, line: &Line<'a>) -> Result<Given<'a>, AllocError> {
         verify: line.has("--verify"),
         erased_only: line.has("--erased-only"),
         regions,
-    })
+    }
 }
 
 /// The chip of a line.

@@ -28,18 +28,60 @@ pub(crate) fn file_row(
     found: &mut String,
 ) -> io::Result<()> {
     let words: Vec<&str> = rest.split_whitespace().collect(rt.alloc())?;
-    match (word, words.as_slice()) {
-        ("long", [name, size]) => fs::create(rt, *name)?.set_len(number(size)? as u64),
+    words_row(rt, word, words.as_slice(), given, found)
+}
+
+/// Does a row of these words: one that makes or removes a name here, any other elsewhere.
+fn words_row(
+    rt: &HostRuntime,
+    word: &str,
+    words: &[&str],
+    given: &[&str],
+    found: &mut String,
+) -> io::Result<()> {
+    match (word, words) {
+        ("long", [name, size]) => make_long(rt, name, size),
         ("folder", [name]) => fs::create_dir(rt, *name),
         ("remove", [name]) => fs::remove_file(rt, *name),
         ("link", [name, link]) => symlink(rt, *name, *link),
         ("hard", [name, link]) => fs::hard_link(rt, *name, *link),
-        ("holds", [name]) => tell_lacking(fs::read_to_string(rt, *name)?.as_str(), given, found),
-        (_, [name, rest @ ..]) => match content_for(rt, word, name, rest, given)? {
-            Some(bytes) => fs::write(rt, *name, bytes.as_slice()),
-            None => show_row(rt, word, words.as_slice(), found),
-        },
-        (_, []) => show_row(rt, word, &[], found),
+        ("holds", [name]) => holds_row(rt, name, given, found),
+        (_, [name, rest @ ..]) => {
+            if !write_row(rt, word, name, rest, given)? {
+                show_row(rt, word, words, found)?;
+            }
+            Ok(())
+        }
+        (_, []) => unknown_row(word, found),
+    }
+}
+
+/// Makes a file of so many bytes, with nothing written to it.
+fn make_long(rt: &HostRuntime, name: &str, size: &str) -> io::Result<()> {
+    let file = fs::create(rt, name)?;
+    file.set_len(number(size)? as u64)
+}
+
+/// Tells each line that is handed over and isn't one of a file.
+fn holds_row(rt: &HostRuntime, name: &str, given: &[&str], found: &mut String) -> io::Result<()> {
+    let text = fs::read_to_string(rt, name)?;
+    Ok(tell_lacking(text.as_str(), given, found)?)
+}
+
+/// Does a row that writes the file of this name, by the words behind the name. Answers whether it is one that does.
+fn write_row(
+    rt: &HostRuntime,
+    word: &str,
+    name: &str,
+    words: &[&str],
+    given: &[&str],
+) -> io::Result<bool> {
+    match content_for(rt, word, name, words, given)? {
+        Some(bytes) => {
+            fs::write(rt, name, bytes.as_slice())?;
+            Ok(true)
+        }
+        None => Ok(false),
     }
 }
 
@@ -51,28 +93,53 @@ fn content_for(
     words: &[&str],
     given: &[&str],
 ) -> io::Result<Option<Vec<u8>>> {
-    let alloc = rt.alloc();
-    let mut bytes = match (word, words) {
-        ("file", []) => lines_of(alloc, given)?.into_bytes(),
-        ("records", [count]) => records(alloc, number(count)?)?.into_bytes(),
-        ("noise", [size]) => noise(alloc, number(size)?)?,
-        ("fill", [size, byte, ..]) => {
-            let byte = u8::from_str_radix(byte, 16).map_err(|_| bad())?;
-            vec![in alloc; byte; number(size)?]?
-        }
-        ("tables", [sample, ..]) => tables_of(alloc, sample)?.ok_or(bad())?,
-        ("patch", _) => fs::read(rt, name)?,
-        ("cut", [size]) => {
-            let mut bytes = fs::read(rt, name)?;
-            bytes.truncate(number(size)?);
-            bytes
-        }
-        _ => return Ok(None),
+    let Some(mut bytes) = bytes_for(rt, word, name, words, given)? else {
+        return Ok(None);
     };
     for patch in words.iter().skip(before_patches(word)) {
-        patch_bytes(alloc, &mut bytes, patch)?;
+        patch_bytes(rt.alloc(), &mut bytes, patch)?;
     }
     Ok(Some(bytes))
+}
+
+/// What a row writes before the changes of its bytes; None where it writes none.
+fn bytes_for(
+    rt: &HostRuntime,
+    word: &str,
+    name: &str,
+    words: &[&str],
+    given: &[&str],
+) -> io::Result<Option<Vec<u8>>> {
+    Ok(Some(match (word, words) {
+        ("file", []) => lines_of(rt.alloc(), given)?.into_bytes(),
+        ("patch", _) => fs::read(rt, name)?,
+        ("cut", [size]) => front_of(rt, name, size)?,
+        _ => return made_bytes(rt.alloc(), word, words),
+    }))
+}
+
+/// The bytes that a row makes by its words alone; None where it makes none.
+fn made_bytes(alloc: Global, word: &str, words: &[&str]) -> io::Result<Option<Vec<u8>>> {
+    Ok(Some(match (word, words) {
+        ("records", [count]) => records(alloc, number(count)?)?.into_bytes(),
+        ("noise", [size]) => noise(alloc, number(size)?)?,
+        ("fill", [size, byte, ..]) => filled(alloc, size, byte)?,
+        ("tables", [sample, ..]) => return tables_of(alloc, sample),
+        _ => return Ok(None),
+    }))
+}
+
+/// So many bytes, each the one that a word spells in hexadecimal.
+fn filled(alloc: Global, size: &str, byte: &str) -> io::Result<Vec<u8>> {
+    let byte = u8::from_str_radix(byte, 16).map_err(|_| bad())?;
+    Ok(vec![in alloc; byte; number(size)?]?)
+}
+
+/// The first bytes of a file, at most so many.
+fn front_of(rt: &HostRuntime, name: &str, size: &str) -> io::Result<Vec<u8>> {
+    let mut bytes = fs::read(rt, name)?;
+    bytes.truncate(number(size)?);
+    Ok(bytes)
 }
 
 /// How many of a row's words stand between the file's name and the changes of its bytes.
@@ -88,66 +155,114 @@ fn before_patches(word: &str) -> usize {
 /// Does a row that shows a file.
 fn show_row(rt: &HostRuntime, word: &str, words: &[&str], found: &mut String) -> io::Result<()> {
     match (word, words) {
-        ("cat", [name]) => found.push_str(fs::read_to_string(rt, *name)?.as_str())?,
-        ("script", [name]) => {
-            script_line(fs::read_to_string(rt, *name)?.as_str(), found)?;
-        }
-        ("size", [name]) => {
-            let size = fs::metadata(rt, *name)?.len();
-            writeln!(found, "{size}")?;
-        }
-        ("there", [name]) => {
-            let there = if fs::exists(rt, *name)? { "yes" } else { "no" };
-            writeln!(found, "{there}")?;
-        }
-        ("same", [one, other]) => {
-            let same = fs::read(rt, *one)?.as_slice() == fs::read(rt, *other)?.as_slice();
-            let same = if same { "yes" } else { "no" };
-            writeln!(found, "{same}")?;
-        }
-        ("changes", [one, other]) => {
-            changes(
-                fs::read(rt, *one)?.as_slice(),
-                fs::read(rt, *other)?.as_slice(),
-                found,
-            )?;
-            found.push_str("\n")?;
-        }
-        _ => writeln!(found, "unknown: {word}")?,
+        ("cat", [name]) => push_text(rt, name, found),
+        ("script", [name]) => push_script(rt, name, found),
+        ("size", [name]) => push_size(rt, name, found),
+        ("there", [name]) => push_yes_or_no(fs::exists(rt, *name)?, found),
+        ("same", [one, other]) => push_yes_or_no(is_same(rt, one, other)?, found),
+        ("changes", [one, other]) => push_differences(rt, one, other, found),
+        _ => unknown_row(word, found),
     }
-    Ok(())
+}
+
+/// Tells a row whose words mean nothing.
+fn unknown_row(word: &str, found: &mut String) -> io::Result<()> {
+    Ok(writeln!(found, "unknown: {word}")?)
+}
+
+/// Pushes the text of a file.
+pub(crate) fn push_text(rt: &HostRuntime, name: &str, found: &mut String) -> io::Result<()> {
+    Ok(found.push_str(fs::read_to_string(rt, name)?.as_str())?)
+}
+
+/// Pushes the script of a file in short.
+pub(crate) fn push_script(rt: &HostRuntime, name: &str, found: &mut String) -> io::Result<()> {
+    Ok(script_line(fs::read_to_string(rt, name)?.as_str(), found)?)
+}
+
+/// Pushes the size of a file.
+fn push_size(rt: &HostRuntime, name: &str, found: &mut String) -> io::Result<()> {
+    let size = fs::metadata(rt, name)?.len();
+    Ok(writeln!(found, "{size}")?)
+}
+
+/// Pushes whether something is so.
+fn push_yes_or_no(is: bool, found: &mut String) -> io::Result<()> {
+    Ok(found.push_str(if is { "yes\n" } else { "no\n" })?)
+}
+
+/// Whether two files have the same bytes.
+fn is_same(rt: &HostRuntime, one: &str, other: &str) -> io::Result<bool> {
+    let one = fs::read(rt, one)?;
+    let other = fs::read(rt, other)?;
+    Ok(one.as_slice() == other.as_slice())
+}
+
+/// Pushes what differs from one file to another.
+fn push_differences(
+    rt: &HostRuntime,
+    one: &str,
+    other: &str,
+    found: &mut String,
+) -> io::Result<()> {
+    let one = fs::read(rt, one)?;
+    let other = fs::read(rt, other)?;
+    changes(one.as_slice(), other.as_slice(), found)?;
+    Ok(found.push_str("\n")?)
 }
 
 /// Tells each line that is handed over and isn't one of a text.
-fn tell_lacking(text: &str, given: &[&str], found: &mut String) -> io::Result<()> {
+fn tell_lacking(text: &str, given: &[&str], found: &mut String) -> Result<(), AllocError> {
     for line in given {
         let line = line.strip_prefix("> ").unwrap_or(line);
-        if !text.lines().any(|other| other == line) {
+        if !has_line(text, line) {
             writeln!(found, "without: {line}")?;
         }
     }
     Ok(())
 }
 
+/// Whether a text has this line.
+fn has_line(text: &str, line: &str) -> bool {
+    for other in text.lines() {
+        if other == line {
+            return true;
+        }
+    }
+    false
+}
+
 /// The lines that are handed over, without their signs. A backslash at the last one's end says that no line feed ends it.
 pub(crate) fn lines_of(alloc: Global, given: &[&str]) -> Result<String, AllocError> {
     let mut text = String::new(alloc);
     for line in given {
-        let line = line.strip_prefix("> ").unwrap_or("");
-        match line.strip_suffix("\\") {
-            Some(front) => text.push_str(front)?,
-            None => {
-                text.push_str(line)?;
-                text.push_str("\n")?;
-            }
-        }
+        push_given(line.strip_prefix("> ").unwrap_or(""), &mut text)?;
     }
     Ok(text)
 }
 
+/// Pushes a line with its line feed, or without the backslash at its end that says that none ends it.
+fn push_given(line: &str, text: &mut String) -> Result<(), AllocError> {
+    match line.strip_suffix("\\") {
+        Some(front) => text.push_str(front),
+        None => {
+            text.push_str(line)?;
+            text.push_str("\n")
+        }
+    }
+}
+
 /// The SFDP bytes of a sample chip of `nor_samples`.
-fn tables_of(alloc: Global, sample: &str) -> Result<Option<Vec<u8>>, AllocError> {
-    let (chip, patches): (&[u8], &[(usize, u8)]) = match sample {
+fn tables_of(alloc: Global, sample: &str) -> io::Result<Option<Vec<u8>>> {
+    match sample_of(sample) {
+        Some((chip, patches)) => Ok(Some(patched(alloc, chip, patches)?)),
+        None => Err(bad()),
+    }
+}
+
+/// The chip from which a sample's bytes come, and what is patched in them.
+fn sample_of(sample: &str) -> Option<(&'static [u8], &'static [(usize, u8)])> {
+    Some(match sample {
         "small" => (&SMALL, &[]),
         "mapped" => (&MAPPED, &[]),
         "large" => (&LARGE, &[]),
@@ -155,41 +270,69 @@ fn tables_of(alloc: Global, sample: &str) -> Result<Option<Vec<u8>>, AllocError>
         "legacy-latched" => (&LARGE, LEGACY_LATCHED),
         "blocks" => (&SMALL, BLOCKS),
         "lone-block" => (&SMALL, LONE_BLOCK),
-        _ => return Ok(None),
-    };
-    Ok(Some(patched(alloc, chip, patches)?))
+        _ => return None,
+    })
 }
 
 /// So many records of 16 bytes 00h, from address 0 on, and the end record.
 fn records(alloc: Global, count: usize) -> Result<String, AllocError> {
     let mut text = String::new(alloc);
     for record in 0..count {
-        let [.., high, low] = record.wrapping_mul(16).to_be_bytes();
-        let sum = 0u8.wrapping_sub(16).wrapping_sub(high).wrapping_sub(low);
-        writeln!(
-            text,
-            ":10{high:02X}{low:02X}0000000000000000000000000000000000{sum:02X}"
-        )?;
+        push_record(record, &mut text)?;
     }
     text.push_str(":00000001FF\n")?;
     Ok(text)
 }
 
+/// Pushes the record of this number, from 0.
+fn push_record(record: usize, text: &mut String) -> Result<(), AllocError> {
+    let [.., high, low] = record.wrapping_mul(16).to_be_bytes();
+    let sum = 0u8.wrapping_sub(16).wrapping_sub(high).wrapping_sub(low);
+    writeln!(
+        text,
+        ":10{high:02X}{low:02X}0000000000000000000000000000000000{sum:02X}"
+    )
+}
+
 /// Changes bytes as a word says: `AT:BYTES` in hexadecimal digits, or `AT:BYTES*N` for the bytes N times. Where they go past
 /// the end 00h stands between.
 fn patch_bytes(alloc: Global, bytes: &mut Vec<u8>, word: &str) -> io::Result<()> {
-    let (at, digits) = word.split_once(':').ok_or(bad())?;
+    let Some((at, digits, times)) = patch_of(word) else {
+        return Err(bad());
+    };
+    match hex::decode(alloc, digits) {
+        Ok(piece) => put_piece(bytes, at, piece.as_slice(), times),
+        Err(_) => Err(bad()),
+    }
+}
+
+/// What a word changes: the address, the digits of the bytes that go there, and how many times.
+fn patch_of(word: &str) -> Option<(usize, &str, usize)> {
+    let (at, digits) = word.split_once(':')?;
     let (digits, times) = digits.split_once('*').unwrap_or((digits, "1"));
-    let at = usize::from_str_radix(at, 16).map_err(|_| bad())?;
-    let piece = hex::decode(alloc, digits).map_err(|_| bad())?;
-    let end = at.saturating_add(piece.len().saturating_mul(number(times)?));
+    let at = usize::from_str_radix(at, 16).ok()?;
+    Some((at, digits, times.parse::<usize>().ok()?))
+}
+
+/// Puts a piece so many times from an address on.
+fn put_piece(bytes: &mut Vec<u8>, at: usize, piece: &[u8], times: usize) -> io::Result<()> {
+    let end = at.saturating_add(piece.len().saturating_mul(times));
     let size = bytes.len().max(end);
     bytes.resize(size, 0)?;
-    let part = bytes.as_mut_slice().get_mut(at..end).ok_or(bad())?;
-    for (place, byte) in part.iter_mut().zip(piece.as_slice().iter().cycle()) {
+    match bytes.as_mut_slice().get_mut(at..end) {
+        Some(part) => {
+            fill_with(part, piece);
+            Ok(())
+        }
+        None => Err(bad()),
+    }
+}
+
+/// Fills a part with bytes over and over.
+fn fill_with(part: &mut [u8], piece: &[u8]) {
+    for (place, byte) in part.iter_mut().zip(piece.iter().cycle()) {
         *place = *byte;
     }
-    Ok(())
 }
 
 /// Bytes that look random, about half of them FFh.
@@ -217,7 +360,7 @@ const PIECE: usize = 4096;
 
 /// Pushes what differs from one to the other, ` AT:BYTES` for each run of bytes that do; and a blank and the size where that
 /// differs.
-pub(crate) fn changes(before: &[u8], after: &[u8], found: &mut String) -> io::Result<()> {
+pub(crate) fn changes(before: &[u8], after: &[u8], found: &mut String) -> Result<(), AllocError> {
     let mut last = usize::MAX;
     let mut start = 0usize;
     for (old, new) in before.chunks(PIECE).zip(after.chunks(PIECE)) {
@@ -241,18 +384,22 @@ fn push_changes(
     start: usize,
     last: usize,
     found: &mut String,
-) -> io::Result<usize> {
+) -> Result<usize, AllocError> {
     let mut last = last;
     for (at, (old, new)) in old.iter().zip(new).enumerate() {
-        if old == new {
-            continue;
+        if old != new {
+            last = push_byte(*new, start.saturating_add(at), last, found)?;
         }
-        let at = start.saturating_add(at);
-        if at != last {
-            write!(found, " {at:x}:")?;
-        }
-        write!(found, "{new:02x}")?;
-        last = at.saturating_add(1);
     }
     Ok(last)
+}
+
+/// Pushes a byte that differs, behind its address where that isn't the one that follows the last. Answers the address behind
+/// it.
+fn push_byte(byte: u8, at: usize, last: usize, found: &mut String) -> Result<usize, AllocError> {
+    if at != last {
+        write!(found, " {at:x}:")?;
+    }
+    write!(found, "{byte:02x}")?;
+    Ok(at.saturating_add(1))
 }

@@ -1,9 +1,9 @@
 //! Jobs from their images to what chips hold after them.
 
-use crate::commands::answer_to;
-use crate::files::{changes, lines_of};
-use crate::line::line_of;
-use crate::scripts::script_line;
+use crate::commands::{answer_to, tell_unknown};
+use crate::files::{changes, lines_of, push_script};
+use crate::line::{Line, line_of};
+use std::alloc::AllocError;
 use std::{fs, io};
 
 /// The pages that a chip may have.
@@ -35,88 +35,130 @@ pub(crate) fn job(
     given: &[&str],
     found: &mut String,
 ) -> io::Result<()> {
+    write_files(rt, given)?;
     let alloc = rt.alloc();
-    let mut image = lines_of(alloc, given)?;
-    image.push_str(":00000001FF\n")?;
-    fs::write(rt, "job.hex", image.as_str())?;
-    fs::write(rt, "job.nothing", "norscript 1\nend 0\n")?;
     let line = format!(in alloc; "--hex job.hex --out job.script {words}")?;
     let line = line_of(alloc, "build", line.as_str())?;
-    if let Some(word) = line.unknown {
-        return Ok(writeln!(found, "unknown: {word}")?);
+    match line.unknown {
+        Some(word) => tell_unknown(word, found),
+        None => known_job(rt, &line, words, found),
     }
+}
+
+/// Writes a job's image, and a script that does nothing.
+fn write_files(rt: &HostRuntime, given: &[&str]) -> io::Result<()> {
+    let mut image = lines_of(rt.alloc(), given)?;
+    image.push_str(":00000001FF\n")?;
+    fs::write(rt, "job.hex", image.as_str())?;
+    fs::write(rt, "job.nothing", "norscript 1\nend 0\n")
+}
+
+/// Does a job whose words are those of `build`, which are taken apart.
+fn known_job(rt: &HostRuntime, line: &Line<'_>, words: &str, found: &mut String) -> io::Result<()> {
     let content = fs::read(rt, line.value("--content").unwrap_or(""))?;
-    let mut report = String::new(alloc);
-    answer_to(rt, "build", &line, &mut report)?;
-    let mut plan = String::new(alloc);
-    answer_to(rt, "plan", &line, &mut plan)?;
-    let told = if plan.as_str().ends_with(report.as_str()) {
-        report
-    } else {
-        plan
-    };
-    let lines: Vec<&str> = told.as_str().lines().collect(alloc)?;
-    let joined = lines.as_slice().join(alloc, " ")?;
-    writeln!(found, "{joined}")?;
-    script_line(fs::read_to_string(rt, "job.script")?.as_str(), found)?;
+    push_report(rt, line, found)?;
+    push_script(rt, "job.script", found)?;
     check(rt, "job.script", words, found)?;
     check(rt, "job.nothing", words, found)?;
     plays(rt, words, content.as_slice(), found)
+}
+
+/// Pushes what `build` prints in one line, or what `plan` does where its report is another one.
+fn push_report(rt: &HostRuntime, line: &Line<'_>, found: &mut String) -> io::Result<()> {
+    let report = answer_of(rt, "build", line)?;
+    let plan = answer_of(rt, "plan", line)?;
+    let (report, plan) = (report.as_str(), plan.as_str());
+    let told = if plan.ends_with(report) { report } else { plan };
+    Ok(push_joined(told, found)?)
+}
+
+/// Pushes the lines of a text as one.
+fn push_joined(text: &str, found: &mut String) -> Result<(), AllocError> {
+    let mut is_first = true;
+    for line in text.lines() {
+        if !is_first {
+            found.push_str(" ")?;
+        }
+        found.push_str(line)?;
+        is_first = false;
+    }
+    found.push_str("\n")
+}
+
+/// What a command of a line prints.
+fn answer_of(rt: &HostRuntime, command: &str, line: &Line<'_>) -> io::Result<String> {
+    let mut answer = String::new(rt.alloc());
+    answer_to(rt, command, line, &mut answer)?;
+    Ok(answer)
 }
 
 /// What `check` says of a script.
 fn check(rt: &HostRuntime, script: &str, words: &str, found: &mut String) -> io::Result<()> {
     let alloc = rt.alloc();
     let words = format!(in alloc; "--hex job.hex --script {script} {words}")?;
-    answer_to(
-        rt,
-        "check",
-        &line_of(alloc, "check", words.as_str())?,
-        found,
-    )?;
+    let line = line_of(alloc, "check", words.as_str())?;
+    answer_to(rt, "check", &line, found)?;
     Ok(())
 }
 
 /// Plays the script on chips of each page that may be, with each way of being busy.
 fn plays(rt: &HostRuntime, words: &str, content: &[u8], found: &mut String) -> io::Result<()> {
-    let alloc = rt.alloc();
-    let mut good = 0u64;
-    let mut first = String::new(alloc);
+    let mut good = Good {
+        plays: 0,
+        first: String::new(rt.alloc()),
+    };
     for number in 0..PAGES.len() * BUSY.len() {
-        let page = PAGES.get(number / BUSY.len()).unwrap_or(&"");
-        let busy = BUSY.get(number % BUSY.len()).unwrap_or(&"");
-        let mut answer = String::new(alloc);
-        let all = format!(in alloc; "--page {page} {busy} {words}")?;
-        play(rt, all.as_str(), content, &mut answer)?;
-        if answer.as_str() == "norprog: page\n" {
-            continue;
-        }
-        if good == 0 {
-            first = answer;
-        } else if answer.as_str() != first.as_str() {
-            found.push_str(answer.as_str())?;
-            continue;
-        }
-        good = good.saturating_add(1);
+        let answer = play(rt, number, words, content)?;
+        good.count(answer.as_str(), found)?;
     }
-    writeln!(found, "{good} plays:{first}")?;
-    Ok(())
+    let Good { plays, first } = good;
+    Ok(writeln!(found, "{plays} plays:{first}")?)
 }
 
-/// Plays the script once. Found is what has changed in the content, or what `run` prints where that isn't `ok`.
-fn play(rt: &HostRuntime, words: &str, content: &[u8], found: &mut String) -> io::Result<()> {
-    let alloc = rt.alloc();
-    let words = format!(in alloc; "--script job.script --out job.after {words}")?;
-    let mut answer = String::new(alloc);
-    answer_to(
-        rt,
-        "run",
-        &line_of(alloc, "run", words.as_str())?,
-        &mut answer,
-    )?;
-    if answer.as_str().starts_with("ok ") {
-        changes(content, fs::read(rt, "job.after")?.as_slice(), found)
-    } else {
-        found.push_str(answer.as_str()).map_err(io::Error::from)
+/// How many plays went well, and what the first of them answered.
+#[derive(Drop)]
+struct Good {
+    plays: u64,
+    first: String,
+}
+
+impl Good {
+    /// Counts a play that answered as the first one did. What another one answered is found, but for a page that can't be.
+    fn count(&mut self, answer: &str, found: &mut String) -> Result<(), AllocError> {
+        if answer == "norprog: page\n" {
+            return Ok(());
+        }
+        if self.plays == 0 {
+            self.first.push_str(answer)?;
+        } else if answer != self.first.as_str() {
+            return found.push_str(answer);
+        }
+        self.plays = self.plays.saturating_add(1);
+        Ok(())
     }
+}
+
+/// Plays the script once, on the chip of this number. Answers what has changed in the content, or what `run` prints where
+/// that isn't `ok`.
+fn play(rt: &HostRuntime, number: usize, words: &str, content: &[u8]) -> io::Result<String> {
+    let answer = play_answer(rt, number, words)?;
+    if !answer.as_str().starts_with("ok ") {
+        return Ok(answer);
+    }
+    let mut found = String::new(rt.alloc());
+    let after = fs::read(rt, "job.after")?;
+    changes(content, after.as_slice(), &mut found)?;
+    Ok(found)
+}
+
+/// What `run` prints of a play on the chip of this number.
+fn play_answer(rt: &HostRuntime, number: usize, words: &str) -> io::Result<String> {
+    let alloc = rt.alloc();
+    let page = PAGES.get(number / BUSY.len()).unwrap_or(&"");
+    let busy = BUSY.get(number % BUSY.len()).unwrap_or(&"");
+    let words = format!(in alloc;
+        "--script job.script --out job.after --page {page} {busy} {words}"
+    )?;
+    let line = line_of(alloc, "run", words.as_str())?;
+    answer_of(rt, "run", &line)
 }

@@ -22,29 +22,59 @@ enum Form {
 
 /// The form of an option of a command, if the command has it.
 fn form_of(command: &str, word: &str) -> Option<Form> {
-    let is_job = matches!(command, "build" | "plan" | "check");
-    let is_run = command == "run";
-    let is_list = command == "list";
-    let is_play = command == "play";
-    let is_chip = is_job || is_run || is_play;
-    match word {
-        "--sfdp" | "--uniform" | "--bits" | "--part" | ">" | "2>" => Some(Form::Value),
-        "--content" if is_chip => Some(Form::Value),
-        "--status" if is_chip || is_list => Some(Form::Value),
-        "--mode4" | "--quad" | "--erased-only" if is_chip || is_list => Some(Form::Flag),
-        "--hex" | "--layout" | "--base" if is_job => Some(Form::Value),
-        "--verify" if is_job && command != "check" => Some(Form::Flag),
-        "--out" if is_run || command == "build" => Some(Form::Value),
-        "--script" if is_run || is_list || is_play || command == "check" => Some(Form::Value),
-        "--limit" if is_run || is_play => Some(Form::Value),
-        "--busy" | "--page" if is_run => Some(Form::Value),
-        "--keep" if is_run => Some(Form::Flag),
-        "--device" if is_play => Some(Form::Value),
-        "--trust" if is_play => Some(Form::Flag),
-        "--times" if command == "plan" => Some(Form::Flag),
-        "--map" if command == "plan" => Some(Form::Value),
-        _ => None,
+    if has_value(command, word) {
+        Some(Form::Value)
+    } else if has_flag(command, word) {
+        Some(Form::Flag)
+    } else {
+        None
     }
+}
+
+/// Whether a command has this option, and a value behind it.
+fn has_value(command: &str, word: &str) -> bool {
+    match word {
+        "--sfdp" | "--uniform" | "--bits" | "--part" | ">" | "2>" => true,
+        "--hex" | "--layout" | "--base" => has_job(command),
+        "--content" => has_job(command) || matches!(command, "run" | "play"),
+        "--status" => has_setup(command),
+        "--script" => matches!(command, "check" | "run" | "list" | "play"),
+        "--out" => matches!(command, "build" | "run"),
+        _ => has_own_value(command, word),
+    }
+}
+
+/// Whether a command has this option, and a value behind it, of those that few commands have.
+fn has_own_value(command: &str, word: &str) -> bool {
+    match word {
+        "--limit" => matches!(command, "run" | "play"),
+        "--busy" | "--page" => command == "run",
+        "--device" => command == "play",
+        "--map" => command == "plan",
+        _ => false,
+    }
+}
+
+/// Whether a command has this flag.
+fn has_flag(command: &str, word: &str) -> bool {
+    match word {
+        "--mode4" | "--quad" | "--erased-only" => has_setup(command),
+        "--verify" => matches!(command, "build" | "plan"),
+        "--keep" => command == "run",
+        "--trust" => command == "play",
+        "--times" => command == "plan",
+        _ => false,
+    }
+}
+
+/// Whether a command is for a job.
+fn has_job(command: &str) -> bool {
+    matches!(command, "build" | "plan" | "check")
+}
+
+/// Whether a command is told how the chip begins.
+fn has_setup(command: &str) -> bool {
+    has_job(command) || matches!(command, "run" | "list" | "play")
 }
 
 /// Whether names of regions may stand behind a command.
@@ -66,24 +96,34 @@ pub(crate) fn line_of<'a>(
     };
     let mut option = None;
     for word in words.split_whitespace() {
-        let text = if word == "''" { "" } else { word };
-        if let Some(name) = option {
-            line.values.push((name, text))?;
-            option = None;
-            continue;
-        }
-        match form_of(command, word) {
-            Some(Form::Value) => option = Some(word),
-            Some(Form::Flag) => line.flags.push(word)?,
-            None if has_names(command) && !word.starts_with("--") => line.names.push(text)?,
-            None => line.unknown = Some(word),
-        }
+        option = line.push(command, option, word)?;
     }
     line.unknown = line.unknown.or(option);
     Ok(line)
 }
 
 impl<'a> Line<'a> {
+    /// Pushes the next word, which is the value of an option where one waits for it. Answers the option that waits then.
+    fn push(
+        &mut self,
+        command: &str,
+        option: Option<&'a str>,
+        word: &'a str,
+    ) -> Result<Option<&'a str>, AllocError> {
+        let text = if word == "''" { "" } else { word };
+        if let Some(name) = option {
+            self.values.push((name, text))?;
+            return Ok(None);
+        }
+        match form_of(command, word) {
+            Some(Form::Value) => return Ok(Some(word)),
+            Some(Form::Flag) => self.flags.push(word)?,
+            None if has_names(command) && !word.starts_with("--") => self.names.push(text)?,
+            None => self.unknown = Some(word),
+        }
+        Ok(None)
+    }
+
     /// The value of an option, if it is given.
     pub(crate) fn value(&self, name: &str) -> Option<&'a str> {
         let (_, value) = self.values.iter().find(|(option, _)| *option == name)?;

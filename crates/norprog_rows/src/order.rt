@@ -33,18 +33,30 @@ fn tells_first(
     set: u64,
     found: &mut String,
 ) -> io::Result<bool> {
-    let alloc = rt.alloc();
-    let mut line = String::from_str(alloc, words)?;
+    let mut line = String::from_str(rt.alloc(), words)?;
     let told = push_causes(&mut line, given, set)?;
-    let want = format!(in alloc; "norprog: {told}\nstatus 1\n")?;
-    let (word, rest) = line.as_str().split_once(' ').unwrap_or(("", ""));
-    let mut answer = String::new(alloc);
-    command(rt, word, rest, &mut answer)?;
-    if answer.as_str() == want.as_str() {
+    let answer = answer_of(rt, line.as_str())?;
+    if tells(answer.as_str(), told) {
         return Ok(true);
     }
     write!(found, "{line}: {answer}")?;
     Ok(false)
+}
+
+/// What is found by a command line.
+fn answer_of(rt: &HostRuntime, line: &str) -> io::Result<String> {
+    let (word, rest) = line.split_once(' ').unwrap_or(("", ""));
+    let mut answer = String::new(rt.alloc());
+    command(rt, word, rest, &mut answer)?;
+    Ok(answer)
+}
+
+/// Whether an answer is this refusal alone.
+fn tells(answer: &str, refusal: &str) -> bool {
+    match answer.strip_prefix("norprog: ") {
+        Some(rest) => rest.strip_suffix("\nstatus 1\n") == Some(refusal),
+        None => false,
+    }
 }
 
 /// Pushes the words of each cause, as it is in the set or not. Answers what tells the first that is.

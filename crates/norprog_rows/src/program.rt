@@ -1,6 +1,8 @@
 //! Command lines that the command line library reads, as the program does.
 
 use crate::answers::status_of;
+use crate::commands::tell_status;
+use crate::files::push_text;
 use norprog_options::asked_by;
 use std::alloc::{AllocError, Global};
 use std::{fs, io};
@@ -18,21 +20,35 @@ pub(crate) fn program(
     parts: &[&str],
     found: &mut String,
 ) -> io::Result<()> {
+    let status = status_by(rt, line)?;
+    let text = printed(rt)?;
+    tell_printed(text.as_str(), parts, found)?;
+    Ok(tell_status(status, found)?)
+}
+
+/// Does a command line, whose outputs go to their files. Answers the status.
+fn status_by(rt: &HostRuntime, line: &str) -> io::Result<u8> {
     let words = words_of(rt.alloc(), line)?;
-    let status = status_of(rt, asked_by(rt.alloc(), words.as_slice()), OUTPUT, ERRORS)?;
+    status_of(rt, asked_by(rt.alloc(), words.as_slice()), OUTPUT, ERRORS)
+}
+
+/// What a command line printed.
+fn printed(rt: &HostRuntime) -> io::Result<String> {
     let mut text = fs::read_to_string(rt, OUTPUT)?;
-    text.push_str(fs::read_to_string(rt, ERRORS)?.as_str())?;
+    push_text(rt, ERRORS, &mut text)?;
+    Ok(text)
+}
+
+/// Pushes a text, or, where parts of it are handed over, tells each that isn't in it.
+fn tell_printed(text: &str, parts: &[&str], found: &mut String) -> Result<(), AllocError> {
     if parts.is_empty() {
-        found.push_str(text.as_str())?;
+        found.push_str(text)?;
     }
     for part in parts {
         let part = part.strip_prefix("> ").unwrap_or(part);
-        if !text.as_str().contains(part) {
+        if !text.contains(part) {
             writeln!(found, "without: {part}")?;
         }
-    }
-    if status != 0 {
-        writeln!(found, "status {status}")?;
     }
     Ok(())
 }

@@ -18,13 +18,19 @@ impl<'a> Answers for Commands<'a> {
             None => (row.asked, ""),
         };
         match word {
-            "build" | "plan" | "check" | "run" | "list" | "play" | "sfdp" => {
-                commands::command(rt, word, rest, found)
-            }
+            _ if is_command(word) => commands::command(rt, word, rest, found),
             "norprog" => program::program(rt, rest, row.given, found),
             "job" => jobs::job(rt, rest, row.given, found),
             "order" => order::order(rt, rest, row.given, found),
             _ => files::file_row(rt, word, rest, row.given, found),
         }
     }
+}
+
+/// Whether a row's first word is a command whose line is taken apart here.
+fn is_command(word: &str) -> bool {
+    matches!(
+        word,
+        "build" | "plan" | "check" | "run" | "list" | "play" | "sfdp"
+    )
 }

@@ -11,37 +11,58 @@ const POLL: &str = "p 00000101........";
 /// read that expects these bytes, and `HEAD!BYTES` one on four lanes after eight dummy clocks. Any other line stands in
 /// brackets as it is; ` cut` says that no line feed ends the text. Of an empty text nothing is pushed.
 pub(crate) fn script_line(text: &str, found: &mut String) -> Result<(), AllocError> {
+    if text.is_empty() {
+        return Ok(());
+    }
     let (head, steps) = match text.strip_prefix("norscript 1\n") {
         Some(steps) => ("script", steps),
-        None if text.is_empty() => return Ok(()),
         None => ("no script", text),
     };
     found.push_str(head)?;
+    push_lines(steps, found)?;
+    found.push_str(if text.ends_with('\n') { "\n" } else { " cut\n" })
+}
+
+/// Pushes each line in short, behind a blank.
+fn push_lines(steps: &str, found: &mut String) -> Result<(), AllocError> {
     for line in steps.lines() {
         found.push_str(" ")?;
         push_line(line, found)?;
     }
-    found.push_str(if text.ends_with('\n') { "\n" } else { " cut\n" })
+    Ok(())
 }
 
 /// Pushes a line of a script in short.
 fn push_line(line: &str, found: &mut String) -> Result<(), AllocError> {
+    if line == POLL {
+        return found.push_str(".");
+    }
     let (kind, clocks) = line.split_once(' ').unwrap_or((line, ""));
-    let short = match kind {
-        "x" => is_sent(clocks.as_bytes()),
-        "v" => is_read(clocks.as_bytes()),
-        _ => None,
-    };
-    match short {
-        _ if line == POLL => found.push_str("."),
-        Some((head, sign, digits)) => {
-            push_digits(head, found)?;
-            found.push_str(sign)?;
-            push_letters(digits, sign, found)
-        }
+    match short_of(kind, clocks.as_bytes()) {
+        Some(short) => push_short(short, found),
         None if kind == "end" => found.push_str(line),
         None => write!(found, "[{line}]"),
     }
+}
+
+/// The clocks on one lane, a sign, and the letters or digits behind it.
+type Short<'a> = (&'a [u8], &'static str, &'a [u8]);
+
+/// A line in short, where it is a step that has a short form.
+fn short_of<'a>(kind: &str, clocks: &'a [u8]) -> Option<Short<'a>> {
+    match kind {
+        "x" => is_sent(clocks),
+        "v" => is_read(clocks),
+        _ => None,
+    }
+}
+
+/// Pushes the short form of a step.
+fn push_short(short: Short<'_>, found: &mut String) -> Result<(), AllocError> {
+    let (head, sign, digits) = short;
+    push_digits(head, found)?;
+    found.push_str(sign)?;
+    push_letters(digits, sign, found)
 }
 
 /// The clocks on one lane, and what follows them.
@@ -53,7 +74,7 @@ fn split_head(clocks: &[u8]) -> (&[u8], &[u8]) {
 }
 
 /// Bytes that are sent: those on one lane, a sign, and the letters of those on four.
-fn is_sent(clocks: &[u8]) -> Option<(&[u8], &'static str, &[u8])> {
+fn is_sent(clocks: &[u8]) -> Option<Short<'_>> {
     let (head, data) = split_head(clocks);
     let whole = head.len() % 8 == 0 && data.len() % 2 == 0;
     let letters = data.iter().all(|letter| matches!(letter, b'a'..=b'p'));
@@ -62,18 +83,27 @@ fn is_sent(clocks: &[u8]) -> Option<(&[u8], &'static str, &[u8])> {
 }
 
 /// A read: what is sent, how many lanes answer, and the digits of the bytes that are expected.
-fn is_read(line: &[u8]) -> Option<(&[u8], &'static str, &[u8])> {
+fn is_read(line: &[u8]) -> Option<Short<'_>> {
     let blank = line.iter().position(|symbol| *symbol == b' ')?;
     let (clocks, digits) = line.split_at(blank);
     let digits = digits.get(1..)?;
     let (head, data) = split_head(clocks);
-    let (dummies, lanes) = data.split_at(data.len().min(8));
-    let one = data.len() == digits.len().saturating_mul(4) && data.iter().all(|b| *b == b'.');
-    let four = dummies == b"--------".as_slice()
-        && lanes.len() == digits.len()
-        && lanes.iter().all(|b| *b == b'=');
-    let sign = if one { "?" } else { "!" };
-    (head.len() % 8 == 0 && (one || four)).then_some((head, sign, digits))
+    let sign = read_sign(data, digits.len())?;
+    (head.len() % 8 == 0).then_some((head, sign, digits))
+}
+
+/// The sign of a read of so many digits, by the clocks behind its head, if they are those of one.
+fn read_sign(data: &[u8], digits: usize) -> Option<&'static str> {
+    if data.len() == digits.saturating_mul(4) && are_all(data, b'.') {
+        return Some("?");
+    }
+    let lanes = data.strip_prefix(b"--------".as_slice())?;
+    (lanes.len() == digits && are_all(lanes, b'=')).then_some("!")
+}
+
+/// Whether each symbol is this one.
+fn are_all(symbols: &[u8], symbol: u8) -> bool {
+    symbols.iter().all(|other| *other == symbol)
 }
 
 /// Pushes the hexadecimal digits of clocks on one lane.
