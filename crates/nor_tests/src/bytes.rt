@@ -19,36 +19,24 @@ fn whole_strings_through_devices(rt: HostRuntime) -> Result<(), Fail> {
 /// A string and then parts of one, to a writer that takes all.
 fn puts_a_string(rt: &impl Abort, alloc: Global) {
     let mut writer = IntoWrite::new(Vec::new(alloc));
-    puts(rt, &mut writer);
+    holds(rt, "put", put_all(&mut writer, b"norscript").is_ok());
+    let parts: [&[u8]; 3] = [b"", b" 1", b"\n"];
+    holds(rt, "put in parts", put_parts(&mut writer, &parts).is_ok());
     same(rt, "failures", writer.failures(), 0);
     let held = writer.into_inner();
     holds(rt, "held", held.as_slice() == b"norscript 1\n".as_slice());
 }
 
-/// Puts a string and then parts of one.
-fn puts(rt: &impl Abort, writer: &mut IntoWrite<Vec<u8>>) {
-    holds(rt, "no failure yet", writer.failures() == 0);
-    holds(rt, "put", put_all(writer, b"norscript").is_ok());
-    let parts: [&[u8]; 3] = [b"", b" 1", b"\n"];
-    holds(rt, "put in parts", put_parts(writer, &parts).is_ok());
-}
-
 /// Seven bytes from a reader that gives no more, four at a time.
 fn takes_a_string(rt: &impl Abort) {
     let mut reader = FromRead::new(b"content".as_slice());
-    takes_four(rt, &mut reader, b"cont");
-    takes_four(rt, &mut reader, b"ent");
+    let mut buffer = [0u8; 4];
+    same(rt, "first", fill_from(&mut reader, &mut buffer), Ok(4));
+    same(rt, "its bytes", buffer, *b"cont");
+    same(rt, "last", fill_from(&mut reader, &mut buffer), Ok(3));
+    holds(rt, "its bytes", buffer.starts_with(b"ent"));
     same(rt, "failures", reader.failures(), 0);
     holds(rt, "all are taken", reader.into_inner().is_empty());
-}
-
-/// Takes these, which are four bytes or all that are left.
-fn takes_four(rt: &impl Abort, reader: &mut FromRead<&[u8]>, bytes: &[u8]) {
-    holds(rt, "no failure yet", reader.failures() == 0);
-    let mut buffer = [0u8; 4];
-    let filled = fill_from(reader, &mut buffer);
-    same(rt, "how many", filled, Ok(bytes.len()));
-    holds(rt, "its bytes", buffer.starts_with(bytes));
 }
 
 #[test]
@@ -57,14 +45,9 @@ fn a_failing_device_is_asked_once(rt: HostRuntime) {
         takes_up_to(&rt, OneByOne::new(rt.alloc(), fails_at));
         puts_up_to(&rt, OneByOne::new(rt.alloc(), fails_at));
     }
-    puts_to_full(&rt);
-}
-
-/// Puts a byte to a writer that takes nothing.
-fn puts_to_full(rt: &impl Abort) {
     let mut full = IntoWrite::new(Full);
-    holds(rt, "a full writer", put_all(&mut full, b"x").is_err());
-    same(rt, "its failures", full.failures(), 1);
+    holds(&rt, "a full writer", put_all(&mut full, b"x").is_err());
+    same(&rt, "its failures", full.failures(), 1);
 }
 
 /// Takes six bytes from a reader that may fail.
@@ -76,7 +59,8 @@ fn takes_up_to(rt: &impl Abort, inner: OneByOne) {
     let filled = fill_from(&mut reader, &mut buffer);
     same(rt, "filled", filled.is_err(), fails_at < 7);
     same(rt, "failures", reader.failures(), failed);
-    holds(rt, "what is given", [0x5A; 6].starts_with(&buffer[..given]));
+    let front = buffer.iter().take(given);
+    holds(rt, "what is given", front.copied().all(|byte| byte == 0x5A));
     same(rt, "calls", reader.into_inner().call, fails_at.min(6));
 }
 

@@ -4,25 +4,36 @@ use crate::same::{holds, same};
 use nor_base::Meaning;
 use nor_erase::{dirty, first_due, rises, rises_lanes};
 use nor_samples::{erased_only_chip, small_chip};
+use std::alloc::{AllocError, Global};
 use std::process::Abort;
 use std::simd::prelude::*;
 
-/// Of 100 bytes that all hold A5h, one is to become another.
-fn is_told(rt: &impl Abort, place: usize, old: u8, new: u8, told: (bool, bool)) {
-    let (mut have, mut want) = ([0xA5u8; 100], [0xA5u8; 100]);
-    holds(rt, "a place", place < 100);
+/// Of 100 bytes that all hold A5h, one is to become another: whether a bit rises, whether a byte that isn't FFh changes,
+/// and the first byte that is due without and with the profile.
+fn is_told(
+    rt: &impl Abort,
+    alloc: Global,
+    place: usize,
+    old: u8,
+    new: u8,
+    (rising, kept): (bool, bool),
+) -> Result<(), AllocError> {
+    let mut have = vec![in alloc; 0xA5u8; 100]?;
+    let mut want = vec![in alloc; 0xA5u8; 100]?;
+    holds(
+        rt,
+        "a place",
+        place < have.len() && place < want.len() && place < 100,
+    );
     have[place] = old;
     want[place] = new;
-    tells(rt, &have, &want, 0x1000 + place as u32, told);
-}
-
-/// Whether a bit rises, whether a byte that isn't FFh changes, and the first byte that is due without and with the profile.
-fn tells(rt: &impl Abort, have: &[u8], want: &[u8], here: u32, (rising, kept): (bool, bool)) {
-    holds(rt, "bytes", have.len() == want.len());
-    let told = (rises(have, want), dirty(have, want));
-    same(rt, "rises, dirty", told, (rising, kept));
-    is_due(rt, &small_chip(), have, want, rising.then_some(here));
-    is_due(rt, &erased_only_chip(), have, want, kept.then_some(here));
+    same(rt, "rises", rises(&have, &want), rising);
+    same(rt, "dirty", dirty(&have, &want), kept);
+    let here = 0x1000 + place as u32;
+    let (plain, profile) = (small_chip(), erased_only_chip());
+    is_due(rt, &plain, &have, &want, rising.then_some(here));
+    is_due(rt, &profile, &have, &want, kept.then_some(here));
+    Ok(())
 }
 
 /// The first byte that is due, from 1000h on.
@@ -32,22 +43,21 @@ fn is_due(rt: &impl Abort, chip: &Meaning, have: &[u8], want: &[u8], first: Opti
     same(rt, "due", first_due(chip, 0x1000, have, want), first);
 }
 
-/// A byte, what it is to become, whether a bit rises, and whether a byte that isn't FFh changes.
-static CHANGES: [(u8, u8, (bool, bool)); 5] = [
-    (0xF0, 0xF1, (true, true)),
-    (0xF0, 0x0F, (true, true)),
-    (0xF1, 0xF0, (false, true)),
-    (0xFF, 0x00, (false, false)),
-    (0x5A, 0x5A, (false, false)),
-];
-
 #[test]
-fn at_each_place(rt: HostRuntime) {
+fn at_each_place(rt: HostRuntime) -> Result<(), AllocError> {
+    let changes = [
+        (0xF0, 0xF1, (true, true)),
+        (0xF0, 0x0F, (true, true)),
+        (0xF1, 0xF0, (false, true)),
+        (0xFF, 0x00, (false, false)),
+        (0x5A, 0x5A, (false, false)),
+    ];
     for place in 0..100 {
-        for (old, new, told) in &CHANGES {
-            is_told(&rt, place, *old, *new, *told);
+        for (old, new, want) in changes {
+            is_told(&rt, rt.alloc(), place, old, new, want)?;
         }
     }
+    Ok(())
 }
 
 #[test]
@@ -82,21 +92,13 @@ fn agrees(rt: &impl Abort, len: usize, new: u8, rising: bool, kept: bool) {
     let have = [0xF0u8; 100];
     let mut want = [0x0Fu8; 100];
     holds(rt, "a length", 0 < len && len <= 100);
-    let front = &mut want[..len];
-    front.fill(0xF0);
-    if let Some(last) = front.last_mut() {
-        *last = new;
-    }
-    as_plainly(rt, &have[..len], front, (rising, kept));
-}
-
-/// Whether a bit rises, and whether a byte that isn't FFh changes, is told as byte by byte.
-fn as_plainly(rt: &impl Abort, have: &[u8], want: &[u8], (rising, kept): (bool, bool)) {
-    holds(rt, "bytes", have.len() == want.len());
-    let rises = (rises(have, want), rises_plainly(have, want));
-    same(rt, "rises, and plainly", rises, (rising, rising));
-    let dirty = (dirty(have, want), dirty_plainly(have, want));
-    same(rt, "dirty, and plainly", dirty, (kept, kept));
+    want[..len].fill(0xF0);
+    want[len - 1] = new;
+    let (have, want) = (&have[..len], &want[..len]);
+    same(rt, "rises", rises(have, want), rising);
+    same(rt, "rises plainly", rises_plainly(have, want), rising);
+    same(rt, "dirty", dirty(have, want), kept);
+    same(rt, "dirty plainly", dirty_plainly(have, want), kept);
 }
 
 #[test]

@@ -15,8 +15,6 @@ mod lanes;
 #[cfg(test)]
 mod layout;
 #[cfg(test)]
-mod owned;
-#[cfg(test)]
 mod planners;
 #[cfg(test)]
 mod play;

@@ -30,41 +30,17 @@ fn plan_each(rt: &impl Abort, alloc: Global) -> Result<(), AllocError> {
 
 /// Each second page of 8 KiB has a byte that falls: more units than a list has room for at first.
 fn plans_many_pages(rt: &impl Abort, alloc: Global) -> Result<(), AllocError> {
-    let count = window_size(&large_chip()) as usize;
-    let have = zero_at(alloc, count, &[])?;
-    let want = zero_at(alloc, count, &EACH_SECOND)?;
-    plans_window(rt, alloc, &have, &want)
-}
-
-/// Where each second page of 8 KiB begins.
-const EACH_SECOND: [usize; 16] = [
-    0, 512, 1024, 1536, 2048, 2560, 3072, 3584, 4096, 4608, 5120, 5632, 6144, 6656, 7168, 7680,
-];
-
-/// So many bytes that hold FFh, but 00h at these places.
-fn zero_at(alloc: Global, count: usize, places: &[usize]) -> Result<Vec<u8>, AllocError> {
-    let mut bytes = vec![in alloc; 0xFFu8; count]?;
-    for place in places {
-        if let Some(byte) = bytes.get_mut(*place) {
-            *byte = 0;
-        }
-    }
-    Ok(bytes)
-}
-
-/// Plans sixteen units in the first window of the large chip.
-fn plans_window(
-    rt: &impl Abort,
-    alloc: Global,
-    have: &[u8],
-    want: &[u8],
-) -> Result<(), AllocError> {
     let chip = large_chip();
     let window = window_size(&chip);
     holds(rt, "a window of the chip", window <= chip.size);
+    let have = vec![in alloc; 0xFFu8; window as usize]?;
+    let mut want = vec![in alloc; 0xFFu8; window as usize]?;
+    for byte in want.iter_mut().step_by(512).take(16) {
+        *byte = 0;
+    }
     let count = window as usize;
     holds(rt, "its bytes", have.len() == count && want.len() == count);
-    match plan(alloc, &chip, strategy(&chip, &PLAIN), 0, have, want) {
+    match plan(alloc, &chip, strategy(&chip, &PLAIN), 0, &have, &want) {
         Ok(units) => same(rt, "units", units.len(), 16),
         Err(fault) => {
             same(rt, "of a plan", fault, PlanFault::Memory);
@@ -83,20 +59,12 @@ const SECTOR: PlanUnit = PlanUnit::Block(Block {
 
 /// Three pages of the sector have a byte each.
 fn splits_three_pages(rt: &impl Abort, alloc: Global) -> Result<(), AllocError> {
-    let have = zero_at(alloc, 4096, &[])?;
-    let want = zero_at(alloc, 4096, &[0, 256, 512])?;
-    splits_sector(rt, alloc, &have, &want)
-}
-
-/// Splits the sector into three runs.
-fn splits_sector(
-    rt: &impl Abort,
-    alloc: Global,
-    have: &[u8],
-    want: &[u8],
-) -> Result<(), AllocError> {
-    holds(rt, "a sector", have.len() == 4096 && want.len() == 4096);
-    match split(alloc, &small_chip(), &SECTOR, have, want) {
+    let have = vec![in alloc; 0xFFu8; 4096]?;
+    let mut want = vec![in alloc; 0xFFu8; 4096]?;
+    want[0] = 0;
+    want[256] = 0;
+    want[512] = 0;
+    match split(alloc, &small_chip(), &SECTOR, &have, &want) {
         Ok(runs) => same(rt, "runs", runs.len(), 3),
         Err(PagesFault::Memory) => return Err(AllocError),
     }

@@ -2,7 +2,7 @@
 
 use crate::ports::Unplugged;
 use crate::same::{holds, same};
-use nor_base::{Meaning, Step};
+use nor_base::Meaning;
 use nor_chip::Port;
 use nor_play::{PlayFault, play};
 use nor_samples::small_chip;
@@ -22,25 +22,6 @@ const VERIFY: &str =
     "norscript 1\nx 00000110\nx 0000001000000000000000000000000000000000\np 00000101........\n\
     v 00000011000000000000000000000000........ 00\nend 4\n";
 
-/// Plays steps at a port that hasn't failed.
-fn play_at(
-    rt: &impl Abort,
-    alloc: Global,
-    steps: &[Step],
-    port: &mut Unplugged<'_>,
-) -> Result<u128, PlayFault> {
-    holds(rt, "no failure yet", port.failures() == 0);
-    play(alloc, steps, port, 10)
-}
-
-/// How a play ends that does so many transactions: at the step of the next, if there is one.
-fn ending_after(done: usize, steps_of_all: &[u64]) -> Result<u128, PlayFault> {
-    match steps_of_all.get(done) {
-        Some(step) => Err(PlayFault::PortFailed { step: *step }),
-        None => Ok(done as u128),
-    }
-}
-
 /// Plays a script on a chip that is busy for two status reads after each program or erase, and is unplugged after each
 /// number of transactions: the play fails at the step of the next, and a port that failed isn't asked again.
 fn fails_at_each(
@@ -52,10 +33,15 @@ fn fails_at_each(
     let (meaning, steps) = (small_chip(), read(alloc, text.as_bytes())?);
     for done in 0..=steps_of_all.len() {
         let mut port = Unplugged::new(rt, alloc, &meaning, &[2, 2], done as u64)?;
-        let played = play_at(rt, alloc, steps.as_slice(), &mut port);
-        let want = ending_after(done, steps_of_all);
-        let failures = u64::from(want.is_err());
-        same(rt, text, (played, port.failures()), (want, failures));
+        let step = steps_of_all.get(done).copied();
+        let want = match step {
+            Some(step) => Err(PlayFault::PortFailed { step }),
+            None => Ok(done as u128),
+        };
+        holds(rt, "no failure yet", port.failures() == 0);
+        let played = play(alloc, steps.as_slice(), &mut port, 10);
+        same(rt, text, played, want);
+        same(rt, "failures", port.failures(), u64::from(step.is_some()));
     }
     Ok(())
 }
@@ -71,7 +57,8 @@ fn each_transaction_fails(rt: HostRuntime) -> Result<(), Fail> {
 fn plays(rt: &impl Abort, alloc: Global, meaning: &Meaning) -> Option<Result<u128, PlayFault>> {
     let steps = read(alloc, VERIFY.as_bytes()).ok()?;
     let mut port = Unplugged::new(rt, alloc, meaning, &[], u64::MAX).ok()?;
-    Some(play_at(rt, alloc, steps.as_slice(), &mut port))
+    holds(rt, "no failure yet", port.failures() == 0);
+    Some(play(alloc, steps.as_slice(), &mut port, 10))
 }
 
 /// Memory is not wanting, so there are four transactions.

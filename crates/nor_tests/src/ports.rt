@@ -93,29 +93,15 @@ fn until_fault<P: Port>(
     rows: &[(&[u8], &[u8])],
 ) -> Result<(usize, Option<PortFault>), Fail> {
     for (done, (clocks, gives)) in rows.iter().enumerate() {
-        if let Err(fault) = transacts(rt, alloc, port, clocks, gives)? {
+        holds(rt, "room", port.failures() < u64::MAX);
+        let mut out = vec![in alloc; 0xEEu8; sampled(clocks)]?;
+        if let Err(fault) = port.transact(clocks, out.as_mut_slice()) {
+            holds(rt, "nothing", out.iter().all(|byte| *byte == 0xEE));
             return Ok((done, Some(fault)));
         }
+        holds(rt, "what is read", out.as_slice() == *gives);
     }
     Ok((rows.len(), None))
-}
-
-/// Does one transaction, of at most two bytes that are read: these, or none where it isn't done.
-fn transacts<P: Port>(
-    rt: &impl Abort,
-    alloc: Global,
-    port: &mut P,
-    clocks: &[u8],
-    gives: &[u8],
-) -> Result<Result<(), PortFault>, AllocError> {
-    holds(rt, "room", port.failures() < u64::MAX);
-    let mut out = vec![in alloc; 0xEEu8; sampled(clocks)]?;
-    let done = port.transact(clocks, out.as_mut_slice());
-    match done {
-        Ok(()) => holds(rt, "what is read", out.as_slice() == gives),
-        Err(_) => holds(rt, "nothing", [0xEE; 2].starts_with(out.as_slice())),
-    }
-    Ok(done)
 }
 
 /// Unplugs the chip after each number of transactions. It stays as it was then and, plugged in again, goes on.
@@ -142,18 +128,6 @@ fn fails_after(
     same(rt, "until the fault", met, (done, fault));
     same(rt, "settled", port.settled(), done == 0 || done > 2);
     same(rt, "failures", port.failures(), u64::from(fails));
-    goes_on(rt, alloc, port, done)?;
-    same(rt, "failures", port.failures(), u64::from(fails));
-    Ok(())
-}
-
-/// That port plugged in again, to the end of the job and a read past the chip's.
-fn goes_on(
-    rt: &impl Abort,
-    alloc: Global,
-    port: &mut Unplugged<'_>,
-    done: usize,
-) -> Result<(), Fail> {
     port.left = 10;
     let (_, rest) = JOB.split_at(done.min(JOB.len()));
     let met = until_fault(rt, alloc, port, rest)?;
@@ -161,6 +135,7 @@ fn goes_on(
     let met = until_fault(rt, alloc, port, &WRONG)?;
     let past = Some(PortFault::Wrong(Wrong::OutOfRange));
     same(rt, "a read past the end", met, (0, past));
+    same(rt, "failures", port.failures(), u64::from(fails));
     holds(rt, "held", port.chip.content().starts_with(&[0xA5, 0xFF]));
     holds(rt, "settled at the end", port.settled());
     Ok(())

@@ -3,12 +3,11 @@
 //! `tools/refused-growths` refuses each growth in turn: the first test also passes where the fault is Memory, the second only
 //! where each job is done.
 
-use crate::owned;
 use crate::same::{holds, same};
 use nor_base::{Bytes, Part};
 use nor_hex::HexFault;
 use nor_job::{BuildFault, Inputs, Source, job_of};
-use nor_layout::{Chosen, LayoutFault};
+use nor_layout::LayoutFault;
 use nor_samples::texts::IMAGE;
 use std::alloc::{AllocError, Global};
 use std::process::Abort;
@@ -40,15 +39,22 @@ fn reads_far_apart(rt: &impl Abort, alloc: Global) -> Result<(), AllocError> {
     Ok(())
 }
 
-/// The regions of these names out of many.
-fn chosen(alloc: Global, names: &[Bytes]) -> Result<Chosen, LayoutFault> {
-    nor_layout::read(alloc, MANY)?.choose(alloc, names)
+/// Names as the caller of `choose` has them.
+fn owned(alloc: Global, names: &[&str]) -> Result<Vec<Bytes>, AllocError> {
+    let mut owned = Vec::new(alloc);
+    for name in names {
+        owned.push(Bytes::new(Vec::from_slice(alloc, name.as_bytes())?))?;
+    }
+    Ok(owned)
 }
 
 /// Reads many regions, and chooses some of them.
 fn chooses_some(rt: &impl Abort, alloc: Global) -> Result<(), AllocError> {
-    let names = owned::names(alloc, "r0 r1 r2 r3 r4 s5 s6 s7 s8")?;
-    match chosen(alloc, &names) {
+    let names = owned(
+        alloc,
+        &["r0", "r1", "r2", "r3", "r4", "s5", "s6", "s7", "s8"],
+    )?;
+    match nor_layout::read(alloc, MANY).and_then(|layout| layout.choose(alloc, &names)) {
         Ok(chosen) => holds(rt, "what is chosen", chosen.has(8) && !chosen.has(9)),
         Err(fault) => {
             same(rt, "of a layout", fault, LayoutFault::Memory);
@@ -60,7 +66,7 @@ fn chooses_some(rt: &impl Abort, alloc: Global) -> Result<(), AllocError> {
 
 /// The job of a layout's region on the small chip.
 fn gives_the_job(rt: &impl Abort, alloc: Global) -> Result<(), AllocError> {
-    let names = owned::names(alloc, "a")?;
+    let names = owned(alloc, &["a"])?;
     let inputs = Inputs {
         hex: IMAGE.as_bytes(),
         layout: Some(b"0:fff a"),

@@ -1,33 +1,29 @@
 //! Scripts at a writer that fails, and where memory is refused.
 
 use crate::devices::OneByOne;
-use crate::owned;
 use crate::same::{holds, same};
-use nor_base::{ByteOut, Failed, FromRead, IntoWrite, Step, is_step};
+use nor_base::{ByteOut, Bytes, Failed, FromRead, IntoWrite, Step, is_step};
 use nor_script::{ReadFault, ScriptFault, begin, count_steps, finish, read, write_step};
-use std::alloc::{AllocError, Global};
+use std::alloc::Global;
 use std::process::Abort;
 use std::test::Fail;
 
 /// Each kind of step once.
 const TEXT: &str = "norscript 1\nx 00000110\np 00000101........\nv 01101011--==== 0fa5\nend 3\n";
 
-/// The last step of that script.
-fn verify(alloc: Global) -> Result<Step, AllocError> {
-    let clocks = owned::bytes(alloc, b"01101011--====")?;
-    let expect = owned::bytes(alloc, &[0x0F, 0xA5])?;
-    Ok(Step::Verify { clocks, expect })
-}
-
 /// The steps of that script.
-fn steps(alloc: Global) -> Result<Vec<Step>, AllocError> {
-    let mut steps = Vec::new(alloc);
-    let clocks = owned::bytes(alloc, b"00000110")?;
-    steps.push(Step::Send { clocks })?;
-    let clocks = owned::bytes(alloc, b"00000101........")?;
-    steps.push(Step::Poll { clocks })?;
-    steps.push(verify(alloc)?)?;
-    Ok(steps)
+fn steps(alloc: Global) -> Result<[Step; 3], Fail> {
+    let send = Step::Send {
+        clocks: Bytes::new(b"00000110".to_vec(alloc)?),
+    };
+    let poll = Step::Poll {
+        clocks: Bytes::new(b"00000101........".to_vec(alloc)?),
+    };
+    let verify = Step::Verify {
+        clocks: Bytes::new(b"01101011--====".to_vec(alloc)?),
+        expect: Bytes::new([0x0F, 0xA5].to_vec(alloc)?),
+    };
+    Ok([send, poll, verify])
 }
 
 /// Writes the steps that have a line.

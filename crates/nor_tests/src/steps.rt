@@ -70,7 +70,8 @@ fn reads_on<R: ByteIn>(
         }
         match reader.advance(source) {
             Ok(true) => {
-                is_next(rt, reader.view(), steps.get(next));
+                holds(rt, "a step of the script", next < steps.len());
+                holds(rt, "the next step", shows(reader.view(), &steps[next]));
                 next = next.saturating_add(1);
             }
             Ok(false) => {
@@ -78,25 +79,12 @@ fn reads_on<R: ByteIn>(
                 return failures;
             }
             Err(fault) => {
-                is_of_device(rt, fault);
+                same(rt, "a failure", matches!(fault, ReadFault::Device(_)), true);
                 failures = failures.saturating_add(1);
             }
         }
     }
     failures
-}
-
-/// The step that is read is the script's next.
-fn is_next(rt: &impl Abort, view: StepView<'_>, next: Option<&Step>) {
-    match next {
-        Some(step) => holds(rt, "the next step", shows(view, step)),
-        None => holds(rt, "a step of the script", false),
-    }
-}
-
-/// The fault is a device that failed.
-fn is_of_device(rt: &impl Abort, fault: ReadFault) {
-    holds(rt, "a failure", matches!(fault, ReadFault::Device(_)));
 }
 
 /// A device that gives one byte at a call, and fails at each call in turn: the failure is told, and reading goes on behind it.
@@ -105,29 +93,24 @@ fn each_call_fails(rt: HostRuntime) -> Result<(), Fail> {
     let alloc = rt.alloc();
     let steps = read(alloc, TEXT.as_bytes())?;
     for fails_at in 0..=TEXT.len() + 2 {
-        fails_at_call(&rt, alloc, steps.as_slice(), fails_at);
+        let mut source = FromRead::new(ByteByByte {
+            rest: TEXT.as_bytes(),
+            call: 0,
+            fails_at,
+        });
+        match StepReader::begin(alloc, &mut source) {
+            Ok(mut reader) => {
+                let told = reads_on(&rt, &mut reader, &mut source, steps.as_slice());
+                let met = fails_at > HEADER && fails_at <= TEXT.len() + 1;
+                same(&rt, "failures", told, usize::from(met));
+            }
+            Err(fault) => {
+                same(&rt, "begun", matches!(fault, ReadFault::Device(_)), true);
+                holds(&rt, "in the header", fails_at >= 1 && fails_at <= HEADER);
+            }
+        }
     }
     Ok(())
-}
-
-/// A device that fails at this call.
-fn fails_at_call(rt: &impl Abort, alloc: Global, steps: &[Step], fails_at: usize) {
-    let mut source = FromRead::new(ByteByByte {
-        rest: TEXT.as_bytes(),
-        call: 0,
-        fails_at,
-    });
-    match StepReader::begin(alloc, &mut source) {
-        Ok(mut reader) => {
-            let told = reads_on(rt, &mut reader, &mut source, steps);
-            let met = fails_at > HEADER && fails_at <= TEXT.len() + 1;
-            same(rt, "failures", told, usize::from(met));
-        }
-        Err(fault) => {
-            is_of_device(rt, fault);
-            holds(rt, "in the header", fails_at >= 1 && fails_at <= HEADER);
-        }
-    }
 }
 
 /// What the reader out of a device says of a text is what `read` says of it.
@@ -173,34 +156,17 @@ fn long_lines(rt: HostRuntime) -> Result<(), Fail> {
         131_057, 262_129, 262_130, 262_131, 262_143, 262_144, 600_000,
     ] {
         let text = long_script(alloc, clocks)?;
-        reads_long(&rt, alloc, text.as_slice(), clocks)?;
+        let mut source = FromRead::new(text.as_slice());
+        let mut reader = StepReader::begin(alloc, &mut source)?;
+        same(&rt, "a step", reader.advance(&mut source), Ok(true));
+        match reader.view() {
+            StepView::Send { clocks: of } => same(&rt, "its clocks", of.len(), clocks),
+            other => same(&rt, "a send", matches!(other, StepView::Send { .. }), true),
+        }
+        same(&rt, "another", reader.advance(&mut source), Ok(true));
+        same(&rt, "the end", reader.advance(&mut source), Ok(false));
+        let none = Err(ReadFault::Script(ScriptFault::NoEnd(4)));
+        same(&rt, "behind it", reader.advance(&mut source), none);
     }
     Ok(())
-}
-
-/// Reads that script.
-fn reads_long(rt: &impl Abort, alloc: Global, text: &[u8], clocks: usize) -> Result<(), ReadFault> {
-    let mut source = FromRead::new(text);
-    let mut reader = StepReader::begin(alloc, &mut source)?;
-    same(rt, "a step", reader.advance(&mut source), Ok(true));
-    sends(rt, reader.view(), clocks);
-    same(rt, "another", reader.advance(&mut source), Ok(true));
-    ends(rt, &mut reader, &mut source);
-    Ok(())
-}
-
-/// The script ends here, in its fourth line.
-fn ends(rt: &impl Abort, reader: &mut StepReader, source: &mut FromRead<&[u8]>) {
-    holds(rt, "no failure", source.failures() == 0);
-    same(rt, "the end", reader.advance(source), Ok(false));
-    let none = Err(ReadFault::Script(ScriptFault::NoEnd(4)));
-    same(rt, "behind it", reader.advance(source), none);
-}
-
-/// The step sends so many clocks.
-fn sends(rt: &impl Abort, view: StepView<'_>, clocks: usize) {
-    match view {
-        StepView::Send { clocks: of } => same(rt, "its clocks", of.len(), clocks),
-        _ => holds(rt, "a send", false),
-    }
 }

@@ -38,27 +38,12 @@ fn some_bytes(alloc: Global, len: usize) -> Result<Vec<u8>, AllocError> {
 
 /// Bytes are spread as by the plain loops.
 fn are_spread(rt: &impl Abort, alloc: Global, bytes: &[u8]) -> Result<(), AllocError> {
-    let want = plain1(alloc, bytes)?;
-    is_spread1(rt, alloc, bytes, &want)?;
-    let want = plain4(alloc, bytes)?;
-    is_spread4(rt, alloc, bytes, &want)
-}
-
-/// Bytes are spread on one lane to these symbols.
-fn is_spread1(rt: &impl Abort, alloc: Global, bytes: &[u8], want: &[u8]) -> Result<(), AllocError> {
-    let count = bytes.len().checked_mul(8).ok_or(AllocError)?;
-    let mut symbols = vec![in alloc; b'?'; count]?;
-    spread1(bytes, &mut symbols);
-    same(rt, "on one lane", symbols.as_slice(), want);
-    Ok(())
-}
-
-/// Bytes are spread on four lanes to these symbols.
-fn is_spread4(rt: &impl Abort, alloc: Global, bytes: &[u8], want: &[u8]) -> Result<(), AllocError> {
-    let count = bytes.len().checked_mul(2).ok_or(AllocError)?;
-    let mut symbols = vec![in alloc; b'?'; count]?;
-    spread4(bytes, &mut symbols);
-    same(rt, "on four lanes", symbols.as_slice(), want);
+    let mut single = vec![in alloc; b'?'; bytes.len().checked_mul(8).ok_or(AllocError)?]?;
+    spread1(bytes, &mut single);
+    same(rt, "on one lane", single, plain1(alloc, bytes)?);
+    let mut quad = vec![in alloc; b'?'; bytes.len().checked_mul(2).ok_or(AllocError)?]?;
+    spread4(bytes, &mut quad);
+    same(rt, "on four lanes", quad, plain4(alloc, bytes)?);
     Ok(())
 }
 
@@ -79,28 +64,16 @@ fn spread_as_by_plain_loops(rt: HostRuntime) -> Result<(), AllocError> {
 #[test]
 fn kernels_as_plain_loops(rt: HostRuntime) -> Result<(), AllocError> {
     for byte in 0..=255u8 {
-        spreads_four(&rt, rt.alloc(), byte)?;
-        spreads_sixteen(&rt, rt.alloc(), byte)?;
+        let four = [byte, !byte, byte ^ 0x55, byte];
+        let want = plain1(rt.alloc(), &four)?;
+        let found = spread1_lanes(&four).to_array();
+        same(&rt, "four bytes", found.as_slice(), want.as_slice());
+        let mut sixteen = [byte; 16];
+        sixteen[1] = !byte;
+        sixteen[15] = byte ^ 0x5A;
+        let want = plain4(rt.alloc(), &sixteen)?;
+        let found = spread4_lanes(&sixteen).to_array();
+        same(&rt, "sixteen bytes", found.as_slice(), want.as_slice());
     }
-    Ok(())
-}
-
-/// The byte among four, on one lane.
-fn spreads_four(rt: &impl Abort, alloc: Global, byte: u8) -> Result<(), AllocError> {
-    let four = [byte, !byte, byte ^ 0x55, byte];
-    let found = spread1_lanes(&four).to_array();
-    let want = plain1(alloc, &four)?;
-    same(rt, "four bytes", found.as_slice(), want.as_slice());
-    Ok(())
-}
-
-/// The byte among sixteen, on four lanes.
-fn spreads_sixteen(rt: &impl Abort, alloc: Global, byte: u8) -> Result<(), AllocError> {
-    let mut sixteen = [byte; 16];
-    sixteen[1] = !byte;
-    sixteen[15] = byte ^ 0x5A;
-    let found = spread4_lanes(&sixteen).to_array();
-    let want = plain4(alloc, &sixteen)?;
-    same(rt, "sixteen bytes", found.as_slice(), want.as_slice());
     Ok(())
 }

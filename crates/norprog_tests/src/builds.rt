@@ -2,7 +2,7 @@
 //! memory.
 
 use crate::devices::{
-    BLANK, Built, OddCall, SlowReader, Work, content, failing, inputs, run_check, run_work, writer,
+    BLANK, Built, OddCall, Work, content, failing, inputs, run_check, run_work, writer,
 };
 use crate::same::{holds, same};
 use nor_base::{Bytes, Strategy};
@@ -56,18 +56,6 @@ pub(crate) fn one_name(alloc: Global) -> Result<Vec<Bytes>, AllocError> {
 ///
 /// `AllocError` where its own memory is refused.
 fn one_byte_job(rt: &impl Abort, alloc: Global) -> Result<Option<BuildFault>, AllocError> {
-    let built = one_byte_build(alloc)?;
-    fail_so_often(rt, "failures", &built, (0, 0));
-    Ok(fault_beside_script(rt, &built, ONE_BYTE, ONE_PROGRAM))
-}
-
-/// So often a build's reader and its writer have failed.
-fn fail_so_often(rt: &impl Abort, what: &str, built: &Built<'_>, want: (u64, u64)) {
-    same(rt, what, (built.read_failures, built.write_failures), want);
-}
-
-/// The build of one byte by a layout.
-fn one_byte_build(alloc: Global) -> Result<Built<'static>, AllocError> {
     let names = one_name(alloc)?;
     let inputs = Inputs {
         layout: Some(b"0:fff a"),
@@ -75,8 +63,21 @@ fn one_byte_build(alloc: Global) -> Result<Built<'static>, AllocError> {
         ..inputs(IMAGE)
     };
     let script = writer(alloc, 128, 128)?;
-    let reader = content(BLANK, 8192, 0);
-    Ok(run_work(alloc, Work::Build, &inputs, reader, 8192, script))
+    let built = run_work(
+        alloc,
+        Work::Build,
+        &inputs,
+        content(BLANK, 8192, 0),
+        8192,
+        script,
+    );
+    same(
+        rt,
+        "failures",
+        (built.read_failures, built.write_failures),
+        (0, 0),
+    );
+    Ok(fault_beside_script(rt, &built, ONE_BYTE, ONE_PROGRAM))
 }
 
 /// Memory is not wanting, so each growth is granted and the whole script is there.
@@ -134,78 +135,42 @@ fn try_reading(
     rt: &impl Abort,
     alloc: Global,
     label: &str,
-    reading: Reading,
+    (has, most, fails_at): Reading,
     want: Option<BuildFault>,
 ) -> Result<(), Fail> {
-    try_build(rt, alloc, label, reading, want)?;
-    try_check(rt, alloc, label, reading, want)
-}
-
-/// A build's script and its devices' failures are as this fault says, and no byte past the content was read.
-fn try_build(
-    rt: &impl Abort,
-    alloc: Global,
-    label: &str,
-    reading: Reading,
-    want: Option<BuildFault>,
-) -> Result<(), Fail> {
-    let script = writer(alloc, 128, 128)?;
-    let reader = reader_of(reading);
-    let built = run_work(alloc, Work::Build, &inputs(IMAGE), reader, 8192, script);
+    let given = BLANK.get(..has).unwrap_or(&[]);
+    let reader = content(given, most, fails_at);
+    let built = run_work(
+        alloc,
+        Work::Build,
+        &inputs(IMAGE),
+        reader,
+        8192,
+        writer(alloc, 128, 128)?,
+    );
     let fault = fault_beside_script(rt, &built, ONE_BYTE, ONE_PROGRAM);
     same(rt, label, fault, want);
-    let failures = failures_of(want, BuildFault::Read);
-    fail_so_often(rt, label, &built, (failures, 0));
-    read_no_more(rt, label, &built.reader, reading, want);
-    Ok(())
-}
-
-/// A check answers as this fault says, and has read no byte past the content.
-fn try_check(
-    rt: &impl Abort,
-    alloc: Global,
-    label: &str,
-    reading: Reading,
-    want: Option<BuildFault>,
-) -> Result<(), Fail> {
-    let reader = reader_of(reading);
+    let failures = u64::from(fault == Some(BuildFault::Read));
+    same(
+        rt,
+        label,
+        (built.read_failures, built.write_failures),
+        (failures, 0),
+    );
+    let reader = content(given, most, fails_at);
     let checked = run_check(alloc, &inputs(IMAGE), ONE_BYTE, reader, 8192)?;
-    holds(rt, label, checked.answer == said_of(want));
-    let failures = failures_of(want, BuildFault::Read);
-    same(rt, label, checked.read_failures, failures);
-    read_no_more(rt, label, &checked.reader, reading, want);
-    Ok(())
-}
-
-/// The reader of a row.
-fn reader_of((has, most, fails_at): Reading) -> SlowReader<'static> {
-    content(BLANK.get(..has).unwrap_or(&[]), most, fails_at)
-}
-
-/// What a check answers whose build has this fault.
-fn said_of(fault: Option<BuildFault>) -> Result<Verdict, CheckStop> {
-    match fault {
+    let said = match want {
         None => Ok(Verdict::Yes),
         Some(fault) => Err(CheckStop::Build(fault)),
+    };
+    holds(rt, label, checked.answer == said);
+    same(rt, label, checked.read_failures, failures);
+    if want.is_none() {
+        let left = has.saturating_sub(8192);
+        same(rt, label, built.reader.ahead.len(), left);
+        same(rt, label, checked.reader.ahead.len(), left);
     }
-}
-
-/// How often a device has failed whose failure is this fault.
-fn failures_of(fault: Option<BuildFault>, why: BuildFault) -> u64 {
-    u64::from(fault == Some(why))
-}
-
-/// Where there is no fault, what stands behind the content is left to read.
-fn read_no_more(
-    rt: &impl Abort,
-    label: &str,
-    reader: &SlowReader<'_>,
-    (has, _, _): Reading,
-    fault: Option<BuildFault>,
-) {
-    if fault.is_none() {
-        same(rt, label, reader.ahead.len(), has.saturating_sub(8192));
-    }
+    Ok(())
 }
 
 /// A job, its script, and its report.
@@ -284,26 +249,32 @@ impl Prepared<'_> {
             verify: self.job.verify,
             ..inputs(self.job.image)
         };
-        let (given, plain) = ((most, odd), (usize::MAX, failing(0)));
-        let (of_reader, of_writer) = match side {
-            Side::Reader => (given, plain),
-            Side::Writer => (plain, given),
-        };
-        let mut script = writer(alloc, 0, of_writer.0)?;
-        script.odd = of_writer.1;
-        let mut reader = content(self.held.as_slice(), of_reader.0, 0);
-        reader.odd = of_reader.1;
+        let mut reader = content(self.held.as_slice(), usize::MAX, 0);
+        let mut script = writer(alloc, 0, usize::MAX)?;
+        match side {
+            Side::Reader => {
+                reader.most = most;
+                reader.odd = odd;
+            }
+            Side::Writer => {
+                script.most = most;
+                script.odd = odd;
+            }
+        }
         Ok(run_work(alloc, Work::Build, &inputs, reader, 8192, script))
     }
 
     /// The build's fault; its script is whole or cut, and its devices failed as the fault says.
     fn fault_of(&self, rt: &impl Abort, built: &Built<'_>) -> Option<BuildFault> {
         let fault = fault_beside_script(rt, built, self.job.text, self.job.report);
-        let want = (
-            failures_of(fault, BuildFault::Read),
-            failures_of(fault, BuildFault::Write),
+        let failures = |why| u64::from(fault == Some(why));
+        let want = (failures(BuildFault::Read), failures(BuildFault::Write));
+        same(
+            rt,
+            "failures",
+            (built.read_failures, built.write_failures),
+            want,
         );
-        fail_so_often(rt, "failures", built, want);
         fault
     }
 }
@@ -339,38 +310,21 @@ fn any_call_of_a_device_is_odd(rt: HostRuntime) -> Result<(), Fail> {
     let alloc = rt.alloc();
     for job in &JOBS {
         let job = prepare(alloc, job)?;
-        readers_are_odd(&rt, alloc, &job)?;
-        slow_readers_are_odd(&rt, alloc, &job)?;
-        writers_are_odd(&rt, alloc, &job)?;
+        // the reader's bytes at a call, and how often it is called at least
+        for (most, least) in [(64, 128), (1000, 9), (usize::MAX, 1)] {
+            let calls = each_is_odd(&rt, alloc, &job, Side::Reader, most)?;
+            holds(&rt, "calls of the reader", calls >= least);
+        }
+        // it gives one byte at a call: the first and the last call of both windows
+        for number in [1, 4096, 4097, 8192] {
+            is_odd(&rt, alloc, &job, Side::Reader, 1, number)?;
+        }
+        // a flush would be one call more
+        let calls = each_is_odd(&rt, alloc, &job, Side::Writer, 1)?;
+        same(&rt, "calls of the writer", calls, job.job.text.len());
+        let calls = each_is_odd(&rt, alloc, &job, Side::Writer, usize::MAX)?;
+        holds(&rt, "calls of the writer", calls > 0);
     }
-    Ok(())
-}
-
-/// Readers that give many bytes at a call.
-fn readers_are_odd(rt: &impl Abort, alloc: Global, job: &Prepared<'_>) -> Result<(), Fail> {
-    // the reader's bytes at a call, and how often it is called at least
-    for (most, least) in [(64, 128), (1000, 9), (usize::MAX, 1)] {
-        let calls = each_is_odd(rt, alloc, job, Side::Reader, most)?;
-        holds(rt, "calls of the reader", calls >= least);
-    }
-    Ok(())
-}
-
-/// A reader that gives one byte at a call: the first and the last call of both windows.
-fn slow_readers_are_odd(rt: &impl Abort, alloc: Global, job: &Prepared<'_>) -> Result<(), Fail> {
-    for number in [1, 4096, 4097, 8192] {
-        is_odd(rt, alloc, job, Side::Reader, 1, number)?;
-    }
-    Ok(())
-}
-
-/// Writers that take one byte at a call, and any number.
-fn writers_are_odd(rt: &impl Abort, alloc: Global, job: &Prepared<'_>) -> Result<(), Fail> {
-    // a flush would be one call more
-    let calls = each_is_odd(rt, alloc, job, Side::Writer, 1)?;
-    same(rt, "calls of the writer", calls, job.job.text.len());
-    let calls = each_is_odd(rt, alloc, job, Side::Writer, usize::MAX)?;
-    holds(rt, "calls of the writer", calls > 0);
     Ok(())
 }
 
@@ -382,24 +336,13 @@ fn each_is_odd(
     side: Side,
     most: usize,
 ) -> Result<usize, Fail> {
-    let calls = calls_of(rt, alloc, job, side, most)?;
+    let built = job.build(alloc, side, most, failing(0))?;
+    same(rt, "no fault", job.fault_of(rt, &built), None);
+    let calls = side.calls(&built);
     for number in 1..=calls {
         is_odd(rt, alloc, job, side, most, number)?;
     }
     Ok(calls)
-}
-
-/// How many calls of a device that moves so many bytes at a call the job takes, which has no fault.
-fn calls_of(
-    rt: &impl Abort,
-    alloc: Global,
-    job: &Prepared<'_>,
-    side: Side,
-    most: usize,
-) -> Result<usize, Fail> {
-    let built = job.build(alloc, side, most, failing(0))?;
-    same(rt, "no fault", job.fault_of(rt, &built), None);
-    Ok(side.calls(&built))
 }
 
 /// The call of this number is odd in each way. One that fails or moves nothing is the device's last.
@@ -417,26 +360,15 @@ fn is_odd(
         same(rt, label.as_str(), job.fault_of(rt, &built), want);
         if want.is_some() {
             same(rt, label.as_str(), side.calls(&built), number);
-            let is_front = has_front(job, &built, side, most, number);
+            let held = built.writer.held.as_slice();
+            let is_front = match side {
+                Side::Reader => held == front_after(job, &built),
+                Side::Writer => most != 1 || held.len() == number.saturating_sub(1),
+            };
             holds(rt, label.as_str(), is_front);
         }
     }
     Ok(())
-}
-
-/// Whether what stands of the script is what could be written before the last call of a device, which has this number.
-fn has_front(
-    job: &Prepared<'_>,
-    built: &Built<'_>,
-    side: Side,
-    most: usize,
-    number: usize,
-) -> bool {
-    let held = built.writer.held.as_slice();
-    match side {
-        Side::Reader => held == front_after(job, built),
-        Side::Writer => most != 1 || held.len() == number.saturating_sub(1),
-    }
 }
 
 /// What stands of the script once the reader failed or ended: a window of 4096 bytes is read before its steps are written,

@@ -83,18 +83,14 @@ fn holds_line(rt: &impl Abort, out: IntoWrite<Vec<u8>>, want: &str) {
 #[test]
 fn each_verdict_has_its_line(rt: HostRuntime) -> Result<(), Fail> {
     for (step, address, want) in DIFFERS {
-        has_check_line(&rt, rt.alloc(), &no(step, Why::Differs(address)), want)?;
+        let mut line = IntoWrite::new(Vec::new(rt.alloc()));
+        norprog_check::write_verdict(&no(step, Why::Differs(address)), &mut line)?;
+        holds_line(&rt, line, want);
     }
     for (why, number) in WRONGS {
-        has_lines_of_steps(&rt, rt.alloc(), why, number)?;
-    }
-    Ok(())
-}
-
-/// The lines of steps that go wrong so.
-fn has_lines_of_steps(rt: &impl Abort, alloc: Global, why: Wrong, number: u8) -> Result<(), Fail> {
-    for step in [0, 1, 9, 10, 12, 99, 100, u64::MAX] {
-        has_lines(rt, alloc, step, why, number)?;
+        for step in [0, 1, 9, 10, 12, 99, 100, u64::MAX] {
+            has_lines(&rt, rt.alloc(), step, why, number)?;
+        }
     }
     Ok(())
 }
@@ -107,36 +103,14 @@ fn has_lines(
     why: Wrong,
     number: u8,
 ) -> Result<(), Fail> {
-    let want = format!(in alloc; "no at {step} wrong {number}\n")?;
-    has_check_line(rt, alloc, &no(step, Why::Wrong(why)), want.as_str())?;
-    let want = format!(in alloc; "wrong {number} at {step}\n")?;
-    has_play_line(rt, alloc, step, why, want.as_str())
-}
-
-/// The line of a check.
-fn has_check_line(
-    rt: &impl Abort,
-    alloc: Global,
-    verdict: &Verdict,
-    want: &str,
-) -> Result<(), Fail> {
     let mut line = IntoWrite::new(Vec::new(alloc));
-    norprog_check::write_verdict(verdict, &mut line)?;
-    holds_line(rt, line, want);
-    Ok(())
-}
-
-/// The line of a play whose step goes wrong.
-fn has_play_line(
-    rt: &impl Abort,
-    alloc: Global,
-    step: u64,
-    why: Wrong,
-    want: &str,
-) -> Result<(), Fail> {
+    norprog_check::write_verdict(&no(step, Why::Wrong(why)), &mut line)?;
+    let want = format!(in alloc; "no at {step} wrong {number}\n")?;
+    holds_line(rt, line, want.as_str());
     let mut line = IntoWrite::new(Vec::new(alloc));
     norprog_run::write_verdict(&norprog_run::Verdict::Wrong { step, why }, &mut line)?;
-    holds_line(rt, line, want);
+    let want = format!(in alloc; "wrong {number} at {step}\n")?;
+    holds_line(rt, line, want.as_str());
     Ok(())
 }
 
@@ -161,44 +135,26 @@ fn failing_writer(alloc: Global, fails_at: usize) -> Result<SlowWriter, AllocErr
 #[test]
 fn a_failing_writer_holds_a_proper_prefix(rt: HostRuntime) -> Result<(), Fail> {
     for fails_at in 1..=REPORT_TEXT.len() + 1 {
-        report_fails(&rt, rt.alloc(), fails_at)?;
+        let mut slow = IntoWrite::new(failing_writer(rt.alloc(), fails_at)?);
+        let failed = write_report(&REPORT, &mut slow).is_err();
+        same(&rt, REPORT_TEXT, slow.failures(), u64::from(failed));
+        is_front(&rt, REPORT_TEXT, fails_at, failed, slow.into_inner());
     }
+    let verdict = no(12, Why::Differs(0x0ABC_DEF1));
     for fails_at in 1..=NO_TEXT.len() + 1 {
-        verdict_fails(&rt, rt.alloc(), fails_at)?;
+        let mut slow = IntoWrite::new(failing_writer(rt.alloc(), fails_at)?);
+        let failed = norprog_check::write_verdict(&verdict, &mut slow).is_err();
+        same(&rt, NO_TEXT, slow.failures(), u64::from(failed));
+        is_front(&rt, NO_TEXT, fails_at, failed, slow.into_inner());
     }
     for fails_at in 1..=ONE_LINE.len() + 1 {
-        plan_fails(&rt, rt.alloc(), fails_at)?;
+        let told = one_byte_plan(rt.alloc(), 1, fails_at)?;
+        let failed = told.answer == Err(BuildFault::Write);
+        holds(&rt, ONE_LINE, failed || told.answer == Ok(ONE_PROGRAM));
+        let failures = (told.read_failures, told.write_failures);
+        same(&rt, ONE_LINE, failures, (0, u64::from(failed)));
+        is_front(&rt, ONE_LINE, fails_at, failed, told.writer);
     }
-    Ok(())
-}
-
-/// A report to a writer that fails at this call.
-fn report_fails(rt: &impl Abort, alloc: Global, fails_at: usize) -> Result<(), Fail> {
-    let mut slow = IntoWrite::new(failing_writer(alloc, fails_at)?);
-    let failed = write_report(&REPORT, &mut slow).is_err();
-    same(rt, REPORT_TEXT, slow.failures(), u64::from(failed));
-    is_front(rt, REPORT_TEXT, fails_at, failed, slow.into_inner());
-    Ok(())
-}
-
-/// A verdict to a writer that fails at this call.
-fn verdict_fails(rt: &impl Abort, alloc: Global, fails_at: usize) -> Result<(), Fail> {
-    let verdict = no(12, Why::Differs(0x0ABC_DEF1));
-    let mut slow = IntoWrite::new(failing_writer(alloc, fails_at)?);
-    let failed = norprog_check::write_verdict(&verdict, &mut slow).is_err();
-    same(rt, NO_TEXT, slow.failures(), u64::from(failed));
-    is_front(rt, NO_TEXT, fails_at, failed, slow.into_inner());
-    Ok(())
-}
-
-/// A plan to a writer that fails at this call.
-fn plan_fails(rt: &impl Abort, alloc: Global, fails_at: usize) -> Result<(), Fail> {
-    let told = one_byte_plan(alloc, 1, fails_at)?;
-    let failed = told.answer == Err(BuildFault::Write);
-    holds(rt, ONE_LINE, failed || told.answer == Ok(ONE_PROGRAM));
-    let failures = (told.read_failures, told.write_failures);
-    same(rt, ONE_LINE, failures, (0, u64::from(failed)));
-    is_front(rt, ONE_LINE, fails_at, failed, told.writer);
     Ok(())
 }
 

@@ -42,16 +42,12 @@ fn play(
         8192,
         &mut after,
     );
-    Ok(with_devices(parts_of(answer), reader, after))
-}
-
-/// The verdict of a play, and its fault where it is one of a build.
-fn parts_of(answer: Result<Verdict, Refusal>) -> (Option<Verdict>, Option<BuildFault>) {
-    match answer {
+    let answer = match answer {
         Ok(verdict) => (Some(verdict), None),
         Err(Refusal::Build(fault)) => (None, Some(fault)),
         Err(_) => (None, None),
-    }
+    };
+    Ok(with_devices(answer, reader, after))
 }
 
 /// A play that ends well, with one byte left to read: the chip holds 00h at 0 and is else erased.
@@ -84,25 +80,17 @@ fn a_refused_growth_is_memory(rt: HostRuntime) {
         match played.answer {
             (_, Some(fault)) => {
                 same(&rt, "refused", fault, BuildFault::Memory);
-                writes_nothing(&rt, &played);
+                same(&rt, "bytes written", played.writer.held.len(), 0);
+                let failures = (played.read_failures, played.write_failures);
+                same(&rt, "failures", failures, (0, 0));
             }
             _ => ends(&rt, &played),
         }
     }
 }
 
-/// Nothing is written, and no device has failed.
-fn writes_nothing(rt: &impl Abort, played: &Played<'_>) {
-    same(rt, "bytes written", played.writer.held.len(), 0);
-    let failures = (played.read_failures, played.write_failures);
-    same(rt, "failures", failures, (0, 0));
-}
-
 /// Devices, the fault, how many bytes are left to read, and how many were written.
-type Row = ((usize, usize, usize), BuildFault, usize, usize);
-
-/// Readers that end early, and devices that fail.
-const ROWS: [Row; 6] = [
+const ROWS: [((usize, usize, usize), BuildFault, usize, usize); 6] = [
     ((8191, 0, 0), BuildFault::ContentShort, 0, 0),
     ((0, 0, 0), BuildFault::ContentShort, 0, 0),
     ((8192, 1, 0), BuildFault::Read, 8192, 0),
@@ -113,24 +101,23 @@ const ROWS: [Row; 6] = [
 
 #[test]
 fn devices_that_end_or_fail(rt: HostRuntime) -> Result<(), Fail> {
-    for row in ROWS {
-        let (has, read_fails_at, write_fails_at) = row.0;
+    for ((has, read_fails_at, write_fails_at), fault, left, written) in ROWS {
         let label = format!(in rt.alloc(); "{has}, {read_fails_at}, {write_fails_at}")?;
-        try_row(&rt, rt.alloc(), label.as_str(), row)?;
+        let label = label.as_str();
+        let played = play(rt.alloc(), has, read_fails_at, write_fails_at)?;
+        holds(&rt, label, played.answer == (None, Some(fault)));
+        same(&rt, label, played.reader.ahead.len(), left);
+        same(&rt, label, played.writer.held.len(), written);
+        let want = (
+            u64::from(fault == BuildFault::Read),
+            u64::from(fault == BuildFault::Write),
+        );
+        same(
+            &rt,
+            label,
+            (played.read_failures, played.write_failures),
+            want,
+        );
     }
-    Ok(())
-}
-
-/// A play over the row's devices answers what the row says, and has moved so many bytes.
-fn try_row(rt: &impl Abort, alloc: Global, label: &str, row: Row) -> Result<(), Fail> {
-    let ((has, read_fails_at, write_fails_at), fault, left, written) = row;
-    let played = play(alloc, has, read_fails_at, write_fails_at)?;
-    holds(rt, label, played.answer == (None, Some(fault)));
-    same(rt, label, played.reader.ahead.len(), left);
-    same(rt, label, played.writer.held.len(), written);
-    let reads = u64::from(fault == BuildFault::Read);
-    same(rt, label, played.read_failures, reads);
-    let writes = u64::from(fault == BuildFault::Write);
-    same(rt, label, played.write_failures, writes);
     Ok(())
 }

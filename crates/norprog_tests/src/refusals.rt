@@ -70,7 +70,10 @@ fn leaves_alone(
         8192
     };
     for work in [Work::Build, Work::Plan] {
-        work_stops(rt, alloc, label, work, &inputs, len, cause)?;
+        let reader = content(BLANK, usize::MAX, 0);
+        let done = run_work(alloc, work, &inputs, reader, len, writer(alloc, 0, 1)?);
+        holds(rt, label, done.answer == Err(cause));
+        same(rt, label, (done.reader.call, done.writer.call), (0, 0));
     }
     let want = CheckStop::Build(cause);
     stops(rt, alloc, &inputs, ONE_BYTE, len, want)?;
@@ -79,24 +82,6 @@ fn leaves_alone(
         let want = CheckStop::Script(ScriptFault::Header(1));
         stops(rt, alloc, &inputs, "norscript 2\nend 0\n", 8192, want)?;
     }
-    Ok(())
-}
-
-/// A build or a plan is refused so, before a call of its devices.
-fn work_stops(
-    rt: &impl Abort,
-    alloc: Global,
-    label: &str,
-    work: Work,
-    inputs: &Inputs<'_>,
-    len: u64,
-    cause: BuildFault,
-) -> Result<(), Fail> {
-    let lines = writer(alloc, 0, 1)?;
-    let reader = content(BLANK, usize::MAX, 0);
-    let done = run_work(alloc, work, inputs, reader, len, lines);
-    holds(rt, label, done.answer == Err(cause));
-    same(rt, label, (done.reader.call, done.writer.call), (0, 0));
     Ok(())
 }
 

@@ -15,7 +15,6 @@ use norprog_words::{
 };
 use std::alloc::Global;
 use std::cell::Cell;
-use std::process::Abort;
 use std::test::Fail;
 
 /// A file of more bytes isn't read whole.
@@ -183,46 +182,36 @@ fn commands_go_over_files_in_memory(rt: HostRuntime) -> Result<(), Fail> {
         files: &files,
         flushed: Cell::new(Vec::new(alloc)),
     };
-    builds(&rt, alloc, &shelf);
-    checks(&rt, alloc, &shelf);
-    plays(&rt, alloc, &shelf);
-    Ok(())
-}
-
-/// The build's script is flushed.
-fn builds(rt: &impl Abort, alloc: Global, shelf: &Memory<'_>) {
     let mut out = IntoWrite::new(Vec::new(alloc));
     let mut err = IntoWrite::new(Vec::new(alloc));
     let given = GivenBuild {
         job: one_byte(alloc),
         out: Some("new"),
     };
-    let built = build(alloc, shelf, Ok(given), &mut out, &mut err);
-    same(rt, "the build", built, 0);
+    let built = build(alloc, &shelf, Ok(given), &mut out, &mut err);
+    same(&rt, "the build", built, 0);
     let script = shelf.flushed.replace(Vec::new(alloc));
-    same(rt, "the script", script.as_slice(), ONE_BYTE.as_bytes());
-}
-
-/// The check says yes.
-fn checks(rt: &impl Abort, alloc: Global, shelf: &Memory<'_>) {
-    let mut out = IntoWrite::new(Vec::new(alloc));
-    let mut err = IntoWrite::new(Vec::new(alloc));
+    same(&rt, "the script", script.as_slice(), ONE_BYTE.as_bytes());
     let given = GivenCheck {
         job: one_byte(alloc),
         script: Some("script"),
     };
-    let checked = check(alloc, shelf, Ok(given), &mut out, &mut err);
-    same(rt, "the check", checked, 0);
-    same(rt, "the verdict", out.inner.as_slice(), b"yes\n".as_slice());
-}
-
-/// The play ends well, and what the chip holds is flushed.
-fn plays(rt: &impl Abort, alloc: Global, shelf: &Memory<'_>) {
     let mut out = IntoWrite::new(Vec::new(alloc));
     let mut err = IntoWrite::new(Vec::new(alloc));
-    let played = run(alloc, shelf, Ok(one_play()), &mut out, &mut err);
-    same(rt, "the play", played, 0);
-    same(rt, "its line", out.inner.as_slice(), b"ok 3\n".as_slice());
+    let checked = check(alloc, &shelf, Ok(given), &mut out, &mut err);
+    same(&rt, "the check", checked, 0);
+    same(
+        &rt,
+        "the verdict",
+        out.inner.as_slice(),
+        b"yes\n".as_slice(),
+    );
+    let mut out = IntoWrite::new(Vec::new(alloc));
+    let mut err = IntoWrite::new(Vec::new(alloc));
+    let played = run(alloc, &shelf, Ok(one_play()), &mut out, &mut err);
+    same(&rt, "the play", played, 0);
+    same(&rt, "its line", out.inner.as_slice(), b"ok 3\n".as_slice());
     let after = shelf.flushed.replace(Vec::new(alloc));
-    same(rt, "the byte", after.as_slice().first().copied(), Some(0));
+    same(&rt, "the byte", after.as_slice().first().copied(), Some(0));
+    Ok(())
 }

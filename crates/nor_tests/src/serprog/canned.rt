@@ -1,6 +1,6 @@
 //! Devices in memory.
 
-use std::alloc::{AllocError, Global};
+use std::alloc::Global;
 use std::io;
 
 /// How a device ends.
@@ -70,18 +70,4 @@ impl io::Write for Held {
     fn flush(&mut self) -> io::Result<()> {
         Ok(())
     }
-}
-
-/// The bytes with one of them changed.
-pub(crate) fn with(
-    alloc: Global,
-    bytes: &[u8],
-    place: usize,
-    byte: u8,
-) -> Result<Vec<u8>, AllocError> {
-    let mut changed = Vec::from_slice(alloc, bytes)?;
-    if let Some(old) = changed.get_mut(place) {
-        *old = byte;
-    }
-    Ok(changed)
 }

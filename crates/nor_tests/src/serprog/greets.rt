@@ -1,7 +1,7 @@
 //! Handshakes with devices in memory.
 
 use crate::same::{holds, same};
-use crate::serprog::canned::{Canned, End, Held, with};
+use crate::serprog::canned::{Canned, End, Held};
 use nor_base::{FromRead, IntoWrite};
 use nor_serprog::{Command, Fault, GreetFault, Limits, greet};
 use std::alloc::Global;
@@ -44,14 +44,6 @@ struct Row<'a> {
     room: usize,
 }
 
-/// A device that does its work.
-const GOOD: Row<'static> = Row {
-    answers: ANSWERS,
-    silent: 0,
-    end: End::Silent,
-    room: 100,
-};
-
 /// Greets it, and gives what it took.
 fn greets(alloc: Global, row: &Row<'_>) -> (Result<Limits, GreetFault>, Vec<u8>) {
     let mut from = FromRead::new(Canned {
@@ -64,47 +56,47 @@ fn greets(alloc: Global, row: &Row<'_>) -> (Result<Limits, GreetFault>, Vec<u8>)
     (met, to.into_inner().bytes)
 }
 
-/// What a device answers after some silence, what is put to it, and its limits.
-static GREETINGS: [(&[u8], u32, &[u8], (u32, u32)); 4] = [
-    (
-        ANSWERS,
-        0,
-        b"\x10\x01\x02\x12\x08\x08\x11\x15\x01",
-        (256, 0xFF_FFFF),
-    ),
-    (BARE, 0, b"\x10\x01\x02\x12\x08", (0xFF_FFFF, 0xFF_FFFF)),
-    (b"\x15\x06\x15\x06", 1, b"\x10\x10\x01", (0, 0)),
-    (b"\x00\x06\x15\x15\x06", 0, b"\x10\x01", (0, 0)),
-];
+/// The bytes with one of them changed.
+fn with(alloc: Global, bytes: &[u8], place: usize, byte: u8) -> Result<Vec<u8>, Fail> {
+    let mut changed = Vec::from_slice(alloc, bytes)?;
+    if let Some(old) = changed.get_mut(place) {
+        *old = byte;
+    }
+    Ok(changed)
+}
 
 #[test]
-fn greets_devices(rt: HostRuntime) {
-    for (answers, silent, put, limits) in &GREETINGS {
+fn greets_devices(rt: HostRuntime) -> Result<(), Fail> {
+    let rows: [(&[u8], u32, &[u8], u32, u32); 4] = [
+        (
+            ANSWERS,
+            0,
+            b"\x10\x01\x02\x12\x08\x08\x11\x15\x01",
+            256,
+            0xFF_FFFF,
+        ),
+        (BARE, 0, b"\x10\x01\x02\x12\x08", 0xFF_FFFF, 0xFF_FFFF),
+        (b"\x15\x06\x15\x06", 1, b"\x10\x10\x01", 0, 0),
+        (b"\x00\x06\x15\x15\x06", 0, b"\x10\x01", 0, 0),
+    ];
+    for (answers, silent, put, sent, asked) in rows {
         let row = Row {
             answers,
-            silent: *silent,
-            ..GOOD
+            silent,
+            end: End::Silent,
+            room: 100,
         };
-        has_limits(&rt, rt.alloc(), &row, put, *limits);
+        let (met, held) = greets(rt.alloc(), &row);
+        holds(&rt, "what was put", held.as_slice() == put);
+        let limits = met.map(|limits| (limits.sent, limits.asked));
+        let cut = Err(GreetFault::Command {
+            at: Command::QueryInterface,
+            why: Fault::Silent,
+        });
+        let want = if sent > 0 { Ok((sent, asked)) } else { cut };
+        same(&rt, "the limits", limits, want);
     }
-}
-
-/// What is put, and the limits that are told; none where the device falls silent behind its first word.
-fn has_limits(rt: &impl Abort, alloc: Global, row: &Row<'_>, put: &[u8], limits: (u32, u32)) {
-    let (met, held) = greets(alloc, row);
-    holds(rt, "what was put", held.as_slice() == put);
-    let cut = GreetFault::Command {
-        at: Command::QueryInterface,
-        why: Fault::Silent,
-    };
-    let want = if limits.0 > 0 { Ok(limits) } else { Err(cut) };
-    same(rt, "the limits", numbers(met), want);
-}
-
-/// Limits as numbers.
-fn numbers(met: Result<Limits, GreetFault>) -> Result<(u32, u32), GreetFault> {
-    let limits = met?;
-    Ok((limits.sent, limits.asked))
+    Ok(())
 }
 
 /// What is met where a device answers so, and has put so many bytes.
@@ -122,100 +114,82 @@ fn stops(rt: &impl Abort, alloc: Global, row: &Row<'_>, at: Command, why: Fault,
 /// Each command's answer is cut, fails, is NAK, is another byte; and the writer fails in each command.
 #[test]
 fn each_command_is_answered_wrongly(rt: HostRuntime) -> Result<(), Fail> {
+    let alloc = rt.alloc();
     for (at, place, before) in COMMANDS {
-        let put = before + if is_long(at) { 2 } else { 1 };
-        ends_before(&rt, rt.alloc(), (at, place), before, put);
-        answers_with(&rt, rt.alloc(), (at, place), put, 0x15, Fault::Nak)?;
-        answers_with(&rt, rt.alloc(), (at, place), put, 0x07, Fault::Differs)?;
+        let (silent, end, room) = (0, End::Silent, 100);
+        let put = before
+            + if matches!(at, Command::SetBus | Command::SetPins) {
+                2
+            } else {
+                1
+            };
+        let (cut, _) = ANSWERS.split_at(place.min(ANSWERS.len()));
+        let row = Row {
+            answers: cut,
+            silent,
+            end,
+            room,
+        };
+        stops(&rt, alloc, &row, at, Fault::Silent, put);
+        let fails = Row {
+            end: End::Fails,
+            ..row
+        };
+        stops(&rt, alloc, &fails, at, Fault::Read, put);
+        let full = Row {
+            answers: ANSWERS,
+            room: before,
+            ..row
+        };
+        stops(&rt, alloc, &full, at, Fault::Write, before);
+        for (byte, why) in [(0x15, Fault::Nak), (0x07, Fault::Differs)] {
+            let changed = with(alloc, ANSWERS, place, byte)?;
+            let row = Row {
+                answers: changed.as_slice(),
+                silent,
+                end,
+                room,
+            };
+            stops(&rt, alloc, &row, at, why, put);
+        }
     }
-    Ok(())
-}
-
-/// Whether a command has a byte behind its own.
-fn is_long(command: Command) -> bool {
-    matches!(command, Command::SetBus | Command::SetPins)
-}
-
-/// The device ends before a command's answer, or takes only so many bytes.
-fn ends_before(
-    rt: &impl Abort,
-    alloc: Global,
-    (at, place): (Command, usize),
-    before: usize,
-    put: usize,
-) {
-    let (answers, _) = ANSWERS.split_at(place.min(ANSWERS.len()));
-    let cut = Row { answers, ..GOOD };
-    stops(rt, alloc, &cut, at, Fault::Silent, put);
-    let fails = Row {
-        end: End::Fails,
-        ..cut
-    };
-    stops(rt, alloc, &fails, at, Fault::Read, put);
-    let full = Row {
-        room: before,
-        ..GOOD
-    };
-    stops(rt, alloc, &full, at, Fault::Write, before);
-}
-
-/// A command's answer begins with this byte.
-fn answers_with(
-    rt: &impl Abort,
-    alloc: Global,
-    (at, place): (Command, usize),
-    put: usize,
-    byte: u8,
-    why: Fault,
-) -> Result<(), Fail> {
-    let changed = with(alloc, ANSWERS, place, byte)?;
-    let row = Row {
-        answers: changed.as_slice(),
-        ..GOOD
-    };
-    stops(rt, alloc, &row, at, why, put);
     Ok(())
 }
 
 /// No first word; another version; no SPI operation.
 #[test]
 fn devices_that_are_none(rt: HostRuntime) -> Result<(), Fail> {
-    has_no_word(&rt, rt.alloc())?;
-    is_refused(&rt, rt.alloc(), 3, 2, GreetFault::Version)?;
-    is_refused(&rt, rt.alloc(), 4, 1, GreetFault::Version)?;
-    is_refused(&rt, rt.alloc(), 8, 0x26, GreetFault::NoOperation)
-}
-
-/// A device that is silent, and one that answers NAK without end.
-fn has_no_word(rt: &impl Abort, alloc: Global) -> Result<(), Fail> {
-    let none = Row {
+    let alloc = rt.alloc();
+    let (silent, end, room) = (0, End::Silent, 100);
+    let row = Row {
         answers: b"",
-        ..GOOD
+        silent,
+        end,
+        room,
     };
-    stops(rt, alloc, &none, Command::SyncNop, Fault::Silent, 8);
+    stops(&rt, alloc, &row, Command::SyncNop, Fault::Silent, 8);
     let endless = vec![in alloc; 0x15u8; 5000]?;
     let row = Row {
         answers: endless.as_slice(),
-        ..GOOD
+        silent,
+        end,
+        room,
     };
-    stops(rt, alloc, &row, Command::SyncNop, Fault::Differs, 1);
-    Ok(())
-}
-
-/// A device of which one byte is another is refused for this.
-fn is_refused(
-    rt: &impl Abort,
-    alloc: Global,
-    place: usize,
-    byte: u8,
-    fault: GreetFault,
-) -> Result<(), Fail> {
-    let changed = with(alloc, ANSWERS, place, byte)?;
-    let row = Row {
-        answers: changed.as_slice(),
-        ..GOOD
-    };
-    let (met, _) = greets(alloc, &row);
-    same(rt, "the fault", met.err(), Some(fault));
+    stops(&rt, alloc, &row, Command::SyncNop, Fault::Differs, 1);
+    for (place, byte, fault) in [
+        (3, 2, GreetFault::Version),
+        (4, 1, GreetFault::Version),
+        (8, 0x26, GreetFault::NoOperation),
+    ] {
+        let changed = with(alloc, ANSWERS, place, byte)?;
+        let row = Row {
+            answers: changed.as_slice(),
+            silent,
+            end,
+            room,
+        };
+        let (met, _) = greets(alloc, &row);
+        same(&rt, "the fault", met.err(), Some(fault));
+    }
     Ok(())
 }

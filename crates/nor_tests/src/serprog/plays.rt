@@ -1,15 +1,15 @@
 //! Scripts played on devices in memory.
 
 use crate::same::{holds, same};
-use crate::serprog::canned::{Canned, End, Held, with};
-use nor_base::{Meaning, PortFault, Start, Step, Width, Wrong};
+use crate::serprog::canned::{Canned, End, Held};
+use nor_base::{PortFault, Start, Width, Wrong};
 use nor_chip::{Chip, Port};
 use nor_play::{PlayFault, play};
 use nor_samples::small_chip;
 use nor_samples::texts::ONE_BYTE;
 use nor_script::read;
 use nor_serprog::{Fault, Limits, Reason, Shadowed};
-use std::alloc::{AllocError, Global};
+use std::alloc::Global;
 use std::process::Abort;
 use std::test::Fail;
 
@@ -61,33 +61,13 @@ struct Met {
 /// Plays a script on an empty chip of 8 KiB beside the device, and then asks for a status.
 fn plays(rt: &impl Abort, alloc: Global, text: &str, row: &Row<'_>) -> Result<Met, Fail> {
     let (meaning, steps) = (small_chip(), read(alloc, text.as_bytes())?);
-    let chip = empty_chip(rt, alloc, &meaning)?;
-    let mut port = beside(rt, alloc, chip, row);
-    Ok(plays_at(rt, alloc, steps.as_slice(), &mut port)?)
-}
-
-/// A chip that holds FFh.
-fn empty_chip<'a>(
-    rt: &impl Abort,
-    alloc: Global,
-    meaning: &'a Meaning,
-) -> Result<Chip<'a>, AllocError> {
     let start = Start {
         mode4: false,
         quad: true,
     };
     holds(rt, "a chip of both modes", meaning.width != Width::Four);
     let content = vec![in alloc; 0xFFu8; meaning.size as usize]?;
-    Ok(Chip::new(meaning, start, content, Vec::new(alloc), false))
-}
-
-/// The chip beside the device.
-fn beside<'a, 'b>(
-    rt: &impl Abort,
-    alloc: Global,
-    chip: Chip<'a>,
-    row: &Row<'b>,
-) -> Shadowed<'a, Canned<'b>, Held> {
+    let chip = Chip::new(&meaning, start, content, Vec::new(alloc), false);
     let from = Canned {
         answers: row.answers,
         silent: 0,
@@ -98,22 +78,12 @@ fn beside<'a, 'b>(
         sent: row.sent,
         asked: 256,
     };
-    Shadowed::new(chip, from, Held::new(alloc, row.room), limits, row.turns)
-}
-
-/// Plays steps there.
-fn plays_at(
-    rt: &impl Abort,
-    alloc: Global,
-    steps: &[Step],
-    port: &mut Shadowed<'_, Canned<'_>, Held>,
-) -> Result<Met, AllocError> {
-    holds(rt, "no failure yet", port.failures() == 0);
-    let played = play(alloc, steps, port, 1);
+    let mut port = Shadowed::new(chip, from, Held::new(alloc, row.room), limits, row.turns);
+    let played = play(alloc, steps.as_slice(), &mut port, 1);
     let put = Vec::from_slice(alloc, port.to.inner.bytes.as_slice())?;
     let reason = port.reason;
     if reason.is_some() {
-        stays_failed(rt, port, put.as_slice());
+        stays_failed(rt, &mut port, put.as_slice());
     }
     Ok(Met {
         played,
@@ -131,42 +101,28 @@ fn stays_failed(rt: &impl Abort, port: &mut Shadowed<'_, Canned<'_>, Held>, put:
     holds(rt, "nothing more", port.to.inner.bytes.as_slice() == put);
 }
 
-/// The port fails at this step for this reason. Answers how many bytes were put.
-fn fails(
-    rt: &impl Abort,
-    alloc: Global,
-    row: &Row<'_>,
-    step: u64,
-    reason: Reason,
-) -> Result<usize, Fail> {
-    let met = plays(rt, alloc, VERIFY, row)?;
-    let played = Err(PlayFault::PortFailed { step });
-    same(rt, "played", met.played, played);
+/// The port fails at this step for this reason, and so many bytes were put.
+fn fails(rt: &impl Abort, met: &Met, step: u64, reason: Reason) {
+    same(
+        rt,
+        "played",
+        met.played,
+        Err(PlayFault::PortFailed { step }),
+    );
     same(rt, "the reason", met.reason, Some(reason));
     holds(rt, "what was put", PUT.starts_with(met.put.as_slice()));
-    Ok(met.put.len())
 }
 
 /// The exact bytes of the one-byte job, and of that job with a read.
 #[test]
 fn plays_jobs(rt: HostRuntime) -> Result<(), Fail> {
-    plays_job(&rt, rt.alloc(), ONE_BYTE, 3, 44)?;
-    plays_job(&rt, rt.alloc(), VERIFY, 4, 55)
-}
-
-/// A job of so many steps, for which so many bytes are put.
-fn plays_job(
-    rt: &impl Abort,
-    alloc: Global,
-    text: &str,
-    steps: u128,
-    put: usize,
-) -> Result<(), Fail> {
-    let met = plays(rt, alloc, text, &GOOD)?;
-    same(rt, text, met.played, Ok(steps));
-    same(rt, "no reason", met.reason, None);
-    same(rt, "how many were put", met.put.len(), put);
-    holds(rt, "what was put", PUT.starts_with(met.put.as_slice()));
+    for (text, steps, put) in [(ONE_BYTE, 3, 44), (VERIFY, 4, 55)] {
+        let met = plays(&rt, rt.alloc(), text, &GOOD)?;
+        same(&rt, text, met.played, Ok(steps));
+        same(&rt, "no reason", met.reason, None);
+        same(&rt, "how many were put", met.put.len(), put);
+        holds(&rt, "what was put", PUT.starts_with(met.put.as_slice()));
+    }
     Ok(())
 }
 
@@ -174,94 +130,82 @@ fn plays_job(
 #[test]
 fn each_byte_fails(rt: HostRuntime) -> Result<(), Fail> {
     for (place, step) in STEPS.iter().enumerate() {
-        ends_at(&rt, rt.alloc(), place, *step)?;
+        let (answers, _) = ANSWERS.split_at(place.min(ANSWERS.len()));
+        for (end, why) in [(End::Silent, Fault::Silent), (End::Fails, Fault::Read)] {
+            let met = plays(
+                &rt,
+                rt.alloc(),
+                VERIFY,
+                &Row {
+                    answers,
+                    end,
+                    ..GOOD
+                },
+            )?;
+            fails(&rt, &met, *step, Reason::Exchange(why));
+        }
     }
     for room in 0..PUT.len() {
-        let row = Row { room, ..GOOD };
-        let why = Reason::Exchange(Fault::Write);
-        let put = fails(&rt, rt.alloc(), &row, step_of(room), why)?;
-        same(&rt, "how many were put", put, room);
+        let met = plays(&rt, rt.alloc(), VERIFY, &Row { room, ..GOOD })?;
+        let step = if room < 8 {
+            0
+        } else if room < 20 {
+            1
+        } else if room < 44 {
+            2
+        } else {
+            3
+        };
+        fails(&rt, &met, step, Reason::Exchange(Fault::Write));
+        same(&rt, "how many were put", met.put.len(), room);
     }
     Ok(())
-}
-
-/// A device that falls silent, or fails, at this byte, which it gives at this step.
-fn ends_at(rt: &impl Abort, alloc: Global, place: usize, step: u64) -> Result<(), Fail> {
-    let (answers, _) = ANSWERS.split_at(place.min(ANSWERS.len()));
-    let silent = Row { answers, ..GOOD };
-    fails(rt, alloc, &silent, step, Reason::Exchange(Fault::Silent))?;
-    let failing = Row {
-        end: End::Fails,
-        ..silent
-    };
-    fails(rt, alloc, &failing, step, Reason::Exchange(Fault::Read))?;
-    Ok(())
-}
-
-/// The step at which the byte of this place is put.
-fn step_of(place: usize) -> u64 {
-    if place < 8 {
-        0
-    } else if place < 20 {
-        1
-    } else if place < 44 {
-        2
-    } else {
-        3
-    }
 }
 
 /// A device that answers NAK, or another byte, in place of each ACK and of what is read.
 #[test]
 fn each_byte_lies(rt: HostRuntime) -> Result<(), Fail> {
+    let alloc = rt.alloc();
     for place in [0usize, 1, 2, 4, 6, 8, 9] {
         for byte in [0x15, 0x80] {
-            lies(&rt, rt.alloc(), place, byte)?;
+            let mut answers = Vec::from_slice(alloc, ANSWERS)?;
+            if let Some(old) = answers.get_mut(place) {
+                *old = byte;
+            }
+            let row = Row {
+                answers: answers.as_slice(),
+                ..GOOD
+            };
+            let met = plays(&rt, alloc, VERIFY, &row)?;
+            let why = if byte == 0x15 && place < 9 {
+                Fault::Nak
+            } else {
+                Fault::Differs
+            };
+            let step = STEPS.get(place).copied().unwrap_or(0);
+            fails(&rt, &met, step, Reason::Exchange(why));
         }
     }
-    Ok(())
-}
-
-/// A device that answers this byte in this place.
-fn lies(rt: &impl Abort, alloc: Global, place: usize, byte: u8) -> Result<(), Fail> {
-    let why = if byte == 0x15 && place < 9 {
-        Fault::Nak
-    } else {
-        Fault::Differs
-    };
-    let step = STEPS.get(place).copied().unwrap_or(0);
-    let answers = with(alloc, ANSWERS, place, byte)?;
-    let row = Row {
-        answers: answers.as_slice(),
-        ..GOOD
-    };
-    fails(rt, alloc, &row, step, Reason::Exchange(why))?;
     Ok(())
 }
 
 /// What the chip in memory refuses, what the device can't do, and a poll that stays busy.
 #[test]
 fn is_never_asked(rt: HostRuntime) -> Result<(), Fail> {
-    refuses(&rt, rt.alloc())?;
-    let few = Row { sent: 4, ..GOOD };
-    let put = fails(&rt, rt.alloc(), &few, 1, Reason::Carried)?;
-    same(&rt, "the enable alone was put", put, 8);
-    let busy = Row { turns: 2, ..GOOD };
-    let put = fails(&rt, rt.alloc(), &busy, 2, Reason::Busy)?;
-    same(&rt, "two status reads", put, 36);
-    Ok(())
-}
-
-/// A program that isn't enabled.
-fn refuses(rt: &impl Abort, alloc: Global) -> Result<(), Fail> {
     let wrong = "norscript 1\nx 0000001000000000000000000000000000000000\nend 1\n";
-    let met = plays(rt, alloc, wrong, &GOOD)?;
+    let met = plays(&rt, rt.alloc(), wrong, &GOOD)?;
     let fault = PlayFault::Wrong {
         step: 0,
         why: Wrong::Ignored,
     };
-    same(rt, "refused", met.played, Err(fault));
-    same(rt, "no reason", met.reason, None);
-    same(rt, "nothing was put", met.put.len(), 0);
+    same(&rt, "refused", met.played, Err(fault));
+    same(&rt, "no reason", met.reason, None);
+    same(&rt, "nothing was put", met.put.len(), 0);
+    let met = plays(&rt, rt.alloc(), VERIFY, &Row { sent: 4, ..GOOD })?;
+    fails(&rt, &met, 1, Reason::Carried);
+    same(&rt, "the enable alone was put", met.put.len(), 8);
+    let met = plays(&rt, rt.alloc(), VERIFY, &Row { turns: 2, ..GOOD })?;
+    fails(&rt, &met, 2, Reason::Busy);
+    same(&rt, "two status reads", met.put.len(), 36);
     Ok(())
 }
