@@ -39,20 +39,21 @@ fn words_row(
     given: &[&str],
     found: &mut String,
 ) -> io::Result<()> {
-    match (word, words) {
-        ("long", [name, size]) => make_long(rt, name, size),
-        ("folder", [name]) => fs::create_dir(rt, *name),
-        ("remove", [name]) => fs::remove_file(rt, *name),
-        ("link", [name, link]) => symlink(rt, *name, *link),
-        ("hard", [name, link]) => fs::hard_link(rt, *name, *link),
-        ("holds", [name]) => holds_row(rt, name, given, found),
-        (_, [name, rest @ ..]) => {
-            if !write_row(rt, word, name, rest, given)? {
-                show_row(rt, word, words, found)?;
+    let name = words.first().copied().unwrap_or("");
+    let other = words.get(1).copied().unwrap_or("");
+    match word {
+        "long" => make_long(rt, name, other),
+        "folder" => fs::create_dir(rt, name),
+        "remove" => fs::remove_file(rt, name),
+        "link" => symlink(rt, name, other),
+        "hard" => fs::hard_link(rt, name, other),
+        "holds" => holds_row(rt, name, given, found),
+        _ => {
+            if !write_row(rt, word, name, words.get(1..).unwrap_or(&[]), given)? {
+                show_row(rt, word, name, other, found)?;
             }
             Ok(())
         }
-        (_, []) => unknown_row(word, found),
     }
 }
 
@@ -110,21 +111,16 @@ fn bytes_for(
     words: &[&str],
     given: &[&str],
 ) -> io::Result<Option<Vec<u8>>> {
-    Ok(Some(match (word, words) {
-        ("file", []) => lines_of(rt.alloc(), given)?.into_bytes(),
-        ("patch", _) => fs::read(rt, name)?,
-        ("cut", [size]) => front_of(rt, name, size)?,
-        _ => return made_bytes(rt.alloc(), word, words),
-    }))
-}
-
-/// The bytes that a row makes by its words alone; None where it makes none.
-fn made_bytes(alloc: Global, word: &str, words: &[&str]) -> io::Result<Option<Vec<u8>>> {
-    Ok(Some(match (word, words) {
-        ("records", [count]) => records(alloc, number(count)?)?.into_bytes(),
-        ("noise", [size]) => noise(alloc, number(size)?)?,
-        ("fill", [size, byte, ..]) => filled(alloc, size, byte)?,
-        ("tables", [sample, ..]) => return tables_of(alloc, sample),
+    let alloc = rt.alloc();
+    let first = words.first().copied().unwrap_or("");
+    Ok(Some(match word {
+        "file" => lines_of(alloc, given)?.into_bytes(),
+        "patch" => fs::read(rt, name)?,
+        "cut" => front_of(rt, name, first)?,
+        "records" => records(alloc, number(first)?)?.into_bytes(),
+        "noise" => noise(alloc, number(first)?)?,
+        "fill" => filled(alloc, first, words.get(1).copied().unwrap_or(""))?,
+        "tables" => tables_of(alloc, first)?,
         _ => return Ok(None),
     }))
 }
@@ -152,22 +148,23 @@ fn before_patches(word: &str) -> usize {
     }
 }
 
-/// Does a row that shows a file.
-fn show_row(rt: &HostRuntime, word: &str, words: &[&str], found: &mut String) -> io::Result<()> {
-    match (word, words) {
-        ("cat", [name]) => push_text(rt, name, found),
-        ("script", [name]) => push_script(rt, name, found),
-        ("size", [name]) => push_size(rt, name, found),
-        ("there", [name]) => push_yes_or_no(fs::exists(rt, *name)?, found),
-        ("same", [one, other]) => push_yes_or_no(is_same(rt, one, other)?, found),
-        ("changes", [one, other]) => push_differences(rt, one, other, found),
-        _ => unknown_row(word, found),
+/// Does a row that shows a file, or compares it with another.
+fn show_row(
+    rt: &HostRuntime,
+    word: &str,
+    name: &str,
+    other: &str,
+    found: &mut String,
+) -> io::Result<()> {
+    match word {
+        "cat" => push_text(rt, name, found),
+        "script" => push_script(rt, name, found),
+        "size" => push_size(rt, name, found),
+        "there" => push_yes_or_no(fs::exists(rt, name)?, found),
+        "same" => push_yes_or_no(is_same(rt, name, other)?, found),
+        "changes" => push_differences(rt, name, other, found),
+        _ => Ok(writeln!(found, "unknown: {word}")?),
     }
-}
-
-/// Tells a row whose words mean nothing.
-fn unknown_row(word: &str, found: &mut String) -> io::Result<()> {
-    Ok(writeln!(found, "unknown: {word}")?)
 }
 
 /// Pushes the text of a file.
@@ -253,11 +250,9 @@ fn push_given(line: &str, text: &mut String) -> Result<(), AllocError> {
 }
 
 /// The SFDP bytes of a sample chip of `nor_samples`.
-fn tables_of(alloc: Global, sample: &str) -> io::Result<Option<Vec<u8>>> {
-    match sample_of(sample) {
-        Some((chip, patches)) => Ok(Some(patched(alloc, chip, patches)?)),
-        None => Err(bad()),
-    }
+fn tables_of(alloc: Global, sample: &str) -> io::Result<Vec<u8>> {
+    let (chip, patches) = sample_of(sample).ok_or(io::ErrorKind::InvalidInput)?;
+    Ok(patched(alloc, chip, patches)?)
 }
 
 /// The chip from which a sample's bytes come, and what is patched in them.

@@ -1,8 +1,8 @@
 //! Jobs from their images to what chips hold after them.
 
-use crate::commands::{answer_to, tell_unknown};
+use crate::commands::answer_to;
 use crate::files::{changes, lines_of, push_script};
-use crate::line::{Line, line_of};
+use crate::line::value_of;
 use std::alloc::AllocError;
 use std::{fs, io};
 
@@ -23,8 +23,19 @@ const BUSY: [&str; 8] = [
     "--keep --busy 3,3,3,3,3,3,3,3,3,3,3,3,3,3,3,3,3,3,3,3,3,3,3,3,3,3,3,3,3,3,3,3,3,3,3,3,3,3,3,3",
 ];
 
-/// Does a job, whose image is the lines that are handed over and the end record: the words are those of `build` without
-/// `--hex` and `--out`.
+/// The words of a job's command lines.
+#[derive(Clone, Copy)]
+struct Words<'a> {
+    /// Of the chip: each command has them.
+    chip: &'a str,
+    /// Of the image and where it goes: `run` doesn't have them.
+    image: &'a str,
+    /// Of how the script is written: `build` and `plan` alone have them.
+    script: &'a str,
+}
+
+/// Does a job, whose image is the lines that are handed over and the end record. Its words are of the chip; behind `|` of the
+/// image; and behind another `|` of the script.
 ///
 /// Found is the report in one line; the script in short; what `check` says of the script, and of one that does nothing;
 /// and how often `run` played the script well, with what each time has changed in the content. What `plan` prints is found
@@ -35,14 +46,19 @@ pub(crate) fn job(
     given: &[&str],
     found: &mut String,
 ) -> io::Result<()> {
+    let (chip, rest) = words.split_once('|').unwrap_or((words, ""));
+    let (image, script) = rest.split_once('|').unwrap_or((rest, ""));
+    let words = Words {
+        chip,
+        image,
+        script,
+    };
     write_files(rt, given)?;
-    let alloc = rt.alloc();
-    let line = format!(in alloc; "--hex job.hex --out job.script {words}")?;
-    let line = line_of(alloc, "build", line.as_str())?;
-    match line.unknown {
-        Some(word) => tell_unknown(word, found),
-        None => known_job(rt, &line, words, found),
-    }
+    push_report(rt, words, found)?;
+    push_script(rt, "job.script", found)?;
+    check(rt, "job.script", words, found)?;
+    check(rt, "job.nothing", words, found)?;
+    plays(rt, chip, found)
 }
 
 /// Writes a job's image, and a script that does nothing.
@@ -53,23 +69,28 @@ fn write_files(rt: &HostRuntime, given: &[&str]) -> io::Result<()> {
     fs::write(rt, "job.nothing", "norscript 1\nend 0\n")
 }
 
-/// Does a job whose words are those of `build`, which are taken apart.
-fn known_job(rt: &HostRuntime, line: &Line<'_>, words: &str, found: &mut String) -> io::Result<()> {
-    let content = fs::read(rt, line.value("--content").unwrap_or(""))?;
-    push_report(rt, line, found)?;
-    push_script(rt, "job.script", found)?;
-    check(rt, "job.script", words, found)?;
-    check(rt, "job.nothing", words, found)?;
-    plays(rt, words, content.as_slice(), found)
+/// Pushes what `build` prints in one line, or what `plan` does where its report is another one.
+fn push_report(rt: &HostRuntime, words: Words<'_>, found: &mut String) -> io::Result<()> {
+    let report = report_of(rt, "build --out job.script", words)?;
+    let planned = report_of(rt, "plan", words)?;
+    if planned.as_str().ends_with(report.as_str()) {
+        Ok(push_joined(report.as_str(), found)?)
+    } else {
+        Ok(push_joined(planned.as_str(), found)?)
+    }
 }
 
-/// Pushes what `build` prints in one line, or what `plan` does where its report is another one.
-fn push_report(rt: &HostRuntime, line: &Line<'_>, found: &mut String) -> io::Result<()> {
-    let report = answer_of(rt, "build", line)?;
-    let plan = answer_of(rt, "plan", line)?;
-    let (report, plan) = (report.as_str(), plan.as_str());
-    let told = if plan.ends_with(report) { report } else { plan };
-    Ok(push_joined(told, found)?)
+/// What a command prints whose line begins so.
+fn report_of(rt: &HostRuntime, begin: &str, words: Words<'_>) -> io::Result<String> {
+    let Words {
+        chip,
+        image,
+        script,
+    } = words;
+    let line = format!(in rt.alloc(); "{begin} --hex job.hex {chip} {image} {script}")?;
+    let mut report = String::new(rt.alloc());
+    answer_to(rt, line.as_str(), &mut report)?;
+    Ok(report)
 }
 
 /// Pushes the lines of a text as one.
@@ -85,34 +106,48 @@ fn push_joined(text: &str, found: &mut String) -> Result<(), AllocError> {
     found.push_str("\n")
 }
 
-/// What a command of a line prints.
-fn answer_of(rt: &HostRuntime, command: &str, line: &Line<'_>) -> io::Result<String> {
-    let mut answer = String::new(rt.alloc());
-    answer_to(rt, command, line, &mut answer)?;
-    Ok(answer)
-}
-
 /// What `check` says of a script.
-fn check(rt: &HostRuntime, script: &str, words: &str, found: &mut String) -> io::Result<()> {
-    let alloc = rt.alloc();
-    let words = format!(in alloc; "--hex job.hex --script {script} {words}")?;
-    let line = line_of(alloc, "check", words.as_str())?;
-    answer_to(rt, "check", &line, found)?;
+fn check(rt: &HostRuntime, script: &str, words: Words<'_>, found: &mut String) -> io::Result<()> {
+    let Words { chip, image, .. } = words;
+    let line = format!(in rt.alloc(); "check --hex job.hex --script {script} {chip} {image}")?;
+    answer_to(rt, line.as_str(), found)?;
     Ok(())
 }
 
 /// Plays the script on chips of each page that may be, with each way of being busy.
-fn plays(rt: &HostRuntime, words: &str, content: &[u8], found: &mut String) -> io::Result<()> {
+fn plays(rt: &HostRuntime, chip: &str, found: &mut String) -> io::Result<()> {
+    let content = fs::read(rt, value_of(chip, "--content").unwrap_or(""))?;
     let mut good = Good {
         plays: 0,
         first: String::new(rt.alloc()),
     };
-    for number in 0..PAGES.len() * BUSY.len() {
-        let answer = play(rt, number, words, content)?;
-        good.count(answer.as_str(), found)?;
+    for page in PAGES {
+        plays_by(rt, page, chip, content.as_slice(), &mut good, found)?;
     }
     let Good { plays, first } = good;
     Ok(writeln!(found, "{plays} plays:{first}")?)
+}
+
+/// Plays the script on chips of one page, with each way of being busy, where that page may be.
+fn plays_by(
+    rt: &HostRuntime,
+    page: &str,
+    chip: &str,
+    content: &[u8],
+    good: &mut Good,
+    found: &mut String,
+) -> io::Result<()> {
+    for busy in BUSY {
+        let line = format!(in rt.alloc();
+            "run --script job.script --out job.after --page {page} {busy} {chip}"
+        )?;
+        let answer = play(rt, line.as_str(), content)?;
+        if answer.as_str() == "norprog: page\n" {
+            return Ok(());
+        }
+        good.count(answer.as_str(), found)?;
+    }
+    Ok(())
 }
 
 /// How many plays went well, and what the first of them answered.
@@ -123,11 +158,8 @@ struct Good {
 }
 
 impl Good {
-    /// Counts a play that answered as the first one did. What another one answered is found, but for a page that can't be.
+    /// Counts a play that answered as the first one did. What another one answered is found.
     fn count(&mut self, answer: &str, found: &mut String) -> Result<(), AllocError> {
-        if answer == "norprog: page\n" {
-            return Ok(());
-        }
         if self.plays == 0 {
             self.first.push_str(answer)?;
         } else if answer != self.first.as_str() {
@@ -138,10 +170,11 @@ impl Good {
     }
 }
 
-/// Plays the script once, on the chip of this number. Answers what has changed in the content, or what `run` prints where
-/// that isn't `ok`.
-fn play(rt: &HostRuntime, number: usize, words: &str, content: &[u8]) -> io::Result<String> {
-    let answer = play_answer(rt, number, words)?;
+/// Plays the script once, by a line of `run`. Answers what has changed in the content, or what `run` prints where that isn't
+/// `ok`.
+fn play(rt: &HostRuntime, line: &str, content: &[u8]) -> io::Result<String> {
+    let mut answer = String::new(rt.alloc());
+    answer_to(rt, line, &mut answer)?;
     if !answer.as_str().starts_with("ok ") {
         return Ok(answer);
     }
@@ -149,16 +182,4 @@ fn play(rt: &HostRuntime, number: usize, words: &str, content: &[u8]) -> io::Res
     let after = fs::read(rt, "job.after")?;
     changes(content, after.as_slice(), &mut found)?;
     Ok(found)
-}
-
-/// What `run` prints of a play on the chip of this number.
-fn play_answer(rt: &HostRuntime, number: usize, words: &str) -> io::Result<String> {
-    let alloc = rt.alloc();
-    let page = PAGES.get(number / BUSY.len()).unwrap_or(&"");
-    let busy = BUSY.get(number % BUSY.len()).unwrap_or(&"");
-    let words = format!(in alloc;
-        "--script job.script --out job.after --page {page} {busy} {words}"
-    )?;
-    let line = line_of(alloc, "run", words.as_str())?;
-    answer_of(rt, "run", &line)
 }

@@ -11,7 +11,6 @@ mod files;
 mod jobs;
 mod line;
 mod order;
-mod program;
 mod rows;
 mod scripts;
 

@@ -35,20 +35,13 @@ fn tells_first(
 ) -> io::Result<bool> {
     let mut line = String::from_str(rt.alloc(), words)?;
     let told = push_causes(&mut line, given, set)?;
-    let answer = answer_of(rt, line.as_str())?;
+    let mut answer = String::new(rt.alloc());
+    command(rt, line.as_str(), &[], &mut answer)?;
     if tells(answer.as_str(), told) {
         return Ok(true);
     }
     write!(found, "{line}: {answer}")?;
     Ok(false)
-}
-
-/// What is found by a command line.
-fn answer_of(rt: &HostRuntime, line: &str) -> io::Result<String> {
-    let (word, rest) = line.split_once(' ').unwrap_or(("", ""));
-    let mut answer = String::new(rt.alloc());
-    command(rt, word, rest, &mut answer)?;
-    Ok(answer)
 }
 
 /// Whether an answer is this refusal alone.

@@ -1,6 +1,6 @@
 //! A row of a file, by its first word.
 
-use crate::{commands, files, jobs, order, program};
+use crate::{commands, files, jobs, order};
 use nor_samples::rows::{Answers, Row};
 use std::io;
 
@@ -18,8 +18,8 @@ impl<'a> Answers for Commands<'a> {
             None => (row.asked, ""),
         };
         match word {
-            _ if is_command(word) => commands::command(rt, word, rest, found),
-            "norprog" => program::program(rt, rest, row.given, found),
+            "norprog" => commands::command(rt, rest, row.given, found),
+            _ if is_command(word) => commands::command(rt, row.asked, row.given, found),
             "job" => jobs::job(rt, rest, row.given, found),
             "order" => order::order(rt, rest, row.given, found),
             _ => files::file_row(rt, word, rest, row.given, found),
@@ -27,7 +27,7 @@ impl<'a> Answers for Commands<'a> {
     }
 }
 
-/// Whether a row's first word is a command whose line is taken apart here.
+/// Whether a row's first word is a command, with no `norprog` in front of it.
 fn is_command(word: &str) -> bool {
     matches!(
         word,
