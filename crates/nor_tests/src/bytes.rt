@@ -23,8 +23,8 @@ fn puts_a_string(rt: &impl Abort, alloc: Global) {
     let parts: [&[u8]; 3] = [b"", b" 1", b"\n"];
     holds(rt, "put in parts", put_parts(&mut writer, &parts).is_ok());
     same(rt, "failures", writer.failures(), 0);
-    let held = writer.into_inner();
-    holds(rt, "held", held.as_slice() == b"norscript 1\n".as_slice());
+    let held = writer.inner.as_slice();
+    holds(rt, "held", held == b"norscript 1\n".as_slice());
 }
 
 /// Seven bytes from a reader that gives no more, four at a time.
@@ -32,7 +32,7 @@ fn takes_a_string(rt: &impl Abort) {
     let mut reader = FromRead::new(b"content".as_slice());
     let mut buffer = [0u8; 4];
     same(rt, "first", fill_from(&mut reader, &mut buffer), Ok(4));
-    same(rt, "its bytes", buffer, *b"cont");
+    holds(rt, "its bytes", buffer == *b"cont");
     same(rt, "last", fill_from(&mut reader, &mut buffer), Ok(3));
     holds(rt, "its bytes", buffer.starts_with(b"ent"));
     same(rt, "failures", reader.failures(), 0);

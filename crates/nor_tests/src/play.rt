@@ -2,7 +2,7 @@
 
 use crate::ports::Unplugged;
 use crate::same::{holds, same};
-use nor_base::Meaning;
+use nor_base::Step;
 use nor_chip::Port;
 use nor_play::{PlayFault, play};
 use nor_samples::small_chip;
@@ -30,19 +30,31 @@ fn fails_at_each(
     text: &str,
     steps_of_all: &[u64],
 ) -> Result<(), Fail> {
-    let (meaning, steps) = (small_chip(), read(alloc, text.as_bytes())?);
+    let steps = read(alloc, text.as_bytes())?;
     for done in 0..=steps_of_all.len() {
-        let mut port = Unplugged::new(rt, alloc, &meaning, &[2, 2], done as u64)?;
         let step = steps_of_all.get(done).copied();
-        let want = match step {
-            Some(step) => Err(PlayFault::PortFailed { step }),
-            None => Ok(done as u128),
-        };
-        holds(rt, "no failure yet", port.failures() == 0);
-        let played = play(alloc, steps.as_slice(), &mut port, 10);
-        same(rt, text, played, want);
-        same(rt, "failures", port.failures(), u64::from(step.is_some()));
+        fails_at(rt, alloc, &steps, done as u64, step)?;
     }
+    Ok(())
+}
+
+/// Plays steps on such a chip that is unplugged after so many transactions: the play fails at this step, if at any.
+fn fails_at(
+    rt: &impl Abort,
+    alloc: Global,
+    steps: &[Step],
+    done: u64,
+    step: Option<u64>,
+) -> Result<(), Fail> {
+    let meaning = small_chip();
+    let mut port = Unplugged::new(rt, alloc, &meaning, &[2, 2], done)?;
+    let want = match step {
+        Some(step) => Err(PlayFault::PortFailed { step }),
+        None => Ok(u128::from(done)),
+    };
+    holds(rt, "no failure yet", port.failures() == 0);
+    same(rt, "played", play(alloc, steps, &mut port, 10), want);
+    same(rt, "failures", port.failures(), u64::from(step.is_some()));
     Ok(())
 }
 
@@ -53,25 +65,35 @@ fn each_transaction_fails(rt: HostRuntime) -> Result<(), Fail> {
     fails_at_each(&rt, rt.alloc(), VERIFY, &[0, 1, 2, 2, 2, 3])
 }
 
-/// Plays the script with its read, for which bytes are gathered. None where its own memory is refused.
-fn plays(rt: &impl Abort, alloc: Global, meaning: &Meaning) -> Option<Result<u128, PlayFault>> {
-    let steps = read(alloc, VERIFY.as_bytes()).ok()?;
-    let mut port = Unplugged::new(rt, alloc, meaning, &[], u64::MAX).ok()?;
-    holds(rt, "no failure yet", port.failures() == 0);
-    Some(play(alloc, steps.as_slice(), &mut port, 10))
+/// Plays the script with its read, for which bytes are gathered. Memory where its own memory is refused too.
+fn plays(rt: &impl Abort, alloc: Global) -> Result<u128, PlayFault> {
+    match read(alloc, VERIFY.as_bytes()) {
+        Ok(steps) => plays_all(rt, alloc, &steps),
+        Err(_) => Err(PlayFault::Memory),
+    }
+}
+
+/// Plays steps on a chip that is never unplugged.
+fn plays_all(rt: &impl Abort, alloc: Global, steps: &[Step]) -> Result<u128, PlayFault> {
+    let meaning = small_chip();
+    match Unplugged::new(rt, alloc, &meaning, &[], u64::MAX) {
+        Ok(mut port) => {
+            holds(rt, "no failure yet", port.failures() == 0);
+            play(alloc, steps, &mut port, 10)
+        }
+        Err(_) => Err(PlayFault::Memory),
+    }
 }
 
 /// Memory is not wanting, so there are four transactions.
 #[test]
 fn plays_each_step(rt: HostRuntime) {
-    let played = plays(&rt, rt.alloc(), &small_chip());
-    same(&rt, "played", played, Some(Ok(4)));
+    same(&rt, "played", plays(&rt, rt.alloc()), Ok(4));
 }
 
 /// With each growth refused in turn, as `tools/refused-growths` does, the fault is Memory.
 #[test]
 fn a_refused_growth_is_memory(rt: HostRuntime) {
-    let played = plays(&rt, rt.alloc(), &small_chip());
-    let fine = matches!(played, None | Some(Ok(4) | Err(PlayFault::Memory)));
+    let fine = matches!(plays(&rt, rt.alloc()), Ok(4) | Err(PlayFault::Memory));
     holds(&rt, "played", fine);
 }

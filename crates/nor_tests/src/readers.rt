@@ -40,9 +40,9 @@ fn reads_far_apart(rt: &impl Abort, alloc: Global) -> Result<(), AllocError> {
 }
 
 /// Names as the caller of `choose` has them.
-fn owned(alloc: Global, names: &[&str]) -> Result<Vec<Bytes>, AllocError> {
+pub(crate) fn owned(alloc: Global, names: &str) -> Result<Vec<Bytes>, AllocError> {
     let mut owned = Vec::new(alloc);
-    for name in names {
+    for name in names.split_whitespace() {
         owned.push(Bytes::new(Vec::from_slice(alloc, name.as_bytes())?))?;
     }
     Ok(owned)
@@ -50,10 +50,7 @@ fn owned(alloc: Global, names: &[&str]) -> Result<Vec<Bytes>, AllocError> {
 
 /// Reads many regions, and chooses some of them.
 fn chooses_some(rt: &impl Abort, alloc: Global) -> Result<(), AllocError> {
-    let names = owned(
-        alloc,
-        &["r0", "r1", "r2", "r3", "r4", "s5", "s6", "s7", "s8"],
-    )?;
+    let names = owned(alloc, "r0 r1 r2 r3 r4 s5 s6 s7 s8")?;
     match nor_layout::read(alloc, MANY).and_then(|layout| layout.choose(alloc, &names)) {
         Ok(chosen) => holds(rt, "what is chosen", chosen.has(8) && !chosen.has(9)),
         Err(fault) => {
@@ -66,7 +63,7 @@ fn chooses_some(rt: &impl Abort, alloc: Global) -> Result<(), AllocError> {
 
 /// The job of a layout's region on the small chip.
 fn gives_the_job(rt: &impl Abort, alloc: Global) -> Result<(), AllocError> {
-    let names = owned(alloc, &["a"])?;
+    let names = owned(alloc, "a")?;
     let inputs = Inputs {
         hex: IMAGE.as_bytes(),
         layout: Some(b"0:fff a"),

@@ -2,7 +2,7 @@
 
 use crate::devices::OneByOne;
 use crate::same::{holds, same};
-use nor_base::{ByteOut, Bytes, Failed, FromRead, IntoWrite, Step, is_step};
+use nor_base::{ByteOut, Failed, FromRead, IntoWrite, Step, is_step};
 use nor_script::{ReadFault, ScriptFault, begin, count_steps, finish, read, write_step};
 use std::alloc::Global;
 use std::process::Abort;
@@ -10,21 +10,6 @@ use std::test::Fail;
 
 /// Each kind of step once.
 const TEXT: &str = "norscript 1\nx 00000110\np 00000101........\nv 01101011--==== 0fa5\nend 3\n";
-
-/// The steps of that script.
-fn steps(alloc: Global) -> Result<[Step; 3], Fail> {
-    let send = Step::Send {
-        clocks: Bytes::new(b"00000110".to_vec(alloc)?),
-    };
-    let poll = Step::Poll {
-        clocks: Bytes::new(b"00000101........".to_vec(alloc)?),
-    };
-    let verify = Step::Verify {
-        clocks: Bytes::new(b"01101011--====".to_vec(alloc)?),
-        expect: Bytes::new([0x0F, 0xA5].to_vec(alloc)?),
-    };
-    Ok([send, poll, verify])
-}
 
 /// Writes the steps that have a line.
 fn write_all<W: ByteOut>(steps: &[Step], writer: &mut W) -> Result<(), Failed> {
@@ -45,7 +30,7 @@ fn write_all<W: ByteOut>(steps: &[Step], writer: &mut W) -> Result<(), Failed> {
 
 #[test]
 fn a_failing_writer_holds_a_front(rt: HostRuntime) -> Result<(), Fail> {
-    let steps = steps(rt.alloc())?;
+    let steps = read(rt.alloc(), TEXT.as_bytes())?;
     for fails_at in 1..=TEXT.len() + 1 {
         writes_up_to(&rt, &steps, OneByOne::new(rt.alloc(), fails_at));
     }

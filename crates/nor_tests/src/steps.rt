@@ -79,7 +79,7 @@ fn reads_on<R: ByteIn>(
                 return failures;
             }
             Err(fault) => {
-                same(rt, "a failure", matches!(fault, ReadFault::Device(_)), true);
+                holds(rt, "a failure", matches!(fault, ReadFault::Device(_)));
                 failures = failures.saturating_add(1);
             }
         }
@@ -90,27 +90,31 @@ fn reads_on<R: ByteIn>(
 /// A device that gives one byte at a call, and fails at each call in turn: the failure is told, and reading goes on behind it.
 #[test]
 fn each_call_fails(rt: HostRuntime) -> Result<(), Fail> {
-    let alloc = rt.alloc();
-    let steps = read(alloc, TEXT.as_bytes())?;
+    let steps = read(rt.alloc(), TEXT.as_bytes())?;
     for fails_at in 0..=TEXT.len() + 2 {
-        let mut source = FromRead::new(ByteByByte {
-            rest: TEXT.as_bytes(),
-            call: 0,
-            fails_at,
-        });
-        match StepReader::begin(alloc, &mut source) {
-            Ok(mut reader) => {
-                let told = reads_on(&rt, &mut reader, &mut source, steps.as_slice());
-                let met = fails_at > HEADER && fails_at <= TEXT.len() + 1;
-                same(&rt, "failures", told, usize::from(met));
-            }
-            Err(fault) => {
-                same(&rt, "begun", matches!(fault, ReadFault::Device(_)), true);
-                holds(&rt, "in the header", fails_at >= 1 && fails_at <= HEADER);
-            }
-        }
+        call_fails(&rt, rt.alloc(), steps.as_slice(), fails_at);
     }
     Ok(())
+}
+
+/// The device fails at the call of this number.
+fn call_fails(rt: &impl Abort, alloc: Global, steps: &[Step], fails_at: usize) {
+    let mut source = FromRead::new(ByteByByte {
+        rest: TEXT.as_bytes(),
+        call: 0,
+        fails_at,
+    });
+    match StepReader::begin(alloc, &mut source) {
+        Ok(mut reader) => {
+            let told = reads_on(rt, &mut reader, &mut source, steps);
+            let met = fails_at > HEADER && fails_at <= TEXT.len() + 1;
+            same(rt, "failures", told, usize::from(met));
+        }
+        Err(fault) => {
+            holds(rt, "begun", matches!(fault, ReadFault::Device(_)));
+            holds(rt, "in the header", fails_at >= 1 && fails_at <= HEADER);
+        }
+    }
 }
 
 /// What the reader out of a device says of a text is what `read` says of it.
@@ -151,22 +155,33 @@ fn long_script(alloc: Global, clocks: usize) -> Result<Vec<u8>, Fail> {
 /// Lines around the buffer's first size, 256 KiB, and its next.
 #[test]
 fn long_lines(rt: HostRuntime) -> Result<(), Fail> {
-    let alloc = rt.alloc();
     for clocks in [
         131_057, 262_129, 262_130, 262_131, 262_143, 262_144, 600_000,
     ] {
-        let text = long_script(alloc, clocks)?;
+        let text = long_script(rt.alloc(), clocks)?;
         let mut source = FromRead::new(text.as_slice());
-        let mut reader = StepReader::begin(alloc, &mut source)?;
-        same(&rt, "a step", reader.advance(&mut source), Ok(true));
-        match reader.view() {
-            StepView::Send { clocks: of } => same(&rt, "its clocks", of.len(), clocks),
-            other => same(&rt, "a send", matches!(other, StepView::Send { .. }), true),
-        }
-        same(&rt, "another", reader.advance(&mut source), Ok(true));
-        same(&rt, "the end", reader.advance(&mut source), Ok(false));
-        let none = Err(ReadFault::Script(ScriptFault::NoEnd(4)));
-        same(&rt, "behind it", reader.advance(&mut source), none);
+        let mut reader = StepReader::begin(rt.alloc(), &mut source)?;
+        reads_long(&rt, &mut reader, &mut source, clocks);
     }
     Ok(())
+}
+
+/// Reads a send of so many clocks, another step, and the end.
+fn reads_long(
+    rt: &impl Abort,
+    reader: &mut StepReader,
+    source: &mut FromRead<&[u8]>,
+    clocks: usize,
+) {
+    holds(rt, "no failure", source.failures() == 0);
+    same(rt, "a step", reader.advance(source), Ok(true));
+    let found = match reader.view() {
+        StepView::Send { clocks } => Some(clocks.len()),
+        _ => None,
+    };
+    same(rt, "its clocks", found, Some(clocks));
+    same(rt, "another", reader.advance(source), Ok(true));
+    same(rt, "the end", reader.advance(source), Ok(false));
+    let none = Err(ReadFault::Script(ScriptFault::NoEnd(4)));
+    same(rt, "behind it", reader.advance(source), none);
 }

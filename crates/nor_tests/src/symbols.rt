@@ -1,30 +1,32 @@
 //! The kernels of nor_frames beside plain loops.
 
-use crate::same::same;
+use crate::same::holds;
 use nor_frames::{spread1, spread1_lanes, spread4, spread4_lanes};
 use std::alloc::{AllocError, Global};
 use std::process::Abort;
 
-/// The symbols of bytes on one lane, by a plain loop.
-fn plain1(alloc: Global, bytes: &[u8]) -> Result<Vec<u8>, AllocError> {
-    let mut symbols = Vec::new(alloc);
-    for byte in bytes {
-        for bit in [128, 64, 32, 16, 8, 4, 2, 1] {
-            symbols.push(if byte & bit == 0 { b'0' } else { b'1' })?;
+/// Whether these are the symbols of bytes on one lane, by a plain loop.
+fn are_plain1(bytes: &[u8], symbols: &[u8]) -> bool {
+    for (at, symbol) in symbols.iter().enumerate() {
+        let byte = bytes.get(at / 8).copied().unwrap_or(0);
+        let bit = 128 >> (at % 8);
+        if *symbol != if byte & bit == 0 { b'0' } else { b'1' } {
+            return false;
         }
     }
-    Ok(symbols)
+    symbols.len() / 8 == bytes.len()
 }
 
-/// The symbols of bytes on four lanes, by a plain loop.
-fn plain4(alloc: Global, bytes: &[u8]) -> Result<Vec<u8>, AllocError> {
-    let mut symbols = Vec::new(alloc);
-    for byte in bytes {
-        for nibble in [byte >> 4, byte & 15] {
-            symbols.push(b"abcdefghijklmnop"[usize::from(nibble % 16)])?;
+/// Whether these are the symbols of bytes on four lanes, by a plain loop.
+fn are_plain4(bytes: &[u8], symbols: &[u8]) -> bool {
+    for (at, symbol) in symbols.iter().enumerate() {
+        let byte = bytes.get(at / 2).copied().unwrap_or(0);
+        let nibble = if at % 2 == 0 { byte >> 4 } else { byte & 15 };
+        if *symbol != b"abcdefghijklmnop"[usize::from(nibble % 16)] {
+            return false;
         }
     }
-    Ok(symbols)
+    symbols.len() / 2 == bytes.len()
 }
 
 /// Bytes of each value in turn, so many of them.
@@ -36,44 +38,46 @@ fn some_bytes(alloc: Global, len: usize) -> Result<Vec<u8>, AllocError> {
     Ok(bytes)
 }
 
-/// Bytes are spread as by the plain loops.
-fn are_spread(rt: &impl Abort, alloc: Global, bytes: &[u8]) -> Result<(), AllocError> {
-    let mut single = vec![in alloc; b'?'; bytes.len().checked_mul(8).ok_or(AllocError)?]?;
-    spread1(bytes, &mut single);
-    same(rt, "on one lane", single, plain1(alloc, bytes)?);
-    let mut quad = vec![in alloc; b'?'; bytes.len().checked_mul(2).ok_or(AllocError)?]?;
-    spread4(bytes, &mut quad);
-    same(rt, "on four lanes", quad, plain4(alloc, bytes)?);
-    Ok(())
+/// Bytes are spread as by the plain loops, with this room.
+fn are_spread(rt: &impl Abort, room: &mut [u8], bytes: &[u8]) {
+    room.fill(b'?');
+    let most = room.len() / 8;
+    holds(rt, "room", bytes.len() <= most);
+    let (single, _) = room.split_at_mut(bytes.len() * 8);
+    spread1(bytes, single);
+    holds(rt, "on one lane", are_plain1(bytes, single));
+    single.fill(b'?');
+    let (quad, _) = single.split_at_mut(bytes.len() * 2);
+    spread4(bytes, quad);
+    holds(rt, "on four lanes", are_plain4(bytes, quad));
 }
 
 /// Each length from 0 to 100, and each byte.
 #[test]
 fn spread_as_by_plain_loops(rt: HostRuntime) -> Result<(), AllocError> {
     let bytes = some_bytes(rt.alloc(), 356)?;
+    let mut room = vec![in rt.alloc(); b'?'; 8 * 356]?;
     for len in 0..101 {
         if len + 256 <= bytes.len() {
-            are_spread(&rt, rt.alloc(), &bytes[256 - len..256])?;
-            are_spread(&rt, rt.alloc(), &bytes[..len])?;
+            are_spread(&rt, &mut room, &bytes[256 - len..256]);
+            are_spread(&rt, &mut room, &bytes[..len]);
         }
     }
-    are_spread(&rt, rt.alloc(), &bytes)
+    are_spread(&rt, &mut room, &bytes);
+    Ok(())
 }
 
 /// Each byte in each place of a kernel.
 #[test]
-fn kernels_as_plain_loops(rt: HostRuntime) -> Result<(), AllocError> {
+fn kernels_as_plain_loops(rt: HostRuntime) {
     for byte in 0..=255u8 {
         let four = [byte, !byte, byte ^ 0x55, byte];
-        let want = plain1(rt.alloc(), &four)?;
         let found = spread1_lanes(&four).to_array();
-        same(&rt, "four bytes", found.as_slice(), want.as_slice());
+        holds(&rt, "four bytes", are_plain1(&four, &found));
         let mut sixteen = [byte; 16];
         sixteen[1] = !byte;
         sixteen[15] = byte ^ 0x5A;
-        let want = plain4(rt.alloc(), &sixteen)?;
         let found = spread4_lanes(&sixteen).to_array();
-        same(&rt, "sixteen bytes", found.as_slice(), want.as_slice());
+        holds(&rt, "sixteen bytes", are_plain4(&sixteen, &found));
     }
-    Ok(())
 }

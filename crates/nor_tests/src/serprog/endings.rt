@@ -1,31 +1,31 @@
 //! Scripts played on devices in memory from the handshake on, and the lines that tell how they end.
 
+use crate::ports::BLANK;
 use crate::same::{holds, same};
 use crate::serprog::canned::{Canned, End, Held};
-use nor_base::{IntoWrite, Start, Width, Wrong};
+use crate::serprog::plays::QUAD;
+use nor_base::{IntoWrite, Step, Width, Wrong};
 use nor_chip::Chip;
 use nor_samples::small_chip;
 use nor_samples::texts::ONE_BYTE;
 use nor_script::read;
 use nor_serprog::{Fault, Limits, Reason, Shadowed};
 use norprog_play::{Early, Ending, ends_early, greet_and_play, write_ending};
-use std::alloc::Global;
+use std::alloc::{AllocError, Global};
 use std::process::Abort;
 use std::test::Fail;
 
 /// What goes out in a handshake.
 const GREETED: &[u8] = b"\x10\x01\x02\x12\x08\x08\x11\x15\x01";
 
-/// What a device answers to it that gives at most 4096 bytes, and sends at most so many.
-fn greeting(alloc: Global, sent: u8) -> Result<Vec<u8>, Fail> {
-    let mut all = Vec::new(alloc);
-    all.extend_from_slice(b"\x15\x06\x06\x01\x00\x06\x06\x01\x2e")?;
-    all.extend_from_slice(&[0; 29])?;
-    all.extend_from_slice(b"\x06\x06")?;
-    all.push(sent)?;
-    all.extend_from_slice(b"\x00\x00\x06\x00\x10\x00\x06")?;
-    Ok(all)
-}
+/// What a device answers to it that gives at most 4096 bytes, up to the lowest byte of how many it sends at most, and from
+/// there on.
+const GREETING: [&[u8]; 2] = [
+    b"\x15\x06\x06\x01\x00\x06\x06\x01\x2e\
+    \x00\x00\x00\x00\x00\x00\x00\x00\x00\x00\x00\x00\x00\x00\x00\
+    \x00\x00\x00\x00\x00\x00\x00\x00\x00\x00\x00\x00\x00\x00\x06\x06",
+    b"\x00\x00\x06\x00\x10\x00\x06",
+];
 
 /// What goes out then for a write enable, the program of 00h at 0 and a status read: first the first 256 bytes are read.
 const PUT: &[u8] = b"\x13\x04\x00\x00\x00\x01\x00\x03\x00\x00\x00\
@@ -60,57 +60,162 @@ const VERIFY: &str = "norscript 1\nv 00000011000000000000000000000000........ ff
 
 const PUT_VERIFY: &[u8] = b"\x13\x04\x00\x00\x01\x00\x00\x03\x00\x00\x00";
 
-/// What an empty chip answers where so many bytes are read and then so many, none where there are none, but for a byte at a place;
-/// and then to the steps.
-fn answers(
-    alloc: Global,
-    first: usize,
-    second: usize,
-    place: usize,
-    steps: &[u8],
-) -> Result<Vec<u8>, Fail> {
+/// A program that no write enable goes before.
+const WRONG: &str = "norscript 1\nx 0000001000000000000000000000000000000000\nend 1\n";
+
+/// A script on an empty chip of 8 KiB behind a device, and how it ends.
+struct Row {
+    text: &'static str,
+    /// How many bytes are read before the steps, at once and then at once; none where there are none.
+    reads: [usize; 2],
+    /// The place among all the answers behind the handshake at which another byte is given, and how many answers there are.
+    cuts: (usize, usize),
+    /// What is answered to the steps.
+    steps: &'static [u8],
+    /// How many bytes the device can send.
+    sent: u8,
+    /// Nothing is read before the steps.
+    trusted: bool,
+    ending: Ending,
+    /// What is put, after the handshake: a front, or where it is trusted an end, of so many bytes.
+    put: &'static [u8],
+    count: usize,
+}
+
+/// A row that only its ending and its count tell from others.
+const GOOD: Row = Row {
+    text: ONE_BYTE,
+    reads: [256, 0],
+    cuts: (9999, 9999),
+    steps: STEPS,
+    sent: 255,
+    trusted: false,
+    ending: Ending::Done { transactions: 3 },
+    put: PUT,
+    count: 39,
+};
+
+const DIFFERS: Ending = Ending::Unlike {
+    why: Fault::Differs,
+};
+
+/// A job with the comparison and without, and each way in which one ends, with how many bytes went out.
+static ROWS: [Row; 9] = [
+    GOOD,
+    Row {
+        cuts: (256, 9999),
+        ending: DIFFERS,
+        count: 11,
+        ..GOOD
+    },
+    Row {
+        cuts: (9999, 100),
+        ending: Ending::Unlike { why: Fault::Silent },
+        count: 11,
+        ..GOOD
+    },
+    Row {
+        text: WRONG,
+        ending: Ending::Wrong {
+            step: 0,
+            why: Wrong::Ignored,
+        },
+        count: 0,
+        ..GOOD
+    },
+    Row {
+        sent: 4,
+        ending: Ending::Failed {
+            step: 1,
+            why: Reason::Carried,
+        },
+        count: 0,
+        ..GOOD
+    },
+    Row {
+        text: TWO,
+        reads: [4096, 256],
+        steps: TWO_STEPS,
+        ending: Ending::Done { transactions: 6 },
+        put: PUT_TWO,
+        count: 78,
+        ..GOOD
+    },
+    Row {
+        text: TWO,
+        reads: [4096, 256],
+        steps: TWO_STEPS,
+        cuts: (4353, 9999),
+        ending: DIFFERS,
+        put: PUT_TWO,
+        count: 22,
+        ..GOOD
+    },
+    Row {
+        text: VERIFY,
+        reads: [1, 0],
+        steps: b"",
+        ending: Ending::Done { transactions: 1 },
+        put: PUT_VERIFY,
+        count: 11,
+        ..GOOD
+    },
+    Row {
+        reads: [0, 0],
+        trusted: true,
+        count: 28,
+        ..GOOD
+    },
+];
+
+/// What the device of a row answers, after its handshake and with it.
+fn answers(alloc: Global, row: &Row) -> Result<Vec<u8>, AllocError> {
     let mut all = Vec::new(alloc);
-    for len in [first, second] {
+    all.extend_from_slice(GREETING[0])?;
+    all.push(row.sent)?;
+    all.extend_from_slice(GREETING[1])?;
+    let begin = all.len();
+    for len in row.reads {
         if len > 0 {
-            let piece = vec![in alloc; 0xFFu8; len]?;
             all.push(0x06)?;
-            all.extend_from_slice(piece.as_slice())?;
+            all.resize(all.len().saturating_add(len), 0xFF)?;
         }
     }
-    all.extend_from_slice(steps)?;
-    if let Some(byte) = all.get_mut(place) {
+    all.extend_from_slice(row.steps)?;
+    let (place, most) = row.cuts;
+    if let Some(byte) = all.get_mut(begin.saturating_add(place)) {
         *byte = 0xFE;
     }
+    all.truncate(begin.saturating_add(most));
     Ok(all)
 }
 
-/// Plays a script on an empty chip of 8 KiB, and answers how it ends and what was put after the handshake. The device can send so
-/// many bytes.
+/// Plays the steps of a row on its device, which gives these answers.
 fn ends(
     rt: &impl Abort,
     alloc: Global,
-    text: &str,
-    given: &[u8],
-    sent: u8,
-    trusted: bool,
-) -> Result<(Ending, Vec<u8>), Fail> {
-    let (meaning, steps) = (small_chip(), read(alloc, text.as_bytes())?);
-    let start = Start {
-        mode4: false,
-        quad: true,
-    };
-    holds(rt, "a chip of both modes", meaning.width != Width::Four);
-    let content = vec![in alloc; 0xFFu8; meaning.size as usize]?;
-    let early = ends_early(alloc, &meaning, start, content.as_slice(), steps.as_slice())?;
-    let transactions = match early {
+    row: &Row,
+    steps: &[Step],
+    answers: &[u8],
+) -> Result<(), AllocError> {
+    let meaning = small_chip();
+    let fits = BLANK.len() == meaning.size as usize;
+    holds(
+        rt,
+        "a chip of 8 KiB and both modes",
+        fits && meaning.width != Width::Four,
+    );
+    let transactions = match ends_early(alloc, &meaning, QUAD, &BLANK, steps)? {
         Early::Goes { transactions } => transactions,
-        Early::Ends(ending) => return Ok((ending, Vec::new(alloc))),
+        Early::Ends(ending) => {
+            holds(rt, "ending", ending == row.ending && row.count == 0);
+            return Ok(());
+        }
     };
-    let chip = Chip::new(&meaning, start, content, Vec::new(alloc), false);
-    let mut answers = greeting(alloc, sent)?;
-    answers.extend_from_slice(given)?;
+    let content = Vec::from_slice(alloc, &BLANK)?;
+    let chip = Chip::new(&meaning, QUAD, content, Vec::new(alloc), false);
     let from = Canned {
-        answers: answers.as_slice(),
+        answers,
         silent: 0,
         end: End::Silent,
     };
@@ -121,118 +226,86 @@ fn ends(
     let met = greet_and_play(
         alloc,
         &meaning,
-        start,
-        steps.as_slice(),
+        QUAD,
+        steps,
         transactions,
-        trusted,
+        row.trusted,
         &mut port,
         &mut progress,
     );
-    let ending = match met {
-        Ok(ending) => ending,
-        Err(_) => {
-            holds(rt, "greeted", false);
-            Ending::Unlike { why: Fault::Read }
-        }
-    };
-    if text == ONE_BYTE && matches!(ending, Ending::Done { .. }) {
-        let told = progress.inner.bytes.as_slice();
+    holds(rt, "ending", met.ok() == Some(row.ending));
+    has_told(rt, row, progress.inner.bytes.as_slice());
+    has_put(rt, row, port.to.inner.bytes.as_slice());
+    Ok(())
+}
+
+/// What is told on the way of the job of one byte.
+fn has_told(rt: &impl Abort, row: &Row, told: &[u8]) {
+    if row.ending == GOOD.ending {
         let line = b"\rstep 3 of 3, 8 of 8 bytes\n";
         holds(rt, "what was told", told == line.as_slice());
     }
-    let put = port.to.inner.bytes.as_slice();
-    holds(rt, "the handshake", put.starts_with(GREETED));
-    let rest = put.get(GREETED.len()..).unwrap_or(&[]);
-    Ok((ending, Vec::from_slice(alloc, rest)?))
 }
 
-/// A job with the comparison and without, and each way in which one ends, with how many bytes went out.
+/// What is put, with the handshake.
+fn has_put(rt: &impl Abort, row: &Row, put: &[u8]) {
+    holds(rt, "the handshake", put.starts_with(GREETED));
+    let rest = put.get(GREETED.len()..).unwrap_or(&[]);
+    same(rt, "how many were put", rest.len(), row.count);
+    let front = row.put.starts_with(rest);
+    let end = row.trusted && row.put.ends_with(rest);
+    holds(rt, "what was put", end || front && !row.trusted);
+}
+
 #[test]
 fn jobs_end(rt: HostRuntime) -> Result<(), Fail> {
-    let alloc = rt.alloc();
-    let like = answers(alloc, 256, 0, 9999, STEPS)?;
-    let unlike = answers(alloc, 256, 0, 256, STEPS)?;
-    let two = answers(alloc, 4096, 256, 9999, TWO_STEPS)?;
-    let unlike_two = answers(alloc, 4096, 256, 4353, TWO_STEPS)?;
-    let short = like.as_slice().get(..100).unwrap_or(&[]);
-    let wrong = "norscript 1\nx 0000001000000000000000000000000000000000\nend 1\n";
-    let ignored = Ending::Wrong {
-        step: 0,
-        why: Wrong::Ignored,
-    };
-    let carried = Ending::Failed {
-        step: 1,
-        why: Reason::Carried,
-    };
-    let differs = Ending::Unlike {
-        why: Fault::Differs,
-    };
-    let silent = Ending::Unlike { why: Fault::Silent };
-    let done = |transactions: u128| Ending::Done { transactions };
-    let rows = [
-        (ONE_BYTE, like.as_slice(), 255, done(3), 39, PUT),
-        (ONE_BYTE, unlike.as_slice(), 255, differs, 11, PUT),
-        (ONE_BYTE, short, 255, silent, 11, PUT),
-        (wrong, like.as_slice(), 255, ignored, 0, PUT),
-        (ONE_BYTE, like.as_slice(), 4, carried, 0, PUT),
-        (TWO, two.as_slice(), 255, done(6), 78, PUT_TWO),
-        (TWO, unlike_two.as_slice(), 255, differs, 22, PUT_TWO),
-        (VERIFY, b"\x06\xff", 255, done(1), 11, PUT_VERIFY),
-    ];
-    for (text, given, sent, want, count, all) in rows {
-        let (ending, put) = ends(&rt, alloc, text, given, sent, false)?;
-        holds(&rt, "ending", ending == want);
-        same(&rt, "how many were put", put.len(), count);
-        holds(&rt, "what was put", all.starts_with(put.as_slice()));
+    for row in &ROWS {
+        let steps = read(rt.alloc(), row.text.as_bytes())?;
+        ends(&rt, rt.alloc(), row, &steps, &answers(rt.alloc(), row)?)?;
     }
-    let (ending, put) = ends(&rt, alloc, ONE_BYTE, STEPS, 255, true)?;
-    holds(&rt, "trusted", ending == done(3));
-    holds(&rt, "the steps alone", PUT.ends_with(put.as_slice()));
-    same(&rt, "how many were put", put.len(), 28);
     Ok(())
 }
+
+/// Endings, and the line of each.
+static LINES: [(Ending, &[u8]); 6] = [
+    (Ending::Done { transactions: 3 }, b"ok 3\n"),
+    (
+        Ending::Wrong {
+            step: 12,
+            why: Wrong::Mismatch,
+        },
+        b"wrong 5 at 12\n",
+    ),
+    (Ending::Unlike { why: Fault::Nak }, b"unlike nak\n"),
+    (
+        Ending::Failed {
+            step: 12,
+            why: Reason::Exchange(Fault::Nak),
+        },
+        b"failed at 12 nak\n",
+    ),
+    (
+        Ending::Failed {
+            step: 12,
+            why: Reason::Carried,
+        },
+        b"failed at 12 carried\n",
+    ),
+    (
+        Ending::Failed {
+            step: 12,
+            why: Reason::Busy,
+        },
+        b"wrong 6 at 12\n",
+    ),
+];
 
 /// The line of each kind of ending.
 #[test]
-fn endings_are_told(rt: HostRuntime) -> Result<(), Fail> {
-    let step = 12;
-    let why = Fault::Nak;
-    let rows: [(Ending, &[u8]); 6] = [
-        (Ending::Done { transactions: 3 }, b"ok 3\n"),
-        (
-            Ending::Wrong {
-                step,
-                why: Wrong::Mismatch,
-            },
-            b"wrong 5 at 12\n",
-        ),
-        (Ending::Unlike { why }, b"unlike nak\n"),
-        (
-            Ending::Failed {
-                step,
-                why: Reason::Exchange(why),
-            },
-            b"failed at 12 nak\n",
-        ),
-        (
-            Ending::Failed {
-                step,
-                why: Reason::Carried,
-            },
-            b"failed at 12 carried\n",
-        ),
-        (
-            Ending::Failed {
-                step,
-                why: Reason::Busy,
-            },
-            b"wrong 6 at 12\n",
-        ),
-    ];
-    for (ending, line) in rows {
+fn endings_are_told(rt: HostRuntime) {
+    for (ending, line) in &LINES {
         let mut out = IntoWrite::new(Held::new(rt.alloc(), 100));
-        holds(&rt, "told", write_ending(&ending, &mut out).is_ok());
-        holds(&rt, "line", out.inner.bytes.as_slice() == line);
+        holds(&rt, "told", write_ending(ending, &mut out).is_ok());
+        holds(&rt, "line", out.inner.bytes.as_slice() == *line);
     }
-    Ok(())
 }

@@ -6,10 +6,9 @@ use nor_base::{FromRead, IntoWrite};
 use nor_serprog::{Command, Fault, GreetFault, Limits, greet};
 use std::alloc::Global;
 use std::process::Abort;
-use std::test::Fail;
 
 /// What a device answers that offers 01h, 02h, 08h, 11h, 12h, 13h and 15h: at most 256 bytes out, and 2^24 in.
-const ANSWERS: &[u8] = b"\x15\x06\
+const ANSWERS: &[u8; 48] = b"\x15\x06\
     \x06\x01\x00\
     \x06\x06\x01\x2e\x00\x00\x00\x00\x00\x00\x00\x00\x00\x00\x00\x00\x00\
     \x00\x00\x00\x00\x00\x00\x00\x00\x00\x00\x00\x00\x00\x00\x00\x00\
@@ -25,14 +24,14 @@ const BARE: &[u8] = b"\x15\x06\
     \x00\x00\x00\x00\x00\x00\x00\x00\x00\x00\x00\x00\x00\x00\x00\x00\
     \x06";
 
-/// Each command, where its answer begins, and how many bytes were put before it.
-const COMMANDS: [(Command, usize, usize); 6] = [
-    (Command::QueryInterface, 2, 1),
-    (Command::QueryCommands, 5, 2),
-    (Command::SetBus, 38, 3),
-    (Command::QueryWriteMax, 39, 5),
-    (Command::QueryReadMax, 43, 6),
-    (Command::SetPins, 47, 7),
+/// Each command, where its answer begins, how many bytes were put before it, and how many with it.
+static COMMANDS: [(Command, usize, usize, usize); 6] = [
+    (Command::QueryInterface, 2, 1, 2),
+    (Command::QueryCommands, 5, 2, 3),
+    (Command::SetBus, 38, 3, 5),
+    (Command::QueryWriteMax, 39, 5, 6),
+    (Command::QueryReadMax, 43, 6, 7),
+    (Command::SetPins, 47, 7, 9),
 ];
 
 /// What a device answers, where it ends, after some silence; how much it takes.
@@ -43,6 +42,14 @@ struct Row<'a> {
     end: End,
     room: usize,
 }
+
+/// A device that is never greeted in vain.
+const GOOD: Row<'static> = Row {
+    answers: ANSWERS,
+    silent: 0,
+    end: End::Silent,
+    room: 100,
+};
 
 /// Greets it, and gives what it took.
 fn greets(alloc: Global, row: &Row<'_>) -> (Result<Limits, GreetFault>, Vec<u8>) {
@@ -56,140 +63,112 @@ fn greets(alloc: Global, row: &Row<'_>) -> (Result<Limits, GreetFault>, Vec<u8>)
     (met, to.into_inner().bytes)
 }
 
-/// The bytes with one of them changed.
-fn with(alloc: Global, bytes: &[u8], place: usize, byte: u8) -> Result<Vec<u8>, Fail> {
-    let mut changed = Vec::from_slice(alloc, bytes)?;
+/// A device is silent where it should know its interface.
+const CUT: GreetFault = GreetFault::Command {
+    at: Command::QueryInterface,
+    why: Fault::Silent,
+};
+
+/// Answers after some silence, what is put, and the limits.
+static GREETED: [(&[u8], u32, &[u8], Result<(u32, u32), GreetFault>); 4] = [
+    (
+        ANSWERS,
+        0,
+        b"\x10\x01\x02\x12\x08\x08\x11\x15\x01",
+        Ok((256, 0xFF_FFFF)),
+    ),
+    (BARE, 0, b"\x10\x01\x02\x12\x08", Ok((0xFF_FFFF, 0xFF_FFFF))),
+    (b"\x15\x06\x15\x06", 1, b"\x10\x10\x01", Err(CUT)),
+    (b"\x00\x06\x15\x15\x06", 0, b"\x10\x01", Err(CUT)),
+];
+
+#[test]
+fn greets_devices(rt: HostRuntime) {
+    for (answers, silent, put, want) in &GREETED {
+        let row = Row {
+            answers,
+            silent: *silent,
+            ..GOOD
+        };
+        let (met, held) = greets(rt.alloc(), &row);
+        holds(&rt, "what was put", held.as_slice() == *put);
+        let limits = met.map(|limits| (limits.sent, limits.asked));
+        same(&rt, "the limits", limits, *want);
+    }
+}
+
+/// A device is met so, and has taken so many bytes.
+fn stops(rt: &impl Abort, alloc: Global, row: &Row<'_>, fault: GreetFault, put: usize) {
+    let (met, held) = greets(alloc, row);
+    same(rt, "the fault", met.err(), Some(fault));
+    same(rt, "how many were put", held.len(), put);
+}
+
+/// As [`stops`], for a device that answers another byte at one place.
+fn stops_with(
+    rt: &impl Abort,
+    alloc: Global,
+    (place, byte): (usize, u8),
+    fault: GreetFault,
+    put: usize,
+) {
+    let mut changed = *ANSWERS;
     if let Some(old) = changed.get_mut(place) {
         *old = byte;
     }
-    Ok(changed)
-}
-
-#[test]
-fn greets_devices(rt: HostRuntime) -> Result<(), Fail> {
-    let rows: [(&[u8], u32, &[u8], u32, u32); 4] = [
-        (
-            ANSWERS,
-            0,
-            b"\x10\x01\x02\x12\x08\x08\x11\x15\x01",
-            256,
-            0xFF_FFFF,
-        ),
-        (BARE, 0, b"\x10\x01\x02\x12\x08", 0xFF_FFFF, 0xFF_FFFF),
-        (b"\x15\x06\x15\x06", 1, b"\x10\x10\x01", 0, 0),
-        (b"\x00\x06\x15\x15\x06", 0, b"\x10\x01", 0, 0),
-    ];
-    for (answers, silent, put, sent, asked) in rows {
-        let row = Row {
-            answers,
-            silent,
-            end: End::Silent,
-            room: 100,
-        };
-        let (met, held) = greets(rt.alloc(), &row);
-        holds(&rt, "what was put", held.as_slice() == put);
-        let limits = met.map(|limits| (limits.sent, limits.asked));
-        let cut = Err(GreetFault::Command {
-            at: Command::QueryInterface,
-            why: Fault::Silent,
-        });
-        let want = if sent > 0 { Ok((sent, asked)) } else { cut };
-        same(&rt, "the limits", limits, want);
-    }
-    Ok(())
-}
-
-/// What is met where a device answers so, and has put so many bytes.
-fn stops(rt: &impl Abort, alloc: Global, row: &Row<'_>, at: Command, why: Fault, put: usize) {
-    let (met, held) = greets(alloc, row);
-    same(
-        rt,
-        "the fault",
-        met.err(),
-        Some(GreetFault::Command { at, why }),
-    );
-    same(rt, "how many were put", held.len(), put);
+    let row = Row {
+        answers: &changed,
+        ..GOOD
+    };
+    stops(rt, alloc, &row, fault, put);
 }
 
 /// Each command's answer is cut, fails, is NAK, is another byte; and the writer fails in each command.
 #[test]
-fn each_command_is_answered_wrongly(rt: HostRuntime) -> Result<(), Fail> {
+fn each_command_is_answered_wrongly(rt: HostRuntime) {
     let alloc = rt.alloc();
-    for (at, place, before) in COMMANDS {
-        let (silent, end, room) = (0, End::Silent, 100);
-        let put = before
-            + if matches!(at, Command::SetBus | Command::SetPins) {
-                2
-            } else {
-                1
-            };
-        let (cut, _) = ANSWERS.split_at(place.min(ANSWERS.len()));
-        let row = Row {
-            answers: cut,
-            silent,
-            end,
-            room,
+    for (at, place, before, put) in &COMMANDS {
+        let (at, place, before, put) = (*at, *place, *before, *put);
+        let fault = |why: Fault| GreetFault::Command { at, why };
+        let cut = Row {
+            answers: ANSWERS.get(..place).unwrap_or(&[]),
+            ..GOOD
         };
-        stops(&rt, alloc, &row, at, Fault::Silent, put);
+        stops(&rt, alloc, &cut, fault(Fault::Silent), put);
         let fails = Row {
             end: End::Fails,
-            ..row
+            ..cut
         };
-        stops(&rt, alloc, &fails, at, Fault::Read, put);
+        stops(&rt, alloc, &fails, fault(Fault::Read), put);
         let full = Row {
-            answers: ANSWERS,
             room: before,
-            ..row
+            ..GOOD
         };
-        stops(&rt, alloc, &full, at, Fault::Write, before);
-        for (byte, why) in [(0x15, Fault::Nak), (0x07, Fault::Differs)] {
-            let changed = with(alloc, ANSWERS, place, byte)?;
-            let row = Row {
-                answers: changed.as_slice(),
-                silent,
-                end,
-                room,
-            };
-            stops(&rt, alloc, &row, at, why, put);
-        }
+        stops(&rt, alloc, &full, fault(Fault::Write), before);
+        stops_with(&rt, alloc, (place, 0x15), fault(Fault::Nak), put);
+        stops_with(&rt, alloc, (place, 0x07), fault(Fault::Differs), put);
     }
-    Ok(())
 }
+
+/// Another version, twice, and no SPI operation: the place of a byte, and how many were put.
+static OTHERS: [((usize, u8), GreetFault, usize); 3] = [
+    ((3, 2), GreetFault::Version, 2),
+    ((4, 1), GreetFault::Version, 2),
+    ((8, 0x26), GreetFault::NoOperation, 3),
+];
 
 /// No first word; another version; no SPI operation.
 #[test]
-fn devices_that_are_none(rt: HostRuntime) -> Result<(), Fail> {
-    let alloc = rt.alloc();
-    let (silent, end, room) = (0, End::Silent, 100);
-    let row = Row {
-        answers: b"",
-        silent,
-        end,
-        room,
-    };
-    stops(&rt, alloc, &row, Command::SyncNop, Fault::Silent, 8);
-    let endless = vec![in alloc; 0x15u8; 5000]?;
-    let row = Row {
-        answers: endless.as_slice(),
-        silent,
-        end,
-        room,
-    };
-    stops(&rt, alloc, &row, Command::SyncNop, Fault::Differs, 1);
-    for (place, byte, fault) in [
-        (3, 2, GreetFault::Version),
-        (4, 1, GreetFault::Version),
-        (8, 0x26, GreetFault::NoOperation),
+fn devices_that_are_none(rt: HostRuntime) {
+    let at = Command::SyncNop;
+    for (answers, why, put) in [
+        (b"".as_slice(), Fault::Silent, 8),
+        (&[0x15; 5000], Fault::Differs, 1),
     ] {
-        let changed = with(alloc, ANSWERS, place, byte)?;
-        let row = Row {
-            answers: changed.as_slice(),
-            silent,
-            end,
-            room,
-        };
-        let (met, _) = greets(alloc, &row);
-        same(&rt, "the fault", met.err(), Some(fault));
+        let row = Row { answers, ..GOOD };
+        stops(&rt, rt.alloc(), &row, GreetFault::Command { at, why }, put);
     }
-    Ok(())
+    for (change, fault, put) in &OTHERS {
+        stops_with(&rt, rt.alloc(), *change, *fault, *put);
+    }
 }
