@@ -2,7 +2,8 @@
 //! memory.
 
 use crate::devices::{
-    BLANK, Built, OddCall, Work, content, failing, inputs, run_check, run_work, writer,
+    BLANK, Built, OddCall, SlowReader, Work, content, failing, inputs, roomy_writer, run_check,
+    run_work, writer,
 };
 use crate::same::{holds, same};
 use nor_base::{Bytes, Strategy};
@@ -62,12 +63,12 @@ fn one_byte_job(rt: &impl Abort, alloc: Global) -> Result<Option<BuildFault>, Al
         regions: names.as_slice(),
         ..inputs(IMAGE)
     };
-    let script = writer(alloc, 128, 128)?;
+    let script = roomy_writer(alloc, 128, 128)?;
     let built = run_work(
         alloc,
         Work::Build,
         &inputs,
-        content(BLANK, 8192, 0),
+        content(&BLANK, 8192, 0),
         8192,
         script,
     );
@@ -100,77 +101,88 @@ fn a_refused_growth_is_memory(rt: HostRuntime) {
 type Reading = (usize, usize, usize);
 
 /// Readers for the job of one byte, and the fault of a build and of a check over them.
-const READINGS: [(Reading, Option<BuildFault>); 16] = [
-    ((8192, 8192, 0), None),
-    ((8192, 1, 0), None),
-    ((8200, 1000, 0), None),
+static READINGS: [(&str, Reading, Option<BuildFault>); 16] = [
+    ("whole", (8192, 8192, 0), None),
+    ("a byte at a call", (8192, 1, 0), None),
+    ("more than whole", (8200, 1000, 0), None),
     // it ends too early
-    ((0, 8192, 0), Some(BuildFault::ContentShort)),
-    ((100, 8192, 0), Some(BuildFault::ContentShort)),
-    ((4096, 8192, 0), Some(BuildFault::ContentShort)),
-    ((8191, 1, 0), Some(BuildFault::ContentShort)),
+    ("none", (0, 8192, 0), Some(BuildFault::ContentShort)),
+    ("100", (100, 8192, 0), Some(BuildFault::ContentShort)),
+    ("a window", (4096, 8192, 0), Some(BuildFault::ContentShort)),
+    ("one less", (8191, 1, 0), Some(BuildFault::ContentShort)),
     // it fails
-    ((8192, 8192, 1), Some(BuildFault::Read)),
-    ((8192, 4096, 2), Some(BuildFault::Read)),
-    ((8192, 1, 1), Some(BuildFault::Read)),
-    ((8192, 1, 2), Some(BuildFault::Read)),
-    ((8192, 1, 4097), Some(BuildFault::Read)),
-    ((8192, 1, 8192), Some(BuildFault::Read)),
-    ((8192, 1, 8193), None),
-    ((100, 8192, 2), Some(BuildFault::Read)),
-    ((100, 8192, 3), Some(BuildFault::ContentShort)),
+    ("call 1", (8192, 8192, 1), Some(BuildFault::Read)),
+    ("call 2", (8192, 4096, 2), Some(BuildFault::Read)),
+    ("byte 1", (8192, 1, 1), Some(BuildFault::Read)),
+    ("byte 2", (8192, 1, 2), Some(BuildFault::Read)),
+    ("byte 4097", (8192, 1, 4097), Some(BuildFault::Read)),
+    ("byte 8192", (8192, 1, 8192), Some(BuildFault::Read)),
+    ("byte 8193", (8192, 1, 8193), None),
+    ("call 2 of 100", (100, 8192, 2), Some(BuildFault::Read)),
+    (
+        "call 3 of 100",
+        (100, 8192, 3),
+        Some(BuildFault::ContentShort),
+    ),
 ];
 
 #[test]
-fn a_reader_gives_what_it_likes(rt: HostRuntime) -> Result<(), Fail> {
-    for (reading, want) in READINGS {
-        let label = format!(in rt.alloc(); "{reading:?}")?;
-        try_reading(&rt, rt.alloc(), label.as_str(), reading, want)?;
+fn a_reader_gives_what_it_likes(rt: HostRuntime) {
+    for (label, (has, most, fails_at), want) in &READINGS {
+        let given = BLANK.get(..*has).unwrap_or(&[]);
+        let reader = content(given, *most, *fails_at);
+        builds_over(&rt, rt.alloc(), label, reader, *want);
+        let reader = content(given, *most, *fails_at);
+        checks_over(&rt, rt.alloc(), label, reader, *want);
     }
-    Ok(())
 }
 
-/// The build over a reader, and the check of its script, answer so, and have read no byte past the content.
-fn try_reading(
+/// The build over a reader answers so, and has read no byte past the content.
+fn builds_over(
     rt: &impl Abort,
     alloc: Global,
     label: &str,
-    (has, most, fails_at): Reading,
+    reader: SlowReader<'_>,
     want: Option<BuildFault>,
-) -> Result<(), Fail> {
-    let given = BLANK.get(..has).unwrap_or(&[]);
-    let reader = content(given, most, fails_at);
-    let built = run_work(
-        alloc,
-        Work::Build,
-        &inputs(IMAGE),
-        reader,
-        8192,
-        writer(alloc, 128, 128)?,
-    );
-    let fault = fault_beside_script(rt, &built, ONE_BYTE, ONE_PROGRAM);
-    same(rt, label, fault, want);
-    let failures = u64::from(fault == Some(BuildFault::Read));
+) {
+    let most = reader.ahead.len().saturating_sub(8192);
+    let script = writer(alloc, 128);
+    let built = run_work(alloc, Work::Build, &inputs(IMAGE), reader, 8192, script);
     same(
         rt,
         label,
-        (built.read_failures, built.write_failures),
-        (failures, 0),
+        fault_beside_script(rt, &built, ONE_BYTE, ONE_PROGRAM),
+        want,
     );
-    let reader = content(given, most, fails_at);
-    let checked = run_check(alloc, &inputs(IMAGE), ONE_BYTE, reader, 8192)?;
+    let failures = (built.read_failures, built.write_failures);
+    same(rt, label, failures, (reads_failed(want), 0));
+    let left = built.reader.ahead.len();
+    holds(rt, label, want.is_some() || left == most);
+}
+
+/// The check of its script over a reader answers so too.
+fn checks_over(
+    rt: &impl Abort,
+    alloc: Global,
+    label: &str,
+    reader: SlowReader<'_>,
+    want: Option<BuildFault>,
+) {
+    let most = reader.ahead.len().saturating_sub(8192);
+    let checked = run_check(alloc, &inputs(IMAGE), ONE_BYTE, reader, 8192);
     let said = match want {
         None => Ok(Verdict::Yes),
         Some(fault) => Err(CheckStop::Build(fault)),
     };
     holds(rt, label, checked.answer == said);
-    same(rt, label, checked.read_failures, failures);
-    if want.is_none() {
-        let left = has.saturating_sub(8192);
-        same(rt, label, built.reader.ahead.len(), left);
-        same(rt, label, checked.reader.ahead.len(), left);
-    }
-    Ok(())
+    same(rt, label, checked.read_failures, reads_failed(want));
+    let left = checked.reader.ahead.len();
+    holds(rt, label, want.is_some() || left == most);
+}
+
+/// How often a reader fails at this fault.
+fn reads_failed(fault: Option<BuildFault>) -> u64 {
+    u64::from(fault == Some(BuildFault::Read))
 }
 
 /// A job, its script, and its report.
@@ -238,19 +250,13 @@ fn prepare<'j>(alloc: Global, job: &'j Job) -> Result<Prepared<'j>, AllocError> 
 
 impl Prepared<'_> {
     /// Builds the job over devices of which one moves so many bytes at a call at most and has this odd call.
-    fn build(
-        &self,
-        alloc: Global,
-        side: Side,
-        most: usize,
-        odd: OddCall,
-    ) -> Result<Built<'_>, AllocError> {
+    fn build(&self, alloc: Global, side: Side, most: usize, odd: OddCall) -> Built<'_> {
         let inputs = Inputs {
             verify: self.job.verify,
             ..inputs(self.job.image)
         };
         let mut reader = content(self.held.as_slice(), usize::MAX, 0);
-        let mut script = writer(alloc, 0, usize::MAX)?;
+        let mut script = writer(alloc, usize::MAX);
         match side {
             Side::Reader => {
                 reader.most = most;
@@ -261,14 +267,14 @@ impl Prepared<'_> {
                 script.odd = odd;
             }
         }
-        Ok(run_work(alloc, Work::Build, &inputs, reader, 8192, script))
+        run_work(alloc, Work::Build, &inputs, reader, 8192, script)
     }
 
     /// The build's fault; its script is whole or cut, and its devices failed as the fault says.
     fn fault_of(&self, rt: &impl Abort, built: &Built<'_>) -> Option<BuildFault> {
         let fault = fault_beside_script(rt, built, self.job.text, self.job.report);
-        let failures = |why| u64::from(fault == Some(why));
-        let want = (failures(BuildFault::Read), failures(BuildFault::Write));
+        let of_writer = u64::from(fault == Some(BuildFault::Write));
+        let want = (reads_failed(fault), of_writer);
         same(
             rt,
             "failures",
@@ -307,25 +313,28 @@ impl Side {
 
 #[test]
 fn any_call_of_a_device_is_odd(rt: HostRuntime) -> Result<(), Fail> {
-    let alloc = rt.alloc();
     for job in &JOBS {
-        let job = prepare(alloc, job)?;
-        // the reader's bytes at a call, and how often it is called at least
-        for (most, least) in [(64, 128), (1000, 9), (usize::MAX, 1)] {
-            let calls = each_is_odd(&rt, alloc, &job, Side::Reader, most)?;
-            holds(&rt, "calls of the reader", calls >= least);
-        }
-        // it gives one byte at a call: the first and the last call of both windows
-        for number in [1, 4096, 4097, 8192] {
-            is_odd(&rt, alloc, &job, Side::Reader, 1, number)?;
-        }
-        // a flush would be one call more
-        let calls = each_is_odd(&rt, alloc, &job, Side::Writer, 1)?;
-        same(&rt, "calls of the writer", calls, job.job.text.len());
-        let calls = each_is_odd(&rt, alloc, &job, Side::Writer, usize::MAX)?;
-        holds(&rt, "calls of the writer", calls > 0);
+        has_odd_calls(&rt, rt.alloc(), &prepare(rt.alloc(), job)?);
     }
     Ok(())
+}
+
+/// Any call of the devices of a job is odd.
+fn has_odd_calls(rt: &impl Abort, alloc: Global, job: &Prepared<'_>) {
+    // the reader's bytes at a call, and how often it is called at least
+    for (most, least) in [(64, 128), (1000, 9), (usize::MAX, 1)] {
+        let calls = each_is_odd(rt, alloc, job, Side::Reader, most);
+        holds(rt, "calls of the reader", calls >= least);
+    }
+    // it gives one byte at a call: the first and the last call of both windows
+    for number in [1, 4096, 4097, 8192] {
+        is_odd(rt, alloc, job, Side::Reader, 1, number);
+    }
+    // a flush would be one call more
+    let calls = each_is_odd(rt, alloc, job, Side::Writer, 1);
+    same(rt, "calls of the writer", calls, job.job.text.len());
+    let calls = each_is_odd(rt, alloc, job, Side::Writer, usize::MAX);
+    holds(rt, "calls of the writer", calls > 0);
 }
 
 /// Over a device that moves so many bytes at a call the job is done; so many calls that takes. Each of them is odd once.
@@ -335,14 +344,14 @@ fn each_is_odd(
     job: &Prepared<'_>,
     side: Side,
     most: usize,
-) -> Result<usize, Fail> {
-    let built = job.build(alloc, side, most, failing(0))?;
+) -> usize {
+    let built = job.build(alloc, side, most, failing(0));
     same(rt, "no fault", job.fault_of(rt, &built), None);
     let calls = side.calls(&built);
     for number in 1..=calls {
-        is_odd(rt, alloc, job, side, most, number)?;
+        is_odd(rt, alloc, job, side, most, number);
     }
-    Ok(calls)
+    calls
 }
 
 /// The call of this number is odd in each way. One that fails or moves nothing is the device's last.
@@ -353,22 +362,39 @@ fn is_odd(
     side: Side,
     most: usize,
     number: usize,
-) -> Result<(), Fail> {
-    let label = format!(in alloc; "{most} bytes at a call, call {number}")?;
+) {
     for (moves, want) in side.ways() {
-        let built = job.build(alloc, side, most, OddCall { number, moves })?;
-        same(rt, label.as_str(), job.fault_of(rt, &built), want);
+        let built = job.build(alloc, side, most, OddCall { number, moves });
+        let fault = job.fault_of(rt, &built);
+        // bytes at a call, and the odd call
+        same(
+            rt,
+            "an odd call",
+            (most, number, fault),
+            (most, number, want),
+        );
         if want.is_some() {
-            same(rt, label.as_str(), side.calls(&built), number);
-            let held = built.writer.held.as_slice();
-            let is_front = match side {
-                Side::Reader => held == front_after(job, &built),
-                Side::Writer => most != 1 || held.len() == number.saturating_sub(1),
-            };
-            holds(rt, label.as_str(), is_front);
+            ends_at(rt, job, side, most, number, &built);
         }
     }
-    Ok(())
+}
+
+/// The call of this number is the device's last.
+fn ends_at(
+    rt: &impl Abort,
+    job: &Prepared<'_>,
+    side: Side,
+    most: usize,
+    number: usize,
+    built: &Built<'_>,
+) {
+    same(rt, "the last call", side.calls(built), number);
+    let held = built.writer.held.as_slice();
+    let is_front = match side {
+        Side::Reader => held == front_after(job, built),
+        Side::Writer => most != 1 || held.len() == number.saturating_sub(1),
+    };
+    holds(rt, "a front", is_front);
 }
 
 /// What stands of the script once the reader failed or ended: a window of 4096 bytes is read before its steps are written,

@@ -19,8 +19,8 @@ fn one_byte_job(alloc: Global) -> Result<Result<Verdict, CheckStop>, AllocError>
         regions: names.as_slice(),
         ..inputs(IMAGE)
     };
-    let reader = content(BLANK, usize::MAX, 0);
-    Ok(run_check(alloc, &inputs, ONE_BYTE, reader, 8192)?.answer)
+    let reader = content(&BLANK, usize::MAX, 0);
+    Ok(run_check(alloc, &inputs, ONE_BYTE, reader, 8192).answer)
 }
 
 /// Memory is not wanting.

@@ -7,7 +7,7 @@ use std::alloc::{AllocError, Global};
 use std::io;
 
 /// Bytes of an erased chip of 8 KiB, and a few more.
-pub(crate) const BLANK: &[u8] = &[0xFF; 8200];
+pub(crate) static BLANK: [u8; 8200] = [0xFF; 8200];
 
 /// The call of this number moves as many bytes at most; with `None` it fails. No call has the number 0.
 #[derive(Clone, Copy)]
@@ -91,8 +91,22 @@ pub(crate) fn content(ahead: &[u8], most: usize, fails_at: usize) -> SlowReader<
     }
 }
 
-/// A writer that never fails and holds nothing yet. It has memory for `room` bytes.
-pub(crate) fn writer(alloc: Global, room: usize, most: usize) -> Result<SlowWriter, AllocError> {
+/// A writer that never fails and holds nothing yet.
+pub(crate) fn writer(alloc: Global, most: usize) -> SlowWriter {
+    SlowWriter {
+        held: Vec::new(alloc),
+        most,
+        call: 0,
+        odd: failing(0),
+    }
+}
+
+/// The same with memory for `room` bytes.
+pub(crate) fn roomy_writer(
+    alloc: Global,
+    room: usize,
+    most: usize,
+) -> Result<SlowWriter, AllocError> {
     Ok(SlowWriter {
         held: Vec::with_capacity(alloc, room)?,
         most,
@@ -180,9 +194,8 @@ pub(crate) fn run_check<'d>(
     script: &str,
     reader: SlowReader<'d>,
     len: u64,
-) -> Result<Done<'d, Result<Verdict, CheckStop>>, AllocError> {
+) -> Done<'d, Result<Verdict, CheckStop>> {
     let mut reader = FromRead::new(reader);
     let answer = check_script(alloc, inputs, script.as_bytes(), &mut reader, len);
-    let writer = IntoWrite::new(writer(alloc, 0, 0)?);
-    Ok(with_devices(answer, reader, writer))
+    with_devices(answer, reader, IntoWrite::new(writer(alloc, 0)))
 }

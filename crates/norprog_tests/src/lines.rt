@@ -1,7 +1,7 @@
 //! Lines of numbers that no job here reaches, and a writer that fails at each byte of a line.
 
 use crate::builds::ONE_PROGRAM;
-use crate::devices::{SlowWriter, failing, writer};
+use crate::devices::{Built, SlowWriter, failing, writer};
 use crate::plans::{ONE_LINE, one_byte_plan};
 use crate::same::{holds, same};
 use nor_base::{ByteOut, IntoWrite, Strategy};
@@ -9,12 +9,12 @@ use nor_geometry::PlanFault;
 use norprog::{BuildFault, HexFault, LayoutFault, Report, write_report};
 use norprog_check::{Verdict, Why, Wrong};
 use norprog_words::{Refusal, refuse};
-use std::alloc::{AllocError, Global};
+use std::alloc::Global;
 use std::process::Abort;
 use std::test::Fail;
 
 /// Each wrong, and its number.
-const WRONGS: [(Wrong, u8); 8] = [
+static WRONGS: [(Wrong, u8); 8] = [
     (Wrong::Ignored, 1),
     (Wrong::Unknown, 2),
     (Wrong::Raised, 3),
@@ -26,31 +26,34 @@ const WRONGS: [(Wrong, u8); 8] = [
 ];
 
 /// Steps and addresses that differ there, and the lines of such a check.
-const DIFFERS: [(u64, u32, &str); 3] = [
+static DIFFERS: [(u64, u32, &str); 3] = [
     (3, 0x0ABC_DEF1, "no at 3 differs 0abcdef1\n"),
     (10, 4096, "no at 10 differs 00001000\n"),
     (7, u32::MAX, "no at 7 differs ffffffff\n"),
 ];
 
 /// Faults, and what is printed of them.
-const FAULTS: [(BuildFault, &str); 9] = [
-    (BuildFault::Contradiction(255), "contradiction 255"),
+static FAULTS: [(BuildFault, &str); 9] = [
+    (
+        BuildFault::Contradiction(255),
+        "norprog: contradiction 255\n",
+    ),
     (
         BuildFault::Hex(HexFault::NoEnd { line: u64::MAX }),
-        "hex 7 line 18446744073709551615",
+        "norprog: hex 7 line 18446744073709551615\n",
     ),
-    (BuildFault::Hex(HexFault::Memory), "memory"),
+    (BuildFault::Hex(HexFault::Memory), "norprog: memory\n"),
     (
         BuildFault::Layout(LayoutFault::TooMany(0)),
-        "layout 5 line 0",
+        "norprog: layout 5 line 0\n",
     ),
-    (BuildFault::Layout(LayoutFault::Memory), "memory"),
-    (BuildFault::ContentShort, "content short"),
-    (BuildFault::Read, "read"),
-    (BuildFault::Memory, "memory"),
+    (BuildFault::Layout(LayoutFault::Memory), "norprog: memory\n"),
+    (BuildFault::ContentShort, "norprog: content short\n"),
+    (BuildFault::Read, "norprog: read\n"),
+    (BuildFault::Memory, "norprog: memory\n"),
     (
         BuildFault::Plan(PlanFault::Unreachable(0x0ABC_DEF9)),
-        "plan 2 at 0abcdef9",
+        "norprog: plan 2 at 0abcdef9\n",
     ),
 ];
 
@@ -74,94 +77,109 @@ fn no(step: u64, why: Why) -> Verdict {
     Verdict::No { step, why }
 }
 
-/// This is what was written.
-fn holds_line(rt: &impl Abort, out: IntoWrite<Vec<u8>>, want: &str) {
-    let held = out.into_inner();
-    holds(rt, want, held.as_slice() == want.as_bytes());
-}
-
 #[test]
 fn each_verdict_has_its_line(rt: HostRuntime) -> Result<(), Fail> {
-    for (step, address, want) in DIFFERS {
+    for (step, address, want) in &DIFFERS {
         let mut line = IntoWrite::new(Vec::new(rt.alloc()));
-        norprog_check::write_verdict(&no(step, Why::Differs(address)), &mut line)?;
-        holds_line(&rt, line, want);
+        norprog_check::write_verdict(&no(*step, Why::Differs(*address)), &mut line)?;
+        holds(&rt, want, line.inner.as_slice() == want.as_bytes());
     }
-    for (why, number) in WRONGS {
-        for step in [0, 1, 9, 10, 12, 99, 100, u64::MAX] {
-            has_lines(&rt, rt.alloc(), step, why, number)?;
-        }
+    for (why, number) in &WRONGS {
+        has_lines(&rt, rt.alloc(), *why, *number)?;
     }
     Ok(())
 }
 
-/// The lines of a step that goes wrong, of a check and of a play.
-fn has_lines(
-    rt: &impl Abort,
-    alloc: Global,
-    step: u64,
-    why: Wrong,
-    number: u8,
-) -> Result<(), Fail> {
-    let mut line = IntoWrite::new(Vec::new(alloc));
-    norprog_check::write_verdict(&no(step, Why::Wrong(why)), &mut line)?;
-    let want = format!(in alloc; "no at {step} wrong {number}\n")?;
-    holds_line(rt, line, want.as_str());
-    let mut line = IntoWrite::new(Vec::new(alloc));
-    norprog_run::write_verdict(&norprog_run::Verdict::Wrong { step, why }, &mut line)?;
-    let want = format!(in alloc; "wrong {number} at {step}\n")?;
-    holds_line(rt, line, want.as_str());
+/// The lines of steps that go wrong, of a check and of a play.
+fn has_lines(rt: &impl Abort, alloc: Global, why: Wrong, number: u8) -> Result<(), Fail> {
+    for step in [0, 1, 9, 10, 12, 99, 100, u64::MAX] {
+        let want = format!(in alloc; "no at {step} wrong {number}\nwrong {number} at {step}\n")?;
+        let mut lines = IntoWrite::new(Vec::new(alloc));
+        let is_whole = writes_both(step, why, &mut lines);
+        let found = lines.inner.as_slice();
+        holds(rt, want.as_str(), is_whole && found == want.as_bytes());
+    }
     Ok(())
+}
+
+/// Writes the line of a check and that of a play, and says whether they are whole.
+fn writes_both(step: u64, why: Wrong, lines: &mut IntoWrite<Vec<u8>>) -> bool {
+    let played = norprog_run::Verdict::Wrong { step, why };
+    lines.failures() == 0
+        && norprog_check::write_verdict(&no(step, Why::Wrong(why)), lines).is_ok()
+        && norprog_run::write_verdict(&played, lines).is_ok()
 }
 
 #[test]
-fn each_fault_has_its_line(rt: HostRuntime) -> Result<(), Fail> {
-    for (fault, text) in FAULTS {
+fn each_fault_has_its_line(rt: HostRuntime) {
+    for (fault, line) in &FAULTS {
         let mut err = IntoWrite::new(Vec::new(rt.alloc()));
-        same(&rt, text, refuse(&Refusal::Build(fault), &mut err), 1);
-        let want = format!(in rt.alloc(); "norprog: {text}\n")?;
-        holds_line(&rt, err, want.as_str());
+        same(&rt, line, refuse(&Refusal::Build(*fault), &mut err), 1);
+        holds(&rt, line, err.inner.as_slice() == line.as_bytes());
     }
-    Ok(())
 }
 
 /// A writer that takes a byte at a call, and fails at the call of this number.
-fn failing_writer(alloc: Global, fails_at: usize) -> Result<SlowWriter, AllocError> {
-    let mut slow = writer(alloc, 0, 1)?;
+fn failing_writer(alloc: Global, fails_at: usize) -> SlowWriter {
+    let mut slow = writer(alloc, 1);
     slow.odd = failing(fails_at);
-    Ok(slow)
+    slow
 }
 
 #[test]
 fn a_failing_writer_holds_a_proper_prefix(rt: HostRuntime) -> Result<(), Fail> {
     for fails_at in 1..=REPORT_TEXT.len() + 1 {
-        let mut slow = IntoWrite::new(failing_writer(rt.alloc(), fails_at)?);
-        let failed = write_report(&REPORT, &mut slow).is_err();
-        same(&rt, REPORT_TEXT, slow.failures(), u64::from(failed));
-        is_front(&rt, REPORT_TEXT, fails_at, failed, slow.into_inner());
+        report_fails(&rt, rt.alloc(), fails_at);
     }
-    let verdict = no(12, Why::Differs(0x0ABC_DEF1));
     for fails_at in 1..=NO_TEXT.len() + 1 {
-        let mut slow = IntoWrite::new(failing_writer(rt.alloc(), fails_at)?);
-        let failed = norprog_check::write_verdict(&verdict, &mut slow).is_err();
-        same(&rt, NO_TEXT, slow.failures(), u64::from(failed));
-        is_front(&rt, NO_TEXT, fails_at, failed, slow.into_inner());
+        verdict_fails(&rt, rt.alloc(), fails_at);
     }
     for fails_at in 1..=ONE_LINE.len() + 1 {
-        let told = one_byte_plan(rt.alloc(), 1, fails_at)?;
-        let failed = told.answer == Err(BuildFault::Write);
-        holds(&rt, ONE_LINE, failed || told.answer == Ok(ONE_PROGRAM));
-        let failures = (told.read_failures, told.write_failures);
-        same(&rt, ONE_LINE, failures, (0, u64::from(failed)));
-        is_front(&rt, ONE_LINE, fails_at, failed, told.writer);
+        plan_fails(&rt, &one_byte_plan(rt.alloc(), 1, fails_at)?, fails_at);
     }
     Ok(())
 }
 
-/// What was written by a writer that takes a byte at a call is what stands before the byte at which it fails.
-fn is_front(rt: &impl Abort, text: &str, fails_at: usize, failed: bool, slow: SlowWriter) {
+/// The lines of a report.
+fn report_fails(rt: &impl Abort, alloc: Global, fails_at: usize) {
+    let mut slow = IntoWrite::new(failing_writer(alloc, fails_at));
+    let failed = write_report(&REPORT, &mut slow).is_err();
+    is_front(rt, REPORT_TEXT, fails_at, failed, &slow);
+}
+
+/// The line of a verdict.
+fn verdict_fails(rt: &impl Abort, alloc: Global, fails_at: usize) {
+    let mut slow = IntoWrite::new(failing_writer(alloc, fails_at));
+    let verdict = no(12, Why::Differs(0x0ABC_DEF1));
+    let failed = norprog_check::write_verdict(&verdict, &mut slow).is_err();
+    is_front(rt, NO_TEXT, fails_at, failed, &slow);
+}
+
+/// What was written by a writer that takes a byte at a call, and failed once if at all, is what stands before the byte at
+/// which it fails.
+fn is_front(
+    rt: &impl Abort,
+    text: &str,
+    fails_at: usize,
+    failed: bool,
+    slow: &IntoWrite<SlowWriter>,
+) {
+    same(rt, text, slow.failures(), u64::from(failed));
+    holds_front(rt, text, fails_at, failed, slow.inner.held.as_slice());
+}
+
+/// This is what stands before the byte at which a writer fails.
+fn holds_front(rt: &impl Abort, text: &str, fails_at: usize, failed: bool, held: &[u8]) {
     same(rt, text, failed, fails_at <= text.len());
-    let held = slow.held.as_slice();
     same(rt, text, held.len(), fails_at.saturating_sub(1));
     holds(rt, text, text.as_bytes().starts_with(held));
+}
+
+/// The line of a plan.
+fn plan_fails(rt: &impl Abort, told: &Built<'_>, fails_at: usize) {
+    let failed = told.answer == Err(BuildFault::Write);
+    holds(rt, ONE_LINE, failed || told.answer == Ok(ONE_PROGRAM));
+    let failures = (told.read_failures, told.write_failures);
+    same(rt, ONE_LINE, failures, (0, u64::from(failed)));
+    holds_front(rt, ONE_LINE, fails_at, failed, told.writer.held.as_slice());
 }

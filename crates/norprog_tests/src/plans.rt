@@ -1,7 +1,7 @@
 //! Plans with little memory.
 
 use crate::builds::ONE_PROGRAM;
-use crate::devices::{BLANK, Built, Work, content, failing, inputs, run_work, writer};
+use crate::devices::{BLANK, Built, Work, content, failing, inputs, roomy_writer, run_work};
 use crate::same::{holds, same};
 use nor_samples::texts::IMAGE;
 use norprog::BuildFault;
@@ -17,9 +17,9 @@ pub(crate) fn one_byte_plan(
     most: usize,
     fails_at: usize,
 ) -> Result<Built<'static>, AllocError> {
-    let mut lines = writer(alloc, 128, most)?;
+    let mut lines = roomy_writer(alloc, 128, most)?;
     lines.odd = failing(fails_at);
-    let reader = content(BLANK, 8192, 0);
+    let reader = content(&BLANK, 8192, 0);
     Ok(run_work(alloc, Work::Plan, &inputs(IMAGE), reader, 8192, lines))
 }
 

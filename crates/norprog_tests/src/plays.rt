@@ -1,6 +1,6 @@
 //! Plays over bytes, with a reader and a writer that move few bytes at a call, end early or fail, and with little memory.
 
-use crate::devices::{BLANK, Done, content, failing, inputs, with_devices, writer};
+use crate::devices::{BLANK, Done, content, failing, inputs, roomy_writer, with_devices};
 use crate::same::{holds, same};
 use nor_base::{ByteIn, ByteOut, FromRead, IntoWrite};
 use nor_samples::texts::ONE_BYTE;
@@ -30,7 +30,7 @@ fn play(
     };
     let given = BLANK.get(..has).unwrap_or(&[]);
     let mut reader = FromRead::new(content(given, 5000, read_fails_at));
-    let mut after = writer(alloc, 8192, 5000)?;
+    let mut after = roomy_writer(alloc, 8192, 5000)?;
     after.odd = failing(write_fails_at);
     let mut after = IntoWrite::new(after);
     let answer = play_script(
@@ -89,35 +89,36 @@ fn a_refused_growth_is_memory(rt: HostRuntime) {
     }
 }
 
+/// How many bytes a reader has, and the calls at which it and the writer fail.
+type Devices = (usize, usize, usize);
+
 /// Devices, the fault, how many bytes are left to read, and how many were written.
-const ROWS: [((usize, usize, usize), BuildFault, usize, usize); 6] = [
-    ((8191, 0, 0), BuildFault::ContentShort, 0, 0),
-    ((0, 0, 0), BuildFault::ContentShort, 0, 0),
-    ((8192, 1, 0), BuildFault::Read, 8192, 0),
-    ((8192, 2, 0), BuildFault::Read, 3192, 0),
-    ((8192, 0, 1), BuildFault::Write, 0, 0),
-    ((8192, 0, 2), BuildFault::Write, 0, 5000),
+static ROWS: [(&str, Devices, BuildFault, usize, usize); 6] = [
+    ("8191, 0, 0", (8191, 0, 0), BuildFault::ContentShort, 0, 0),
+    ("0, 0, 0", (0, 0, 0), BuildFault::ContentShort, 0, 0),
+    ("8192, 1, 0", (8192, 1, 0), BuildFault::Read, 8192, 0),
+    ("8192, 2, 0", (8192, 2, 0), BuildFault::Read, 3192, 0),
+    ("8192, 0, 1", (8192, 0, 1), BuildFault::Write, 0, 0),
+    ("8192, 0, 2", (8192, 0, 2), BuildFault::Write, 0, 5000),
 ];
 
 #[test]
 fn devices_that_end_or_fail(rt: HostRuntime) -> Result<(), Fail> {
-    for ((has, read_fails_at, write_fails_at), fault, left, written) in ROWS {
-        let label = format!(in rt.alloc(); "{has}, {read_fails_at}, {write_fails_at}")?;
-        let label = label.as_str();
-        let played = play(rt.alloc(), has, read_fails_at, write_fails_at)?;
-        holds(&rt, label, played.answer == (None, Some(fault)));
-        same(&rt, label, played.reader.ahead.len(), left);
-        same(&rt, label, played.writer.held.len(), written);
-        let want = (
-            u64::from(fault == BuildFault::Read),
-            u64::from(fault == BuildFault::Write),
-        );
-        same(
-            &rt,
-            label,
-            (played.read_failures, played.write_failures),
-            want,
-        );
+    for (label, (has, read_fails_at, write_fails_at), fault, left, written) in &ROWS {
+        let played = play(rt.alloc(), *has, *read_fails_at, *write_fails_at)?;
+        holds(&rt, label, played.answer == (None, Some(*fault)));
+        let found = (played.reader.ahead.len(), played.writer.held.len());
+        same(&rt, label, found, (*left, *written));
+        let failures = (played.read_failures, played.write_failures);
+        same(&rt, label, failures, failures_of(*fault));
     }
     Ok(())
+}
+
+/// How often the reader and the writer fail at this fault.
+fn failures_of(fault: BuildFault) -> (u64, u64) {
+    (
+        u64::from(fault == BuildFault::Read),
+        u64::from(fault == BuildFault::Write),
+    )
 }

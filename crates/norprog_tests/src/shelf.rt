@@ -4,7 +4,7 @@ ghost use Rattle.std.specs.Prelude.{◌≤◌, ◌^◌, length, IfOk, IfErr};
 ghost use Rattle.norprog_words.specs.Files.{RefusesFile, IsOfFiles};
 
 use crate::devices::BLANK;
-use crate::same::same;
+use crate::same::{holds, same};
 use nor_base::{Failed, FromRead, IntoWrite};
 use nor_samples::texts::{IMAGE, ONE_BYTE};
 use norprog_command::{build, check};
@@ -15,7 +15,7 @@ use norprog_words::{
 };
 use std::alloc::Global;
 use std::cell::Cell;
-use std::test::Fail;
+use std::process::Abort;
 
 /// A file of more bytes isn't read whole.
 const MOST_BYTES: u64 = 1 << 36;
@@ -171,8 +171,7 @@ fn one_play<'a>() -> GivenRun<'a> {
 
 /// What a script is built from, checked for and played on: by each command the status, what is printed, and what is flushed.
 #[test]
-fn commands_go_over_files_in_memory(rt: HostRuntime) -> Result<(), Fail> {
-    let alloc = rt.alloc();
+fn commands_go_over_files_in_memory(rt: HostRuntime) {
     let files: [(&str, &[u8]); 3] = [
         ("image", IMAGE.as_bytes()),
         ("content", &BLANK[..8192]),
@@ -180,38 +179,48 @@ fn commands_go_over_files_in_memory(rt: HostRuntime) -> Result<(), Fail> {
     ];
     let shelf = Memory {
         files: &files,
-        flushed: Cell::new(Vec::new(alloc)),
+        flushed: Cell::new(Vec::new(rt.alloc())),
     };
-    let mut out = IntoWrite::new(Vec::new(alloc));
-    let mut err = IntoWrite::new(Vec::new(alloc));
+    builds(&rt, rt.alloc(), &shelf);
+    checks(&rt, rt.alloc(), &shelf);
+    plays(&rt, rt.alloc(), &shelf);
+}
+
+fn builds(rt: &impl Abort, alloc: Global, shelf: &Memory<'_>) {
     let given = GivenBuild {
         job: one_byte(alloc),
         out: Some("new"),
     };
-    let built = build(alloc, &shelf, Ok(given), &mut out, &mut err);
-    same(&rt, "the build", built, 0);
+    let mut out = IntoWrite::new(Vec::new(alloc));
+    let mut err = IntoWrite::new(Vec::new(alloc));
+    let built = build(alloc, shelf, Ok(given), &mut out, &mut err);
+    same(rt, "the build", built, 0);
     let script = shelf.flushed.replace(Vec::new(alloc));
-    same(&rt, "the script", script.as_slice(), ONE_BYTE.as_bytes());
+    holds(rt, "the script", script.as_slice() == ONE_BYTE.as_bytes());
+}
+
+fn checks(rt: &impl Abort, alloc: Global, shelf: &Memory<'_>) {
     let given = GivenCheck {
         job: one_byte(alloc),
         script: Some("script"),
     };
     let mut out = IntoWrite::new(Vec::new(alloc));
     let mut err = IntoWrite::new(Vec::new(alloc));
-    let checked = check(alloc, &shelf, Ok(given), &mut out, &mut err);
-    same(&rt, "the check", checked, 0);
-    same(
-        &rt,
+    let checked = check(alloc, shelf, Ok(given), &mut out, &mut err);
+    same(rt, "the check", checked, 0);
+    holds(
+        rt,
         "the verdict",
-        out.inner.as_slice(),
-        b"yes\n".as_slice(),
+        out.inner.as_slice() == b"yes\n".as_slice(),
     );
+}
+
+fn plays(rt: &impl Abort, alloc: Global, shelf: &Memory<'_>) {
     let mut out = IntoWrite::new(Vec::new(alloc));
     let mut err = IntoWrite::new(Vec::new(alloc));
-    let played = run(alloc, &shelf, Ok(one_play()), &mut out, &mut err);
-    same(&rt, "the play", played, 0);
-    same(&rt, "its line", out.inner.as_slice(), b"ok 3\n".as_slice());
+    let played = run(alloc, shelf, Ok(one_play()), &mut out, &mut err);
+    same(rt, "the play", played, 0);
+    holds(rt, "its line", out.inner.as_slice() == b"ok 3\n".as_slice());
     let after = shelf.flushed.replace(Vec::new(alloc));
-    same(&rt, "the byte", after.as_slice().first().copied(), Some(0));
-    Ok(())
+    same(rt, "the byte", after.as_slice().first().copied(), Some(0));
 }

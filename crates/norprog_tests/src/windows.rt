@@ -20,51 +20,42 @@ const FRONT: &str =
 type Row = (usize, usize, BuildFault, &'static str, &'static str);
 
 /// The first window has 64 KiB, the second one 4 KiB.
-const ROWS: [Row; 4] = [
+static ROWS: [Row; 4] = [
     (0x10000, 0, BuildFault::ContentShort, FRONT, ONE_LINE),
     (0x10FFF, 0, BuildFault::ContentShort, FRONT, ONE_LINE),
     (0xFFFF, 0, BuildFault::ContentShort, HEADER, ""),
     (0x11000, 2, BuildFault::Read, FRONT, ONE_LINE),
 ];
 
+/// An image with a byte in each window.
+const TWO: &str = ":0100000000FF\n:020000040001F9\n:0100000001FE\n:00000001FF\n";
+
 #[test]
 fn a_window_is_written_when_it_was_read(rt: HostRuntime) -> Result<(), Fail> {
-    let alloc = rt.alloc();
-    let bytes = patched(alloc, &SMALL, LONE_BLOCK)?;
-    let inputs = Inputs {
-        chip: Source::Sfdp {
-            bytes: bytes.as_slice(),
-            bits: "",
-        },
-        ..inputs(":0100000000FF\n:020000040001F9\n:0100000001FE\n:00000001FF\n")
-    };
-    let mut held = vec![in alloc; 0xFFu8; 0x11000]?;
+    let bytes = patched(rt.alloc(), &SMALL, LONE_BLOCK)?;
+    let mut held = vec![in rt.alloc(); 0xFFu8; 0x11000]?;
     if let Some(place) = held.get_mut(0x10000) {
         *place = 0;
     }
-    for row in ROWS {
-        try_row(&rt, alloc, &inputs, held.as_slice(), row)?;
+    for row in &ROWS {
+        try_row(&rt, rt.alloc(), bytes.as_slice(), held.as_slice(), row);
     }
     Ok(())
 }
 
 /// A build and a plan over the row's reader answer what the row says, and have written that.
-fn try_row(
-    rt: &impl Abort,
-    alloc: Global,
-    inputs: &Inputs<'_>,
-    held: &[u8],
-    row: Row,
-) -> Result<(), Fail> {
+fn try_row(rt: &impl Abort, alloc: Global, bytes: &[u8], held: &[u8], row: &Row) {
     let (has, fails_at, fault, script, lines) = row;
-    let given = held.get(..has).unwrap_or(&[]);
+    let inputs = Inputs {
+        chip: Source::Sfdp { bytes, bits: "" },
+        ..inputs(TWO)
+    };
+    let given = held.get(..*has).unwrap_or(&[]);
     for (work, written) in [(Work::Build, script), (Work::Plan, lines)] {
-        let reader = content(given, usize::MAX, fails_at);
-        let script = writer(alloc, 128, 128)?;
-        let done = run_work(alloc, work, inputs, reader, 0x11000, script);
-        same(rt, written, done.answer.err(), Some(fault));
+        let reader = content(given, usize::MAX, *fails_at);
+        let done = run_work(alloc, work, &inputs, reader, 0x11000, writer(alloc, 128));
+        same(rt, written, done.answer.err(), Some(*fault));
         let held = done.writer.held.as_slice();
         holds(rt, written, held == written.as_bytes());
     }
-    Ok(())
 }
