@@ -66,9 +66,9 @@ const WRONG: &str = "norscript 1\nx 0000001000000000000000000000000000000000\nen
 /// A script on an empty chip of 8 KiB behind a device, and how it ends.
 struct Row {
     text: &'static str,
-    /// How many bytes are read before the steps, at once and then at once; none where there are none.
+    /// How many bytes are read before the steps: at once, and then at once; 0 where none are.
     reads: [usize; 2],
-    /// The place among all the answers behind the handshake at which another byte is given, and how many answers there are.
+    /// The place among the answers behind the handshake at which another byte is given, and how many of them there are at most.
     cuts: (usize, usize),
     /// What is answered to the steps.
     steps: &'static [u8],
@@ -82,7 +82,7 @@ struct Row {
     count: usize,
 }
 
-/// A row that only its ending and its count tell from others.
+/// The job of one byte, compared before and done.
 const GOOD: Row = Row {
     text: ONE_BYTE,
     reads: [256, 0],

@@ -43,7 +43,7 @@ struct Row<'a> {
     room: usize,
 }
 
-/// A device that is never greeted in vain.
+/// A device that answers each command.
 const GOOD: Row<'static> = Row {
     answers: ANSWERS,
     silent: 0,
@@ -63,7 +63,7 @@ fn greets(alloc: Global, row: &Row<'_>) -> (Result<Limits, GreetFault>, Vec<u8>)
     (met, to.into_inner().bytes)
 }
 
-/// A device is silent where it should know its interface.
+/// The answer to the query of the interface is cut.
 const CUT: GreetFault = GreetFault::Command {
     at: Command::QueryInterface,
     why: Fault::Silent,

@@ -167,7 +167,7 @@ fn each_byte_taken_fails(rt: HostRuntime) -> Result<(), Fail> {
             put: Some(room),
             ..GOOD
         };
-        // three operations end before the bytes of these numbers
+        // the bytes before the second, the third and the fourth step
         let step = u64::from(room >= 8) + u64::from(room >= 20) + u64::from(room >= 44);
         let row = row.fails(step, Reason::Exchange(Fault::Write));
         plays(&rt, rt.alloc(), &steps, &row)?;
