@@ -4,7 +4,7 @@ use crate::bench::Bench;
 use crate::setup::Setup;
 use crate::steps::steps_of;
 use crate::words::{clocks_of, end_with, handed};
-use nor_base::{PortFault, Step, sampled};
+use nor_base::{PortFault, sampled};
 use nor_chip::{Chip, Port};
 use nor_play::{PlayFault, play};
 use nor_samples::rows::Row;
@@ -68,14 +68,25 @@ fn front<'c>(chip: &'c Chip<'_>) -> &'c [u8] {
     content.get(..65536).unwrap_or(content)
 }
 
-/// Does a transaction, and says what is read or why it is refused. Then the chip must be as before, and nothing read.
+/// Does the transaction of a line.
 fn do_one(alloc: Global, chip: &mut Chip<'_>, line: &str, out: &mut String) -> io::Result<()> {
     let clocks = clocks_of(alloc, line)?;
-    let mut bytes = vec![in alloc; 0xEEu8; sampled(clocks.as_slice())]?;
-    let (before, was_settled) = (Vec::from_slice(alloc, front(chip))?, chip.settled());
-    let done = chip.transact(clocks.as_slice(), bytes.as_mut_slice());
+    Ok(do_clocks(alloc, chip, clocks.as_slice(), out)?)
+}
+
+/// Does a transaction, and says what is read or why it is refused. Then the chip must be as before, and nothing read.
+fn do_clocks(
+    alloc: Global,
+    chip: &mut Chip<'_>,
+    clocks: &[u8],
+    out: &mut String,
+) -> Result<(), AllocError> {
+    let was_settled = chip.settled();
+    let before = Vec::from_slice(alloc, front(chip))?;
+    let mut bytes = vec![in alloc; 0xEEu8; sampled(clocks)]?;
+    let done = chip.transact(clocks, bytes.as_mut_slice());
     let same = front(chip) == before.as_slice() && chip.settled() == was_settled;
-    Ok(tell_done(done, same, bytes.as_slice(), out)?)
+    tell_done(done, same, bytes.as_slice(), out)
 }
 
 /// What is read, or why it is refused and whether the chip and what was there for the bytes stayed the same.
@@ -100,29 +111,14 @@ fn tell_done(
 /// or what went wrong at which step.
 pub(crate) fn play_on(bench: &mut Bench<'_>, row: &Row<'_>, out: &mut String) -> io::Result<()> {
     let alloc = bench.alloc;
-    let steps = steps_of(alloc, row.given)?;
-    let (limit, words) = limited(row.asked)?;
-    let played = play_within(alloc, steps.as_slice(), set_up(bench, words)?, limit)?;
-    Ok(tell_played(played, out)?)
-}
-
-/// The limit that the first word says, and the words behind it.
-fn limited<'w>(words: &'w str) -> io::Result<(u64, &'w str)> {
-    let (limit, words) = words.split_once(' ').ok_or(ODD)?;
-    Ok((u64::from(number(limit)?), words))
-}
-
-/// Plays steps with a limit of turns, which isn't 0.
-fn play_within(
-    alloc: Global,
-    steps: &[Step],
-    chip: &mut Chip<'_>,
-    limit: u64,
-) -> io::Result<Result<u128, PlayFault>> {
+    let (limit, words) = row.asked.split_once(' ').ok_or(ODD)?;
+    let limit = u64::from(number(limit)?);
     if limit == 0 {
         return Err(ODD.into());
     }
-    Ok(play(alloc, steps, chip, limit))
+    let chip = set_up(bench, words)?;
+    let steps = steps_of(alloc, row.given)?;
+    Ok(tell_played(play(alloc, steps.as_slice(), chip, limit), out)?)
 }
 
 /// How many transactions a play had, or what went wrong at which step.

@@ -23,5 +23,5 @@ pub(crate) fn tell(bench: &Bench<'_>, row: &Row<'_>, out: &mut String) -> io::Re
     if write_listing(meaning, &start, steps.as_slice(), &mut writer).is_err() {
         return Err(ODD.into());
     }
-    Ok(out.push_str(text(writer.into_inner().as_slice()))?)
+    Ok(out.push_str(text(writer.inner.as_slice()))?)
 }

@@ -5,7 +5,7 @@ use crate::words::{end_with, handed};
 use nor_base::{ByteOut, IntoWrite, Step, is_step};
 use nor_samples::rows::Row;
 use nor_samples::words::{ODD, byte};
-use nor_script::{begin, finish, read, write_step};
+use nor_script::{ScriptFault, begin, finish, read, write_step};
 use std::alloc::{AllocError, Global};
 use std::fmt::Write;
 use std::io;
@@ -49,22 +49,31 @@ pub(crate) fn text<'b>(bytes: &'b [u8]) -> &'b str {
 /// steps or its fault.
 pub(crate) fn read_fronts(alloc: Global, given: &[&str], out: &mut String) -> io::Result<()> {
     let text = text_of(alloc, given)?;
-    let mut before = String::new(alloc);
+    let mut before = None;
     for taken in 0..=text.len() {
-        let answer = answer_of(alloc, text.get(..taken).unwrap_or(&[]))?;
-        if answer.as_str() != before.as_str() {
-            writeln!(out, "{taken} {answer}")?;
+        let answer = count_of(alloc, text.get(..taken).unwrap_or(&[]));
+        if before != Some(answer) {
+            before = Some(answer);
+            tell_front(taken, answer, out)?;
         }
-        before = answer;
     }
     Ok(())
 }
 
 /// The number of a text's steps, or its fault.
-fn answer_of(alloc: Global, text: &[u8]) -> Result<String, AllocError> {
-    match read(alloc, text) {
-        Ok(steps) => format!(in alloc; "{} steps", steps.len()),
-        Err(fault) => format!(in alloc; "{fault:?}"),
+fn count_of(alloc: Global, text: &[u8]) -> Result<usize, ScriptFault> {
+    Ok(read(alloc, text)?.len())
+}
+
+/// The length of a front, and its answer.
+fn tell_front(
+    taken: usize,
+    answer: Result<usize, ScriptFault>,
+    out: &mut String,
+) -> Result<(), AllocError> {
+    match answer {
+        Ok(count) => writeln!(out, "{taken} {count} steps"),
+        Err(fault) => writeln!(out, "{taken} {fault:?}"),
     }
 }
 
@@ -106,16 +115,16 @@ pub(crate) fn tell_writable(alloc: Global, given: &[&str], out: &mut String) -> 
 
 /// The text of steps that have a line; where a word says so, with another number in its end line.
 pub(crate) fn write_all(alloc: Global, row: &Row<'_>, out: &mut String) -> io::Result<()> {
-    let steps = steps_of(alloc, row.given)?;
     let count = match row.asked {
-        "" => steps.len() as u64,
+        "" => row.given.len() as u64,
         word => word.parse::<u64>().ok().ok_or(ODD)?,
     };
+    let steps = steps_of(alloc, row.given)?;
     let mut writer = IntoWrite::new(Vec::new(alloc));
     if !write_script(steps.as_slice(), count, &mut writer) {
         return Err(ODD.into());
     }
-    Ok(out.push_str(text(writer.into_inner().as_slice()))?)
+    Ok(out.push_str(text(writer.inner.as_slice()))?)
 }
 
 /// Writes steps and the number of the end line, and says whether each step has a line and all was written.

@@ -87,12 +87,12 @@ impl<'a, 'w> Setup<'a, 'w> {
 
     /// The chip, if there is such a one.
     pub(crate) fn into_chip(self) -> io::Result<Chip<'a>> {
-        let (meaning, start, page, have) = (self.meaning, self.start, self.page, self.have);
-        let whole = have.len() == meaning.size as usize;
+        let (meaning, start, page) = (self.meaning, self.start, self.page);
+        let whole = self.have.len() == meaning.size as usize;
         if !whole || start.mode4 && meaning.width == Width::Three || !meaning.may_page(page) {
             return Err(ODD.into());
         }
-        Ok(Chip::with_page(meaning, start, have, self.busy, self.keeps, page))
+        Ok(Chip::with_page(meaning, start, self.have, self.busy, self.keeps, page))
     }
 }
 

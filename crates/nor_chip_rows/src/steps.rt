@@ -24,11 +24,13 @@ fn step_of(alloc: Global, line: &str) -> io::Result<Step> {
         _ => (words, ""),
     };
     let clocks = Bytes::new(clocks_of(alloc, transaction)?);
-    let expect = Bytes::new(bytes_of(alloc, expect)?);
     match letter {
         "x" => Ok(Step::Send { clocks }),
         "p" => Ok(Step::Poll { clocks }),
-        "v" => Ok(Step::Verify { clocks, expect }),
+        "v" => {
+            let expect = Bytes::new(bytes_of(alloc, expect)?);
+            Ok(Step::Verify { clocks, expect })
+        }
         _ => Err(ODD.into()),
     }
 }

@@ -13,24 +13,25 @@ use std::io;
 
 /// Says whether steps do the task that the words say, on each chip.
 pub(crate) fn tell(bench: &Bench<'_>, row: &Row<'_>, out: &mut String) -> io::Result<()> {
-    let setup = Setup::of(bench, row.asked)?;
     let steps = steps_of(bench.alloc, row.given)?;
-    Ok(put(verdict(bench.alloc, &setup, steps.as_slice())?, out)?)
+    let setup = Setup::of(bench, row.asked)?;
+    tell_on(bench.alloc, &setup, steps.as_slice(), out)
 }
 
 /// The verdict on steps, from what a chip has to what it is to hold, if there is such a chip.
-fn verdict(
+fn tell_on(
     alloc: Global,
     setup: &Setup<'_, '_>,
     steps: &[Step],
-) -> io::Result<Result<Verdict, CheckFault>> {
+    out: &mut String,
+) -> io::Result<()> {
     let (meaning, start, have) = (setup.meaning, setup.start, setup.have.as_slice());
-    let want = setup.wanted()?;
     let size = meaning.size as usize;
+    let want = setup.wanted()?;
     if have.len() != size || want.len() != size || start.mode4 && meaning.width == Width::Three {
         return Err(ODD.into());
     }
-    Ok(check(alloc, steps, meaning, &start, have, &want))
+    Ok(put(check(alloc, steps, meaning, &start, have, &want), out)?)
 }
 
 /// Puts a verdict, or why there is none.

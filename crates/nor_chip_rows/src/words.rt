@@ -28,7 +28,7 @@ pub(crate) fn bytes_of(alloc: Global, words: &str) -> io::Result<Vec<u8>> {
 pub(crate) fn clocks_of(alloc: Global, line: &str) -> io::Result<Vec<u8>> {
     let (sent, symbols) = line.split_once('|').unwrap_or((line, ""));
     let mut clocks = String::new(alloc);
-    for byte in bytes_of(alloc, sent)? {
+    for byte in bytes_of(alloc, sent)?.iter() {
         write!(clocks, "{byte:08b}")?;
     }
     clocks.push_str(symbols.trim())?;
