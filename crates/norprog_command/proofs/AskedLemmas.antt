@@ -200,6 +200,12 @@ told_wider Sent times A B wider lines (inr of) = inr (record { it = of.it; asked
 
 -- of all lines and what stands behind them
 
+-- they are those that the plan's outline has, where it has what stands behind them
+pub whole_of : {V : Type 0} (r : Result V Refusal) (rest : V) (items : V → List ℕ) (Sent : Option (List ℕ) → Type 0) (times : Bool) (A : Job → Type 0) (lines slice tail : List ℕ)
+    → r ≡ Ok rest → slice ≡ lines → tail ≡ items rest → IfOk r (λ rest. ForAsked Job A (IsWhole Sent times lines (items rest))) → ForAsked Job A (IsWhole Sent times slice tail)
+whole_of r rest items Sent times A lines slice tail is same behind of =
+    rw (same, behind) (subst (λ r. IfOk r (λ rest. ForAsked Job A (IsWhole Sent times lines (items rest)))) is of)
+
 whole_is_told : (Sent : Option (List ℕ) → Type 0) (times : Bool) (A : Job → Type 0) (lines rest : List ℕ) → ForAsked Job A (IsWhole Sent times lines rest)
     → ForAsked Job A (IsTold Sent times (lines ++ rest))
 whole_is_told Sent times A lines rest of = record { it = of.it; asked = of.asked; has = inr (lines, rest, of.has, refl) }
@@ -233,6 +239,11 @@ whole_refused Lacked Sent times A B wider lines rest before after cause (Err why
 }))))
 
 -- of the lines before a refusal
+
+pub part_of_lines : {V : Type 0} (r : Result V Refusal) (why : Refusal) (A : Job → Type 0) (lines slice : List ℕ) → r ≡ Err why → slice ≡ lines
+    → IfErr r (λ why. (lines ≡ []) ⊎ ForAsked Job A (IsPart lines)) → (slice ≡ []) ⊎ ForAsked Job A (IsPart slice)
+part_of_lines r why A lines slice is same of =
+    rw same (subst (λ r. IfErr r (λ why. (lines ≡ []) ⊎ ForAsked Job A (IsPart lines))) is of)
 
 abbrev PrintsLines : Type 0 → List ℕ → Option (List ℕ) → Option (List ℕ) → Refusal → Refusal → Type 0
 PrintsLines Same lines before after why told =

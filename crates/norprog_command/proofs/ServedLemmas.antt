@@ -1,15 +1,16 @@
 -- Which job a request has, and that it is the one that its texts ask for.
-use Rattle.std.proofs.Common.{◌≡◌, ◌∙◌, ap, refl, sym, subst, is_some, option_map, Option, Some, None, Result, Ok, List, [], ◌∷◌, ◌++◌, ℕ}
+use Rattle.std.proofs.Common.{◌≡◌, ◌∙◌, ap, refl, sym, subst, Bool, true, ◌&&◌, if◌then◌else◌, is_some, option_map, Option, Some, None, IfSome, Result, Ok, List, [], ◌∷◌, ◌++◌, ℕ}
 use Rattle.nor_base.specs.Device.{Ahead}
 use Rattle.nor_base.specs.declared.meaning.Part.{Part}
 use Rattle.nor_job.specs.Task.{Task}
 use Rattle.nor_job.specs.Task as job
 use Rattle.norprog_words.specs.declared.faults.Refusal.{Refusal}
+use Rattle.norprog_words.specs.declared.faults.Refusal.TheVariants.{Usage}
 use Rattle.norprog_words.specs.declared.files.Place.{Place}
 use Rattle.norprog_words.specs.Chip.{Origin, origin_of, task_chip}
 use Rattle.norprog_words.specs.Shelf.{FileFacts, AreTables, IsMadeApart, IsTextIn, Named, Notes, WhereNamed}
 use Rattle.norprog_words.proofs.ShelfLemmas.{made_apart, more_noted, one_noted}
-use Rattle.norprog_words.specs.Told.{OfLine}
+use Rattle.norprog_words.specs.Told.{OfLine, line_fault}
 use Rattle.norprog_words.specs.Values.{part_of}
 use Rattle.norprog_words.specs.declared.given.GivenBuild.{GivenBuild}
 use Rattle.norprog_words.specs.declared.given.GivenCheck.{GivenCheck}
@@ -18,7 +19,9 @@ use Rattle.norprog_words.specs.declared.given.GivenChip.{GivenChip}
 use Rattle.norprog_words.specs.declared.given.Given.{Given}
 use Rattle.norprog_command.specs.declared.request.Request.{Request}
 use Rattle.norprog_words.specs.Setup.{chip_asked, family_asked}
-use Rattle.norprog_command.specs.Request.{AsksFor}
+use Rattle.norprog_command.specs.Asked.{asks_build, asks_check, asks_chip}
+use Rattle.norprog_command.specs.Plans.{asks_plan}
+use Rattle.norprog_command.specs.Request.{is_well_formed, AsksFor}
 use Rattle.norprog_command.specs.Served.{task_by, Job, job_with, AreGiven, IsJobOf, text_files_of, input_files_of, input_files_asked, Serves, ServesBuild, ServesCheck, ServesPlan, ServesScript, ServesChip, Held, IsTaskAlone, IsChipTask, OfBuild, OfCheck, OfPlan, OfScript, OfChip}
 
 -- there is something of an option where there is one
@@ -98,21 +101,28 @@ on_line : {G A : Type 0} (Asks : G → A → Type 0) (line : Result G Refusal) (
     → ((x : A) → P x → Asks given x) → (x : A) → P x → OfLine Asks line x
 on_line Asks line given P is wider x of = rw is (wider x of)
 
-pub build_line : (files : FileFacts) (line : Result GivenBuild Refusal) (given : GivenBuild) (request : Request) (path : List ℕ) → line ≡ Ok given
-    → option_map (λ t. t.now) given.out ≡ Some path → AsksFor given.job request → (j : Job) → IsJobOf files request (Some path) j → OfBuild files line j
-build_line files line given request path is out asks =
-    on_line (ServesBuild files) line given (IsJobOf files request (Some path)) is (serves files given.job request (Some path) _ out asks)
+-- the values of a request that the texts have
+asks_of : (given : Given) (o : Option Request) (request : Request) → o ≡ Some request → IfSome o (AsksFor given) → AsksFor given request
+asks_of given o request is asks = subst (λ r. IfSome r (AsksFor given)) is asks
 
-pub plan_line : (files : FileFacts) (line : Result GivenPlan Refusal) (given : GivenPlan) (request : Request) → line ≡ Ok given → AsksFor given.job request
-    → (j : Job) → IsJobOf files request (option_map (λ t. t.now) given.map) j → OfPlan files line j
-plan_line files line given request is asks =
+pub build_line : (files : FileFacts) (line : Result GivenBuild Refusal) (given : GivenBuild) (o : Option Request) (request : Request) (path : List ℕ) → line ≡ Ok given
+    → o ≡ Some request → IfSome o (AsksFor given.job) → option_map (λ t. t.now) given.out ≡ Some path
+    → (j : Job) → IsJobOf files request (Some path) j → OfBuild files line j
+build_line files line given o request path is some asks out =
+    on_line (ServesBuild files) line given (IsJobOf files request (Some path)) is
+    (serves files given.job request (Some path) _ out (asks_of given.job o request some asks))
+
+pub plan_line : (files : FileFacts) (line : Result GivenPlan Refusal) (given : GivenPlan) (o : Option Request) (request : Request) → line ≡ Ok given
+    → o ≡ Some request → IfSome o (AsksFor given.job) → (j : Job) → IsJobOf files request (option_map (λ t. t.now) given.map) j → OfPlan files line j
+plan_line files line given o request is some asks =
     on_line (ServesPlan files) line given (IsJobOf files request (option_map (λ t. t.now) given.map)) is
-    (serves files given.job request (option_map (λ t. t.now) given.map) _ refl asks)
+    (serves files given.job request (option_map (λ t. t.now) given.map) _ refl (asks_of given.job o request some asks))
 
-pub check_line : (files : FileFacts) (line : Result GivenCheck Refusal) (given : GivenCheck) (request : Request) → line ≡ Ok given → AsksFor given.job request
-    → (j : Job) → IsJobOf files request None j → OfCheck files line j
-check_line files line given request is asks =
-    on_line (ServesCheck files) line given (IsJobOf files request None) is (serves files given.job request None None refl asks)
+pub check_line : (files : FileFacts) (line : Result GivenCheck Refusal) (given : GivenCheck) (o : Option Request) (request : Request) → line ≡ Ok given
+    → o ≡ Some request → IfSome o (AsksFor given.job) → (j : Job) → IsJobOf files request None j → OfCheck files line j
+check_line files line given o request is some asks =
+    on_line (ServesCheck files) line given (IsJobOf files request None) is
+    (serves files given.job request None None refl (asks_of given.job o request some asks))
 
 pub script_line : (files : FileFacts) (line : Result GivenCheck Refusal) (given : GivenCheck) (path : List ℕ) → line ≡ Ok given
     → option_map (λ t. t.now) given.script ≡ Some path → (text : List ℕ) → IsTextIn files path text → OfScript files line text
@@ -125,3 +135,39 @@ pub chip_line : (files : FileFacts) (line : Result GivenChip Refusal) (given : G
 chip_line files line given origin part is named family =
     on_line (ServesChip files) line given (IsChipTask files origin part) is
     (λ t of. record { origin = origin; named = named; part = part; family = family; chip = of })
+
+-- a command line that asks for something has no fault
+no_fault : {G : Type 0} (asks : G → Bool) (line : Result G Refusal) (given : G) → line ≡ Ok given → asks given ≡ true → line_fault asks line ≡ None
+no_fault asks line given is holds =
+    subst (λ l. line_fault asks l ≡ None) (sym is) (subst (λ b. (if b then None else Some Usage) ≡ None) (sym holds) refl)
+
+both : (a b : Bool) → a ≡ true → b ≡ true → (a && b) ≡ true
+both a b one other = rw (one, other) refl
+
+is_formed : (given : Given) (o : Option Request) (request : Request) → o ≡ Some request → is_some o ≡ is_well_formed given → is_well_formed given ≡ true
+is_formed given o request some forms = sym forms ∙ ap is_some some
+
+is_named : {T : Type 0} (now : T → List ℕ) (named : Option T) (path : List ℕ) → option_map now named ≡ Some path → is_some named ≡ true
+is_named now named path is = sym (same_some now named) ∙ ap is_some is
+
+pub build_asked : (line : Result GivenBuild Refusal) (given : GivenBuild) (o : Option Request) (request : Request) (path : List ℕ) → line ≡ Ok given
+    → o ≡ Some request → is_some o ≡ is_well_formed given.job → option_map (λ t. t.now) given.out ≡ Some path → line_fault asks_build line ≡ None
+build_asked line given o request path is some forms out =
+    no_fault asks_build line given is
+    (both (is_well_formed given.job) (is_some given.out) (is_formed given.job o request some forms) (is_named (λ t. t.now) given.out path out))
+
+pub plan_asked : (line : Result GivenPlan Refusal) (given : GivenPlan) (o : Option Request) (request : Request) → line ≡ Ok given
+    → o ≡ Some request → is_some o ≡ is_well_formed given.job → line_fault asks_plan line ≡ None
+plan_asked line given o request is some forms = no_fault asks_plan line given is (is_formed given.job o request some forms)
+
+pub check_asked : (line : Result GivenCheck Refusal) (given : GivenCheck) (o : Option Request) (request : Request) (path : List ℕ) → line ≡ Ok given
+    → o ≡ Some request → is_some o ≡ is_well_formed given.job → option_map (λ t. t.now) given.script ≡ Some path → line_fault asks_check line ≡ None
+check_asked line given o request path is some forms script =
+    no_fault asks_check line given is
+    (both (is_well_formed given.job) (is_some given.script) (is_formed given.job o request some forms) (is_named (λ t. t.now) given.script path script))
+
+pub chip_is_asked : (line : Result GivenChip Refusal) (given : GivenChip) (origin : Origin) (part : Part) → line ≡ Ok given
+    → chip_asked given ≡ Some origin → part_of (family_asked given) ≡ Some part → line_fault asks_chip line ≡ None
+chip_is_asked line given origin part is named family =
+    no_fault asks_chip line given is
+    (both (is_some (chip_asked given)) (is_some (part_of (family_asked given))) (ap is_some named) (ap is_some family))

@@ -1,37 +1,42 @@
 -- What was built is what the command line asks for.
-use Rattle.std.proofs.Common.{rules, ◌≡◌, inr, Some, None}
-use Rattle.norprog_words.specs.Told.{line_fault}
+use Rattle.std.proofs.Common.{ap, inr, Some, option_map}
 use Rattle.nor_base.proofs.FaultLaws.{handed_on}
 use Rattle.norprog_words.proofs.ToldLemmas.{asked_wider, refuses}
-use Rattle.norprog_command.specs.Asked.{asks_build}
 use Rattle.norprog_command.specs.Builds.{IsReportOf}
 use Rattle.norprog_command.specs.Served.{Job, IsJobOf, OfBuild}
 use Rattle.norprog_command.proofs.AskedLemmas.{build_wider, unsent}
-use Rattle.norprog_command.proofs.ServedLemmas.{build_line}
+use Rattle.norprog_command.proofs.ServedLemmas.{build_line, build_asked}
 use Rattle.norprog_command.proofs.builds.report_build.Goals as goal
 
 pub returns-in-Ok-clause-printed : goal.returns-in-Ok-clause-printed
 returns-in-Ok-clause-printed g c =
     let files = g.S.Shelf.facts c.args.shelf.now in
-    let wider = build_line files c.args.given c.in_ok-given.given c.in_ok-request.request c.in_ok-path.path.now (search rules) (search rules) (search rules) in
+    let out = ap (option_map (λ t. t.now)) c.in_ok-path.ensures.ok_part in
+    let wider = build_line files c.args.given c.in_ok-given.given c.request_of.result c.in_ok-request.request c.in_ok-path.path.now c.in_ok-given.was
+    c.in_ok-request.ensures.ok_part c.request_of.ensures.values out in
     record {
       report = c.in_ok-report.report;
       of_build = asked_wider Job (IsJobOf files c.in_ok-request.request (Some c.in_ok-path.path.now)) (OfBuild files c.args.given) (IsReportOf files.flushed c.in_ok-report.report) wider c.in_ok-report.ensures.built;
-      put = search rules;
+      put = c.in-Ok.ensures.bytes;
     }
 
 pub returns-in_err-report-clause-first : goal.returns-in_err-report-clause-first
 returns-in_err-report-clause-first g c =
     let files = g.S.Shelf.facts c.args.shelf.now in
-    let wider = build_line files c.args.given c.in_ok-given.given c.in_ok-request.request c.in_ok-path.path.now (search rules) (search rules) (search rules) in
-    let none : line_fault asks_build c.args.given ≡ None = search rules in
+    let out = ap (option_map (λ t. t.now)) c.in_ok-path.ensures.ok_part in
+    let wider = build_line files c.args.given c.in_ok-given.given c.request_of.result c.in_ok-request.request c.in_ok-path.path.now c.in_ok-given.was
+    c.in_ok-request.ensures.ok_part c.request_of.ensures.values out in
+    let none = build_asked c.args.given c.in_ok-given.given c.request_of.result c.in_ok-request.request c.in_ok-path.path.now c.in_ok-given.was
+    c.in_ok-request.ensures.ok_part c.request_of.ensures.forms out in
     handed_on _ _ _ c.from_residual-in_err-report.ensures.1
     (refuses _ _ _ none (build_wider files.lacked (IsJobOf files c.in_ok-request.request (Some c.in_ok-path.path.now)) (OfBuild files c.args.given) wider _ c.in_err-report.ensures.refused))
 
 pub returns-clause-unprinted : goal.returns-clause-unprinted
 returns-clause-unprinted g c =
     let files = g.S.Shelf.facts c.args.shelf.now in
-    let wider = build_line files c.args.given c.in_ok-given.given c.in_ok-request.request c.in_ok-path.path.now (search rules) (search rules) (search rules) in
+    let out = ap (option_map (λ t. t.now)) c.in_ok-path.ensures.ok_part in
+    let wider = build_line files c.args.given c.in_ok-given.given c.request_of.result c.in_ok-request.request c.in_ok-path.path.now c.in_ok-given.was
+    c.in_ok-request.ensures.ok_part c.request_of.ensures.values out in
     inr (
       c.in_ok-report.report,
       asked_wider Job (IsJobOf files c.in_ok-request.request (Some c.in_ok-path.path.now)) (OfBuild files c.args.given) (IsReportOf files.flushed c.in_ok-report.report) wider c.in_ok-report.ensures.built,
@@ -41,8 +46,11 @@ returns-clause-unprinted g c =
 pub returns-clause-first : goal.returns-clause-first
 returns-clause-first g c =
     let files = g.S.Shelf.facts c.args.shelf.now in
-    let wider = build_line files c.args.given c.in_ok-given.given c.in_ok-request.request c.in_ok-path.path.now (search rules) (search rules) (search rules) in
-    let none : line_fault asks_build c.args.given ≡ None = search rules in
+    let out = ap (option_map (λ t. t.now)) c.in_ok-path.ensures.ok_part in
+    let wider = build_line files c.args.given c.in_ok-given.given c.request_of.result c.in_ok-request.request c.in_ok-path.path.now c.in_ok-given.was
+    c.in_ok-request.ensures.ok_part c.request_of.ensures.values out in
+    let none = build_asked c.args.given c.in_ok-given.given c.request_of.result c.in_ok-request.request c.in_ok-path.path.now c.in_ok-given.was
+    c.in_ok-request.ensures.ok_part c.request_of.ensures.forms out in
     refuses _ _ _ none (inr (
       c.in_ok-report.report,
       unsent (OfBuild files c.args.given) files.flushed c.in_ok-report.report

@@ -1,36 +1,42 @@
 -- The verdict is on what the command line asks for.
-use Rattle.std.proofs.Common.{rules, ◌≡◌, inr, None}
+use Rattle.std.proofs.Common.{ap, inr, None, option_map}
 use Rattle.norprog_words.specs.Shelf.{IsTextIn}
-use Rattle.norprog_words.specs.Told.{OrScript, line_fault}
+use Rattle.norprog_words.specs.Told.{OrScript}
 use Rattle.nor_base.proofs.FaultLaws.{handed_on}
 use Rattle.norprog_words.proofs.ToldLemmas.{refuses}
-use Rattle.norprog_command.specs.Asked.{asks_check}
 use Rattle.norprog_command.specs.Served.{IsJobOf, OfCheck, OfScript}
 use Rattle.norprog_command.proofs.AskedLemmas.{check_wider, verdict_wider}
-use Rattle.norprog_command.proofs.ServedLemmas.{check_line, script_line}
+use Rattle.norprog_command.proofs.ServedLemmas.{check_line, check_asked, script_line}
 use Rattle.norprog_command.proofs.checks.report_check.Goals as goal
 
 pub returns-in-Ok-clause-checked : goal.returns-in-Ok-clause-checked
 returns-in-Ok-clause-checked g c =
     let files = g.S.Shelf.facts c.args.shelf.now in
-    let wider = check_line files c.args.given c.in_ok-given.given c.in_ok-request.request (search rules) (search rules) in
-    let more = script_line files c.args.given c.in_ok-given.given c.in_ok-path.path.now (search rules) (search rules) in
+    let script = ap (option_map (λ t. t.now)) c.in_ok-path.ensures.ok_part in
+    let wider = check_line files c.args.given c.in_ok-given.given c.request_of.result c.in_ok-request.request c.in_ok-given.was
+    c.in_ok-request.ensures.ok_part c.request_of.ensures.values in
+    let more = script_line files c.args.given c.in_ok-given.given c.in_ok-path.path.now c.in_ok-given.was script in
     verdict_wider (IsJobOf files c.in_ok-request.request None) (OfCheck files c.args.given) (IsTextIn files c.in_ok-path.path.now) (OfScript files c.args.given) wider more c.in_ok-verdict.verdict c.in_ok-verdict.ensures.checked
 
 pub returns-in_err-verdict-clause-first : goal.returns-in_err-verdict-clause-first
 returns-in_err-verdict-clause-first g c =
     let files = g.S.Shelf.facts c.args.shelf.now in
-    let wider = check_line files c.args.given c.in_ok-given.given c.in_ok-request.request (search rules) (search rules) in
-    let more = script_line files c.args.given c.in_ok-given.given c.in_ok-path.path.now (search rules) (search rules) in
-    let none : line_fault asks_check c.args.given ≡ None = search rules in
+    let script = ap (option_map (λ t. t.now)) c.in_ok-path.ensures.ok_part in
+    let wider = check_line files c.args.given c.in_ok-given.given c.request_of.result c.in_ok-request.request c.in_ok-given.was
+    c.in_ok-request.ensures.ok_part c.request_of.ensures.values in
+    let more = script_line files c.args.given c.in_ok-given.given c.in_ok-path.path.now c.in_ok-given.was script in
+    let none = check_asked c.args.given c.in_ok-given.given c.request_of.result c.in_ok-request.request c.in_ok-path.path.now c.in_ok-given.was
+    c.in_ok-request.ensures.ok_part c.request_of.ensures.forms script in
     handed_on _ _ _ c.from_residual-in_err-verdict.ensures.1
     (refuses _ _ _ none (check_wider (OrScript files.lacked) (OrScript files.lacked) (IsJobOf files c.in_ok-request.request None) (OfCheck files c.args.given) (IsTextIn files c.in_ok-path.path.now) (OfScript files c.args.given) (λ name lacks. lacks) wider more _ c.in_err-verdict.ensures.refused))
 
 pub returns-clause-unprinted : goal.returns-clause-unprinted
 returns-clause-unprinted g c =
     let files = g.S.Shelf.facts c.args.shelf.now in
-    let wider = check_line files c.args.given c.in_ok-given.given c.in_ok-request.request (search rules) (search rules) in
-    let more = script_line files c.args.given c.in_ok-given.given c.in_ok-path.path.now (search rules) (search rules) in
+    let script = ap (option_map (λ t. t.now)) c.in_ok-path.ensures.ok_part in
+    let wider = check_line files c.args.given c.in_ok-given.given c.request_of.result c.in_ok-request.request c.in_ok-given.was
+    c.in_ok-request.ensures.ok_part c.request_of.ensures.values in
+    let more = script_line files c.args.given c.in_ok-given.given c.in_ok-path.path.now c.in_ok-given.was script in
     inr (
       c.in_ok-verdict.verdict,
       verdict_wider (IsJobOf files c.in_ok-request.request None) (OfCheck files c.args.given) (IsTextIn files c.in_ok-path.path.now) (OfScript files c.args.given) wider more c.in_ok-verdict.verdict c.in_ok-verdict.ensures.checked,
@@ -40,9 +46,12 @@ returns-clause-unprinted g c =
 pub returns-clause-first : goal.returns-clause-first
 returns-clause-first g c =
     let files = g.S.Shelf.facts c.args.shelf.now in
-    let wider = check_line files c.args.given c.in_ok-given.given c.in_ok-request.request (search rules) (search rules) in
-    let more = script_line files c.args.given c.in_ok-given.given c.in_ok-path.path.now (search rules) (search rules) in
-    let none : line_fault asks_check c.args.given ≡ None = search rules in
+    let script = ap (option_map (λ t. t.now)) c.in_ok-path.ensures.ok_part in
+    let wider = check_line files c.args.given c.in_ok-given.given c.request_of.result c.in_ok-request.request c.in_ok-given.was
+    c.in_ok-request.ensures.ok_part c.request_of.ensures.values in
+    let more = script_line files c.args.given c.in_ok-given.given c.in_ok-path.path.now c.in_ok-given.was script in
+    let none = check_asked c.args.given c.in_ok-given.given c.request_of.result c.in_ok-request.request c.in_ok-path.path.now c.in_ok-given.was
+    c.in_ok-request.ensures.ok_part c.request_of.ensures.forms script in
     refuses _ _ _ none (inr (
       c.in_ok-verdict.verdict,
       verdict_wider (IsJobOf files c.in_ok-request.request None) (OfCheck files c.args.given) (IsTextIn files c.in_ok-path.path.now) (OfScript files c.args.given) wider more c.in_ok-verdict.verdict c.in_ok-verdict.ensures.checked,

@@ -1,40 +1,48 @@
 -- The meaning is of the chip that the command line names.
-use Rattle.std.proofs.Common.{rules, ◌≡◌, inr, None}
+use Rattle.std.proofs.Common.{rules, ◌≡◌, ◌∙◌, ap, sym, inr, Some, option_map}
 use Rattle.nor_job.specs.Task.{Task}
 use Rattle.norprog_words.specs.Chip.{origin_of}
-use Rattle.norprog_words.specs.Told.{line_fault}
+use Rattle.norprog_words.specs.Setup.{family_asked}
+use Rattle.norprog_words.specs.Values.{part_of}
 use Rattle.nor_base.proofs.FaultLaws.{handed_on}
 use Rattle.norprog_words.proofs.ToldLemmas.{asked_wider, refuses}
-use Rattle.norprog_command.specs.Asked.{asks_chip}
 use Rattle.norprog_command.specs.Meanings.{MeansThis}
 use Rattle.norprog_command.specs.Served.{IsChipTask, OfChip}
 use Rattle.norprog_command.proofs.AskedLemmas.{chip_wider}
-use Rattle.norprog_command.proofs.ServedLemmas.{chip_line}
+use Rattle.norprog_command.proofs.ServedLemmas.{chip_line, chip_is_asked}
 use Rattle.norprog_command.proofs.chips.report_meaning.Goals as goal
 
 pub returns-in-Ok-clause-printed : goal.returns-in-Ok-clause-printed
 returns-in-Ok-clause-printed g c =
     let files = g.S.Shelf.facts c.args.shelf.now in
-    let wider = chip_line files c.args.given c.in_ok-given.given (origin_of c.in_ok-chip.chip) c.in_ok-part.part (search rules) (search rules) (search rules) in
-    (c.in_ok-meaning.meaning, asked_wider Task (IsChipTask files (origin_of c.in_ok-chip.chip) c.in_ok-part.part) (OfChip files c.args.given) (MeansThis c.in_ok-meaning.meaning) wider c.in_ok-meaning.ensures.means, search rules)
+    let named = sym c.chip_of.ensures ∙ ap (option_map origin_of) c.in_ok-chip.ensures.ok_part in
+    let family : part_of (family_asked c.in_ok-given.given) ≡ Some c.in_ok-part.part = search rules in
+    let wider = chip_line files c.args.given c.in_ok-given.given (origin_of c.in_ok-chip.chip) c.in_ok-part.part c.in_ok-given.was named family in
+    (c.in_ok-meaning.meaning, asked_wider Task (IsChipTask files (origin_of c.in_ok-chip.chip) c.in_ok-part.part) (OfChip files c.args.given) (MeansThis c.in_ok-meaning.meaning) wider c.in_ok-meaning.ensures.means, c.in-Ok.ensures.bytes)
 
 pub returns-in_err-meaning-clause-first : goal.returns-in_err-meaning-clause-first
 returns-in_err-meaning-clause-first g c =
     let files = g.S.Shelf.facts c.args.shelf.now in
-    let wider = chip_line files c.args.given c.in_ok-given.given (origin_of c.in_ok-chip.chip) c.in_ok-part.part (search rules) (search rules) (search rules) in
-    let none : line_fault asks_chip c.args.given ≡ None = search rules in
+    let named = sym c.chip_of.ensures ∙ ap (option_map origin_of) c.in_ok-chip.ensures.ok_part in
+    let family : part_of (family_asked c.in_ok-given.given) ≡ Some c.in_ok-part.part = search rules in
+    let wider = chip_line files c.args.given c.in_ok-given.given (origin_of c.in_ok-chip.chip) c.in_ok-part.part c.in_ok-given.was named family in
+    let none = chip_is_asked c.args.given c.in_ok-given.given (origin_of c.in_ok-chip.chip) c.in_ok-part.part c.in_ok-given.was named family in
     handed_on _ _ _ c.from_residual-in_err-meaning.ensures.1
     (refuses _ _ _ none (chip_wider files.lacked files.lacked (IsChipTask files (origin_of c.in_ok-chip.chip) c.in_ok-part.part) (OfChip files c.args.given) (λ name lacks. lacks) wider _ c.in_err-meaning.ensures.refused))
 
 pub returns-in-Err-clause-unprinted : goal.returns-in-Err-clause-unprinted
 returns-in-Err-clause-unprinted g c =
     let files = g.S.Shelf.facts c.args.shelf.now in
-    let wider = chip_line files c.args.given c.in_ok-given.given (origin_of c.in_ok-chip.chip) c.in_ok-part.part (search rules) (search rules) (search rules) in
+    let named = sym c.chip_of.ensures ∙ ap (option_map origin_of) c.in_ok-chip.ensures.ok_part in
+    let family : part_of (family_asked c.in_ok-given.given) ≡ Some c.in_ok-part.part = search rules in
+    let wider = chip_line files c.args.given c.in_ok-given.given (origin_of c.in_ok-chip.chip) c.in_ok-part.part c.in_ok-given.was named family in
     inr (c.in_ok-meaning.meaning, asked_wider Task (IsChipTask files (origin_of c.in_ok-chip.chip) c.in_ok-part.part) (OfChip files c.args.given) (MeansThis c.in_ok-meaning.meaning) wider c.in_ok-meaning.ensures.means, c.in-Err.ensures.bytes)
 
 pub returns-in-Err-clause-first : goal.returns-in-Err-clause-first
 returns-in-Err-clause-first g c =
     let files = g.S.Shelf.facts c.args.shelf.now in
-    let wider = chip_line files c.args.given c.in_ok-given.given (origin_of c.in_ok-chip.chip) c.in_ok-part.part (search rules) (search rules) (search rules) in
-    let none : line_fault asks_chip c.args.given ≡ None = search rules in
+    let named = sym c.chip_of.ensures ∙ ap (option_map origin_of) c.in_ok-chip.ensures.ok_part in
+    let family : part_of (family_asked c.in_ok-given.given) ≡ Some c.in_ok-part.part = search rules in
+    let wider = chip_line files c.args.given c.in_ok-given.given (origin_of c.in_ok-chip.chip) c.in_ok-part.part c.in_ok-given.was named family in
+    let none = chip_is_asked c.args.given c.in_ok-given.given (origin_of c.in_ok-chip.chip) c.in_ok-part.part c.in_ok-given.was named family in
     refuses _ _ _ none (inr (c.in_ok-meaning.meaning, asked_wider Task (IsChipTask files (origin_of c.in_ok-chip.chip) c.in_ok-part.part) (OfChip files c.args.given) (MeansThis c.in_ok-meaning.meaning) wider c.in_ok-meaning.ensures.means))
