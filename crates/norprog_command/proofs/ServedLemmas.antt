@@ -1,15 +1,13 @@
 -- Which job a request has, and that it is the one that its texts ask for.
-use Rattle.std.proofs.Common.{◌≡◌, ◌∙◌, ap, refl, sym, subst, Bool, true, ◌&&◌, if◌then◌else◌, is_some, option_map, Option, Some, None, IfSome, Result, Ok, List, [], ◌∷◌, ◌++◌, ℕ}
+use Rattle.std.proofs.Common.{◌≡◌, ◌∙◌, ap, refl, sym, subst, Bool, true, Bor, codes, unwrap_or, ◌&&◌, if◌then◌else◌, is_some, option_map, Option, Some, None, IfSome, Result, Ok, List, ℕ}
 use Rattle.nor_base.specs.Device.{Ahead}
 use Rattle.nor_base.specs.declared.meaning.Part.{Part}
 use Rattle.nor_job.specs.Task.{Task}
 use Rattle.nor_job.specs.Task as job
 use Rattle.norprog_words.specs.declared.faults.Refusal.{Refusal}
 use Rattle.norprog_words.specs.declared.faults.Refusal.TheVariants.{Usage}
-use Rattle.norprog_words.specs.declared.files.Place.{Place}
 use Rattle.norprog_words.specs.Chip.{Origin, origin_of, task_chip}
-use Rattle.norprog_words.specs.Shelf.{FileFacts, AreTables, IsMadeApart, IsTextIn, Named, Notes, WhereNamed}
-use Rattle.norprog_words.proofs.ShelfLemmas.{made_apart, more_noted, one_noted}
+use Rattle.norprog_words.specs.Shelf.{FileFacts, AreTables, IsMadeApart, IsTextIn, Named, WhereNamed}
 use Rattle.norprog_words.specs.Told.{OfLine, line_fault}
 use Rattle.norprog_words.specs.Values.{part_of}
 use Rattle.norprog_words.specs.declared.given.GivenBuild.{GivenBuild}
@@ -22,7 +20,7 @@ use Rattle.norprog_words.specs.Setup.{chip_asked, family_asked}
 use Rattle.norprog_command.specs.Asked.{asks_build, asks_check, asks_chip}
 use Rattle.norprog_command.specs.Plans.{asks_plan}
 use Rattle.norprog_command.specs.Request.{is_well_formed, AsksFor}
-use Rattle.norprog_command.specs.Served.{task_by, Job, job_with, AreGiven, IsJobOf, text_files_of, input_files_of, input_files_asked, Serves, ServesBuild, ServesCheck, ServesPlan, ServesScript, ServesChip, Held, IsTaskAlone, IsChipTask, OfBuild, OfCheck, OfPlan, OfScript, OfChip}
+use Rattle.norprog_command.specs.Served.{task_by, Job, job_with, AreGiven, IsJobOf, input_files_of, input_files_asked, Serves, ServesBuild, ServesCheck, ServesPlan, ServesScript, ServesChip, Held, IsTaskAlone, IsChipTask, OfBuild, OfCheck, OfPlan, OfScript, OfChip}
 
 -- there is something of an option where there is one
 pub same_some : {A B : Type 0} (f : A → B) (o : Option A) → is_some (option_map f o) ≡ is_some o
@@ -53,14 +51,6 @@ pub job_of : (files : FileFacts) (request : Request) (out : Option (List ℕ)) (
     → WhereNamed (IsMadeApart files (input_files_of request)) out begun → IsJobOf files request out (job_with t content len begun)
 job_of files request out t content len begun held given is opened made =
     record { held = held; given = given; task = is; content = opened; made = made }
-
--- an output that was made as none of the files that were noted: those that are read whole, and then the content's
-pub made_beside : (files : FileFacts) (request : Request) (path : List ℕ) (none noted places inputs : List Place) (place : Place) (held : Option (List ℕ)) → none ≡ []
-    → Notes files (text_files_of request) none noted → files.stood request.content.now place → places ≡ noted ++ place ∷ [] → inputs ≡ places
-    → files.made path inputs held → IsMadeApart files (input_files_of request) path held
-made_beside files request path none noted places inputs place held first texts stood pushed same made =
-    made_apart files (input_files_of request) path none places inputs held first
-    (more_noted files (text_files_of request) (request.content.now ∷ []) none noted places texts (one_noted files request.content.now place noted places stood pushed)) same made
 
 -- the files of a request are those that the texts name
 same_inputs : (given : Given) (request : Request) → AsksFor given request → input_files_of request ≡ input_files_asked given (origin_of request.chip)
@@ -129,6 +119,20 @@ pub script_line : (files : FileFacts) (line : Result GivenCheck Refusal) (given 
 script_line files line given path is named =
     on_line (ServesScript files) line given (IsTextIn files path) is
     (λ text of. subst (Named (λ n. IsTextIn files n text)) (sym named) of)
+
+-- what is named is what a value spells
+pub named_of : {A B : Type 0} (f : A → B) (o : Option A) (x : A) (asked : Option B) → option_map f o ≡ asked → o ≡ Some x → asked ≡ Some (f x)
+named_of f o x asked is some = sym is ∙ ap (option_map f) some
+
+-- the family that a text names, or `generic` where none is given
+unwrapped : (o : Option (Bor (List ℕ))) (default : Bor (List ℕ)) → (unwrap_or o default).now ≡ unwrap_or (option_map (λ t. t.now) o) default.now
+unwrapped (Some text) default = refl
+unwrapped None default = refl
+
+pub family_of : (given : GivenChip) (text default : Bor (List ℕ)) (o : Option Part) (part : Part) → text ≡ unwrap_or given.part default
+    → default.now ≡ codes "generic" → o ≡ part_of text.now → o ≡ Some part → part_of (family_asked given) ≡ Some part
+family_of given text default o part is generic named some =
+    sym (ap (λ (t : Bor (List ℕ)). part_of t.now) is ∙ ap part_of (unwrapped given.part default ∙ ap (unwrap_or (option_map (λ t. t.now) given.part)) generic)) ∙ (sym named ∙ some)
 
 pub chip_line : (files : FileFacts) (line : Result GivenChip Refusal) (given : GivenChip) (origin : Origin) (part : Part) → line ≡ Ok given
     → chip_asked given ≡ Some origin → part_of (family_asked given) ≡ Some part → (t : Task) → IsChipTask files origin part t → OfChip files line t

@@ -6,7 +6,8 @@ ghost use Rattle.norprog_command.specs.Asked.{asks_build};
 ghost use Rattle.norprog_command.specs.Builds.{IsBuildReport, RefusesBuild, RefusesToBuild, PrintsReport, CutsReport, AnswersBuild, done};
 ghost use Rattle.norprog_command.specs.Served.{IsJobOf, OfBuild};
 
-use crate::inputs::{inputs_of, read_texts};
+use crate::inputs::inputs_of;
+use crate::opened::open_job;
 use crate::request::{Request, request_of};
 use nor_base::{ByteOut, Failed};
 use norprog::{BuildFault, Report, write_report};
@@ -75,9 +76,7 @@ fn run_build<S: Shelf>(
     ensures refused { IfErr result (RefusesBuild (S.facts shelf.now).lacked (IsJobOf (S.facts shelf.now) request.now (Some path.now))) }
 {
     let mut places = Vec::new(alloc);
-    let texts = read_texts(alloc, shelf, request, &mut places)?;
-    let (mut content, place, len) = shelf.open(request.content, FileName::Content)?;
-    places.push(place)?;
+    let (texts, mut content, len) = open_job(alloc, shelf, request, &mut places)?;
     let mut script = shelf.create(alloc, path, FileName::Out, places.as_slice())?;
     let inputs = inputs_of(request, &texts);
     let answer = norprog::build(alloc, &inputs, &mut content, len, &mut script);

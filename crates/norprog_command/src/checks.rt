@@ -10,7 +10,8 @@ ghost use Rattle.norprog_command.specs.Asked.{asks_check};
 ghost use Rattle.norprog_command.specs.Served.{job_with, Is, IsJobOf, OfCheck, OfScript};
 ghost use Rattle.norprog_command.specs.Verdicts.{verdict_status, stop_refusal, stream_refusal, IsCheckVerdict, RefusesCheck, RefusesToCheck, CutsVerdict, AnswersCheck};
 
-use crate::inputs::{inputs_of, read_texts};
+use crate::inputs::inputs_of;
+use crate::opened::open_job;
 use crate::request::{Request, request_of};
 use nor_base::{ByteIn, ByteOut};
 use norprog_check::{
@@ -91,8 +92,7 @@ fn run_check<S: Shelf>(
         (IsJobOf (S.facts shelf.now) request.now None) (IsTextIn (S.facts shelf.now) path.now)) }
 {
     let mut places = Vec::new(alloc);
-    let texts = read_texts(alloc, shelf, request, &mut places)?;
-    let (mut content, _place, len) = shelf.open(request.content, FileName::Content)?;
+    let (texts, mut content, len) = open_job(alloc, shelf, request, &mut places)?;
     let (script, _place) = shelf.open_script(alloc, path)?;
     let inputs = inputs_of(request, &texts);
     check_file(alloc, &inputs, script, &mut content, len)

@@ -10,6 +10,7 @@ mod checks;
 mod chips;
 mod drawing;
 mod inputs;
+mod opened;
 mod outline;
 mod plans;
 mod request;

@@ -11,7 +11,8 @@ ghost use Rattle.norprog_words.specs.Told.{ForAsked, line_fault};
 ghost use Rattle.norprog_command.specs.Plans.{asks_plan, asks_times, IsPart, IsWhole, StopsTask, PrintsPlan, CutsPlan, RefusesToPlan, AnswersPlan};
 ghost use Rattle.norprog_command.specs.Served.{Job, IsJobOf, AreGiven, held_in, input_files_of, OfPlan};
 
-use crate::inputs::{Texts, inputs_of, read_texts};
+use crate::inputs::{Texts, inputs_of};
+use crate::opened::open_job;
 use crate::outline::{Outline, outline_of};
 use crate::request::{Request, request_of};
 use nor_base::{ByteOut, put_all, put_parts};
@@ -160,9 +161,7 @@ fn open_files<S: Shelf>(
     ensures lacked { IfErr result (TellsFile (S.facts shelf.now).lacked) }
 {
     let mut places = Vec::new(alloc);
-    let texts = read_texts(alloc, shelf, request, &mut places)?;
-    let (content, place, len) = shelf.open(request.content, FileName::Content)?;
-    places.push(place)?;
+    let (texts, content, len) = open_job(alloc, shelf, request, &mut places)?;
     let map = match map {
         Some(path) => Some(shelf.create(alloc, path, FileName::Map, places.as_slice())?),
         None => None,

@@ -12,7 +12,7 @@ pub returns-clause-checked : goal.returns-clause-checked
 returns-clause-checked g c =
     let files = g.S.Shelf.facts c.args.shelf.now in
     let asked = job_of files c.args.request.now None c.inputs_of-inputs.result _ _ None (held_in c.in_ok-texts.texts)
-    c.in_ok-texts.ensures.given c.inputs_of-inputs.ensures c.in_ok-content.ensures.opened tt in
+    c.in_ok-texts.ensures.given c.inputs_of-inputs.ensures c.in_ok-texts.ensures.content tt in
     verdicts_wider _ (IsJobOf files c.args.request.now None) _ (IsTextIn files c.args.path.now) (of_one (IsJobOf files c.args.request.now None) _ asked)
     (λ text of. text_in files c.args.path.now g.S.Input.ByteIn.ahead c.in_ok-script.script text c.in_ok-script.ensures.script of) c.check_file.result c.check_file.ensures.checked
 
@@ -20,6 +20,6 @@ pub returns-clause-refused : goal.returns-clause-refused
 returns-clause-refused g c =
     let files = g.S.Shelf.facts c.args.shelf.now in
     let asked = job_of files c.args.request.now None c.inputs_of-inputs.result _ _ None (held_in c.in_ok-texts.texts)
-    c.in_ok-texts.ensures.given c.inputs_of-inputs.ensures c.in_ok-content.ensures.opened tt in
+    c.in_ok-texts.ensures.given c.inputs_of-inputs.ensures c.in_ok-texts.ensures.content tt in
     refusals_wider _ (OrScript files.lacked) _ (IsJobOf files c.args.request.now None) _ (IsTextIn files c.args.path.now) (λ name is. inr is) (of_one (IsJobOf files c.args.request.now None) _ asked)
     (λ text of. text_in files c.args.path.now g.S.Input.ByteIn.ahead c.in_ok-script.script text c.in_ok-script.ensures.script of) c.check_file.result c.check_file.ensures.refused

@@ -1,30 +1,29 @@
 -- The meaning is of the chip that the command line names.
-use Rattle.std.proofs.Common.{rules, ◌≡◌, ◌∙◌, ap, sym, inr, Some, option_map}
+use Rattle.std.proofs.Common.{refl, inr}
 use Rattle.nor_job.specs.Task.{Task}
 use Rattle.norprog_words.specs.Chip.{origin_of}
-use Rattle.norprog_words.specs.Setup.{family_asked}
-use Rattle.norprog_words.specs.Values.{part_of}
+use Rattle.norprog_words.specs.Setup.{chip_asked}
 use Rattle.nor_base.proofs.FaultLaws.{handed_on}
 use Rattle.norprog_words.proofs.ToldLemmas.{asked_wider, refuses}
 use Rattle.norprog_command.specs.Meanings.{MeansThis}
 use Rattle.norprog_command.specs.Served.{IsChipTask, OfChip}
 use Rattle.norprog_command.proofs.AskedLemmas.{chip_wider}
-use Rattle.norprog_command.proofs.ServedLemmas.{chip_line, chip_is_asked}
+use Rattle.norprog_command.proofs.ServedLemmas.{named_of, family_of, chip_line, chip_is_asked}
 use Rattle.norprog_command.proofs.chips.report_meaning.Goals as goal
 
 pub returns-in-Ok-clause-printed : goal.returns-in-Ok-clause-printed
 returns-in-Ok-clause-printed g c =
     let files = g.S.Shelf.facts c.args.shelf.now in
-    let named = sym c.chip_of.ensures ∙ ap (option_map origin_of) c.in_ok-chip.ensures.ok_part in
-    let family : part_of (family_asked c.in_ok-given.given) ≡ Some c.in_ok-part.part = search rules in
+    let named = named_of origin_of c.chip_of.result c.in_ok-chip.chip (chip_asked c.in_ok-given.given) c.chip_of.ensures c.in_ok-chip.ensures.ok_part in
+    let family = family_of c.in_ok-given.given c.unwrap_or.result _ c.part.result c.in_ok-part.part c.unwrap_or.ensures refl c.part.ensures c.in_ok-part.ensures.ok_part in
     let wider = chip_line files c.args.given c.in_ok-given.given (origin_of c.in_ok-chip.chip) c.in_ok-part.part c.in_ok-given.was named family in
     (c.in_ok-meaning.meaning, asked_wider Task (IsChipTask files (origin_of c.in_ok-chip.chip) c.in_ok-part.part) (OfChip files c.args.given) (MeansThis c.in_ok-meaning.meaning) wider c.in_ok-meaning.ensures.means, c.in-Ok.ensures.bytes)
 
 pub returns-in_err-meaning-clause-first : goal.returns-in_err-meaning-clause-first
 returns-in_err-meaning-clause-first g c =
     let files = g.S.Shelf.facts c.args.shelf.now in
-    let named = sym c.chip_of.ensures ∙ ap (option_map origin_of) c.in_ok-chip.ensures.ok_part in
-    let family : part_of (family_asked c.in_ok-given.given) ≡ Some c.in_ok-part.part = search rules in
+    let named = named_of origin_of c.chip_of.result c.in_ok-chip.chip (chip_asked c.in_ok-given.given) c.chip_of.ensures c.in_ok-chip.ensures.ok_part in
+    let family = family_of c.in_ok-given.given c.unwrap_or.result _ c.part.result c.in_ok-part.part c.unwrap_or.ensures refl c.part.ensures c.in_ok-part.ensures.ok_part in
     let wider = chip_line files c.args.given c.in_ok-given.given (origin_of c.in_ok-chip.chip) c.in_ok-part.part c.in_ok-given.was named family in
     let none = chip_is_asked c.args.given c.in_ok-given.given (origin_of c.in_ok-chip.chip) c.in_ok-part.part c.in_ok-given.was named family in
     handed_on _ _ _ c.from_residual-in_err-meaning.ensures.1
@@ -33,16 +32,16 @@ returns-in_err-meaning-clause-first g c =
 pub returns-in-Err-clause-unprinted : goal.returns-in-Err-clause-unprinted
 returns-in-Err-clause-unprinted g c =
     let files = g.S.Shelf.facts c.args.shelf.now in
-    let named = sym c.chip_of.ensures ∙ ap (option_map origin_of) c.in_ok-chip.ensures.ok_part in
-    let family : part_of (family_asked c.in_ok-given.given) ≡ Some c.in_ok-part.part = search rules in
+    let named = named_of origin_of c.chip_of.result c.in_ok-chip.chip (chip_asked c.in_ok-given.given) c.chip_of.ensures c.in_ok-chip.ensures.ok_part in
+    let family = family_of c.in_ok-given.given c.unwrap_or.result _ c.part.result c.in_ok-part.part c.unwrap_or.ensures refl c.part.ensures c.in_ok-part.ensures.ok_part in
     let wider = chip_line files c.args.given c.in_ok-given.given (origin_of c.in_ok-chip.chip) c.in_ok-part.part c.in_ok-given.was named family in
     inr (c.in_ok-meaning.meaning, asked_wider Task (IsChipTask files (origin_of c.in_ok-chip.chip) c.in_ok-part.part) (OfChip files c.args.given) (MeansThis c.in_ok-meaning.meaning) wider c.in_ok-meaning.ensures.means, c.in-Err.ensures.bytes)
 
 pub returns-in-Err-clause-first : goal.returns-in-Err-clause-first
 returns-in-Err-clause-first g c =
     let files = g.S.Shelf.facts c.args.shelf.now in
-    let named = sym c.chip_of.ensures ∙ ap (option_map origin_of) c.in_ok-chip.ensures.ok_part in
-    let family : part_of (family_asked c.in_ok-given.given) ≡ Some c.in_ok-part.part = search rules in
+    let named = named_of origin_of c.chip_of.result c.in_ok-chip.chip (chip_asked c.in_ok-given.given) c.chip_of.ensures c.in_ok-chip.ensures.ok_part in
+    let family = family_of c.in_ok-given.given c.unwrap_or.result _ c.part.result c.in_ok-part.part c.unwrap_or.ensures refl c.part.ensures c.in_ok-part.ensures.ok_part in
     let wider = chip_line files c.args.given c.in_ok-given.given (origin_of c.in_ok-chip.chip) c.in_ok-part.part c.in_ok-given.was named family in
     let none = chip_is_asked c.args.given c.in_ok-given.given (origin_of c.in_ok-chip.chip) c.in_ok-part.part c.in_ok-given.was named family in
     refuses _ _ _ none (inr (c.in_ok-meaning.meaning, asked_wider Task (IsChipTask files (origin_of c.in_ok-chip.chip) c.in_ok-part.part) (OfChip files c.args.given) (MeansThis c.in_ok-meaning.meaning) wider c.in_ok-meaning.ensures.means))
