@@ -10,6 +10,7 @@ use Rattle.nor_base.specs.Script.{IsScript}
 use Rattle.nor_check.specs.declared.verdict.Verdict.{Verdict}
 use Rattle.nor_check.specs.declared.verdict.Verdict.TheVariants.{Yes}
 use Rattle.nor_check.specs.Worst.{IsWorst}
+use Rattle.nor_job.specs.declared.fault.BuildFault.{BuildFault}
 use Rattle.nor_job.specs.declared.job.Job.{Job}
 use Rattle.nor_job.specs.Job.{IsJob}
 use Rattle.nor_job.specs.Status.{start_of}
@@ -18,10 +19,13 @@ use Rattle.nor_job.specs.Wanted.{wanted}
 use Rattle.nor_job.proofs.TargetLemmas.{length-target, target_is}
 use Rattle.nor_check.specs.Fed.{Fed, to_come}
 use Rattle.nor_script.specs.Stream.{HadText, IsSpelled}
+use Rattle.norprog_check.specs.declared.fault.CheckStop.TheVariants.{Build}
+use Rattle.norprog_check.specs.declared.fault.StreamStop.{StreamStop}
+use Rattle.norprog_check.specs.declared.fault.StreamStop.TheVariants.{Check}
 use Rattle.norprog_check.specs.Checked.{IsChecked, AreTaken}
-use Rattle.norprog_check.specs.Content.{IsRead}
+use Rattle.norprog_check.specs.Content.{IsRead, StopsRead}
 use Rattle.norprog_check.specs.Readings.{IsVerdictOf}
-use Rattle.norprog_check.specs.Streams.{ChecksText}
+use Rattle.norprog_check.specs.Streams.{ChecksText, ReadingCause, FeedingCause, StopsReading, StopsAtContent, StopsFeeding}
 
 pub is_possible : (t : Task) (len : ℕ) (job : Job) → IsJob t len job → IsPossible job.meaning job.start
 is_possible t len job is = subst (λ (s : Start). IsPossible job.meaning s) (sym is.start) is.accepted.possible
@@ -73,3 +77,24 @@ text_checked t len job first over again rest before after have want fed verdict 
       checked = checked_is t len tells.0 job before after have want told.steps verdict is told.script read
           (subst (IsJudged job have want told.steps) (sym told.told) (judges told.steps));
     }
+
+-- why there is no verdict, of accepted inputs
+
+pub stops_reading : (t : Task) (len : ℕ) (job : Job) (first over : Ahead) (why : StreamStop) → IsJob t len job → ReadingCause first over why → StopsReading t len first over why
+stops_reading t len job first over why is cause = record { taken = taken_of t len job is; cause = cause }
+
+pub stops_at_content : (t : Task) (len : ℕ) (job : Job) (first over before after : Ahead) (why : BuildFault) → IsJob t len job → HadText first over IsSpelled
+    → StopsRead job.meaning.size before after why → StopsAtContent t len first over before after (Check (Build why))
+stops_at_content t len job first over before after why is readable stops =
+    record { taken = taken_of t len job is; readable = readable; cause = subst (λ n. StopsRead n before after why) (sym is.accepted.size) stops }
+
+pub stops_feeding : (t : Task) (len : ℕ) (job : Job) (first over again rest before after : Ahead) (have want : List ℕ) (why : StreamStop) → IsJob t len job → HadText first over IsSpelled
+    → IsRead job before after have want → FeedingCause again rest why → StopsFeeding t len first over again rest before after why
+stops_feeding t len job first over again rest before after have want why is readable read cause = record {
+  taken = taken_of t len job is;
+  readable = readable;
+  content = have;
+  whole = read.whole ∙ sym is.accepted.size;
+  given = read.given;
+  cause = cause;
+}

@@ -25,7 +25,7 @@ use Rattle.norprog_run.specs.Play.{WasPlayed}
 use Rattle.norprog_run.specs.Refusals.{RefusesPlay}
 use Rattle.norprog_run.specs.Request.{is_well_formed, AsksFor, RefusesGiven}
 use Rattle.norprog_run.specs.Streams.{PlaysStreams, RefusesStreams}
-use Rattle.norprog_run.specs.Served.{PlayTask, play_with, Is, IsTaskOf, input_files_of, input_files_asked, Serves, ServesScript, OfRun, OfScript}
+use Rattle.norprog_run.specs.Served.{PlayTask, play_with, Is, IsMadeFor, IsTaskOf, input_files_of, input_files_asked, Serves, ServesScript, OfRun, OfScript}
 
 -- the files of a request are those that the texts name
 same_inputs : (given : GivenRun) (request : RunRequest) → AsksFor given request → input_files_of request ≡ input_files_asked given (origin_of request.setup.chip)
@@ -71,6 +71,24 @@ verdict_wider Asked Other P Q Sent verdict tasks texts of = record {
   has = record { before = of.has.before; after = of.has.after; out = of.has.out; played = played_wider P Q _ _ _ _ _ _ verdict texts of.has.played };
 }
 
+refusal_wider : (Lacked : FileName → Type 0) (Asked Other : PlayTask → Type 0) (P Q : List ℕ → Type 0) → ((t : PlayTask) → Asked t → Other t) → ((text : List ℕ) → P text → Q text)
+    → (why : Refusal) → RefusesRun Lacked Asked P why → RefusesRun Lacked Other Q why
+refusal_wider Lacked Asked Other P Q tasks texts why =
+    refuses_wider Lacked Lacked (IsPlayFault Asked) (IsPlayFault Other) ((verdict : Verdict) × IsPlayVerdict Asked P (λ held. ⊤) verdict)
+    ((verdict : Verdict) × IsPlayVerdict Other Q (λ held. ⊤) verdict)
+    (λ name lacks. lacks) (λ why of. asked_wider PlayTask Asked Other (IsStopOf why) tasks of)
+    (λ late. (late.0, verdict_wider Asked Other P Q (λ held. ⊤) late.0 tasks texts late.1)) why
+
+pub verdicts_wider : (Asked Other : PlayTask → Type 0) (P Q : List ℕ → Type 0) (Sent : Option (List ℕ) → Type 0) → ((t : PlayTask) → Asked t → Other t)
+    → ((text : List ℕ) → P text → Q text) → (r : Result Verdict Refusal) → IfOk r (IsPlayVerdict Asked P Sent) → IfOk r (IsPlayVerdict Other Q Sent)
+verdicts_wider Asked Other P Q Sent tasks texts (Ok verdict) of = verdict_wider Asked Other P Q Sent verdict tasks texts of
+verdicts_wider Asked Other P Q Sent tasks texts (Err why) of = tt
+
+pub refusals_wider : (Lacked : FileName → Type 0) (Asked Other : PlayTask → Type 0) (P Q : List ℕ → Type 0) → ((t : PlayTask) → Asked t → Other t)
+    → ((text : List ℕ) → P text → Q text) → (r : Result Verdict Refusal) → IfErr r (RefusesRun Lacked Asked P) → IfErr r (RefusesRun Lacked Other Q)
+refusals_wider Lacked Asked Other P Q tasks texts (Ok verdict) of = tt
+refusals_wider Lacked Asked Other P Q tasks texts (Err why) of = refusal_wider Lacked Asked Other P Q tasks texts why of
+
 module _ (files : FileFacts) (line : Result GivenRun Refusal) (given : GivenRun) (request : RunRequest) (is : line ≡ Ok given) (asks : AsksFor given request) where
   verdict_asked : (Sent : Option (List ℕ) → Type 0) (verdict : Verdict) → IsPlayVerdict (IsTaskOf files request) (IsTextIn files request.script.now) Sent verdict
       → IsPlayVerdict (OfRun files line) (OfScript files line) Sent verdict
@@ -79,12 +97,8 @@ module _ (files : FileFacts) (line : Result GivenRun Refusal) (given : GivenRun)
 
   refusal_asked : (why : Refusal) → RefusesRun (OrScript files.lacked) (IsTaskOf files request) (IsTextIn files request.script.now) why
       → RefusesRun (OrScript files.lacked) (OfRun files line) (OfScript files line) why
-  refusal_asked why =
-      refuses_wider (OrScript files.lacked) (OrScript files.lacked) (IsPlayFault (IsTaskOf files request)) (IsPlayFault (OfRun files line))
-      ((verdict : Verdict) × IsPlayVerdict (IsTaskOf files request) (IsTextIn files request.script.now) (λ held. ⊤) verdict)
-      ((verdict : Verdict) × IsPlayVerdict (OfRun files line) (OfScript files line) (λ held. ⊤) verdict)
-      (λ name lacks. lacks) (λ why of. asked_wider PlayTask (IsTaskOf files request) (OfRun files line) (IsStopOf why) (on_line files line given request is asks) of)
-      (λ late. (late.0, verdict_asked (λ held. ⊤) late.0 late.1)) why
+  refusal_asked = refusal_wider (OrScript files.lacked) (IsTaskOf files request) (OfRun files line) (IsTextIn files request.script.now) (OfScript files line)
+      (on_line files line given request is asks) (script_on_line files line given request is asks)
 
   -- the same of whichever came
 
@@ -148,6 +162,14 @@ pub asked_of : (files : FileFacts) (request : RunRequest) (chip : Task) (bench :
     → WhereNamed (IsMadeApart files (input_files_of request)) (option_map (λ t. t.now) request.out) begun → IsTaskOf files request (play_with chip bench content len begun)
 asked_of files request chip bench tables content len begun is same gave opened made =
     record { chip = record { tables = tables; gave = gave; task = is }; bench = same; content = opened; made = made }
+
+-- with an output that was made
+pub made_for : (files : FileFacts) (request : RunRequest) (path : List ℕ) (places : List Place) (chip : Task) (bench : Bench) (tables : List ℕ) (content : Ahead) (len : ℕ)
+    → chip ≡ setup_task request.setup tables → bench ≡ request.bench → AreTables files (origin_of request.setup.chip) tables → files.opened request.content.now content len
+    → ((held : Option (List ℕ)) → files.made path places held → WhereNamed (IsMadeApart files (input_files_of request)) (option_map (λ t. t.now) request.out) (Some held))
+    → (t : PlayTask) → IsMadeFor files path places chip bench content len t → IsTaskOf files request t
+made_for files request path places chip bench tables content len is same gave opened made t of =
+    subst (IsTaskOf files request) (sym of.is) (asked_of files request chip bench tables content len (Some of.held) is same gave opened (made of.held of.made))
 
 -- the output that is asked for was made as none of the files that were noted: the tables', the content's and the script's
 pub made_beside : (files : FileFacts) (request : RunRequest) (path : Bor (List ℕ)) (none tables noted places inputs : List Place) (content script : Place)

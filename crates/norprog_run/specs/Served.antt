@@ -3,6 +3,7 @@ use Rattle.std.specs.Prelude.{◌≡◌, ℕ, List, ◌++◌, Option, Some, Resu
 use Rattle.nor_base.specs.Device.{Ahead}
 use Rattle.nor_job.specs.Task.{Task}
 use Rattle.norprog_words.specs.declared.faults.Refusal.{Refusal}
+use Rattle.norprog_words.specs.declared.files.Place.{Place}
 use Rattle.norprog_words.specs.Chip.{Origin, origin_of}
 use Rattle.norprog_words.specs.Setup.{IsSetupTask, ServesSetup}
 use Rattle.norprog_words.specs.Shelf.{FileFacts, IsMadeApart, IsTextIn, Named, WhereNamed, tables_file}
@@ -28,6 +29,13 @@ play_with chip bench content len begun = record { chip = chip; bench = bench; co
 -- the play is this one
 abbrev pub Is : PlayTask → PlayTask → Type 0
 Is one other = other ≡ one
+
+-- the play is on that chip and bench, with that content, and its output of this name was made at none of these places
+pub record IsMadeFor (files : FileFacts) (path : List ℕ) (places : List Place) (chip : Task) (bench : Bench) (content : Ahead) (len : ℕ) (t : PlayTask) : Type 0
+  where
+    pub held : Option (List ℕ)
+    pub made : files.made path places held
+    pub is : t ≡ play_with chip bench content len (Some held)
 
 -- the names of the files that a play reads, in the order in which they are opened: tables, content and script; those of a request,
 -- and those that the texts name

@@ -7,7 +7,7 @@ ghost use Rattle.norprog_words.specs.declared.faults.FileName.TheVariants.{Scrip
 ghost use Rattle.norprog_words.specs.Told.{RefusesFor, OrScript, line_fault};
 ghost use Rattle.norprog_run.specs.Answer.{WasPlayedSo, IsPlayFault, IsPlayVerdict, CutsVerdict, RefusesRun, RefusesToRun, AnswersRun};
 ghost use Rattle.norprog_run.specs.Request.{is_well_formed};
-ghost use Rattle.norprog_run.specs.Served.{play_with, Is, IsTaskOf, OfRun, OfScript};
+ghost use Rattle.norprog_run.specs.Served.{play_with, Is, IsMadeFor, IsTaskOf, OfRun, OfScript};
 ghost use Rattle.norprog_run.specs.Verdict.{verdict_line};
 
 use crate::play::play_script;
@@ -105,30 +105,53 @@ fn play_request<S: Shelf>(
     let (script, place) = shelf.open_script(alloc, request.script)?;
     places.push(place)?;
     let inputs = setup_inputs(request.setup, sfdp.as_slice());
-    let path = match request.out {
-        Some(path) => path,
-        None => {
-            return play_file(
-                alloc,
-                &inputs,
-                request.bench,
-                script,
-                &mut content,
-                len,
-                &mut Nowhere,
-            );
-        }
-    };
-    let mut file = shelf.create(alloc, path, FileName::Out, places.as_slice())?;
-    let verdict = play_file(
-        alloc,
-        &inputs,
-        request.bench,
-        script,
-        &mut content,
-        len,
-        &mut file,
-    )?;
+    match request.out {
+        Some(path) => play_to(
+            alloc,
+            shelf,
+            path,
+            places.as_slice(),
+            &inputs,
+            request.bench,
+            script,
+            &mut content,
+            len,
+        ),
+        None => play_file(
+            alloc,
+            &inputs,
+            request.bench,
+            script,
+            &mut content,
+            len,
+            &mut Nowhere,
+        ),
+    }
+}
+
+/// Makes the output's file as none of those at the places, plays a script's file on the chip of the inputs, and has what the
+/// chip holds after it go out there.
+fn play_to<S: Shelf>(
+    alloc: Global,
+    shelf: &S,
+    path: &str,
+    places: &[Place],
+    inputs: &Inputs<'_>,
+    bench: Bench,
+    script: ScriptFile<S::Input>,
+    content: &mut S::Input,
+    len: u64,
+) -> Result<Verdict, Refusal>
+    requires limit { 0 < bench.limit }
+    requires script { DoNotFail S.Input.count script }
+    requires reader { S.Input.count content.old < 2 ^ 64 - 1 }
+    ensures played { IfOk result (IsPlayVerdict (IsMadeFor (S.facts shelf.now) path.now places.now inputs.now bench (S.Input.ahead content.old) len)
+        (IsTextOfFile S.Input.ahead script) (S.facts shelf.now).flushed) }
+    ensures refused { IfErr result (RefusesRun (OrScript (S.facts shelf.now).lacked)
+        (IsMadeFor (S.facts shelf.now) path.now places.now inputs.now bench (S.Input.ahead content.old) len) (IsTextOfFile S.Input.ahead script)) }
+{
+    let mut file = shelf.create(alloc, path, FileName::Out, places)?;
+    let verdict = play_file(alloc, inputs, bench, script, content, len, &mut file)?;
     match shelf.flush(&mut file) {
         Ok(()) => Ok(verdict),
         Err(_) => Err(Refusal::WRITE),

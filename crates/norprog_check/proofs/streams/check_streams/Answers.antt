@@ -1,10 +1,10 @@
 -- The verdict is that of the steps that the second device told.
-use Rattle.std.proofs.Common.{◌∙◌, ap, subst, length}
+use Rattle.std.proofs.Common.{◌∙◌, ap, inl, inr, refl, subst, length}
 use Rattle.nor_check.specs.Fed.{to_come}
 use Rattle.norprog_check.specs.declared.fault.CheckStop.TheVariants.{Build}
 use Rattle.norprog_check.specs.declared.fault.StreamStop.TheVariants.{Check}
 use Rattle.norprog_check.specs.Streams.{IsLateStop, IsOfDevices}
-use Rattle.norprog_check.proofs.CheckLemmas.{IsJudged, goal_size, text_checked}
+use Rattle.norprog_check.proofs.CheckLemmas.{IsJudged, goal_size, stops_at_content, stops_feeding, stops_reading, text_checked}
 use Rattle.nor_base.proofs.FaultLaws.{handed_on}
 use Rattle.norprog_check.proofs.FaultLemmas.{memory_is_late}
 use Rattle.norprog_check.proofs.streams.check_streams.Goals as goal
@@ -18,6 +18,26 @@ pub returns-in_err-job-clause-spelled : goal.returns-in_err-job-clause-spelled
 returns-in_err-job-clause-spelled g c = λ image regions m one other accepted first readable again spelled.
     handed_on IsOfDevices _ (Check (Build c.in_err-job.field-0.0)) c.from_residual.ensures.1
     (memory_is_late _ (c.in_err-job.ensures.only_memory image regions m accepted))
+
+pub returns-in_err-job-clause-refused : goal.returns-in_err-job-clause-refused
+returns-in_err-job-clause-refused g c =
+    handed_on _ _ (Check (Build c.in_err-job.field-0.0)) c.from_residual.ensures.1 (inl (c.in_err-job.ensures.refused, refl, refl, refl))
+
+pub returns-in_err-read_first-clause-refused : goal.returns-in_err-read_first-clause-refused
+returns-in_err-read_first-clause-refused g c =
+    handed_on _ _ _ c.from_residual-in_err-read_first.ensures.1
+    (inr (inl (stops_reading c.args.inputs.now c.args.len c.in_ok-job.job _ _ _ c.in_ok-job.ensures.job c.in_err-read_first.ensures.stopped, refl, refl)))
+
+pub returns-in_err-have-clause-refused : goal.returns-in_err-have-clause-refused
+returns-in_err-have-clause-refused g c =
+    handed_on _ _ (Check (Build c.in_err-have.field-0.0)) c.from_residual-in_err-have.ensures.1
+    (inr (inr (inl (stops_at_content c.args.inputs.now c.args.len c.in_ok-job.job _ _ _ _ _ c.in_ok-job.ensures.job c.in_ok-read_first.ensures.readable c.in_err-have.ensures.stopped, refl))))
+
+pub returns-in_err-verdict-clause-refused : goal.returns-in_err-verdict-clause-refused
+returns-in_err-verdict-clause-refused g c =
+    handed_on _ _ _ c.from_residual-in_err-verdict.ensures.1
+    (inr (inr (inr (stops_feeding c.args.inputs.now c.args.len c.in_ok-job.job _ _ _ _ _ _ c.in_ok-have.have.items c.in_ok-have.want.items _ c.in_ok-job.ensures.job
+    c.in_ok-read_first.ensures.readable c.in_ok-have.ensures.read c.in_err-verdict.ensures.stopped))))
 
 pub new-checker-requires-clause-want : goal.new-checker-requires-clause-want
 new-checker-requires-clause-want g c =

@@ -1,0 +1,37 @@
+-- What was played went out into the output, which was made first.
+use Rattle.std.proofs.Common.{inr, refl, Some}
+use Rattle.nor_base.proofs.FaultLaws.{handed_on}
+use Rattle.norprog_words.specs.Shelf.{IsTextOfFile}
+use Rattle.norprog_words.specs.Told.{OrScript}
+use Rattle.norprog_run.specs.Answer.{RefusesRun}
+use Rattle.norprog_run.specs.Served.{IsMadeFor, play_with}
+use Rattle.norprog_run.proofs.ServedLemmas.{one_played, one_refused}
+use Rattle.norprog_run.proofs.command.play_to.Goals as goal
+
+pub returns-in_err-verdict-clause-refused : goal.returns-in_err-verdict-clause-refused
+returns-in_err-verdict-clause-refused g c =
+    let files = g.S.Shelf.facts c.args.shelf.now in
+    let Asked = IsMadeFor files c.args.path.now c.args.places.now c.args.inputs.now c.args.bench (g.S.Input.ByteIn.ahead c.args.content.now) c.args.len in
+    let Spoken = IsTextOfFile g.S.Input.ByteIn.ahead c.args.script in
+    let t = play_with c.args.inputs.now c.args.bench (g.S.Input.ByteIn.ahead c.args.content.now) c.args.len (Some (g.S.Output.ByteOut.held c.in_ok-file.file)) in
+    let asked : Asked t = record { held = _; made = c.in_ok-file.ensures.made; is = refl } in
+    handed_on (RefusesRun (OrScript files.lacked) Asked Spoken) _ _ c.from_residual-in_err-verdict.ensures.1
+    (one_refused files.lacked Asked Spoken t asked _ (c.in_err-verdict.ensures.refused _))
+
+pub returns-in-Ok-clause-played : goal.returns-in-Ok-clause-played
+returns-in-Ok-clause-played g c =
+    let files = g.S.Shelf.facts c.args.shelf.now in
+    let Asked = IsMadeFor files c.args.path.now c.args.places.now c.args.inputs.now c.args.bench (g.S.Input.ByteIn.ahead c.args.content.now) c.args.len in
+    let Spoken = IsTextOfFile g.S.Input.ByteIn.ahead c.args.script in
+    let t = play_with c.args.inputs.now c.args.bench (g.S.Input.ByteIn.ahead c.args.content.now) c.args.len (Some (g.S.Output.ByteOut.held c.in_ok-file.file)) in
+    let asked : Asked t = record { held = _; made = c.in_ok-file.ensures.made; is = refl } in
+    one_played Asked Spoken Spoken _ _ _ _ _ asked (λ text of. of) _ _ files.flushed c.in_ok-verdict.verdict (refl, c.in-Ok.ensures.flushed) c.in_ok-verdict.ensures.played
+
+pub returns-clause-refused : goal.returns-clause-refused
+returns-clause-refused g c =
+    let files = g.S.Shelf.facts c.args.shelf.now in
+    let Asked = IsMadeFor files c.args.path.now c.args.places.now c.args.inputs.now c.args.bench (g.S.Input.ByteIn.ahead c.args.content.now) c.args.len in
+    let Spoken = IsTextOfFile g.S.Input.ByteIn.ahead c.args.script in
+    let t = play_with c.args.inputs.now c.args.bench (g.S.Input.ByteIn.ahead c.args.content.now) c.args.len (Some (g.S.Output.ByteOut.held c.in_ok-file.file)) in
+    let asked : Asked t = record { held = _; made = c.in_ok-file.ensures.made; is = refl } in
+    inr (c.in_ok-verdict.verdict, one_played Asked Spoken Spoken _ _ _ _ _ asked (λ text of. of) _ _ (λ held. Unit {0}) c.in_ok-verdict.verdict (refl, tt) c.in_ok-verdict.ensures.played)
