@@ -3,10 +3,13 @@
 ghost use Rattle.std.specs.Prelude.{◌≡◌, ◌<◌, ◌≤◌, ◌-◌, ◌^◌, None, length, IfOk, IfErr, MatchResult};
 ghost use Rattle.std.specs.Io.KnownBytes.{Appends};
 ghost use Rattle.nor_base.specs.Chip.{IsPossible};
+ghost use Rattle.nor_base.specs.Run.{trail};
+ghost use Rattle.norprog_words.specs.Files.{TellsFile};
 ghost use Rattle.norprog_words.specs.Told.{line_fault};
 ghost use Rattle.norprog_play.specs.Answer.{IsEnding, IsUnplayed, IsUnprinted, RefusesToPlay, AnswersPlay};
+ghost use Rattle.norprog_play.specs.Early.{MayPlay, chip_with};
 ghost use Rattle.norprog_play.specs.Line.{ending_line};
-ghost use Rattle.norprog_play.specs.Played.{Ends, StopsPlay};
+ghost use Rattle.norprog_play.specs.Played.{Ends, EndsOnDevice, StopsPlay};
 ghost use Rattle.norprog_play.specs.Request.{is_well_formed};
 ghost use Rattle.norprog_play.specs.Served.{IsTaskOf, OfPlay};
 
@@ -18,7 +21,7 @@ use crate::line::write_ending;
 use crate::request::{PlayRequest, request_of};
 use crate::state::{refuse_device, tell_state};
 use crate::unplayed::Unplayed;
-use nor_base::ByteOut;
+use nor_base::{ByteOut, Meaning, Start, Step};
 use nor_chip::Chip;
 use nor_serprog::Shadowed;
 use norprog_words::{FileName, GivenPlay, Refusal, Shelf, refuse, setup_inputs, tables_of};
@@ -147,21 +150,53 @@ fn play_job<S: Shelf, P: ByteOut>(
         content,
     } = job;
     let steps = steps.as_slice();
-    let early = ends_early(alloc, &meaning, start, content.as_slice(), steps)?;
-    let transactions = match early {
-        Early::Ends(ending) => return Ok(ending),
-        Early::Goes { transactions } => transactions,
-    };
-    let (from, to) = shelf.open_device(device)?;
-    let from = match BufReader::new(alloc, from) {
-        Ok(from) => from,
-        Err(_) => return Err(Unplayed::Refused(Refusal::MEMORY)),
-    };
-    let chip = Chip::new(&meaning, start, content, Vec::new(alloc), false);
+    match ends_early(alloc, &meaning, start, content.as_slice(), steps)? {
+        Early::Ends(ending) => Ok(ending),
+        Early::Goes { transactions } => play_known(
+            alloc,
+            shelf,
+            &meaning,
+            start,
+            content,
+            steps,
+            transactions,
+            device,
+            limit,
+            trust,
+            progress,
+        ),
+    }
+}
+
+/// Plays steps that go well in memory, in so many transactions, on the device of this name.
+fn play_known<S: Shelf, P: ByteOut>(
+    alloc: Global,
+    shelf: &S,
+    meaning: &Meaning,
+    start: Start,
+    content: Vec<u8>,
+    steps: &[Step],
+    transactions: u128,
+    device: &str,
+    limit: u64,
+    trust: bool,
+    progress: &mut P,
+) -> Result<Ending, Unplayed>
+    requires size { length content.items ≡ meaning.now.size }
+    requires mode { IsPossible meaning.now start }
+    requires may { MayPlay (chip_with meaning.now start content.items) steps.now }
+    requires counted { transactions ≡ length (trail (chip_with meaning.now start content.items).setting
+        (chip_with meaning.now start content.items).chip steps.now) }
+    requires progress { P.count progress.old < 2 ^ 64 - 1 }
+    ensures { MatchResult result (EndsOnDevice limit trust meaning.now start content.items steps.now)
+        (StopsPlay (S.facts shelf.now).lacked meaning.now start content.items steps.now) }
+{
+    let (from, to) = open_port(alloc, shelf, device)?;
+    let chip = Chip::new(meaning, start, content, Vec::new(alloc), false);
     let mut port = Shadowed::new(chip, from, to, widest(), limit);
     greet_and_play(
         alloc,
-        &meaning,
+        meaning,
         start,
         steps,
         transactions,
@@ -169,4 +204,19 @@ fn play_job<S: Shelf, P: ByteOut>(
         &mut port,
         progress,
     )
+}
+
+/// The device of this name, opened.
+fn open_port<S: Shelf>(
+    alloc: Global,
+    shelf: &S,
+    device: &str,
+) -> Result<(BufReader<S::FromDevice>, S::ToDevice), Refusal>
+    ensures { IfErr result (TellsFile (S.facts shelf.now).lacked) }
+{
+    let (from, to) = shelf.open_device(device)?;
+    match BufReader::new(alloc, from) {
+        Ok(from) => Ok((from, to)),
+        Err(_) => Err(Refusal::MEMORY),
+    }
 }
