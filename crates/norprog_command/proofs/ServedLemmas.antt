@@ -1,5 +1,5 @@
 -- Which job a request has, and that it is the one that its texts ask for.
-use Rattle.std.proofs.Common.{◌≡◌, ◌∙◌, ap, refl, sym, subst, Bool, true, Bor, codes, unwrap_or, ◌&&◌, if◌then◌else◌, is_some, option_map, Option, Some, None, IfSome, Result, Ok, List, ℕ}
+use Rattle.std.proofs.Common.{◌≡◌, ◌∙◌, ap, refl, sym, subst, Bool, true, false, ok_or, Bor, codes, unwrap_or, ◌&&◌, if◌then◌else◌, is_some, option_map, Option, Some, None, IfSome, Result, Ok, Err, List, ℕ}
 use Rattle.nor_base.specs.Device.{Ahead}
 use Rattle.nor_base.specs.declared.meaning.Part.{Part}
 use Rattle.nor_job.specs.Task.{Task}
@@ -8,7 +8,7 @@ use Rattle.norprog_words.specs.declared.faults.Refusal.{Refusal}
 use Rattle.norprog_words.specs.declared.faults.Refusal.TheVariants.{Usage}
 use Rattle.norprog_words.specs.Chip.{Origin, origin_of, task_chip}
 use Rattle.norprog_words.specs.Shelf.{FileFacts, AreTables, IsMadeApart, IsTextIn, Named, WhereNamed}
-use Rattle.norprog_words.specs.Told.{OfLine, line_fault}
+use Rattle.norprog_words.specs.Told.{OfLine, Refuses, line_fault}
 use Rattle.norprog_words.specs.Values.{part_of}
 use Rattle.norprog_words.specs.declared.given.GivenBuild.{GivenBuild}
 use Rattle.norprog_words.specs.declared.given.GivenCheck.{GivenCheck}
@@ -175,3 +175,22 @@ pub chip_is_asked : (line : Result GivenChip Refusal) (given : GivenChip) (origi
 chip_is_asked line given origin part is named family =
     no_fault asks_chip line given is
     (both (is_some (chip_asked given)) (is_some (part_of (family_asked given))) (ap is_some named) (ap is_some family))
+
+-- the fault of a command line that wasn't read is told, and usage where its texts ask for nothing
+pub given_refused : {G : Type 0} (asks : G → Bool) (line : Result G Refusal) (why : Refusal) (Work : Refusal → Type 0) → line ≡ Err why → Refuses (line_fault asks line) Work why
+given_refused asks line why Work is = subst (λ l. Refuses (line_fault asks l) Work why) (sym is) refl
+
+usage_refused : {G : Type 0} (asks : G → Bool) (line : Result G Refusal) (given : G) (Work : Refusal → Type 0) (why : Refusal) → line ≡ Ok given → asks given ≡ false → why ≡ Usage
+    → Refuses (line_fault asks line) Work why
+usage_refused asks line given Work why is none told =
+    subst (λ l. Refuses (line_fault asks l) Work why) (sym is) (subst (λ b. Refuses (if b then None else Some Usage) Work why) (sym none) told)
+
+-- an answer that was made of nothing has the fault that it was made with
+usage_of : (T : Type 0) (o : Option T) (why : Refusal) → o ≡ None → Path (Result T Refusal) (Err why) (ok_or o Usage) → why ≡ Usage
+usage_of T o why none is = let e : Path (Result T Refusal) (Err why) (Err Usage) = subst (λ x. Path (Result T Refusal) (Err why) (ok_or x Usage)) none is in cc
+
+pub no_job : {G : Type 0} (asks : G → Bool) (line : Result G Refusal) (given : G) (texts : Given) (o : Option Request) (Work : Refusal → Type 0) (why : Refusal) → line ≡ Ok given
+    → (is_well_formed texts ≡ false → asks given ≡ false) → is_some o ≡ is_well_formed texts → o ≡ None → Path (Result Request Refusal) (Err why) (ok_or o Usage)
+    → Refuses (line_fault asks line) Work why
+no_job asks line given texts o Work why is without forms none made =
+    usage_refused asks line given Work why is (without (sym forms ∙ ap is_some none)) (usage_of Request o why none made)

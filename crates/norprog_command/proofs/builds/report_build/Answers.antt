@@ -1,11 +1,12 @@
 -- What was built is what the command line asks for.
-use Rattle.std.proofs.Common.{ap, inr, Some, option_map}
+use Rattle.std.proofs.Common.{ap, inr, is_some, Some, option_map, ◌&&◌}
 use Rattle.nor_base.proofs.FaultLaws.{handed_on}
 use Rattle.norprog_words.proofs.ToldLemmas.{asked_wider, refuses}
+use Rattle.norprog_command.specs.Asked.{asks_build}
 use Rattle.norprog_command.specs.Builds.{IsReportOf}
 use Rattle.norprog_command.specs.Served.{Job, IsJobOf, OfBuild}
 use Rattle.norprog_command.proofs.AskedLemmas.{build_wider, unsent}
-use Rattle.norprog_command.proofs.ServedLemmas.{build_line, build_asked}
+use Rattle.norprog_command.proofs.ServedLemmas.{build_line, build_asked, given_refused, no_job}
 use Rattle.norprog_command.proofs.builds.report_build.Goals as goal
 
 pub returns-in-Ok-clause-printed : goal.returns-in-Ok-clause-printed
@@ -56,3 +57,18 @@ returns-clause-first g c =
       unsent (OfBuild files c.args.given) files.flushed c.in_ok-report.report
           (asked_wider Job (IsJobOf files c.in_ok-request.request (Some c.in_ok-path.path.now)) (OfBuild files c.args.given) (IsReportOf files.flushed c.in_ok-report.report) wider c.in_ok-report.ensures.built),
     ))
+
+pub returns-in_err-given-clause-first : goal.returns-in_err-given-clause-first
+returns-in_err-given-clause-first g c =
+    handed_on _ _ _ c.from_residual.ensures.1 (given_refused asks_build c.args.given c.in_err-given.field-0.0 _ c.in_err-given.was)
+
+pub returns-in_err-request-clause-first : goal.returns-in_err-request-clause-first
+returns-in_err-request-clause-first g c =
+    handed_on _ _ _ c.from_residual-in_err-request.ensures.1
+    (no_job asks_build c.args.given c.in_ok-given.given c.in_ok-given.given.job c.request_of.result _ c.in_err-request.field-0.0 c.in_ok-given.was
+    (ap (λ b. b && is_some c.in_ok-given.given.out)) c.request_of.ensures.forms c.in_err-request.ensures.ok_part c.in_err-request.ensures.value)
+
+pub returns-in-Ok-clause-asked : goal.returns-in-Ok-clause-asked
+returns-in-Ok-clause-asked g c =
+    build_asked c.args.given c.in_ok-given.given c.request_of.result c.in_ok-request.request c.in_ok-path.path.now c.in_ok-given.was
+    c.in_ok-request.ensures.ok_part c.request_of.ensures.forms (ap (option_map (λ t. t.now)) c.in_ok-path.ensures.ok_part)

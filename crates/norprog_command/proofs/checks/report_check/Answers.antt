@@ -1,12 +1,13 @@
 -- The verdict is on what the command line asks for.
-use Rattle.std.proofs.Common.{ap, inr, None, option_map}
+use Rattle.std.proofs.Common.{ap, inr, is_some, None, option_map, ◌&&◌}
 use Rattle.norprog_words.specs.Shelf.{IsTextIn}
 use Rattle.norprog_words.specs.Told.{OrScript}
 use Rattle.nor_base.proofs.FaultLaws.{handed_on}
 use Rattle.norprog_words.proofs.ToldLemmas.{refuses}
+use Rattle.norprog_command.specs.Asked.{asks_check}
 use Rattle.norprog_command.specs.Served.{IsJobOf, OfCheck, OfScript}
 use Rattle.norprog_command.proofs.AskedLemmas.{check_wider, verdict_wider}
-use Rattle.norprog_command.proofs.ServedLemmas.{check_line, check_asked, script_line}
+use Rattle.norprog_command.proofs.ServedLemmas.{check_line, check_asked, given_refused, no_job, script_line}
 use Rattle.norprog_command.proofs.checks.report_check.Goals as goal
 
 pub returns-in-Ok-clause-checked : goal.returns-in-Ok-clause-checked
@@ -56,3 +57,18 @@ returns-clause-first g c =
       c.in_ok-verdict.verdict,
       verdict_wider (IsJobOf files c.in_ok-request.request None) (OfCheck files c.args.given) (IsTextIn files c.in_ok-path.path.now) (OfScript files c.args.given) wider more c.in_ok-verdict.verdict c.in_ok-verdict.ensures.checked,
     ))
+
+pub returns-in_err-given-clause-first : goal.returns-in_err-given-clause-first
+returns-in_err-given-clause-first g c =
+    handed_on _ _ _ c.from_residual.ensures.1 (given_refused asks_check c.args.given c.in_err-given.field-0.0 _ c.in_err-given.was)
+
+pub returns-in_err-request-clause-first : goal.returns-in_err-request-clause-first
+returns-in_err-request-clause-first g c =
+    handed_on _ _ _ c.from_residual-in_err-request.ensures.1
+    (no_job asks_check c.args.given c.in_ok-given.given c.in_ok-given.given.job c.request_of.result _ c.in_err-request.field-0.0 c.in_ok-given.was
+    (ap (λ b. b && is_some c.in_ok-given.given.script)) c.request_of.ensures.forms c.in_err-request.ensures.ok_part c.in_err-request.ensures.value)
+
+pub returns-in-Ok-clause-asked : goal.returns-in-Ok-clause-asked
+returns-in-Ok-clause-asked g c =
+    check_asked c.args.given c.in_ok-given.given c.request_of.result c.in_ok-request.request c.in_ok-path.path.now c.in_ok-given.was
+    c.in_ok-request.ensures.ok_part c.request_of.ensures.forms (ap (option_map (λ t. t.now)) c.in_ok-path.ensures.ok_part)

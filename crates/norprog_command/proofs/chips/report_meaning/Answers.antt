@@ -5,10 +5,11 @@ use Rattle.norprog_words.specs.Chip.{origin_of}
 use Rattle.norprog_words.specs.Setup.{chip_asked}
 use Rattle.nor_base.proofs.FaultLaws.{handed_on}
 use Rattle.norprog_words.proofs.ToldLemmas.{asked_wider, refuses}
+use Rattle.norprog_command.specs.Asked.{asks_chip}
 use Rattle.norprog_command.specs.Meanings.{MeansThis}
 use Rattle.norprog_command.specs.Served.{IsChipTask, OfChip}
 use Rattle.norprog_command.proofs.AskedLemmas.{chip_wider}
-use Rattle.norprog_command.proofs.ServedLemmas.{named_of, family_of, chip_line, chip_is_asked}
+use Rattle.norprog_command.proofs.ServedLemmas.{named_of, family_of, chip_line, chip_is_asked, given_refused}
 use Rattle.norprog_command.proofs.chips.report_meaning.Goals as goal
 
 pub returns-in-Ok-clause-printed : goal.returns-in-Ok-clause-printed
@@ -45,3 +46,13 @@ returns-in-Err-clause-first g c =
     let wider = chip_line files c.args.given c.in_ok-given.given (origin_of c.in_ok-chip.chip) c.in_ok-part.part c.in_ok-given.was named family in
     let none = chip_is_asked c.args.given c.in_ok-given.given (origin_of c.in_ok-chip.chip) c.in_ok-part.part c.in_ok-given.was named family in
     refuses _ _ _ none (inr (c.in_ok-meaning.meaning, asked_wider Task (IsChipTask files (origin_of c.in_ok-chip.chip) c.in_ok-part.part) (OfChip files c.args.given) (MeansThis c.in_ok-meaning.meaning) wider c.in_ok-meaning.ensures.means))
+
+pub returns-in_err-given-clause-first : goal.returns-in_err-given-clause-first
+returns-in_err-given-clause-first g c =
+    handed_on _ _ _ c.from_residual.ensures.1 (given_refused asks_chip c.args.given c.in_err-given.field-0.0 _ c.in_err-given.was)
+
+pub returns-in-Ok-clause-asked : goal.returns-in-Ok-clause-asked
+returns-in-Ok-clause-asked g c =
+    let named = named_of origin_of c.chip_of.result c.in_ok-chip.chip (chip_asked c.in_ok-given.given) c.chip_of.ensures c.in_ok-chip.ensures.ok_part in
+    let family = family_of c.in_ok-given.given c.unwrap_or.result _ c.part.result c.in_ok-part.part c.unwrap_or.ensures refl c.part.ensures c.in_ok-part.ensures.ok_part in
+    chip_is_asked c.args.given c.in_ok-given.given (origin_of c.in_ok-chip.chip) c.in_ok-part.part c.in_ok-given.was named family

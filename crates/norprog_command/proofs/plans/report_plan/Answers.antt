@@ -1,9 +1,10 @@
 -- The plan is of what the command line asks for.
 use Rattle.std.proofs.Common.{ap, ◌≡◌, option_map}
-use Rattle.norprog_command.specs.Plans.{asks_times}
+use Rattle.nor_base.proofs.FaultLaws.{handed_on}
+use Rattle.norprog_command.specs.Plans.{asks_plan, asks_times}
 use Rattle.norprog_command.specs.Served.{IsJobOf}
 use Rattle.norprog_command.proofs.AskedLemmas.{whole_of, part_of_lines, whole_printed, whole_cut, whole_refused, lines_cut, lines_refused}
-use Rattle.norprog_command.proofs.ServedLemmas.{plan_line, plan_asked}
+use Rattle.norprog_command.proofs.ServedLemmas.{plan_line, plan_asked, given_refused, no_job}
 use Rattle.norprog_command.proofs.plans.report_plan.Goals as goal
 
 pub returns-in-Ok-clause-printed : goal.returns-in-Ok-clause-printed
@@ -53,3 +54,13 @@ returns-clause-first g c =
     _ _ c.in-Err.is c.as_slice-in-Err.ensures.value c.run_plan-lines.ensures.part in
     let stops = rw c.in-Err.is at c.run_plan-lines.ensures.refused in
     rw asked (lines_refused files.lacked _ _ _ files.flushed c.in_ok-given.given.times _ _ wider _ _ _ _ none part stops c.print_lines.ensures)
+
+pub returns-in_err-given-clause-first : goal.returns-in_err-given-clause-first
+returns-in_err-given-clause-first g c =
+    handed_on _ _ _ c.from_residual.ensures.1 (given_refused asks_plan c.args.given c.in_err-given.field-0.0 _ c.in_err-given.was)
+
+pub returns-in_err-request-clause-first : goal.returns-in_err-request-clause-first
+returns-in_err-request-clause-first g c =
+    handed_on _ _ _ c.from_residual-in_err-request.ensures.1
+    (no_job asks_plan c.args.given c.in_ok-given.given c.in_ok-given.given.job c.request_of.result _ c.in_err-request.field-0.0 c.in_ok-given.was
+    (λ none. none) c.request_of.ensures.forms c.in_err-request.ensures.ok_part c.in_err-request.ensures.value)
