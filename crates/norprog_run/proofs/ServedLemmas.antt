@@ -11,11 +11,12 @@ use Rattle.norprog_words.specs.declared.faults.Refusal.{Refusal}
 use Rattle.norprog_words.specs.declared.files.Place.{Place}
 use Rattle.norprog_words.specs.declared.faults.Refusal.TheVariants.{Text, Usage, File, Build, Page, Script}
 use Rattle.norprog_words.specs.Chip.{origin_of}
+use Rattle.norprog_words.specs.Files.{TellsFile}
 use Rattle.norprog_words.specs.Setup.{setup_task}
 use Rattle.norprog_words.specs.Shelf.{FileFacts, AreTables, GoesOut, IsMadeApart, IsTextIn, Named, Notes, WhereNamed, tables_file}
 use Rattle.norprog_words.proofs.ShelfLemmas.{made_apart, more_noted, one_noted}
 use Rattle.norprog_words.specs.Told.{RefusesFor, OrScript, line_fault}
-use Rattle.norprog_words.proofs.ToldLemmas.{asked_wider, by_fault, refuses_wider}
+use Rattle.norprog_words.proofs.ToldLemmas.{asked_wider, by_fault, by_files, refuses_wider}
 use Rattle.norprog_run.specs.declared.request.Bench.{Bench}
 use Rattle.norprog_words.specs.declared.given.GivenRun.{GivenRun}
 use Rattle.norprog_run.specs.declared.request.RunRequest.{RunRequest}
@@ -203,6 +204,11 @@ pub one_refused : (Lacked : FileName → Type 0) (Asked : PlayTask → Type 0) (
 one_refused Lacked Asked Spoken t asked why =
     refuses_wider (λ told. told ≡ file.Script) (OrScript Lacked) (IsPlayFault (Is t)) (IsPlayFault Asked) ⊥ ((verdict : Verdict) × IsPlayVerdict Asked Spoken (λ held. ⊤) verdict)
     (λ name is. inr is) (λ why of. asked_wider PlayTask (Is t) Asked (IsStopOf why) (λ u same. subst Asked (sym same) asked) of) (λ none. absurd none) why
+
+-- a file that couldn't be used
+pub lacked_refused : (Lacked : FileName → Type 0) (Asked : PlayTask → Type 0) (Spoken : List ℕ → Type 0) (why : Refusal) → TellsFile Lacked why → RefusesRun (OrScript Lacked) Asked Spoken why
+lacked_refused Lacked Asked Spoken why =
+    by_files Lacked (OrScript Lacked) (IsPlayFault Asked) ((verdict : Verdict) × IsPlayVerdict Asked Spoken (λ held. ⊤) verdict) why (λ name is. inl is)
 
 pub all_refused : (Lacked : FileName → Type 0) (Asked : PlayTask → Type 0) (Spoken : List ℕ → Type 0) (t : PlayTask) (asked : Asked t) (r : Result Verdict Refusal)
     → IfErr r (RefusesFor (λ told. told ≡ file.Script) (IsPlayFault (Is t)) ⊥) → IfErr r (RefusesRun (OrScript Lacked) Asked Spoken)

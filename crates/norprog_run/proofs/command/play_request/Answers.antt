@@ -4,8 +4,10 @@ use Rattle.norprog_words.specs.Chip.{origin_of}
 use Rattle.norprog_words.specs.Shelf.{AreTables, IsTextIn, IsTextOfFile}
 use Rattle.norprog_words.proofs.ShelfLemmas.{text_in}
 use Rattle.norprog_words.specs.Told.{OrScript}
+use Rattle.nor_base.proofs.FaultLaws.{handed_on}
+use Rattle.norprog_run.specs.Answer.{RefusesRun}
 use Rattle.norprog_run.specs.Served.{IsTaskOf}
-use Rattle.norprog_run.proofs.ServedLemmas.{asked_of, made_for, made_beside, all_played, all_refused, verdicts_wider, refusals_wider}
+use Rattle.norprog_run.proofs.ServedLemmas.{asked_of, made_for, made_beside, all_played, all_refused, lacked_refused, verdicts_wider, refusals_wider}
 use Rattle.norprog_run.proofs.command.play_request.Goals as goal
 
 pub returns-clause-played : goal.returns-clause-played
@@ -50,3 +52,21 @@ returns-in-Some-clause-refused g c =
     let texts : (text : List ℕ) → IsTextOfFile g.S.Input.ByteIn.ahead c.in_ok-script.script text → IsTextIn files request.script.now text =
     λ text of. text_in files request.script.now _ c.in_ok-script.script text c.in_ok-script.ensures.script of in
     refusals_wider (OrScript files.lacked) _ (IsTaskOf files request) _ (IsTextIn files request.script.now) tasks texts c.play_to.result c.play_to.ensures.refused
+
+pub returns-in_err-sfdp-clause-refused : goal.returns-in_err-sfdp-clause-refused
+returns-in_err-sfdp-clause-refused g c =
+    let files = g.S.Shelf.facts c.args.shelf.now in
+    handed_on (RefusesRun (OrScript files.lacked) (IsTaskOf files c.args.request) (IsTextIn files c.args.request.script.now)) _ _ c.from_residual.ensures.1
+    (lacked_refused files.lacked (IsTaskOf files c.args.request) (IsTextIn files c.args.request.script.now) c.in_err-sfdp.field-0.0 c.in_err-sfdp.ensures.lacked)
+
+pub returns-in_err-content-clause-refused : goal.returns-in_err-content-clause-refused
+returns-in_err-content-clause-refused g c =
+    let files = g.S.Shelf.facts c.args.shelf.now in
+    handed_on (RefusesRun (OrScript files.lacked) (IsTaskOf files c.args.request) (IsTextIn files c.args.request.script.now)) _ _ c.from_residual-in_err-content.ensures.1
+    (lacked_refused files.lacked (IsTaskOf files c.args.request) (IsTextIn files c.args.request.script.now) c.in_err-content.field-0.0 c.in_err-content.ensures.lacked)
+
+pub returns-in_err-script-clause-refused : goal.returns-in_err-script-clause-refused
+returns-in_err-script-clause-refused g c =
+    let files = g.S.Shelf.facts c.args.shelf.now in
+    handed_on (RefusesRun (OrScript files.lacked) (IsTaskOf files c.args.request) (IsTextIn files c.args.request.script.now)) _ _ c.from_residual-in_err-script.ensures.1
+    (lacked_refused files.lacked (IsTaskOf files c.args.request) (IsTextIn files c.args.request.script.now) c.in_err-script.field-0.0 c.in_err-script.ensures.lacked)
