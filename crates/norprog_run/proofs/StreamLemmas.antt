@@ -18,7 +18,7 @@ use Rattle.norprog_run.specs.declared.verdict.Verdict.{Verdict}
 use Rattle.norprog_run.specs.Kind.{kind_setting}
 use Rattle.norprog_run.specs.Play.{page_of, IsSized, setting_of}
 use Rattle.norprog_words.specs.Content.{StopsReading}
-use Rattle.norprog_run.specs.Refusals.{RefusesPlay, IsEarly}
+use Rattle.norprog_run.specs.Refusals.{RefusesPaged, RefusesPlay, IsEarly}
 use Rattle.norprog_run.specs.Streams.{PlaysText, RefusesScript, StopsText, PlaysStreams, RefusesStreams, IsOfChip, CountsScript}
 
 -- a text that has this has that
@@ -142,3 +142,27 @@ module _ (t : Task) (bench : Bench) (text : List ℕ) (len : ℕ) (first first' 
       → IfErr r (λ why. IsEarly why → Content)
   text_unread (Ok verdict) p counts chip = tt
   text_unread (Err why) p counts chip = unread why p counts chip
+
+-- a refusal of the chip, before anything is read
+pub kind_refused : (t : Task) (bench : Bench) (first first' again again' : Ahead) (len : ℕ) (before after : Ahead) (held held' : Option (List ℕ)) (Untouched : Type 0) (why : Refusal)
+    → RefusesPaged t bench.page len why → RefusesStreams t bench first first' again again' len before after held held' Untouched why
+kind_refused t bench first first' again again' len before after held held' Untouched (Script why) p = absurd p
+kind_refused t bench first first' again again' len before after held held' Untouched (Build fault.ContentShort) p = absurd p
+kind_refused t bench first first' again again' len before after held held' Untouched (Build fault.Read) p = absurd p
+kind_refused t bench first first' again again' len before after held held' Untouched (Build fault.Write) p = absurd p
+kind_refused t bench first first' again again' len before after held held' Untouched (Build fault.Memory) p = absurd p
+kind_refused t bench first first' again again' len before after held held' Untouched (File file.Script) p = absurd p
+kind_refused t bench first first' again again' len before after held held' Untouched other p = p
+
+-- none of the script or of the content is one
+pub script_not_chip : (A : Type 0) (before after : Ahead) (why : Refusal) → RefusesScript before after why → IsOfChip why → A
+script_not_chip A before after (Script why) p is = absurd is
+script_not_chip A before after (File name) p is = absurd is
+script_not_chip A before after (Build fault.Memory) p is = absurd is
+script_not_chip A before after other p is = absurd p
+
+pub content_not_chip : (A : Type 0) (len : ℕ) (before after : Ahead) (why : Refusal) → StopsReading len before after why → IsOfChip why → A
+content_not_chip A len before after (Build fault.ContentShort) p is = absurd is
+content_not_chip A len before after (Build fault.Read) p is = absurd is
+content_not_chip A len before after (Build fault.Memory) p is = absurd is
+content_not_chip A len before after other p is = absurd p

@@ -5,7 +5,7 @@ use Rattle.norprog_words.specs.Content.{StopsReading}
 use Rattle.norprog_run.specs.Streams.{RefusesStreams}
 use Rattle.norprog_run.proofs.ReadLemmas.{less_read}
 use Rattle.nor_base.proofs.FaultLaws.{handed_on}
-use Rattle.norprog_run.proofs.StreamLemmas.{first_refused, content_refused, plays_all, refuses_again}
+use Rattle.norprog_run.proofs.StreamLemmas.{kind_refused, script_not_chip, content_not_chip, first_refused, content_refused, plays_all, refuses_again}
 use Rattle.norprog_run.proofs.streams.play_streams.Goals as goal
 
 pub returns-in_err-check_script-clause-refused : goal.returns-in_err-check_script-clause-refused
@@ -60,3 +60,21 @@ returns-clause-refused g c =
     (g.R.ByteIn.ahead c.args.content.now) (g.R.ByteIn.ahead c.read_content.new.content)
     (g.W.ByteOut.held c.args.out.now) (g.W.ByteOut.held c.play_on.new.out) (c.play_on.new.script ≡ c.args.again.now × c.read_content.new.content ≡ c.args.content.now)
     c.in_ok-check_script.ensures.text c.in_ok-array.array.items (c.in_ok-array.ensures.length ∙ size ∙ sym sized.size) c.in_ok-array.ensures.given c.play_on.result c.play_on.ensures.stopped
+
+pub returns-in_err-kind-clause-refused : goal.returns-in_err-kind-clause-refused
+returns-in_err-kind-clause-refused g c =
+    handed_on (RefusesStreams c.args.inputs.now c.args.bench (g.F.ByteIn.ahead c.args.first.now) (g.F.ByteIn.ahead c.args.first.now) (g.A.ByteIn.ahead c.args.again.now)
+    (g.A.ByteIn.ahead c.args.again.now) c.args.len (g.R.ByteIn.ahead c.args.content.now) (g.R.ByteIn.ahead c.args.content.now) (g.W.ByteOut.held c.args.out.now)
+    (g.W.ByteOut.held c.args.out.now) (c.args.again.now ≡ c.args.again.now × c.args.content.now ≡ c.args.content.now))
+    c.from_residual.result c.in_err-kind.field-0.0 c.from_residual.ensures.1
+    (kind_refused c.args.inputs.now c.args.bench (g.F.ByteIn.ahead c.args.first.now) (g.F.ByteIn.ahead c.args.first.now) (g.A.ByteIn.ahead c.args.again.now)
+    (g.A.ByteIn.ahead c.args.again.now) c.args.len (g.R.ByteIn.ahead c.args.content.now) (g.R.ByteIn.ahead c.args.content.now) (g.W.ByteOut.held c.args.out.now)
+    (g.W.ByteOut.held c.args.out.now) (c.args.again.now ≡ c.args.again.now × c.args.content.now ≡ c.args.content.now) c.in_err-kind.field-0.0 c.in_err-kind.ensures.refused)
+
+pub returns-in_err-check_script-clause-unread : goal.returns-in_err-check_script-clause-unread
+returns-in_err-check_script-clause-unread g c =
+    handed_on _ _ _ c.from_residual-in_err-check_script.ensures.1 (script_not_chip _ _ _ _ c.in_err-check_script.ensures.refused)
+
+pub returns-in_err-array-clause-unread : goal.returns-in_err-array-clause-unread
+returns-in_err-array-clause-unread g c =
+    handed_on _ _ _ c.from_residual-in_err-array.ensures.1 (content_not_chip _ _ _ _ _ c.in_err-array.ensures.stopped)
