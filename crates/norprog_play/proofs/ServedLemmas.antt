@@ -7,9 +7,11 @@ use Rattle.nor_base.specs.Device.{Ahead}
 use Rattle.nor_base.specs.Parameters.{Parameters}
 use Rattle.nor_job.specs.Status.{start_of}
 use Rattle.nor_job.specs.Task.{Task}
+use Rattle.norprog_words.specs.declared.faults.FileName.{FileName}
 use Rattle.norprog_words.specs.declared.faults.Refusal.{Refusal}
 use Rattle.norprog_words.specs.declared.given.GivenPlay.{GivenPlay}
 use Rattle.norprog_words.specs.Chip.{origin_of}
+use Rattle.norprog_words.specs.Files.{TellsFile}
 use Rattle.norprog_words.specs.Setup.{setup_task}
 use Rattle.norprog_words.specs.Shelf.{AreTables, FileFacts, Named}
 use Rattle.norprog_words.specs.Told.{line_fault}
@@ -61,6 +63,10 @@ refusals_asked files line given request (Err (Refused why)) is asks none of = rw
     )
 refusals_asked files line given request (Err (Device why)) is asks none of =
     (none, asked_wider PlayTask (IsTaskOf files request) (OfPlay files line) (IsGreetingOf why) (on_line files line given request is asks) of)
+
+-- a file that couldn't be used
+pub lacked_refused : (Lacked : FileName → Type 0) (Asked : PlayTask → Type 0) (why : Refusal) → TellsFile Lacked why → RefusesPlay Lacked Asked why
+lacked_refused Lacked Asked why = by_files Lacked Lacked (IsPlayFault Asked) ((ending : Ending) × IsEnding Asked ending) why (λ name lacks. lacks)
 
 -- what a request's play is of
 module _ (files : FileFacts) (request : PlayRequest) (tables : List ℕ) (t : Task) (text : List ℕ) (before : Ahead) (len : ℕ) (same : t ≡ setup_task request.setup tables)

@@ -3,7 +3,10 @@ use Rattle.std.proofs.Common.{sym, subst}
 use Rattle.norprog_words.specs.Chip.{origin_of}
 use Rattle.norprog_words.specs.Shelf.{AreTables}
 use Rattle.nor_base.proofs.FaultLaws.{handed_on}
-use Rattle.norprog_play.proofs.ServedLemmas.{no_job, was_played, was_stopped}
+use Rattle.norprog_play.specs.declared.unplayed.Unplayed.TheVariants.{Refused}
+use Rattle.norprog_play.specs.Answer.{IsUnplayed}
+use Rattle.norprog_play.specs.Served.{IsTaskOf}
+use Rattle.norprog_play.proofs.ServedLemmas.{lacked_refused, no_job, was_played, was_stopped}
 use Rattle.norprog_play.proofs.command.play_request.Goals as goal
 
 pub returns-in_err-job-clause-refused : goal.returns-in_err-job-clause-refused
@@ -29,3 +32,21 @@ returns-clause-refused g c =
     let script = subst (files.gave c.args.request.script.now) (sym c.as_slice-2.ensures.value) c.in_ok-script.ensures.gave in
     was_stopped files c.args.request _ _ _ _ _ c.setup_inputs-inputs.ensures tables script c.in_ok-content.ensures.opened _ c.in_ok-job.job.meaning c.in_ok-job.job.start
     c.in_ok-job.job.steps.items c.in_ok-job.job.content.items c.in_ok-job.ensures.ready c.in_ok-job.ensures.start c.play_job.result c.play_job.ensures
+
+pub returns-in_err-tables-clause-refused : goal.returns-in_err-tables-clause-refused
+returns-in_err-tables-clause-refused g c =
+    let files = g.S.Shelf.facts c.args.shelf.now in
+    handed_on (IsUnplayed files.lacked (IsTaskOf files c.args.request)) _ (Refused c.in_err-tables.field-0.0) c.from_residual.ensures.1
+    (lacked_refused files.lacked (IsTaskOf files c.args.request) c.in_err-tables.field-0.0 c.in_err-tables.ensures.lacked)
+
+pub returns-in_err-content-clause-refused : goal.returns-in_err-content-clause-refused
+returns-in_err-content-clause-refused g c =
+    let files = g.S.Shelf.facts c.args.shelf.now in
+    handed_on (IsUnplayed files.lacked (IsTaskOf files c.args.request)) _ (Refused c.in_err-content.field-0.0) c.from_residual-in_err-content.ensures.1
+    (lacked_refused files.lacked (IsTaskOf files c.args.request) c.in_err-content.field-0.0 c.in_err-content.ensures.lacked)
+
+pub returns-in_err-script-clause-refused : goal.returns-in_err-script-clause-refused
+returns-in_err-script-clause-refused g c =
+    let files = g.S.Shelf.facts c.args.shelf.now in
+    handed_on (IsUnplayed files.lacked (IsTaskOf files c.args.request)) _ (Refused c.in_err-script.field-0.0) c.from_residual-in_err-script.ensures.1
+    (lacked_refused files.lacked (IsTaskOf files c.args.request) c.in_err-script.field-0.0 c.in_err-script.ensures.lacked)
