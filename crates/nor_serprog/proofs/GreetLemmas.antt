@@ -12,7 +12,7 @@ use Rattle.nor_serprog.specs.declared.fault.GreetFault.{GreetFault}
 use Rattle.nor_serprog.specs.declared.fault.GreetFault.TheVariants as refused
 use Rattle.nor_serprog.specs.Protocol.{ACK, NAK, answer}
 use Rattle.nor_serprog.specs.Exchange.{Talked}
-use Rattle.nor_serprog.specs.Greeting.{Greeting, Exchange, offers, exchange_if, exchanges, place, answer_length, command_bytes, HasExchanged, Tells, HasBegun, BeginsGreeting, StopsAt, IsWord, Reaches, Greeted}
+use Rattle.nor_serprog.specs.Greeting.{Greeting, Exchange, offers, exchange_if, exchanges, place, answer_length, command_bytes, first_version, HasExchanged, HasLearnt, Tells, HasBegun, BeginsGreeting, StopsAt, IsWord, Reaches, Greeted}
 use Rattle.nor_serprog.proofs.FollowLemmas.{talked_more}
 
 -- the first exchange of a list
@@ -40,6 +40,18 @@ greeting_of begun version commands sends gives = record {
   noise = begun.noise;
   late = begun.late;
   version = version;
+  commands = commands;
+  sends = sends;
+  gives = gives;
+}
+
+-- and what the most is said to be
+abbrev pub greeting_by : {h h' : Option (List ℕ)} {a a' : Ahead} {commands : List ℕ} → HasLearnt h h' a a' commands → List ℕ → List ℕ → Greeting
+greeting_by {h} {h'} {a} {a'} {commands} known sends gives = record {
+  tries = known.tries;
+  noise = known.noise;
+  late = known.late;
+  version = first_version;
   commands = commands;
   sends = sends;
   gives = gives;
@@ -87,6 +99,14 @@ word_done begun version commands sends gives =
 pub version_done : {h m h' : Option (List ℕ)} {a b a' : Ahead} (g : Greeting) → HasExchanged h m a b (take 1 (exchanges g))
     → Talked m h' b a' (command_bytes command.QueryInterface) (answer g.version) → HasExchanged h h' a a' (take 2 (exchanges g))
 version_done g p q = exchanged_more (take 1 (exchanges g)) (record { put = command_bytes command.QueryInterface; given = answer g.version }) p q
+
+-- the version is 1
+pub version_is : {h m h' : Option (List ℕ)} {a b a' : Ahead} (begun : HasBegun h m a b) (commands : List ℕ) {version : List ℕ} → version ≡ first_version
+    → Talked m h' b a' (command_bytes command.QueryInterface) (answer version)
+    → HasExchanged h h' a a' (take 2 (exchanges (greeting_of begun first_version commands [] [])))
+version_is {h} {m} {h'} {a} {b} {a'} begun commands one q =
+    version_done (greeting_of begun first_version commands [] []) (word_done begun first_version commands [] [])
+    (subst (λ v. Talked m h' b a' (command_bytes command.QueryInterface) (answer v)) one q)
 
 pub commands_done : {h m h' : Option (List ℕ)} {a b a' : Ahead} (g : Greeting) → HasExchanged h m a b (take 2 (exchanges g))
     → Talked m h' b a' (command_bytes command.QueryCommands) (answer g.commands) → HasExchanged h h' a a' (take 3 (exchanges g))

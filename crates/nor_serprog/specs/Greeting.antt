@@ -265,6 +265,28 @@ Greeted held_before held_after ahead_before ahead_after (Err refused.NoOperation
     IsUnfit held_before held_after ahead_before ahead_after command.SetBus
     (λ g. (g.version ≡ first_version) × (length g.commands ≡ 32) × (offers g.commands 0x13 ≡ false))
 
+-- a device that speaks version 1 and does SPI operations told which commands it offers
+pub record HasLearnt (held_before held_after : Option (List ℕ)) (ahead_before ahead_after : Ahead) (commands : List ℕ) : Type 0 where
+  pub tries : ℕ
+  pub noise : List ℕ
+  pub late : List ℕ
+  pub word : IsWord tries noise late
+  pub operation : offers commands 0x13 ≡ true
+  pub room : length commands ≡ 32
+  pub before : HasExchanged held_before held_after ahead_before ahead_after (take (place command.SetBus) (exchanges (record {
+    tries = tries;
+    noise = noise;
+    late = late;
+    version = first_version;
+    commands = commands;
+    sends = [];
+    gives = [];
+  })))
+
+abbrev pub Learns : Option (List ℕ) → Option (List ℕ) → Ahead → Ahead → Result (List ℕ) GreetFault → Type 0
+Learns held_before held_after ahead_before ahead_after (Ok commands) = HasLearnt held_before held_after ahead_before ahead_after commands
+Learns held_before held_after ahead_before ahead_after (Err why) = Greeted held_before held_after ahead_before ahead_after (Err why)
+
 -- the reader's count of failures rises by one exactly where a command's fault is Read, the writer's where it is Write
 abbrev pub CountsGreetReads : {T : Type 0} → ℕ → ℕ → Result T GreetFault → Type 0
 CountsGreetReads before after (Err (refused.Command at fault.Read)) = after ≡ before + 1

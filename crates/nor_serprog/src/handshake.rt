@@ -1,7 +1,8 @@
 //! The handshake with a device.
 
-ghost use Rattle.std.specs.Prelude.{◌≡◌, ◌<◌, ◌-◌, ◌^◌};
-ghost use Rattle.nor_serprog.specs.Greeting.{Greeted, BeginsGreeting, Tells, TellsIf, CountsGreetReads, CountsGreetWrites, offers, most};
+ghost use Rattle.std.specs.Prelude.{◌≡◌, ◌<◌, ◌-◌, ◌^◌, ℕ, List, Option};
+ghost use Rattle.nor_base.specs.Device.{Ahead};
+ghost use Rattle.nor_serprog.specs.Greeting.{Greeted, HasLearnt, Learns, BeginsGreeting, Tells, TellsIf, CountsGreetReads, CountsGreetWrites, offers, most};
 
 use crate::exchange::ask;
 use crate::fault::{Command, GreetFault};
@@ -42,6 +43,18 @@ pub fn greet<R: ByteIn, W: ByteOut>(from: &mut R, to: &mut W) -> Result<Limits, 
     ensures reads { CountsGreetReads (R.count from.old) (R.count from.new) result }
     ensures writes { CountsGreetWrites (W.count to.old) (W.count to.new) result }
 {
+    let commands = learn(from, to)?;
+    go_on(from, to, &commands)
+}
+
+/// Begins with a device that speaks version 1 and does SPI operations: the commands that it offers.
+fn learn<R: ByteIn, W: ByteOut>(from: &mut R, to: &mut W) -> Result<[u8; 32], GreetFault>
+    requires reader { R.count from.old < 2 ^ 64 - 1 }
+    requires writer { W.count to.old < 2 ^ 64 - 1 }
+    ensures learns { Learns (W.held to.old) (W.held to.new) (R.ahead from.old) (R.ahead from.new) result }
+    ensures reads { CountsGreetReads (R.count from.old) (R.count from.new) result }
+    ensures writes { CountsGreetWrites (W.count to.old) (W.count to.new) result }
+{
     begin(from, to)?;
     let mut version = [0; 2];
     tell(from, to, Command::QueryInterface, &mut version)?;
@@ -53,14 +66,31 @@ pub fn greet<R: ByteIn, W: ByteOut>(from: &mut R, to: &mut W) -> Result<Limits, 
     if !offers(&commands, O_SPIOP) {
         return Err(GreetFault::NoOperation);
     }
+    Ok(commands)
+}
+
+/// Goes on with a device that offers these commands: how much it can do in one operation.
+fn go_on<R: ByteIn, W: ByteOut>(
+    from: &mut R,
+    to: &mut W,
+    commands: &[u8; 32],
+) -> Result<Limits, GreetFault>
+    requires reader { R.count from.old < 2 ^ 64 - 1 }
+    requires writer { W.count to.old < 2 ^ 64 - 1 }
+    ensures greeted { (held : Option (List ℕ)) (ahead : Ahead)
+        → HasLearnt held (W.held to.old) ahead (R.ahead from.old) commands.now
+        → Greeted held (W.held to.new) ahead (R.ahead from.new) result }
+    ensures reads { CountsGreetReads (R.count from.old) (R.count from.new) result }
+    ensures writes { CountsGreetWrites (W.count to.old) (W.count to.new) result }
+{
     tell(from, to, Command::SetBus, &mut [])?;
     let mut sends = [0; 3];
-    let has_sends = offers(&commands, Q_WRNMAXLEN);
+    let has_sends = offers(commands, Q_WRNMAXLEN);
     tell_if(from, to, has_sends, Command::QueryWriteMax, &mut sends)?;
     let mut gives = [0; 3];
-    let has_gives = offers(&commands, Q_RDNMAXLEN);
+    let has_gives = offers(commands, Q_RDNMAXLEN);
     tell_if(from, to, has_gives, Command::QueryReadMax, &mut gives)?;
-    let has_pins = offers(&commands, S_PIN_STATE);
+    let has_pins = offers(commands, S_PIN_STATE);
     tell_if(from, to, has_pins, Command::SetPins, &mut [])?;
     Ok(Limits {
         sent: most(has_sends, &sends),
