@@ -1,20 +1,24 @@
 -- What the parts of the reader of lines do, put together.
 use Rattle.std.proofs.Common.{◌≡◌, ℕ, ◌+◌, ◌<◌, ◌≤◌, inl, inr, Bool, true, false, if◌then◌else◌, List, [], ◌∷◌, ◌++◌, length, take, drop, Some, Result, Ok, Err, refl, sym, ◌∙◌, ap, subst, arith, append-nil, length-append}
-use Rattle.std.specs.Prelude.{IsErrAnd}
+use Rattle.std.specs.Prelude.{IsErrAnd, slice_range}
+use Rattle.std.proofs.Math.Seq.{drop-append_seam}
 use Rattle.std.specs.List.{list_any}
 use Rattle.std.proofs.lemmas.List.{take-append-le, take_all}
 use Rattle.nor_base.specs.declared.step.Step.{Step}
 use Rattle.nor_base.specs.Device.{Ahead, Unknown, Finite, Endless, IsAtEnd}
-use Rattle.nor_base.specs.Script.{closed, header, end_line}
+use Rattle.nor_base.specs.Script.{closed, header, end_line, step_line}
 use Rattle.nor_script.specs.declared.fault.ScriptFault.{ScriptFault}
 use Rattle.nor_script.specs.declared.fault.ScriptFault.TheVariants.{Header, BadLine, BadSymbol, BadCount, NoEnd, AfterEnd, Memory}
 use Rattle.nor_script.specs.declared.fault.ReadFault.{ReadFault}
 use Rattle.nor_script.specs.declared.fault.ReadFault.TheVariants.{Script, Device}
 use Rattle.nor_script.specs.Line.{is_end, step_fault, count_fault}
-use Rattle.nor_script.specs.Parts.{or_fault}
+use Rattle.nor_base.specs.Step.{IsStep}
+use Rattle.nor_script.specs.declared.line.Kind.{Kind}
+use Rattle.nor_script.specs.LineParts.{step_by}
+use Rattle.nor_script.specs.Parts.{or_fault, TellsFault}
 use Rattle.nor_script.specs.Faults.{is_line_feed, BeginsWith, Refuses}
 use Rattle.nor_script.specs.Stream.{Reading, reading, Reads, HasBadLineNext, LacksHeader, IsNextFault, IsFirstFault, IsOutside, Advances, HasRead, Begins, OfText, IsScriptOf, TellsScript}
-use Rattle.nor_script.specs.Lines.{Lines, IsFirstLine, FindsLine, Comes, Pulls, ReadsHeader, SkipsHeader, GoesPast, ReadsEnd}
+use Rattle.nor_script.specs.Lines.{Lines, IsFirstLine, FindsLine, Comes, Pulls, ReadsHeader, SkipsHeader, GoesPast, ReadsEnd, ReadsStep}
 use Rattle.nor_script.proofs.ReadLemmas.{end_is, IsOfLine, step_told, none_left}
 use Rattle.nor_script.proofs.StreamLaws.{reads_then, reads_held, read_of, has_all, refused_at, no_header}
 
@@ -142,6 +146,29 @@ step_bad now steps line rest fault first ends there = next_by now steps (steps +
   first = first;
   here = ap (λ b. if b then count_fault steps (drop 4 line) else step_fault (steps + 2) line) ends ∙ there;
 })
+
+pub step_stops : (now : Reading) (steps : ℕ) (line rest : List ℕ) (fault : ScriptFault) → BeginsWith now.held line rest → is_end line ≡ false
+    → TellsFault (step_fault (steps + 2) line) fault → IsNextFault now steps fault
+step_stops now steps line rest Memory first ends told = tt
+step_stops now steps line rest (BadLine n) first ends told = step_bad now steps line rest (BadLine n) first ends told
+step_stops now steps line rest (BadSymbol n) first ends told = step_bad now steps line rest (BadSymbol n) first ends told
+step_stops now steps line rest (BadCount n) first ends told = step_bad now steps line rest (BadCount n) first ends told
+step_stops now steps line rest (Header n) first ends told = step_bad now steps line rest (Header n) first ends told
+step_stops now steps line rest (NoEnd n) first ends told = step_bad now steps line rest (NoEnd n) first ends told
+step_stops now steps line rest (AfterEnd n) first ends told = step_bad now steps line rest (AfterEnd n) first ends told
+
+-- the line of a step was read
+pub step_reads : (a : Reading) (ahead : Ahead) (before after : Lines) (kind : Kind) (upto : ℕ) (expect : List ℕ) → Reads a (reading ahead before.held) []
+    → IsFirstLine before → ReadsStep before after kind upto expect
+    → Reads a (reading ahead after.held) (closed (step_line (step_by kind (slice_range after.line 2 upto) expect))) × IsStep (step_by kind (slice_range after.line 2 upto) expect)
+step_reads a ahead before after kind upto expect p first q =
+    let step = step_by kind (slice_range before.line 2 upto) expect in
+    let size : length before.line + 1 ≡ length (closed before.line) = sym (length-append before.line (10 ∷ [])) in
+    let rest : after.held ≡ first.rest = q.held ∙ ap (λ n. drop n before.held) size ∙ ap (drop (length (closed before.line))) first.first.whole ∙ drop-append_seam (closed before.line) first.rest in
+    let whole : before.held ≡ closed (step_line step) ++ after.held =
+    first.first.whole ∙ ap (λ l. l ++ first.rest) (ap closed q.spells.spelled) ∙ ap (λ l. closed (step_line step) ++ l) (sym rest) in
+    subst (λ l. Reads a (reading ahead after.held) (closed (step_line (step_by kind (slice_range l 2 upto) expect))) × IsStep (step_by kind (slice_range l 2 upto) expect)) (sym q.same)
+    (reads_then a (reading ahead before.held) (reading ahead after.held) [] (closed (step_line step)) p (reads_held ahead before.held after.held (closed (step_line step)) whole), q.spells.is_one)
 
 pub advance_refused : (a b : Reading) (steps : ℕ) (step : Step) (r : Result Bool ReadFault) (fault : ScriptFault) → IsErrAnd r (λ e. e ≡ Script fault) → Reads a b []
     → IsNextFault b steps fault → Advances a b steps step r

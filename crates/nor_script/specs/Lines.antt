@@ -1,5 +1,5 @@
 -- A reader of lines that takes its bytes from a device, a part at a time (this project's).
-use Rattle.std.specs.Prelude.{◌≡◌, ◌<◌, ◌≤◌, ℕ, ◌+◌, false, List, [], ◌∷◌, ◌++◌, length, take, Result, Ok, Err, Bool, true}
+use Rattle.std.specs.Prelude.{◌≡◌, ◌<◌, ◌≤◌, ℕ, ◌+◌, false, List, [], ◌∷◌, ◌++◌, length, take, drop, slice_range, Result, Ok, Err, Bool, true}
 use Rattle.std.specs.List.{list_any}
 use Rattle.nor_base.specs.Device.{Ahead, Gives, IsAtEnd}
 use Rattle.nor_base.specs.declared.device.Failed.{Failed}
@@ -8,6 +8,9 @@ use Rattle.nor_script.specs.declared.fault.ReadFault.{ReadFault}
 use Rattle.nor_script.specs.declared.fault.ReadFault.TheVariants.{Script, Device}
 use Rattle.nor_script.specs.declared.fault.ScriptFault.TheVariants.{AfterEnd, Memory}
 use Rattle.nor_script.specs.Faults.{is_line_feed, BeginsWith}
+use Rattle.nor_script.specs.declared.line.Kind.{Kind}
+use Rattle.nor_script.specs.Line.{SpellsStep}
+use Rattle.nor_script.specs.LineParts.{step_by}
 use Rattle.nor_script.specs.Stream.{Reading, Reads, LacksLine, LacksHeader, IsOutside, IsOver}
 
 -- what a buffer of lines holds: the bytes that came and are not read yet, and the line found last, without its LF
@@ -85,3 +88,11 @@ ReadsEnd before after line steps (Ok more) = (more ≡ false) × Reads before af
 ReadsEnd before after line steps (Err (Script Memory)) = Reads before after []
 ReadsEnd before after line steps (Err (Script fault)) = Reads before after [] × GoesPast after line × (fault ≡ AfterEnd (steps + 3))
 ReadsEnd before after line steps (Err (Device failed)) = Reads before after []
+
+-- the line found was read, which is that of the step of this kind; the step's clocks stand in it from its third byte up to here
+pub record ReadsStep (before after : Lines) (kind : Kind) (upto : ℕ) (expect : List ℕ) : Type 0 where
+  pub held : after.held ≡ drop (length before.line + 1) before.held
+  pub same : after.line ≡ before.line
+  pub from : 2 ≤ upto
+  pub within : upto ≤ length before.line
+  pub spells : SpellsStep before.line (step_by kind (slice_range before.line 2 upto) expect)

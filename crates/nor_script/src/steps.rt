@@ -1,8 +1,10 @@
 //! The reader that gives a script's steps one after another.
 
-ghost use Rattle.std.specs.Prelude.{◌≡◌, ◌<◌, ◌≤◌, ◌-◌, ◌^◌, true, length, IfOk, IfErr};
+ghost use Rattle.std.specs.Prelude.{◌≡◌, ◌<◌, ◌≤◌, ◌+◌, ◌-◌, ◌^◌, true, length, IfOk, IfErr};
 ghost use Rattle.nor_script.specs.View.{step_of};
-ghost use Rattle.nor_script.specs.Lines.{IsFirstLine, ReadsEnd};
+ghost use Rattle.nor_script.specs.Line.{step_fault};
+ghost use Rattle.nor_script.specs.Lines.{IsFirstLine, ReadsEnd, ReadsStep};
+ghost use Rattle.nor_script.specs.Parts.{TellsFault};
 ghost use Rattle.nor_script.specs.Stream.{reading, Advances, Begins, CountsRead, CountsStep, HadText, IsScriptOf, StopsReader, TellsScript};
 ghost use Rattle.nor_script.specs.declared.fault.ScriptFault.TheVariants.{Memory};
 
@@ -96,14 +98,8 @@ impl StepReader {
             check_count(self.steps, count)?;
             return read_end(&mut self.lines, self.steps, source);
         }
-        if self.steps == MOST {
-            return Err(ReadFault::Script(ScriptFault::Memory));
-        }
-        let parts = parts_on(self.steps + 2, self.lines.line())?;
-        decode(parts.digits, &mut self.expect)?;
-        self.kind = parts.kind;
-        let upto = 2 + parts.clocks.len();
-        self.lines.read_line();
+        let (kind, upto) = read_step(&mut self.lines, &mut self.expect, self.steps)?;
+        self.kind = kind;
         self.from = 2;
         self.upto = upto;
         self.steps += 1;
@@ -168,4 +164,27 @@ fn read_end<R: ByteIn>(
     }
     lines.read_held();
     Ok(false)
+}
+
+/// Reads the line found, which is no end line: the kind of its step, and where its clocks end, which begin behind two bytes.
+fn read_step(
+    lines: &mut LineBuffer,
+    expect: &mut Vec<u8>,
+    steps: u64,
+) -> Result<(Kind, usize), ScriptFault>
+    requires steps { steps ≤ 2 ^ 62 }
+    requires line { IsFirstLine lines.old }
+    ensures read { IfOk result (λ read. ReadsStep lines.old lines.new read.0 read.1 expect.new.items) }
+    ensures more { IfOk result (λ _. steps < 2 ^ 62) }
+    ensures refused { IfErr result (λ fault. (lines.new ≡ lines.old) × TellsFault (step_fault (steps + 2) lines.old.line) fault) }
+{
+    if steps == MOST {
+        return Err(ScriptFault::Memory);
+    }
+    let parts = parts_on(steps + 2, lines.line())?;
+    decode(parts.digits, expect)?;
+    let kind = parts.kind;
+    let upto = 2 + parts.clocks.len();
+    lines.read_line();
+    Ok((kind, upto))
 }

@@ -1,10 +1,11 @@
 -- The end line, and a line of no step.
-use Rattle.std.proofs.Common.{◌≡◌, ◌+◌, true, false, [], drop, Ok, Some, sym, ◌∙◌, ap, subst}
-use Rattle.nor_script.specs.Line.{is_end, count_fault, step_fault}
+use Rattle.std.proofs.Common.{◌≡◌, true, false, [], drop, Ok, sym, ◌∙◌, ap, subst}
+use Rattle.nor_script.specs.Line.{is_end, count_fault}
 use Rattle.nor_script.specs.Parts.{or_fault}
 use Rattle.nor_script.specs.LineParts.{step_by}
-use Rattle.nor_script.specs.Stream.{reading, Reads, Steps, Advances}
-use Rattle.nor_script.proofs.ReaderLemmas.{found, right_end, end_advances, step_bad, advance_refused}
+use Rattle.nor_script.specs.Stream.{reading, Reads, Steps, Advances, IsNextFault}
+use Rattle.nor_script.specs.Lines.{Lines}
+use Rattle.nor_script.proofs.ReaderLemmas.{found, right_end, end_advances, step_stops, stays, advance_refused, step_reads}
 use Rattle.nor_script.proofs.steps.StepReader.advance.Goals as goal
 
 pub returns-in-Some-clause-step : goal.returns-in-Some-clause-step
@@ -26,17 +27,25 @@ returns-in-Some-clause-step g c =
     (end_advances (before c.self.inside.lines.held) (reading (g.R.ByteIn.ahead c.find_line.new.source) lines.held) after lines.line c.self.inside.steps step c.read_end.result
     there.0 (right_end lines.line c.self.inside.steps ends counted) c.read_end.ensures.bytes))
 
-pub returns-in_err-parts-clause-step : goal.returns-in_err-parts-clause-step
-returns-in_err-parts-clause-step g c =
+pub returns-in_err-kind-clause-step : goal.returns-in_err-kind-clause-step
+returns-in_err-kind-clause-step g c =
     let lines = c.find_line.new.self in
+    let fault = c.in_err-kind.field-0.0 in
     let held : c.self.inside.lines.held ≡ c.args.self.now.held = ap (λ (s : Steps). s.held) c.self.view_is in
     let steps : c.self.inside.steps ≡ c.args.self.now.steps = ap (λ (s : Steps). s.steps) c.self.view_is in
     let ends : is_end lines.line ≡ false = ap is_end (sym c.line.ensures) ∙ c.in_default.ensures.cases in
-    let bad : step_fault (c.args.self.now.steps + 2) lines.line ≡ Some c.in_err-parts.field-0.0 =
-    ap (λ n. step_fault (n + 2) lines.line) (sym steps) ∙ ap (step_fault (c.self.inside.steps + 2)) (sym c.line-2.ensures) ∙ c.in_err-parts.ensures.refused in
+    let bad = c.in_err-kind.ensures.refused in
     let there = found _ _ lines c.in_ok-find_line.field-0 c.if-not-branch.false c.in_ok-find_line.ensures.lines in
     let before = reading (g.R.ByteIn.ahead c.args.source.now) in
-    let after = reading (g.R.ByteIn.ahead c.find_line.new.source) lines.held in
-    advance_refused (before c.args.self.now.held) after c.args.self.now.steps _ c.from_residual-in_err-parts.result c.in_err-parts.field-0.0
-    c.from_residual-in_err-parts.ensures.1 (subst (λ l. Reads (before l) after []) held there.0)
-    (step_bad after c.args.self.now.steps lines.line there.1.rest c.in_err-parts.field-0.0 there.1.first ends bad)
+    let after = reading (g.R.ByteIn.ahead c.find_line.new.source) in
+    advance_refused (before c.args.self.now.held) (after c.read_step.new.lines.held) c.args.self.now.steps _ c.from_residual-in_err-kind.result fault
+    c.from_residual-in_err-kind.ensures.1 (stays _ _ lines _ bad.0 (subst (λ l. Reads (before l) (after lines.held) []) held there.0))
+    (subst (λ (l : Lines). IsNextFault (after l.held) c.args.self.now.steps fault) (sym bad.0)
+    (subst (λ n. IsNextFault (after lines.held) n fault) steps (step_stops (after lines.held) c.self.inside.steps lines.line there.1.rest fault there.1.first ends bad.1)))
+
+pub returns-clause-step : goal.returns-clause-step
+returns-clause-step g c =
+    let lines = c.find_line.new.self in
+    let held : c.self.inside.lines.held ≡ c.args.self.now.held = ap (λ (s : Steps). s.held) c.self.view_is in
+    let there = found _ _ lines c.in_ok-find_line.field-0 c.if-not-branch.false c.in_ok-find_line.ensures.lines in
+    step_reads _ _ lines c.read_step.new.lines _ _ _ (subst (λ l. Reads (reading (g.R.ByteIn.ahead c.args.source.now) l) (reading (g.R.ByteIn.ahead c.find_line.new.source) lines.held) []) held there.0) there.1 c.in_ok-kind.ensures.read
