@@ -44,10 +44,22 @@ pub(crate) fn joined<A: Allocator + Clone>(
             bytes: pieces.bytes,
         });
     }
+    joined_anew(alloc, &pieces)
+}
+
+/// The same, where each byte is copied to its place.
+fn joined_anew<A: Allocator + Clone>(
+    alloc: A,
+    pieces: &Pieces<A>,
+) -> Result<Segments<A>, AllocError>
+    requires { IsPieces (get nat_cmp pieces.now.by_last) pieces.now.bytes.items }
+    ensures { IfOk result (λ segments. SameBytes (Gives (get nat_cmp pieces.now.by_last) pieces.now.bytes.items)
+        (Holds segments.list.items segments.bytes.items)) }
+{
     let mut list = Vec::new(alloc.clone()?);
     let mut bytes = Vec::with_capacity(alloc, pieces.bytes.len())?;
     let mut from = 0u64;
-    while let Some((last, piece)) = piece_from(&pieces, from) {
+    while let Some((last, piece)) = piece_from(pieces, from) {
         let place = piece.place as usize;
         let run = &pieces.bytes[place..place + (last - piece.first) as usize + 1];
         add_segment(&mut list, piece.first, last, bytes.len())?;

@@ -1,31 +1,6 @@
-use Rattle.std.proofs.Common.{◌≡◌, ◌+◌, ◌-◌, ◌++◌, ℕ, List, length, take, drop, sym, ap, ◌∙◌, subst, arith}
-use Rattle.std.proofs.lemmas.Grind.{common_steps}
-use Rattle.nor_hex.specs.Segments.{IsJoined}
-use Rattle.nor_hex.proofs.ListLemmas.{length-part}
-use Rattle.nor_hex.proofs.SegmentLemmas.{made_more, made_all, only_same}
+use Rattle.nor_hex.proofs.SegmentLemmas.{only_same}
 use Rattle.nor_hex.proofs.segments.joined.Goals as goal
 
 pub returns-in-Some : goal.returns-in-Some
 returns-in-Some g c =
     rw (c.in_ok-push.ensures.items, c.new-list.ensures.items) (only_same _ c.args.pieces.bytes.items c.in-Some.segment c.requires c.in-Some.ensures)
-
-pub loop-last-preserved : goal.loop-last-preserved
-loop-last-preserved g c =
-    let piece = c.in-Some-piece_from.piece in
-    let given = c.args.pieces.bytes.items in
-    let last = c.in-Some-piece_from.last in
-    let n = piece.place + (last - piece.first) + 1 - piece.place in
-    let run = take n (drop piece.place given) in
-    let rises = c.requires.rises last piece c.in-Some-piece_from.ensures.found in
-    let inside = c.requires.inside last piece c.in-Some-piece_from.ensures.found in
-    let len : length run ≡ n = length-part given n piece.place (omega arith) in
-    let items : c.extend_from_slice.new.self.items ≡ c.loop-last.bytes.items ++ run = c.in_ok-extend_from_slice.ensures.items ∙ ap (λ xs. c.loop-last.bytes.items ++ take n (drop piece.place xs)) c.deref.ensures.value in
-    let place : length c.loop-last.bytes.items ≡ c.len-in-Some-piece_from.result = let ok = c.loop-last.bytes.ok in grind (arith, common_steps, c.len-in-Some-piece_from.ensures) in
-    rw c.from-from.ensures
-    (made_more _ given c.loop-last.list.items c.add_segment.new.list.items c.loop-last.bytes.items c.extend_from_slice.new.self.items c.loop-last.from last n piece c.requires c.in-Some-piece_from.ensures (omega arith) c.loop-last.invariant
-    (subst (λ (xs : List ℕ). IsJoined c.loop-last.list.items c.loop-last.bytes.items c.add_segment.new.list.items xs piece.first run) (sym items)
-    (c.in_ok-add_segment.ensures c.loop-last.bytes.items run c.loop-last.invariant.right place (omega arith))))
-
-pub returns : goal.returns
-returns g c =
-    made_all _ c.args.pieces.bytes.items c.loop-last.list.items c.loop-last.bytes.items c.loop-last.from c.in_default-piece_from.ensures c.loop-last.invariant
