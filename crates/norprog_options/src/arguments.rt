@@ -276,7 +276,7 @@ const VERIFY: &[Choice] = &[READ_BACK];
 const SCRIPT: &[Choice] = &[SCRIPT_FILE];
 
 /// The commands, in the order of the help.
-const FORMS: &[Form] = &[
+static FORMS: [Form; 9] = [
     Form {
         name: "build",
         about: "Writes the script that programs the chip, and prints a report of it",
@@ -382,7 +382,7 @@ pub(crate) fn norprog<'a>(alloc: Global) -> Result<Command<'a>, AllocError> {
 
 /// The commands' forms.
 fn forms() -> &'static [Form] {
-    FORMS
+    &FORMS
 }
 
 /// The options of a group.

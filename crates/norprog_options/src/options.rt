@@ -1,8 +1,8 @@
 //! What stands on a command line, read by the command line library.
 
-ghost use Rattle.std.specs.Prelude.{◌≡◌, map, IfOk, IfSome};
+ghost use Rattle.std.specs.Prelude.{◌≡◌, map, IfOk};
 ghost use Rattle.clap.specs.Words.{found_of};
-ghost use Rattle.norprog_options.specs.Options.{texts_of, IsJobIn, IsChipIn, IsDrawIn, IsListIn, IsPlanIn, IsPlayIn, IsRunIn, IsSetupIn, IsAsked, IsAskedBySome};
+ghost use Rattle.norprog_options.specs.Options.{texts_of, IsBuildIn, IsCheckIn, IsJobIn, IsChipIn, IsDrawIn, IsListIn, IsPlanIn, IsPlayIn, IsRunIn, IsSetupIn, IsAsked, IsAskedBySome};
 
 use crate::arguments::norprog;
 use clap::error::ErrorKind;
@@ -48,12 +48,41 @@ pub fn asked_by<'a>(alloc: Global, words: &'a [String]) -> Result<Asked<'a>, Ref
 fn asked_in<'a>(alloc: Global, matches: &ArgMatches<'a>) -> Result<Asked<'a>, Refusal>
     ensures { IfOk result (IsAsked matches.now) }
 {
-    if let Some(asked) = job_asked(alloc, matches)? {
-        return Ok(asked);
+    if let Some(build) = matches.subcommand_matches("build") {
+        return Ok(Asked::Build(build_in(alloc, build)?));
     }
-    if let Some(asked) = script_asked(matches) {
-        return Ok(asked);
+    if let Some(plan) = matches.subcommand_matches("plan") {
+        return Ok(Asked::Plan(plan_in(alloc, plan)?));
     }
+    if let Some(check) = matches.subcommand_matches("check") {
+        return Ok(Asked::Check(check_in(alloc, check)?));
+    }
+    script_asked(alloc, matches)
+}
+
+/// What they ask for, where that is no job.
+fn script_asked<'a>(alloc: Global, matches: &ArgMatches<'a>) -> Result<Asked<'a>, Refusal>
+    ensures { IfOk result (IsAsked matches.now) }
+{
+    if let Some(run) = matches.subcommand_matches("run") {
+        return Ok(Asked::Run(run_in(run)));
+    }
+    if let Some(list) = matches.subcommand_matches("list") {
+        return Ok(Asked::List(list_in(list)));
+    }
+    if let Some(draw) = matches.subcommand_matches("draw") {
+        return Ok(Asked::Draw(draw_in(draw)));
+    }
+    if let Some(play) = matches.subcommand_matches("play") {
+        return Ok(Asked::Play(play_in(play)));
+    }
+    meaning_asked(alloc, matches)
+}
+
+/// What they ask for, where that is no script either.
+fn meaning_asked<'a>(alloc: Global, matches: &ArgMatches<'a>) -> Result<Asked<'a>, Refusal>
+    ensures { IfOk result (IsAsked matches.now) }
+{
     if let Some(chip) = matches.subcommand_matches("sfdp") {
         return Ok(Asked::Sfdp(chip_in(chip)));
     }
@@ -61,45 +90,6 @@ fn asked_in<'a>(alloc: Global, matches: &ArgMatches<'a>) -> Result<Asked<'a>, Re
         Some(explain) => Ok(Asked::Explain(texts_in(alloc, explain, "words")?)),
         None => Err(Refusal::Usage),
     }
-}
-
-/// What they ask for, where that is of a job.
-fn job_asked<'a>(alloc: Global, matches: &ArgMatches<'a>) -> Result<Option<Asked<'a>>, Refusal>
-    ensures { IfOk result (λ asked. IfSome asked (IsAsked matches.now)) }
-{
-    if let Some(build) = matches.subcommand_matches("build") {
-        return Ok(Some(Asked::Build(GivenBuild {
-            job: given_in(alloc, build)?,
-            out: build.get_str("out"),
-        })));
-    }
-    if let Some(plan) = matches.subcommand_matches("plan") {
-        return Ok(Some(Asked::Plan(plan_in(alloc, plan)?)));
-    }
-    match matches.subcommand_matches("check") {
-        Some(check) => Ok(Some(Asked::Check(GivenCheck {
-            job: given_in(alloc, check)?,
-            script: check.get_str("script"),
-        }))),
-        None => Ok(None),
-    }
-}
-
-/// What they ask for, where that is of a script alone.
-fn script_asked<'a>(matches: &ArgMatches<'a>) -> Option<Asked<'a>>
-    ensures { IfSome result (IsAsked matches.now) }
-{
-    if let Some(run) = matches.subcommand_matches("run") {
-        return Some(Asked::Run(run_in(run)));
-    }
-    if let Some(list) = matches.subcommand_matches("list") {
-        return Some(Asked::List(list_in(list)));
-    }
-    if let Some(draw) = matches.subcommand_matches("draw") {
-        return Some(Asked::Draw(draw_in(draw)));
-    }
-    let play = matches.subcommand_matches("play")?;
-    Some(Asked::Play(play_in(play)))
 }
 
 /// The library's text, or want of memory.
@@ -132,6 +122,26 @@ fn given_in<'a>(alloc: Global, job: &ArgMatches<'a>) -> Result<Given<'a>, Refusa
         verify: job.get_flag("verify"),
         erased_only: job.get_flag("erased-only"),
         regions: texts_in(alloc, job, "regions")?,
+    })
+}
+
+/// The build.
+fn build_in<'a>(alloc: Global, build: &ArgMatches<'a>) -> Result<GivenBuild<'a>, Refusal>
+    ensures { IfOk result (IsBuildIn (found_of build.now)) }
+{
+    Ok(GivenBuild {
+        job: given_in(alloc, build)?,
+        out: build.get_str("out"),
+    })
+}
+
+/// The check of a script.
+fn check_in<'a>(alloc: Global, check: &ArgMatches<'a>) -> Result<GivenCheck<'a>, Refusal>
+    ensures { IfOk result (IsCheckIn (found_of check.now)) }
+{
+    Ok(GivenCheck {
+        job: given_in(alloc, check)?,
+        script: check.get_str("script"),
     })
 }
 

@@ -27,10 +27,10 @@ returns-in-Some-subcommand_matches-2 c = record {
   so = c.draw_in.ensures;
 }
 
-pub returns : goal.returns
-returns c = record {
-  named = c.in_ok-play.ensures.found.0 refl;
-  found = found_of c.in_ok-play.play.now;
-  behind = c.in_ok-play.ensures.rows;
+pub returns-in-Some-subcommand_matches-3 : goal.returns-in-Some-subcommand_matches-3
+returns-in-Some-subcommand_matches-3 c = record {
+  named = c.in-Some-subcommand_matches-3.ensures.found.0 refl;
+  found = found_of c.in-Some-subcommand_matches-3.play.now;
+  behind = c.in-Some-subcommand_matches-3.ensures.rows;
   so = c.play_in.ensures;
 }

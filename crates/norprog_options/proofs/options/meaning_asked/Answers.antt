@@ -1,0 +1,20 @@
+-- The command that was used is the one whose options are read.
+use Rattle.std.proofs.Common.{refl}
+use Rattle.clap.specs.Words.{found_of}
+use Rattle.norprog_options.proofs.options.meaning_asked.Goals as goal
+
+pub returns-in-Some : goal.returns-in-Some
+returns-in-Some c = record {
+  named = c.in-Some.ensures.found.0 refl;
+  found = found_of c.in-Some.chip.now;
+  behind = c.in-Some.ensures.rows;
+  so = c.chip_in.ensures;
+}
+
+pub returns-in_ok-texts_in-in-Some-subcommand_matches : goal.returns-in_ok-texts_in-in-Some-subcommand_matches
+returns-in_ok-texts_in-in-Some-subcommand_matches c = record {
+  named = c.in-Some-subcommand_matches.ensures.found.0 refl;
+  found = found_of c.in-Some-subcommand_matches.explain.now;
+  behind = c.in-Some-subcommand_matches.ensures.rows;
+  so = c.in_ok-texts_in-in-Some-subcommand_matches.ensures;
+}
