@@ -117,7 +117,7 @@ pub none_left : (o : Option ScriptFault) → or_fault o ≡ Ok tt → o ≡ None
 none_left None h = refl
 none_left (Some fault) h = cc
 
-fault_left : (o : Option ScriptFault) (fault : ScriptFault) → or_fault o ≡ Err fault → o ≡ Some fault
+pub fault_left : (o : Option ScriptFault) (fault : ScriptFault) → or_fault o ≡ Err fault → o ≡ Some fault
 fault_left None fault h = cc
 fault_left (Some f) fault h = cc
 
@@ -214,21 +214,20 @@ line_refused text steps rest line more n fault right first of here =
     refuses_by text n fault of (record { above = steps; rest = rest; line = line; more = more; right = right; first = first; here = here })
 
 -- an end line with another number
-count_told : (steps : List Step) (line : List ℕ) (fault : ScriptFault) → or_fault (count_fault (length steps) (drop 4 line)) ≡ Err fault
-    → IsOfLine (length steps + 2) fault
+pub count_told : (steps : ℕ) (line : List ℕ) (fault : ScriptFault) → or_fault (count_fault steps (drop 4 line)) ≡ Err fault → IsOfLine (steps + 2) fault
 count_told steps line fault told =
-    subst (λ (o : Option ScriptFault). IfSome o (IsOfLine (length steps + 2))) (fault_left _ fault told) (count_of_line (length steps) (drop 4 line))
+    subst (λ (o : Option ScriptFault). IfSome o (IsOfLine (steps + 2))) (fault_left _ fault told) (count_of_line steps (drop 4 line))
 
 pub count_refused : (text : List ℕ) (steps : List Step) (rest line more : List ℕ) (fault : ScriptFault) → IsRight text steps rest → BeginsWith rest line more → is_end line ≡ true
     → or_fault (count_fault (length steps) (drop 4 line)) ≡ Err fault → Refuses text fault
 count_refused text steps rest line more fault right first ends told =
-    line_refused text steps rest line more (length steps + 2) fault right first (count_told steps line fault told)
+    line_refused text steps rest line more (length steps + 2) fault right first (count_told (length steps) line fault told)
     (ap (λ b. if b then count_fault (length steps) (drop 4 line) else step_fault (length steps + 2) line) ends ∙ fault_left _ fault told)
 
 pub count_above : (text : List ℕ) (steps : List Step) (rest line : List ℕ) (fault : ScriptFault) → IsRight text steps rest
     → or_fault (count_fault (length steps) (drop 4 line)) ≡ Err fault → AreAbove text steps fault
 count_above text steps rest line fault right told =
-    above_by text steps fault (count_told steps line fault told) (record { rest = rest; right = right })
+    above_by text steps fault (count_told (length steps) line fault told) (record { rest = rest; right = right })
 
 -- a line of no step
 told_or_memory : (o : Option ScriptFault) (fault : ScriptFault) → TellsFault o fault → (fault ≡ Memory) ⊎ (o ≡ Some fault)

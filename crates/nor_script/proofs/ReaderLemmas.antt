@@ -19,7 +19,7 @@ use Rattle.nor_script.specs.Parts.{or_fault, TellsFault}
 use Rattle.nor_script.specs.Faults.{is_line_feed, BeginsWith, Refuses}
 use Rattle.nor_script.specs.Stream.{Reading, reading, Reads, HasBadLineNext, LacksHeader, IsNextFault, IsFirstFault, IsOutside, Advances, HasRead, Begins, OfText, IsScriptOf, TellsScript}
 use Rattle.nor_script.specs.Lines.{Lines, IsFirstLine, FindsLine, Comes, Pulls, ReadsHeader, SkipsHeader, GoesPast, ReadsEnd, ReadsStep}
-use Rattle.nor_script.proofs.ReadLemmas.{end_is, IsOfLine, step_told, none_left}
+use Rattle.nor_script.proofs.ReadLemmas.{end_is, IsOfLine, step_told, count_told, none_left, fault_left}
 use Rattle.nor_script.proofs.StreamLaws.{reads_then, reads_held, read_of, has_all, refused_at, no_header}
 
 -- a fault that is handed on
@@ -156,6 +156,27 @@ step_stops now steps line rest (BadCount n) first ends told = step_bad now steps
 step_stops now steps line rest (Header n) first ends told = step_bad now steps line rest (Header n) first ends told
 step_stops now steps line rest (NoEnd n) first ends told = step_bad now steps line rest (NoEnd n) first ends told
 step_stops now steps line rest (AfterEnd n) first ends told = step_bad now steps line rest (AfterEnd n) first ends told
+
+-- an end line that isn't
+pub count_bad : (now : Reading) (steps : ℕ) (line rest : List ℕ) (fault : ScriptFault) → BeginsWith now.held line rest → is_end line ≡ true
+    → or_fault (count_fault steps (drop 4 line)) ≡ Err fault → IsNextFault now steps fault
+count_bad now steps line rest fault first ends told =
+    let there : count_fault steps (drop 4 line) ≡ Some fault = fault_left _ fault told in
+    next_by now steps (steps + 2) fault (count_told steps line fault told) (record {
+      line = line;
+      more = rest;
+      first = first;
+      here = ap (λ b. if b then count_fault steps (drop 4 line) else step_fault (steps + 2) line) ends ∙ there;
+    })
+
+-- no line, for no fault of the text
+pub advance_failed : (a b : Reading) (steps : ℕ) (step : Step) (r : Result Bool ReadFault) (fault : ReadFault) → IsErrAnd r (λ e. e ≡ fault) → Reads a b []
+    → IsOutside fault → Advances a b steps step r
+advance_failed a b steps step (Ok x) fault is p out = absurd is
+advance_failed a b steps step (Err (Device failed)) fault is p out = p
+advance_failed a b steps step (Err (Script why)) fault is p out =
+    let memory : why ≡ Memory = subst IsOutside (sym is) out in
+    (p, subst (IsNextFault b steps) (sym memory) tt)
 
 -- the line of a step was read
 pub step_reads : (a : Reading) (ahead : Ahead) (before after : Lines) (kind : Kind) (upto : ℕ) (expect : List ℕ) → Reads a (reading ahead before.held) []

@@ -1,11 +1,11 @@
 -- The end line, and a line of no step.
-use Rattle.std.proofs.Common.{◌≡◌, true, false, [], drop, Ok, sym, ◌∙◌, ap, subst}
+use Rattle.std.proofs.Common.{◌≡◌, true, false, [], drop, Ok, Err, sym, ◌∙◌, ap, subst}
 use Rattle.nor_script.specs.Line.{is_end, count_fault}
 use Rattle.nor_script.specs.Parts.{or_fault}
 use Rattle.nor_script.specs.LineParts.{step_by}
 use Rattle.nor_script.specs.Stream.{reading, Reads, Steps, Advances, IsNextFault}
 use Rattle.nor_script.specs.Lines.{Lines}
-use Rattle.nor_script.proofs.ReaderLemmas.{found, right_end, end_advances, step_stops, stays, advance_refused, step_reads}
+use Rattle.nor_script.proofs.ReaderLemmas.{found, right_end, end_advances, step_stops, stays, advance_refused, advance_failed, count_bad, step_reads}
 use Rattle.nor_script.proofs.steps.StepReader.advance.Goals as goal
 
 pub returns-in-Some-clause-step : goal.returns-in-Some-clause-step
@@ -26,6 +26,30 @@ returns-in-Some-clause-step g c =
     (subst (λ n. Advances (before c.self.inside.lines.held) after n step c.read_end.result) steps
     (end_advances (before c.self.inside.lines.held) (reading (g.R.ByteIn.ahead c.find_line.new.source) lines.held) after lines.line c.self.inside.steps step c.read_end.result
     there.0 (right_end lines.line c.self.inside.steps ends counted) c.read_end.ensures.bytes))
+
+pub returns-in_err-find_line-clause-step : goal.returns-in_err-find_line-clause-step
+returns-in_err-find_line-clause-step g c =
+    let held : c.self.inside.lines.held ≡ c.args.self.now.held = ap (λ (s : Steps). s.held) c.self.view_is in
+    let there = c.in_err-find_line.ensures.lines in
+    advance_failed _ _ c.args.self.now.steps _ c.from_residual.result _ c.from_residual.ensures.1
+    (subst (λ l. Reads (reading (g.R.ByteIn.ahead c.args.source.now) l) (reading (g.R.ByteIn.ahead c.find_line.new.source) c.find_line.new.self.held) []) held there.0) there.1
+
+pub returns-in_err-check_count-clause-step : goal.returns-in_err-check_count-clause-step
+returns-in_err-check_count-clause-step g c =
+    let lines = c.find_line.new.self in
+    let fault = c.in_err-check_count.field-0.0 in
+    let held : c.self.inside.lines.held ≡ c.args.self.now.held = ap (λ (s : Steps). s.held) c.self.view_is in
+    let steps : c.self.inside.steps ≡ c.args.self.now.steps = ap (λ (s : Steps). s.steps) c.self.view_is in
+    let line : c.line.result.now ≡ lines.line = c.line.ensures in
+    let ends : is_end lines.line ≡ true = ap is_end (sym line) ∙ c.in-Some.ensures.cases.0 in
+    let counted : or_fault (count_fault c.self.inside.steps (drop 4 lines.line)) ≡ Err fault =
+    ap (λ l. or_fault (count_fault c.self.inside.steps (drop 4 l))) (sym line) ∙ ap (λ l. or_fault (count_fault c.self.inside.steps l)) (sym c.in-Some.ensures.cases.1)
+    ∙ sym c.check_count.ensures ∙ c.in_err-check_count.was in
+    let there = found _ _ lines c.in_ok-find_line.field-0 c.if-not-branch.false c.in_ok-find_line.ensures.lines in
+    let after = reading (g.R.ByteIn.ahead c.find_line.new.source) lines.held in
+    advance_refused (reading (g.R.ByteIn.ahead c.args.source.now) c.args.self.now.held) after c.args.self.now.steps _ c.from_residual-in_err-check_count.result fault
+    c.from_residual-in_err-check_count.ensures.1 (subst (λ l. Reads (reading (g.R.ByteIn.ahead c.args.source.now) l) after []) held there.0)
+    (subst (λ n. IsNextFault after n fault) steps (count_bad after c.self.inside.steps lines.line there.1.rest fault there.1.first ends counted))
 
 pub returns-in_err-kind-clause-step : goal.returns-in_err-kind-clause-step
 returns-in_err-kind-clause-step g c =
