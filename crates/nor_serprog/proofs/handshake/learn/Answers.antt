@@ -1,9 +1,7 @@
 -- Command by command.
-use Rattle.std.proofs.Common.{◌≡◌, ◌≢◌, true, false, [], refl, subst, arith, rules}
+use Rattle.std.proofs.Common.{◌≡◌, ◌≢◌, true, false, [], refl, arith, rules}
 use Rattle.nor_serprog.specs.declared.fault.Command.TheVariants as command
-use Rattle.nor_serprog.specs.Protocol.{answer}
-use Rattle.nor_serprog.specs.Exchange.{Talked}
-use Rattle.nor_serprog.specs.Greeting.{Learns, command_bytes, offers, first_version}
+use Rattle.nor_serprog.specs.Greeting.{Learns, offers, first_version}
 use Rattle.nor_base.proofs.FaultLaws.{answered}
 use Rattle.nor_serprog.proofs.GreetLemmas.{greeting_of, tells_not, word_done, version_done, version_is, commands_done}
 use Rattle.nor_serprog.proofs.handshake.learn.Goals as goal
