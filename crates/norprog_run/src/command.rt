@@ -145,7 +145,8 @@ fn play_to<S: Shelf>(
     requires limit { 0 < bench.limit }
     requires script { DoNotFail S.Input.count script }
     requires reader { S.Input.count content.old < 2 ^ 64 - 1 }
-    ensures played { IfOk result (IsPlayVerdict (IsMadeFor (S.facts shelf.now) path.now places.now inputs.now bench (S.Input.ahead content.old) len)
+    ensures played { IfOk result (IsPlayVerdict
+        (IsMadeFor (S.facts shelf.now) path.now places.now inputs.now bench (S.Input.ahead content.old) len)
         (IsTextOfFile S.Input.ahead script) (S.facts shelf.now).flushed) }
     ensures refused { IfErr result (RefusesRun (OrScript (S.facts shelf.now).lacked)
         (IsMadeFor (S.facts shelf.now) path.now places.now inputs.now bench (S.Input.ahead content.old) len) (IsTextOfFile S.Input.ahead script)) }
