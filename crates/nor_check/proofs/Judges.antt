@@ -22,23 +22,23 @@ use Rattle.nor_check.proofs.Members.{left_for_some}
 use Rattle.nor_check.proofs.Steps.{IsStepOfAll, step_of_all}
 
 -- one step more
-end_later : (n : ℕ) (b : Bool) (o : Option ℕ)
+pub end_later : (n : ℕ) (b : Bool) (o : Option ℕ)
     → (if b then at_difference (suc n) o else No (suc n) (why.Wrong wrong.NotIdleAtEnd)) ≡ later (if b then at_difference n o else No n (why.Wrong wrong.NotIdleAtEnd))
 end_later n true None = refl
 end_later n true (Some a) = ap (λ m. No m (why.Differs a)) (sym (add-one n))
 end_later n false o = ap (λ m. No m (why.Wrong wrong.NotIdleAtEnd)) (sym (add-one n))
 
-ended_later : (s : Setting) (target : List ℕ) (n : ℕ) (r : Result Chip Stop) → ended s target (suc n) (one_later r) ≡ later (ended s target n r)
+pub ended_later : (s : Setting) (target : List ℕ) (n : ℕ) (r : Result Chip Stop) → ended s target (suc n) (one_later r) ≡ later (ended s target n r)
 ended_later s target n (Ok c) = end_later n (is_settled s c) (first_difference c.array target)
 ended_later s target n (Err stop) = refl
 
-outcome_next : (s : Setting) (c d : Chip) (target : List ℕ) (x : Step) (xs : List Step) → step s c x ≡ Ok d
+pub outcome_next : (s : Setting) (c d : Chip) (target : List ℕ) (x : Step) (xs : List Step) → step s c x ≡ Ok d
     → outcome_from s c target (x ∷ xs) ≡ later (outcome_from s d target xs)
 unfolding outcome_from run
 outcome_next s c d target x xs h =
     ap (λ r. ended s target (suc (length xs)) (go_on c r (λ d. run s d xs))) h ∙ ended_later s target (length xs) (run s d xs)
 
-outcome_stops : (s : Setting) (c : Chip) (target : List ℕ) (x : Step) (xs : List Step) (cause : Wrong) → step s c x ≡ Err cause
+pub outcome_stops : (s : Setting) (c : Chip) (target : List ℕ) (x : Step) (xs : List Step) (cause : Wrong) → step s c x ≡ Err cause
     → outcome_from s c target (x ∷ xs) ≡ No 0 (why.Wrong cause)
 unfolding outcome_from run
 outcome_stops s c target x xs cause h = ap (λ r. ended s target (suc (length xs)) (go_on c r (λ d. run s d xs))) h
@@ -120,7 +120,7 @@ judges_step k target w x xs (Err cause) is rest = record {
   left = some_left w.busy;
   to_come = [];
   may = left_for_some w.busy;
-  so = λ busy. outcome_stops (one_like k busy false) (least_able w) target x xs cause (is.some busy);
+  so = λ busy. outcome_stops (one_like k busy false) (least_able w) target x xs cause (is.some busy (some_left w.busy) [] refl);
   first = λ busy keeps left to_come may.
       stops_first (one_like k busy keeps) (one_of w keeps left to_come) target x xs cause _ refl (is.first busy keeps left to_come may);
 }

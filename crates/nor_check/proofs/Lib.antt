@@ -14,3 +14,5 @@ mod Alike
 mod Spread
 mod Lockstep
 mod Feeding
+mod Shows
+mod Witnessed

@@ -1,6 +1,6 @@
 -- One of all chips, and what it is after an instruction.
-use Rattle.std.proofs.Common.{◌≡◌, ℕ, suc, ◌≤◌, Bool, true, false, not, ◌&&◌, List, [], ◌∷◌, drop, refl, sym, ◌∙◌, ap, arith, if◌then◌else◌}
-use Rattle.std.specs.Prelude.{pred}
+use Rattle.std.proofs.Common.{◌≡◌, ℕ, zero, suc, ◌≤◌, Bool, true, false, not, ◌&&◌, List, [], ◌∷◌, drop, refl, sym, ◌∙◌, ap, arith, inl, inr, if◌then◌else◌}
+use Rattle.std.specs.Prelude.{pred, ◌⊎◌}
 use Rattle.std.specs.List.{slice_index}
 use Rattle.std.proofs.Math.Bool.{and_self}
 use Rattle.nor_base.specs.declared.instruction.What.{What}
@@ -53,6 +53,23 @@ may_next busy what.QuadProgram left to_come may = tt
 may_next true what.Status left to_come may = tt
 may_next false what.Status left to_come may = ap pred may
 may_next busy other left to_come may = may
+
+-- a program or an erase begins the next of the busy times; else at most one status read is done
+pub how_next : (busy : Bool) (is : What) (left : ℕ) (to_come : List ℕ)
+    → ((next_left is left to_come ≡ slice_index to_come 0) × (next_come is to_come ≡ drop 1 to_come))
+    ⊎ ((next_come is to_come ≡ to_come) × (busy_after busy is ≡ true → (busy ≡ true) × (left ≤ suc (next_left is left to_come))))
+how_next busy (what.Erase kind) left to_come = inl (refl, refl)
+how_next busy what.Program left to_come = inl (refl, refl)
+how_next busy what.QuadProgram left to_come = inl (refl, refl)
+how_next busy what.Status zero to_come = inr (refl, λ still. (still, omega arith))
+how_next busy what.Status (suc left) to_come = inr (refl, λ still. (still, omega arith))
+how_next busy other left to_come = inr (refl, λ still. (still, omega arith))
+
+-- one that is busy just where the least able is may be left so
+pub may_where : (busy : Bool) (left : ℕ) → is_busy left ≡ is_busy (some_left busy) → MayBeLeft busy left
+may_where true left same = tt
+may_where false zero same = refl
+may_where false (suc left) same = cc
 
 -- and before one, so that they are these after it
 abbrev one_more : Bool → ℕ → ℕ

@@ -1,7 +1,8 @@
 -- One step of all chips: where all take it, each goes to one of those after it, and each of these comes from one before; where
 -- it goes wrong, some chip goes wrong so, and none for an earlier cause.
-use Rattle.std.proofs.Common.{◌≡◌, ℕ, suc, ◌≤◌, Bool, true, false, if◌then◌else◌, List, [], replicate, Option, Some, None, Result, Ok, Err, refl, sym, ◌∙◌, ap, arith, subst}
-use Rattle.std.specs.Prelude.{pred}
+use Rattle.std.proofs.Common.{◌≡◌, ℕ, suc, ◌≤◌, Bool, true, false, if◌then◌else◌, List, [], replicate, Option, Some, None, Result, Ok, Err, refl, sym, ◌∙◌, ap, arith, subst, inr, drop}
+use Rattle.std.specs.Prelude.{pred, ◌⊎◌}
+use Rattle.std.specs.List.{slice_index}
 use Rattle.std.specs.Str.{bytes_eq}
 use Rattle.std.proofs.lemmas.Slice.Eq.{bytes_eq-Decides}
 use Rattle.nor_base.specs.declared.instruction.What.{What}
@@ -13,7 +14,7 @@ use Rattle.nor_base.specs.declared.wrong.Wrong.{Wrong}
 use Rattle.nor_base.specs.declared.wrong.Wrong.TheVariants as wrong
 use Rattle.nor_base.specs.Parameters.{Parameters}
 use Rattle.nor_base.specs.Decoding.{Instruction, decode}
-use Rattle.nor_base.specs.Chip.{Setting, Chip}
+use Rattle.nor_base.specs.Chip.{Setting, Chip, is_busy}
 use Rattle.nor_base.specs.Effect.{after, answer, effect, effect_if, effect_of, is_out_of_range, is_status, status}
 use Rattle.nor_base.specs.Run.{done, matched, poll_clocks, polled, is_verify, step}
 use Rattle.nor_laws.specs.Laws.{PollEnds}
@@ -23,7 +24,7 @@ use Rattle.nor_check.specs.Order.{rank_of}
 use Rattle.nor_check.specs.Chips.{Kind, Chips, one_like, MayBeLeft, one_of, some_left, least_able, all_after}
 use Rattle.nor_check.specs.Judged.{all_taken, all_effect, all_done, all_matched, all_step}
 use Rattle.nor_check.proofs.Lines.{NotBelow}
-use Rattle.nor_check.proofs.Members.{left_for_some, next_left, next_come, prev_left, prev_come, may_next, may_prev, left_again, come_again, same_answer}
+use Rattle.nor_check.proofs.Members.{next_left, next_come, prev_left, prev_come, may_next, how_next, may_where, may_prev, left_again, come_again, same_answer}
 use Rattle.nor_check.proofs.Takes.{each_moves, same_refusal, refusal_rank, none_earlier}
 
 -- a step takes this one to one of those after it
@@ -31,6 +32,9 @@ pub record HasNext (k : Kind) (x : Step) (w v : Chips) (keeps : Bool) (left : �
   pub then_left : ℕ
   pub then_come : List ℕ
   pub may : MayBeLeft v.busy then_left
+  -- it took a program or an erase; or, where some may still be busy, no more than one status read
+  pub how : ((then_left ≡ slice_index to_come 0) × (then_come ≡ drop 1 to_come))
+      ⊎ ((then_come ≡ to_come) × (v.busy ≡ true → (w.busy ≡ true) × (left ≤ suc then_left)))
   pub steps : (busy : List ℕ) → step (one_like k busy keeps) (one_of w keeps left to_come) x ≡ Ok (one_of v keeps then_left then_come)
 
 -- this one of those after it comes from one before
@@ -45,7 +49,9 @@ pub record MovesAll (k : Kind) (x : Step) (w v : Chips) : Type 0 where
   pub back : (keeps : Bool) (left : ℕ) (to_come : List ℕ) → MayBeLeft v.busy left → HasPrevious k x w v keeps left to_come
 
 pub record StopsSome (k : Kind) (x : Step) (w : Chips) (cause : Wrong) : Type 0 where
-  pub some : (busy : List ℕ) → step (one_like k busy false) (least_able w) x ≡ Err cause
+  -- the latch goes with a change of mode, and it is busy where one may be
+  pub some : (busy : List ℕ) (left : ℕ) (to_come : List ℕ) → is_busy left ≡ is_busy (some_left w.busy)
+      → step (one_like k busy false) (one_of w false left to_come) x ≡ Err cause
   pub first : (busy : List ℕ) (keeps : Bool) (left : ℕ) (to_come : List ℕ) → MayBeLeft w.busy left
       → NotBelow (rank_of cause) (step (one_like k busy keeps) (one_of w keeps left to_come) x)
 
@@ -63,6 +69,7 @@ moves k x w d is each = record {
     then_left = next_left is left to_come;
     then_come = next_come is to_come;
     may = may_next w.busy is left to_come may;
+    how = how_next w.busy is left to_come;
     steps = λ busy. each busy keeps left to_come may;
   };
   back = λ keeps left to_come may. record {
@@ -81,7 +88,7 @@ each_stops : (k : Kind) (x : Step) (w : Chips) (cause : Wrong)
     → ((busy : List ℕ) (keeps : Bool) (left : ℕ) (to_come : List ℕ) → MayBeLeft w.busy left → step (one_like k busy keeps) (one_of w keeps left to_come) x ≡ Err cause)
     → StopsSome k x w cause
 each_stops k x w cause each = record {
-  some = λ busy. each busy false (some_left w.busy) [] (left_for_some w.busy);
+  some = λ busy left to_come same. each busy false left to_come (may_where w.busy left same);
   first = λ busy keeps left to_come may. subst (NotBelow (rank_of cause)) (sym (each busy keeps left to_come may)) (let low : rank_of cause ≤ rank_of cause = omega arith in low);
 }
 
@@ -100,7 +107,8 @@ send_effect k w clocks i (Ok r) is h =
     moves k (Send clocks) w r.0 i.what (λ busy keeps left to_come may.
     sent (one_like k busy keeps) (one_of w keeps left to_come) clocks (Some i) is ∙ ap done (each_moves k w i busy keeps left to_come r may h))
 send_effect k w clocks i (Err cause) is h = record {
-  some = λ busy. sent (one_like k busy false) (least_able w) clocks (Some i) is ∙ ap done (same_refusal k w i busy cause h);
+  some = λ busy left to_come same.
+      sent (one_like k busy false) (one_of w false left to_come) clocks (Some i) is ∙ ap done (same_refusal k w i busy left to_come cause same h);
   first = λ busy keeps left to_come may.
       subst (NotBelow (rank_of cause)) (sym (sent (one_like k busy keeps) (one_of w keeps left to_come) clocks (Some i) is))
       (done_below (rank_of cause) _ (none_earlier k w i busy keeps left to_come cause may h));
@@ -121,6 +129,7 @@ poll_if k w clocks true ends is = record {
     then_left = 0;
     then_come = to_come;
     may = refl;
+    how = inr (refl, λ still. cc);
     steps = λ busy.
         let e : step (one_like k busy keeps) (one_of w keeps left to_come) (Poll clocks) ≡ polled (one_like k busy keeps) (suc left) (one_of w keeps left to_come) =
         ap (λ b. if b then polled (one_like k busy keeps) (suc left) (one_of w keeps left to_come) else Err wrong.Unknown) is in
@@ -217,7 +226,9 @@ verify_effect : (k : Kind) (w : Chips) (clocks expect : List ℕ) (i : Instructi
     → IsStepOfAll k (Verify clocks expect) w (all_matched expect (all_taken w i.what r))
 verify_effect k w clocks expect i (Ok r) verify is quiet h = verify_bytes k w clocks expect i r (bytes_eq r.1 expect) verify is quiet h refl
 verify_effect k w clocks expect i (Err cause) verify is quiet h = record {
-  some = λ busy. verified (one_like k busy false) (least_able w) clocks expect (Some i) verify is ∙ ap (matched expect) (same_refusal k w i busy cause h);
+  some = λ busy left to_come same.
+      verified (one_like k busy false) (one_of w false left to_come) clocks expect (Some i) verify is
+      ∙ ap (matched expect) (same_refusal k w i busy left to_come cause same h);
   first = λ busy keeps left to_come may.
       let low = refusal_rank k w i cause h in
       subst (NotBelow (rank_of cause)) (sym (verified (one_like k busy keeps) (one_of w keeps left to_come) clocks expect (Some i) verify is))

@@ -1,20 +1,25 @@
 -- A checker that is fed with steps, one after another (this project's).
-use Rattle.std.specs.Prelude.{ℕ, ◌+◌, List, Option, Some, None, Result, Ok, Err}
+use Rattle.std.specs.Prelude.{◌≡◌, ℕ, ◌+◌, List, Option, Some, None, Result, Ok, Err}
 use Rattle.nor_base.specs.declared.step.Step.{Step}
 use Rattle.nor_base.specs.declared.wrong.Wrong.{Wrong}
+use Rattle.nor_check.specs.declared.verdict.Why.{Why}
 use Rattle.nor_check.specs.declared.verdict.Why.TheVariants as why
 use Rattle.nor_check.specs.declared.verdict.Verdict.{Verdict}
 use Rattle.nor_check.specs.declared.verdict.Verdict.TheVariants.{Yes, No}
 use Rattle.nor_check.specs.Chips.{Together}
-use Rattle.nor_check.specs.Pages.{judged_each}
+use Rattle.nor_check.specs.Judged.{judged}
+use Rattle.nor_check.specs.Pages.{IsOneOf, judged_each}
+use Rattle.nor_check.specs.Witness.{in_a_row, reads_from}
 
--- a checker after some steps: what the chips are to hold at the end, how many steps there were, the chips of each page, and
--- the verdict where one is reached
+-- a checker after some steps: what the chips are to hold at the end, how many steps there were, the chips of each page, the
+-- verdict where one is reached, and then the page of chips that show it; how many status reads were sent right before
 pub record Fed : Type 0 where
   pub target : List ℕ
   pub number : ℕ
   pub chips : List Together
   pub stopped : Option Verdict
+  pub page : ℕ
+  pub reads : ℕ
 
 -- a verdict counted from so many steps earlier
 abbrev pub after_steps : ℕ → Verdict → Verdict
@@ -30,6 +35,27 @@ abbrev pub verdict_at : ℕ → Result (Unit {0}) Wrong → Option Verdict
 verdict_at n (Ok u) = None
 verdict_at n (Err cause) = Some (No n (why.Wrong cause))
 
+-- how many status reads were sent in a row after a step that was answered so: one that goes wrong isn't counted
+abbrev pub reads_after : ℕ → Step → Result (Unit {0}) Wrong → ℕ
+reads_after reads x (Ok u) = in_a_row reads x
+reads_after reads x (Err cause) = reads
+
 -- the verdict if these steps come, and then the end
 unfoldable pub to_come : Fed → List Step → Verdict
 to_come f more = reached f.stopped (after_steps f.number (judged_each f.target f.chips more))
+
+-- the chips of a page, one of some, show this from a moment on
+pub record IsOfPage (target : List ℕ) (ts : List Together) (more : List Step) (at : ℕ) (cause : Why) (page : ℕ) : Type 0 where
+  pub these : Together
+  pub among : IsOneOf these ts
+  pub its_page : these.kind.page ≡ page
+  pub so : judged these.kind target these.chips more ≡ No at cause
+
+abbrev pub IsShownBy : Option Verdict → Fed → List Step → ℕ → Why → ℕ → ℕ → Type 0
+IsShownBy (Some verdict) f more step cause page reads = (verdict ≡ No step cause) × (f.page ≡ page) × (f.reads ≡ reads)
+IsShownBy None f more step cause page reads =
+    (at : ℕ) × (step ≡ at + f.number) × IsOfPage f.target f.chips more at cause page × (reads_from f.reads at more ≡ reads)
+
+-- if these steps come, and then the end, the chips of this page go wrong at this step so, right after so many status reads
+unfoldable pub IsShown : Fed → List Step → ℕ → Why → ℕ → ℕ → Type 0
+IsShown f more step cause page reads = IsShownBy f.stopped f more step cause page reads

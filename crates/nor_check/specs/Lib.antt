@@ -7,3 +7,4 @@ pub mod View
 pub mod Apart
 pub mod Pages
 pub mod Fed
+pub mod Witness

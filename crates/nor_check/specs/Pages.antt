@@ -1,5 +1,5 @@
 -- All chips of a meaning and a start together, page by page (this project's).
-use Rattle.std.specs.Prelude.{◌≡◌, ℕ, Bool, true, false, nat_lt, if◌then◌else◌, List, [], ◌∷◌, map, Result, Ok, Err}
+use Rattle.std.specs.Prelude.{◌≡◌, ◌⊎◌, ℕ, Bool, true, false, nat_lt, if◌then◌else◌, List, [], ◌∷◌, map, Result, Ok, Err}
 use Rattle.std.specs.List.{AllByRecursion}
 use Rattle.nor_base.specs.declared.meaning.Start.{Start}
 use Rattle.nor_base.specs.declared.step.Step.{Step}
@@ -76,3 +76,33 @@ judged_each target ts steps = worst_of (λ t. judged t.kind target t.chips steps
 -- the chips of each page have arrays of this size
 abbrev pub HaveSize : ℕ → List Together → Type 0
 HaveSize size ts = AllByRecursion (λ (t : Together). size ≡ t.kind.meaning.size) ts
+
+-- those of one of some pages
+abbrev pub IsOneOf : Together → List Together → Type 0
+IsOneOf t [] = ⊥
+IsOneOf t (u ∷ us) = (t ≡ u) ⊎ IsOneOf t us
+
+-- the chips of this page, one of some, don't take a step, for this cause
+pub record IsRefusedBy (ts : List Together) (x : Step) (cause : Wrong) (page : ℕ) : Type 0 where
+  pub these : Together
+  pub among : IsOneOf these ts
+  pub its_page : these.kind.page ≡ page
+  pub so : all_step these.kind these.chips x ≡ Err cause
+
+-- where the answer to a step is that some don't take it, those of this page don't
+abbrev pub IsToldBy : List Together → Result (Unit {0}) Wrong → Step → ℕ → Type 0
+IsToldBy ts (Ok u) x page = Unit {0}
+IsToldBy ts (Err cause) x page = IsRefusedBy ts x cause page
+
+-- an answer to a step is told in place of the one before it
+abbrev pub is_sooner : Result (Unit {0}) Wrong → Result (Unit {0}) Wrong → Bool
+is_sooner (Ok u) other = false
+is_sooner (Err a) (Ok u) = true
+is_sooner (Err a) (Err b) = nat_lt (rank_of a) (rank_of b)
+
+-- a verdict is that of the chips of this page, one of some
+pub record IsJudgedBy (judge : Together → Verdict) (ts : List Together) (v : Verdict) (page : ℕ) : Type 0 where
+  pub these : Together
+  pub among : IsOneOf these ts
+  pub its_page : these.kind.page ≡ page
+  pub so : judge these ≡ v

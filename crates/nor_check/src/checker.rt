@@ -1,18 +1,20 @@
 //! The checker.
 
-ghost use Rattle.std.specs.Prelude.{◌≡◌, ◌↔◌, ◌<◌, ◌+◌, ◌-◌, ◌^◌, ◌∷◌, [], List, length, IfOk, OnErr};
+ghost use Rattle.std.specs.Prelude.{◌≡◌, ◌↔◌, ℕ, ◌<◌, ◌+◌, ◌-◌, ◌^◌, ◌==◌, ◌∷◌, [], List, length, IfOk, OnErr};
 ghost use Rattle.nor_base.specs.Chip.{IsPossible};
 ghost use Rattle.nor_base.specs.Run.{DoesTaskOnEvery};
 ghost use Rattle.nor_base.specs.declared.step.Step.{Step};
 ghost use Rattle.nor_base.specs.declared.step.Step.TheVariants.{Send, Poll, Verify};
-ghost use Rattle.nor_check.specs.declared.verdict.Verdict.TheVariants.{Yes};
-ghost use Rattle.nor_check.specs.Fed.{to_come, verdict_at};
+ghost use Rattle.nor_check.specs.declared.verdict.Verdict.TheVariants.{Yes, No};
+ghost use Rattle.nor_check.specs.declared.verdict.Why.{Why};
+ghost use Rattle.nor_check.specs.Fed.{IsShown, reads_after, to_come, verdict_at};
 ghost use Rattle.nor_check.specs.View.{step_of};
+ghost use Rattle.nor_check.specs.Witness.{Witnesses};
 ghost use Rattle.nor_check.specs.Worst.{IsWorst};
 
 use crate::pages::AllPages;
-use crate::verdict::{CheckFault, Verdict, Why};
-use crate::view::{StepView, view_of};
+use crate::verdict::{CheckFault, Verdict, Why, Witness};
+use crate::view::{StepView, in_a_row, view_of};
 use nor_base::{Meaning, Start, Step, Wrong};
 use nor_laws::{effects, polls, verifying_reads};
 use std::alloc::Global;
@@ -29,6 +31,8 @@ pub struct StepChecker<'a> {
     want: &'a [u8],
     number: u64,
     stopped: Option<Verdict>,
+    page: u32,
+    reads: u64,
 }
 
 impl<'a> Model for StepChecker<'a> {
@@ -36,12 +40,12 @@ impl<'a> Model for StepChecker<'a> {
 
     ghost Value = { Fed };
 
-    ghost use Rattle.std.specs.Prelude.{◌≡◌, length, None};
+    ghost use Rattle.std.specs.Prelude.{◌≡◌, ◌≤◌, length, None};
     ghost use Rattle.nor_check.specs.Pages.{HaveSize};
 
-    ghost view = { λ c. record { target = c.want.now; number = c.number; chips = c.chips; stopped = c.stopped } };
+    ghost view = { λ c. record { target = c.want.now; number = c.number; chips = c.chips; stopped = c.stopped; page = c.page; reads = c.reads } };
 
-    ghost invariant = { λ c. c.stopped ≡ None → HaveSize (length c.want.now) c.chips };
+    ghost invariant = { λ c. (c.stopped ≡ None → HaveSize (length c.want.now) c.chips) × (c.reads ≤ c.number) };
 }
 
 impl<'a> StepChecker<'a> {
@@ -60,6 +64,8 @@ impl<'a> StepChecker<'a> {
         requires mode { IsPossible meaning.now start }
         ensures worst { (steps : List Step) → IsWorst meaning.now start have.items want.now steps (to_come result steps) }
         ensures yes { (steps : List Step) → (to_come result steps ≡ Yes) ↔ DoesTaskOnEvery meaning.now start have.items want.now steps }
+        ensures shown { (steps : List Step) (step : ℕ) (why : Why) (page reads : ℕ) → IsShown result steps step why page reads
+            → (n : ℕ) → reads < n → Witnesses meaning.now start have.items want.now steps step why n (step == length steps) page }
         ensures number { result.number ≡ 0 }
     {
         effects();
@@ -70,6 +76,8 @@ impl<'a> StepChecker<'a> {
             want,
             number: 0,
             stopped: None,
+            page: meaning.page,
+            reads: 0,
         }
     }
 
@@ -86,6 +94,8 @@ impl<'a> StepChecker<'a> {
     pub fn step(&mut self, alloc: Global, step: &Step) -> Result<(), CheckFault>
         requires { self.old.number < 2 ^ 64 - 1 }
         ensures fed { IfOk result (λ _. (more : List Step) → to_come self.new more ≡ to_come self.old (step.now ∷ more)) }
+        ensures shown { IfOk result (λ _. (more : List Step) (at : ℕ) (why : Why) (page reads : ℕ) → IsShown self.new more at why page reads
+            → IsShown self.old (step.now ∷ more) at why page reads) }
         ensures number { IfOk result (λ _. self.new.number ≡ self.old.number + 1) }
         ensures refused { OnErr result (self.new ≡ self.old) }
     {
@@ -96,6 +106,8 @@ impl<'a> StepChecker<'a> {
     pub fn send(&mut self, alloc: Global, clocks: &[u8]) -> Result<(), CheckFault>
         requires { self.old.number < 2 ^ 64 - 1 }
         ensures fed { IfOk result (λ _. (more : List Step) → to_come self.new more ≡ to_come self.old (Send clocks.now ∷ more)) }
+        ensures shown { IfOk result (λ _. (more : List Step) (step : ℕ) (why : Why) (page reads : ℕ) → IsShown self.new more step why page reads
+            → IsShown self.old (Send clocks.now ∷ more) step why page reads) }
         ensures number { IfOk result (λ _. self.new.number ≡ self.old.number + 1) }
         ensures refused { OnErr result (self.new ≡ self.old) }
     {
@@ -106,6 +118,8 @@ impl<'a> StepChecker<'a> {
     pub fn poll(&mut self, alloc: Global, clocks: &[u8]) -> Result<(), CheckFault>
         requires { self.old.number < 2 ^ 64 - 1 }
         ensures fed { IfOk result (λ _. (more : List Step) → to_come self.new more ≡ to_come self.old (Poll clocks.now ∷ more)) }
+        ensures shown { IfOk result (λ _. (more : List Step) (step : ℕ) (why : Why) (page reads : ℕ) → IsShown self.new more step why page reads
+            → IsShown self.old (Poll clocks.now ∷ more) step why page reads) }
         ensures number { IfOk result (λ _. self.new.number ≡ self.old.number + 1) }
         ensures refused { OnErr result (self.new ≡ self.old) }
     {
@@ -117,6 +131,8 @@ impl<'a> StepChecker<'a> {
         requires { self.old.number < 2 ^ 64 - 1 }
         ensures fed { IfOk result (λ _. (more : List Step) →
             to_come self.new more ≡ to_come self.old (Verify clocks.now expect.now ∷ more)) }
+        ensures shown { IfOk result (λ _. (more : List Step) (step : ℕ) (why : Why) (page reads : ℕ) → IsShown self.new more step why page reads
+            → IsShown self.old (Verify clocks.now expect.now ∷ more) step why page reads) }
         ensures number { IfOk result (λ _. self.new.number ≡ self.old.number + 1) }
         ensures refused { OnErr result (self.new ≡ self.old) }
     {
@@ -127,6 +143,8 @@ impl<'a> StepChecker<'a> {
     fn feed(&mut self, alloc: Global, step: StepView<'_>) -> Result<(), CheckFault>
         requires { self.old.number < 2 ^ 64 - 1 }
         ensures fed { IfOk result (λ _. (more : List Step) → to_come self.new more ≡ to_come self.old (step_of step.entry ∷ more)) }
+        ensures shown { IfOk result (λ _. (more : List Step) (at : ℕ) (why : Why) (page reads : ℕ) → IsShown self.new more at why page reads
+            → IsShown self.old (step_of step.entry ∷ more) at why page reads) }
         ensures number { IfOk result (λ _. self.new.number ≡ self.old.number + 1) }
         ensures refused { OnErr result (self.new ≡ self.old) }
     {
@@ -134,8 +152,9 @@ impl<'a> StepChecker<'a> {
             self.number += 1;
             return Ok(());
         }
-        let answer = self.chips.step(alloc, step)?;
+        let answer = self.chips.step(alloc, step, &mut self.page)?;
         self.stopped = verdict_at(self.number, answer);
+        self.reads = reads_after(self.reads, step, answer);
         self.number += 1;
         Ok(())
     }
@@ -147,6 +166,20 @@ impl<'a> StepChecker<'a> {
         match self.stopped {
             Some(verdict) => verdict,
             None => self.chips.verdict(self.number, self.want),
+        }
+    }
+
+    /// A chip that shows the verdict if no step follows, where that is a no.
+    pub fn witness(&self) -> Witness
+        ensures { (step : ℕ) (why : Why) → to_come self.now [] ≡ No step why → IsShown self.now [] step why result.page result.reads }
+    {
+        let page = match self.stopped {
+            Some(_) => self.page,
+            None => self.chips.page(self.number, self.want),
+        };
+        Witness {
+            reads: self.reads,
+            page,
         }
     }
 }
@@ -161,6 +194,17 @@ fn verdict_at(step: u64, answer: Result<(), Wrong>) -> Option<Verdict>
             let why = Why::Wrong(why);
             Some(Verdict::No { step, why })
         }
+    }
+}
+
+/// How many status reads were sent in a row after a step that was answered so: one that goes wrong isn't counted.
+fn reads_after(reads: u64, step: StepView<'_>, answer: Result<(), Wrong>) -> u64
+    requires { reads < 2 ^ 64 - 1 }
+    ensures { result ≡ reads_after reads (step_of step.entry) answer }
+{
+    match answer {
+        Ok(()) => in_a_row(reads, step),
+        Err(_) => reads,
     }
 }
 
@@ -198,4 +242,31 @@ pub fn check(
         checker.step(alloc, step)?;
     }
     Ok(checker.verdict())
+}
+
+/// What [`check`] answers and, where that is a no, a chip that shows it: a run of the steps on that chip, from `have` on, goes
+/// wrong just at that step and so; at the end, where no step does, it isn't settled, or holds another byte there.
+pub fn check_shown(
+    alloc: Global,
+    steps: &[Step],
+    meaning: &Meaning,
+    start: &Start,
+    have: &[u8],
+    want: &[u8],
+) -> Result<(Verdict, Witness), CheckFault>
+    requires have { length have.now ≡ meaning.now.size }
+    requires want { length want.now ≡ meaning.now.size }
+    requires mode { IsPossible meaning.now start.now }
+    ensures worst { IfOk result (λ answer. IsWorst meaning.now start.now have.now want.now steps.now answer.0) }
+    ensures shown { IfOk result (λ answer. (step : ℕ) (why : Why) → answer.0 ≡ No step why → (n : ℕ) → answer.1.reads < n
+        → Witnesses meaning.now start.now have.now want.now steps.now step why n (step == length steps.now) answer.1.page) }
+{
+    let array = Vec::from_slice(alloc, have)?;
+    let mut checker = StepChecker::new(alloc, meaning, *start, array, want);
+    for step in steps {
+        checker.step(alloc, step)?;
+    }
+    let verdict = checker.verdict();
+    let witness = checker.witness();
+    Ok((verdict, witness))
 }

@@ -114,6 +114,13 @@ impl<'a> AllChips<'a> {
         page != meaning.page && meaning.may_page(page)
     }
 
+    /// Their page.
+    pub(crate) fn page(&self) -> u32
+        ensures { result ≡ self.now.kind.page }
+    {
+        self.page
+    }
+
     /// Whether the one that takes the fewest instructions is busy.
     fn may_be_busy(&self) -> bool
         ensures { result ≡ is_busy (some_left self.now.chips.busy) }

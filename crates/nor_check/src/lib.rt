@@ -13,7 +13,7 @@ mod pages;
 mod verdict;
 mod view;
 
-pub use checker::{StepChecker, check};
-pub use laws::one_verdict;
+pub use checker::{StepChecker, check, check_shown};
+pub use laws::{each_no_is_shown, one_verdict};
 pub use nor_base::Wrong;
-pub use verdict::{CheckFault, Verdict, Why};
+pub use verdict::{CheckFault, Verdict, Why, Witness};

@@ -5,11 +5,11 @@ ghost use Rattle.nor_base.specs.Chip.{page_sizes};
 ghost use Rattle.nor_check.specs.Chips.{one_like, last_settled};
 ghost use Rattle.nor_check.specs.Outcome.{at_end};
 ghost use Rattle.nor_check.specs.Order.{earlier};
-ghost use Rattle.nor_check.specs.Pages.{others, with_page, begun_each, StepsEach, worst_of, HaveSize};
+ghost use Rattle.nor_check.specs.Pages.{others, with_page, begun_each, StepsEach, IsToldBy, IsJudgedBy, worst_of, HaveSize};
 ghost use Rattle.nor_check.specs.View.{step_of};
 
 use crate::chips::AllChips;
-use crate::verdict::{Verdict, earlier, first_of};
+use crate::verdict::{Verdict, earlier, first_of, page_of, told_of};
 use crate::view::StepView;
 use nor_base::{Meaning, Start, Wrong};
 use std::alloc::{AllocError, Global};
@@ -63,25 +63,30 @@ impl<'a> AllPages<'a> {
     }
 
     /// One step of all of them; why some don't take it, by the first cause. It asks for memory just where it is the first
-    /// that tells chips of different pages apart; where that is refused, nothing was done.
+    /// that tells chips of different pages apart; where that is refused, nothing was done. Where some don't take it, `told` is then
+    /// the page of such chips.
     pub(crate) fn step(
         &mut self,
         alloc: Global,
         step: StepView<'_>,
+        told: &mut u32,
     ) -> Result<Result<(), Wrong>, AllocError>
         ensures step { IfOk result (λ answer. StepsEach self.old self.new answer (step_of step.entry)) }
+        ensures told { IfOk result (λ answer. IsToldBy self.old answer (step_of step.entry) told.new) }
         ensures refused { OnErr result (self.new ≡ self.old) }
+        ensures untold { OnErr result (told.new ≡ told.old) }
     {
         if !self.alike {
-            return Ok(step_apart(&mut self.own, &mut self.others, step));
+            return Ok(step_apart(&mut self.own, &mut self.others, step, told));
         }
         if !self.own.tells_apart(step) {
+            *told = self.own.page();
             return Ok(self.own.step(step));
         }
         let others = on_other_pages(alloc, &self.own)?;
         self.others = others;
         self.alike = false;
-        Ok(step_apart(&mut self.own, &mut self.others, step))
+        Ok(step_apart(&mut self.own, &mut self.others, step, told))
     }
 
     /// The verdict after so many steps, none of which went wrong on any chip.
@@ -94,6 +99,18 @@ impl<'a> AllPages<'a> {
             return own;
         }
         earliest(own, self.others.as_slice(), steps, target)
+    }
+
+    /// The page of chips that have this verdict.
+    pub(crate) fn page(&self, steps: u64, target: &[u8]) -> u32
+        requires { HaveSize (length target.now) self.now }
+        ensures { IsJudgedBy (λ t. at_end (one_like t.kind [] true) target.now steps (last_settled t.chips)) self.now
+            (worst_of (λ t. at_end (one_like t.kind [] true) target.now steps (last_settled t.chips)) self.now) result }
+    {
+        if self.alike {
+            return self.own.page();
+        }
+        page_of_earliest(&self.own, self.others.as_slice(), steps, target)
     }
 }
 
@@ -115,13 +132,19 @@ fn step_apart<'a>(
     own: &mut AllChips<'a>,
     others: &mut Vec<AllChips<'a>>,
     step: StepView<'_>,
+    told: &mut u32,
 ) -> Result<(), Wrong>
+    ensures told { IsToldBy (own.old ∷ others.old.items) result (step_of step.entry) told.new }
     ensures step { StepsEach (own.old ∷ others.old.items) (own.new ∷ others.new.items) result (step_of step.entry) }
     ensures stays { own.new.kind ≡ own.old.kind }
 {
+    *told = own.page();
     let mut answer = own.step(step);
     for chips in others.iter_mut() {
-        answer = first_of(answer, chips.step(step));
+        let next = chips.step(step);
+        let page = chips.page();
+        *told = told_of(answer, next, *told, page);
+        answer = first_of(answer, next);
     }
     answer
 }
@@ -137,4 +160,21 @@ fn earliest(own: Verdict, all: &[AllChips<'_>], steps: u64, target: &[u8]) -> Ve
         worst = earlier(worst, chips.verdict(steps, target));
     }
     worst
+}
+
+/// The page of chips that have the earliest verdict at the end.
+fn page_of_earliest(own: &AllChips<'_>, all: &[AllChips<'_>], steps: u64, target: &[u8]) -> u32
+    requires { HaveSize (length target.now) (own.now ∷ all.now) }
+    ensures { IsJudgedBy (λ t. at_end (one_like t.kind [] true) target.now steps (last_settled t.chips)) (own.now ∷ all.now)
+        (worst_of (λ t. at_end (one_like t.kind [] true) target.now steps (last_settled t.chips)) (own.now ∷ all.now)) result }
+{
+    let mut worst = own.verdict(steps, target);
+    let mut page = own.page();
+    for chips in all {
+        let verdict = chips.verdict(steps, target);
+        let next = chips.page();
+        page = page_of(worst, verdict, page, next);
+        worst = earlier(worst, verdict);
+    }
+    page
 }

@@ -1,9 +1,9 @@
 //! What a check says.
 
-ghost use Rattle.std.specs.Prelude.{◌≡◌};
+ghost use Rattle.std.specs.Prelude.{◌≡◌, if◌then◌else◌};
 ghost use Rattle.nor_check.specs.declared.verdict.CheckFault.TheVariants.{Memory};
 ghost use Rattle.nor_check.specs.Order.{rank_of, rank, is_before, earlier};
-ghost use Rattle.nor_check.specs.Pages.{first_of};
+ghost use Rattle.nor_check.specs.Pages.{first_of, is_sooner};
 
 use nor_base::Wrong;
 use std::alloc::AllocError;
@@ -30,6 +30,17 @@ pub enum Why {
     Wrong(Wrong),
     /// At the end the array of a chip isn't the target at this address, the lowest such.
     Differs(u32),
+}
+
+/// A chip that shows a no. Beside these numbers it has the meaning and the start of the check, each of its programs and erases
+/// is busy for one number of status reads, any above `reads`, and it keeps a set latch just where the step of the verdict is the
+/// number of steps.
+#[derive(Clone, Copy, PartialEq, Eq, Drop)]
+pub struct Witness {
+    /// How many status reads are sent right before the step, in a row.
+    pub reads: u64,
+    /// The bytes of its page.
+    pub page: u32,
 }
 
 /// Why there is no verdict.
@@ -91,6 +102,24 @@ pub(crate) fn first_of(one: Result<(), Wrong>, other: Result<(), Wrong>) -> Resu
     }
 }
 
+/// Of the pages of two answers that of the one told.
+pub(crate) fn told_of(one: Result<(), Wrong>, other: Result<(), Wrong>, page: u32, next: u32) -> u32
+    ensures { result ≡ (if is_sooner other one then next else page) }
+{
+    if is_sooner(other, one) { next } else { page }
+}
+
+/// Whether an answer to a step is told in place of the one before it.
+fn is_sooner(next: Result<(), Wrong>, answer: Result<(), Wrong>) -> bool
+    ensures { result ≡ is_sooner next answer }
+{
+    match (next, answer) {
+        (Ok(()), _) => false,
+        (Err(_), Ok(())) => true,
+        (Err(because), Err(cause)) => rank_of(because) < rank_of(cause),
+    }
+}
+
 /// Whether the first verdict tells of an earlier step than the second or, at the same one, of an earlier cause.
 fn is_before(first: Verdict, second: Verdict) -> bool
     ensures { result ≡ is_before first second }
@@ -117,4 +146,11 @@ pub(crate) fn earlier(first: Verdict, second: Verdict) -> Verdict
     } else {
         first
     }
+}
+
+/// Of the pages of two verdicts that of the earlier.
+pub(crate) fn page_of(first: Verdict, second: Verdict, page: u32, next: u32) -> u32
+    ensures { result ≡ (if is_before second first then next else page) }
+{
+    if is_before(second, first) { next } else { page }
 }

@@ -15,4 +15,4 @@ mod BitLemmas
 mod SpelledLaws
 mod SymbolLemmas
 mod SingleLaws
-mod VerifyLaws
+pub mod VerifyLaws

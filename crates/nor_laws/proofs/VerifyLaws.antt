@@ -153,6 +153,17 @@ begins_05 clocks has is =
     let whole : clocks ≡ codes "00000101" ++ drop 8 clocks = sym (take-append-drop 8 clocks) ∙ ap (λ xs. xs ++ drop 8 clocks) front in
     ap (λ xs. starts_with nat_eq xs (codes "00000101")) whole ∙ starts_05 (drop 8 clocks)
 
+-- clocks that are a status read begin with these eight
+pub status_begins : (m : Parameters) (mode4 : Bool) (clocks : List ℕ) (i : Instruction) → decode m mode4 clocks ≡ Some i → is_status i.what ≡ true
+    → starts_with nat_eq clocks (codes "00000101") ≡ true
+status_begins m mode4 clocks i h status =
+    let by = seen_by m mode4 clocks i (known i.what status) h in
+    begins_05 clocks by.has (status_opcode m mode4 (opcode clocks) by.r by.found (ap is_status (sym by.its_what) ∙ status))
+  where
+    known : (w : What) → is_status w ≡ true → is_broken w ≡ false
+    known what.Broken is = cc
+    known other is = refl
+
 -- so what verifies is a read of the array, or can't be
 record Verifies (clocks : List ℕ) : Type 0 where
   some : samples_some clocks ≡ true

@@ -5,3 +5,4 @@ mod Spelling
 mod Runs
 mod Rereads
 mod Small
+mod Fewest

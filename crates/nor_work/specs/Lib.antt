@@ -4,3 +4,4 @@ pub mod Exists
 pub mod Able
 pub mod Runs
 pub mod Small
+pub mod Fewest

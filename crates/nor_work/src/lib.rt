@@ -8,6 +8,7 @@ ghost use Rattle.nor_work.specs.Laws.{PlannedDoesTask, OneUnitInTheMaking};
 ghost use Rattle.nor_work.specs.Able.{OperationIsDone, SmallestAgree, BlocksStay, PagesStay};
 ghost use Rattle.nor_work.specs.Exists.{PlannedCanBeSpelled, ThereIsPlannedWork, OnePlannedWork};
 ghost use Rattle.nor_work.specs.Least.{ErasesNeeded, ErasesBlocks, ErasesApart, ErasesLargest, UnitsJoin, NoScriptErasesLess};
+ghost use Rattle.nor_work.specs.Fewest.{NoScriptProgramsLess, NoneOnEveryChip, OneServesTwo, NoScriptHasFewerErases};
 ghost use Rattle.nor_work.specs.Runs.{PlannedErasesNeeded, ErasesOnce, ErasesCounted, ProgramsCounted, PlannedIsVerified, NoneVerifies, ErasedBytes};
 ghost use Rattle.nor_work.specs.Small.{SmallIsWorkable, SmallWorkErases};
 
@@ -61,6 +62,19 @@ pub fn units_join()
 /// No script erases less: whatever does the task, on any chip, erases each needed address.
 pub fn least_erasure()
     ensures { NoScriptErasesLess }
+{}
+
+/// No script has fewer programs: whatever does the task, on a chip with the meaning's own page, programs as often as the planned
+/// work at least. That is so without the profile of erased bytes; with it one program may go round a page and serve two pieces.
+pub fn fewest_programs()
+    ensures fewest { NoScriptProgramsLess }
+    ensures every { NoneOnEveryChip }
+    ensures wraps { OneServesTwo }
+{}
+
+/// No script that erases just the needed area has fewer erases, where each is one that the strategy has.
+pub fn fewest_erases()
+    ensures { NoScriptHasFewerErases }
 {}
 
 /// What a run of planned work shows, on every chip. It erases just the needed area, each address once, and it erases and

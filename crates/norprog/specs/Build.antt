@@ -8,6 +8,7 @@ use Rattle.nor_base.specs.declared.meaning.Strategy.{Strategy}
 use Rattle.nor_base.specs.declared.step.Step.{Step}
 use Rattle.nor_base.specs.Parameters.{Parameters}
 use Rattle.nor_base.specs.Device.{Ahead, Gives, IsAtEnd}
+use Rattle.nor_base.specs.Array.{are_bytes}
 use Rattle.nor_base.specs.Script.{IsScript}
 use Rattle.nor_base.specs.Target.{is_ignored}
 use Rattle.nor_base.specs.Chip.{Setting, IsChipOf, ready}
@@ -79,6 +80,9 @@ pub record RunsAsPlanned (t : Task) (m : Parameters) (content goal : List ℕ) (
   pub once : (a : ℕ) → times_erased s seen a ≡ (if is_needed m (is_due m content goal) a then 1 else 0)
   pub least : (other : Setting) (others : List Step) (a : ℕ) → IsChipOf m (start_of t) other → DoesTask other content goal others
       → is_erased_by s seen a ≡ true → is_erased_by other (events other (ready other content) others) a ≡ true
+  -- where no profile asks for erased bytes, whatever does the task on a chip with the page that all have has at least as many programs
+  pub fewest : m.erased_only ≡ false → are_bytes content ≡ true → (other : Setting) (others : List Step) → IsChipOf m (start_of t) other
+      → other.page ≡ m.page → DoesTask other content goal others → report.programs ≤ programs_seen (events other (ready other content) others)
   pub erases : erases_seen seen ≡ report.erases
   pub programs : programs_seen seen ≡ report.programs
 

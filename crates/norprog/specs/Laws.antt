@@ -2,6 +2,7 @@
 use Rattle.nor_laws.specs.Laws.{EventsAreTrail}
 use Rattle.nor_laws.specs.Spelling.{HasSpelling}
 use Rattle.nor_work.specs.Exists.{PlannedCanBeSpelled}
+use Rattle.nor_work.specs.Fewest.{NoScriptProgramsLess}
 use Rattle.nor_work.specs.Laws.{PlannedDoesTask, OneUnitInTheMaking}
 use Rattle.nor_work.specs.Least.{ErasesBlocks, ErasesApart, ErasesLargest, NoScriptErasesLess}
 use Rattle.nor_work.specs.Runs.{PlannedErasesNeeded, ErasesOnce, ErasesCounted, ProgramsCounted, PlannedIsVerified, NoneVerifies}
@@ -21,5 +22,6 @@ pub record Laws : Type 0 where
   pub verified : PlannedIsVerified
   pub unverified : NoneVerifies
   pub least : NoScriptErasesLess
+  pub fewest : NoScriptProgramsLess
   pub spelled : PlannedCanBeSpelled
   pub has : HasSpelling

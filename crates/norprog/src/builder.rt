@@ -21,7 +21,10 @@ use nor_laws::{run_events, spelling};
 use nor_script::{begin, finish};
 use nor_steps::{StepWriter, Tally};
 use nor_target::ignored;
-use nor_work::{erased_blocks, least_erasure, planned_runs, planned_work, there_is_planned_work};
+use nor_work::{
+    erased_blocks, fewest_programs, least_erasure, planned_runs, planned_work,
+    there_is_planned_work,
+};
 use std::alloc::Global;
 
 /// Writes the script that programs a chip: run on any idle, unprotected chip of the inputs with the content that the
@@ -74,6 +77,7 @@ fn planned_work_does_the_task()
     planned_runs();
     there_is_planned_work();
     least_erasure();
+    fewest_programs();
     erased_blocks();
     spelling();
     run_events();

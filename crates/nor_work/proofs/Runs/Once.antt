@@ -73,9 +73,9 @@ held_within m page level have want u (Some b) a sound h =
 abbrev pub holding : Parameters → ℕ → List WorkUnit → ℕ
 holding m a us = sum_by (λ (u : WorkUnit). cond (block_holds_it m a u.erase) 1 0) us
 
-record AtMostOne (m : Parameters) (a low : ℕ) (us : List WorkUnit) : Type 0 where
-  before : a < low → holding m a us ≡ 0
-  most : holding m a us ≤ 1
+pub record AtMostOne (m : Parameters) (a low : ℕ) (us : List WorkUnit) : Type 0 where
+  pub before : a < low → holding m a us ≡ 0
+  pub most : holding m a us ≤ 1
 
 one_more : (m : Parameters) (page : ℕ) (level have want : List ℕ) (a low : ℕ) (u : WorkUnit) (us : List WorkUnit) (b : Bool) → low ≤ u.start
     → IsSoundBy m page level have want u u.erase → block_holds_it m a u.erase ≡ b → AtMostOne m a (u.start + u.size) us → AtMostOne m a low (u ∷ us)
@@ -89,7 +89,7 @@ one_more m page level have want a low u us false rises sound is rest =
     let most = rest.most in
     record { before = λ first. (let none = rest.before (omega (arith, first, rises)) in omega (arith, sum, none)); most = omega (arith, sum, most) }
 
-at_most_one : (m : Parameters) (page : ℕ) (level have want : List ℕ) (a : ℕ) (us : List WorkUnit) (low : ℕ) → AreSoundUnits m page level have want low us
+pub at_most_one : (m : Parameters) (page : ℕ) (level have want : List ℕ) (a : ℕ) (us : List WorkUnit) (low : ℕ) → AreSoundUnits m page level have want low us
     → AtMostOne m a low us
 at_most_one m page level have want a [] low sound = record { before = λ first. refl; most = omega arith }
 at_most_one m page level have want a (u ∷ us) low sound =

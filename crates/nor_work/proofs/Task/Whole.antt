@@ -26,7 +26,7 @@ pub level_at : (m : Parameters) (start : Start) (have want : List ℕ) (x : ℕ)
 unfolding levelled
 level_at m start have want x inside = slice_index-each _ have x inside
 
-setting_of : (m : Parameters) (start : Start) (page : ℕ) (have want : List ℕ) → IsWorkable m start have want → may_page m page ≡ true
+pub setting_of : (m : Parameters) (start : Start) (page : ℕ) (have want : List ℕ) → IsWorkable m start have want → may_page m page ≡ true
     → IsSetting m page (levelled m (strategy m start) (is_due m have want) have) have want (erased_at m (strategy m start) (is_due m have want))
 setting_of m start page have want w may = record {
   some_page = some_page m w.accepted;
@@ -40,7 +40,7 @@ setting_of m start page have want w may = record {
   one_page = λ first whole. in_chip_page m page first w.accepted may whole;
 }
 
-all_pages : (m : Parameters) (start : Start) (have want : List ℕ) → IsWorkable m start have want → EndsAt m.page 0 (m.size / m.page) m.size
+pub all_pages : (m : Parameters) (start : Start) (have want : List ℕ) → IsWorkable m start have want → EndsAt m.page 0 (m.size / m.page) m.size
 all_pages m start have want w =
     let all : m.size / m.page * m.page + m.size % m.page ≡ m.size = div-add-mod' m.size m.page in
     ends_at m.page (m.size / m.page) 0 m.size (omega (arith, all, whole_chip m w.accepted))

@@ -67,7 +67,7 @@ clear_by m page level have want erased x None s inside is apart =
         not-false (may_program m (slice_index have x) (slice_index want x))
         (ap (λ b. b && not (may_program m (slice_index have x) (slice_index want x))) (sym apart) ∙ due)
 
-clear_at : (m : Parameters) (page : ℕ) (level have want : List ℕ) (erased : ℕ → Option Block) (x : ℕ) → IsSetting m page level have want erased
+pub clear_at : (m : Parameters) (page : ℕ) (level have want : List ℕ) (erased : ℕ → Option Block) (x : ℕ) → IsSetting m page level have want erased
     → x < m.size → IsClear m level want x
 clear_at m page level have want erased x s inside = clear_by m page level have want erased x (erased x) s inside refl
 
@@ -153,7 +153,7 @@ units_lower m page level have want low a rises same (u ∷ us) sound = (
 )
 
 -- at a page's start: no block goes on from before it, or one does, and ends later
-abbrev IsFresh : (ℕ → Option Block) → ℕ → Type 0
+abbrev pub IsFresh : (ℕ → Option Block) → ℕ → Type 0
 IsFresh erased start = (b : Block) → erased start ≡ Some b → b.start ≡ start
 
 -- a page that isn't erased
@@ -177,7 +177,7 @@ page_walk m page level have want erased start (p ∷ ps) rest s whole inside non
 )
 
 -- past a page that isn't erased no block goes on
-fresh_past_page : (m : Parameters) (page : ℕ) (level have want : List ℕ) (erased : ℕ → Option Block) (start : ℕ) → IsSetting m page level have want erased
+pub fresh_past_page : (m : Parameters) (page : ℕ) (level have want : List ℕ) (erased : ℕ → Option Block) (start : ℕ) → IsSetting m page level have want erased
     → start % m.page ≡ 0 → erased start ≡ None → IsFresh erased (start + m.page)
 fresh_past_page m page level have want erased start s whole none c is =
     let c_is = s.erasing.block (start + m.page) c is in
@@ -190,7 +190,7 @@ fresh_past_page m page level have want erased start s whole none c is =
     ]
 
 -- past a block's end no block goes on
-fresh_past_block : (m : Parameters) (page : ℕ) (level have want : List ℕ) (erased : ℕ → Option Block) (start : ℕ) (b : Block) → IsSetting m page level have want erased
+pub fresh_past_block : (m : Parameters) (page : ℕ) (level have want : List ℕ) (erased : ℕ → Option Block) (start : ℕ) (b : Block) → IsSetting m page level have want erased
     → ((x : ℕ) → b.start ≤ x → x < b.start + b.size → erased x ≡ Some b) → b.start < start → start ≡ b.start + b.size → IsFresh erased start
 fresh_past_block m page level have want erased start b s all before ends c is =
     let c_is = s.erasing.block start c is in

@@ -1,16 +1,18 @@
 -- From a job to what a build promises of its inputs.
-use Rattle.std.proofs.Common.{◌≡◌, ℕ, ◌+◌, ◌-◌, Bool, not, ◌&&◌, cond, nat_lt, nat_le, List, [], ◌∷◌, length, map, Option, refl, sym, ◌∙◌, ap, subst, arith}
+use Rattle.std.proofs.Common.{◌≡◌, ℕ, zero, suc, ◌+◌, ◌-◌, ◌<◌, ◌≤◌, Bool, true, not, ◌&&◌, cond, nat_lt, nat_le, List, [], ◌∷◌, length, map, Option, refl, sym, ◌∙◌, ap, subst, arith, ltb-true}
 use Rattle.std.specs.Prelude.{count_by, sum_by, is_some}
 use Rattle.std.specs.Option.{option_map_or}
-use Rattle.std.specs.List.{fold, AllByRecursion}
+use Rattle.std.specs.List.{fold, slice_index, AllByRecursion}
+use Rattle.std.proofs.lemmas.Bool.{and_parts}
 use Rattle.std.proofs.lemmas.List.{length-map}
 use Rattle.nor_base.specs.declared.meaning.Start.{Start}
 use Rattle.nor_base.specs.declared.meaning.Strategy.{Strategy}
 use Rattle.nor_base.specs.declared.step.Step.{Step}
 use Rattle.nor_base.specs.Accepted.{IsAccepted}
+use Rattle.nor_base.specs.Array.{are_bytes}
 use Rattle.nor_base.specs.Chip.{Setting, IsChipOf, begins4, ready}
 use Rattle.nor_base.specs.Device.{Ahead}
-use Rattle.nor_base.specs.Events.{events}
+use Rattle.nor_base.specs.Events.{events, programs_seen}
 use Rattle.nor_base.specs.Need.{is_due}
 use Rattle.nor_base.specs.Parameters.{Parameters}
 use Rattle.nor_base.specs.Planned.{planned, planned_ops, planned_units, ArePlanned, IsInTheMaking, IsWorkable}
@@ -80,6 +82,12 @@ mapped_all : {X Y : Type 0} (P : Y → Type 0) (f : X → Y) (xs : List X) → A
 mapped_all P f [] all = tt
 mapped_all P f (x ∷ xs) all = (all.0, mapped_all P f xs all.1)
 
+-- numbers below 256 are so at each place, and 0 past their end
+bytes_at : (xs : List ℕ) → are_bytes xs ≡ true → (k : ℕ) → slice_index xs k < 256
+bytes_at [] h k = omega arith
+bytes_at (x ∷ xs) h zero = ltb-true x 256 (and_parts (nat_lt x 256) (are_bytes xs) h).0
+bytes_at (x ∷ xs) h (suc k) = bytes_at xs (and_parts (nat_lt x 256) (are_bytes xs) h).1 k
+
 -- what is seen of them on every chip
 runs_so : Laws → (t : Task) (image : Pairs) (regions : List Region) (m : Parameters) (content goal : List ℕ) (steps : List Step) (report : Report)
     → IsWorkable m (start_of t) content goal → ArePlanned m (start_of t) t.verify content goal steps
@@ -94,6 +102,9 @@ runs_so laws t image regions m content goal steps report w are told s is = recor
   once = λ a. laws.once m (start_of t) t.verify content goal steps w are s is a;
   least = λ other others a is' does erased.
       laws.least m (start_of t) other content goal others a w.accepted is' does (sym (laws.exact m (start_of t) t.verify content goal steps w are s is a) ∙ erased);
+  fewest = λ plain small other others is' page does.
+      subst (λ n. n ≤ programs_seen (events other (ready other content) others)) (sym (ap (λ (r : Report). r.programs) told))
+      (laws.fewest m (start_of t) other content goal others w (bytes_at content small) plain is' page does);
   erases = laws.erases m (start_of t) t.verify content goal steps w are s is ∙ sym (ap (λ (r : Report). r.erases) told);
   programs = laws.programs m (start_of t) t.verify content goal steps w are s is ∙ sym (ap (λ (r : Report). r.programs) told);
 }

@@ -16,6 +16,7 @@ returns c = record {
   verified = c.planned_runs.ensures.verified;
   unverified = c.planned_runs.ensures.unverified;
   least = c.least_erasure.ensures;
+  fewest = c.fewest_programs.ensures.fewest;
   spelled = c.there_is_planned_work.ensures.spelled;
   has = c.spelling.ensures.has;
 }

@@ -1,25 +1,58 @@
 -- One step more.
-use Rattle.std.proofs.Common.{◌∷◌, ◌+◌, Option, length, sym, ◌∙◌, ap}
+use Rattle.std.proofs.Common.{◌∷◌, ◌+◌, ◌≤◌, Option, length, sym, subst, ◌∙◌, ap}
 use Rattle.nor_check.specs.declared.verdict.Verdict.{Verdict}
-use Rattle.nor_check.specs.Fed.{Fed, to_come}
+use Rattle.nor_check.specs.Fed.{Fed, IsShown, to_come}
 use Rattle.nor_check.specs.View.{step_of}
 use Rattle.nor_check.proofs.Feeding.{stays, feeds, feeds_size, none_is}
+use Rattle.nor_check.proofs.Witnessed.{feeds_shown, stays_shown, reads_most}
 use Rattle.nor_check.proofs.checker.StepChecker.feed.Goals as goal
 
 pub returns-then-is_some-clause-fed : goal.returns-then-is_some-clause-fed
 returns-then-is_some-clause-fed c = λ more.
-    stays c.self.inside.want.now c.self.inside.number (c.self.inside.number + 1) c.self.inside.chips c.self.inside.stopped (step_of c.args.step) more c.if-is_some.ensures
+    stays c.self.inside.page c.self.inside.reads c.self.inside.page c.self.inside.reads c.self.inside.want.now c.self.inside.number (c.self.inside.number + 1) c.self.inside.chips c.self.inside.stopped (step_of c.args.step) more c.if-is_some.ensures
     ∙ ap (λ (f : Fed). to_come f (step_of c.args.step ∷ more)) c.self.view_is
 
+pub returns-then-is_some-clause-shown : goal.returns-then-is_some-clause-shown
+returns-then-is_some-clause-shown c = λ more step why page reads h.
+    subst (λ (f : Fed). IsShown f (step_of c.args.step ∷ more) step why page reads) c.self.view_is
+    (stays_shown c.self.inside.want.now c.self.inside.number (c.self.inside.number + 1) c.self.inside.page c.self.inside.reads c.self.inside.chips (step_of c.args.step) more
+    c.self.inside.stopped step why page reads c.if-is_some.ensures h)
+
 pub invariant_of-self-2 : goal.invariant_of-self-2
-invariant_of-self-2 c = λ none.
-    feeds_size (length c.self.inside.want.now) c.self.inside.number c.self.inside.chips c.step.new.self (step_of c.args.step) c.in_ok-answer.answer
-    (c.self.invariant (none_is c.self.inside.stopped c.if-is_some.ensures)) c.in_ok-answer.ensures.step (sym c.verdict_at-self-inside.ensures ∙ none)
+invariant_of-self-2 c = (
+  λ none.
+      feeds_size (length c.self.inside.want.now) c.self.inside.number c.self.inside.chips c.step.new.self (step_of c.args.step) c.in_ok-answer.answer
+      (c.self.invariant.0 (none_is c.self.inside.stopped c.if-is_some.ensures)) c.in_ok-answer.ensures.step (sym c.verdict_at-self-inside.ensures ∙ none),
+  subst (λ n. n ≤ c.self.inside.number + 1) (sym c.reads_after-self-inside.ensures)
+      (reads_most c.self.inside.reads c.self.inside.number (step_of c.args.step) c.in_ok-answer.answer c.self.invariant.1),
+)
 
 pub returns-clause-fed : goal.returns-clause-fed
 returns-clause-fed c = λ more.
-    ap (λ (o : Option Verdict). to_come (record { target = c.self.inside.want.now; number = c.self.inside.number + 1; chips = c.step.new.self; stopped = o }) more)
+    ap (λ (o : Option Verdict). to_come (record {
+      target = c.self.inside.want.now;
+      number = c.self.inside.number + 1;
+      chips = c.step.new.self;
+      stopped = o;
+      page = c.step.new.told;
+      reads = c.reads_after-self-inside.result;
+    }) more)
     c.verdict_at-self-inside.ensures
-    ∙ feeds c.self.inside.want.now c.self.inside.number c.self.inside.chips c.step.new.self c.self.inside.stopped (step_of c.args.step) more c.in_ok-answer.answer c.if-is_some.ensures
-    c.in_ok-answer.ensures.step
+    ∙ feeds c.self.inside.page c.self.inside.reads c.step.new.told c.reads_after-self-inside.result c.self.inside.want.now c.self.inside.number c.self.inside.chips c.step.new.self
+    c.self.inside.stopped (step_of c.args.step) more c.in_ok-answer.answer c.if-is_some.ensures c.in_ok-answer.ensures.step
     ∙ ap (λ (f : Fed). to_come f (step_of c.args.step ∷ more)) c.self.view_is
+
+pub returns-clause-shown : goal.returns-clause-shown
+returns-clause-shown c = λ more step why page reads h.
+    subst (λ (f : Fed). IsShown f (step_of c.args.step ∷ more) step why page reads) c.self.view_is
+    (feeds_shown c.self.inside.want.now c.self.inside.number c.self.inside.reads c.reads_after-self-inside.result c.self.inside.page c.step.new.told c.self.inside.chips c.step.new.self
+    (step_of c.args.step) more c.self.inside.stopped c.in_ok-answer.answer step why page reads c.if-is_some.ensures c.in_ok-answer.ensures.step c.in_ok-answer.ensures.told
+    c.reads_after-self-inside.ensures
+    (subst (λ (o : Option Verdict). IsShown (record {
+      target = c.self.inside.want.now;
+      number = c.self.inside.number + 1;
+      chips = c.step.new.self;
+      stopped = o;
+      page = c.step.new.told;
+      reads = c.reads_after-self-inside.result;
+    }) more step why page reads) c.verdict_at-self-inside.ensures h))

@@ -1,23 +1,27 @@
 -- No step yet.
-use Rattle.std.proofs.Common.{length, sym, ◌∙◌, ap, subst}
+use Rattle.std.proofs.Common.{length, sym, ◌∙◌, ap, subst, arith}
 use Rattle.nor_check.specs.Chips.{begun}
 use Rattle.nor_check.specs.Pages.{HaveSize, judged_each}
 use Rattle.nor_check.specs.Worst.{IsWorst}
 use Rattle.nor_check.proofs.Ends.{yes_exactly}
 use Rattle.nor_check.proofs.Feeding.{before_any}
 use Rattle.nor_check.proofs.Spread.{size_each}
+use Rattle.nor_check.proofs.Witnessed.{begins_shown}
 use Rattle.nor_check.proofs.WorstPages.{worst_of_each}
 use Rattle.nor_check.proofs.checker.StepChecker.new.Goals as goal
 
 pub invariant_of-result : goal.invariant_of-result
-invariant_of-result c = λ none.
-    subst (HaveSize (length c.args.want.now)) (sym c.new.ensures)
-    (size_each (length c.args.want.now) (begun c.args.meaning.now c.args.start c.args.meaning.now.page c.args.have.items) c.requires.want)
+invariant_of-result c = (
+  λ none.
+      subst (HaveSize (length c.args.want.now)) (sym c.new.ensures)
+      (size_each (length c.args.want.now) (begun c.args.meaning.now c.args.start c.args.meaning.now.page c.args.have.items) c.requires.want),
+  omega arith,
+)
 
 pub returns-clause-worst : goal.returns-clause-worst
 returns-clause-worst c = λ steps.
     subst (IsWorst c.args.meaning.now c.args.start c.args.have.items c.args.want.now steps)
-    (ap (λ ts. judged_each c.args.want.now ts steps) (sym c.new.ensures) ∙ before_any c.args.want.now c.new.result steps)
+    (ap (λ ts. judged_each c.args.want.now ts steps) (sym c.new.ensures) ∙ before_any c.args.want.now c.new.result c.meaning.inside.page steps)
     (worst_of_each c.args.meaning.now c.args.start c.args.have.items c.args.want.now steps c.polls.ensures.ends c.verifying_reads.ensures)
 
 pub returns-clause-yes : goal.returns-clause-yes
@@ -25,5 +29,10 @@ returns-clause-yes c = λ steps.
     yes_exactly c.args.meaning.now c.args.start c.args.have.items c.args.want.now steps _ c.effects.ensures.keeps c.polls.ensures.ends
     (c.requires.have ∙ sym c.requires.want)
     (subst (IsWorst c.args.meaning.now c.args.start c.args.have.items c.args.want.now steps)
-    (ap (λ ts. judged_each c.args.want.now ts steps) (sym c.new.ensures) ∙ before_any c.args.want.now c.new.result steps)
+    (ap (λ ts. judged_each c.args.want.now ts steps) (sym c.new.ensures) ∙ before_any c.args.want.now c.new.result c.meaning.inside.page steps)
     (worst_of_each c.args.meaning.now c.args.start c.args.have.items c.args.want.now steps c.polls.ensures.ends c.verifying_reads.ensures))
+
+pub returns-clause-shown : goal.returns-clause-shown
+returns-clause-shown c = λ steps step why page reads h n low.
+    begins_shown c.args.meaning.now c.args.start c.args.have.items c.args.want.now steps step why _ page reads n c.polls.ensures.ends c.verifying_reads.ensures
+    c.new.result c.new.ensures h low

@@ -9,5 +9,5 @@ returns-in-Some c = told_now c.args.self.now c.in-Some.verdict (ap (λ (f : Fed)
 
 pub returns-in-None : goal.returns-in-None
 returns-in-None c =
-    c.verdict.ensures ∙ ends_now c.self.inside.want.now c.self.inside.number c.self.inside.chips c.self.inside.stopped c.in-None.is
+    c.verdict.ensures ∙ ends_now c.self.inside.want.now c.self.inside.number c.self.inside.page c.self.inside.reads c.self.inside.chips c.self.inside.stopped c.in-None.is
     ∙ ap (λ (f : Fed). to_come f []) c.self.view_is
