@@ -10,12 +10,17 @@ use Rattle.nor_base.specs.Chip.{Setting, Chip, is_settled, ready}
 use Rattle.nor_base.specs.Port.{Shown}
 use Rattle.nor_chip.specs.Ready.{ready_chip}
 use Rattle.nor_base.specs.Effect.{effect}
-use Rattle.nor_base.specs.Run.{Stop, Halt, poll_clocks, says_busy, is_verify, done, matched, halt_on, poll_or_halt, polled_for, step_for, play_on, played, trail}
+use Rattle.nor_base.specs.Run.{Stop, Halt, poll_clocks, says_busy, is_verify, done, matched, halt_on, poll_or_halt, polled_for, step_for, play_on, played, trail, DoesTaskOnEvery}
+use Rattle.nor_check.specs.declared.verdict.Verdict.TheVariants.{No as Says}
+use Rattle.nor_check.specs.declared.verdict.Why.{Why}
+use Rattle.nor_check.specs.Worst.{IsWorst}
 use Rattle.nor_play.specs.Play.{at_end, play, EndsPlay, Plays}
 use Rattle.nor_play.specs.declared.fault.PlayFault.{PlayFault}
 use Rattle.nor_play.specs.declared.fault.PlayFault.TheVariants as fault
 use Rattle.nor_base.specs.Step.{step_clocks}
 use Rattle.nor_base.proofs.OutcomeLaws.{later_ok}
+use Rattle.norprog_play.specs.declared.rehearsal.Rehearsal.TheVariants as rehearsal
+use Rattle.norprog_play.specs.Rehearsal.{Rehearses}
 
 -- the chip in memory takes these clocks, and is then so
 abbrev pub Takes : Setting → Chip → List ℕ → Chip → Type 0
@@ -93,11 +98,26 @@ pub without_end : (s : Setting) (count : ℕ) (r : Result Chip Stop) (d : Chip) 
 without_end s count (Ok c) d h = at_rest count c d (is_settled s c) h
 without_end s count (Err stop) d h = h
 
--- a play on a ready chip
-pub well : (before after : Shown) (s : Setting) (content : List ℕ) (steps : List Step) (count : ℕ) → before ≡ ready_chip s content → EndsPlay before after 1 steps count
-    → ((d : Chip) × (play s 1 (ready s content) steps ≡ Ok d)) × (count ≡ length (trail s (ready s content) steps))
-well before after s content steps count is ends =
-    ((after.chip, subst (λ (b : Shown). play b.setting 1 b.chip steps ≡ Ok after.chip) is ends.ends), subst (λ (b : Shown). count ≡ length (trail b.setting b.chip steps)) is ends.counted)
+-- a play on a ready chip that leaves these bytes, judged by them
+pub well : (before after : Shown) (s : Setting) (content left : List ℕ) (steps : List Step) (count : ℕ) → before ≡ ready_chip s content → EndsPlay before after 1 steps count
+    → left ≡ after.chip.array → DoesTaskOnEvery s.meaning s.start content left steps → Rehearses s (ready s content) steps (rehearsal.Well count)
+well before after s content left steps count is ends holds every = (
+  record {
+    left = after.chip;
+    ends = subst (λ (b : Shown). play b.setting 1 b.chip steps ≡ Ok after.chip) is ends.ends;
+    every = subst (λ (l : List ℕ). DoesTaskOnEvery s.meaning s.start content l steps) holds every;
+  },
+  subst (λ (b : Shown). count ≡ length (trail b.setting b.chip steps)) is ends.counted,
+)
+
+pub other : (before after : Shown) (s : Setting) (content left : List ℕ) (steps : List Step) (count at : ℕ) (why : Why) → before ≡ ready_chip s content
+    → EndsPlay before after 1 steps count → left ≡ after.chip.array → IsWorst s.meaning s.start content left steps (Says at why)
+    → Rehearses s (ready s content) steps (rehearsal.No at why)
+other before after s content left steps count at why is ends holds worst = record {
+  left = after.chip;
+  ends = subst (λ (b : Shown). play b.setting 1 b.chip steps ≡ Ok after.chip) is ends.ends;
+  worst = subst (λ (l : List ℕ). IsWorst s.meaning s.start content l steps (Says at why)) holds worst;
+}
 
 pub wrong_at : (before after : Shown) (s : Setting) (content : List ℕ) (steps : List Step) (at : ℕ) (why : Wrong) (f : PlayFault) → before ≡ ready_chip s content
     → f ≡ fault.Wrong at why → Plays before after 1 steps (Err f) → (d : Chip) × (play s 1 (ready s content) steps ≡ Err (record { at = at; why = why; chip = d }))

@@ -15,7 +15,8 @@ use Rattle.norprog_play.specs.Carried.{AreCarried, IsFirstNotCarried}
 use Rattle.norprog_play.specs.declared.early.Early.{Early}
 use Rattle.norprog_play.specs.declared.early.Early.TheVariants.{Ends, Goes}
 use Rattle.norprog_play.specs.declared.ending.Ending.{Ending}
-use Rattle.norprog_play.specs.declared.ending.Ending.TheVariants.{Wrong as GoesWrong, Failed}
+use Rattle.norprog_play.specs.declared.ending.Ending.TheVariants.{Wrong as GoesWrong, No, Failed}
+use Rattle.norprog_play.specs.Rehearsal.{DoesSame, DoesOther}
 
 -- a ready chip that is never busy, with this content
 abbrev pub chip_with : Parameters → Start → List ℕ → Shown
@@ -34,16 +35,16 @@ GoesWrongInMemory shown steps at why = (left : Chip) × (play shown.setting 1 sh
 abbrev pub GoesWellInMemory : Shown → List Step → Type 0
 GoesWellInMemory shown steps = (left : Chip) × (play shown.setting 1 shown.chip steps ≡ Ok left)
 
--- they go well on it, and this one is the first that is no operation of any device
+-- they do the same on every chip, and this one is the first that is no operation of any device
 pub record IsFirstOfNone (shown : Shown) (steps : List Step) (at : ℕ) : Type 0 where
-  pub well : GoesWellInMemory shown steps
+  pub same : DoesSame shown.setting shown.chip steps
   pub limits : Limits
   pub widest : AreWidest limits
   pub first : IsFirstNotCarried limits steps at
 
--- they go well on it, and each is an operation of some device
+-- they go well on it, do the same on every chip of its meaning and start, and each is an operation of some device
 pub record MayPlay (shown : Shown) (steps : List Step) : Type 0 where
-  pub well : GoesWellInMemory shown steps
+  pub same : DoesSame shown.setting shown.chip steps
   pub limits : Limits
   pub widest : AreWidest limits
   pub carried : AreCarried limits steps
@@ -51,6 +52,7 @@ pub record MayPlay (shown : Shown) (steps : List Step) : Type 0 where
 -- they end so whatever the device is
 abbrev pub EndsInMemory : Shown → List Step → Ending → Type 0
 EndsInMemory shown steps (GoesWrong at why) = GoesWrongInMemory shown steps at why
+EndsInMemory shown steps (No at why) = DoesOther shown.setting shown.chip steps at why
 EndsInMemory shown steps (Failed at Carried) = IsFirstOfNone shown steps at
 EndsInMemory shown steps other = ⊥
 

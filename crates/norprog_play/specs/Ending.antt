@@ -11,7 +11,7 @@ use Rattle.nor_serprog.specs.declared.fault.Reason.{Reason}
 use Rattle.nor_serprog.specs.declared.fault.Reason.TheVariants.{Exchange, Busy, Carried}
 use Rattle.nor_serprog.specs.declared.limits.Limits.{Limits}
 use Rattle.norprog_play.specs.declared.ending.Ending.{Ending}
-use Rattle.norprog_play.specs.declared.ending.Ending.TheVariants.{Done, Wrong as GoesWrong, Unlike, Failed}
+use Rattle.norprog_play.specs.declared.ending.Ending.TheVariants.{Done, Wrong as GoesWrong, No, Unlike, Failed}
 use Rattle.norprog_play.specs.Carried.{AreCarried, IsFirstNotCarried}
 use Rattle.norprog_play.specs.Likeness.{Begins, IsUnlike}
 use Rattle.norprog_play.specs.Moment.{Moment, DoesAll, StopsAt}
@@ -61,6 +61,7 @@ pub record StopsOnDevice (limits : Limits) (turns : ℕ) (trusted : Bool) (m : P
 abbrev pub EndsSo : Limits → ℕ → Bool → Parameters → Start → Moment → List Step → Ending → Moment → Type 0
 EndsSo limits turns trusted m start before steps (Done transactions) after = IsDone limits turns trusted m start before steps transactions after
 EndsSo limits turns trusted m start before steps (GoesWrong at why) after = ⊥
+EndsSo limits turns trusted m start before steps (No at why) after = ⊥
 EndsSo limits turns trusted m start before steps (Unlike why) after = IsUnlikeBefore limits trusted m start before steps why after
 EndsSo limits turns trusted m start before steps (Failed at Carried) after = IsNotCarriedBefore limits before steps at after
 EndsSo limits turns trusted m start before steps (Failed at Busy) after = StopsOnDevice limits turns trusted m start before steps at Busy after

@@ -5,9 +5,11 @@ use Rattle.nor_base.specs.Script.{closed}
 use Rattle.nor_serprog.specs.declared.fault.Fault.{Fault}
 use Rattle.nor_serprog.specs.declared.fault.Fault.TheVariants as fault
 use Rattle.nor_serprog.specs.declared.fault.Reason.TheVariants.{Exchange, Busy, Carried}
+use Rattle.nor_check.specs.declared.verdict.Verdict.TheVariants.{No as Says}
+use Rattle.norprog_check.specs.Line.{verdict_text}
 use Rattle.norprog_words.specs.Wrongs.{wrong_number}
 use Rattle.norprog_play.specs.declared.ending.Ending.{Ending}
-use Rattle.norprog_play.specs.declared.ending.Ending.TheVariants.{Done, Wrong, Unlike, Failed}
+use Rattle.norprog_play.specs.declared.ending.Ending.TheVariants.{Done, Wrong, No, Unlike, Failed}
 
 abbrev pub fault_word : Fault → List ℕ
 fault_word fault.Read = codes "read"
@@ -24,10 +26,11 @@ wrong_line number step = closed (codes "wrong " ++ (decimal number ++ (codes " a
 abbrev pub failed_line : ℕ → List ℕ → List ℕ
 failed_line step why = closed (codes "failed at " ++ (decimal step ++ (codes " " ++ why)))
 
--- `ok N`, or one of these; a device that stays busy is a poll that never ends
+-- `ok N`, a check's line, or one of these; a device that stays busy is a poll that never ends
 abbrev pub ending_line : Ending → List ℕ
 ending_line (Done transactions) = closed (codes "ok " ++ decimal transactions)
 ending_line (Wrong step why) = wrong_line (wrong_number why) step
+ending_line (No step why) = verdict_text (Says step why)
 ending_line (Unlike why) = closed (codes "unlike " ++ fault_word why)
 ending_line (Failed step Busy) = wrong_line (wrong_number PollNever) step
 ending_line (Failed step Carried) = failed_line step (codes "carried")

@@ -5,13 +5,14 @@ use Rattle.nor_serprog.specs.declared.fault.GreetFault.TheVariants.{Command, Ver
 use Rattle.nor_serprog.specs.declared.fault.Reason.TheVariants.{Exchange, Busy, Carried}
 use Rattle.norprog_words.specs.Lines.{program_line}
 use Rattle.norprog_play.specs.declared.ending.Ending.{Ending}
-use Rattle.norprog_play.specs.declared.ending.Ending.TheVariants.{Done, Wrong as GoesWrong, Unlike, Failed}
+use Rattle.norprog_play.specs.declared.ending.Ending.TheVariants.{Done, Wrong as GoesWrong, No, Unlike, Failed}
 use Rattle.norprog_play.specs.Line.{fault_word}
 
 -- steps were sent, and not all of them were done
 abbrev pub is_partial : Ending → Bool
 is_partial (Done transactions) = false
 is_partial (GoesWrong step why) = false
+is_partial (No step why) = false
 is_partial (Unlike why) = false
 is_partial (Failed step Carried) = false
 is_partial (Failed step Busy) = true
@@ -25,6 +26,7 @@ state_line = program_line (codes "the chip may hold a part of the work: read it 
 abbrev pub status_of : Ending → ℕ
 status_of (Done transactions) = 0
 status_of (GoesWrong step why) = 1
+status_of (No step why) = 1
 status_of (Unlike why) = 1
 status_of (Failed step why) = 1
 

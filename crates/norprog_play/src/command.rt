@@ -29,9 +29,10 @@ use std::alloc::Global;
 use std::io::BufReader;
 
 /// Does what the texts of a command line of `play` ask for. It opens the files that they name, plays the script on the chip in
-/// memory, and then, where nothing goes wrong there, on the chip behind the device that they name; it writes the line of the
-/// ending to `out`, or a refusal to `err` (docs/FORMATS.md, sections 9 and 14). Where steps were sent and not all of them were
-/// done it tells that to `err` too. It answers the status: 0 all done, 1 not so or refused, 2 usage.
+/// memory, and then, where nothing goes wrong there and every chip that they describe does the same, on the chip behind the device
+/// that they name; it writes the line of the ending to `out`, or a refusal to `err` (docs/FORMATS.md, sections 9 and 14). Where
+/// steps were sent and not all of them were done it tells that to `err` too. It answers the status: 0 all done, 1 not so or
+/// refused, 2 usage.
 ///
 /// Where steps are sent to the device, how many are done is told to `progress` after each hundred and at the end, in a line that is
 /// written over; where that fails nothing changes. What is said of the device is so of some device, from its handshake on.

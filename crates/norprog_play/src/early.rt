@@ -30,7 +30,7 @@ pub(crate) fn widest() -> Limits
 pub enum Early {
     /// It ends so whatever the device is.
     Ends(Ending),
-    /// Nothing goes wrong in memory, and each step is an operation of some device.
+    /// The steps do on every chip what they do in memory, and each is an operation of some device.
     Goes {
         /// Transactions, one for each step.
         transactions: u128,
@@ -38,9 +38,10 @@ pub enum Early {
 }
 
 /// How steps end whatever the device is: `Wrong` where a ready chip in memory that holds these bytes and is never busy goes wrong
-/// in them, else `Failed` for `Carried` with the first whose clocks are no operation of any device. `Goes` where neither is so.
+/// in them; else `No` where they don't do the same on every chip of the meaning and start that holds these bytes; else `Failed` for
+/// `Carried` with the first whose clocks are no operation of any device. `Goes` where none of these is so.
 ///
-/// Memory is taken for another such content.
+/// Memory is taken as by [`rehearse`].
 pub fn ends_early(
     alloc: Global,
     meaning: &Meaning,
@@ -54,6 +55,7 @@ pub fn ends_early(
 {
     match rehearse(alloc, meaning, start, content, steps)? {
         Rehearsal::Wrong { step, why } => Ok(Early::Ends(Ending::Wrong { step, why })),
+        Rehearsal::No { step, why } => Ok(Early::Ends(Ending::No { step, why })),
         Rehearsal::Well { transactions } => match carried(steps, &widest()) {
             Ok(()) => Ok(Early::Goes { transactions }),
             Err(step) => Ok(Early::Ends(Ending::Failed {

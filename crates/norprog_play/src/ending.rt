@@ -1,6 +1,7 @@
 //! How a script ends on a device.
 
 use nor_base::Wrong;
+use nor_check::Why;
 use nor_serprog::{Fault, Reason};
 
 /// How a script ends on a device.
@@ -17,6 +18,14 @@ pub enum Ending {
         step: u64,
         /// How it goes wrong.
         why: Wrong,
+    },
+    /// On some chip of the meaning and start the steps don't do what they did on the chip in memory, and on none do they go wrong
+    /// earlier: the device was asked for nothing.
+    No {
+        /// The step, counted from 0; the number of steps where it goes wrong at the end.
+        step: u64,
+        /// How it goes wrong there.
+        why: Why,
     },
     /// The chip behind the device isn't known to hold what the chip in memory does: no step was asked for.
     Unlike {

@@ -7,13 +7,15 @@ ghost use Rattle.norprog_play.specs.Line.{ending_line, wrong_line, failed_line, 
 use crate::ending::Ending;
 use itoa::Buffer;
 use nor_base::{ByteOut, Failed, Wrong, put_parts};
+use nor_check::Verdict;
 use nor_serprog::{Fault, Reason};
+use norprog_check::write_verdict;
 use norprog_words::wrong_number;
 
 /// Writes the line of an ending, closed by LF, with numbers in decimal: `ok N` with the number of transactions; `wrong N at K`
-/// with the wrong's number and the step; `failed at K WHY`, where WHY is `read`, `write`, `silent`, `nak`, `differs` or
-/// `carried`; `unlike WHY`, with one of the first five of these. A device that stays busy is told as the wrong of a poll that
-/// never ends, 6. It takes no memory.
+/// with the wrong's number and the step; a check's line, `no at K` and why; `failed at K WHY`, where WHY is `read`, `write`,
+/// `silent`, `nak`, `differs` or `carried`; `unlike WHY`, with one of the first five of these. A device that stays busy is told as
+/// the wrong of a poll that never ends, 6. It takes no memory.
 ///
 /// At `Failed` a proper prefix was taken; it comes from the writer alone, whose count of failures rose by one.
 pub fn write_ending<W: ByteOut>(ending: &Ending, writer: &mut W) -> Result<(), Failed>
@@ -30,6 +32,7 @@ pub fn write_ending<W: ByteOut>(ending: &Ending, writer: &mut W) -> Result<(), F
             )
         }
         Ending::Wrong { step, why } => write_wrong(wrong_number(why), step, writer),
+        Ending::No { step, why } => write_verdict(&Verdict::No { step, why }, writer),
         Ending::Unlike { why } => put_parts(writer, &[b"unlike ", word(why), b"\n"]),
         Ending::Failed {
             step,

@@ -36,7 +36,8 @@ fn is_partial(ending: &Ending) -> bool
 {
     match *ending {
         Ending::Failed { why, step: _ } => why != Reason::Carried,
-        Ending::Done { .. } | Ending::Wrong { .. } | Ending::Unlike { .. } => false,
+        Ending::Done { .. } | Ending::Wrong { .. } | Ending::No { .. } | Ending::Unlike { .. } =>
+            false,
     }
 }
 
@@ -46,7 +47,8 @@ fn status_of(ending: &Ending) -> u8
 {
     match ending {
         Ending::Done { .. } => 0,
-        Ending::Wrong { .. } | Ending::Unlike { .. } | Ending::Failed { .. } => 1,
+        Ending::Wrong { .. } | Ending::No { .. } => 1,
+        Ending::Unlike { .. } | Ending::Failed { .. } => 1,
     }
 }
 

@@ -5,6 +5,7 @@ use crate::same::{holds, same};
 use crate::serprog::canned::{Canned, End, Held};
 use crate::serprog::plays::QUAD;
 use nor_base::{IntoWrite, Step, Width, Wrong};
+use nor_check::Why;
 use nor_chip::Chip;
 use nor_samples::small_chip;
 use nor_samples::texts::ONE_BYTE;
@@ -63,6 +64,10 @@ const PUT_VERIFY: &[u8] = b"\x13\x04\x00\x00\x01\x00\x00\x03\x00\x00\x00";
 /// A program that no write enable goes before.
 const WRONG: &str = "norscript 1\nx 0000001000000000000000000000000000000000\nend 1\n";
 
+/// A program that no poll follows.
+const UNPOLLED: &str =
+    "norscript 1\nx 00000110\nx 0000001000000000000000000000000000000000\nend 2\n";
+
 /// A script on an empty chip of 8 KiB behind a device, and how it ends.
 struct Row {
     text: &'static str,
@@ -100,7 +105,7 @@ const DIFFERS: Ending = Ending::Unlike {
 };
 
 /// A job with the comparison and without, and each way in which one ends, with how many bytes went out.
-static ROWS: [Row; 9] = [
+static ROWS: [Row; 10] = [
     GOOD,
     Row {
         cuts: (256, 9999),
@@ -119,6 +124,15 @@ static ROWS: [Row; 9] = [
         ending: Ending::Wrong {
             step: 0,
             why: Wrong::Ignored,
+        },
+        count: 0,
+        ..GOOD
+    },
+    Row {
+        text: UNPOLLED,
+        ending: Ending::No {
+            step: 2,
+            why: Why::Wrong(Wrong::NotIdleAtEnd),
         },
         count: 0,
         ..GOOD
@@ -267,7 +281,7 @@ fn jobs_end(rt: HostRuntime) -> Result<(), Fail> {
 }
 
 /// Endings, and the line of each.
-static LINES: [(Ending, &[u8]); 6] = [
+static LINES: [(Ending, &[u8]); 7] = [
     (Ending::Done { transactions: 3 }, b"ok 3\n"),
     (
         Ending::Wrong {
@@ -275,6 +289,13 @@ static LINES: [(Ending, &[u8]); 6] = [
             why: Wrong::Mismatch,
         },
         b"wrong 5 at 12\n",
+    ),
+    (
+        Ending::No {
+            step: 12,
+            why: Why::Differs(0x1FE),
+        },
+        b"no at 12 differs 000001fe\n",
     ),
     (Ending::Unlike { why: Fault::Nak }, b"unlike nak\n"),
     (

@@ -17,7 +17,9 @@ pub(crate) const TOPICS: &[Topic] = &[
         "The script doesn't do the job on every chip: don't play it. Behind `at` is the\n\
          step, from 0, at which some chip goes wrong, and the number of the wrong (ask\n\
          for `wrong` and the number). `differs` tells an address whose byte isn't its\n\
-         target at the end. Or image, regions, base or content aren't those it is for.",
+         target at the end. Or image, regions, base or content aren't those it is for.\n\
+         Of `play` the target is what the steps leave on the chip in memory, and no step\n\
+         was sent.",
     ),
     (
         "ok",
