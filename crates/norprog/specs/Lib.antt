@@ -3,5 +3,4 @@ pub mod Windows
 pub mod Build
 pub mod Plan
 pub mod Report
-pub mod ChipText
 pub mod Laws

@@ -6,13 +6,11 @@
 #![tactic(auto)]
 
 pub mod builder;
-mod chip_text;
 pub mod planner;
 pub mod report;
 mod windows;
 
 pub use builder::build;
-pub use chip_text::sfdp_text;
 pub use nor_base::{ByteIn, ByteOut, Bytes, Failed, FromRead, IntoWrite, Nowhere, Part, Strategy};
 pub use nor_hex::HexFault;
 pub use nor_job::{BuildFault, Inputs, Source};

@@ -2,4 +2,6 @@ pub mod FaultLemmas
 pub mod LineLemmas
 pub mod CheckLemmas
 mod ReadingLemmas
-pub mod StopLaws
+mod StopLaws
+mod ServedLemmas
+mod AnswerLemmas

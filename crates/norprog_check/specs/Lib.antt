@@ -4,3 +4,5 @@ pub mod Checked
 pub mod Line
 pub mod Readings
 pub mod Streams
+pub mod Served
+pub mod Answer

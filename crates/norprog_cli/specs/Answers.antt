@@ -6,10 +6,10 @@ use Rattle.norprog_words.specs.Told.{TellsOf}
 use Rattle.norprog_options.specs.declared.options.Asked.{Asked}
 use Rattle.norprog_options.specs.declared.options.Asked.TheVariants as command
 use Rattle.norprog_options.specs.Options.{IsAskedBySome}
-use Rattle.norprog_command.specs.Builds.{AnswersBuild}
-use Rattle.norprog_command.specs.Plans.{AnswersPlan}
-use Rattle.norprog_command.specs.Verdicts.{AnswersCheck}
-use Rattle.norprog_command.specs.Meanings.{AnswersChip}
+use Rattle.norprog_build.specs.Answer.{AnswersBuild}
+use Rattle.norprog_plan.specs.Answer.{AnswersPlan}
+use Rattle.norprog_check.specs.Answer.{AnswersCheck}
+use Rattle.norprog_sfdp.specs.Answer.{AnswersChip}
 use Rattle.norprog_draw.specs.Answer.{AnswersDraw}
 use Rattle.norprog_explain.specs.Explained.{explained, AnswersExplain}
 use Rattle.norprog_explain.specs.Topics.{topics}
@@ -20,21 +20,21 @@ use Rattle.norprog_run.specs.Answer.{AnswersRun}
 -- to what is asked for, each command its answer, by what is known of files by their names; to words that couldn't be read, why
 abbrev pub AnswersTo : FileFacts → Result Asked Refusal → Option (List ℕ) → Option (List ℕ) → Type 0 → Type 0 → Option (List ℕ) → Option (List ℕ) → ℕ → Type 0
 AnswersTo files (Ok (command.Build given)) before after Quiet Works told_before told_after status =
-    AnswersBuild files (Ok given) before after Quiet Works told_before told_after status
+    AnswersBuild files given before after Quiet Works told_before told_after status
 AnswersTo files (Ok (command.Plan given)) before after Quiet Works told_before told_after status =
-    AnswersPlan files (Ok given) before after Quiet Works told_before told_after status
+    AnswersPlan files given before after Quiet Works told_before told_after status
 AnswersTo files (Ok (command.Check given)) before after Quiet Works told_before told_after status =
-    AnswersCheck files (Ok given) before after Quiet Works told_before told_after status
+    AnswersCheck files given before after Quiet Works told_before told_after status
 AnswersTo files (Ok (command.Run given)) before after Quiet Works told_before told_after status =
-    AnswersRun files (Ok given) before after Quiet Works told_before told_after status
+    AnswersRun files given before after Quiet Works told_before told_after status
 AnswersTo files (Ok (command.List given)) before after Quiet Works told_before told_after status =
-    AnswersList files (Ok given) before after Quiet Works told_before told_after status
+    AnswersList files given before after Quiet Works told_before told_after status
 AnswersTo files (Ok (command.Draw given)) before after Quiet Works told_before told_after status =
     (after ≡ before) × AnswersDraw files (Ok given) Quiet Works told_before told_after status
 AnswersTo files (Ok (command.Play given)) before after Quiet Works told_before told_after status =
     AnswersPlay files (Ok given) before after Quiet Works told_before told_after status
 AnswersTo files (Ok (command.Sfdp given)) before after Quiet Works told_before told_after status =
-    AnswersChip files (Ok given) before after Quiet Works told_before told_after status
+    AnswersChip files given before after Quiet Works told_before told_after status
 AnswersTo files (Ok (command.Explain words)) before after Quiet Works told_before told_after status =
     AnswersExplain (explained topics words.items) before after Quiet Works told_before told_after status
 AnswersTo files (Err why) before after Quiet Works told_before told_after status =

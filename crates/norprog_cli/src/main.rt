@@ -3,7 +3,7 @@
 //! `norprog list` tells what each step of one is, `norprog draw` draws one as a waveform, `norprog play` plays one on a chip behind
 //! a serprog device, `norprog sfdp` prints what a chip's tables mean, `norprog explain` says what a printed text means.
 //!
-//! The crate `norprog_options` reads the options; `norprog_command`, `norprog_run`, `norprog_list`, `norprog_draw`, `norprog_play`
+//! The crate `norprog_options` reads the options; `norprog_build`, `norprog_plan`, `norprog_check`, `norprog_sfdp`, `norprog_run`, `norprog_list`, `norprog_draw`, `norprog_play`
 //! and `norprog_explain` do the work behind them.
 #![tactic(auto)]
 
@@ -14,13 +14,16 @@ ghost use Rattle.norprog_words.specs.Told.{TellsOf};
 ghost use Rattle.norprog_cli.specs.Answers.{AnswersTo, AnswersSome};
 
 use nor_base::{ByteOut, IntoWrite, Nowhere};
-use norprog_command::{build, check, plan, sfdp};
+use norprog_build::build;
+use norprog_check::check;
 use norprog_draw::draw;
 use norprog_explain::explain;
 use norprog_list::list;
 use norprog_options::{Asked, asked_by};
+use norprog_plan::plan;
 use norprog_play::play;
 use norprog_run::run;
+use norprog_sfdp::sfdp;
 use norprog_words::{Disk, Refusal, Shelf, refuse};
 use std::alloc::Global;
 use std::io::{self, BufWriter, ErrorKind, IsTerminal, Write};
@@ -127,14 +130,14 @@ fn answer_to<S: Shelf, O: ByteOut, E: ByteOut, P: ByteOut>(
         (E.count err.new ≡ E.count err.old) (E.held err.old) (E.held err.new) result }
 {
     match asked {
-        Ok(Asked::Build(given)) => build(alloc, shelf, Ok(given), out, err),
-        Ok(Asked::Plan(given)) => plan(alloc, shelf, Ok(given), out, err),
-        Ok(Asked::Check(given)) => check(alloc, shelf, Ok(given), out, err),
-        Ok(Asked::Run(given)) => run(alloc, shelf, Ok(given), out, err),
-        Ok(Asked::List(given)) => list(alloc, shelf, Ok(given), out, err),
+        Ok(Asked::Build(given)) => build(alloc, shelf, given, out, err),
+        Ok(Asked::Plan(given)) => plan(alloc, shelf, given, out, err),
+        Ok(Asked::Check(given)) => check(alloc, shelf, given, out, err),
+        Ok(Asked::Run(given)) => run(alloc, shelf, given, out, err),
+        Ok(Asked::List(given)) => list(alloc, shelf, given, out, err),
         Ok(Asked::Draw(given)) => draw(alloc, shelf, Ok(given), err),
         Ok(Asked::Play(given)) => play(alloc, shelf, Ok(given), out, err, progress),
-        Ok(Asked::Sfdp(given)) => sfdp(alloc, shelf, Ok(given), out, err),
+        Ok(Asked::Sfdp(given)) => sfdp(alloc, shelf, given, out, err),
         Ok(Asked::Explain(words)) => explain(words.as_slice(), out, err),
         Err(refusal) => refuse(&refusal, err),
     }

@@ -1,5 +1,5 @@
 -- What is told of a listing (this project's).
-use Rattle.std.specs.Prelude.{◌≡◌, ◌⊎◌, ℕ, List, Option, Result}
+use Rattle.std.specs.Prelude.{◌≡◌, ◌⊎◌, ℕ, List, Option}
 use Rattle.nor_base.specs.Device.{Ahead}
 use Rattle.nor_script.specs.declared.fault.ScriptFault.{ScriptFault}
 use Rattle.nor_script.specs.Stream.{HadText}
@@ -7,10 +7,10 @@ use Rattle.norprog_words.specs.Shelf.{FileFacts}
 use Rattle.norprog_words.specs.declared.faults.FileName.{FileName}
 use Rattle.norprog_words.specs.declared.faults.Refusal.{Refusal}
 use Rattle.norprog_words.specs.declared.given.GivenList.{GivenList}
-use Rattle.norprog_words.specs.Told.{ForAsked, RefusesFor, Refuses, line_fault, Answers}
+use Rattle.norprog_words.specs.Told.{ForAsked, RefusesFor, AnswersAsked}
 use Rattle.norprog_list.specs.Listed.{WasCut, WasStopped, WasToldAbove, ListsText, RefusesText}
 use Rattle.norprog_list.specs.Request.{is_well_formed}
-use Rattle.norprog_list.specs.Served.{ListTask, OfList}
+use Rattle.norprog_list.specs.Served.{ListTask, Serves}
 
 -- the listing of the script's text was printed, by that chip
 abbrev pub ListsScript : Option (List ℕ) → Option (List ℕ) → ListTask → Type 0
@@ -42,15 +42,11 @@ IsListFault Asked before after why = ForAsked ListTask Asked (StopsScript before
 abbrev pub RefusesList : (FileName → Type 0) → (ListTask → Type 0) → Option (List ℕ) → Option (List ℕ) → Refusal → Type 0
 RefusesList Lacked Asked before after = RefusesFor Lacked (IsListFault Asked before after) ⊥
 
--- why what a command line asks for isn't listed
-abbrev pub RefusesToList : FileFacts → Result GivenList Refusal → Option (List ℕ) → Option (List ℕ) → Refusal → Type 0
-RefusesToList files line before after = Refuses (line_fault is_well_formed line) (RefusesList files.lacked (OfList files line) before after)
-
--- what `list` answers to a command line: the listing at status 0, or a refusal
-abbrev pub AnswersList : FileFacts → Result GivenList Refusal → Option (List ℕ) → Option (List ℕ) → Type 0 → Type 0 → Option (List ℕ) → Option (List ℕ) → ℕ → Type 0
-AnswersList files line before after Quiet Works told_before told_after status =
-    Answers (line_fault is_well_formed line)
-    ((status ≡ 0) × PrintsListing (OfList files line) before after × Quiet)
-    (CutsListing (OfList files line) before after)
-    (RefusesToList files line before after)
+-- what `list` answers to the texts of a command line: the listing at status 0, or a refusal
+abbrev pub AnswersList : FileFacts → GivenList → Option (List ℕ) → Option (List ℕ) → Type 0 → Type 0 → Option (List ℕ) → Option (List ℕ) → ℕ → Type 0
+AnswersList files given before after Quiet Works told_before told_after status =
+    AnswersAsked (is_well_formed given)
+    ((status ≡ 0) × PrintsListing (Serves files given) before after × Quiet)
+    (CutsListing (Serves files given) before after)
+    (RefusesList files.lacked (Serves files given) before after)
     Works told_before told_after status

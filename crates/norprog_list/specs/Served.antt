@@ -1,11 +1,9 @@
 -- The listing that a command line of `list` asks for (this project's).
-use Rattle.std.specs.Prelude.{◌≡◌, ℕ, List, Some, Result, option_map}
+use Rattle.std.specs.Prelude.{◌≡◌, ℕ, List, Some, option_map}
 use Rattle.nor_base.specs.Device.{Ahead}
 use Rattle.nor_job.specs.Task.{Task}
-use Rattle.norprog_words.specs.declared.faults.Refusal.{Refusal}
 use Rattle.norprog_words.specs.Setup.{IsSetupTask, ServesSetup}
 use Rattle.norprog_words.specs.Shelf.{FileFacts, IsAheadIn}
-use Rattle.norprog_words.specs.Told.{OfLine}
 use Rattle.norprog_words.specs.declared.given.GivenList.{GivenList}
 use Rattle.norprog_list.specs.declared.request.ListRequest.{ListRequest}
 
@@ -25,7 +23,3 @@ pub record Serves (files : FileFacts) (given : GivenList) (t : ListTask) : Type 
   pub name : List ℕ
   pub named : option_map (λ t. t.now) given.script ≡ Some name
   pub script : IsAheadIn files name t.script
-
--- of a command line: what it asks for, where it was read
-abbrev pub OfList : FileFacts → Result GivenList Refusal → ListTask → Type 0
-OfList files = OfLine (Serves files)

@@ -1,10 +1,10 @@
 //! `list`: from the texts of the command line to the lines of a listing.
 
-ghost use Rattle.std.specs.Prelude.{◌≡◌, ◌<◌, ◌≤◌, ◌-◌, ◌^◌, None, IfOk, IfErr};
-ghost use Rattle.norprog_words.specs.Told.{line_fault};
-ghost use Rattle.norprog_list.specs.Answer.{PrintsListing, CutsListing, RefusesList, RefusesToList, AnswersList};
+ghost use Rattle.std.specs.Prelude.{◌≡◌, ◌<◌, ◌≤◌, ◌-◌, ◌^◌, true, IfOk, IfErr};
+ghost use Rattle.norprog_words.specs.Told.{OrUsage};
+ghost use Rattle.norprog_list.specs.Answer.{PrintsListing, CutsListing, RefusesList, AnswersList};
 ghost use Rattle.norprog_list.specs.Request.{is_well_formed};
-ghost use Rattle.norprog_list.specs.Served.{IsTaskOf, OfList};
+ghost use Rattle.norprog_list.specs.Served.{IsTaskOf, Serves};
 
 use crate::listing::list_script;
 use crate::request::{ListRequest, request_of};
@@ -16,12 +16,11 @@ use std::alloc::Global;
 /// (docs/FORMATS.md, section 9), and answers the status: 0 done, 1 refused, 2 usage. Where the script is refused, the lines of the
 /// steps above its fault may stand in `out`.
 ///
-/// `given` is what stands on the command line, or why that couldn't be read, which is told. Usage is told where the texts
-/// ask for no listing.
+/// Usage is told where the texts ask for no listing.
 pub fn list<S: Shelf, O: ByteOut, E: ByteOut>(
     alloc: Global,
     shelf: &S,
-    given: Result<GivenList<'_>, Refusal>,
+    given: GivenList<'_>,
     out: &mut O,
     err: &mut E,
 ) -> u8
@@ -42,16 +41,17 @@ pub fn list<S: Shelf, O: ByteOut, E: ByteOut>(
 fn listed_in<S: Shelf, O: ByteOut>(
     alloc: Global,
     shelf: &S,
-    given: Result<GivenList<'_>, Refusal>,
+    given: GivenList<'_>,
     out: &mut O,
 ) -> Result<(), Refusal>
     requires { O.count out.old < 2 ^ 64 - 1 }
-    ensures printed { IfOk result (λ _. PrintsListing (OfList (S.facts shelf.now) given.entry) (O.held out.old) (O.held out.new)) }
-    ensures unprinted { IfErr result (λ _. CutsListing (OfList (S.facts shelf.now) given.entry) (O.held out.old) (O.held out.new)) }
-    ensures asked { IfOk result (λ _. line_fault is_well_formed given.entry ≡ None) }
-    ensures first { IfErr result (RefusesToList (S.facts shelf.now) given.entry (O.held out.old) (O.held out.new)) }
+    ensures printed { IfOk result (λ _. PrintsListing (Serves (S.facts shelf.now) given.entry) (O.held out.old) (O.held out.new)) }
+    ensures unprinted { IfErr result (λ _. CutsListing (Serves (S.facts shelf.now) given.entry) (O.held out.old) (O.held out.new)) }
+    ensures asked { IfOk result (λ _. is_well_formed given.entry ≡ true) }
+    ensures first { IfErr result (OrUsage (is_well_formed given.entry) (RefusesList (S.facts shelf.now).lacked
+        (Serves (S.facts shelf.now) given.entry) (O.held out.old) (O.held out.new))) }
 {
-    let request = request_of(given?).ok_or(Refusal::Usage)?;
+    let request = request_of(given).ok_or(Refusal::Usage)?;
     run_list(alloc, shelf, request, out)
 }
 

@@ -1,13 +1,16 @@
 //! What a command line asks for, done.
 
 use nor_base::{IntoWrite, Nowhere};
-use norprog_command::{build, check, plan, sfdp};
+use norprog_build::build;
+use norprog_check::check;
 use norprog_draw::draw;
 use norprog_explain::explain;
 use norprog_list::list;
 use norprog_options::Asked;
+use norprog_plan::plan;
 use norprog_play::play;
 use norprog_run::run;
+use norprog_sfdp::sfdp;
 use norprog_words::{Disk, Refusal, refuse};
 use std::fs::{self, File};
 use std::io;
@@ -32,14 +35,14 @@ fn status_into(rt: &HostRuntime, asked: Result<Asked<'_>, Refusal>, out: File, e
     let mut out = IntoWrite::new(out);
     let mut err = IntoWrite::new(err);
     match asked {
-        Ok(Asked::Build(given)) => build(alloc, &files, Ok(given), &mut out, &mut err),
-        Ok(Asked::Plan(given)) => plan(alloc, &files, Ok(given), &mut out, &mut err),
-        Ok(Asked::Check(given)) => check(alloc, &files, Ok(given), &mut out, &mut err),
-        Ok(Asked::Run(given)) => run(alloc, &files, Ok(given), &mut out, &mut err),
-        Ok(Asked::List(given)) => list(alloc, &files, Ok(given), &mut out, &mut err),
+        Ok(Asked::Build(given)) => build(alloc, &files, given, &mut out, &mut err),
+        Ok(Asked::Plan(given)) => plan(alloc, &files, given, &mut out, &mut err),
+        Ok(Asked::Check(given)) => check(alloc, &files, given, &mut out, &mut err),
+        Ok(Asked::Run(given)) => run(alloc, &files, given, &mut out, &mut err),
+        Ok(Asked::List(given)) => list(alloc, &files, given, &mut out, &mut err),
         Ok(Asked::Draw(given)) => draw(alloc, &files, Ok(given), &mut err),
         Ok(Asked::Play(given)) => play(alloc, &files, Ok(given), &mut out, &mut err, &mut Nowhere),
-        Ok(Asked::Sfdp(given)) => sfdp(alloc, &files, Ok(given), &mut out, &mut err),
+        Ok(Asked::Sfdp(given)) => sfdp(alloc, &files, given, &mut out, &mut err),
         Ok(Asked::Explain(words)) => explain(words.as_slice(), &mut out, &mut err),
         Err(refusal) => refuse(&refusal, &mut err),
     }

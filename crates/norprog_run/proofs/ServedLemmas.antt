@@ -1,5 +1,5 @@
 -- The play that a request has is the one that its texts ask for.
-use Rattle.std.proofs.Common.{◌≡◌, Bor, option_map, refl, sym, subst, inl, inr, List, [], ◌∷◌, ◌++◌, ℕ, None, Some, Option, Result, Ok, Err, IfOk, IfErr}
+use Rattle.std.proofs.Common.{◌≡◌, Bor, option_map, refl, sym, subst, inl, inr, List, [], ◌∷◌, ◌++◌, ℕ, None, Some, true, Option, Result, Ok, Err, IfOk, IfErr}
 use Rattle.std.specs.Prelude.{⊤}
 use Rattle.nor_base.specs.Device.{Ahead}
 use Rattle.nor_job.specs.Task.{Task}
@@ -15,18 +15,18 @@ use Rattle.norprog_words.specs.Files.{TellsFile}
 use Rattle.norprog_words.specs.Setup.{setup_task}
 use Rattle.norprog_words.specs.Shelf.{FileFacts, AreTables, GoesOut, IsMadeApart, IsTextIn, Named, Notes, WhereNamed, tables_file}
 use Rattle.norprog_words.proofs.ShelfLemmas.{made_apart, more_noted, one_noted}
-use Rattle.norprog_words.specs.Told.{RefusesFor, OrScript, line_fault}
-use Rattle.norprog_words.proofs.ToldLemmas.{asked_wider, by_fault, by_files, refuses_wider}
+use Rattle.norprog_words.specs.Told.{RefusesFor, OrScript}
+use Rattle.norprog_words.proofs.ToldLemmas.{asked_wider, by_fault, by_files, refuses_wider, or_usage}
 use Rattle.norprog_run.specs.declared.request.Bench.{Bench}
 use Rattle.norprog_words.specs.declared.given.GivenRun.{GivenRun}
 use Rattle.norprog_run.specs.declared.request.RunRequest.{RunRequest}
 use Rattle.norprog_run.specs.declared.verdict.Verdict.{Verdict}
-use Rattle.norprog_run.specs.Answer.{WasPlayedSo, IsPlayVerdict, IsStopOf, IsPlayFault, RefusesRun, RefusesLine}
+use Rattle.norprog_run.specs.Answer.{WasPlayedSo, IsPlayVerdict, IsStopOf, IsPlayFault, RefusesRun, RefusesToRun}
 use Rattle.norprog_run.specs.Play.{WasPlayed}
 use Rattle.norprog_run.specs.Refusals.{RefusesPlay}
 use Rattle.norprog_run.specs.Request.{is_well_formed, AsksFor, RefusesGiven}
 use Rattle.norprog_run.specs.Streams.{PlaysStreams, RefusesStreams}
-use Rattle.norprog_run.specs.Served.{PlayTask, play_with, Is, IsMadeFor, IsTaskOf, input_files_of, input_files_asked, Serves, ServesScript, OfRun, OfScript}
+use Rattle.norprog_run.specs.Served.{PlayTask, play_with, Is, IsMadeFor, IsTaskOf, input_files_of, input_files_asked, Serves, ServesScript}
 
 -- the files of a request are those that the texts name
 same_inputs : (given : GivenRun) (request : RunRequest) → AsksFor given request → input_files_of request ≡ input_files_asked given (origin_of request.setup.chip)
@@ -49,15 +49,6 @@ serves_script : (files : FileFacts) (given : GivenRun) (request : RunRequest) �
     → ServesScript files given text
 serves_script files given request asks text of =
     subst (λ s. Named (λ name. IsTextIn files name text) (option_map (λ t. t.now) s)) (sym asks.beside.script) of
-
--- the same of the command line on which those texts stand
-on_line : (files : FileFacts) (line : Result GivenRun Refusal) (given : GivenRun) (request : RunRequest) → line ≡ Ok given → AsksFor given request
-    → (t : PlayTask) → IsTaskOf files request t → OfRun files line t
-on_line files line given request is asks t of = rw is (serves files given request asks t of)
-
-script_on_line : (files : FileFacts) (line : Result GivenRun Refusal) (given : GivenRun) (request : RunRequest) → line ≡ Ok given → AsksFor given request
-    → (text : List ℕ) → IsTextIn files request.script.now text → OfScript files line text
-script_on_line files line given request is asks text of = rw is (serves_script files given request asks text of)
 
 -- of what is so of a script that is so of the same by another name
 played_wider : (P Q : List ℕ → Type 0) (chip : Task) (bench : Bench) (content : Ahead) (len : ℕ) (before after : Option (List ℕ)) (verdict : Verdict)
@@ -90,28 +81,28 @@ pub refusals_wider : (Lacked : FileName → Type 0) (Asked Other : PlayTask → 
 refusals_wider Lacked Asked Other P Q tasks texts (Ok verdict) of = tt
 refusals_wider Lacked Asked Other P Q tasks texts (Err why) of = refusal_wider Lacked Asked Other P Q tasks texts why of
 
-module _ (files : FileFacts) (line : Result GivenRun Refusal) (given : GivenRun) (request : RunRequest) (is : line ≡ Ok given) (asks : AsksFor given request) where
+module _ (files : FileFacts) (given : GivenRun) (request : RunRequest) (asks : AsksFor given request) where
   verdict_asked : (Sent : Option (List ℕ) → Type 0) (verdict : Verdict) → IsPlayVerdict (IsTaskOf files request) (IsTextIn files request.script.now) Sent verdict
-      → IsPlayVerdict (OfRun files line) (OfScript files line) Sent verdict
-  verdict_asked Sent verdict = verdict_wider (IsTaskOf files request) (OfRun files line) (IsTextIn files request.script.now) (OfScript files line) Sent verdict
-      (on_line files line given request is asks) (script_on_line files line given request is asks)
+      → IsPlayVerdict (Serves files given) (ServesScript files given) Sent verdict
+  verdict_asked Sent verdict = verdict_wider (IsTaskOf files request) (Serves files given) (IsTextIn files request.script.now) (ServesScript files given) Sent verdict
+      (serves files given request asks) (serves_script files given request asks)
 
   refusal_asked : (why : Refusal) → RefusesRun (OrScript files.lacked) (IsTaskOf files request) (IsTextIn files request.script.now) why
-      → RefusesRun (OrScript files.lacked) (OfRun files line) (OfScript files line) why
-  refusal_asked = refusal_wider (OrScript files.lacked) (IsTaskOf files request) (OfRun files line) (IsTextIn files request.script.now) (OfScript files line)
-      (on_line files line given request is asks) (script_on_line files line given request is asks)
+      → RefusesRun (OrScript files.lacked) (Serves files given) (ServesScript files given) why
+  refusal_asked = refusal_wider (OrScript files.lacked) (IsTaskOf files request) (Serves files given) (IsTextIn files request.script.now) (ServesScript files given)
+      (serves files given request asks) (serves_script files given request asks)
 
   -- the same of whichever came
 
   pub verdicts_asked : (Sent : Option (List ℕ) → Type 0) (r : Result Verdict Refusal) → IfOk r (IsPlayVerdict (IsTaskOf files request) (IsTextIn files request.script.now) Sent)
-      → IfOk r (IsPlayVerdict (OfRun files line) (OfScript files line) Sent)
+      → IfOk r (IsPlayVerdict (Serves files given) (ServesScript files given) Sent)
   verdicts_asked Sent (Ok verdict) of = verdict_asked Sent verdict of
   verdicts_asked Sent (Err why) of = tt
 
-  pub refusals_asked : (r : Result Verdict Refusal) → line_fault is_well_formed line ≡ None → IfErr r (RefusesRun (OrScript files.lacked) (IsTaskOf files request) (IsTextIn files request.script.now))
-      → IfErr r (RefusesLine (line_fault is_well_formed line) (RefusesRun (OrScript files.lacked) (OfRun files line) (OfScript files line)))
-  refusals_asked (Ok verdict) none of = tt
-  refusals_asked (Err why) none of = rw none (inl (refusal_asked why of))
+  pub refusals_asked : (r : Result Verdict Refusal) → is_well_formed given ≡ true → IfErr r (RefusesRun (OrScript files.lacked) (IsTaskOf files request) (IsTextIn files request.script.now))
+      → IfErr r (RefusesToRun files given)
+  refusals_asked (Ok verdict) formed of = tt
+  refusals_asked (Err why) formed of = inl (or_usage _ _ why formed (refusal_asked why of))
 
 -- what the player answered
 
@@ -221,10 +212,10 @@ goes : (Sent : Option (List ℕ) → Type 0) (begun : Option (Option (List ℕ))
 goes Sent (Some held) before after out = (out.0, tt)
 goes Sent None before after out = tt
 
-pub late_refused : (files : FileFacts) (line : Result GivenRun Refusal) (verdict : Verdict) → line_fault is_well_formed line ≡ None
-    → IsPlayVerdict (OfRun files line) (OfScript files line) files.flushed verdict
-    → RefusesLine (line_fault is_well_formed line) (RefusesRun (OrScript files.lacked) (OfRun files line) (OfScript files line)) (Build fault.Write)
-late_refused files line verdict none of = rw none (inl (inr (
+pub late_refused : (files : FileFacts) (given : GivenRun) (verdict : Verdict) → is_well_formed given ≡ true
+    → IsPlayVerdict (Serves files given) (ServesScript files given) files.flushed verdict
+    → RefusesToRun files given (Build fault.Write)
+late_refused files given verdict formed of = inl (or_usage _ _ _ formed (inr (
   verdict,
   record {
     it = of.it;
@@ -233,23 +224,23 @@ late_refused files line verdict none of = rw none (inl (inr (
   },
 )))
 
--- a line whose texts ask for nothing, and want of memory
-pub given_refused : (line : Result GivenRun Refusal) (given : GivenRun) (Work : Refusal → Type 0) (why : Refusal) → line ≡ Ok given → RefusesGiven given why
-    → RefusesLine (line_fault is_well_formed line) Work why
-given_refused line given Work Usage is refused = rw (is, refused) (inl refl)
-given_refused line given Work (Build fault.Memory) is refused = inr refl
-given_refused line given Work (Build (fault.Contradiction number)) is refused = absurd refused
-given_refused line given Work (Build (fault.Hex why)) is refused = absurd refused
-given_refused line given Work (Build (fault.Layout why)) is refused = absurd refused
-given_refused line given Work (Build (fault.Sfdp why)) is refused = absurd refused
-given_refused line given Work (Build (fault.Status number)) is refused = absurd refused
-given_refused line given Work (Build fault.ModeImpossible) is refused = absurd refused
-given_refused line given Work (Build fault.ContentSize) is refused = absurd refused
-given_refused line given Work (Build (fault.Plan why)) is refused = absurd refused
-given_refused line given Work (Build fault.ContentShort) is refused = absurd refused
-given_refused line given Work (Build fault.Read) is refused = absurd refused
-given_refused line given Work (Build fault.Write) is refused = absurd refused
-given_refused line given Work (Text words) is refused = absurd refused
-given_refused line given Work (File name) is refused = absurd refused
-given_refused line given Work Page is refused = absurd refused
-given_refused line given Work (Script why) is refused = absurd refused
+-- texts that ask for nothing, and want of memory
+pub given_refused : (files : FileFacts) (given : GivenRun) (why : Refusal) → RefusesGiven given why
+    → RefusesToRun files given why
+given_refused files given Usage refused = inl (rw refused refl)
+given_refused files given (Build fault.Memory) refused = inr refl
+given_refused files given (Build (fault.Contradiction number)) refused = absurd refused
+given_refused files given (Build (fault.Hex why)) refused = absurd refused
+given_refused files given (Build (fault.Layout why)) refused = absurd refused
+given_refused files given (Build (fault.Sfdp why)) refused = absurd refused
+given_refused files given (Build (fault.Status number)) refused = absurd refused
+given_refused files given (Build fault.ModeImpossible) refused = absurd refused
+given_refused files given (Build fault.ContentSize) refused = absurd refused
+given_refused files given (Build (fault.Plan why)) refused = absurd refused
+given_refused files given (Build fault.ContentShort) refused = absurd refused
+given_refused files given (Build fault.Read) refused = absurd refused
+given_refused files given (Build fault.Write) refused = absurd refused
+given_refused files given (Text words) refused = absurd refused
+given_refused files given (File name) refused = absurd refused
+given_refused files given Page refused = absurd refused
+given_refused files given (Script why) refused = absurd refused

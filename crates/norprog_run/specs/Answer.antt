@@ -1,5 +1,5 @@
 -- What is told of a play (this project's).
-use Rattle.std.specs.Prelude.{◌≡◌, ◌⊎◌, ⊤, ℕ, List, Option, Result}
+use Rattle.std.specs.Prelude.{◌≡◌, ◌⊎◌, ⊤, ℕ, true, List, Option}
 use Rattle.std.specs.Io.KnownBytes.{Appends}
 use Rattle.nor_base.specs.Device.{Ahead, Cuts}
 use Rattle.nor_job.specs.Task.{Task}
@@ -9,13 +9,13 @@ use Rattle.norprog_words.specs.declared.faults.Refusal.{Refusal}
 use Rattle.norprog_words.specs.declared.faults.Refusal.TheVariants.{Build}
 use Rattle.norprog_words.specs.declared.given.GivenRun.{GivenRun}
 use Rattle.norprog_words.specs.Shelf.{FileFacts, GoesOut}
-use Rattle.norprog_words.specs.Told.{ForAsked, RefusesFor, OrScript, Refuses, line_fault, Answers}
+use Rattle.norprog_words.specs.Told.{ForAsked, RefusesFor, OrScript, OrUsage, TellsOf}
 use Rattle.norprog_run.specs.Request.{is_well_formed}
 use Rattle.norprog_run.specs.declared.request.Bench.{Bench}
 use Rattle.norprog_run.specs.declared.verdict.Verdict.{Verdict}
 use Rattle.norprog_run.specs.Play.{WasPlayed}
 use Rattle.norprog_run.specs.Refusals.{RefusesPlay}
-use Rattle.norprog_run.specs.Served.{PlayTask, OfRun, OfScript}
+use Rattle.norprog_run.specs.Served.{PlayTask, Serves, ServesScript}
 use Rattle.norprog_run.specs.Verdict.{verdict_line, status_of}
 
 -- a text that is so was played on that chip, on that bench, and this is how it ended
@@ -61,21 +61,16 @@ abbrev pub CutsVerdict : (PlayTask → Type 0) → (List ℕ → Type 0) → (Op
 CutsVerdict Asked Script Sent before after =
     (after ≡ before) ⊎ ((verdict : Verdict) × IsPlayVerdict Asked Script Sent verdict × Cuts before after (verdict_line verdict))
 
--- the fault of the command line where there is one, else a refusal of its work; or want of memory, which the busy times may
--- meet while they are read
-abbrev pub RefusesLine : Option Refusal → (Refusal → Type 0) → Refusal → Type 0
-RefusesLine cause Work why = Refuses cause Work why ⊎ (why ≡ Build Memory)
+-- why what the texts of a command line ask for isn't run: usage where they ask for nothing, else a refusal of the work; or want of
+-- memory, which the busy times may meet while they are read
+abbrev pub RefusesToRun : FileFacts → GivenRun → Refusal → Type 0
+RefusesToRun files given why =
+    OrUsage (is_well_formed given) (RefusesRun (OrScript files.lacked) (Serves files given) (ServesScript files given)) why ⊎ (why ≡ Build Memory)
 
--- why what a command line asks for isn't run
-abbrev pub RefusesToRun : FileFacts → Result GivenRun Refusal → Refusal → Type 0
-RefusesToRun files line = RefusesLine (line_fault is_well_formed line) (RefusesRun (OrScript files.lacked) (OfRun files line) (OfScript files line))
-
--- what `run` answers to a command line: the line of the verdict, whose status it is, after what the chip holds has gone out; or a
--- refusal
-abbrev pub AnswersRun : FileFacts → Result GivenRun Refusal → Option (List ℕ) → Option (List ℕ) → Type 0 → Type 0 → Option (List ℕ) → Option (List ℕ) → ℕ → Type 0
-AnswersRun files line before after Quiet Works told_before told_after status =
-    Answers (line_fault is_well_formed line)
-    (PrintsVerdict (OfRun files line) (OfScript files line) files.flushed before after status × Quiet)
-    (CutsVerdict (OfRun files line) (OfScript files line) files.flushed before after)
-    (RefusesToRun files line)
-    Works told_before told_after status
+-- what `run` answers to the texts of a command line: the line of the verdict, whose status it is, after what the chip holds has gone
+-- out; or a refusal
+abbrev pub AnswersRun : FileFacts → GivenRun → Option (List ℕ) → Option (List ℕ) → Type 0 → Type 0 → Option (List ℕ) → Option (List ℕ) → ℕ → Type 0
+AnswersRun files given before after Quiet Works told_before told_after status =
+    ((is_well_formed given ≡ true) × PrintsVerdict (Serves files given) (ServesScript files given) files.flushed before after status × Quiet)
+    ⊎ (CutsVerdict (Serves files given) (ServesScript files given) files.flushed before after
+    × TellsOf (RefusesToRun files given) Works told_before told_after status)

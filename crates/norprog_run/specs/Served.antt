@@ -1,13 +1,11 @@
 -- The play that a command line of `run` asks for (this project's). `files` is what is known of files by their names.
-use Rattle.std.specs.Prelude.{◌≡◌, ℕ, List, ◌++◌, Option, Some, Result, option_map, option_to_list}
+use Rattle.std.specs.Prelude.{◌≡◌, ℕ, List, ◌++◌, Option, Some, option_map, option_to_list}
 use Rattle.nor_base.specs.Device.{Ahead}
 use Rattle.nor_job.specs.Task.{Task}
-use Rattle.norprog_words.specs.declared.faults.Refusal.{Refusal}
 use Rattle.norprog_words.specs.declared.files.Place.{Place}
 use Rattle.norprog_words.specs.Chip.{Origin, origin_of}
 use Rattle.norprog_words.specs.Setup.{IsSetupTask, ServesSetup}
 use Rattle.norprog_words.specs.Shelf.{FileFacts, IsMadeApart, IsTextIn, Named, WhereNamed, tables_file}
-use Rattle.norprog_words.specs.Told.{OfLine}
 use Rattle.norprog_words.specs.Values.{limit_of, said_number}
 use Rattle.norprog_run.specs.declared.request.Bench.{Bench}
 use Rattle.norprog_words.specs.declared.given.GivenRun.{GivenRun}
@@ -70,10 +68,3 @@ pub record Serves (files : FileFacts) (given : GivenRun) (t : PlayTask) : Type 0
 -- the text is that of the script's file
 abbrev pub ServesScript : FileFacts → GivenRun → List ℕ → Type 0
 ServesScript files given text = Named (λ name. IsTextIn files name text) (option_map (λ t. t.now) given.script)
-
--- of a command line: what it asks for, where it was read
-abbrev pub OfRun : FileFacts → Result GivenRun Refusal → PlayTask → Type 0
-OfRun files = OfLine (Serves files)
-
-abbrev pub OfScript : FileFacts → Result GivenRun Refusal → List ℕ → Type 0
-OfScript files = OfLine (ServesScript files)

@@ -1,13 +1,13 @@
 //! `run`: from the texts of the command line to the line of a verdict.
 
-ghost use Rattle.std.specs.Prelude.{◌≡◌, ◌<◌, ◌≤◌, ◌-◌, ◌^◌, List, ℕ, None, Some, Option, IfOk, IfErr};
+ghost use Rattle.std.specs.Prelude.{◌≡◌, ◌<◌, ◌≤◌, ◌-◌, ◌^◌, List, ℕ, Some, true, Option, IfOk, IfErr};
 ghost use Rattle.std.specs.Io.KnownBytes.{Appends};
 ghost use Rattle.norprog_words.specs.Shelf.{DoNotFail, IsTextIn, IsTextOfFile};
 ghost use Rattle.norprog_words.specs.declared.faults.FileName.TheVariants.{Script};
-ghost use Rattle.norprog_words.specs.Told.{RefusesFor, OrScript, line_fault};
+ghost use Rattle.norprog_words.specs.Told.{RefusesFor, OrScript};
 ghost use Rattle.norprog_run.specs.Answer.{WasPlayedSo, IsPlayFault, IsPlayVerdict, CutsVerdict, RefusesRun, RefusesToRun, AnswersRun};
 ghost use Rattle.norprog_run.specs.Request.{is_well_formed};
-ghost use Rattle.norprog_run.specs.Served.{play_with, Is, IsMadeFor, IsTaskOf, OfRun, OfScript};
+ghost use Rattle.norprog_run.specs.Served.{play_with, Is, IsMadeFor, IsTaskOf, Serves, ServesScript};
 ghost use Rattle.norprog_run.specs.Verdict.{verdict_line};
 
 use crate::play::play_script;
@@ -26,12 +26,11 @@ use std::alloc::Global;
 /// (docs/FORMATS.md, section 9). It answers the status: 0 played, 1 gone wrong or refused, 2 usage. The output is made as none
 /// of the files that are read.
 ///
-/// `given` is what stands on the command line, or why that couldn't be read, which is told. Usage is told where the texts
-/// ask for no play.
+/// Usage is told where the texts ask for no play.
 pub fn run<S: Shelf, O: ByteOut, E: ByteOut>(
     alloc: Global,
     shelf: &S,
-    given: Result<GivenRun<'_>, Refusal>,
+    given: GivenRun<'_>,
     out: &mut O,
     err: &mut E,
 ) -> u8
@@ -52,16 +51,16 @@ pub fn run<S: Shelf, O: ByteOut, E: ByteOut>(
 fn report_run<S: Shelf, O: ByteOut>(
     alloc: Global,
     shelf: &S,
-    given: Result<GivenRun<'_>, Refusal>,
+    given: GivenRun<'_>,
     out: &mut O,
 ) -> Result<Verdict, Refusal>
     requires { O.count out.old < 2 ^ 64 - 1 }
-    ensures played { IfOk result (IsPlayVerdict (OfRun (S.facts shelf.now) given.entry)
-        (OfScript (S.facts shelf.now) given.entry) (S.facts shelf.now).flushed) }
+    ensures played { IfOk result (IsPlayVerdict (Serves (S.facts shelf.now) given.entry)
+        (ServesScript (S.facts shelf.now) given.entry) (S.facts shelf.now).flushed) }
     ensures printed { IfOk result (λ verdict. Appends (O.held out.old) (O.held out.new) (verdict_line verdict)) }
-    ensures unprinted { IfErr result (λ _. CutsVerdict (OfRun (S.facts shelf.now) given.entry)
-        (OfScript (S.facts shelf.now) given.entry) (S.facts shelf.now).flushed (O.held out.old) (O.held out.new)) }
-    ensures asked { IfOk result (λ _. line_fault is_well_formed given.entry ≡ None) }
+    ensures unprinted { IfErr result (λ _. CutsVerdict (Serves (S.facts shelf.now) given.entry)
+        (ServesScript (S.facts shelf.now) given.entry) (S.facts shelf.now).flushed (O.held out.old) (O.held out.new)) }
+    ensures asked { IfOk result (λ _. is_well_formed given.entry ≡ true) }
     ensures first { IfErr result (RefusesToRun (S.facts shelf.now) given.entry) }
 {
     let verdict = verdict_of(alloc, shelf, given)?;
@@ -75,14 +74,14 @@ fn report_run<S: Shelf, O: ByteOut>(
 fn verdict_of<S: Shelf>(
     alloc: Global,
     shelf: &S,
-    given: Result<GivenRun<'_>, Refusal>,
+    given: GivenRun<'_>,
 ) -> Result<Verdict, Refusal>
-    ensures played { IfOk result (IsPlayVerdict (OfRun (S.facts shelf.now) given.entry)
-        (OfScript (S.facts shelf.now) given.entry) (S.facts shelf.now).flushed) }
-    ensures asked { IfOk result (λ _. line_fault is_well_formed given.entry ≡ None) }
+    ensures played { IfOk result (IsPlayVerdict (Serves (S.facts shelf.now) given.entry)
+        (ServesScript (S.facts shelf.now) given.entry) (S.facts shelf.now).flushed) }
+    ensures asked { IfOk result (λ _. is_well_formed given.entry ≡ true) }
     ensures first { IfErr result (RefusesToRun (S.facts shelf.now) given.entry) }
 {
-    let request = request_of(alloc, given?)?;
+    let request = request_of(alloc, given)?;
     play_request(alloc, shelf, request)
 }
 

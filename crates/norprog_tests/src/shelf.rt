@@ -7,7 +7,8 @@ use crate::devices::BLANK;
 use crate::same::{holds, same};
 use nor_base::{Failed, FromRead, IntoWrite};
 use nor_samples::texts::{IMAGE, ONE_BYTE};
-use norprog_command::{build, check};
+use norprog_build::build;
+use norprog_check::check;
 use norprog_run::run;
 use norprog_words::{
     FileName, Given, GivenBuild, GivenCheck, GivenChip, GivenRun, GivenSetup, Place, Refusal,
@@ -193,7 +194,7 @@ fn builds(rt: &impl Abort, alloc: Global, shelf: &Memory<'_>) {
     };
     let mut out = IntoWrite::new(Vec::new(alloc));
     let mut err = IntoWrite::new(Vec::new(alloc));
-    let built = build(alloc, shelf, Ok(given), &mut out, &mut err);
+    let built = build(alloc, shelf, given, &mut out, &mut err);
     same(rt, "the build", built, 0);
     let script = shelf.flushed.replace(Vec::new(alloc));
     holds(rt, "the script", script.as_slice() == ONE_BYTE.as_bytes());
@@ -206,7 +207,7 @@ fn checks(rt: &impl Abort, alloc: Global, shelf: &Memory<'_>) {
     };
     let mut out = IntoWrite::new(Vec::new(alloc));
     let mut err = IntoWrite::new(Vec::new(alloc));
-    let checked = check(alloc, shelf, Ok(given), &mut out, &mut err);
+    let checked = check(alloc, shelf, given, &mut out, &mut err);
     same(rt, "the check", checked, 0);
     holds(
         rt,
@@ -218,7 +219,7 @@ fn checks(rt: &impl Abort, alloc: Global, shelf: &Memory<'_>) {
 fn plays(rt: &impl Abort, alloc: Global, shelf: &Memory<'_>) {
     let mut out = IntoWrite::new(Vec::new(alloc));
     let mut err = IntoWrite::new(Vec::new(alloc));
-    let played = run(alloc, shelf, Ok(one_play()), &mut out, &mut err);
+    let played = run(alloc, shelf, one_play(), &mut out, &mut err);
     same(rt, "the play", played, 0);
     holds(rt, "its line", out.inner.as_slice() == b"ok 3\n".as_slice());
     let after = shelf.flushed.replace(Vec::new(alloc));

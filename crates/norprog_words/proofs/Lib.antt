@@ -2,3 +2,4 @@ mod NumberLemmas
 mod LineLemmas
 pub mod ToldLemmas
 pub mod ShelfLemmas
+pub mod ServedLemmas

@@ -1,5 +1,5 @@
 -- Refusals: which command line has one, and why.
-use Rattle.std.proofs.Common.{◌≡◌, ℕ, inl, inr, Option, None, ◌<◌, arith}
+use Rattle.std.proofs.Common.{◌≡◌, ℕ, Bool, true, inl, inr, Option, None, ◌<◌, arith}
 use Rattle.nor_job.specs.declared.fault.BuildFault.{BuildFault}
 use Rattle.nor_job.specs.declared.fault.BuildFault.TheVariants as fault
 use Rattle.norprog_words.specs.declared.faults.FileName.{FileName}
@@ -7,7 +7,7 @@ use Rattle.norprog_words.specs.declared.faults.Refusal.{Refusal}
 use Rattle.norprog_words.specs.declared.faults.Refusal.TheVariants.{Text, Usage, File, Build, Page, Script}
 use Rattle.norprog_words.specs.Files.{TellsFile}
 use Rattle.norprog_words.specs.Lines.{status_after}
-use Rattle.norprog_words.specs.Told.{ForAsked, OfFault, RefusesFor, Refuses}
+use Rattle.norprog_words.specs.Told.{ForAsked, OfFault, RefusesFor, Refuses, OrUsage}
 
 -- what is so of something is so of the same by another name
 pub asked_wider : (A : Type 0) (P Q Has : A → Type 0) → ((x : A) → P x → Q x) → ForAsked A P Has → ForAsked A Q Has
@@ -86,6 +86,10 @@ refuses_wider L M F G D E files wider more (Script why) is = wider (Script why) 
 -- a refusal of the work is one of a command line that has no fault
 pub refuses : (cause : Option Refusal) (Work : Refusal → Type 0) (why : Refusal) → cause ≡ None → Work why → Refuses cause Work why
 refuses cause Work why is work = rw is work
+
+-- a refusal of the work is one of texts that ask for it
+pub or_usage : (asks : Bool) (Work : Refusal → Type 0) (why : Refusal) → asks ≡ true → Work why → OrUsage asks Work why
+or_usage asks Work why is work = rw is work
 
 -- no refusal ends with status 0
 pub refused_status : (why : Refusal) (status : ℕ) → status ≡ status_after why → 0 < status

@@ -7,3 +7,5 @@ pub mod Setup
 pub mod Content
 pub mod Told
 pub mod Wrongs
+pub mod Request
+pub mod Served

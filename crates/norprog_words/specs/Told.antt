@@ -1,5 +1,5 @@
 -- What a command line's answer is: what it asks for was done, or a refusal is told (this project's).
-use Rattle.std.specs.Prelude.{◌≡◌, ◌⊎◌, ⊤, ℕ, Bool, if◌then◌else◌, Option, Some, None, Result, Ok, Err, List}
+use Rattle.std.specs.Prelude.{◌≡◌, ◌⊎◌, ⊤, ℕ, Bool, true, false, if◌then◌else◌, Option, Some, None, Result, Ok, Err, List}
 use Rattle.std.specs.Io.KnownBytes.{Appends}
 use Rattle.nor_job.specs.declared.fault.BuildFault.{BuildFault}
 use Rattle.nor_job.specs.declared.fault.BuildFault.TheVariants.{Memory, Write}
@@ -56,3 +56,13 @@ TellsOf Why Works before after status =
 abbrev pub Answers : Option Refusal → Type 0 → Type 0 → (Refusal → Type 0) → Type 0 → Option (List ℕ) → Option (List ℕ) → ℕ → Type 0
 Answers cause Done Cut Why Works before after status =
     ((cause ≡ None) × Done) ⊎ (Cut × TellsOf Why Works before after status)
+
+-- usage where texts ask for nothing, else a refusal of the work that they ask for
+abbrev pub OrUsage : Bool → (Refusal → Type 0) → Refusal → Type 0
+OrUsage true Work why = Work why
+OrUsage false Work why = why ≡ Usage
+
+-- what texts ask for was done; or no more than a part was printed, and such a refusal is told, or usage where they ask for nothing
+abbrev pub AnswersAsked : Bool → Type 0 → Type 0 → (Refusal → Type 0) → Type 0 → Option (List ℕ) → Option (List ℕ) → ℕ → Type 0
+AnswersAsked asks Done Cut Work Works before after status =
+    ((asks ≡ true) × Done) ⊎ (Cut × TellsOf (OrUsage asks Work) Works before after status)

@@ -8,6 +8,9 @@ mod disk;
 mod faults;
 mod files;
 mod given;
+mod inputs;
+mod opened;
+mod request;
 mod setup;
 mod shelf;
 mod values;
@@ -22,6 +25,9 @@ pub use given::{
     Given, GivenBuild, GivenCheck, GivenChip, GivenDraw, GivenList, GivenPlan, GivenPlay, GivenRun,
     GivenSetup,
 };
+pub use inputs::{Texts, inputs_of};
+pub use opened::open_job;
+pub use request::{Request, request_of};
 pub use setup::{Setup, known_chip, setup_inputs, setup_of};
 pub use shelf::{Shelf, noted_tables, tables_of};
 pub use values::{base, decimal, limit, part};

@@ -1,0 +1,71 @@
+-- What was built, and why nothing was, of a job that is asked for.
+use Rattle.std.proofs.Common.{◌≡◌, ℕ, ◌⊎◌, inl, inr, refl, List, Option, Some, Result, Ok, Err, IfOk, IfErr}
+use Rattle.std.specs.Prelude.{⊤}
+use Rattle.nor_base.specs.Device.{Ahead}
+use Rattle.nor_job.specs.declared.fault.BuildFault.{BuildFault}
+use Rattle.nor_job.specs.Causes.{RefusesInputs}
+use Rattle.nor_job.specs.Task.{Task}
+use Rattle.norprog.specs.Build.{IsBuilt, StopsWork}
+use Rattle.norprog.specs.declared.report.Report.{Report}
+use Rattle.norprog_words.specs.declared.faults.FileName.{FileName}
+use Rattle.norprog_words.specs.declared.faults.Refusal.{Refusal}
+use Rattle.norprog_words.specs.declared.faults.Refusal.TheVariants.{Build}
+use Rattle.norprog_words.specs.Told.{OfFault}
+use Rattle.norprog_words.proofs.ToldLemmas.{asked_wider, fault_wider, by_fault, refuses_wider}
+use Rattle.norprog_build.specs.Answer.{IsReportOf, IsBuildReport, IsFaultOf, IsBuildFault, RefusesBuild, done}
+use Rattle.norprog_words.specs.Served.{Job, job_with}
+
+pub report_of : {U E : Type 0} (Asked : Job → Type 0) (Sent : Option (List ℕ) → Type 0) (t : Task) (len : ℕ) (before after : Ahead) (held held' : Option (List ℕ))
+    (answer : Result Report BuildFault) (flushed : Result U E) (r : Result Report Refusal) → Asked (job_with t before len (Some held))
+    → IfOk answer (IsBuilt t len before after held held') → IfOk flushed (λ u. Sent held') → r ≡ done answer flushed → IfOk r (IsBuildReport Asked Sent)
+report_of Asked Sent t len before after held held' (Err why) flushed r asked built sent is = rw is tt
+report_of Asked Sent t len before after held held' (Ok report) (Err e) r asked built sent is = rw is tt
+report_of Asked Sent t len before after held held' (Ok report) (Ok u) r asked built sent is = rw is (record {
+  it = job_with t before len (Some held);
+  asked = asked;
+  has = record { after = after; held_before = held; held_after = held'; begun = refl; sent = sent; built = built };
+})
+
+pub refusal_of_build : {U E : Type 0} (Lacked : FileName → Type 0) (A B : Type 0) (Asked : Job → Type 0) (t : Task) (len : ℕ) (before after : Ahead) (held held' : Option (List ℕ))
+    (answer : Result Report BuildFault) (flushed : Result U E) (r : Result Report Refusal) → Asked (job_with t before len (Some held))
+    → IfOk answer (IsBuilt t len before after held held')
+    → IfErr answer (λ why. (RefusesInputs t len why × A × B) ⊎ StopsWork t len before after held held' why)
+    → r ≡ done answer flushed → IfErr r (RefusesBuild Lacked Asked)
+refusal_of_build Lacked A B Asked t len before after held held' (Err why) flushed r asked built refused is =
+    let cause : RefusesInputs t len why ⊎ StopsWork t len before after held held' why = elim refused [ inl early ↦ inl early.0 | inr late ↦ inr late ] in
+    rw is (by_fault Lacked (OfFault (IsBuildFault Asked)) _ (Build why) (record {
+      it = job_with t before len (Some held);
+      asked = asked;
+      has = record { after = after; held_before = held; held_after = held'; begun = refl; refused = cause };
+    }))
+refusal_of_build Lacked A B Asked t len before after held held' (Ok report) (Err e) r asked built refused is = rw is (inr (
+  report,
+  record {
+    it = job_with t before len (Some held);
+    asked = asked;
+    has = record { after = after; held_before = held; held_after = held'; begun = refl; sent = tt; built = built };
+  },
+))
+refusal_of_build Lacked A B Asked t len before after held held' (Ok report) (Ok u) r asked built refused is = rw is tt
+
+pub build_wider : (Lacked : FileName → Type 0) (A B : Job → Type 0) → ((j : Job) → A j → B j) → (why : Refusal) → RefusesBuild Lacked A why
+    → RefusesBuild Lacked B why
+build_wider Lacked A B wider =
+    refuses_wider Lacked Lacked (OfFault (IsBuildFault A)) (OfFault (IsBuildFault B)) ((report : Report) × IsBuildReport A (λ held. ⊤) report) ((report : Report) × IsBuildReport B (λ held. ⊤) report)
+    (λ name lacks. lacks) (fault_wider (IsBuildFault A) (IsBuildFault B) (λ why of. asked_wider Job A B (IsFaultOf why) wider of))
+    (λ late. (late.0, asked_wider Job A B (IsReportOf (λ held. ⊤) late.0) wider late.1))
+
+-- a report that wasn't printed is one that was built, whether it has gone out or not
+pub unsent : (Asked : Job → Type 0) (Sent : Option (List ℕ) → Type 0) (report : Report) → IsBuildReport Asked Sent report → IsBuildReport Asked (λ held. ⊤) report
+unsent Asked Sent report of = record {
+  it = of.it;
+  asked = of.asked;
+  has = record {
+    after = of.has.after;
+    held_before = of.has.held_before;
+    held_after = of.has.held_after;
+    begun = of.has.begun;
+    sent = tt;
+    built = of.has.built;
+  };
+}

@@ -1,0 +1,71 @@
+-- What was built is what the texts ask for.
+use Rattle.std.proofs.Common.{ap, inr, is_some, Some, option_map, ◌&&◌}
+use Rattle.nor_base.proofs.FaultLaws.{handed_on}
+use Rattle.norprog_words.proofs.ToldLemmas.{asked_wider, or_usage}
+use Rattle.norprog_build.specs.Served.{asks_build, ServesBuild}
+use Rattle.norprog_build.specs.Answer.{IsReportOf}
+use Rattle.norprog_words.specs.Served.{Job, IsJobOf}
+use Rattle.norprog_build.proofs.AnswerLemmas.{build_wider, unsent}
+use Rattle.norprog_build.proofs.ServedLemmas.{build_serves, build_asked}
+use Rattle.norprog_words.proofs.ServedLemmas.{no_job}
+use Rattle.norprog_build.proofs.command.report_build.Goals as goal
+
+pub returns-in-Ok-clause-printed : goal.returns-in-Ok-clause-printed
+returns-in-Ok-clause-printed g c =
+    let files = g.S.Shelf.facts c.args.shelf.now in
+    let out = ap (option_map (λ t. t.now)) c.in_ok-path.ensures.ok_part in
+    let wider = build_serves files c.args.given c.request_of.result c.in_ok-request.request c.in_ok-path.path.now
+    c.in_ok-request.ensures.ok_part c.request_of.ensures.values out in
+    record {
+      report = c.in_ok-report.report;
+      of_build = asked_wider Job (IsJobOf files c.in_ok-request.request (Some c.in_ok-path.path.now)) (ServesBuild files c.args.given) (IsReportOf files.flushed c.in_ok-report.report) wider c.in_ok-report.ensures.built;
+      put = c.in-Ok.ensures.bytes;
+    }
+
+pub returns-in_err-report-clause-first : goal.returns-in_err-report-clause-first
+returns-in_err-report-clause-first g c =
+    let files = g.S.Shelf.facts c.args.shelf.now in
+    let out = ap (option_map (λ t. t.now)) c.in_ok-path.ensures.ok_part in
+    let wider = build_serves files c.args.given c.request_of.result c.in_ok-request.request c.in_ok-path.path.now
+    c.in_ok-request.ensures.ok_part c.request_of.ensures.values out in
+    let formed = build_asked c.args.given c.request_of.result c.in_ok-request.request c.in_ok-path.path.now
+    c.in_ok-request.ensures.ok_part c.request_of.ensures.forms out in
+    handed_on _ _ _ c.from_residual-in_err-report.ensures.1
+    (or_usage _ _ _ formed (build_wider files.lacked (IsJobOf files c.in_ok-request.request (Some c.in_ok-path.path.now)) (ServesBuild files c.args.given) wider _ c.in_err-report.ensures.refused))
+
+pub returns-clause-unprinted : goal.returns-clause-unprinted
+returns-clause-unprinted g c =
+    let files = g.S.Shelf.facts c.args.shelf.now in
+    let out = ap (option_map (λ t. t.now)) c.in_ok-path.ensures.ok_part in
+    let wider = build_serves files c.args.given c.request_of.result c.in_ok-request.request c.in_ok-path.path.now
+    c.in_ok-request.ensures.ok_part c.request_of.ensures.values out in
+    inr (
+      c.in_ok-report.report,
+      asked_wider Job (IsJobOf files c.in_ok-request.request (Some c.in_ok-path.path.now)) (ServesBuild files c.args.given) (IsReportOf files.flushed c.in_ok-report.report) wider c.in_ok-report.ensures.built,
+      c.in-Err.ensures.bytes,
+    )
+
+pub returns-clause-first : goal.returns-clause-first
+returns-clause-first g c =
+    let files = g.S.Shelf.facts c.args.shelf.now in
+    let out = ap (option_map (λ t. t.now)) c.in_ok-path.ensures.ok_part in
+    let wider = build_serves files c.args.given c.request_of.result c.in_ok-request.request c.in_ok-path.path.now
+    c.in_ok-request.ensures.ok_part c.request_of.ensures.values out in
+    let formed = build_asked c.args.given c.request_of.result c.in_ok-request.request c.in_ok-path.path.now
+    c.in_ok-request.ensures.ok_part c.request_of.ensures.forms out in
+    or_usage _ _ _ formed (inr (
+      c.in_ok-report.report,
+      unsent (ServesBuild files c.args.given) files.flushed c.in_ok-report.report
+          (asked_wider Job (IsJobOf files c.in_ok-request.request (Some c.in_ok-path.path.now)) (ServesBuild files c.args.given) (IsReportOf files.flushed c.in_ok-report.report) wider c.in_ok-report.ensures.built),
+    ))
+
+pub returns-in_err-request-clause-first : goal.returns-in_err-request-clause-first
+returns-in_err-request-clause-first g c =
+    handed_on _ _ _ c.from_residual.ensures.1
+    (no_job (asks_build c.args.given) c.args.given.job c.request_of.result _ c.in_err-request.field-0.0
+    (ap (λ b. b && is_some c.args.given.out)) c.request_of.ensures.forms c.in_err-request.ensures.ok_part c.in_err-request.ensures.value)
+
+pub returns-in-Ok-clause-asked : goal.returns-in-Ok-clause-asked
+returns-in-Ok-clause-asked g c =
+    build_asked c.args.given c.request_of.result c.in_ok-request.request c.in_ok-path.path.now
+    c.in_ok-request.ensures.ok_part c.request_of.ensures.forms (ap (option_map (λ t. t.now)) c.in_ok-path.ensures.ok_part)

@@ -1,0 +1,71 @@
+-- What is told of a build (this project's).
+use Rattle.std.specs.Prelude.{◌≡◌, ◌⊎◌, ⊤, ℕ, List, Option, Some, Result, Ok, Err}
+use Rattle.std.specs.Io.KnownBytes.{Appends}
+use Rattle.nor_base.specs.Device.{Ahead, Cuts}
+use Rattle.nor_job.specs.declared.fault.BuildFault.{BuildFault}
+use Rattle.nor_job.specs.declared.fault.BuildFault.TheVariants.{Write}
+use Rattle.nor_job.specs.Causes.{RefusesInputs}
+use Rattle.norprog.specs.Build.{IsBuilt, StopsWork}
+use Rattle.norprog.specs.Report.{report_text}
+use Rattle.norprog.specs.declared.report.Report.{Report}
+use Rattle.norprog_words.specs.declared.faults.FileName.{FileName}
+use Rattle.norprog_words.specs.declared.faults.Refusal.{Refusal}
+use Rattle.norprog_words.specs.declared.faults.Refusal.TheVariants.{Build}
+use Rattle.norprog_words.specs.declared.given.GivenBuild.{GivenBuild}
+use Rattle.norprog_words.specs.Shelf.{FileFacts}
+use Rattle.norprog_words.specs.Told.{ForAsked, OfFault, RefusesFor, AnswersAsked}
+use Rattle.norprog_build.specs.Served.{asks_build, ServesBuild}
+use Rattle.norprog_words.specs.Served.{Job}
+
+-- the job was done, this is its report, and its output is so of what it had taken
+pub record IsReportOf (Sent : Option (List ℕ) → Type 0) (report : Report) (j : Job) : Type 0 where
+  pub after : Ahead
+  pub held_before : Option (List ℕ)
+  pub held_after : Option (List ℕ)
+  pub begun : j.begun ≡ Some held_before
+  pub sent : Sent held_after
+  pub built : IsBuilt j.task j.len j.content after held_before held_after report
+
+abbrev pub IsBuildReport : (Job → Type 0) → (Option (List ℕ) → Type 0) → Report → Type 0
+IsBuildReport Asked Sent report = ForAsked Job Asked (IsReportOf Sent report)
+
+-- the inputs of the job are refused, or its work stopped
+pub record IsFaultOf (why : BuildFault) (j : Job) : Type 0 where
+  pub after : Ahead
+  pub held_before : Option (List ℕ)
+  pub held_after : Option (List ℕ)
+  pub begun : j.begun ≡ Some held_before
+  pub refused : RefusesInputs j.task j.len why ⊎ StopsWork j.task j.len j.content after held_before held_after why
+
+abbrev pub IsBuildFault : (Job → Type 0) → BuildFault → Type 0
+IsBuildFault Asked why = ForAsked Job Asked (IsFaultOf why)
+
+-- why a build that was asked for isn't done; one that was may have failed to go out
+abbrev pub RefusesBuild : (FileName → Type 0) → (Job → Type 0) → Refusal → Type 0
+RefusesBuild Lacked Asked = RefusesFor Lacked (OfFault (IsBuildFault Asked)) ((report : Report) × IsBuildReport Asked (λ held. ⊤) report)
+
+-- the report of a job that was asked for and built was printed, and nothing else
+pub record PrintsReport (Asked : Job → Type 0) (Sent : Option (List ℕ) → Type 0) (before after : Option (List ℕ)) : Type 0 where
+  pub report : Report
+  pub of_build : IsBuildReport Asked Sent report
+  pub put : Appends before after (report_text report)
+
+-- nothing was printed, or a proper prefix of such a report
+abbrev pub CutsReport : (Job → Type 0) → (Option (List ℕ) → Type 0) → Option (List ℕ) → Option (List ℕ) → Type 0
+CutsReport Asked Sent before after =
+    (after ≡ before) ⊎ ((report : Report) × IsBuildReport Asked Sent report × Cuts before after (report_text report))
+
+-- a build is done where its file was flushed as well
+abbrev pub done : {U E : Type 0} → Result Report BuildFault → Result U E → Result Report Refusal
+done (Err why) flushed = Err (Build why)
+done (Ok report) (Err e) = Err (Build Write)
+done (Ok report) (Ok u) = Ok report
+
+-- what `build` answers to the texts of a command line: the report at status 0, after the script has gone out; or a refusal
+abbrev pub AnswersBuild : FileFacts → GivenBuild → Option (List ℕ) → Option (List ℕ) → Type 0 → Type 0 → Option (List ℕ) → Option (List ℕ) → ℕ → Type 0
+AnswersBuild files given before after Quiet Works told_before told_after status =
+    AnswersAsked (asks_build given)
+    ((status ≡ 0) × PrintsReport (ServesBuild files given) files.flushed before after × Quiet)
+    (CutsReport (ServesBuild files given) files.flushed before after)
+    (RefusesBuild files.lacked (ServesBuild files given))
+    Works told_before told_after status

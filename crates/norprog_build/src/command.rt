@@ -1,0 +1,94 @@
+//! `build`: from the texts of the command line to the script in its file.
+
+ghost use Rattle.std.specs.Prelude.{◌≡◌, ◌<◌, ◌≤◌, ◌-◌, ◌^◌, Some, true, IfOk, IfErr};
+ghost use Rattle.norprog_words.specs.Told.{OrUsage};
+ghost use Rattle.norprog_build.specs.Served.{asks_build, ServesBuild};
+ghost use Rattle.norprog_build.specs.Answer.{IsBuildReport, RefusesBuild, PrintsReport, CutsReport, AnswersBuild, done};
+ghost use Rattle.norprog_words.specs.Served.{IsJobOf};
+
+use nor_base::{ByteOut, Failed};
+use norprog::{BuildFault, Report, write_report};
+use norprog_words::{
+    FileName, GivenBuild, Refusal, Request, Shelf, inputs_of, open_job, refuse, request_of,
+};
+use std::alloc::Global;
+
+/// Does what the texts of a command line ask for. It opens the files that they name, writes the report to `out` and a
+/// refusal to `err` (docs/FORMATS.md, section 9), and answers the status: 0 done, 1 refused, 2 usage. The script's file is
+/// made as none of the files that are read.
+///
+/// Usage is told where the texts ask for no build.
+pub fn build<S: Shelf, O: ByteOut, E: ByteOut>(
+    alloc: Global,
+    shelf: &S,
+    given: GivenBuild<'_>,
+    out: &mut O,
+    err: &mut E,
+) -> u8
+    requires out { O.count out.old < 2 ^ 64 - 1 }
+    requires err { E.count err.old < 2 ^ 64 - 1 }
+    ensures status { result ≤ 2 }
+    ensures quiet { result ≡ 0 → err.new ≡ err.old }
+    ensures answer { AnswersBuild (S.facts shelf.now) given.entry (O.held out.old) (O.held out.new) (err.new ≡ err.old)
+        (E.count err.new ≡ E.count err.old) (E.held err.old) (E.held err.new) result }
+{
+    match report_build(alloc, shelf, given, out) {
+        Ok(()) => 0,
+        Err(refusal) => refuse(&refusal, err),
+    }
+}
+
+/// Builds what is asked for, and writes the report.
+fn report_build<S: Shelf, O: ByteOut>(
+    alloc: Global,
+    shelf: &S,
+    given: GivenBuild<'_>,
+    out: &mut O,
+) -> Result<(), Refusal>
+    requires { O.count out.old < 2 ^ 64 - 1 }
+    ensures printed { IfOk result (λ _. PrintsReport (ServesBuild (S.facts shelf.now) given.entry) (S.facts shelf.now).flushed
+        (O.held out.old) (O.held out.new)) }
+    ensures unprinted { IfErr result (λ _. CutsReport (ServesBuild (S.facts shelf.now) given.entry) (S.facts shelf.now).flushed
+        (O.held out.old) (O.held out.new)) }
+    ensures asked { IfOk result (λ _. asks_build given.entry ≡ true) }
+    ensures first { IfErr result (OrUsage (asks_build given.entry) (RefusesBuild (S.facts shelf.now).lacked
+        (ServesBuild (S.facts shelf.now) given.entry))) }
+{
+    let request = request_of(given.job).ok_or(Refusal::Usage)?;
+    let path = given.out.ok_or(Refusal::Usage)?;
+    let report = run_build(alloc, shelf, &request, path)?;
+    match write_report(&report, out) {
+        Ok(()) => Ok(()),
+        Err(_) => Err(Refusal::WRITE),
+    }
+}
+
+/// Opens the files of a request in their order, and builds into the file of that name.
+fn run_build<S: Shelf>(
+    alloc: Global,
+    shelf: &S,
+    request: &Request<'_>,
+    path: &str,
+) -> Result<Report, Refusal>
+    ensures built { IfOk result (IsBuildReport (IsJobOf (S.facts shelf.now) request.now (Some path.now)) (S.facts shelf.now).flushed) }
+    ensures refused { IfErr result (RefusesBuild (S.facts shelf.now).lacked (IsJobOf (S.facts shelf.now) request.now (Some path.now))) }
+{
+    let mut places = Vec::new(alloc);
+    let (texts, mut content, len) = open_job(alloc, shelf, request, &mut places)?;
+    let mut script = shelf.create(alloc, path, FileName::Out, places.as_slice())?;
+    let inputs = inputs_of(request, &texts);
+    let answer = norprog::build(alloc, &inputs, &mut content, len, &mut script);
+    let flushed = shelf.flush(&mut script);
+    done(answer, flushed)
+}
+
+/// The report of a build whose file was flushed: done only where both are.
+fn done(answer: Result<Report, BuildFault>, flushed: Result<(), Failed>) -> Result<Report, Refusal>
+    ensures { result ≡ done answer flushed }
+{
+    match (answer, flushed) {
+        (Err(fault), _) => Err(Refusal::Build(fault)),
+        (Ok(_), Err(_)) => Err(Refusal::WRITE),
+        (Ok(report), Ok(())) => Ok(report),
+    }
+}

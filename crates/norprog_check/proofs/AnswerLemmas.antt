@@ -1,0 +1,110 @@
+-- What was judged, and why nothing was, of a job that is asked for.
+use Rattle.std.proofs.Common.{◌≡◌, ℕ, ◌⊎◌, inl, inr, refl, List, Result, Ok, Err, IfOk, IfErr}
+use Rattle.nor_base.specs.Device.{Ahead}
+use Rattle.nor_check.specs.declared.verdict.Verdict.{Verdict}
+use Rattle.nor_script.specs.declared.fault.ScriptFault.TheVariants as script
+use Rattle.norprog_check.specs.declared.fault.CheckStop.{CheckStop}
+use Rattle.norprog_check.specs.declared.fault.CheckStop.TheVariants as stop
+use Rattle.norprog_check.specs.declared.fault.StreamStop.{StreamStop}
+use Rattle.norprog_check.specs.declared.fault.StreamStop.TheVariants as stream
+use Rattle.norprog_check.specs.Checked.{RefusesTexts, StopsCheck}
+use Rattle.norprog_check.specs.Streams.{RefusesTask, StopsReading, StopsAtContent, StopsFeeding}
+use Rattle.norprog_check.proofs.StopLaws.{some_text}
+use Rattle.norprog_words.specs.declared.faults.FileName.{FileName}
+use Rattle.norprog_words.specs.declared.faults.FileName.TheVariants as file
+use Rattle.norprog_words.specs.declared.faults.Refusal.{Refusal}
+use Rattle.norprog_words.specs.declared.faults.Refusal.TheVariants.{Text, Usage, File, Build, Page, Script}
+use Rattle.norprog_words.proofs.ToldLemmas.{asked_wider, by_fault, refuses_wider}
+use Rattle.norprog_words.specs.Served.{Job, Is}
+use Rattle.norprog_check.specs.Answer.{IsCheckVerdict, IsStopOf, IsCheckFault, RefusesCheck, stop_refusal, stream_refusal}
+
+pub stop_of : (Lacked : FileName → Type 0) (Asked : Job → Type 0) (IsText : List ℕ → Type 0) (j : Job) (text : List ℕ) (after : Ahead) (why : CheckStop) → Asked j
+    → RefusesTexts j.task j.len text why ⊎ StopsCheck j.task j.len text j.content after why → RefusesCheck Lacked Asked IsText (stop_refusal why)
+stop_of Lacked Asked IsText j text after (stop.Build why) asked stopped = by_fault Lacked (IsCheckFault Asked) _ (Build why) (record {
+  it = j;
+  asked = asked;
+  has = record { text = text; after = after; stopped = stopped };
+})
+stop_of Lacked Asked IsText j text after (stop.Script script.Memory) asked stopped = tt
+stop_of Lacked Asked IsText j text after (stop.Script (script.Header line)) asked stopped = record {
+  it = j;
+  asked = asked;
+  has = record { text = text; after = after; stopped = stopped };
+}
+stop_of Lacked Asked IsText j text after (stop.Script (script.BadLine line)) asked stopped = record {
+  it = j;
+  asked = asked;
+  has = record { text = text; after = after; stopped = stopped };
+}
+stop_of Lacked Asked IsText j text after (stop.Script (script.BadSymbol line)) asked stopped = record {
+  it = j;
+  asked = asked;
+  has = record { text = text; after = after; stopped = stopped };
+}
+stop_of Lacked Asked IsText j text after (stop.Script (script.BadCount line)) asked stopped = record {
+  it = j;
+  asked = asked;
+  has = record { text = text; after = after; stopped = stopped };
+}
+stop_of Lacked Asked IsText j text after (stop.Script (script.NoEnd line)) asked stopped = record {
+  it = j;
+  asked = asked;
+  has = record { text = text; after = after; stopped = stopped };
+}
+stop_of Lacked Asked IsText j text after (stop.Script (script.AfterEnd line)) asked stopped = record {
+  it = j;
+  asked = asked;
+  has = record { text = text; after = after; stopped = stopped };
+}
+
+pub refusal_of_check : (Lacked : FileName → Type 0) (C : Type 0) (IsText : List ℕ → Type 0) (j : Job) (text : List ℕ) (after : Ahead) (why : CheckStop) (told : Refusal)
+    → (RefusesTexts j.task j.len text why × C) ⊎ StopsCheck j.task j.len text j.content after why → told ≡ stop_refusal why → RefusesCheck Lacked (Is j) IsText told
+refusal_of_check Lacked C IsText j text after why told refused is =
+    let cause : RefusesTexts j.task j.len text why ⊎ StopsCheck j.task j.len text j.content after why = elim refused [ inl early ↦ inl early.0 | inr late ↦ inr late ] in
+    rw is (stop_of Lacked (Is j) IsText j text after why refl cause)
+
+-- a check of a script that is read twice
+
+pub refusal_of_streams : (P Q R S : Type 0) (IsText : List ℕ → Type 0) (j : Job) (first over again rest after : Ahead) (why : StreamStop) (told : Refusal)
+    → (RefusesTask j.task j.len why × P × Q × S)
+    ⊎ ((StopsReading j.task j.len first over why × R × S)
+    ⊎ ((StopsAtContent j.task j.len first over j.content after why × R) ⊎ StopsFeeding j.task j.len first over again rest j.content after why))
+    → told ≡ stream_refusal why → RefusesCheck (λ name. name ≡ file.Script) (Is j) IsText told
+refusal_of_streams P Q R S IsText j first over again rest after (stream.Check why) told refused is =
+    let of = some_text j.task j.len first over again rest j.content after P Q R S why refused in
+    rw is (stop_of (λ name. name ≡ file.Script) (Is j) IsText j of.0 after why refl of.1)
+refusal_of_streams P Q R S IsText j first over again rest after (stream.First failed) told refused is = rw is (inl refl)
+refusal_of_streams P Q R S IsText j first over again rest after (stream.Again failed) told refused is = rw is (inl refl)
+
+check_fault_wider : (A B : Job → Type 0) → ((j : Job) → A j → B j) → (why : Refusal) → IsCheckFault A why → IsCheckFault B why
+check_fault_wider A B wider (Build why) of = asked_wider Job A B (IsStopOf (stop.Build why)) wider of
+check_fault_wider A B wider (Script why) of = asked_wider Job A B (IsStopOf (stop.Script why)) wider of
+check_fault_wider A B wider (Text words) of = absurd of
+check_fault_wider A B wider Usage of = absurd of
+check_fault_wider A B wider (File name) of = absurd of
+check_fault_wider A B wider Page of = absurd of
+
+pub verdict_wider : (A B : Job → Type 0) (P Q : List ℕ → Type 0) → ((j : Job) → A j → B j) → ((text : List ℕ) → P text → Q text) → (verdict : Verdict)
+    → IsCheckVerdict A P verdict → IsCheckVerdict B Q verdict
+verdict_wider A B P Q wider more verdict of = record {
+  it = of.it;
+  asked = wider of.it of.asked;
+  has = record { text = of.has.text; script = more of.has.text of.has.script; after = of.has.after; checked = of.has.checked };
+}
+
+pub check_wider : (L M : FileName → Type 0) (A B : Job → Type 0) (P Q : List ℕ → Type 0) → ((name : FileName) → L name → M name) → ((j : Job) → A j → B j) → ((text : List ℕ) → P text → Q text) → (why : Refusal)
+    → RefusesCheck L A P why → RefusesCheck M B Q why
+check_wider L M A B P Q files wider more =
+    refuses_wider L M (IsCheckFault A) (IsCheckFault B) ((verdict : Verdict) × IsCheckVerdict A P verdict) ((verdict : Verdict) × IsCheckVerdict B Q verdict)
+    files (check_fault_wider A B wider) (λ late. (late.0, verdict_wider A B P Q wider more late.0 late.1))
+
+-- the same of an answer
+pub verdicts_wider : (A B : Job → Type 0) (P Q : List ℕ → Type 0) → ((j : Job) → A j → B j) → ((text : List ℕ) → P text → Q text) → (r : Result Verdict Refusal)
+    → IfOk r (IsCheckVerdict A P) → IfOk r (IsCheckVerdict B Q)
+verdicts_wider A B P Q wider more (Ok verdict) of = verdict_wider A B P Q wider more verdict of
+verdicts_wider A B P Q wider more (Err why) of = tt
+
+pub refusals_wider : (L M : FileName → Type 0) (A B : Job → Type 0) (P Q : List ℕ → Type 0) → ((name : FileName) → L name → M name) → ((j : Job) → A j → B j) → ((text : List ℕ) → P text → Q text) → (r : Result Verdict Refusal)
+    → IfErr r (RefusesCheck L A P) → IfErr r (RefusesCheck M B Q)
+refusals_wider L M A B P Q files wider more (Ok verdict) of = tt
+refusals_wider L M A B P Q files wider more (Err why) of = check_wider L M A B P Q files wider more why of

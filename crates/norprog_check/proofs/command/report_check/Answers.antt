@@ -1,0 +1,71 @@
+-- The verdict is on what the texts ask for.
+use Rattle.std.proofs.Common.{ap, inr, is_some, None, option_map, ◌&&◌}
+use Rattle.norprog_words.specs.Shelf.{IsTextIn}
+use Rattle.norprog_words.specs.Told.{OrScript}
+use Rattle.nor_base.proofs.FaultLaws.{handed_on}
+use Rattle.norprog_words.proofs.ToldLemmas.{or_usage}
+use Rattle.norprog_check.specs.Served.{asks_check, ServesCheck, ServesScript}
+use Rattle.norprog_words.specs.Served.{IsJobOf}
+use Rattle.norprog_check.proofs.AnswerLemmas.{check_wider, verdict_wider}
+use Rattle.norprog_check.proofs.ServedLemmas.{check_serves, check_asked, script_serves}
+use Rattle.norprog_words.proofs.ServedLemmas.{no_job}
+use Rattle.norprog_check.proofs.command.report_check.Goals as goal
+
+pub returns-in-Ok-clause-checked : goal.returns-in-Ok-clause-checked
+returns-in-Ok-clause-checked g c =
+    let files = g.S.Shelf.facts c.args.shelf.now in
+    let script = ap (option_map (λ t. t.now)) c.in_ok-path.ensures.ok_part in
+    let wider = check_serves files c.args.given c.request_of.result c.in_ok-request.request
+    c.in_ok-request.ensures.ok_part c.request_of.ensures.values in
+    let more = script_serves files c.args.given c.in_ok-path.path.now script in
+    verdict_wider (IsJobOf files c.in_ok-request.request None) (ServesCheck files c.args.given) (IsTextIn files c.in_ok-path.path.now) (ServesScript files c.args.given) wider more c.in_ok-verdict.verdict c.in_ok-verdict.ensures.checked
+
+pub returns-in_err-verdict-clause-first : goal.returns-in_err-verdict-clause-first
+returns-in_err-verdict-clause-first g c =
+    let files = g.S.Shelf.facts c.args.shelf.now in
+    let script = ap (option_map (λ t. t.now)) c.in_ok-path.ensures.ok_part in
+    let wider = check_serves files c.args.given c.request_of.result c.in_ok-request.request
+    c.in_ok-request.ensures.ok_part c.request_of.ensures.values in
+    let more = script_serves files c.args.given c.in_ok-path.path.now script in
+    let formed = check_asked c.args.given c.request_of.result c.in_ok-request.request c.in_ok-path.path.now
+    c.in_ok-request.ensures.ok_part c.request_of.ensures.forms script in
+    handed_on _ _ _ c.from_residual-in_err-verdict.ensures.1
+    (or_usage _ _ _ formed (check_wider (OrScript files.lacked) (OrScript files.lacked) (IsJobOf files c.in_ok-request.request None) (ServesCheck files c.args.given) (IsTextIn files c.in_ok-path.path.now) (ServesScript files c.args.given) (λ name lacks. lacks) wider more _ c.in_err-verdict.ensures.refused))
+
+pub returns-clause-unprinted : goal.returns-clause-unprinted
+returns-clause-unprinted g c =
+    let files = g.S.Shelf.facts c.args.shelf.now in
+    let script = ap (option_map (λ t. t.now)) c.in_ok-path.ensures.ok_part in
+    let wider = check_serves files c.args.given c.request_of.result c.in_ok-request.request
+    c.in_ok-request.ensures.ok_part c.request_of.ensures.values in
+    let more = script_serves files c.args.given c.in_ok-path.path.now script in
+    inr (
+      c.in_ok-verdict.verdict,
+      verdict_wider (IsJobOf files c.in_ok-request.request None) (ServesCheck files c.args.given) (IsTextIn files c.in_ok-path.path.now) (ServesScript files c.args.given) wider more c.in_ok-verdict.verdict c.in_ok-verdict.ensures.checked,
+      c.in-Err.ensures.bytes,
+    )
+
+pub returns-clause-first : goal.returns-clause-first
+returns-clause-first g c =
+    let files = g.S.Shelf.facts c.args.shelf.now in
+    let script = ap (option_map (λ t. t.now)) c.in_ok-path.ensures.ok_part in
+    let wider = check_serves files c.args.given c.request_of.result c.in_ok-request.request
+    c.in_ok-request.ensures.ok_part c.request_of.ensures.values in
+    let more = script_serves files c.args.given c.in_ok-path.path.now script in
+    let formed = check_asked c.args.given c.request_of.result c.in_ok-request.request c.in_ok-path.path.now
+    c.in_ok-request.ensures.ok_part c.request_of.ensures.forms script in
+    or_usage _ _ _ formed (inr (
+      c.in_ok-verdict.verdict,
+      verdict_wider (IsJobOf files c.in_ok-request.request None) (ServesCheck files c.args.given) (IsTextIn files c.in_ok-path.path.now) (ServesScript files c.args.given) wider more c.in_ok-verdict.verdict c.in_ok-verdict.ensures.checked,
+    ))
+
+pub returns-in_err-request-clause-first : goal.returns-in_err-request-clause-first
+returns-in_err-request-clause-first g c =
+    handed_on _ _ _ c.from_residual.ensures.1
+    (no_job (asks_check c.args.given) c.args.given.job c.request_of.result _ c.in_err-request.field-0.0
+    (ap (λ b. b && is_some c.args.given.script)) c.request_of.ensures.forms c.in_err-request.ensures.ok_part c.in_err-request.ensures.value)
+
+pub returns-in-Ok-clause-asked : goal.returns-in-Ok-clause-asked
+returns-in-Ok-clause-asked g c =
+    check_asked c.args.given c.request_of.result c.in_ok-request.request c.in_ok-path.path.now
+    c.in_ok-request.ensures.ok_part c.request_of.ensures.forms (ap (option_map (λ t. t.now)) c.in_ok-path.ensures.ok_part)

@@ -1,0 +1,82 @@
+-- What is told of a check, and the status that it ends with (this project's).
+use Rattle.std.specs.Prelude.{◌≡◌, ◌⊎◌, ℕ, List, Option}
+use Rattle.std.specs.Io.KnownBytes.{Appends}
+use Rattle.nor_base.specs.Device.{Ahead, Cuts}
+use Rattle.nor_check.specs.declared.verdict.Verdict.{Verdict}
+use Rattle.nor_check.specs.declared.verdict.Verdict.TheVariants.{Yes, No}
+use Rattle.norprog_check.specs.declared.fault.CheckStop.{CheckStop}
+use Rattle.norprog_check.specs.declared.fault.CheckStop.TheVariants as stop
+use Rattle.norprog_check.specs.declared.fault.StreamStop.{StreamStop}
+use Rattle.norprog_check.specs.declared.fault.StreamStop.TheVariants as stream
+use Rattle.norprog_check.specs.Checked.{IsChecked, RefusesTexts, StopsCheck}
+use Rattle.norprog_check.specs.Line.{verdict_text}
+use Rattle.norprog_words.specs.declared.faults.FileName.{FileName}
+use Rattle.norprog_words.specs.declared.faults.Refusal.{Refusal}
+use Rattle.norprog_words.specs.declared.faults.FileName.TheVariants as file
+use Rattle.norprog_words.specs.declared.faults.Refusal.TheVariants.{File, Build, Script}
+use Rattle.norprog_words.specs.Lines.{script_refusal}
+use Rattle.norprog_words.specs.declared.given.GivenCheck.{GivenCheck}
+use Rattle.norprog_words.specs.Shelf.{FileFacts}
+use Rattle.norprog_words.specs.Told.{ForAsked, RefusesFor, OrScript, AnswersAsked}
+use Rattle.norprog_check.specs.Served.{asks_check, ServesCheck, ServesScript}
+use Rattle.norprog_words.specs.Served.{Job}
+
+-- 0 where the script does its job, else 1
+abbrev pub verdict_status : Verdict → ℕ
+verdict_status Yes = 0
+verdict_status (No step why) = 1
+
+-- a text that is so was checked for the job, and this is the verdict
+pub record IsVerdictOf (IsText : List ℕ → Type 0) (verdict : Verdict) (j : Job) : Type 0 where
+  pub text : List ℕ
+  pub script : IsText text
+  pub after : Ahead
+  pub checked : IsChecked j.task j.len text j.content after verdict
+
+abbrev pub IsCheckVerdict : (Job → Type 0) → (List ℕ → Type 0) → Verdict → Type 0
+IsCheckVerdict Asked IsText verdict = ForAsked Job Asked (IsVerdictOf IsText verdict)
+
+-- the check of some text for the job stopped so
+pub record IsStopOf (why : CheckStop) (j : Job) : Type 0 where
+  pub text : List ℕ
+  pub after : Ahead
+  pub stopped : RefusesTexts j.task j.len text why ⊎ StopsCheck j.task j.len text j.content after why
+
+abbrev pub IsCheckFault : (Job → Type 0) → Refusal → Type 0
+IsCheckFault Asked (Build why) = ForAsked Job Asked (IsStopOf (stop.Build why))
+IsCheckFault Asked (Script why) = ForAsked Job Asked (IsStopOf (stop.Script why))
+IsCheckFault Asked other = ⊥
+
+-- why a check that was asked for has no verdict
+abbrev pub RefusesCheck : (FileName → Type 0) → (Job → Type 0) → (List ℕ → Type 0) → Refusal → Type 0
+RefusesCheck Lacked Asked IsText = RefusesFor Lacked (IsCheckFault Asked) ((verdict : Verdict) × IsCheckVerdict Asked IsText verdict)
+
+-- a check's stop as a refusal: want of memory is the program's own
+abbrev pub stop_refusal : CheckStop → Refusal
+stop_refusal (stop.Build why) = Build why
+stop_refusal (stop.Script why) = script_refusal why
+
+-- the same of a script that is read twice: a failure of either reading is the script's file
+abbrev pub stream_refusal : StreamStop → Refusal
+stream_refusal (stream.Check why) = stop_refusal why
+stream_refusal (stream.First failed) = File file.Script
+stream_refusal (stream.Again failed) = File file.Script
+
+-- the line of the verdict of a check that was asked for was printed, whose status it is
+abbrev pub PrintsJudgement : (Job → Type 0) → (List ℕ → Type 0) → Option (List ℕ) → Option (List ℕ) → ℕ → Type 0
+PrintsJudgement Asked IsText before after status =
+    (verdict : Verdict) × (status ≡ verdict_status verdict) × IsCheckVerdict Asked IsText verdict × Appends before after (verdict_text verdict)
+
+-- nothing was printed, or a proper prefix of such a line
+abbrev pub CutsVerdict : (Job → Type 0) → (List ℕ → Type 0) → Option (List ℕ) → Option (List ℕ) → Type 0
+CutsVerdict Asked IsText before after =
+    (after ≡ before) ⊎ ((verdict : Verdict) × IsCheckVerdict Asked IsText verdict × Cuts before after (verdict_text verdict))
+
+-- what `check` answers to the texts of a command line: the line of the verdict, whose status it is, or a refusal
+abbrev pub AnswersCheck : FileFacts → GivenCheck → Option (List ℕ) → Option (List ℕ) → Type 0 → Type 0 → Option (List ℕ) → Option (List ℕ) → ℕ → Type 0
+AnswersCheck files given before after Quiet Works told_before told_after status =
+    AnswersAsked (asks_check given)
+    (PrintsJudgement (ServesCheck files given) (ServesScript files given) before after status × Quiet)
+    (CutsVerdict (ServesCheck files given) (ServesScript files given) before after)
+    (RefusesCheck (OrScript files.lacked) (ServesCheck files given) (ServesScript files given))
+    Works told_before told_after status

@@ -1,0 +1,151 @@
+//! `check`: from the texts of the command line to the verdict on a script.
+
+ghost use Rattle.std.specs.Prelude.{◌≡◌, ◌<◌, ◌≤◌, ◌-◌, ◌^◌, None, true, IfOk, IfErr};
+ghost use Rattle.std.specs.Io.KnownBytes.{Appends};
+ghost use Rattle.norprog_check.specs.Line.{verdict_text};
+ghost use Rattle.norprog_words.specs.Shelf.{DoNotFail, IsTextIn, IsTextOfFile};
+ghost use Rattle.norprog_words.specs.declared.faults.FileName.TheVariants.{Script};
+ghost use Rattle.norprog_words.specs.Told.{OrScript, OrUsage};
+ghost use Rattle.norprog_check.specs.Served.{asks_check, ServesCheck, ServesScript};
+ghost use Rattle.norprog_words.specs.Served.{job_with, Is, IsJobOf};
+ghost use Rattle.norprog_check.specs.Answer.{verdict_status, stop_refusal, stream_refusal, IsCheckVerdict, RefusesCheck, CutsVerdict, AnswersCheck};
+
+use crate::checker::check_script;
+use crate::fault::{CheckStop, StreamStop};
+use crate::line::write_verdict;
+use crate::streams::check_streams;
+use nor_base::{ByteIn, ByteOut};
+use nor_check::Verdict;
+use nor_job::Inputs;
+use norprog_words::{
+    FileName, GivenCheck, Refusal, Request, ScriptFile, Shelf, inputs_of, open_job, refuse,
+    request_of,
+};
+use std::alloc::Global;
+
+/// Writes to `out` whether a script does the job on a command line, or a refusal to `err` (docs/FORMATS.md, section 9), and
+/// answers the status: 0 it does, 1 it doesn't or is refused, 2 usage.
+///
+/// Usage is told where the texts ask for no check.
+pub fn check<S: Shelf, O: ByteOut, E: ByteOut>(
+    alloc: Global,
+    shelf: &S,
+    given: GivenCheck<'_>,
+    out: &mut O,
+    err: &mut E,
+) -> u8
+    requires out { O.count out.old < 2 ^ 64 - 1 }
+    requires err { E.count err.old < 2 ^ 64 - 1 }
+    ensures status { result ≤ 2 }
+    ensures quiet { result ≡ 0 → err.new ≡ err.old }
+    ensures answer { AnswersCheck (S.facts shelf.now) given.entry (O.held out.old) (O.held out.new) (err.new ≡ err.old)
+        (E.count err.new ≡ E.count err.old) (E.held err.old) (E.held err.new) result }
+{
+    match report_check(alloc, shelf, given, out) {
+        Ok(verdict) => exit_status(verdict),
+        Err(refusal) => refuse(&refusal, err),
+    }
+}
+
+/// 0 where a script does its job, else 1.
+fn exit_status(verdict: Verdict) -> u8
+    ensures { result ≡ verdict_status verdict }
+{
+    match verdict {
+        Verdict::Yes => 0,
+        Verdict::No { step: _, why: _ } => 1,
+    }
+}
+
+/// Checks what is asked for, and writes the verdict.
+fn report_check<S: Shelf, O: ByteOut>(
+    alloc: Global,
+    shelf: &S,
+    given: GivenCheck<'_>,
+    out: &mut O,
+) -> Result<Verdict, Refusal>
+    requires { O.count out.old < 2 ^ 64 - 1 }
+    ensures checked { IfOk result (IsCheckVerdict (ServesCheck (S.facts shelf.now) given.entry) (ServesScript (S.facts shelf.now) given.entry)) }
+    ensures printed { IfOk result (λ verdict. Appends (O.held out.old) (O.held out.new) (verdict_text verdict)) }
+    ensures unprinted { IfErr result (λ _. CutsVerdict (ServesCheck (S.facts shelf.now) given.entry) (ServesScript (S.facts shelf.now) given.entry)
+        (O.held out.old) (O.held out.new)) }
+    ensures asked { IfOk result (λ _. asks_check given.entry ≡ true) }
+    ensures first { IfErr result (OrUsage (asks_check given.entry) (RefusesCheck (OrScript (S.facts shelf.now).lacked)
+        (ServesCheck (S.facts shelf.now) given.entry) (ServesScript (S.facts shelf.now) given.entry))) }
+{
+    let request = request_of(given.job).ok_or(Refusal::Usage)?;
+    let path = given.script.ok_or(Refusal::Usage)?;
+    let verdict = run_check(alloc, shelf, &request, path)?;
+    match write_verdict(&verdict, out) {
+        Ok(()) => Ok(verdict),
+        Err(_) => Err(Refusal::WRITE),
+    }
+}
+
+/// Opens the files of a request in their order, the script last, and checks it.
+fn run_check<S: Shelf>(
+    alloc: Global,
+    shelf: &S,
+    request: &Request<'_>,
+    path: &str,
+) -> Result<Verdict, Refusal>
+    ensures checked { IfOk result (IsCheckVerdict (IsJobOf (S.facts shelf.now) request.now None) (IsTextIn (S.facts shelf.now) path.now)) }
+    ensures refused { IfErr result (RefusesCheck (OrScript (S.facts shelf.now).lacked)
+        (IsJobOf (S.facts shelf.now) request.now None) (IsTextIn (S.facts shelf.now) path.now)) }
+{
+    let mut places = Vec::new(alloc);
+    let (texts, mut content, len) = open_job(alloc, shelf, request, &mut places)?;
+    let (script, _place) = shelf.open_script(alloc, path)?;
+    let inputs = inputs_of(request, &texts);
+    check_file(alloc, &inputs, script, &mut content, len)
+}
+
+/// Checks a script's file for the job of these inputs. A file that can be read twice isn't held.
+fn check_file<F: ByteIn + Drop, R: ByteIn>(
+    alloc: Global,
+    inputs: &Inputs<'_>,
+    script: ScriptFile<F>,
+    content: &mut R,
+    len: u64,
+) -> Result<Verdict, Refusal>
+    requires script { DoNotFail F.count script }
+    requires count { R.count content.old < 2 ^ 64 - 1 }
+    ensures checked { IfOk result (IsCheckVerdict (Is (job_with inputs.now (R.ahead content.old) len None)) (IsTextOfFile F.ahead script)) }
+    ensures refused { IfErr result (RefusesCheck (λ told. told ≡ Script)
+        (Is (job_with inputs.now (R.ahead content.old) len None)) (IsTextOfFile F.ahead script)) }
+{
+    match script {
+        ScriptFile::Twice(mut first, mut again) => {
+            match check_streams(alloc, inputs, &mut first, &mut again, content, len) {
+                Ok(verdict) => Ok(verdict),
+                Err(stop) => Err(refused_reading(stop)),
+            }
+        }
+        ScriptFile::Held(text) => {
+            match check_script(alloc, inputs, text.as_slice(), content, len) {
+                Ok(verdict) => Ok(verdict),
+                Err(stop) => Err(refused(stop)),
+            }
+        }
+    }
+}
+
+/// Why there is no verdict on a script that is read twice, as a refusal.
+fn refused_reading(stop: StreamStop) -> Refusal
+    ensures { result ≡ stream_refusal stop }
+{
+    match stop {
+        StreamStop::Check(stop) => refused(stop),
+        StreamStop::First(_) | StreamStop::Again(_) => Refusal::File(FileName::Script),
+    }
+}
+
+/// Why there is no verdict, as a refusal.
+fn refused(stop: CheckStop) -> Refusal
+    ensures { result ≡ stop_refusal stop }
+{
+    match stop {
+        CheckStop::Build(fault) => Refusal::Build(fault),
+        CheckStop::Script(fault) => Refusal::from(fault),
+    }
+}

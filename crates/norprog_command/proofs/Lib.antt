@@ -1,3 +1,0 @@
-mod ServedLemmas
-mod AskedLemmas
-mod DrawnLemmas

@@ -1,0 +1,3 @@
+mod ServedLemmas
+mod AnswerLemmas
+mod DrawnLemmas

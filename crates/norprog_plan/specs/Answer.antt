@@ -1,0 +1,170 @@
+-- What is told of a plan (this project's).
+use Rattle.std.specs.Prelude.{◌≡◌, ◌⊎◌, ⊤, ℕ, Bool, true, false, List, [], ◌++◌, Option, Some, None, is_some, option_map}
+use Rattle.std.specs.Io.KnownBytes.{Appends}
+use Rattle.nor_base.specs.Device.{Ahead, Cuts}
+use Rattle.nor_base.specs.Parameters.{Parameters}
+use Rattle.nor_job.specs.declared.fault.BuildFault.{BuildFault}
+use Rattle.nor_job.specs.declared.fault.BuildFault.TheVariants.{Memory, Write}
+use Rattle.nor_job.specs.Causes.{LayoutSays, RefusesInputs}
+use Rattle.nor_job.specs.Status.{start_of}
+use Rattle.nor_job.specs.Task.{Task, Origin, Sfdp, Uniform}
+use Rattle.nor_job.specs.Wanted.{wanted}
+use Rattle.nor_layout.specs.Chosen.{is_chosen}
+use Rattle.nor_layout.specs.Region.{Region}
+use Rattle.nor_map.specs.Grid.{grid_of}
+use Rattle.nor_map.specs.Map.{map_text}
+use Rattle.nor_plan_read.specs.declared.line.PlanLine.{PlanLine}
+use Rattle.nor_times.specs.declared.times.Times.{Times}
+use Rattle.nor_times.specs.Times.{times_of}
+use Rattle.nor_times.specs.Busy.{busy_of}
+use Rattle.nor_times.specs.Bus.{bus_of}
+use Rattle.nor_times.specs.Plan.{plan_of}
+use Rattle.nor_times.specs.Text.{times_text}
+use Rattle.norprog.specs.Plan.{IsPlanOf, StopsPlan}
+use Rattle.norprog.specs.Report.{report_text}
+use Rattle.norprog.specs.declared.report.Report.{Report}
+use Rattle.norprog_words.specs.declared.faults.FileName.{FileName}
+use Rattle.norprog_words.specs.declared.faults.Refusal.{Refusal}
+use Rattle.norprog_words.specs.declared.faults.Refusal.TheVariants.{Build}
+use Rattle.norprog_words.specs.declared.given.GivenPlan.{GivenPlan}
+use Rattle.norprog_words.specs.Shelf.{FileFacts}
+use Rattle.norprog_words.specs.Told.{ForAsked, OfFault, RefusesFor, AnswersAsked}
+use Rattle.norprog_words.specs.Served.{Job}
+use Rattle.norprog_plan.specs.Served.{asks_plan, ServesPlan}
+
+-- the times that a chip's tables tell; a chip of a size alone has none
+abbrev pub tables_times : Origin → Option Times
+tables_times (Sfdp bytes bits) = times_of bytes
+tables_times (Uniform size) = None
+
+-- the lines on how long the lines of a plan of the task take
+abbrev pub times_lines : Task → Parameters → List PlanLine → List ℕ
+times_lines t m lines = times_text (option_map (λ times. busy_of times m lines) (tables_times t.chip)) (bus_of m (start_of t) t.verify lines)
+
+-- what stands behind the lines of a plan: its report, and its times where they are asked for
+abbrev pub behind_lines : Bool → Report → Task → Parameters → List PlanLine → List ℕ
+behind_lines true report t m lines = report_text report ++ times_lines t m lines
+behind_lines false report t m lines = report_text report
+
+-- the bytes are the lines of the plan of the task, of so long a content that is ahead, and this is its report
+pub record IsLines (told : List ℕ) (report : Report) (t : Task) (len : ℕ) (ahead : Ahead) : Type 0 where
+  pub behind : Ahead
+  pub planned : IsPlanOf t len ahead behind (Some []) (Some told) report
+
+abbrev pub IsLinesOf : List ℕ → Report → Job → Type 0
+IsLinesOf told report j = IsLines told report j.task j.len j.content
+
+-- what a reader of those lines reads
+abbrev pub read_lines : {told : List ℕ} {report : Report} {t : Task} {len : ℕ} {ahead : Ahead} → IsLines told report t len ahead → List PlanLine
+read_lines {t = t} of = plan_of of.planned.m (start_of t) of.planned.content (wanted t of.planned.image of.planned.regions of.planned.content)
+
+-- the picture of such a plan: of the chip under these lines, with the regions of the layout, what of them is chosen, and the text
+-- behind the lines
+abbrev pub plan_map : Task → Parameters → List PlanLine → List Region → List ℕ → List ℕ
+plan_map t m lines regions rest = map_text (grid_of m.size m.page lines (is_chosen regions t.regions)) lines regions rest
+
+-- an output took the picture
+pub record PutsMap (t : Task) (m : Parameters) (lines : List PlanLine) (rest : List ℕ) (before after : Option (List ℕ)) : Type 0 where
+  pub regions : List Region
+  pub says : LayoutSays t.layout regions
+  pub put : Appends before after (plan_map t m lines regions rest)
+
+-- an output that held this did, and it is so of what it had taken
+abbrev pub IsDrawn : (Option (List ℕ) → Type 0) → Option (List ℕ) → Task → Parameters → List PlanLine → List ℕ → Type 0
+IsDrawn Sent begun t m lines rest = (after : Option (List ℕ)) × PutsMap t m lines rest begun after × Sent after
+
+-- memory was refused, or an output failed
+abbrev pub LacksOutput : Refusal → Type 0
+LacksOutput why = (why ≡ Build Memory) ⊎ (why ≡ Build Write)
+
+-- where the job has an output for a picture
+abbrev pub Draws : (Option (List ℕ) → Type 0) → Option (Option (List ℕ)) → Task → Parameters → List PlanLine → List ℕ → Type 0
+Draws Sent (Some begun) t m lines rest = IsDrawn Sent begun t m lines rest
+Draws Sent None t m lines rest = ⊤
+
+-- these are the lines of the plan of the job, and what stands behind them, with its times or without; and it was drawn, where it
+-- has an output for that
+pub record IsWhole (Sent : Option (List ℕ) → Type 0) (times : Bool) (told rest : List ℕ) (j : Job) : Type 0 where
+  pub report : Report
+  pub of : IsLinesOf told report j
+  pub ends : rest ≡ behind_lines times report j.task of.planned.m (read_lines of)
+  pub drawn : Draws Sent j.begun j.task of.planned.m (read_lines of) rest
+
+-- the plan of the job stopped so, and the bytes are the lines that had been before
+pub record IsStopped (told : List ℕ) (j : Job) : Type 0 where
+  pub behind : Ahead
+  pub why : BuildFault
+  pub stops : StopsPlan j.task j.len j.content behind (Some []) (Some told) why
+
+-- the bytes are lines of the plan of the job: those before it stopped, or all of them
+abbrev pub IsPart : List ℕ → Job → Type 0
+IsPart told j = IsStopped told j ⊎ ((report : Report) × IsLinesOf told report j)
+
+-- the bytes tell the plan of the job: lines of it, or all of them with what stands behind them
+abbrev pub IsTold : (Option (List ℕ) → Type 0) → Bool → List ℕ → Job → Type 0
+IsTold Sent times told j =
+    IsPart told j ⊎ ((lines : List ℕ) × (rest : List ℕ) × IsWhole Sent times lines rest j × (told ≡ lines ++ rest))
+
+-- the lines of the plan of a job that was asked for were printed, what stands behind them, and nothing else
+pub record PrintsPlan (Sent : Option (List ℕ) → Type 0) (times : Bool) (Asked : Job → Type 0) (before after : Option (List ℕ)) : Type 0 where
+  pub lines : List ℕ
+  pub rest : List ℕ
+  pub whole : ForAsked Job Asked (IsWhole Sent times lines rest)
+  pub put : Appends before after (lines ++ rest)
+
+-- some bytes that tell the plan of a job that was asked for were printed, all or a proper prefix of them
+pub record PrintsSome (Sent : Option (List ℕ) → Type 0) (times : Bool) (Asked : Job → Type 0) (before after : Option (List ℕ)) : Type 0 where
+  pub bytes : List ℕ
+  pub of : ForAsked Job Asked (IsTold Sent times bytes)
+  pub put : Appends before after bytes ⊎ Cuts before after bytes
+
+-- nothing was printed, or some of what tells such a plan
+abbrev pub CutsPlan : (Option (List ℕ) → Type 0) → Bool → (Job → Type 0) → Option (List ℕ) → Option (List ℕ) → Type 0
+CutsPlan Sent times Asked before after = (after ≡ before) ⊎ PrintsSome Sent times Asked before after
+
+-- the output failed at the bytes that tell the plan of a job that was asked for
+pub record FailsToPrint (Sent : Option (List ℕ) → Type 0) (times : Bool) (Asked : Job → Type 0) (before after : Option (List ℕ)) : Type 0 where
+  pub bytes : List ℕ
+  pub of : ForAsked Job Asked (IsTold Sent times bytes)
+  pub put : Cuts before after bytes
+
+-- the inputs of the job are refused, or its plan stopped
+pub record StopsPlanOf (why : BuildFault) (j : Job) : Type 0 where
+  pub behind : Ahead
+  pub before : Option (List ℕ)
+  pub after : Option (List ℕ)
+  pub refused : RefusesInputs j.task j.len why ⊎ StopsPlan j.task j.len j.content behind before after why
+
+abbrev pub IsPlanFault : (Job → Type 0) → BuildFault → Type 0
+IsPlanFault Asked why = ForAsked Job Asked (StopsPlanOf why)
+
+-- a fault of a plan that is written to memory
+abbrev pub in_memory : BuildFault → Refusal
+in_memory Write = Build Memory
+in_memory other = Build other
+
+-- the plan of the job was told, and it has an output for a picture, which was not taken or didn't go out
+abbrev pub IsUndrawn : Job → Type 0
+IsUndrawn j = (is_some j.begun ≡ true) × (told : List ℕ) × (report : Report) × IsLinesOf told report j
+
+abbrev pub FailsToDraw : (Job → Type 0) → Type 0
+FailsToDraw Asked = ForAsked Job Asked IsUndrawn
+
+-- why a plan that was asked for isn't made, or not drawn
+abbrev pub StopsTask : (FileName → Type 0) → (Job → Type 0) → Refusal → Type 0
+StopsTask Lacked Asked = RefusesFor Lacked (OfFault (IsPlanFault Asked)) (FailsToDraw Asked)
+
+-- why a plan that was asked for isn't told
+abbrev pub RefusesPlan : (FileName → Type 0) → (Option (List ℕ) → Type 0) → Bool → (Job → Type 0) → Option (List ℕ) → Option (List ℕ) → Refusal → Type 0
+RefusesPlan Lacked Sent times Asked before after =
+    RefusesFor Lacked (OfFault (IsPlanFault Asked)) (FailsToDraw Asked ⊎ FailsToPrint Sent times Asked before after)
+
+-- what `plan` answers to the texts of a command line: the lines and the report at status 0, after the picture has gone out where one
+-- is asked for; or a refusal
+abbrev pub AnswersPlan : FileFacts → GivenPlan → Option (List ℕ) → Option (List ℕ) → Type 0 → Type 0 → Option (List ℕ) → Option (List ℕ) → ℕ → Type 0
+AnswersPlan files given before after Quiet Works told_before told_after status =
+    AnswersAsked (asks_plan given)
+    ((status ≡ 0) × PrintsPlan files.flushed given.times (ServesPlan files given) before after × Quiet)
+    (CutsPlan files.flushed given.times (ServesPlan files given) before after)
+    (RefusesPlan files.lacked files.flushed given.times (ServesPlan files given) before after)
+    Works told_before told_after status

@@ -1,0 +1,174 @@
+//! `plan`: from the texts of the command line to the lines that tell what a build would erase and program, and why.
+
+ghost use Rattle.std.specs.Prelude.{◌≡◌, ◌⊎◌, ◌<◌, ◌≤◌, ◌-◌, ◌^◌, ◌++◌, true, [], length, IfOk, IfErr, IfSome, option_map};
+ghost use Rattle.std.specs.Io.KnownBytes.{Appends};
+ghost use Rattle.nor_base.specs.Device.{Cuts};
+ghost use Rattle.nor_job.specs.declared.fault.BuildFault.TheVariants.{Write};
+ghost use Rattle.norprog_words.specs.declared.faults.Refusal.TheVariants.{Build};
+ghost use Rattle.norprog_words.specs.Files.{TellsFile};
+ghost use Rattle.norprog_words.specs.Shelf.{IsMadeApart, WhereNamed};
+ghost use Rattle.norprog_words.specs.Told.{ForAsked, OrUsage};
+ghost use Rattle.norprog_plan.specs.Served.{asks_plan, ServesPlan};
+ghost use Rattle.norprog_plan.specs.Answer.{IsPart, IsWhole, StopsTask, PrintsPlan, CutsPlan, RefusesPlan, AnswersPlan};
+ghost use Rattle.norprog_words.specs.Served.{Job, IsJobOf, AreGiven, held_in, input_files_of};
+
+use crate::outline::{Outline, outline_of};
+use nor_base::{ByteOut, put_all, put_parts};
+use norprog_words::{
+    FileName, GivenPlan, Refusal, Request, Shelf, Texts, inputs_of, open_job, refuse, request_of,
+};
+use std::alloc::Global;
+
+/// Writes to `out` the lines of the plan of the job on a command line, the report that a build of it would have and, where they
+/// are asked for, the lines of its times; or a refusal to `err` (docs/FORMATS.md, sections 9 and 15). Where a picture is asked
+/// for it goes to its file first (section 16), which is made as none of the files that are read. Answers the status: 0 done, 1
+/// refused, 2 usage. Lines of windows before the one at fault stand in `out` also where the job is refused. Memory is taken for
+/// the text.
+///
+/// Usage is told where the texts ask for no plan.
+pub fn plan<S: Shelf, O: ByteOut, E: ByteOut>(
+    alloc: Global,
+    shelf: &S,
+    given: GivenPlan<'_>,
+    out: &mut O,
+    err: &mut E,
+) -> u8
+    requires out { O.count out.old < 2 ^ 64 - 1 }
+    requires err { E.count err.old < 2 ^ 64 - 1 }
+    ensures status { result ≤ 2 }
+    ensures quiet { result ≡ 0 → err.new ≡ err.old }
+    ensures answer { AnswersPlan (S.facts shelf.now) given.entry (O.held out.old) (O.held out.new) (err.new ≡ err.old)
+        (E.count err.new ≡ E.count err.old) (E.held err.old) (E.held err.new) result }
+{
+    match report_plan(alloc, shelf, given, out) {
+        Ok(()) => 0,
+        Err(refusal) => refuse(&refusal, err),
+    }
+}
+
+/// Plans what is asked for, and prints what tells it.
+fn report_plan<S: Shelf, O: ByteOut>(
+    alloc: Global,
+    shelf: &S,
+    given: GivenPlan<'_>,
+    out: &mut O,
+) -> Result<(), Refusal>
+    requires { O.count out.old < 2 ^ 64 - 1 }
+    ensures printed { IfOk result (λ _. PrintsPlan (S.facts shelf.now).flushed given.entry.times
+        (ServesPlan (S.facts shelf.now) given.entry) (O.held out.old) (O.held out.new)) }
+    ensures unprinted { IfErr result (λ _. CutsPlan (S.facts shelf.now).flushed given.entry.times
+        (ServesPlan (S.facts shelf.now) given.entry) (O.held out.old) (O.held out.new)) }
+    ensures asked { IfOk result (λ _. asks_plan given.entry ≡ true) }
+    ensures first { IfErr result (OrUsage (asks_plan given.entry) (RefusesPlan (S.facts shelf.now).lacked (S.facts shelf.now).flushed
+        given.entry.times (ServesPlan (S.facts shelf.now) given.entry) (O.held out.old) (O.held out.new))) }
+{
+    let GivenPlan { job, times, map } = given;
+    let request = request_of(job).ok_or(Refusal::Usage)?;
+    let Outline { lines, rest } = run_plan(alloc, shelf, &request, times, map);
+    match rest {
+        Ok(rest) => print_whole(lines.as_slice(), rest.as_slice(), out),
+        Err(refusal) => Err(print_lines(lines.as_slice(), refusal, out)),
+    }
+}
+
+/// Prints the lines of a plan and what stands behind them.
+fn print_whole<O: ByteOut>(lines: &[u8], rest: &[u8], out: &mut O) -> Result<(), Refusal>
+    requires { O.count out.old < 2 ^ 64 - 1 }
+    ensures printed { IfOk result (λ _. Appends (O.held out.old) (O.held out.new) (lines.now ++ rest.now)) }
+    ensures cut { IfErr result (λ _. Cuts (O.held out.old) (O.held out.new) (lines.now ++ rest.now)) }
+    ensures failed { IfErr result (λ why. why ≡ Build Write) }
+{
+    match put_parts(out, &[lines, rest]) {
+        Ok(()) => Ok(()),
+        Err(_) => Err(Refusal::WRITE),
+    }
+}
+
+/// Prints the lines that were told before a refusal, and answers what is to be told: that refusal, or `Write` where `out`
+/// fails.
+fn print_lines<O: ByteOut>(lines: &[u8], refusal: Refusal, out: &mut O) -> Refusal
+    requires { O.count out.old < 2 ^ 64 - 1 }
+    ensures { ((lines.now ≡ []) × (out.new ≡ out.old) × (result ≡ refusal))
+        ⊎ (((0 < length lines.now) × Appends (O.held out.old) (O.held out.new) lines.now × (result ≡ refusal))
+        ⊎ (Cuts (O.held out.old) (O.held out.new) lines.now × (result ≡ Build Write))) }
+{
+    if lines.is_empty() {
+        return refusal;
+    }
+    match put_all(out, lines) {
+        Ok(()) => refusal,
+        Err(_) => Refusal::WRITE,
+    }
+}
+
+/// The files of a plan, opened.
+struct PlanFiles<I, O> {
+    texts: Texts,
+    content: I,
+    /// How many bytes the content has.
+    len: u64,
+    /// What takes the picture.
+    map: Option<O>,
+}
+
+/// Opens the files of a request in their order, and plans.
+fn run_plan<S: Shelf>(
+    alloc: Global,
+    shelf: &S,
+    request: &Request<'_>,
+    times: bool,
+    map: Option<&str>,
+) -> Outline
+    ensures whole { IfOk result.rest (λ rest. ForAsked Job (IsJobOf (S.facts shelf.now) request.now (option_map (λ t. t.now) map.entry))
+        (IsWhole (S.facts shelf.now).flushed times result.lines.items rest.items)) }
+    ensures part { IfErr result.rest (λ _. (result.lines.items ≡ [])
+        ⊎ ForAsked Job (IsJobOf (S.facts shelf.now) request.now (option_map (λ t. t.now) map.entry)) (IsPart result.lines.items)) }
+    ensures refused { IfErr result.rest (StopsTask (S.facts shelf.now).lacked
+        (IsJobOf (S.facts shelf.now) request.now (option_map (λ t. t.now) map.entry))) }
+{
+    match open_files(alloc, shelf, request, map) {
+        Ok(files) => {
+            let PlanFiles {
+                texts,
+                mut content,
+                len,
+                map,
+            } = files;
+            let inputs = inputs_of(request, &texts);
+            outline_of(alloc, shelf, &inputs, &mut content, len, times, map)
+        }
+        Err(refusal) => Outline {
+            lines: Vec::new(alloc),
+            rest: Err(refusal),
+        },
+    }
+}
+
+/// Opens the files of a request in their order, and then makes the file for the picture where there is one.
+fn open_files<S: Shelf>(
+    alloc: Global,
+    shelf: &S,
+    request: &Request<'_>,
+    map: Option<&str>,
+) -> Result<PlanFiles<S::Input, S::Output>, Refusal>
+    ensures given { IfOk result (λ files. AreGiven (S.facts shelf.now) request.now (held_in files.texts)) }
+    ensures content { IfOk result (λ files. (S.facts shelf.now).opened request.now.content.now (S.Input.ahead files.content) files.len) }
+    ensures count { IfOk result (λ files. S.Input.count files.content ≡ 0) }
+    ensures made { IfOk result (λ files. WhereNamed (IsMadeApart (S.facts shelf.now) (input_files_of request.now))
+        (option_map (λ t. t.now) map.entry) (option_map S.Output.held files.map)) }
+    ensures fresh { IfOk result (λ files. IfSome files.map (λ file. S.Output.count file ≡ 0)) }
+    ensures lacked { IfErr result (TellsFile (S.facts shelf.now).lacked) }
+{
+    let mut places = Vec::new(alloc);
+    let (texts, content, len) = open_job(alloc, shelf, request, &mut places)?;
+    let map = match map {
+        Some(path) => Some(shelf.create(alloc, path, FileName::Map, places.as_slice())?),
+        None => None,
+    };
+    Ok(PlanFiles {
+        texts,
+        content,
+        len,
+        map,
+    })
+}

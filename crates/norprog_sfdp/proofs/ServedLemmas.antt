@@ -1,0 +1,36 @@
+-- The chip is the one that the texts name.
+use Rattle.std.proofs.Common.{◌≡◌, ◌∙◌, ap, refl, sym, true, Bor, codes, unwrap_or, is_some, option_map, Option, Some, None, List, ℕ}
+use Rattle.nor_base.specs.declared.meaning.Part.{Part}
+use Rattle.nor_job.specs.Task.{Task}
+use Rattle.norprog_words.specs.Chip.{Origin}
+use Rattle.norprog_words.specs.Shelf.{FileFacts, AreTables}
+use Rattle.norprog_words.specs.Values.{part_of}
+use Rattle.norprog_words.specs.declared.given.GivenChip.{GivenChip}
+use Rattle.norprog_words.specs.Setup.{chip_asked, family_asked}
+use Rattle.norprog_sfdp.specs.Served.{asks_chip, ServesChip, IsTaskAlone, IsChipTask}
+use Rattle.norprog_words.proofs.ServedLemmas.{both}
+
+pub chip_task : (files : FileFacts) (origin : Origin) (part : Part) (tables : List ℕ) → AreTables files origin tables
+    → (t : Task) → IsTaskAlone origin part tables t → IsChipTask files origin part t
+chip_task files origin part tables gave t is = (tables, gave, is)
+
+-- what is named is what a value spells
+pub named_of : {A B : Type 0} (f : A → B) (o : Option A) (x : A) (asked : Option B) → option_map f o ≡ asked → o ≡ Some x → asked ≡ Some (f x)
+named_of f o x asked is some = sym is ∙ ap (option_map f) some
+
+-- the family that a text names, or `generic` where none is given
+unwrapped : (o : Option (Bor (List ℕ))) (default : Bor (List ℕ)) → (unwrap_or o default).now ≡ unwrap_or (option_map (λ t. t.now) o) default.now
+unwrapped (Some text) default = refl
+unwrapped None default = refl
+
+pub family_of : (given : GivenChip) (text default : Bor (List ℕ)) (o : Option Part) (part : Part) → text ≡ unwrap_or given.part default
+    → default.now ≡ codes "generic" → o ≡ part_of text.now → o ≡ Some part → part_of (family_asked given) ≡ Some part
+family_of given text default o part is generic named some =
+    sym (ap (λ (t : Bor (List ℕ)). part_of t.now) is ∙ ap part_of (unwrapped given.part default ∙ ap (unwrap_or (option_map (λ t. t.now) given.part)) generic)) ∙ (sym named ∙ some)
+
+pub chip_serves : (files : FileFacts) (given : GivenChip) (origin : Origin) (part : Part) → chip_asked given ≡ Some origin → part_of (family_asked given) ≡ Some part
+    → (t : Task) → IsChipTask files origin part t → ServesChip files given t
+chip_serves files given origin part named family t of = record { origin = origin; named = named; part = part; family = family; chip = of }
+
+pub chip_is_asked : (given : GivenChip) (origin : Origin) (part : Part) → chip_asked given ≡ Some origin → part_of (family_asked given) ≡ Some part → asks_chip given ≡ true
+chip_is_asked given origin part named family = both (is_some (chip_asked given)) (is_some (part_of (family_asked given))) (ap is_some named) (ap is_some family)

@@ -1,0 +1,3 @@
+pub mod ChipText
+pub mod Served
+pub mod Answer

@@ -1,0 +1,41 @@
+-- The chip that a command line of `sfdp` names (this project's).
+use Rattle.std.specs.Prelude.{◌≡◌, ℕ, false, List, [], None, Some, Bool, ◌&&◌, is_some}
+use Rattle.nor_base.specs.declared.meaning.Part.{Part}
+use Rattle.nor_job.specs.Task.{Task}
+use Rattle.norprog_words.specs.Chip.{Origin, task_chip}
+use Rattle.norprog_words.specs.Shelf.{FileFacts, AreTables}
+use Rattle.norprog_words.specs.Values.{part_of}
+use Rattle.norprog_words.specs.declared.given.GivenChip.{GivenChip}
+use Rattle.norprog_words.specs.Setup.{chip_asked, family_asked}
+
+-- a chip, and a family
+abbrev pub asks_chip : GivenChip → Bool
+asks_chip given = is_some (chip_asked given) && is_some (part_of (family_asked given))
+
+-- the task of a chip alone, of these tables or of its size, and of that family
+abbrev pub IsTaskAlone : Origin → Part → List ℕ → Task → Type 0
+IsTaskAlone origin part tables t = t ≡ record {
+  hex = [];
+  layout = None;
+  regions = [];
+  chip = task_chip origin tables;
+  part = part;
+  status = None;
+  mode4 = false;
+  quad = false;
+  base = 0;
+  verify = false;
+  erased_only = false;
+}
+
+-- its tables are what the file of its name gave
+abbrev pub IsChipTask : FileFacts → Origin → Part → Task → Type 0
+IsChipTask files origin part t = (tables : List ℕ) × AreTables files origin tables × IsTaskAlone origin part tables t
+
+-- the task is that of the chip that the texts name, alone
+pub record ServesChip (files : FileFacts) (given : GivenChip) (t : Task) : Type 0 where
+  pub origin : Origin
+  pub named : chip_asked given ≡ Some origin
+  pub part : Part
+  pub family : part_of (family_asked given) ≡ Some part
+  pub chip : IsChipTask files origin part t

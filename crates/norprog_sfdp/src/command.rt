@@ -1,0 +1,102 @@
+//! `sfdp`: from the texts of the command line to the lines that tell what a chip's tables mean.
+
+ghost use Rattle.std.specs.Prelude.{◌≡◌, ◌<◌, ◌≤◌, ◌-◌, ◌^◌, true, IfOk, IfErr};
+ghost use Rattle.norprog_words.specs.Chip.{origin_of};
+ghost use Rattle.norprog_words.specs.Told.{OrUsage};
+ghost use Rattle.norprog_sfdp.specs.Served.{asks_chip, IsChipTask, IsTaskAlone, ServesChip};
+ghost use Rattle.norprog_sfdp.specs.Answer.{IsMeaning, RefusesMeaning, PrintsMeaning, CutsMeaning, AnswersChip};
+
+use crate::chip_text::sfdp_text;
+use nor_base::{ByteOut, Meaning, Part};
+use nor_job::{BuildFault, Inputs, contradiction};
+use norprog_words::{Chip, GivenChip, Refusal, Shelf, chip_of, part, refuse, source_of, tables_of};
+use std::alloc::Global;
+
+/// Writes to `out` what the tables of the chip on a command line mean, or a refusal to `err` (docs/FORMATS.md, section
+/// 9), and answers the status: 0 done, 1 refused, 2 usage.
+///
+/// Usage is told where the texts ask for no chip.
+pub fn sfdp<S: Shelf, O: ByteOut, E: ByteOut>(
+    alloc: Global,
+    shelf: &S,
+    given: GivenChip<'_>,
+    out: &mut O,
+    err: &mut E,
+) -> u8
+    requires out { O.count out.old < 2 ^ 64 - 1 }
+    requires err { E.count err.old < 2 ^ 64 - 1 }
+    ensures status { result ≤ 2 }
+    ensures quiet { result ≡ 0 → err.new ≡ err.old }
+    ensures answer { AnswersChip (S.facts shelf.now) given.entry (O.held out.old) (O.held out.new) (err.new ≡ err.old)
+        (E.count err.new ≡ E.count err.old) (E.held err.old) (E.held err.new) result }
+{
+    match report_meaning(alloc, shelf, given, out) {
+        Ok(()) => 0,
+        Err(refusal) => refuse(&refusal, err),
+    }
+}
+
+/// Writes what the tables mean.
+fn report_meaning<S: Shelf, O: ByteOut>(
+    alloc: Global,
+    shelf: &S,
+    given: GivenChip<'_>,
+    out: &mut O,
+) -> Result<(), Refusal>
+    requires { O.count out.old < 2 ^ 64 - 1 }
+    ensures printed { IfOk result (λ _. PrintsMeaning (ServesChip (S.facts shelf.now) given.entry) (O.held out.old) (O.held out.new)) }
+    ensures unprinted { IfErr result (λ _. CutsMeaning (ServesChip (S.facts shelf.now) given.entry) (O.held out.old) (O.held out.new)) }
+    ensures asked { IfOk result (λ _. asks_chip given.entry ≡ true) }
+    ensures first { IfErr result (OrUsage (asks_chip given.entry) (RefusesMeaning (S.facts shelf.now).lacked
+        (ServesChip (S.facts shelf.now) given.entry))) }
+{
+    let chip = chip_of(given.sfdp, given.uniform, given.bits).ok_or(Refusal::Usage)?;
+    let part = part(given.part.unwrap_or("generic")).ok_or(Refusal::Usage)?;
+    let meaning = run_meaning(alloc, shelf, chip, part)?;
+    match sfdp_text(&meaning, out) {
+        Ok(()) => Ok(()),
+        Err(_) => Err(Refusal::WRITE),
+    }
+}
+
+/// Opens the chip's file, if it has one, and answers the chip's meaning.
+fn run_meaning<S: Shelf>(
+    alloc: Global,
+    shelf: &S,
+    chip: Chip<'_>,
+    part: Part,
+) -> Result<Meaning, Refusal>
+    ensures means { IfOk result (IsMeaning (IsChipTask (S.facts shelf.now) (origin_of chip.entry) part)) }
+    ensures refused { IfErr result (RefusesMeaning (S.facts shelf.now).lacked
+        (IsChipTask (S.facts shelf.now) (origin_of chip.entry) part)) }
+{
+    let tables = tables_of(alloc, shelf, chip)?;
+    chip_alone(chip, part, tables.as_slice())
+}
+
+/// The meaning of a chip of which nothing else is known.
+fn chip_alone<'a>(chip: Chip<'a>, part: Part, tables: &'a [u8]) -> Result<Meaning, Refusal>
+    ensures means { IfOk result (IsMeaning (IsTaskAlone (origin_of chip.entry) part tables.entry.now)) }
+    ensures refused { IfErr result (RefusesMeaning (λ told. ⊥) (IsTaskAlone (origin_of chip.entry) part tables.entry.now)) }
+{
+    let inputs = Inputs {
+        hex: &[],
+        layout: None,
+        regions: &[],
+        chip: source_of(chip, tables),
+        part,
+        status: None,
+        mode4: false,
+        quad: false,
+        base: 0,
+        verify: false,
+        erased_only: false,
+    };
+    if let Some(number) = contradiction(&inputs) {
+        return Err(Refusal::Build(BuildFault::Contradiction(number)));
+    }
+    match nor_job::chip_of(&inputs) {
+        Ok((meaning, _start)) => Ok(meaning),
+        Err(fault) => Err(Refusal::Build(fault)),
+    }
+}
