@@ -9,7 +9,7 @@ ghost use Rattle.norprog_words.specs.Served.{IsJobOf};
 use nor_base::{ByteOut, Failed};
 use norprog::{BuildFault, Report, write_report};
 use norprog_words::{
-    FileName, GivenBuild, Refusal, Request, Shelf, inputs_of, open_job, refuse, request_of,
+    FileName, GivenBuild, Refusal, Request, Shelf, answered, inputs_of, open_job, request_of,
 };
 use std::alloc::Global;
 
@@ -32,10 +32,7 @@ pub fn build<S: Shelf, O: ByteOut, E: ByteOut>(
     ensures answer { AnswersBuild (S.facts shelf.now) given.entry (O.held out.old) (O.held out.new) (err.new ≡ err.old)
         (E.count err.new ≡ E.count err.old) (E.held err.old) (E.held err.new) result }
 {
-    match report_build(alloc, shelf, given, out) {
-        Ok(()) => 0,
-        Err(refusal) => refuse(&refusal, err),
-    }
+    answered(report_build(alloc, shelf, given, out), err)
 }
 
 /// Builds what is asked for, and writes the report.
@@ -44,8 +41,9 @@ fn report_build<S: Shelf, O: ByteOut>(
     shelf: &S,
     given: GivenBuild<'_>,
     out: &mut O,
-) -> Result<(), Refusal>
+) -> Result<u8, Refusal>
     requires { O.count out.old < 2 ^ 64 - 1 }
+    ensures status { IfOk result (λ status. status ≡ 0) }
     ensures printed { IfOk result (λ _. PrintsReport (ServesBuild (S.facts shelf.now) given.entry) (S.facts shelf.now).flushed
         (O.held out.old) (O.held out.new)) }
     ensures unprinted { IfErr result (λ _. CutsReport (ServesBuild (S.facts shelf.now) given.entry) (S.facts shelf.now).flushed
@@ -58,7 +56,7 @@ fn report_build<S: Shelf, O: ByteOut>(
     let path = given.out.ok_or(Refusal::Usage)?;
     let report = run_build(alloc, shelf, &request, path)?;
     match write_report(&report, out) {
-        Ok(()) => Ok(()),
+        Ok(()) => Ok(0),
         Err(_) => Err(Refusal::WRITE),
     }
 }

@@ -19,7 +19,7 @@ serves files given request asks t of = record {
   script = of.script;
 }
 
-refusal_asked : (files : FileFacts) (given : GivenList) (request : ListRequest) (before after : Option (List ℕ)) (why : Refusal)
+pub refusal_asked : (files : FileFacts) (given : GivenList) (request : ListRequest) (before after : Option (List ℕ)) (why : Refusal)
     → AsksFor given request → RefusesList files.lacked (IsTaskOf files request) before after why → RefusesList files.lacked (Serves files given) before after why
 refusal_asked files given request before after why asks =
     refuses_wider files.lacked files.lacked (IsListFault (IsTaskOf files request) before after) (IsListFault (Serves files given) before after) ⊥ ⊥

@@ -9,7 +9,7 @@ ghost use Rattle.norprog_list.specs.Served.{IsTaskOf, Serves};
 use crate::listing::list_script;
 use crate::request::{ListRequest, request_of};
 use nor_base::ByteOut;
-use norprog_words::{FileName, GivenList, Refusal, Shelf, refuse, setup_inputs, tables_of};
+use norprog_words::{FileName, GivenList, Refusal, Shelf, answered, setup_inputs, tables_of};
 use std::alloc::Global;
 
 /// Writes to `out` the listing of the script on a command line, by the chip that it names, or a refusal to `err`
@@ -31,10 +31,7 @@ pub fn list<S: Shelf, O: ByteOut, E: ByteOut>(
     ensures answer { AnswersList (S.facts shelf.now) given.entry (O.held out.old) (O.held out.new) (err.new ≡ err.old)
         (E.count err.new ≡ E.count err.old) (E.held err.old) (E.held err.new) result }
 {
-    match listed_in(alloc, shelf, given, out) {
-        Ok(()) => 0,
-        Err(refusal) => refuse(&refusal, err),
-    }
+    answered(listed_in(alloc, shelf, given, out), err)
 }
 
 /// Lists what is asked for.
@@ -43,8 +40,9 @@ fn listed_in<S: Shelf, O: ByteOut>(
     shelf: &S,
     given: GivenList<'_>,
     out: &mut O,
-) -> Result<(), Refusal>
+) -> Result<u8, Refusal>
     requires { O.count out.old < 2 ^ 64 - 1 }
+    ensures status { IfOk result (λ status. status ≡ 0) }
     ensures printed { IfOk result (λ _. PrintsListing (Serves (S.facts shelf.now) given.entry) (O.held out.old) (O.held out.new)) }
     ensures unprinted { IfErr result (λ _. CutsListing (Serves (S.facts shelf.now) given.entry) (O.held out.old) (O.held out.new)) }
     ensures asked { IfOk result (λ _. is_well_formed given.entry ≡ true) }
@@ -52,7 +50,8 @@ fn listed_in<S: Shelf, O: ByteOut>(
         (Serves (S.facts shelf.now) given.entry) (O.held out.old) (O.held out.new))) }
 {
     let request = request_of(given).ok_or(Refusal::Usage)?;
-    run_list(alloc, shelf, request, out)
+    run_list(alloc, shelf, request, out)?;
+    Ok(0)
 }
 
 /// Opens the files of a request in their order, and lists the script.

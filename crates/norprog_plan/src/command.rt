@@ -15,7 +15,7 @@ ghost use Rattle.norprog_words.specs.Served.{Job, IsJobOf, AreGiven, held_in, in
 use crate::outline::{Outline, outline_of};
 use nor_base::{ByteOut, put_all, put_parts};
 use norprog_words::{
-    FileName, GivenPlan, Refusal, Request, Shelf, Texts, inputs_of, open_job, refuse, request_of,
+    FileName, GivenPlan, Refusal, Request, Shelf, Texts, answered, inputs_of, open_job, request_of,
 };
 use std::alloc::Global;
 
@@ -40,10 +40,7 @@ pub fn plan<S: Shelf, O: ByteOut, E: ByteOut>(
     ensures answer { AnswersPlan (S.facts shelf.now) given.entry (O.held out.old) (O.held out.new) (err.new ≡ err.old)
         (E.count err.new ≡ E.count err.old) (E.held err.old) (E.held err.new) result }
 {
-    match report_plan(alloc, shelf, given, out) {
-        Ok(()) => 0,
-        Err(refusal) => refuse(&refusal, err),
-    }
+    answered(report_plan(alloc, shelf, given, out), err)
 }
 
 /// Plans what is asked for, and prints what tells it.
@@ -52,8 +49,9 @@ fn report_plan<S: Shelf, O: ByteOut>(
     shelf: &S,
     given: GivenPlan<'_>,
     out: &mut O,
-) -> Result<(), Refusal>
+) -> Result<u8, Refusal>
     requires { O.count out.old < 2 ^ 64 - 1 }
+    ensures status { IfOk result (λ status. status ≡ 0) }
     ensures printed { IfOk result (λ _. PrintsPlan (S.facts shelf.now).flushed given.entry.times
         (ServesPlan (S.facts shelf.now) given.entry) (O.held out.old) (O.held out.new)) }
     ensures unprinted { IfErr result (λ _. CutsPlan (S.facts shelf.now).flushed given.entry.times
@@ -72,14 +70,15 @@ fn report_plan<S: Shelf, O: ByteOut>(
 }
 
 /// Prints the lines of a plan and what stands behind them.
-fn print_whole<O: ByteOut>(lines: &[u8], rest: &[u8], out: &mut O) -> Result<(), Refusal>
+fn print_whole<O: ByteOut>(lines: &[u8], rest: &[u8], out: &mut O) -> Result<u8, Refusal>
     requires { O.count out.old < 2 ^ 64 - 1 }
+    ensures status { IfOk result (λ status. status ≡ 0) }
     ensures printed { IfOk result (λ _. Appends (O.held out.old) (O.held out.new) (lines.now ++ rest.now)) }
     ensures cut { IfErr result (λ _. Cuts (O.held out.old) (O.held out.new) (lines.now ++ rest.now)) }
     ensures failed { IfErr result (λ why. why ≡ Build Write) }
 {
     match put_parts(out, &[lines, rest]) {
-        Ok(()) => Ok(()),
+        Ok(()) => Ok(0),
         Err(_) => Err(Refusal::WRITE),
     }
 }

@@ -71,11 +71,7 @@ fn report_run<S: Shelf, O: ByteOut>(
 }
 
 /// Plays what is asked for.
-fn verdict_of<S: Shelf>(
-    alloc: Global,
-    shelf: &S,
-    given: GivenRun<'_>,
-) -> Result<Verdict, Refusal>
+fn verdict_of<S: Shelf>(alloc: Global, shelf: &S, given: GivenRun<'_>) -> Result<Verdict, Refusal>
     ensures played { IfOk result (IsPlayVerdict (Serves (S.facts shelf.now) given.entry)
         (ServesScript (S.facts shelf.now) given.entry) (S.facts shelf.now).flushed) }
     ensures asked { IfOk result (λ _. is_well_formed given.entry ≡ true) }

@@ -9,7 +9,9 @@ ghost use Rattle.norprog_sfdp.specs.Answer.{IsMeaning, RefusesMeaning, PrintsMea
 use crate::chip_text::sfdp_text;
 use nor_base::{ByteOut, Meaning, Part};
 use nor_job::{BuildFault, Inputs, contradiction};
-use norprog_words::{Chip, GivenChip, Refusal, Shelf, chip_of, part, refuse, source_of, tables_of};
+use norprog_words::{
+    Chip, GivenChip, Refusal, Shelf, answered, chip_of, part, source_of, tables_of,
+};
 use std::alloc::Global;
 
 /// Writes to `out` what the tables of the chip on a command line mean, or a refusal to `err` (docs/FORMATS.md, section
@@ -30,10 +32,7 @@ pub fn sfdp<S: Shelf, O: ByteOut, E: ByteOut>(
     ensures answer { AnswersChip (S.facts shelf.now) given.entry (O.held out.old) (O.held out.new) (err.new ≡ err.old)
         (E.count err.new ≡ E.count err.old) (E.held err.old) (E.held err.new) result }
 {
-    match report_meaning(alloc, shelf, given, out) {
-        Ok(()) => 0,
-        Err(refusal) => refuse(&refusal, err),
-    }
+    answered(report_meaning(alloc, shelf, given, out), err)
 }
 
 /// Writes what the tables mean.
@@ -42,8 +41,9 @@ fn report_meaning<S: Shelf, O: ByteOut>(
     shelf: &S,
     given: GivenChip<'_>,
     out: &mut O,
-) -> Result<(), Refusal>
+) -> Result<u8, Refusal>
     requires { O.count out.old < 2 ^ 64 - 1 }
+    ensures status { IfOk result (λ status. status ≡ 0) }
     ensures printed { IfOk result (λ _. PrintsMeaning (ServesChip (S.facts shelf.now) given.entry) (O.held out.old) (O.held out.new)) }
     ensures unprinted { IfErr result (λ _. CutsMeaning (ServesChip (S.facts shelf.now) given.entry) (O.held out.old) (O.held out.new)) }
     ensures asked { IfOk result (λ _. asks_chip given.entry ≡ true) }
@@ -54,7 +54,7 @@ fn report_meaning<S: Shelf, O: ByteOut>(
     let part = part(given.part.unwrap_or("generic")).ok_or(Refusal::Usage)?;
     let meaning = run_meaning(alloc, shelf, chip, part)?;
     match sfdp_text(&meaning, out) {
-        Ok(()) => Ok(()),
+        Ok(()) => Ok(0),
         Err(_) => Err(Refusal::WRITE),
     }
 }

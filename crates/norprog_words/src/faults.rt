@@ -1,6 +1,6 @@
 //! Why a command isn't done, what is printed of it, and the status that it ends with.
 
-ghost use Rattle.std.specs.Prelude.{◌≡◌, ◌<◌, ◌-◌, ◌^◌};
+ghost use Rattle.std.specs.Prelude.{◌≡◌, ◌<◌, ◌-◌, ◌^◌, IfOk, IfErr};
 ghost use Rattle.std.specs.Io.KnownBytes.{Appends};
 ghost use Rattle.nor_base.specs.Device.{Writes, Counts};
 ghost use Rattle.norprog_words.specs.Lines.{spelled, hex_text, layout_text, sfdp_text, plan_text, script_text, fault_text, file_text, script_refusal, program_line, printed, status_after};
@@ -102,6 +102,19 @@ pub fn refuse<E: ByteOut>(refusal: &Refusal, err: &mut E) -> u8
 {
     let _ = write_refusal(refusal, err);
     exit_status(refusal)
+}
+
+/// Ends a command: answers the status of its work, or writes why there is none and answers that status.
+pub fn answered<E: ByteOut>(work: Result<u8, Refusal>, err: &mut E) -> u8
+    requires { E.count err.old < 2 ^ 64 - 1 }
+    ensures done { IfOk work (λ status. (result ≡ status) × (err.new ≡ err.old)) }
+    ensures told { IfErr work (λ why. (result ≡ status_after why)
+        × (E.count err.new ≡ E.count err.old → Appends (E.held err.old) (E.held err.new) (printed why))) }
+{
+    match work {
+        Ok(status) => status,
+        Err(refusal) => refuse(&refusal, err),
+    }
 }
 
 /// 2 where the command line is at fault or asks for help, else 1.

@@ -19,7 +19,7 @@ mod wrongs;
 pub use chip::{Chip, chip_of, optional_status, source_of};
 pub use content::read_content;
 pub use disk::Disk;
-pub use faults::{FileName, Refusal, refuse};
+pub use faults::{FileName, Refusal, answered, refuse};
 pub use files::{Place, ScriptFile};
 pub use given::{
     Given, GivenBuild, GivenCheck, GivenChip, GivenDraw, GivenList, GivenPlan, GivenPlay, GivenRun,

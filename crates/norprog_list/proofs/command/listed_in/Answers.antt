@@ -1,11 +1,14 @@
 -- The refusal is of the listing that the texts ask for.
 use Rattle.std.proofs.Common.{rules, ◌≡◌, true}
+use Rattle.nor_base.proofs.FaultLaws.{handed_on}
+use Rattle.norprog_words.proofs.ToldLemmas.{or_usage}
 use Rattle.norprog_list.specs.Request.{is_well_formed, AsksFor}
-use Rattle.norprog_list.proofs.ServedLemmas.{refusals_asked}
+use Rattle.norprog_list.proofs.ServedLemmas.{refusal_asked}
 use Rattle.norprog_list.proofs.command.listed_in.Goals as goal
 
-pub returns-clause-first : goal.returns-clause-first
-returns-clause-first g c =
+pub returns-in_err-run_list-clause-first : goal.returns-in_err-run_list-clause-first
+returns-in_err-run_list-clause-first g c =
     let asks : AsksFor c.args.given c.in_ok-request.request = search rules in
     let formed : is_well_formed c.args.given ≡ true = search rules in
-    refusals_asked (g.S.Shelf.facts c.args.shelf.now) c.args.given c.in_ok-request.request _ _ _ asks formed c.run_list.ensures.refused
+    handed_on _ _ _ c.from_residual-in_err-run_list.ensures.1
+    (or_usage _ _ _ formed (refusal_asked (g.S.Shelf.facts c.args.shelf.now) c.args.given c.in_ok-request.request _ _ _ asks c.in_err-run_list.ensures.refused))
