@@ -21,8 +21,8 @@ use Rattle.nor_geometry.specs.declared.unit.PlanUnit.{PlanUnit}
 use Rattle.nor_geometry.specs.declared.unit.PlanUnit.TheVariants as unit
 use Rattle.nor_geometry.specs.Plan.{plan_unit, HasPart}
 use Rattle.nor_erase.specs.Tiles.{IsTiling, page_differs, page_if}
-use Rattle.nor_work.proofs.Erased.Erasing.{erased_all}
-use Rattle.nor_work.proofs.Erased.Needed.{erased_needed}
+use Rattle.nor_plan_laws.proofs.Erased.Erasing.{erased_all}
+use Rattle.nor_plan_laws.proofs.Erased.Needed.{erased_needed}
 use Rattle.nor_erase.proofs.Tiling.{IsIn, IsRunTo, Stops, first_erased, tile_is, tile_rest}
 use Rattle.nor_erase.proofs.PageUnits.{page_alone, same_any, unit_if}
 

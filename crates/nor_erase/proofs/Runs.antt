@@ -16,12 +16,12 @@ use Rattle.nor_laws.proofs.BlockLaws.{blocks_nest}
 use Rattle.nor_geometry.specs.Legal.{IsReachedAt}
 use Rattle.nor_geometry.proofs.KindLemmas.{placed, size_of, legal_kind}
 use Rattle.nor_geometry.proofs.WindowLemmas.{divides, multiple_of}
-use Rattle.nor_work.proofs.Erased.Best.{Best, best_is, picked, Among}
-use Rattle.nor_work.proofs.Units.Ranges.{aligned_le}
-use Rattle.nor_work.proofs.Erased.Erasing.{there, can_erase, erasable_is, is_block, floor_aligned, moved}
+use Rattle.nor_plan_laws.proofs.Erased.Best.{Best, best_is, picked, Among}
+use Rattle.nor_plan_laws.proofs.Units.Ranges.{aligned_le}
+use Rattle.nor_plan_laws.proofs.Erased.Erasing.{there, can_erase, erasable_is, is_block, floor_aligned, moved}
 use Rattle.nor_base.proofs.StretchLaws.{any_at}
-use Rattle.nor_work.proofs.Erased.Reached.{four, small, holds_true}
-use Rattle.nor_work.proofs.Erased.Needed.{block_here, all_at}
+use Rattle.nor_plan_laws.proofs.Erased.Reached.{four, small, holds_true}
+use Rattle.nor_plan_laws.proofs.Erased.Needed.{block_here, all_at}
 
 regions_apart : (regions : List Region) (i j : ℕ) (region : Region) → slice_get regions i ≡ Some region → i < j
     → sum_by (λ (r : Region). r.size) (take i regions) + region.size ≤ sum_by (λ (r : Region). r.size) (take j regions)

@@ -11,10 +11,10 @@ use Rattle.nor_base.specs.Strategies.{strategy}
 use Rattle.nor_base.specs.Effect.{may_program}
 use Rattle.nor_base.specs.Need.{differs, is_due, is_needed, is_beyond, is_unreachable, lacks_erase, is_at_fault}
 use Rattle.nor_geometry.specs.Legal.{IsSmallestAt}
-use Rattle.nor_work.proofs.Erased.Best.{none_small}
+use Rattle.nor_plan_laws.proofs.Erased.Best.{none_small}
 use Rattle.nor_geometry.proofs.KindLemmas.{legal_kind}
-use Rattle.nor_work.proofs.Erased.Reached.{four, small}
-use Rattle.nor_work.proofs.Erased.Needed.{needed_caused}
+use Rattle.nor_plan_laws.proofs.Erased.Reached.{four, small}
+use Rattle.nor_plan_laws.proofs.Erased.Needed.{needed_caused}
 use Rattle.nor_erase.proofs.Runs.{same_smallest, needed_of, erased_is, at_address}
 use Rattle.nor_erase.proofs.Tiling.{IsIn, IsRunTo, IsSame, smallest_same}
 

@@ -11,11 +11,11 @@ use Rattle.nor_geometry.specs.Legal.{IsReachedAt, IsSmallestAt}
 use Rattle.nor_geometry.specs.Window.{IsUncrossed}
 use Rattle.nor_geometry.proofs.KindLemmas.{placed, floor_is, legal_kind}
 use Rattle.nor_erase.specs.Tiles.{IsLargestAt}
-use Rattle.nor_work.proofs.Erased.Best.{none_small}
-use Rattle.nor_work.proofs.Erased.Erasing.{can_erase, erased_all, there}
+use Rattle.nor_plan_laws.proofs.Erased.Best.{none_small}
+use Rattle.nor_plan_laws.proofs.Erased.Erasing.{can_erase, erased_all, there}
 use Rattle.nor_base.proofs.StretchLaws.{all_over}
-use Rattle.nor_work.proofs.Erased.Reached.{four, small, has_block, erased_where_due}
-use Rattle.nor_work.proofs.Erased.Needed.{needed_caused, holds_smallest, erases_largest, some_of, all_at}
+use Rattle.nor_plan_laws.proofs.Erased.Reached.{four, small, has_block, erased_where_due}
+use Rattle.nor_plan_laws.proofs.Erased.Needed.{needed_caused, holds_smallest, erases_largest, some_of, all_at}
 use Rattle.nor_erase.proofs.Runs.{IsErasedAt, erased_is, at_address, lowest_kind}
 
 -- a part of the chip whose ends no legal block crosses

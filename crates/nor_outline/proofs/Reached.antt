@@ -19,7 +19,7 @@ use Rattle.nor_steps.proofs.OpLemmas.{all_at}
 use Rattle.nor_base.proofs.ListLaws.{all_append}
 use Rattle.nor_steps.proofs.Placed.{level_of}
 use Rattle.nor_steps.proofs.WindowLemmas.{filled, part_filled}
-use Rattle.nor_work.specs.Least.{ErasesBlocks}
+use Rattle.nor_plan_laws.specs.Least.{ErasesBlocks}
 
 abbrev pub IsReached : Parameters → Strategy → PlanUnit → Type 0
 IsReached m by (unit.Block b) = IsLegalBlock m b × (reaches by m b.kind b.start ≡ true)

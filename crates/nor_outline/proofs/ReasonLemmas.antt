@@ -12,11 +12,11 @@ use Rattle.nor_base.specs.Need.{is_beyond}
 use Rattle.nor_base.specs.Strategies.{is_far, reaches, strategy}
 use Rattle.nor_geometry.specs.Legal.{IsReachedAt, IsSmallestAt}
 use Rattle.nor_geometry.specs.Window.{IsUncrossed}
-use Rattle.nor_work.specs.Able.{BlocksStay}
-use Rattle.nor_work.proofs.Erased.Best.{none_small}
+use Rattle.nor_plan_laws.specs.Able.{BlocksStay}
+use Rattle.nor_plan_laws.proofs.Erased.Best.{none_small}
 use Rattle.nor_geometry.proofs.KindLemmas.{legal_kind}
-use Rattle.nor_work.proofs.Erased.Reached.{four, small}
-use Rattle.nor_work.proofs.Erased.Needed.{holds_smallest}
+use Rattle.nor_plan_laws.proofs.Erased.Reached.{four, small}
+use Rattle.nor_plan_laws.proofs.Erased.Needed.{holds_smallest}
 use Rattle.nor_erase.proofs.Runs.{same_smallest, at_address}
 use Rattle.nor_erase.proofs.Tiling.{IsSame, smallest_same}
 use Rattle.nor_outline.specs.Outline.{MayErase, reason, reason_at}

@@ -8,8 +8,8 @@ use Rattle.nor_base.specs.Accepted.{IsAccepted}
 use Rattle.nor_base.specs.Blocks.{Block, IsLegalBlock, smallest}
 use Rattle.nor_base.specs.Effect.{may_program}
 use Rattle.nor_base.specs.Need.{is_due}
-use Rattle.nor_work.proofs.Units.Ranges.{length-range, range_at}
-use Rattle.nor_work.proofs.Erased.Needed.{holds_smallest}
+use Rattle.nor_plan_laws.proofs.Units.Ranges.{length-range, range_at}
+use Rattle.nor_plan_laws.proofs.Erased.Needed.{holds_smallest}
 use Rattle.nor_geometry.specs.declared.unit.PlanUnit.{PlanUnit}
 use Rattle.nor_geometry.specs.declared.unit.PlanUnit.TheVariants as unit
 use Rattle.nor_geometry.specs.Plan.{HasPart}

@@ -8,7 +8,7 @@ use Rattle.nor_base.specs.Parameters.{Parameters}
 use Rattle.nor_base.specs.Blocks.{Block}
 use Rattle.nor_base.specs.Device.{Cuts}
 use Rattle.nor_base.proofs.DeviceLaws.{Appends-append, Cuts-then, Cuts-more}
-use Rattle.nor_work.proofs.Units.Ranges.{length-range}
+use Rattle.nor_plan_laws.proofs.Units.Ranges.{length-range}
 use Rattle.nor_outline.specs.Outline.{reason, reason_at, reasons}
 use Rattle.nor_outline.specs.Parts.{due_in}
 use Rattle.nor_outline.proofs.RangeLemmas.{range_split}

@@ -14,7 +14,7 @@ use Rattle.nor_steps.specs.declared.fault.StepsFault.TheVariants as fault
 use Rattle.nor_steps.specs.Texts.{UnitText}
 use Rattle.nor_steps.specs.Units.{work_unit, HasBytes}
 use Rattle.nor_steps.specs.Work.{stretch_units}
-use Rattle.nor_work.specs.Least.{ErasesBlocks}
+use Rattle.nor_plan_laws.specs.Least.{ErasesBlocks}
 
 -- the lines of the units that start in a stretch of so many bytes from an address on
 abbrev pub stretch_lines : Parameters → Strategy → ℕ → ℕ → List ℕ → List ℕ → List ℕ

@@ -8,8 +8,8 @@ ghost use Rattle.nor_outline.specs.Parts.{due_in};
 use nor_base::{ByteOut, Failed, Meaning, Strategy};
 use nor_erase::first_due;
 use nor_geometry::{Block, smallest};
+use nor_plan_laws::blocks;
 use nor_plan_read::{PlanLine, write_line};
-use nor_work::blocks;
 
 /// Puts a line for each smallest block of a block, rising, in which a byte is due: `have` and `want` are the block's
 /// bytes.

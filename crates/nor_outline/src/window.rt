@@ -12,8 +12,8 @@ use nor_base::{ByteOut, Meaning, Strategy};
 use nor_erase::plan;
 use nor_geometry::PlanUnit;
 use nor_pages::split;
+use nor_plan_laws::erased_blocks;
 use nor_steps::{StepsFault, bounds};
-use nor_work::erased_blocks;
 use std::alloc::Global;
 
 /// Plans the units that start in a window of the chip (one that [`plan`] takes), and writes their lines: `have` is what it

@@ -19,10 +19,10 @@ use Rattle.nor_geometry.specs.declared.unit.PlanUnit.{PlanUnit}
 use Rattle.nor_geometry.specs.declared.unit.PlanUnit.TheVariants as unit
 use Rattle.nor_geometry.specs.Plan.{IsWindow, plan_unit}
 use Rattle.nor_pages.specs.Runs.{IsUnit, IsBlank, unit_start}
-use Rattle.nor_work.proofs.Erased.Erasing.{erased_for}
-use Rattle.nor_work.proofs.Units.Ranges.{aligned_le}
-use Rattle.nor_work.proofs.Units.Wider.{some_page}
-use Rattle.nor_work.specs.Least.{ErasesBlocks}
+use Rattle.nor_plan_laws.proofs.Erased.Erasing.{erased_for}
+use Rattle.nor_plan_laws.proofs.Units.Ranges.{aligned_le}
+use Rattle.nor_plan_laws.proofs.Units.Wider.{some_page}
+use Rattle.nor_plan_laws.specs.Least.{ErasesBlocks}
 use Rattle.nor_steps.specs.Units.{unit_size, work_unit}
 use Rattle.nor_base.proofs.ListLaws.{all_append}
 

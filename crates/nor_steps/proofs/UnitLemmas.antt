@@ -16,7 +16,7 @@ use Rattle.nor_steps.specs.declared.tally.Tally.{Tally}
 use Rattle.nor_steps.specs.declared.fault.StepsFault.{StepsFault}
 use Rattle.nor_steps.specs.Units.{part_of, run_op, run_ops, page_read, page_reads, block_ops, page_ops, AreUnitOps, Writes, WritesUnit}
 use Rattle.nor_steps.specs.Writing.{Writing}
-use Rattle.nor_work.proofs.Units.Ranges.{length-range, range_at}
+use Rattle.nor_plan_laws.proofs.Units.Ranges.{length-range, range_at}
 
 -- bytes of the chip that lie in a part of it
 part_range : (target want : List ℕ) (start a n : ℕ) → HasPart target want start → start ≤ a → a + n ≤ start + length want

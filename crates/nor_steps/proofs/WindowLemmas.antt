@@ -19,9 +19,9 @@ use Rattle.nor_geometry.specs.declared.fault.PlanFault.{PlanFault}
 use Rattle.nor_geometry.specs.declared.fault.PlanFault.TheVariants as plan
 use Rattle.nor_geometry.specs.Plan.{HasPart, IsWindow, IsPlan, Refuses, plan_unit}
 use Rattle.nor_pages.specs.Runs.{IsUnit, unit_start}
-use Rattle.nor_work.proofs.Units.Ranges.{length-range, range_at}
-use Rattle.nor_work.proofs.Units.Wider.{some_page}
-use Rattle.nor_work.specs.Least.{ErasesBlocks}
+use Rattle.nor_plan_laws.proofs.Units.Ranges.{length-range, range_at}
+use Rattle.nor_plan_laws.proofs.Units.Wider.{some_page}
+use Rattle.nor_plan_laws.specs.Least.{ErasesBlocks}
 use Rattle.nor_steps.specs.declared.tally.Tally.{Tally}
 use Rattle.nor_steps.specs.declared.fault.StepsFault.{StepsFault}
 use Rattle.nor_steps.specs.declared.fault.StepsFault.TheVariants as fault

@@ -9,7 +9,7 @@ use Rattle.nor_base.specs.Operations.{Op, unit_ops}
 use Rattle.nor_base.specs.Accepted.{IsAccepted}
 use Rattle.nor_geometry.specs.Plan.{HasPart, IsFault, IsWindow, IsPlan}
 use Rattle.nor_geometry.specs.declared.unit.PlanUnit.{PlanUnit}
-use Rattle.nor_work.specs.Least.{ErasesBlocks}
+use Rattle.nor_plan_laws.specs.Least.{ErasesBlocks}
 use Rattle.nor_steps.specs.declared.tally.Tally.{Tally}
 use Rattle.nor_steps.specs.declared.fault.StepsFault.{StepsFault}
 use Rattle.nor_steps.specs.declared.fault.StepsFault.TheVariants as fault

@@ -13,7 +13,7 @@ use crate::tally::Tally;
 use crate::writer::StepWriter;
 use nor_erase::plan;
 use nor_geometry::PlanUnit;
-use nor_work::erased_blocks;
+use nor_plan_laws::erased_blocks;
 use std::alloc::Global;
 
 impl<'m> StepWriter<'m> {

@@ -17,8 +17,8 @@ use Rattle.nor_base.specs.Strategies.{reaches}
 use Rattle.nor_laws.specs.Laws.{OneRow}
 use Rattle.nor_geometry.proofs.KindLemmas.{legal_kind}
 use Rattle.nor_geometry.proofs.WindowLemmas.{legal_live}
-use Rattle.nor_work.proofs.Erased.Best.{Among}
-use Rattle.nor_work.proofs.Erased.Reached.{four}
+use Rattle.nor_plan_laws.proofs.Erased.Best.{Among}
+use Rattle.nor_plan_laws.proofs.Erased.Reached.{four}
 use Rattle.nor_times.specs.Busy.{is_named}
 use Rattle.nor_times.specs.Law.{ErasesAreNamed}
 

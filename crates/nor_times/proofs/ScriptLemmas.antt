@@ -20,9 +20,9 @@ use Rattle.nor_base.specs.Operations.{Op, writes, reads, bare, enable, disable, 
 use Rattle.nor_base.specs.Planned.{planned_units, planned_ops}
 use Rattle.nor_select.specs.Streamed.{has_some}
 use Rattle.nor_steps.specs.Lines.{steps_of}
-use Rattle.nor_work.specs.Able.{BlocksStay}
-use Rattle.nor_work.specs.Least.{ErasesBlocks}
-use Rattle.nor_work.proofs.Units.Wider.{some_page}
+use Rattle.nor_plan_laws.specs.Able.{BlocksStay}
+use Rattle.nor_plan_laws.specs.Least.{ErasesBlocks}
+use Rattle.nor_plan_laws.proofs.Units.Wider.{some_page}
 use Rattle.nor_times.specs.Bus.{Doing, steps_clocks, switch_clocks, mode_clocks, is_work, lines_clocks, bus_of}
 use Rattle.nor_times.specs.Plan.{erase_lines, program_line, unit_plan}
 use Rattle.nor_times.specs.Law.{BusIsOfScript}

@@ -16,8 +16,8 @@ use Rattle.nor_base.specs.Operations.{erasing, takes_dedicated}
 use Rattle.nor_base.specs.Programs.{Program, span, is_closed, page_programs}
 use Rattle.nor_base.specs.Units.{pages, page_unit, block_unit, unit_by}
 use Rattle.nor_base.proofs.RegionLaws.{legal_on_chip}
-use Rattle.nor_work.proofs.Erased.Best.{smallest_of}
-use Rattle.nor_work.proofs.Erased.Erasing.{erased_for, there}
+use Rattle.nor_plan_laws.proofs.Erased.Best.{smallest_of}
+use Rattle.nor_plan_laws.proofs.Erased.Erasing.{erased_for, there}
 use Rattle.nor_plan_read.specs.Lines.{IsSmall}
 use Rattle.nor_times.specs.Plan.{because, reason_at, erase_lines, program_line, unit_plan}
 use Rattle.nor_base.proofs.ListLaws.{all_append}

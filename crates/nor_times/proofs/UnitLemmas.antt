@@ -17,10 +17,10 @@ use Rattle.nor_base.specs.Programs.{Program, target_bytes, page_programs}
 use Rattle.nor_base.specs.Strategies.{is_far}
 use Rattle.nor_base.specs.Units.{WorkUnit, pages, page_unit, block_unit, unit_by}
 use Rattle.nor_base.specs.Operations.{Op, erases, writes, reads, takes_dedicated, legacy_width, unit_ops}
-use Rattle.nor_work.specs.Able.{BlocksStay}
-use Rattle.nor_work.specs.Least.{ErasesBlocks}
-use Rattle.nor_work.proofs.Erased.Erasing.{erased_for}
-use Rattle.nor_work.proofs.Units.Ranges.{length-range}
+use Rattle.nor_plan_laws.specs.Able.{BlocksStay}
+use Rattle.nor_plan_laws.specs.Least.{ErasesBlocks}
+use Rattle.nor_plan_laws.proofs.Erased.Erasing.{erased_for}
+use Rattle.nor_plan_laws.proofs.Units.Ranges.{length-range}
 use Rattle.nor_plan_read.specs.declared.line.PlanLine.{PlanLine}
 use Rattle.nor_times.specs.Bus.{Doing, head4_clocks, read_clocks, lines_clocks}
 use Rattle.nor_times.specs.Plan.{reasons, program_line, unit_plan}

@@ -4,7 +4,7 @@
 ghost use Rattle.nor_times.specs.Law.{BusIsOfScript, BusyIsOfUnits, ErasesAreNamed, PlanIsText};
 
 use nor_laws::instruction_rows;
-use nor_work::{blocks, erased_blocks};
+use nor_plan_laws::{blocks, erased_blocks};
 
 /// The clocks that [`crate::bus_clocks`] gives for the lines of a plan are those of the steps of its script, verified or not; each
 /// poll counts once.

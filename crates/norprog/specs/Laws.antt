@@ -1,11 +1,11 @@
 -- The laws by which planned work does what a build promises (this project's).
 use Rattle.nor_laws.specs.Laws.{EventsAreTrail}
 use Rattle.nor_laws.specs.Spelling.{HasSpelling}
-use Rattle.nor_work.specs.Exists.{PlannedCanBeSpelled}
-use Rattle.nor_work.specs.Fewest.{NoScriptProgramsLess}
-use Rattle.nor_work.specs.Laws.{PlannedDoesTask, OneUnitInTheMaking}
-use Rattle.nor_work.specs.Least.{ErasesBlocks, ErasesApart, ErasesLargest, NoScriptErasesLess}
-use Rattle.nor_work.specs.Runs.{PlannedErasesNeeded, ErasesOnce, ErasesCounted, ProgramsCounted, PlannedIsVerified, NoneVerifies}
+use Rattle.nor_plan_laws.specs.Exists.{PlannedCanBeSpelled}
+use Rattle.nor_plan_laws.specs.Fewest.{NoScriptProgramsLess}
+use Rattle.nor_plan_laws.specs.Laws.{PlannedDoesTask, OneUnitInTheMaking}
+use Rattle.nor_plan_laws.specs.Least.{ErasesBlocks, ErasesApart, ErasesLargest, NoScriptErasesLess}
+use Rattle.nor_plan_laws.specs.Runs.{PlannedErasesNeeded, ErasesOnce, ErasesCounted, ProgramsCounted, PlannedIsVerified, NoneVerifies}
 
 -- what holds of planned work
 pub record Laws : Type 0 where

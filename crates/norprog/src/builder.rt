@@ -18,13 +18,13 @@ use nor_base::{ByteIn, ByteOut};
 use nor_geometry::{strategy, window_size};
 use nor_job::{BuildFault, Inputs, Job, job_of};
 use nor_laws::{run_events, spelling};
-use nor_script::{begin, finish};
-use nor_steps::{StepWriter, Tally};
-use nor_target::ignored;
-use nor_work::{
+use nor_plan_laws::{
     erased_blocks, fewest_programs, least_erasure, planned_runs, planned_work,
     there_is_planned_work,
 };
+use nor_script::{begin, finish};
+use nor_steps::{StepWriter, Tally};
+use nor_target::ignored;
 use std::alloc::Global;
 
 /// Writes the script that programs a chip: run on any idle, unprotected chip of the inputs with the content that the

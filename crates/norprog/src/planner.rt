@@ -20,8 +20,8 @@ use nor_geometry::{strategy, window_size};
 use nor_job::{BuildFault, Inputs, Job, job_of};
 use nor_laws::spelling;
 use nor_outline::PlanWriter;
+use nor_plan_laws::there_is_planned_work;
 use nor_steps::Tally;
-use nor_work::there_is_planned_work;
 use std::alloc::Global;
 
 /// Writes the lines that tell the plan of the script that [`build`](crate::build) writes of the same inputs and content:

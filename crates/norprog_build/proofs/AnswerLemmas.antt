@@ -7,13 +7,13 @@ use Rattle.nor_job.specs.Causes.{RefusesInputs}
 use Rattle.nor_job.specs.Task.{Task}
 use Rattle.norprog.specs.Build.{IsBuilt, StopsWork}
 use Rattle.norprog.specs.declared.report.Report.{Report}
-use Rattle.norprog_words.specs.declared.faults.FileName.{FileName}
-use Rattle.norprog_words.specs.declared.faults.Refusal.{Refusal}
-use Rattle.norprog_words.specs.declared.faults.Refusal.TheVariants.{Build}
-use Rattle.norprog_words.specs.Told.{OfFault}
-use Rattle.norprog_words.proofs.ToldLemmas.{asked_wider, fault_wider, by_fault, refuses_wider}
+use Rattle.norprog_common.specs.declared.faults.FileName.{FileName}
+use Rattle.norprog_common.specs.declared.faults.Refusal.{Refusal}
+use Rattle.norprog_common.specs.declared.faults.Refusal.TheVariants.{Build}
+use Rattle.norprog_common.specs.Told.{OfFault}
+use Rattle.norprog_common.proofs.ToldLemmas.{asked_wider, fault_wider, by_fault, refuses_wider}
 use Rattle.norprog_build.specs.Answer.{IsReportOf, IsBuildReport, IsFaultOf, IsBuildFault, RefusesBuild, done}
-use Rattle.norprog_words.specs.Served.{Job, job_with}
+use Rattle.norprog_common.specs.Served.{Job, job_with}
 
 pub report_of : {U E : Type 0} (Asked : Job → Type 0) (Sent : Option (List ℕ) → Type 0) (t : Task) (len : ℕ) (before after : Ahead) (held held' : Option (List ℕ))
     (answer : Result Report BuildFault) (flushed : Result U E) (r : Result Report Refusal) → Asked (job_with t before len (Some held))

@@ -1,12 +1,12 @@
 -- The job of a request is the one that the texts ask for.
 use Rattle.std.proofs.Common.{◌≡◌, true, is_some, option_map, Option, Some, IfSome, List, ℕ}
-use Rattle.norprog_words.specs.Shelf.{FileFacts}
-use Rattle.norprog_words.specs.declared.given.GivenBuild.{GivenBuild}
-use Rattle.norprog_words.specs.declared.request.Request.{Request}
+use Rattle.norprog_common.specs.Shelf.{FileFacts}
+use Rattle.norprog_common.specs.declared.given.GivenBuild.{GivenBuild}
+use Rattle.norprog_common.specs.declared.request.Request.{Request}
 use Rattle.norprog_build.specs.Served.{asks_build, ServesBuild}
-use Rattle.norprog_words.specs.Request.{is_well_formed, AsksFor}
-use Rattle.norprog_words.specs.Served.{Job, IsJobOf}
-use Rattle.norprog_words.proofs.ServedLemmas.{serves, asks_of, both, is_formed, is_named}
+use Rattle.norprog_common.specs.Request.{is_well_formed, AsksFor}
+use Rattle.norprog_common.specs.Served.{Job, IsJobOf}
+use Rattle.norprog_common.proofs.ServedLemmas.{serves, asks_of, both, is_formed, is_named}
 
 pub build_serves : (files : FileFacts) (given : GivenBuild) (o : Option Request) (request : Request) (path : List ℕ) → o ≡ Some request → IfSome o (AsksFor given.job)
     → option_map (λ t. t.now) given.out ≡ Some path → (j : Job) → IsJobOf files request (Some path) j → ServesBuild files given j

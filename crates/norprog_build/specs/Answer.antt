@@ -8,14 +8,14 @@ use Rattle.nor_job.specs.Causes.{RefusesInputs}
 use Rattle.norprog.specs.Build.{IsBuilt, StopsWork}
 use Rattle.norprog.specs.Report.{report_text}
 use Rattle.norprog.specs.declared.report.Report.{Report}
-use Rattle.norprog_words.specs.declared.faults.FileName.{FileName}
-use Rattle.norprog_words.specs.declared.faults.Refusal.{Refusal}
-use Rattle.norprog_words.specs.declared.faults.Refusal.TheVariants.{Build}
-use Rattle.norprog_words.specs.declared.given.GivenBuild.{GivenBuild}
-use Rattle.norprog_words.specs.Shelf.{FileFacts}
-use Rattle.norprog_words.specs.Told.{ForAsked, OfFault, RefusesFor, AnswersAsked}
+use Rattle.norprog_common.specs.declared.faults.FileName.{FileName}
+use Rattle.norprog_common.specs.declared.faults.Refusal.{Refusal}
+use Rattle.norprog_common.specs.declared.faults.Refusal.TheVariants.{Build}
+use Rattle.norprog_common.specs.declared.given.GivenBuild.{GivenBuild}
+use Rattle.norprog_common.specs.Shelf.{FileFacts}
+use Rattle.norprog_common.specs.Told.{ForAsked, OfFault, RefusesFor, AnswersAsked}
 use Rattle.norprog_build.specs.Served.{asks_build, ServesBuild}
-use Rattle.norprog_words.specs.Served.{Job}
+use Rattle.norprog_common.specs.Served.{Job}
 
 -- the job was done, this is its report, and its output is so of what it had taken
 pub record IsReportOf (Sent : Option (List ℕ) → Type 0) (report : Report) (j : Job) : Type 0 where

@@ -1,14 +1,14 @@
 //! `build`: from the texts of the command line to the script in its file.
 
 ghost use Rattle.std.specs.Prelude.{◌≡◌, ◌<◌, ◌≤◌, ◌-◌, ◌^◌, Some, true, IfOk, IfErr};
-ghost use Rattle.norprog_words.specs.Told.{OrUsage};
+ghost use Rattle.norprog_common.specs.Told.{OrUsage};
 ghost use Rattle.norprog_build.specs.Served.{asks_build, ServesBuild};
 ghost use Rattle.norprog_build.specs.Answer.{IsBuildReport, RefusesBuild, PrintsReport, CutsReport, AnswersBuild, done};
-ghost use Rattle.norprog_words.specs.Served.{IsJobOf};
+ghost use Rattle.norprog_common.specs.Served.{IsJobOf};
 
 use nor_base::{ByteOut, Failed};
 use norprog::{BuildFault, Report, write_report};
-use norprog_words::{
+use norprog_common::{
     FileName, GivenBuild, Refusal, Request, Shelf, answered, inputs_of, open_job, request_of,
 };
 use std::alloc::Global;

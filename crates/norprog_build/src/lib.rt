@@ -6,4 +6,4 @@
 mod command;
 
 pub use command::build;
-pub use norprog_words::GivenBuild;
+pub use norprog_common::GivenBuild;

@@ -10,12 +10,12 @@ use Rattle.norprog_check.specs.declared.fault.StreamStop.TheVariants as stream
 use Rattle.norprog_check.specs.Checked.{RefusesTexts, StopsCheck}
 use Rattle.norprog_check.specs.Streams.{RefusesTask, StopsReading, StopsAtContent, StopsFeeding}
 use Rattle.norprog_check.proofs.StopLaws.{some_text}
-use Rattle.norprog_words.specs.declared.faults.FileName.{FileName}
-use Rattle.norprog_words.specs.declared.faults.FileName.TheVariants as file
-use Rattle.norprog_words.specs.declared.faults.Refusal.{Refusal}
-use Rattle.norprog_words.specs.declared.faults.Refusal.TheVariants.{Text, Usage, File, Build, Page, Script}
-use Rattle.norprog_words.proofs.ToldLemmas.{asked_wider, by_fault, refuses_wider}
-use Rattle.norprog_words.specs.Served.{Job, Is}
+use Rattle.norprog_common.specs.declared.faults.FileName.{FileName}
+use Rattle.norprog_common.specs.declared.faults.FileName.TheVariants as file
+use Rattle.norprog_common.specs.declared.faults.Refusal.{Refusal}
+use Rattle.norprog_common.specs.declared.faults.Refusal.TheVariants.{Text, Usage, File, Build, Page, Script}
+use Rattle.norprog_common.proofs.ToldLemmas.{asked_wider, by_fault, refuses_wider}
+use Rattle.norprog_common.specs.Served.{Job, Is}
 use Rattle.norprog_check.specs.Answer.{IsCheckVerdict, IsStopOf, IsCheckFault, RefusesCheck, stop_refusal, stream_refusal}
 
 pub stop_of : (Lacked : FileName → Type 0) (Asked : Job → Type 0) (IsText : List ℕ → Type 0) (j : Job) (text : List ℕ) (after : Ahead) (why : CheckStop) → Asked j

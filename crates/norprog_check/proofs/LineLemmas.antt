@@ -5,7 +5,7 @@ use Rattle.nor_base.specs.declared.wrong.Wrong.{Wrong}
 use Rattle.nor_check.specs.declared.verdict.Verdict.TheVariants.{No}
 use Rattle.nor_check.specs.declared.verdict.Why.TheVariants as why
 use Rattle.nor_script.specs.Hexadecimal.{hex_number}
-use Rattle.norprog_words.specs.Wrongs.{wrong_number}
+use Rattle.norprog_common.specs.Wrongs.{wrong_number}
 use Rattle.norprog_check.specs.Line.{verdict_text}
 
 abbrev pub no_parts : List ℕ → List ℕ → List ℕ → List ℕ

@@ -1,12 +1,12 @@
 -- The job of a request is the one that the texts ask for, and so is the script.
 use Rattle.std.proofs.Common.{◌≡◌, refl, sym, subst, true, is_some, option_map, Option, Some, None, IfSome, List, ℕ}
-use Rattle.norprog_words.specs.Shelf.{FileFacts, IsTextIn, Named}
-use Rattle.norprog_words.specs.declared.given.GivenCheck.{GivenCheck}
-use Rattle.norprog_words.specs.declared.request.Request.{Request}
+use Rattle.norprog_common.specs.Shelf.{FileFacts, IsTextIn, Named}
+use Rattle.norprog_common.specs.declared.given.GivenCheck.{GivenCheck}
+use Rattle.norprog_common.specs.declared.request.Request.{Request}
 use Rattle.norprog_check.specs.Served.{asks_check, ServesCheck, ServesScript}
-use Rattle.norprog_words.specs.Request.{is_well_formed, AsksFor}
-use Rattle.norprog_words.specs.Served.{Job, IsJobOf}
-use Rattle.norprog_words.proofs.ServedLemmas.{serves, asks_of, both, is_formed, is_named}
+use Rattle.norprog_common.specs.Request.{is_well_formed, AsksFor}
+use Rattle.norprog_common.specs.Served.{Job, IsJobOf}
+use Rattle.norprog_common.proofs.ServedLemmas.{serves, asks_of, both, is_formed, is_named}
 
 pub check_serves : (files : FileFacts) (given : GivenCheck) (o : Option Request) (request : Request) → o ≡ Some request → IfSome o (AsksFor given.job)
     → (j : Job) → IsJobOf files request None j → ServesCheck files given j

@@ -10,16 +10,16 @@ use Rattle.norprog_check.specs.declared.fault.StreamStop.{StreamStop}
 use Rattle.norprog_check.specs.declared.fault.StreamStop.TheVariants as stream
 use Rattle.norprog_check.specs.Checked.{IsChecked, RefusesTexts, StopsCheck}
 use Rattle.norprog_check.specs.Line.{verdict_text}
-use Rattle.norprog_words.specs.declared.faults.FileName.{FileName}
-use Rattle.norprog_words.specs.declared.faults.Refusal.{Refusal}
-use Rattle.norprog_words.specs.declared.faults.FileName.TheVariants as file
-use Rattle.norprog_words.specs.declared.faults.Refusal.TheVariants.{File, Build, Script}
-use Rattle.norprog_words.specs.Lines.{script_refusal}
-use Rattle.norprog_words.specs.declared.given.GivenCheck.{GivenCheck}
-use Rattle.norprog_words.specs.Shelf.{FileFacts}
-use Rattle.norprog_words.specs.Told.{ForAsked, RefusesFor, OrScript, AnswersAsked}
+use Rattle.norprog_common.specs.declared.faults.FileName.{FileName}
+use Rattle.norprog_common.specs.declared.faults.Refusal.{Refusal}
+use Rattle.norprog_common.specs.declared.faults.FileName.TheVariants as file
+use Rattle.norprog_common.specs.declared.faults.Refusal.TheVariants.{File, Build, Script}
+use Rattle.norprog_common.specs.Lines.{script_refusal}
+use Rattle.norprog_common.specs.declared.given.GivenCheck.{GivenCheck}
+use Rattle.norprog_common.specs.Shelf.{FileFacts}
+use Rattle.norprog_common.specs.Told.{ForAsked, RefusesFor, OrScript, AnswersAsked}
 use Rattle.norprog_check.specs.Served.{asks_check, ServesCheck, ServesScript}
-use Rattle.norprog_words.specs.Served.{Job}
+use Rattle.norprog_common.specs.Served.{Job}
 
 -- 0 where the script does its job, else 1
 abbrev pub verdict_status : Verdict → ℕ

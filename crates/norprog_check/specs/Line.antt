@@ -8,7 +8,7 @@ use Rattle.nor_check.specs.declared.verdict.Verdict.TheVariants.{Yes, No}
 use Rattle.nor_check.specs.declared.verdict.Why.{Why}
 use Rattle.nor_check.specs.declared.verdict.Why.TheVariants as why
 use Rattle.nor_script.specs.Hexadecimal.{hex_number}
-use Rattle.norprog_words.specs.Wrongs.{wrong_number}
+use Rattle.norprog_common.specs.Wrongs.{wrong_number}
 
 -- `wrong N`, or `differs AAAAAAAA`
 abbrev pub why_text : Why → List ℕ

@@ -1,9 +1,9 @@
 -- The job and the script that a command line of `check` names (this project's).
 use Rattle.std.specs.Prelude.{ℕ, List, None, option_map, Bool, ◌&&◌, is_some}
-use Rattle.norprog_words.specs.Shelf.{FileFacts, IsTextIn, Named}
-use Rattle.norprog_words.specs.declared.given.GivenCheck.{GivenCheck}
-use Rattle.norprog_words.specs.Request.{is_well_formed}
-use Rattle.norprog_words.specs.Served.{Job, Serves}
+use Rattle.norprog_common.specs.Shelf.{FileFacts, IsTextIn, Named}
+use Rattle.norprog_common.specs.declared.given.GivenCheck.{GivenCheck}
+use Rattle.norprog_common.specs.Request.{is_well_formed}
+use Rattle.norprog_common.specs.Served.{Job, Serves}
 
 -- a job, and the name of the script's file
 abbrev pub asks_check : GivenCheck → Bool

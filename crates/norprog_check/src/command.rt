@@ -3,11 +3,11 @@
 ghost use Rattle.std.specs.Prelude.{◌≡◌, ◌<◌, ◌≤◌, ◌-◌, ◌^◌, None, true, IfOk, IfErr};
 ghost use Rattle.std.specs.Io.KnownBytes.{Appends};
 ghost use Rattle.norprog_check.specs.Line.{verdict_text};
-ghost use Rattle.norprog_words.specs.Shelf.{DoNotFail, IsTextIn, IsTextOfFile};
-ghost use Rattle.norprog_words.specs.declared.faults.FileName.TheVariants.{Script};
-ghost use Rattle.norprog_words.specs.Told.{OrScript, OrUsage};
+ghost use Rattle.norprog_common.specs.Shelf.{DoNotFail, IsTextIn, IsTextOfFile};
+ghost use Rattle.norprog_common.specs.declared.faults.FileName.TheVariants.{Script};
+ghost use Rattle.norprog_common.specs.Told.{OrScript, OrUsage};
 ghost use Rattle.norprog_check.specs.Served.{asks_check, ServesCheck, ServesScript};
-ghost use Rattle.norprog_words.specs.Served.{job_with, Is, IsJobOf};
+ghost use Rattle.norprog_common.specs.Served.{job_with, Is, IsJobOf};
 ghost use Rattle.norprog_check.specs.Answer.{verdict_status, stop_refusal, stream_refusal, IsCheckVerdict, RefusesCheck, CutsVerdict, AnswersCheck};
 
 use crate::checker::check_script;
@@ -17,7 +17,7 @@ use crate::streams::check_streams;
 use nor_base::{ByteIn, ByteOut};
 use nor_check::Verdict;
 use nor_job::Inputs;
-use norprog_words::{
+use norprog_common::{
     FileName, GivenCheck, Refusal, Request, ScriptFile, Shelf, inputs_of, open_job, refuse,
     request_of,
 };

@@ -21,5 +21,5 @@ pub use nor_base::{ByteIn, ByteOut, Failed, Wrong};
 pub use nor_check::{Verdict, Why};
 pub use nor_job::{BuildFault, Inputs};
 pub use nor_script::ScriptFault;
-pub use norprog_words::GivenCheck;
+pub use norprog_common::GivenCheck;
 pub use streams::check_streams;

@@ -10,7 +10,7 @@ use itoa::Buffer;
 use nor_base::{ByteOut, Failed, Wrong, put_all, put_parts};
 use nor_check::{Verdict, Why};
 use nor_script::hex_number;
-use norprog_words::wrong_number;
+use norprog_common::wrong_number;
 
 /// Writes a verdict's line, closed by LF: `yes`; or `no at K wrong N`, where K is the step, counted from 0, and N the number
 /// of what goes wrong there ([`Wrong`]), both in decimal; or `no at K differs A`, where A is the address in eight lower-case

@@ -9,13 +9,14 @@
 
 ghost use Rattle.std.specs.Prelude.{◌≡◌, ◌≢◌, ◌<◌, ◌≤◌, ◌-◌, ◌^◌, IfOk, IfErr};
 ghost use Rattle.nor_job.specs.declared.fault.BuildFault.TheVariants.{Write as write_fault};
-ghost use Rattle.norprog_words.specs.declared.faults.Refusal.TheVariants.{Build as of_build};
-ghost use Rattle.norprog_words.specs.Told.{TellsOf};
+ghost use Rattle.norprog_common.specs.declared.faults.Refusal.TheVariants.{Build as of_build};
+ghost use Rattle.norprog_common.specs.Told.{TellsOf};
 ghost use Rattle.norprog_cli.specs.Answers.{AnswersTo, AnswersSome};
 
 use nor_base::{ByteOut, IntoWrite, Nowhere};
 use norprog_build::build;
 use norprog_check::check;
+use norprog_common::{Disk, Refusal, Shelf, refuse};
 use norprog_draw::draw;
 use norprog_explain::explain;
 use norprog_list::list;
@@ -24,7 +25,6 @@ use norprog_plan::plan;
 use norprog_play::play;
 use norprog_run::run;
 use norprog_sfdp::sfdp;
-use norprog_words::{Disk, Refusal, Shelf, refuse};
 use std::alloc::Global;
 use std::io::{self, BufWriter, ErrorKind, IsTerminal, Write};
 use std::process::ExitCode;

@@ -1,11 +1,11 @@
 -- What is drawn for a request is what its texts ask for, and what is so of it is so of that.
 use Rattle.std.proofs.Common.{◌≡◌, option_map, option_to_list, refl, sym, subst, List, [], ◌∷◌, ℕ, Option, None, Result, Ok, Err, IfOk, IfErr, inr}
 use Rattle.std.specs.Prelude.{⊤}
-use Rattle.norprog_words.specs.Shelf.{FileFacts, IsMadeApart, Named}
-use Rattle.norprog_words.specs.declared.faults.Refusal.{Refusal}
-use Rattle.norprog_words.specs.Told.{line_fault, Refuses}
-use Rattle.norprog_words.proofs.ToldLemmas.{asked_wider, refuses_wider, by_fault}
-use Rattle.norprog_words.specs.declared.given.GivenDraw.{GivenDraw}
+use Rattle.norprog_common.specs.Shelf.{FileFacts, IsMadeApart, Named}
+use Rattle.norprog_common.specs.declared.faults.Refusal.{Refusal}
+use Rattle.norprog_common.specs.Told.{line_fault, Refuses}
+use Rattle.norprog_common.proofs.ToldLemmas.{asked_wider, refuses_wider, by_fault}
+use Rattle.norprog_common.specs.declared.given.GivenDraw.{GivenDraw}
 use Rattle.norprog_draw.specs.declared.request.DrawRequest.{DrawRequest}
 use Rattle.norprog_draw.specs.Answer.{IsDrawingOf, IsDrawing, IsStopOf, IsDrawFault, RefusesDraw, done}
 use Rattle.norprog_draw.specs.Drawn.{WasDrawn, RefusesDrawing}

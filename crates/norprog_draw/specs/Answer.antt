@@ -1,12 +1,12 @@
 -- What is told of a drawing (this project's).
 use Rattle.std.specs.Prelude.{◌≡◌, ⊤, ℕ, List, Option, Result, Ok, Err}
 use Rattle.nor_job.specs.declared.fault.BuildFault.TheVariants.{Write}
-use Rattle.norprog_words.specs.declared.faults.FileName.{FileName}
-use Rattle.norprog_words.specs.declared.faults.Refusal.{Refusal}
-use Rattle.norprog_words.specs.declared.faults.Refusal.TheVariants.{Build}
-use Rattle.norprog_words.specs.Shelf.{FileFacts}
-use Rattle.norprog_words.specs.Told.{ForAsked, RefusesFor, Refuses, line_fault, Answers}
-use Rattle.norprog_words.specs.declared.given.GivenDraw.{GivenDraw}
+use Rattle.norprog_common.specs.declared.faults.FileName.{FileName}
+use Rattle.norprog_common.specs.declared.faults.Refusal.{Refusal}
+use Rattle.norprog_common.specs.declared.faults.Refusal.TheVariants.{Build}
+use Rattle.norprog_common.specs.Shelf.{FileFacts}
+use Rattle.norprog_common.specs.Told.{ForAsked, RefusesFor, Refuses, line_fault, Answers}
+use Rattle.norprog_common.specs.declared.given.GivenDraw.{GivenDraw}
 use Rattle.norprog_draw.specs.Drawn.{WasDrawn, RefusesDrawing}
 use Rattle.norprog_draw.specs.Request.{is_well_formed}
 use Rattle.norprog_draw.specs.Served.{DrawTask, OfDraw}

@@ -7,8 +7,8 @@ use Rattle.nor_base.specs.declared.step.Step.{Step}
 use Rattle.nor_job.specs.declared.fault.BuildFault.TheVariants as fault
 use Rattle.nor_script.specs.Faults.{IsFault}
 use Rattle.nor_waves.specs.Waves.{waves}
-use Rattle.norprog_words.specs.declared.faults.Refusal.{Refusal}
-use Rattle.norprog_words.specs.declared.faults.Refusal.TheVariants.{Build, Script}
+use Rattle.norprog_common.specs.declared.faults.Refusal.{Refusal}
+use Rattle.norprog_common.specs.declared.faults.Refusal.TheVariants.{Build, Script}
 
 -- so many steps from one on; all from there on where no number is given
 abbrev pub part : ℕ → Option ℕ → List Step → List Step

@@ -1,7 +1,7 @@
 -- What the values of a command line of `draw` ask for (this project's).
 use Rattle.std.specs.Prelude.{◌≡◌, ℕ, Bool, ◌&&◌, Option, Some, option_map, unwrap_or, is_some, codes}
-use Rattle.norprog_words.specs.Values.{decimal_of, said_number}
-use Rattle.norprog_words.specs.declared.given.GivenDraw.{GivenDraw}
+use Rattle.norprog_common.specs.Values.{decimal_of, said_number}
+use Rattle.norprog_common.specs.declared.given.GivenDraw.{GivenDraw}
 use Rattle.norprog_draw.specs.declared.request.DrawRequest.{DrawRequest}
 
 -- the number of the first step, `0` where none is given

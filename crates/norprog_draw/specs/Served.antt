@@ -1,9 +1,9 @@
 -- The drawing that a command line of `draw` asks for (this project's). `files` is what is known of files by their names.
 use Rattle.std.specs.Prelude.{◌≡◌, ℕ, List, [], ◌∷◌, Option, Some, Result, option_map, option_to_list}
-use Rattle.norprog_words.specs.declared.faults.Refusal.{Refusal}
-use Rattle.norprog_words.specs.Shelf.{FileFacts, IsMadeApart, Named}
-use Rattle.norprog_words.specs.Told.{OfLine}
-use Rattle.norprog_words.specs.declared.given.GivenDraw.{GivenDraw}
+use Rattle.norprog_common.specs.declared.faults.Refusal.{Refusal}
+use Rattle.norprog_common.specs.Shelf.{FileFacts, IsMadeApart, Named}
+use Rattle.norprog_common.specs.Told.{OfLine}
+use Rattle.norprog_common.specs.declared.given.GivenDraw.{GivenDraw}
 use Rattle.norprog_draw.specs.declared.request.DrawRequest.{DrawRequest}
 use Rattle.norprog_draw.specs.Request.{asked_from, asked_count}
 

@@ -1,7 +1,7 @@
 //! `draw`: from the texts of the command line to a waveform in its file.
 
 ghost use Rattle.std.specs.Prelude.{◌≡◌, ◌<◌, ◌≤◌, ◌-◌, ◌^◌, None, IfOk, IfErr};
-ghost use Rattle.norprog_words.specs.Told.{line_fault};
+ghost use Rattle.norprog_common.specs.Told.{line_fault};
 ghost use Rattle.norprog_draw.specs.Answer.{IsDrawing, RefusesDraw, RefusesToDraw, AnswersDraw, done};
 ghost use Rattle.norprog_draw.specs.Request.{is_well_formed};
 ghost use Rattle.norprog_draw.specs.Served.{IsTaskOf, OfDraw};
@@ -9,7 +9,7 @@ ghost use Rattle.norprog_draw.specs.Served.{IsTaskOf, OfDraw};
 use crate::request::{DrawRequest, request_of};
 use crate::script::draw_script;
 use nor_base::{ByteOut, Failed};
-use norprog_words::{FileName, GivenDraw, Refusal, Shelf, refuse};
+use norprog_common::{FileName, GivenDraw, Refusal, Shelf, refuse};
 use std::alloc::Global;
 
 /// Draws the script on a command line into the file that it names, or writes a refusal to `err` (docs/FORMATS.md, section 9), and

@@ -9,6 +9,6 @@ mod request;
 mod script;
 
 pub use command::draw;
-pub use norprog_words::GivenDraw;
+pub use norprog_common::GivenDraw;
 pub use request::{DrawRequest, request_of};
 pub use script::draw_script;

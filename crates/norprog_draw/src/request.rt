@@ -1,10 +1,10 @@
 //! What the values of a command line of `draw` ask for.
 
 ghost use Rattle.std.specs.Prelude.{◌≡◌, is_some, option_map, IfSome};
-ghost use Rattle.norprog_words.specs.Values.{said_number};
+ghost use Rattle.norprog_common.specs.Values.{said_number};
 ghost use Rattle.norprog_draw.specs.Request.{is_well_formed, AsksFor};
 
-use norprog_words::{GivenDraw, decimal};
+use norprog_common::{GivenDraw, decimal};
 
 /// What `draw` is asked for: each value is of its form.
 #[derive(Clone, Copy)]

@@ -2,13 +2,13 @@
 
 ghost use Rattle.std.specs.Prelude.{◌≡◌, ◌≢◌, ◌<◌, ◌-◌, ◌^◌, IfOk, IfErr, length, min};
 ghost use Rattle.nor_job.specs.declared.fault.BuildFault.TheVariants.{Write};
-ghost use Rattle.norprog_words.specs.declared.faults.Refusal.TheVariants.{Build};
+ghost use Rattle.norprog_common.specs.declared.faults.Refusal.TheVariants.{Build};
 ghost use Rattle.norprog_draw.specs.Drawn.{part, WasDrawn, RefusesDrawing};
-ghost use Rattle.norprog_words.specs.Content.{CountsWriter};
+ghost use Rattle.norprog_common.specs.Content.{CountsWriter};
 
 use nor_base::{ByteOut, Step};
 use nor_waves::write_waves;
-use norprog_words::Refusal;
+use norprog_common::Refusal;
 use std::alloc::Global;
 
 /// Writes the waveform of steps that a script's text spells: of `count` steps from step `from` on, or of all from there on where

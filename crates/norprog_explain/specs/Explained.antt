@@ -6,9 +6,9 @@ use Rattle.std.specs.List.{find, starts_with}
 use Rattle.nor_base.specs.Device.{Cuts}
 use Rattle.nor_base.specs.Script.{closed}
 use Rattle.nor_job.specs.declared.fault.BuildFault.TheVariants.{Write}
-use Rattle.norprog_words.specs.declared.faults.Refusal.{Refusal}
-use Rattle.norprog_words.specs.declared.faults.Refusal.TheVariants.{Usage, Build}
-use Rattle.norprog_words.specs.Told.{Answers}
+use Rattle.norprog_common.specs.declared.faults.Refusal.{Refusal}
+use Rattle.norprog_common.specs.declared.faults.Refusal.TheVariants.{Usage, Build}
+use Rattle.norprog_common.specs.Told.{Answers}
 
 -- the words that a text begins with, and what is told of it
 abbrev pub Topic : Type 0

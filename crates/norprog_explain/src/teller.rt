@@ -8,7 +8,7 @@ ghost use Rattle.norprog_explain.specs.Topics.{topics};
 use crate::matching::topic_of;
 use crate::topics::{Topic, subjects};
 use nor_base::{ByteOut, Bytes, Failed, put_parts};
-use norprog_words::{Refusal, refuse};
+use norprog_common::{Refusal, refuse};
 
 /// What the line of a refusal begins with.
 const NAME: &[u8] = b"norprog:";

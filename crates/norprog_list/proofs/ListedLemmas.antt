@@ -8,10 +8,10 @@ use Rattle.nor_job.specs.Task.{Task}
 use Rattle.nor_job.specs.declared.fault.BuildFault.TheVariants as fault
 use Rattle.nor_script.specs.declared.fault.ReadFault.TheVariants as read
 use Rattle.nor_script.specs.declared.fault.ScriptFault.TheVariants as script
-use Rattle.norprog_words.specs.declared.faults.FileName.TheVariants as file
-use Rattle.norprog_words.specs.declared.faults.FileName.{FileName}
-use Rattle.norprog_words.specs.declared.faults.Refusal.{Refusal}
-use Rattle.norprog_words.specs.declared.faults.Refusal.TheVariants.{Text, Usage, File, Build, Page, Script}
+use Rattle.norprog_common.specs.declared.faults.FileName.TheVariants as file
+use Rattle.norprog_common.specs.declared.faults.FileName.{FileName}
+use Rattle.norprog_common.specs.declared.faults.Refusal.{Refusal}
+use Rattle.norprog_common.specs.declared.faults.Refusal.TheVariants.{Text, Usage, File, Build, Page, Script}
 use Rattle.norprog_list.specs.declared.steps.Stop.{Stop}
 use Rattle.norprog_list.specs.declared.steps.Stop.TheVariants as stop
 use Rattle.norprog_list.specs.Stop.{Lists, refusal_of}
@@ -20,11 +20,11 @@ use Rattle.nor_script.specs.Stream.{IsTextOf, reading}
 use Rattle.nor_script.proofs.StreamLaws.{reads_none}
 use Rattle.nor_script.proofs.TextLaws.{any_text}
 use Rattle.std.specs.Prelude.{IsErrAnd}
-use Rattle.norprog_words.specs.Setup.{IsKnown, RefusesChipOf}
-use Rattle.norprog_words.specs.Chip.{origin_of}
-use Rattle.norprog_words.specs.Setup.{setup_task}
-use Rattle.norprog_words.specs.Shelf.{AreTables, FileFacts}
-use Rattle.norprog_words.proofs.ToldLemmas.{by_fault}
+use Rattle.norprog_common.specs.Setup.{IsKnown, RefusesChipOf}
+use Rattle.norprog_common.specs.Chip.{origin_of}
+use Rattle.norprog_common.specs.Setup.{setup_task}
+use Rattle.norprog_common.specs.Shelf.{AreTables, FileFacts}
+use Rattle.norprog_common.proofs.ToldLemmas.{by_fault}
 use Rattle.norprog_list.specs.declared.request.ListRequest.{ListRequest}
 use Rattle.norprog_list.specs.Served.{ListTask, IsTaskOf}
 use Rattle.norprog_list.specs.Listed.{RefusesListing, ListsText, RefusesText}

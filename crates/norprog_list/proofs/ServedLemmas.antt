@@ -1,10 +1,10 @@
 -- The chip of a request is the one that its texts ask for, and what is so of it is so of that.
 use Rattle.std.proofs.Common.{◌≡◌, ap, option_map, List, ℕ, Option, true, Result, Ok, Err, IfErr}
-use Rattle.norprog_words.specs.declared.faults.Refusal.{Refusal}
-use Rattle.norprog_words.specs.declared.given.GivenList.{GivenList}
-use Rattle.norprog_words.specs.Shelf.{FileFacts}
-use Rattle.norprog_words.specs.Told.{OrUsage}
-use Rattle.norprog_words.proofs.ToldLemmas.{asked_wider, refuses_wider}
+use Rattle.norprog_common.specs.declared.faults.Refusal.{Refusal}
+use Rattle.norprog_common.specs.declared.given.GivenList.{GivenList}
+use Rattle.norprog_common.specs.Shelf.{FileFacts}
+use Rattle.norprog_common.specs.Told.{OrUsage}
+use Rattle.norprog_common.proofs.ToldLemmas.{asked_wider, refuses_wider}
 use Rattle.norprog_list.specs.declared.request.ListRequest.{ListRequest}
 use Rattle.norprog_list.specs.Answer.{StopsScript, IsListFault, RefusesList}
 use Rattle.norprog_list.specs.Request.{is_well_formed, AsksFor}

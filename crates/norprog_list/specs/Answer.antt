@@ -3,11 +3,11 @@ use Rattle.std.specs.Prelude.{◌≡◌, ◌⊎◌, ℕ, List, Option}
 use Rattle.nor_base.specs.Device.{Ahead}
 use Rattle.nor_script.specs.declared.fault.ScriptFault.{ScriptFault}
 use Rattle.nor_script.specs.Stream.{HadText}
-use Rattle.norprog_words.specs.Shelf.{FileFacts}
-use Rattle.norprog_words.specs.declared.faults.FileName.{FileName}
-use Rattle.norprog_words.specs.declared.faults.Refusal.{Refusal}
-use Rattle.norprog_words.specs.declared.given.GivenList.{GivenList}
-use Rattle.norprog_words.specs.Told.{ForAsked, RefusesFor, AnswersAsked}
+use Rattle.norprog_common.specs.Shelf.{FileFacts}
+use Rattle.norprog_common.specs.declared.faults.FileName.{FileName}
+use Rattle.norprog_common.specs.declared.faults.Refusal.{Refusal}
+use Rattle.norprog_common.specs.declared.given.GivenList.{GivenList}
+use Rattle.norprog_common.specs.Told.{ForAsked, RefusesFor, AnswersAsked}
 use Rattle.norprog_list.specs.Listed.{WasCut, WasStopped, WasToldAbove, ListsText, RefusesText}
 use Rattle.norprog_list.specs.Request.{is_well_formed}
 use Rattle.norprog_list.specs.Served.{ListTask, Serves}

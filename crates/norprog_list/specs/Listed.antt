@@ -7,10 +7,10 @@ use Rattle.nor_job.specs.declared.fault.BuildFault.TheVariants as fault
 use Rattle.nor_job.specs.Status.{start_of}
 use Rattle.nor_job.specs.Task.{Task}
 use Rattle.nor_script.specs.declared.fault.ScriptFault.{ScriptFault}
-use Rattle.norprog_words.specs.declared.faults.Refusal.{Refusal}
-use Rattle.norprog_words.specs.declared.faults.Refusal.TheVariants.{File, Build, Script}
-use Rattle.norprog_words.specs.declared.faults.FileName.TheVariants as file
-use Rattle.norprog_words.specs.Setup.{IsKnown, RefusesChipOf}
+use Rattle.norprog_common.specs.declared.faults.Refusal.{Refusal}
+use Rattle.norprog_common.specs.declared.faults.Refusal.TheVariants.{File, Build, Script}
+use Rattle.norprog_common.specs.declared.faults.FileName.TheVariants as file
+use Rattle.norprog_common.specs.Setup.{IsKnown, RefusesChipOf}
 use Rattle.nor_script.specs.Stream.{HadText}
 use Rattle.norprog_list.specs.Stop.{IsWhole, AreFirstLines, IsListed, AreAboveFault, PutsSome, CutsSome}
 

@@ -1,7 +1,7 @@
 -- What the values of a command line of `list` ask for (this project's).
 use Rattle.std.specs.Prelude.{◌≡◌, Bool, ◌&&◌, Some, is_some}
-use Rattle.norprog_words.specs.Setup.{is_setup, AsksSetup}
-use Rattle.norprog_words.specs.declared.given.GivenList.{GivenList}
+use Rattle.norprog_common.specs.Setup.{is_setup, AsksSetup}
+use Rattle.norprog_common.specs.declared.given.GivenList.{GivenList}
 use Rattle.norprog_list.specs.declared.request.ListRequest.{ListRequest}
 
 -- the script's file is named, and each value is of its form

@@ -2,9 +2,9 @@
 use Rattle.std.specs.Prelude.{◌≡◌, ℕ, List, Some, option_map}
 use Rattle.nor_base.specs.Device.{Ahead}
 use Rattle.nor_job.specs.Task.{Task}
-use Rattle.norprog_words.specs.Setup.{IsSetupTask, ServesSetup}
-use Rattle.norprog_words.specs.Shelf.{FileFacts, IsAheadIn}
-use Rattle.norprog_words.specs.declared.given.GivenList.{GivenList}
+use Rattle.norprog_common.specs.Setup.{IsSetupTask, ServesSetup}
+use Rattle.norprog_common.specs.Shelf.{FileFacts, IsAheadIn}
+use Rattle.norprog_common.specs.declared.given.GivenList.{GivenList}
 use Rattle.norprog_list.specs.declared.request.ListRequest.{ListRequest}
 
 -- what is asked of a listing: the chip, in a task that has neither image nor layout, and what the script's file has ahead

@@ -12,9 +12,9 @@ use Rattle.nor_script.specs.Stream.{HadText}
 use Rattle.nor_script.specs.declared.fault.ReadFault.TheVariants as read
 use Rattle.nor_script.specs.declared.fault.ScriptFault.{ScriptFault}
 use Rattle.nor_script.specs.declared.fault.ScriptFault.TheVariants as script
-use Rattle.norprog_words.specs.declared.faults.FileName.TheVariants as file
-use Rattle.norprog_words.specs.declared.faults.Refusal.{Refusal}
-use Rattle.norprog_words.specs.declared.faults.Refusal.TheVariants.{File, Build, Script}
+use Rattle.norprog_common.specs.declared.faults.FileName.TheVariants as file
+use Rattle.norprog_common.specs.declared.faults.Refusal.{Refusal}
+use Rattle.norprog_common.specs.declared.faults.Refusal.TheVariants.{File, Build, Script}
 use Rattle.norprog_list.specs.declared.steps.Stop.{Stop}
 use Rattle.norprog_list.specs.declared.steps.Stop.TheVariants as stop
 

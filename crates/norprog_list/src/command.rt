@@ -1,7 +1,7 @@
 //! `list`: from the texts of the command line to the lines of a listing.
 
 ghost use Rattle.std.specs.Prelude.{◌≡◌, ◌<◌, ◌≤◌, ◌-◌, ◌^◌, true, IfOk, IfErr};
-ghost use Rattle.norprog_words.specs.Told.{OrUsage};
+ghost use Rattle.norprog_common.specs.Told.{OrUsage};
 ghost use Rattle.norprog_list.specs.Answer.{PrintsListing, CutsListing, RefusesList, AnswersList};
 ghost use Rattle.norprog_list.specs.Request.{is_well_formed};
 ghost use Rattle.norprog_list.specs.Served.{IsTaskOf, Serves};
@@ -9,7 +9,7 @@ ghost use Rattle.norprog_list.specs.Served.{IsTaskOf, Serves};
 use crate::listing::list_script;
 use crate::request::{ListRequest, request_of};
 use nor_base::ByteOut;
-use norprog_words::{FileName, GivenList, Refusal, Shelf, answered, setup_inputs, tables_of};
+use norprog_common::{FileName, GivenList, Refusal, Shelf, answered, setup_inputs, tables_of};
 use std::alloc::Global;
 
 /// Writes to `out` the listing of the script on a command line, by the chip that it names, or a refusal to `err`

@@ -11,5 +11,5 @@ mod steps;
 
 pub use command::list;
 pub use listing::list_script;
-pub use norprog_words::GivenList;
+pub use norprog_common::GivenList;
 pub use request::{ListRequest, request_of};

@@ -2,14 +2,14 @@
 
 ghost use Rattle.std.specs.Prelude.{◌≡◌, ◌<◌, ◌-◌, ◌^◌, false, IfOk, IfErr};
 ghost use Rattle.norprog_list.specs.Listed.{ListsText, RefusesText, CountsSource, may_print};
-ghost use Rattle.norprog_words.specs.Content.{CountsWriter};
+ghost use Rattle.norprog_common.specs.Content.{CountsWriter};
 ghost use Rattle.norprog_list.specs.Stop.{refusal_of as told_of};
 
 use crate::steps::{Stop, list_steps};
 use nor_base::{ByteIn, ByteOut};
 use nor_job::Inputs;
 use nor_script::{ReadFault, ScriptFault};
-use norprog_words::{FileName, Refusal, known_chip};
+use norprog_common::{FileName, Refusal, known_chip};
 use std::alloc::Global;
 
 /// Writes the listing of the steps of a script, by the chip of the inputs and the address mode that it begins in, each line as its

@@ -3,7 +3,7 @@
 ghost use Rattle.std.specs.Prelude.{◌≡◌, is_some, IfSome};
 ghost use Rattle.norprog_list.specs.Request.{is_well_formed, AsksFor};
 
-use norprog_words::{GivenList, Setup, setup_of};
+use norprog_common::{GivenList, Setup, setup_of};
 
 /// What `list` is asked for: each value is of its form.
 #[derive(Clone, Copy)]

@@ -3,16 +3,16 @@ use Rattle.std.specs.Prelude.{◌≡◌, ℕ, Bool, true, false, List, [], Optio
 use Rattle.clap.specs.Words.{first_value, matched_of, one_text, raw_values, rows_of, subcommand_name_of, subcommand_rows_of}
 use Rattle.clap.specs.declared.parser.matches.ArgMatches.{ArgMatches}
 use Rattle.clap.specs.declared.parser.matches.Found.{Found}
-use Rattle.norprog_words.specs.declared.given.Given.{Given}
-use Rattle.norprog_words.specs.declared.given.GivenBuild.{GivenBuild}
-use Rattle.norprog_words.specs.declared.given.GivenCheck.{GivenCheck}
-use Rattle.norprog_words.specs.declared.given.GivenChip.{GivenChip}
-use Rattle.norprog_words.specs.declared.given.GivenDraw.{GivenDraw}
-use Rattle.norprog_words.specs.declared.given.GivenList.{GivenList}
-use Rattle.norprog_words.specs.declared.given.GivenPlan.{GivenPlan}
-use Rattle.norprog_words.specs.declared.given.GivenPlay.{GivenPlay}
-use Rattle.norprog_words.specs.declared.given.GivenRun.{GivenRun}
-use Rattle.norprog_words.specs.declared.given.GivenSetup.{GivenSetup}
+use Rattle.norprog_common.specs.declared.given.Given.{Given}
+use Rattle.norprog_common.specs.declared.given.GivenBuild.{GivenBuild}
+use Rattle.norprog_common.specs.declared.given.GivenCheck.{GivenCheck}
+use Rattle.norprog_common.specs.declared.given.GivenChip.{GivenChip}
+use Rattle.norprog_common.specs.declared.given.GivenDraw.{GivenDraw}
+use Rattle.norprog_common.specs.declared.given.GivenList.{GivenList}
+use Rattle.norprog_common.specs.declared.given.GivenPlan.{GivenPlan}
+use Rattle.norprog_common.specs.declared.given.GivenPlay.{GivenPlay}
+use Rattle.norprog_common.specs.declared.given.GivenRun.{GivenRun}
+use Rattle.norprog_common.specs.declared.given.GivenSetup.{GivenSetup}
 use Rattle.norprog_options.specs.declared.options.Asked.{Asked}
 use Rattle.norprog_options.specs.declared.options.Asked.TheVariants as command
 

@@ -8,7 +8,7 @@ use crate::arguments::norprog;
 use clap::error::ErrorKind;
 use clap::{ArgMatches, Error};
 use nor_base::Bytes;
-use norprog_words::{
+use norprog_common::{
     Given, GivenBuild, GivenCheck, GivenChip, GivenDraw, GivenList, GivenPlan, GivenPlay, GivenRun,
     GivenSetup, Refusal,
 };

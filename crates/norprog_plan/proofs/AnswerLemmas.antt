@@ -8,14 +8,14 @@ use Rattle.nor_job.specs.Causes.{RefusesInputs}
 use Rattle.nor_job.specs.Task.{Task}
 use Rattle.norprog.specs.Plan.{IsPlanOf, StopsPlan}
 use Rattle.norprog.specs.declared.report.Report.{Report}
-use Rattle.norprog_words.specs.declared.faults.FileName.{FileName}
-use Rattle.norprog_words.specs.declared.faults.Refusal.{Refusal}
-use Rattle.norprog_words.specs.declared.faults.Refusal.TheVariants.{Build}
-use Rattle.norprog_words.specs.Told.{ForAsked, OfFault, OrUsage}
-use Rattle.norprog_words.proofs.ToldLemmas.{asked_wider, fault_wider, by_fault, refuses_wider, or_usage}
+use Rattle.norprog_common.specs.declared.faults.FileName.{FileName}
+use Rattle.norprog_common.specs.declared.faults.Refusal.{Refusal}
+use Rattle.norprog_common.specs.declared.faults.Refusal.TheVariants.{Build}
+use Rattle.norprog_common.specs.Told.{ForAsked, OfFault, OrUsage}
+use Rattle.norprog_common.proofs.ToldLemmas.{asked_wider, fault_wider, by_fault, refuses_wider, or_usage}
 use Rattle.norprog_plan.specs.Answer.{FailsToDraw, IsUndrawn, IsPart, in_memory, behind_lines, read_lines, Draws, IsLines, IsWhole, IsTold, PrintsPlan, CutsPlan, FailsToPrint, StopsPlanOf, StopsTask, IsPlanFault, RefusesPlan}
-use Rattle.norprog_words.specs.Served.{Job, Is}
-use Rattle.norprog_words.proofs.ServedLemmas.{of_one}
+use Rattle.norprog_common.specs.Served.{Job, Is}
+use Rattle.norprog_common.proofs.ServedLemmas.{of_one}
 
 -- a fault of a plan that was written to memory, as it is told
 told_so : (P : Refusal → Type 0) (why : BuildFault) → P (Build why) → P (Build fault.Memory) → P (in_memory why)

@@ -9,7 +9,7 @@ use Rattle.nor_layout.specs.Region.{Region}
 use Rattle.nor_map.specs.Grid.{grid_of}
 use Rattle.nor_map.specs.Map.{map_text}
 use Rattle.nor_plan_read.specs.declared.line.PlanLine.{PlanLine}
-use Rattle.norprog_words.specs.declared.faults.Refusal.{Refusal}
+use Rattle.norprog_common.specs.declared.faults.Refusal.{Refusal}
 use Rattle.norprog_plan.specs.Answer.{PutsMap}
 
 -- a set of addresses that has just what is chosen gives the same picture

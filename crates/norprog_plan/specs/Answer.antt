@@ -23,13 +23,13 @@ use Rattle.nor_times.specs.Text.{times_text}
 use Rattle.norprog.specs.Plan.{IsPlanOf, StopsPlan}
 use Rattle.norprog.specs.Report.{report_text}
 use Rattle.norprog.specs.declared.report.Report.{Report}
-use Rattle.norprog_words.specs.declared.faults.FileName.{FileName}
-use Rattle.norprog_words.specs.declared.faults.Refusal.{Refusal}
-use Rattle.norprog_words.specs.declared.faults.Refusal.TheVariants.{Build}
-use Rattle.norprog_words.specs.declared.given.GivenPlan.{GivenPlan}
-use Rattle.norprog_words.specs.Shelf.{FileFacts}
-use Rattle.norprog_words.specs.Told.{ForAsked, OfFault, RefusesFor, AnswersAsked}
-use Rattle.norprog_words.specs.Served.{Job}
+use Rattle.norprog_common.specs.declared.faults.FileName.{FileName}
+use Rattle.norprog_common.specs.declared.faults.Refusal.{Refusal}
+use Rattle.norprog_common.specs.declared.faults.Refusal.TheVariants.{Build}
+use Rattle.norprog_common.specs.declared.given.GivenPlan.{GivenPlan}
+use Rattle.norprog_common.specs.Shelf.{FileFacts}
+use Rattle.norprog_common.specs.Told.{ForAsked, OfFault, RefusesFor, AnswersAsked}
+use Rattle.norprog_common.specs.Served.{Job}
 use Rattle.norprog_plan.specs.Served.{asks_plan, ServesPlan}
 
 -- the times that a chip's tables tell; a chip of a size alone has none

@@ -1,9 +1,9 @@
 -- The job that a command line of `plan` asks for (this project's).
 use Rattle.std.specs.Prelude.{option_map, Bool}
-use Rattle.norprog_words.specs.Shelf.{FileFacts}
-use Rattle.norprog_words.specs.declared.given.GivenPlan.{GivenPlan}
-use Rattle.norprog_words.specs.Request.{is_well_formed}
-use Rattle.norprog_words.specs.Served.{Job, Serves}
+use Rattle.norprog_common.specs.Shelf.{FileFacts}
+use Rattle.norprog_common.specs.declared.given.GivenPlan.{GivenPlan}
+use Rattle.norprog_common.specs.Request.{is_well_formed}
+use Rattle.norprog_common.specs.Served.{Job, Serves}
 
 -- a job
 abbrev pub asks_plan : GivenPlan → Bool

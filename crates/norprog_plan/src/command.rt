@@ -4,17 +4,17 @@ ghost use Rattle.std.specs.Prelude.{◌≡◌, ◌⊎◌, ◌<◌, ◌≤◌, �
 ghost use Rattle.std.specs.Io.KnownBytes.{Appends};
 ghost use Rattle.nor_base.specs.Device.{Cuts};
 ghost use Rattle.nor_job.specs.declared.fault.BuildFault.TheVariants.{Write};
-ghost use Rattle.norprog_words.specs.declared.faults.Refusal.TheVariants.{Build};
-ghost use Rattle.norprog_words.specs.Files.{TellsFile};
-ghost use Rattle.norprog_words.specs.Shelf.{IsMadeApart, WhereNamed};
-ghost use Rattle.norprog_words.specs.Told.{ForAsked, OrUsage};
+ghost use Rattle.norprog_common.specs.declared.faults.Refusal.TheVariants.{Build};
+ghost use Rattle.norprog_common.specs.Files.{TellsFile};
+ghost use Rattle.norprog_common.specs.Shelf.{IsMadeApart, WhereNamed};
+ghost use Rattle.norprog_common.specs.Told.{ForAsked, OrUsage};
 ghost use Rattle.norprog_plan.specs.Served.{asks_plan, ServesPlan};
 ghost use Rattle.norprog_plan.specs.Answer.{IsPart, IsWhole, StopsTask, PrintsPlan, CutsPlan, RefusesPlan, AnswersPlan};
-ghost use Rattle.norprog_words.specs.Served.{Job, IsJobOf, AreGiven, held_in, input_files_of};
+ghost use Rattle.norprog_common.specs.Served.{Job, IsJobOf, AreGiven, held_in, input_files_of};
 
 use crate::outline::{Outline, outline_of};
 use nor_base::{ByteOut, put_all, put_parts};
-use norprog_words::{
+use norprog_common::{
     FileName, GivenPlan, Refusal, Request, Shelf, Texts, answered, inputs_of, open_job, request_of,
 };
 use std::alloc::Global;

@@ -18,7 +18,7 @@ use nor_job::{Inputs, chip_of};
 use nor_layout::{Chosen, Region};
 use nor_map::{Grid, write_map};
 use nor_plan_read::PlanLine;
-use norprog_words::{Refusal, Shelf};
+use norprog_common::{Refusal, Shelf};
 use std::alloc::Global;
 
 /// Draws the plan of the inputs that these lines tell into a file, with the text behind the lines.

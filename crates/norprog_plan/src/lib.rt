@@ -9,4 +9,4 @@ mod drawing;
 mod outline;
 
 pub use command::plan;
-pub use norprog_words::GivenPlan;
+pub use norprog_common::GivenPlan;

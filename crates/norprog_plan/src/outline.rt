@@ -10,9 +10,9 @@ ghost use Rattle.nor_job.specs.Status.{start_of};
 ghost use Rattle.nor_times.specs.Plan.{plan_of};
 ghost use Rattle.norprog.specs.PlanWindows.{plan_text};
 ghost use Rattle.norprog.specs.Report.{report_text};
-ghost use Rattle.norprog_words.specs.declared.faults.Refusal.TheVariants.{Build};
+ghost use Rattle.norprog_common.specs.declared.faults.Refusal.TheVariants.{Build};
 ghost use Rattle.norprog_plan.specs.Answer.{behind_lines, in_memory, times_lines, read_lines, Draws, IsLines, IsPart, IsWhole, StopsTask};
-ghost use Rattle.norprog_words.specs.Served.{job_with, Is};
+ghost use Rattle.norprog_common.specs.Served.{job_with, Is};
 
 use crate::drawing::draw_file;
 use nor_base::{ByteIn, ByteOut, Failed, IntoWrite, Meaning, Start};
@@ -20,7 +20,7 @@ use nor_job::{BuildFault, Inputs, Source, chip_of};
 use nor_plan_read::{PlanLine, read_plan};
 use nor_times::{bus_clocks, busy_time, read_times, text_of_plan, write_times};
 use norprog::{Report, plan, write_report};
-use norprog_words::{Refusal, Shelf};
+use norprog_common::{Refusal, Shelf};
 use std::alloc::Global;
 
 /// The text that tells a plan.

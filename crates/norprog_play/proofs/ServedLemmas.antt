@@ -7,15 +7,15 @@ use Rattle.nor_base.specs.Device.{Ahead}
 use Rattle.nor_base.specs.Parameters.{Parameters}
 use Rattle.nor_job.specs.Status.{start_of}
 use Rattle.nor_job.specs.Task.{Task}
-use Rattle.norprog_words.specs.declared.faults.FileName.{FileName}
-use Rattle.norprog_words.specs.declared.faults.Refusal.{Refusal}
-use Rattle.norprog_words.specs.declared.given.GivenPlay.{GivenPlay}
-use Rattle.norprog_words.specs.Chip.{origin_of}
-use Rattle.norprog_words.specs.Files.{TellsFile}
-use Rattle.norprog_words.specs.Setup.{setup_task}
-use Rattle.norprog_words.specs.Shelf.{AreTables, FileFacts, Named}
-use Rattle.norprog_words.specs.Told.{line_fault}
-use Rattle.norprog_words.proofs.ToldLemmas.{asked_wider, refuses_wider, by_fault, by_files}
+use Rattle.norprog_common.specs.declared.faults.FileName.{FileName}
+use Rattle.norprog_common.specs.declared.faults.Refusal.{Refusal}
+use Rattle.norprog_common.specs.declared.given.GivenPlay.{GivenPlay}
+use Rattle.norprog_common.specs.Chip.{origin_of}
+use Rattle.norprog_common.specs.Files.{TellsFile}
+use Rattle.norprog_common.specs.Setup.{setup_task}
+use Rattle.norprog_common.specs.Shelf.{AreTables, FileFacts, Named}
+use Rattle.norprog_common.specs.Told.{line_fault}
+use Rattle.norprog_common.proofs.ToldLemmas.{asked_wider, refuses_wider, by_fault, by_files}
 use Rattle.norprog_play.specs.declared.ending.Ending.{Ending}
 use Rattle.norprog_play.specs.declared.request.PlayRequest.{PlayRequest}
 use Rattle.norprog_play.specs.declared.unplayed.Unplayed.{Unplayed}

@@ -6,11 +6,11 @@ use Rattle.nor_base.specs.Device.{Ahead, Cuts}
 use Rattle.nor_base.specs.Parameters.{Parameters}
 use Rattle.nor_job.specs.Status.{start_of}
 use Rattle.nor_serprog.specs.declared.fault.GreetFault.{GreetFault}
-use Rattle.norprog_words.specs.declared.faults.FileName.{FileName}
-use Rattle.norprog_words.specs.declared.faults.Refusal.{Refusal}
-use Rattle.norprog_words.specs.declared.given.GivenPlay.{GivenPlay}
-use Rattle.norprog_words.specs.Shelf.{FileFacts}
-use Rattle.norprog_words.specs.Told.{ForAsked, RefusesFor, Refuses, line_fault, TellsOf}
+use Rattle.norprog_common.specs.declared.faults.FileName.{FileName}
+use Rattle.norprog_common.specs.declared.faults.Refusal.{Refusal}
+use Rattle.norprog_common.specs.declared.given.GivenPlay.{GivenPlay}
+use Rattle.norprog_common.specs.Shelf.{FileFacts}
+use Rattle.norprog_common.specs.Told.{ForAsked, RefusesFor, Refuses, line_fault, TellsOf}
 use Rattle.norprog_play.specs.declared.ending.Ending.{Ending}
 use Rattle.norprog_play.specs.declared.unplayed.Unplayed.{Unplayed}
 use Rattle.norprog_play.specs.declared.unplayed.Unplayed.TheVariants.{Refused, Device}

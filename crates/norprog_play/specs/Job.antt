@@ -7,10 +7,10 @@ use Rattle.nor_base.specs.Script.{IsScript}
 use Rattle.nor_job.specs.declared.fault.BuildFault.TheVariants as fault
 use Rattle.nor_job.specs.Task.{Task}
 use Rattle.nor_script.specs.Faults.{IsFault}
-use Rattle.norprog_words.specs.Content.{ReadsLess}
-use Rattle.norprog_words.specs.Setup.{IsKnown, RefusesChipOf}
-use Rattle.norprog_words.specs.declared.faults.Refusal.{Refusal}
-use Rattle.norprog_words.specs.declared.faults.Refusal.TheVariants.{Build, Script}
+use Rattle.norprog_common.specs.Content.{ReadsLess}
+use Rattle.norprog_common.specs.Setup.{IsKnown, RefusesChipOf}
+use Rattle.norprog_common.specs.declared.faults.Refusal.{Refusal}
+use Rattle.norprog_common.specs.declared.faults.Refusal.TheVariants.{Build, Script}
 
 -- the inputs don't contradict one another and give the chip these parameters, and the content has its size
 pub record IsSized (t : Task) (len : ℕ) (m : Parameters) : Type 0 where

@@ -7,7 +7,7 @@ use Rattle.nor_serprog.specs.declared.fault.Fault.TheVariants as fault
 use Rattle.nor_serprog.specs.declared.fault.Reason.TheVariants.{Exchange, Busy, Carried}
 use Rattle.nor_check.specs.declared.verdict.Verdict.TheVariants.{No as Says}
 use Rattle.norprog_check.specs.Line.{verdict_text}
-use Rattle.norprog_words.specs.Wrongs.{wrong_number}
+use Rattle.norprog_common.specs.Wrongs.{wrong_number}
 use Rattle.norprog_play.specs.declared.ending.Ending.{Ending}
 use Rattle.norprog_play.specs.declared.ending.Ending.TheVariants.{Done, Wrong, No, Unlike, Failed}
 

@@ -4,8 +4,8 @@ use Rattle.nor_base.specs.declared.meaning.Start.{Start}
 use Rattle.nor_base.specs.declared.step.Step.{Step}
 use Rattle.nor_base.specs.Parameters.{Parameters}
 use Rattle.nor_serprog.specs.declared.fault.GreetFault.{GreetFault}
-use Rattle.norprog_words.specs.declared.faults.FileName.{FileName}
-use Rattle.norprog_words.specs.Files.{TellsFile}
+use Rattle.norprog_common.specs.declared.faults.FileName.{FileName}
+use Rattle.norprog_common.specs.Files.{TellsFile}
 use Rattle.norprog_play.specs.declared.ending.Ending.{Ending}
 use Rattle.norprog_play.specs.declared.unplayed.Unplayed.{Unplayed}
 use Rattle.norprog_play.specs.declared.unplayed.Unplayed.TheVariants.{Refused, Device}

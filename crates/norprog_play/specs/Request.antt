@@ -1,8 +1,8 @@
 -- What the values of a command line of `play` ask for (this project's).
 use Rattle.std.specs.Prelude.{◌≡◌, ℕ, Bool, ◌&&◌, Some, option_map, unwrap_or, is_some, List, codes}
-use Rattle.norprog_words.specs.Setup.{is_setup, AsksSetup}
-use Rattle.norprog_words.specs.Values.{limit_of}
-use Rattle.norprog_words.specs.declared.given.GivenPlay.{GivenPlay}
+use Rattle.norprog_common.specs.Setup.{is_setup, AsksSetup}
+use Rattle.norprog_common.specs.Values.{limit_of}
+use Rattle.norprog_common.specs.declared.given.GivenPlay.{GivenPlay}
 use Rattle.norprog_play.specs.declared.request.PlayRequest.{PlayRequest}
 
 -- the limit's digits, `1000000` where none are given

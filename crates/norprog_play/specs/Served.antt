@@ -2,12 +2,12 @@
 use Rattle.std.specs.Prelude.{◌≡◌, ℕ, Bool, List, Some, Result, option_map}
 use Rattle.nor_base.specs.Device.{Ahead}
 use Rattle.nor_job.specs.Task.{Task}
-use Rattle.norprog_words.specs.declared.faults.Refusal.{Refusal}
-use Rattle.norprog_words.specs.declared.given.GivenPlay.{GivenPlay}
-use Rattle.norprog_words.specs.Setup.{IsSetupTask, ServesSetup}
-use Rattle.norprog_words.specs.Shelf.{FileFacts, Named}
-use Rattle.norprog_words.specs.Told.{OfLine}
-use Rattle.norprog_words.specs.Values.{limit_of}
+use Rattle.norprog_common.specs.declared.faults.Refusal.{Refusal}
+use Rattle.norprog_common.specs.declared.given.GivenPlay.{GivenPlay}
+use Rattle.norprog_common.specs.Setup.{IsSetupTask, ServesSetup}
+use Rattle.norprog_common.specs.Shelf.{FileFacts, Named}
+use Rattle.norprog_common.specs.Told.{OfLine}
+use Rattle.norprog_common.specs.Values.{limit_of}
 use Rattle.norprog_play.specs.declared.request.PlayRequest.{PlayRequest}
 use Rattle.norprog_play.specs.Request.{asked_limit}
 

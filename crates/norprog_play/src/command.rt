@@ -4,8 +4,8 @@ ghost use Rattle.std.specs.Prelude.{◌≡◌, ◌<◌, ◌≤◌, ◌-◌, ◌^
 ghost use Rattle.std.specs.Io.KnownBytes.{Appends};
 ghost use Rattle.nor_base.specs.Chip.{IsPossible};
 ghost use Rattle.nor_base.specs.Run.{trail};
-ghost use Rattle.norprog_words.specs.Files.{TellsFile};
-ghost use Rattle.norprog_words.specs.Told.{line_fault};
+ghost use Rattle.norprog_common.specs.Files.{TellsFile};
+ghost use Rattle.norprog_common.specs.Told.{line_fault};
 ghost use Rattle.norprog_play.specs.Answer.{IsEnding, IsUnplayed, IsUnprinted, RefusesToPlay, AnswersPlay};
 ghost use Rattle.norprog_play.specs.Early.{MayPlay, chip_with};
 ghost use Rattle.norprog_play.specs.Line.{ending_line};
@@ -24,7 +24,7 @@ use crate::unplayed::Unplayed;
 use nor_base::{ByteOut, Meaning, Start, Step};
 use nor_chip::Chip;
 use nor_serprog::Shadowed;
-use norprog_words::{FileName, GivenPlay, Refusal, Shelf, refuse, setup_inputs, tables_of};
+use norprog_common::{FileName, GivenPlay, Refusal, Shelf, refuse, setup_inputs, tables_of};
 use std::alloc::Global;
 use std::io::BufReader;
 

@@ -2,12 +2,12 @@
 
 ghost use Rattle.std.specs.Prelude.{◌≡◌, ◌<◌, ◌-◌, ◌^◌, IfOk, IfErr};
 ghost use Rattle.nor_job.specs.Status.{start_of};
-ghost use Rattle.norprog_words.specs.Content.{CountsReader};
+ghost use Rattle.norprog_common.specs.Content.{CountsReader};
 ghost use Rattle.norprog_play.specs.Job.{IsSized, IsReady, RefusesSize, RefusesJob, IsEarly};
 
 use nor_base::{ByteIn, Meaning, Start, Step};
 use nor_job::{BuildFault, Inputs};
-use norprog_words::{Refusal, known_chip, read_content};
+use norprog_common::{Refusal, known_chip, read_content};
 use std::alloc::Global;
 
 /// Steps, and the chip that they are to be played on.

@@ -10,7 +10,7 @@ use nor_base::{ByteOut, Failed, Wrong, put_parts};
 use nor_check::Verdict;
 use nor_serprog::{Fault, Reason};
 use norprog_check::write_verdict;
-use norprog_words::wrong_number;
+use norprog_common::wrong_number;
 
 /// Writes the line of an ending, closed by LF, with numbers in decimal: `ok N` with the number of transactions; `wrong N at K`
 /// with the wrong's number and the step; a check's line, `no at K` and why; `failed at K WHY`, where WHY is `read`, `write`,

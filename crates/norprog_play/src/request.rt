@@ -3,7 +3,7 @@
 ghost use Rattle.std.specs.Prelude.{◌≡◌, is_some, IfSome};
 ghost use Rattle.norprog_play.specs.Request.{is_well_formed, AsksFor};
 
-use norprog_words::{GivenPlay, Setup, limit, setup_of};
+use norprog_common::{GivenPlay, Setup, limit, setup_of};
 
 /// What `play` is asked for: each value is of its form.
 #[derive(Clone, Copy)]

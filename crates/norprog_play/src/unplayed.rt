@@ -2,11 +2,11 @@
 
 ghost use Rattle.std.specs.Prelude.{◌≡◌};
 ghost use Rattle.nor_job.specs.declared.fault.BuildFault.TheVariants.{Memory};
-ghost use Rattle.norprog_words.specs.declared.faults.Refusal.TheVariants.{Build};
+ghost use Rattle.norprog_common.specs.declared.faults.Refusal.TheVariants.{Build};
 ghost use Rattle.norprog_play.specs.declared.unplayed.Unplayed.TheVariants as unplayed;
 
 use nor_serprog::GreetFault;
-use norprog_words::Refusal;
+use norprog_common::Refusal;
 use std::alloc::AllocError;
 
 /// Why a script isn't played.

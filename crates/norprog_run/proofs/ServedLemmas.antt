@@ -5,20 +5,20 @@ use Rattle.nor_base.specs.Device.{Ahead}
 use Rattle.nor_job.specs.Task.{Task}
 use Rattle.nor_job.specs.declared.fault.BuildFault.TheVariants as fault
 use Rattle.nor_script.specs.Stream.{IsTextOf}
-use Rattle.norprog_words.specs.declared.faults.FileName.{FileName}
-use Rattle.norprog_words.specs.declared.faults.FileName.TheVariants as file
-use Rattle.norprog_words.specs.declared.faults.Refusal.{Refusal}
-use Rattle.norprog_words.specs.declared.files.Place.{Place}
-use Rattle.norprog_words.specs.declared.faults.Refusal.TheVariants.{Text, Usage, File, Build, Page, Script}
-use Rattle.norprog_words.specs.Chip.{origin_of}
-use Rattle.norprog_words.specs.Files.{TellsFile}
-use Rattle.norprog_words.specs.Setup.{setup_task}
-use Rattle.norprog_words.specs.Shelf.{FileFacts, AreTables, GoesOut, IsMadeApart, IsTextIn, Named, Notes, WhereNamed, tables_file}
-use Rattle.norprog_words.proofs.ShelfLemmas.{made_apart, more_noted, one_noted}
-use Rattle.norprog_words.specs.Told.{RefusesFor, OrScript}
-use Rattle.norprog_words.proofs.ToldLemmas.{asked_wider, by_fault, by_files, refuses_wider, or_usage}
+use Rattle.norprog_common.specs.declared.faults.FileName.{FileName}
+use Rattle.norprog_common.specs.declared.faults.FileName.TheVariants as file
+use Rattle.norprog_common.specs.declared.faults.Refusal.{Refusal}
+use Rattle.norprog_common.specs.declared.files.Place.{Place}
+use Rattle.norprog_common.specs.declared.faults.Refusal.TheVariants.{Text, Usage, File, Build, Page, Script}
+use Rattle.norprog_common.specs.Chip.{origin_of}
+use Rattle.norprog_common.specs.Files.{TellsFile}
+use Rattle.norprog_common.specs.Setup.{setup_task}
+use Rattle.norprog_common.specs.Shelf.{FileFacts, AreTables, GoesOut, IsMadeApart, IsTextIn, Named, Notes, WhereNamed, tables_file}
+use Rattle.norprog_common.proofs.ShelfLemmas.{made_apart, more_noted, one_noted}
+use Rattle.norprog_common.specs.Told.{RefusesFor, OrScript}
+use Rattle.norprog_common.proofs.ToldLemmas.{asked_wider, by_fault, by_files, refuses_wider, or_usage}
 use Rattle.norprog_run.specs.declared.request.Bench.{Bench}
-use Rattle.norprog_words.specs.declared.given.GivenRun.{GivenRun}
+use Rattle.norprog_common.specs.declared.given.GivenRun.{GivenRun}
 use Rattle.norprog_run.specs.declared.request.RunRequest.{RunRequest}
 use Rattle.norprog_run.specs.declared.verdict.Verdict.{Verdict}
 use Rattle.norprog_run.specs.Answer.{WasPlayedSo, IsPlayVerdict, IsStopOf, IsPlayFault, RefusesRun, RefusesToRun}

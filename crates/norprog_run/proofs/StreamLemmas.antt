@@ -9,15 +9,15 @@ use Rattle.nor_job.specs.Status.{start_of}
 use Rattle.nor_job.specs.Task.{Task}
 use Rattle.nor_script.specs.Laws.{ScriptsAreFaultless}
 use Rattle.nor_script.specs.Stream.{HadText, IsSpelled}
-use Rattle.norprog_words.specs.declared.faults.FileName.TheVariants as file
-use Rattle.norprog_words.specs.declared.faults.Refusal.{Refusal}
-use Rattle.norprog_words.specs.declared.faults.Refusal.TheVariants.{File, Build, Script}
+use Rattle.norprog_common.specs.declared.faults.FileName.TheVariants as file
+use Rattle.norprog_common.specs.declared.faults.Refusal.{Refusal}
+use Rattle.norprog_common.specs.declared.faults.Refusal.TheVariants.{File, Build, Script}
 use Rattle.norprog_run.specs.declared.kind.Kind.{Kind}
 use Rattle.norprog_run.specs.declared.request.Bench.{Bench}
 use Rattle.norprog_run.specs.declared.verdict.Verdict.{Verdict}
 use Rattle.norprog_run.specs.Kind.{kind_setting}
 use Rattle.norprog_run.specs.Play.{page_of, IsSized, setting_of}
-use Rattle.norprog_words.specs.Content.{StopsReading}
+use Rattle.norprog_common.specs.Content.{StopsReading}
 use Rattle.norprog_run.specs.Refusals.{RefusesPaged, RefusesPlay, IsEarly}
 use Rattle.norprog_run.specs.Streams.{PlaysText, RefusesScript, StopsText, PlaysStreams, RefusesStreams, IsOfChip, CountsScript}
 

@@ -4,12 +4,12 @@ use Rattle.std.specs.Io.KnownBytes.{Appends}
 use Rattle.nor_base.specs.Device.{Ahead, Cuts}
 use Rattle.nor_job.specs.Task.{Task}
 use Rattle.nor_job.specs.declared.fault.BuildFault.TheVariants.{Memory}
-use Rattle.norprog_words.specs.declared.faults.FileName.{FileName}
-use Rattle.norprog_words.specs.declared.faults.Refusal.{Refusal}
-use Rattle.norprog_words.specs.declared.faults.Refusal.TheVariants.{Build}
-use Rattle.norprog_words.specs.declared.given.GivenRun.{GivenRun}
-use Rattle.norprog_words.specs.Shelf.{FileFacts, GoesOut}
-use Rattle.norprog_words.specs.Told.{ForAsked, RefusesFor, OrScript, OrUsage, TellsOf}
+use Rattle.norprog_common.specs.declared.faults.FileName.{FileName}
+use Rattle.norprog_common.specs.declared.faults.Refusal.{Refusal}
+use Rattle.norprog_common.specs.declared.faults.Refusal.TheVariants.{Build}
+use Rattle.norprog_common.specs.declared.given.GivenRun.{GivenRun}
+use Rattle.norprog_common.specs.Shelf.{FileFacts, GoesOut}
+use Rattle.norprog_common.specs.Told.{ForAsked, RefusesFor, OrScript, OrUsage, TellsOf}
 use Rattle.norprog_run.specs.Request.{is_well_formed}
 use Rattle.norprog_run.specs.declared.request.Bench.{Bench}
 use Rattle.norprog_run.specs.declared.verdict.Verdict.{Verdict}

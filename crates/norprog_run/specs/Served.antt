@@ -2,13 +2,13 @@
 use Rattle.std.specs.Prelude.{◌≡◌, ℕ, List, ◌++◌, Option, Some, option_map, option_to_list}
 use Rattle.nor_base.specs.Device.{Ahead}
 use Rattle.nor_job.specs.Task.{Task}
-use Rattle.norprog_words.specs.declared.files.Place.{Place}
-use Rattle.norprog_words.specs.Chip.{Origin, origin_of}
-use Rattle.norprog_words.specs.Setup.{IsSetupTask, ServesSetup}
-use Rattle.norprog_words.specs.Shelf.{FileFacts, IsMadeApart, IsTextIn, Named, WhereNamed, tables_file}
-use Rattle.norprog_words.specs.Values.{limit_of, said_number}
+use Rattle.norprog_common.specs.declared.files.Place.{Place}
+use Rattle.norprog_common.specs.Chip.{Origin, origin_of}
+use Rattle.norprog_common.specs.Setup.{IsSetupTask, ServesSetup}
+use Rattle.norprog_common.specs.Shelf.{FileFacts, IsMadeApart, IsTextIn, Named, WhereNamed, tables_file}
+use Rattle.norprog_common.specs.Values.{limit_of, said_number}
 use Rattle.norprog_run.specs.declared.request.Bench.{Bench}
-use Rattle.norprog_words.specs.declared.given.GivenRun.{GivenRun}
+use Rattle.norprog_common.specs.declared.given.GivenRun.{GivenRun}
 use Rattle.norprog_run.specs.declared.request.RunRequest.{RunRequest}
 use Rattle.norprog_run.specs.Request.{asked_busy, asked_limit}
 

@@ -11,10 +11,10 @@ use Rattle.nor_script.specs.declared.fault.ReadFault.{ReadFault}
 use Rattle.nor_script.specs.declared.fault.ReadFault.TheVariants as read
 use Rattle.nor_script.specs.Faults.{IsFault}
 use Rattle.nor_script.specs.Stream.{HadText, IsSpelled}
-use Rattle.norprog_words.specs.declared.faults.FileName.TheVariants as file
-use Rattle.norprog_words.specs.declared.faults.Refusal.{Refusal}
-use Rattle.norprog_words.specs.declared.faults.Refusal.TheVariants.{File, Build, Script}
-use Rattle.norprog_words.specs.Lines.{script_refusal}
+use Rattle.norprog_common.specs.declared.faults.FileName.TheVariants as file
+use Rattle.norprog_common.specs.declared.faults.Refusal.{Refusal}
+use Rattle.norprog_common.specs.declared.faults.Refusal.TheVariants.{File, Build, Script}
+use Rattle.norprog_common.specs.Lines.{script_refusal}
 use Rattle.norprog_run.specs.declared.request.Bench.{Bench}
 use Rattle.norprog_run.specs.declared.verdict.Verdict.{Verdict}
 use Rattle.norprog_run.specs.Play.{IsSized, EndsSo, WasPlayed}

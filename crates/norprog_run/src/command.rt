@@ -2,9 +2,9 @@
 
 ghost use Rattle.std.specs.Prelude.{◌≡◌, ◌<◌, ◌≤◌, ◌-◌, ◌^◌, List, ℕ, Some, true, Option, IfOk, IfErr};
 ghost use Rattle.std.specs.Io.KnownBytes.{Appends};
-ghost use Rattle.norprog_words.specs.Shelf.{DoNotFail, IsTextIn, IsTextOfFile};
-ghost use Rattle.norprog_words.specs.declared.faults.FileName.TheVariants.{Script};
-ghost use Rattle.norprog_words.specs.Told.{RefusesFor, OrScript};
+ghost use Rattle.norprog_common.specs.Shelf.{DoNotFail, IsTextIn, IsTextOfFile};
+ghost use Rattle.norprog_common.specs.declared.faults.FileName.TheVariants.{Script};
+ghost use Rattle.norprog_common.specs.Told.{RefusesFor, OrScript};
 ghost use Rattle.norprog_run.specs.Answer.{WasPlayedSo, IsPlayFault, IsPlayVerdict, CutsVerdict, RefusesRun, RefusesToRun, AnswersRun};
 ghost use Rattle.norprog_run.specs.Request.{is_well_formed};
 ghost use Rattle.norprog_run.specs.Served.{play_with, Is, IsMadeFor, IsTaskOf, Serves, ServesScript};
@@ -16,7 +16,7 @@ use crate::streams::play_streams;
 use crate::verdict::{Verdict, status_of, write_verdict};
 use nor_base::{ByteIn, ByteOut, Nowhere};
 use nor_job::Inputs;
-use norprog_words::{
+use norprog_common::{
     FileName, GivenRun, Place, Refusal, ScriptFile, Shelf, noted_tables, refuse, setup_inputs,
 };
 use std::alloc::Global;

@@ -7,7 +7,7 @@ ghost use Rattle.norprog_run.specs.Refusals.{RefusesPaged};
 
 use nor_base::{Meaning, Start};
 use nor_job::{BuildFault, Inputs};
-use norprog_words::{Refusal, known_chip};
+use norprog_common::{Refusal, known_chip};
 
 /// What is fixed with a chip besides its busy times.
 #[derive(Drop)]

@@ -6,10 +6,10 @@ ghost use Rattle.nor_base.specs.Chip.{Chip as ShownChip, IsPossible, may_page};
 ghost use Rattle.nor_chip.specs.Ready.{ready_chip};
 ghost use Rattle.nor_job.specs.declared.fault.BuildFault.TheVariants.{Write};
 ghost use Rattle.nor_job.specs.Wanted.{ReadsWithin};
-ghost use Rattle.norprog_words.specs.declared.faults.Refusal.TheVariants.{Build};
+ghost use Rattle.norprog_common.specs.declared.faults.Refusal.TheVariants.{Build};
 ghost use Rattle.nor_script.specs.Stream.{HadText, IsSpelled};
 ghost use Rattle.norprog_run.specs.Kind.{kind_setting};
-ghost use Rattle.norprog_words.specs.Content.{CountsReader, CountsWriter};
+ghost use Rattle.norprog_common.specs.Content.{CountsReader, CountsWriter};
 ghost use Rattle.norprog_run.specs.Streams.{PlaysText, StopsText, PlaysStreams, RefusesStreams, IsOfChip, IsOfContent, CountsScript, CountsOne, RefusesScript, refusal_of as told_of};
 
 use crate::kind::{Kind, kind_of};
@@ -20,7 +20,7 @@ use nor_base::{ByteIn, ByteOut, put_all};
 use nor_chip::Chip;
 use nor_job::Inputs;
 use nor_script::{ReadFault, count_steps};
-use norprog_words::{FileName, Refusal, read_content};
+use norprog_common::{FileName, Refusal, read_content};
 use std::alloc::Global;
 
 /// Plays a script on a ready chip of the inputs, and answers how it ends: [`crate::play_script`] of a script that is read twice

@@ -2,10 +2,10 @@
 use Rattle.std.proofs.Common.{Result, Ok, Err, IfOk, IfErr}
 use Rattle.nor_base.specs.Parameters.{Parameters}
 use Rattle.nor_job.specs.Task.{Task}
-use Rattle.norprog_words.specs.declared.faults.FileName.{FileName}
-use Rattle.norprog_words.specs.declared.faults.Refusal.{Refusal}
-use Rattle.norprog_words.specs.Told.{OfFault}
-use Rattle.norprog_words.proofs.ToldLemmas.{asked_wider, fault_wider, refuses_wider}
+use Rattle.norprog_common.specs.declared.faults.FileName.{FileName}
+use Rattle.norprog_common.specs.declared.faults.Refusal.{Refusal}
+use Rattle.norprog_common.specs.Told.{OfFault}
+use Rattle.norprog_common.proofs.ToldLemmas.{asked_wider, fault_wider, refuses_wider}
 use Rattle.norprog_sfdp.specs.Answer.{MeansThis, IsMeaning, MeansNone, IsChipFault, RefusesMeaning}
 
 pub chip_wider : (L M : FileName → Type 0) (A B : Task → Type 0) → ((name : FileName) → L name → M name) → ((t : Task) → A t → B t) → (why : Refusal)

@@ -2,13 +2,13 @@
 use Rattle.std.proofs.Common.{◌≡◌, ◌∙◌, ap, refl, sym, true, Bor, codes, unwrap_or, is_some, option_map, Option, Some, None, List, ℕ}
 use Rattle.nor_base.specs.declared.meaning.Part.{Part}
 use Rattle.nor_job.specs.Task.{Task}
-use Rattle.norprog_words.specs.Chip.{Origin}
-use Rattle.norprog_words.specs.Shelf.{FileFacts, AreTables}
-use Rattle.norprog_words.specs.Values.{part_of}
-use Rattle.norprog_words.specs.declared.given.GivenChip.{GivenChip}
-use Rattle.norprog_words.specs.Setup.{chip_asked, family_asked}
+use Rattle.norprog_common.specs.Chip.{Origin}
+use Rattle.norprog_common.specs.Shelf.{FileFacts, AreTables}
+use Rattle.norprog_common.specs.Values.{part_of}
+use Rattle.norprog_common.specs.declared.given.GivenChip.{GivenChip}
+use Rattle.norprog_common.specs.Setup.{chip_asked, family_asked}
 use Rattle.norprog_sfdp.specs.Served.{asks_chip, ServesChip, IsTaskAlone, IsChipTask}
-use Rattle.norprog_words.proofs.ServedLemmas.{both}
+use Rattle.norprog_common.proofs.ServedLemmas.{both}
 
 pub chip_task : (files : FileFacts) (origin : Origin) (part : Part) (tables : List ℕ) → AreTables files origin tables
     → (t : Task) → IsTaskAlone origin part tables t → IsChipTask files origin part t

@@ -2,11 +2,11 @@
 use Rattle.std.specs.Prelude.{◌≡◌, ℕ, false, List, [], None, Some, Bool, ◌&&◌, is_some}
 use Rattle.nor_base.specs.declared.meaning.Part.{Part}
 use Rattle.nor_job.specs.Task.{Task}
-use Rattle.norprog_words.specs.Chip.{Origin, task_chip}
-use Rattle.norprog_words.specs.Shelf.{FileFacts, AreTables}
-use Rattle.norprog_words.specs.Values.{part_of}
-use Rattle.norprog_words.specs.declared.given.GivenChip.{GivenChip}
-use Rattle.norprog_words.specs.Setup.{chip_asked, family_asked}
+use Rattle.norprog_common.specs.Chip.{Origin, task_chip}
+use Rattle.norprog_common.specs.Shelf.{FileFacts, AreTables}
+use Rattle.norprog_common.specs.Values.{part_of}
+use Rattle.norprog_common.specs.declared.given.GivenChip.{GivenChip}
+use Rattle.norprog_common.specs.Setup.{chip_asked, family_asked}
 
 -- a chip, and a family
 abbrev pub asks_chip : GivenChip → Bool

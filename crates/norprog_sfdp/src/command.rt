@@ -1,15 +1,15 @@
 //! `sfdp`: from the texts of the command line to the lines that tell what a chip's tables mean.
 
 ghost use Rattle.std.specs.Prelude.{◌≡◌, ◌<◌, ◌≤◌, ◌-◌, ◌^◌, true, IfOk, IfErr};
-ghost use Rattle.norprog_words.specs.Chip.{origin_of};
-ghost use Rattle.norprog_words.specs.Told.{OrUsage};
+ghost use Rattle.norprog_common.specs.Chip.{origin_of};
+ghost use Rattle.norprog_common.specs.Told.{OrUsage};
 ghost use Rattle.norprog_sfdp.specs.Served.{asks_chip, IsChipTask, IsTaskAlone, ServesChip};
 ghost use Rattle.norprog_sfdp.specs.Answer.{IsMeaning, RefusesMeaning, PrintsMeaning, CutsMeaning, AnswersChip};
 
 use crate::chip_text::sfdp_text;
 use nor_base::{ByteOut, Meaning, Part};
 use nor_job::{BuildFault, Inputs, contradiction};
-use norprog_words::{
+use norprog_common::{
     Chip, GivenChip, Refusal, Shelf, answered, chip_of, part, source_of, tables_of,
 };
 use std::alloc::Global;

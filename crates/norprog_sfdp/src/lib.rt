@@ -9,4 +9,4 @@ mod command;
 
 pub use chip_text::sfdp_text;
 pub use command::sfdp;
-pub use norprog_words::GivenChip;
+pub use norprog_common::GivenChip;

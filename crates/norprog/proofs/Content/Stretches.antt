@@ -15,7 +15,7 @@ use Rattle.nor_geometry.specs.Plan.{HasPart, IsLowestAt, IsFault, IsFaultOf}
 use Rattle.nor_outline.specs.Told.{IsFaultless}
 use Rattle.nor_steps.specs.Work.{stretch_units, stretch_ops, IsWork, IsWorkOf}
 use Rattle.nor_steps.specs.Writing.{Writing, written_on}
-use Rattle.nor_work.proofs.Erased.Needed.{units_join}
+use Rattle.nor_plan_laws.proofs.Erased.Needed.{units_join}
 use Rattle.norprog.proofs.Content.Targets.{part_left, part_right}
 
 pages_join : (page a k n : ℕ) → pages page a (k + n) ≡ pages page a k ++ pages page (a + k * page) n

@@ -33,7 +33,7 @@ use Rattle.nor_laws.specs.Spelling.{HasSpelling}
 use Rattle.nor_steps.specs.declared.tally.Tally.{Tally}
 use Rattle.nor_steps.specs.Lines.{step_of, steps_of}
 use Rattle.nor_steps.specs.Tally.{tally_with}
-use Rattle.nor_work.specs.Exists.{PlannedCanBeSpelled}
+use Rattle.nor_plan_laws.specs.Exists.{PlannedCanBeSpelled}
 use Rattle.norprog.specs.declared.report.Report.{Report}
 use Rattle.nor_job.specs.Wanted.{wanted}
 use Rattle.norprog.specs.Laws.{Laws}

@@ -24,7 +24,7 @@ use Rattle.nor_steps.specs.declared.fault.StepsFault.TheVariants as steps
 use Rattle.nor_steps.specs.declared.tally.Tally.{Tally}
 use Rattle.nor_steps.specs.Lines.{steps_of}
 use Rattle.nor_steps.specs.Writing.{Writing}
-use Rattle.nor_work.specs.Exists.{PlannedCanBeSpelled}
+use Rattle.nor_plan_laws.specs.Exists.{PlannedCanBeSpelled}
 use Rattle.nor_job.specs.Wanted.{wanted}
 use Rattle.norprog.specs.Plan.{IsPlanOf, StopsPlan}
 use Rattle.norprog.specs.PlanWindows.{plan_text, TellsWindows}

@@ -9,8 +9,8 @@ use Rattle.nor_base.proofs.DeviceLaws.{Appends-none, Writes-cut}
 use Rattle.nor_base.proofs.RegionLaws.{legal_on_chip}
 use Rattle.nor_geometry.specs.Legal.{IsSmallestAt}
 use Rattle.nor_geometry.proofs.KindLemmas.{placed}
-use Rattle.nor_work.specs.Able.{BlocksStay}
-use Rattle.nor_work.proofs.Units.Ranges.{length-range}
+use Rattle.nor_plan_laws.specs.Able.{BlocksStay}
+use Rattle.nor_plan_laws.proofs.Units.Ranges.{length-range}
 use Rattle.nor_outline.specs.Outline.{MayErase, reasons}
 use Rattle.nor_outline.specs.Parts.{due_in}
 use Rattle.nor_outline.proofs.ReasonLemmas.{IsBorder, IsNextIn, first_border, next_in}

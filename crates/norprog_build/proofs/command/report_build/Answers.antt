@@ -1,13 +1,13 @@
 -- What was built is what the texts ask for.
 use Rattle.std.proofs.Common.{ap, inr, is_some, Some, option_map, ◌&&◌}
 use Rattle.nor_base.proofs.FaultLaws.{handed_on}
-use Rattle.norprog_words.proofs.ToldLemmas.{asked_wider, or_usage}
+use Rattle.norprog_common.proofs.ToldLemmas.{asked_wider, or_usage}
 use Rattle.norprog_build.specs.Served.{asks_build, ServesBuild}
 use Rattle.norprog_build.specs.Answer.{IsReportOf}
-use Rattle.norprog_words.specs.Served.{Job, IsJobOf}
+use Rattle.norprog_common.specs.Served.{Job, IsJobOf}
 use Rattle.norprog_build.proofs.AnswerLemmas.{build_wider, unsent}
 use Rattle.norprog_build.proofs.ServedLemmas.{build_serves, build_asked}
-use Rattle.norprog_words.proofs.ServedLemmas.{no_job}
+use Rattle.norprog_common.proofs.ServedLemmas.{no_job}
 use Rattle.norprog_build.proofs.command.report_build.Goals as goal
 
 pub returns-in-Ok-clause-printed : goal.returns-in-Ok-clause-printed

@@ -1,9 +1,9 @@
 -- The report, or the fault, is that of the request's job.
 use Rattle.std.proofs.Common.{Some}
-use Rattle.norprog_words.proofs.ShelfLemmas.{made_apart}
-use Rattle.norprog_words.specs.Served.{IsJobOf, held_in, input_files_of}
+use Rattle.norprog_common.proofs.ShelfLemmas.{made_apart}
+use Rattle.norprog_common.specs.Served.{IsJobOf, held_in, input_files_of}
 use Rattle.norprog_build.proofs.AnswerLemmas.{report_of, refusal_of_build}
-use Rattle.norprog_words.proofs.ServedLemmas.{job_of}
+use Rattle.norprog_common.proofs.ServedLemmas.{job_of}
 use Rattle.norprog_build.proofs.command.run_build.Goals as goal
 
 pub returns-clause-built : goal.returns-clause-built

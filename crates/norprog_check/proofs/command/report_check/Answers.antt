@@ -1,14 +1,14 @@
 -- The verdict is on what the texts ask for.
 use Rattle.std.proofs.Common.{ap, inr, is_some, None, option_map, ◌&&◌}
-use Rattle.norprog_words.specs.Shelf.{IsTextIn}
-use Rattle.norprog_words.specs.Told.{OrScript}
+use Rattle.norprog_common.specs.Shelf.{IsTextIn}
+use Rattle.norprog_common.specs.Told.{OrScript}
 use Rattle.nor_base.proofs.FaultLaws.{handed_on}
-use Rattle.norprog_words.proofs.ToldLemmas.{or_usage}
+use Rattle.norprog_common.proofs.ToldLemmas.{or_usage}
 use Rattle.norprog_check.specs.Served.{asks_check, ServesCheck, ServesScript}
-use Rattle.norprog_words.specs.Served.{IsJobOf}
+use Rattle.norprog_common.specs.Served.{IsJobOf}
 use Rattle.norprog_check.proofs.AnswerLemmas.{check_wider, verdict_wider}
 use Rattle.norprog_check.proofs.ServedLemmas.{check_serves, check_asked, script_serves}
-use Rattle.norprog_words.proofs.ServedLemmas.{no_job}
+use Rattle.norprog_common.proofs.ServedLemmas.{no_job}
 use Rattle.norprog_check.proofs.command.report_check.Goals as goal
 
 pub returns-in-Ok-clause-checked : goal.returns-in-Ok-clause-checked

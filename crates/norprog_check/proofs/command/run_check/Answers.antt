@@ -1,10 +1,10 @@
 -- The verdict, or the stop, is that of the request's job and script.
 use Rattle.std.proofs.Common.{None, inr}
-use Rattle.norprog_words.specs.Shelf.{IsTextIn}
-use Rattle.norprog_words.specs.Told.{OrScript}
-use Rattle.norprog_words.proofs.ShelfLemmas.{text_in}
-use Rattle.norprog_words.specs.Served.{IsJobOf, held_in}
-use Rattle.norprog_words.proofs.ServedLemmas.{of_one, job_of}
+use Rattle.norprog_common.specs.Shelf.{IsTextIn}
+use Rattle.norprog_common.specs.Told.{OrScript}
+use Rattle.norprog_common.proofs.ShelfLemmas.{text_in}
+use Rattle.norprog_common.specs.Served.{IsJobOf, held_in}
+use Rattle.norprog_common.proofs.ServedLemmas.{of_one, job_of}
 use Rattle.norprog_check.proofs.AnswerLemmas.{verdicts_wider, refusals_wider}
 use Rattle.norprog_check.proofs.command.run_check.Goals as goal
 

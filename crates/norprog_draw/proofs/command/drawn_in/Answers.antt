@@ -1,6 +1,6 @@
 -- What was drawn, or the refusal, is of what the command line asks for.
 use Rattle.std.proofs.Common.{rules, ◌≡◌, None, Ok}
-use Rattle.norprog_words.specs.Told.{line_fault}
+use Rattle.norprog_common.specs.Told.{line_fault}
 use Rattle.norprog_draw.specs.Request.{is_well_formed, AsksFor}
 use Rattle.norprog_draw.proofs.ServedLemmas.{drawings_asked, refusals_asked}
 use Rattle.norprog_draw.proofs.command.drawn_in.Goals as goal

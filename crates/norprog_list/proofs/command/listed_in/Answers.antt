@@ -1,7 +1,7 @@
 -- The refusal is of the listing that the texts ask for.
 use Rattle.std.proofs.Common.{rules, ◌≡◌, true}
 use Rattle.nor_base.proofs.FaultLaws.{handed_on}
-use Rattle.norprog_words.proofs.ToldLemmas.{or_usage}
+use Rattle.norprog_common.proofs.ToldLemmas.{or_usage}
 use Rattle.norprog_list.specs.Request.{is_well_formed, AsksFor}
 use Rattle.norprog_list.proofs.ServedLemmas.{refusal_asked}
 use Rattle.norprog_list.proofs.command.listed_in.Goals as goal

@@ -1,8 +1,8 @@
 -- What was listed is the script of the request's file, by the chip of its tables.
 use Rattle.std.proofs.Common.{ℕ, sym, subst}
 use Rattle.nor_base.specs.Device.{Ahead}
-use Rattle.norprog_words.specs.Chip.{origin_of}
-use Rattle.norprog_words.specs.Shelf.{AreTables}
+use Rattle.norprog_common.specs.Chip.{origin_of}
+use Rattle.norprog_common.specs.Shelf.{AreTables}
 use Rattle.norprog_list.specs.Served.{IsTaskOf}
 use Rattle.norprog_list.proofs.ListedLemmas.{refused_cut, all_printed, refused_so, asked_of}
 use Rattle.norprog_list.proofs.command.run_list.Given as given

@@ -1,7 +1,7 @@
 -- What is asked for is what these matches say.
 use Rattle.std.proofs.Common.{Result, Ok, Err, IfOk}
 use Rattle.clap.specs.declared.parser.matches.ArgMatches.{ArgMatches}
-use Rattle.norprog_words.specs.declared.faults.Refusal.{Refusal}
+use Rattle.norprog_common.specs.declared.faults.Refusal.{Refusal}
 use Rattle.norprog_options.specs.declared.options.Asked.{Asked}
 use Rattle.norprog_options.specs.Options.{IsAsked, IsAskedBySome}
 use Rattle.norprog_options.proofs.options.asked_by.Goals as goal

@@ -2,10 +2,10 @@
 use Rattle.std.proofs.Common.{ap, option_map}
 use Rattle.nor_base.proofs.FaultLaws.{handed_on}
 use Rattle.norprog_plan.specs.Served.{asks_plan}
-use Rattle.norprog_words.specs.Served.{IsJobOf}
+use Rattle.norprog_common.specs.Served.{IsJobOf}
 use Rattle.norprog_plan.proofs.AnswerLemmas.{whole_of, part_of_lines, whole_printed, whole_cut, whole_refused, lines_cut, lines_refused}
 use Rattle.norprog_plan.proofs.ServedLemmas.{plan_serves}
-use Rattle.norprog_words.proofs.ServedLemmas.{is_formed, no_job}
+use Rattle.norprog_common.proofs.ServedLemmas.{is_formed, no_job}
 use Rattle.norprog_plan.proofs.command.report_plan.Goals as goal
 
 pub returns-in-Ok-clause-printed : goal.returns-in-Ok-clause-printed

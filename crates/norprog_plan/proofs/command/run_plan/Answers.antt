@@ -1,8 +1,8 @@
 -- What was told is of the request's job.
 use Rattle.std.proofs.Common.{option_map}
-use Rattle.norprog_words.specs.Served.{IsJobOf, held_in}
+use Rattle.norprog_common.specs.Served.{IsJobOf, held_in}
 use Rattle.norprog_plan.proofs.AnswerLemmas.{wholes_of, parts_of, stops_for}
-use Rattle.norprog_words.proofs.ServedLemmas.{job_of}
+use Rattle.norprog_common.proofs.ServedLemmas.{job_of}
 use Rattle.norprog_plan.proofs.command.run_plan.Goals as goal
 
 pub returns-in-Ok-clause-whole : goal.returns-in-Ok-clause-whole

@@ -1,8 +1,8 @@
 -- What tells the plan is that of the inputs.
 use Rattle.std.proofs.Common.{rules, ◌≡◌, [], option_map}
-use Rattle.norprog_words.specs.Served.{job_with}
+use Rattle.norprog_common.specs.Served.{job_with}
 use Rattle.norprog_plan.proofs.AnswerLemmas.{outline_whole, outline_lines, outline_stops, stops_of_plan}
-use Rattle.norprog_words.proofs.ServedLemmas.{same_some}
+use Rattle.norprog_common.proofs.ServedLemmas.{same_some}
 use Rattle.norprog_plan.proofs.outline.outline_of.Goals as goal
 
 pub returns-in-Ok-clause-whole : goal.returns-in-Ok-clause-whole

@@ -1,6 +1,6 @@
 -- Where there is no ending why is told.
 use Rattle.std.proofs.Common.{inr, subst}
-use Rattle.norprog_words.specs.Told.{line_fault}
+use Rattle.norprog_common.specs.Told.{line_fault}
 use Rattle.norprog_play.specs.Answer.{IsUnprinted, RefusesLine}
 use Rattle.norprog_play.specs.Request.{is_well_formed}
 use Rattle.norprog_play.specs.Served.{OfPlay}

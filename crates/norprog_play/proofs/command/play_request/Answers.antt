@@ -1,7 +1,7 @@
 -- The ending, or why there is none, is of the request's chip, script, content, limit and trust.
 use Rattle.std.proofs.Common.{sym, subst}
-use Rattle.norprog_words.specs.Chip.{origin_of}
-use Rattle.norprog_words.specs.Shelf.{AreTables}
+use Rattle.norprog_common.specs.Chip.{origin_of}
+use Rattle.norprog_common.specs.Shelf.{AreTables}
 use Rattle.nor_base.proofs.FaultLaws.{handed_on}
 use Rattle.norprog_play.specs.declared.unplayed.Unplayed.TheVariants.{Refused}
 use Rattle.norprog_play.specs.Answer.{IsUnplayed}

@@ -1,9 +1,9 @@
 -- What was played is of the chip, the content and the script of the request's files.
 use Rattle.std.proofs.Common.{List, ℕ, None, refl, sym, subst}
-use Rattle.norprog_words.specs.Chip.{origin_of}
-use Rattle.norprog_words.specs.Shelf.{AreTables, IsTextIn, IsTextOfFile}
-use Rattle.norprog_words.proofs.ShelfLemmas.{text_in}
-use Rattle.norprog_words.specs.Told.{OrScript}
+use Rattle.norprog_common.specs.Chip.{origin_of}
+use Rattle.norprog_common.specs.Shelf.{AreTables, IsTextIn, IsTextOfFile}
+use Rattle.norprog_common.proofs.ShelfLemmas.{text_in}
+use Rattle.norprog_common.specs.Told.{OrScript}
 use Rattle.nor_base.proofs.FaultLaws.{handed_on}
 use Rattle.norprog_run.specs.Answer.{RefusesRun}
 use Rattle.norprog_run.specs.Served.{IsTaskOf}

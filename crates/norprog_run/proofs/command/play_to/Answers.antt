@@ -1,8 +1,8 @@
 -- What was played went out into the output, which was made first.
 use Rattle.std.proofs.Common.{inr, refl, Some}
 use Rattle.nor_base.proofs.FaultLaws.{handed_on}
-use Rattle.norprog_words.specs.Shelf.{IsTextOfFile}
-use Rattle.norprog_words.specs.Told.{OrScript}
+use Rattle.norprog_common.specs.Shelf.{IsTextOfFile}
+use Rattle.norprog_common.specs.Told.{OrScript}
 use Rattle.norprog_run.specs.Answer.{RefusesRun}
 use Rattle.norprog_run.specs.Served.{IsMadeFor, play_with}
 use Rattle.norprog_run.proofs.ServedLemmas.{one_played, one_refused}

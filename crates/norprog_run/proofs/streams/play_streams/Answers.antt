@@ -1,7 +1,7 @@
 -- The script is read twice, and the content between.
 use Rattle.std.proofs.Common.{◌≡◌, refl, sym, ◌∙◌, ap, subst, arith}
 use Rattle.norprog_run.specs.declared.kind.Kind.{Kind}
-use Rattle.norprog_words.specs.Content.{StopsReading}
+use Rattle.norprog_common.specs.Content.{StopsReading}
 use Rattle.norprog_run.specs.Streams.{RefusesStreams}
 use Rattle.norprog_run.proofs.ReadLemmas.{less_read}
 use Rattle.nor_base.proofs.FaultLaws.{handed_on}

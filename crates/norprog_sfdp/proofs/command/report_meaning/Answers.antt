@@ -1,10 +1,10 @@
 -- The meaning is of the chip that the texts name.
 use Rattle.std.proofs.Common.{refl, inr}
 use Rattle.nor_job.specs.Task.{Task}
-use Rattle.norprog_words.specs.Chip.{origin_of}
-use Rattle.norprog_words.specs.Setup.{chip_asked}
+use Rattle.norprog_common.specs.Chip.{origin_of}
+use Rattle.norprog_common.specs.Setup.{chip_asked}
 use Rattle.nor_base.proofs.FaultLaws.{handed_on}
-use Rattle.norprog_words.proofs.ToldLemmas.{asked_wider, or_usage}
+use Rattle.norprog_common.proofs.ToldLemmas.{asked_wider, or_usage}
 use Rattle.norprog_sfdp.specs.Served.{IsChipTask, ServesChip}
 use Rattle.norprog_sfdp.specs.Answer.{MeansThis}
 use Rattle.norprog_sfdp.proofs.AnswerLemmas.{chip_wider}

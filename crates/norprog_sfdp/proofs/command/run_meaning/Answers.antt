@@ -1,5 +1,5 @@
 -- The tables are those of the chip's file.
-use Rattle.norprog_words.specs.Chip.{origin_of}
+use Rattle.norprog_common.specs.Chip.{origin_of}
 use Rattle.norprog_sfdp.specs.Served.{IsTaskAlone, IsChipTask}
 use Rattle.norprog_sfdp.proofs.AnswerLemmas.{means_wider, chips_wider}
 use Rattle.norprog_sfdp.proofs.ServedLemmas.{chip_task}

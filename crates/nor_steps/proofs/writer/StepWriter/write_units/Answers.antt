@@ -6,7 +6,7 @@ use Rattle.nor_pages.specs.Runs.{IsUnit}
 use Rattle.nor_steps.specs.Units.{unit_size}
 use Rattle.nor_steps.specs.Writing.{Writing}
 use Rattle.nor_steps.proofs.WindowLemmas.{IsSofar, lies_here, few_sofar, unit_length, sofar_none, next_here, cut_here, sofar_all}
-use Rattle.nor_work.proofs.Units.Wider.{some_page}
+use Rattle.nor_plan_laws.proofs.Units.Wider.{some_page}
 use Rattle.nor_steps.proofs.writer.StepWriter.write_units.Goals as goal
 
 pub loop-unit-init : goal.loop-unit-init

@@ -1,8 +1,0 @@
--- The parameters asked for are accepted.
-use Rattle.std.proofs.Common.{refl}
-use Rattle.nor_samples.specs.Chips.{mapped}
-use Rattle.nor_samples.proofs.Acceptance.{accepted}
-use Rattle.nor_samples.proofs.mapped_chip.Goals as goal
-
-pub plain_chip-requires-clause-accepted : goal.plain_chip-requires-clause-accepted
-plain_chip-requires-clause-accepted c = accepted mapped refl

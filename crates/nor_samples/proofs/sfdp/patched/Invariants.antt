@@ -1,6 +1,0 @@
-use Rattle.std.proofs.Common.{◌≡◌, drop}
-use Rattle.nor_samples.specs.Patches.{patched}
-use Rattle.nor_samples.proofs.sfdp.patched.Given as goal
-
-abbrev pub invariant-loop-at : goal.invariant-loop-at
-invariant-loop-at l = patched l.changed.items (drop l.at-index l.patches) ≡ patched l.bytes l.patches

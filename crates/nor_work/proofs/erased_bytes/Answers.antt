@@ -1,6 +1,0 @@
--- Both count the addresses that some unit's block holds.
-use Rattle.nor_work.proofs.Erased.Area.{erased_bytes}
-use Rattle.nor_work.proofs.erased_bytes.Goals as goal
-
-pub returns : goal.returns
-returns c = erased_bytes c.there_is_planned_work.ensures.some

@@ -1,6 +1,0 @@
--- By what each instruction does on a chip at rest.
-use Rattle.nor_work.proofs.Erased.Agree.{operation_is_done}
-use Rattle.nor_work.proofs.operations.Goals as goal
-
-pub returns : goal.returns
-returns c = operation_is_done

@@ -1,0 +1,101 @@
+-- Refusals: which command line has one, and why.
+use Rattle.std.proofs.Common.{◌≡◌, ℕ, Bool, true, inl, inr, Option, None, ◌<◌, arith}
+use Rattle.nor_job.specs.declared.fault.BuildFault.{BuildFault}
+use Rattle.nor_job.specs.declared.fault.BuildFault.TheVariants as fault
+use Rattle.norprog_common.specs.declared.faults.FileName.{FileName}
+use Rattle.norprog_common.specs.declared.faults.Refusal.{Refusal}
+use Rattle.norprog_common.specs.declared.faults.Refusal.TheVariants.{Text, Usage, File, Build, Page, Script}
+use Rattle.norprog_common.specs.Files.{TellsFile}
+use Rattle.norprog_common.specs.Lines.{status_after}
+use Rattle.norprog_common.specs.Told.{ForAsked, OfFault, RefusesFor, Refuses, OrUsage}
+
+-- what is so of something is so of the same by another name
+pub asked_wider : (A : Type 0) (P Q Has : A → Type 0) → ((x : A) → P x → Q x) → ForAsked A P Has → ForAsked A Q Has
+asked_wider A P Q Has wider of = record { it = of.it; asked = wider of.it of.asked; has = of.has }
+
+pub fault_wider : (P Q : BuildFault → Type 0) → ((why : BuildFault) → P why → Q why) → (why : Refusal) → OfFault P why → OfFault Q why
+fault_wider P Q wider (Build why) is = wider why is
+fault_wider P Q wider (Text words) is = absurd is
+fault_wider P Q wider Usage is = absurd is
+fault_wider P Q wider (File name) is = absurd is
+fault_wider P Q wider Page is = absurd is
+fault_wider P Q wider (Script why) is = absurd is
+
+-- a fault of the work is told as such
+pub by_fault : (Lacked : FileName → Type 0) (Fault : Refusal → Type 0) (Done : Type 0) (why : Refusal) → Fault why → RefusesFor Lacked Fault Done why
+by_fault Lacked Fault Done (File name) is = inr is
+by_fault Lacked Fault Done (Build (fault.Contradiction number)) is = is
+by_fault Lacked Fault Done (Build (fault.Hex why)) is = is
+by_fault Lacked Fault Done (Build (fault.Layout why)) is = is
+by_fault Lacked Fault Done (Build (fault.Sfdp why)) is = is
+by_fault Lacked Fault Done (Build (fault.Status number)) is = is
+by_fault Lacked Fault Done (Build fault.ModeImpossible) is = is
+by_fault Lacked Fault Done (Build fault.ContentSize) is = is
+by_fault Lacked Fault Done (Build (fault.Plan why)) is = is
+by_fault Lacked Fault Done (Build fault.ContentShort) is = is
+by_fault Lacked Fault Done (Build fault.Read) is = is
+by_fault Lacked Fault Done (Build fault.Write) is = inl is
+by_fault Lacked Fault Done (Build fault.Memory) is = tt
+by_fault Lacked Fault Done (Text words) is = is
+by_fault Lacked Fault Done Usage is = is
+by_fault Lacked Fault Done Page is = is
+by_fault Lacked Fault Done (Script why) is = is
+
+-- and a file that couldn't be used as that
+pub by_files : (Lacked Other : FileName → Type 0) (Fault : Refusal → Type 0) (Done : Type 0) (why : Refusal) → ((name : FileName) → Lacked name → Other name)
+    → TellsFile Lacked why → RefusesFor Other Fault Done why
+by_files Lacked Other Fault Done (File name) wider is = inl (wider name is)
+by_files Lacked Other Fault Done (Build fault.Memory) wider is = tt
+by_files Lacked Other Fault Done (Build (fault.Contradiction number)) wider is = absurd is
+by_files Lacked Other Fault Done (Build (fault.Hex why)) wider is = absurd is
+by_files Lacked Other Fault Done (Build (fault.Layout why)) wider is = absurd is
+by_files Lacked Other Fault Done (Build (fault.Sfdp why)) wider is = absurd is
+by_files Lacked Other Fault Done (Build (fault.Status number)) wider is = absurd is
+by_files Lacked Other Fault Done (Build fault.ModeImpossible) wider is = absurd is
+by_files Lacked Other Fault Done (Build fault.ContentSize) wider is = absurd is
+by_files Lacked Other Fault Done (Build (fault.Plan why)) wider is = absurd is
+by_files Lacked Other Fault Done (Build fault.ContentShort) wider is = absurd is
+by_files Lacked Other Fault Done (Build fault.Read) wider is = absurd is
+by_files Lacked Other Fault Done (Build fault.Write) wider is = absurd is
+by_files Lacked Other Fault Done (Text words) wider is = absurd is
+by_files Lacked Other Fault Done Usage wider is = absurd is
+by_files Lacked Other Fault Done Page wider is = absurd is
+by_files Lacked Other Fault Done (Script why) wider is = absurd is
+
+-- with more files, more faults, and more that may have been done, no refusal is lost
+pub refuses_wider : (L M : FileName → Type 0) (F G : Refusal → Type 0) (D E : Type 0) → ((name : FileName) → L name → M name)
+    → ((why : Refusal) → F why → G why) → (D → E) → (why : Refusal) → RefusesFor L F D why → RefusesFor M G E why
+refuses_wider L M F G D E files wider more (File name) is = elim is [ inl lacks ↦ inl (files name lacks) | inr work ↦ inr (wider (File name) work) ]
+refuses_wider L M F G D E files wider more (Build fault.Memory) is = tt
+refuses_wider L M F G D E files wider more (Build fault.Write) is = elim is [ inl work ↦ inl (wider (Build fault.Write) work) | inr late ↦ inr (more late) ]
+refuses_wider L M F G D E files wider more (Build (fault.Contradiction number)) is = wider (Build (fault.Contradiction number)) is
+refuses_wider L M F G D E files wider more (Build (fault.Hex why)) is = wider (Build (fault.Hex why)) is
+refuses_wider L M F G D E files wider more (Build (fault.Layout why)) is = wider (Build (fault.Layout why)) is
+refuses_wider L M F G D E files wider more (Build (fault.Sfdp why)) is = wider (Build (fault.Sfdp why)) is
+refuses_wider L M F G D E files wider more (Build (fault.Status number)) is = wider (Build (fault.Status number)) is
+refuses_wider L M F G D E files wider more (Build fault.ModeImpossible) is = wider (Build fault.ModeImpossible) is
+refuses_wider L M F G D E files wider more (Build fault.ContentSize) is = wider (Build fault.ContentSize) is
+refuses_wider L M F G D E files wider more (Build (fault.Plan why)) is = wider (Build (fault.Plan why)) is
+refuses_wider L M F G D E files wider more (Build fault.ContentShort) is = wider (Build fault.ContentShort) is
+refuses_wider L M F G D E files wider more (Build fault.Read) is = wider (Build fault.Read) is
+refuses_wider L M F G D E files wider more (Text words) is = wider (Text words) is
+refuses_wider L M F G D E files wider more Usage is = wider Usage is
+refuses_wider L M F G D E files wider more Page is = wider Page is
+refuses_wider L M F G D E files wider more (Script why) is = wider (Script why) is
+
+-- a refusal of the work is one of a command line that has no fault
+pub refuses : (cause : Option Refusal) (Work : Refusal → Type 0) (why : Refusal) → cause ≡ None → Work why → Refuses cause Work why
+refuses cause Work why is work = rw is work
+
+-- a refusal of the work is one of texts that ask for it
+pub or_usage : (asks : Bool) (Work : Refusal → Type 0) (why : Refusal) → asks ≡ true → Work why → OrUsage asks Work why
+or_usage asks Work why is work = rw is work
+
+-- no refusal ends with status 0
+pub refused_status : (why : Refusal) (status : ℕ) → status ≡ status_after why → 0 < status
+refused_status (Text words) status is = omega (arith, is)
+refused_status Usage status is = omega (arith, is)
+refused_status (File name) status is = omega (arith, is)
+refused_status (Build why) status is = omega (arith, is)
+refused_status Page status is = omega (arith, is)
+refused_status (Script why) status is = omega (arith, is)

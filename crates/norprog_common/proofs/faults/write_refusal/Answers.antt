@@ -1,0 +1,16 @@
+-- A refusal for usage has one line.
+use Rattle.std.proofs.Common.{sym, subst}
+use Rattle.nor_base.specs.Device.{Writes}
+use Rattle.norprog_common.specs.declared.faults.Refusal.{Refusal}
+use Rattle.norprog_common.specs.Lines.{printed}
+use Rattle.norprog_common.proofs.faults.write_refusal.Goals as goal
+
+pub returns-in-Usage-clause-bytes : goal.returns-in-Usage-clause-bytes
+returns-in-Usage-clause-bytes g c =
+    subst (λ (refusal : Refusal). Writes (g.E.ByteOut.held c.args.err.now) (g.E.ByteOut.held c.put_line.new.err) c.put_line.result (printed refusal))
+    (sym c.in-Usage.is) c.put_line.ensures.bytes
+
+pub returns-in-Page-clause-bytes : goal.returns-in-Page-clause-bytes
+returns-in-Page-clause-bytes g c =
+    subst (λ (refusal : Refusal). Writes (g.E.ByteOut.held c.args.err.now) (g.E.ByteOut.held c.put_line-in-Page.new.err) c.put_line-in-Page.result (printed refusal))
+    (sym c.in-Page.is) c.put_line-in-Page.ensures.bytes

@@ -1,0 +1,77 @@
+-- The chip that a command line asks for which does no build, and how it begins (this project's).
+use Rattle.std.specs.Prelude.{◌≡◌, ℕ, Bool, false, ◌&&◌, List, [], Option, None, Some, option_map, unwrap_or, is_some, codes}
+use Rattle.nor_base.specs.Parameters.{Parameters}
+use Rattle.nor_job.specs.declared.fault.BuildFault.TheVariants as fault
+use Rattle.nor_job.specs.Chip.{HasChip, RefusesChip}
+use Rattle.nor_job.specs.Task.{Task, contradiction}
+use Rattle.norprog_common.specs.Chip.{Origin, origin_of, chosen_origin, task_chip}
+use Rattle.norprog_common.specs.Shelf.{FileFacts, AreTables}
+use Rattle.norprog_common.specs.Values.{part_of, said_status}
+use Rattle.norprog_common.specs.declared.faults.Refusal.{Refusal}
+use Rattle.norprog_common.specs.declared.faults.Refusal.TheVariants.{Build}
+use Rattle.norprog_common.specs.declared.given.GivenChip.{GivenChip}
+use Rattle.norprog_common.specs.declared.given.GivenSetup.{GivenSetup}
+use Rattle.norprog_common.specs.declared.setup.Setup.{Setup}
+
+-- the chip that the options name, and the family's name, `generic` where none is given
+abbrev pub chip_asked : GivenChip → Option Origin
+chip_asked given =
+    chosen_origin (option_map (λ t. t.now) given.sfdp) (option_map (λ t. t.now) given.uniform) (option_map (λ t. t.now) given.bits)
+
+abbrev pub family_asked : GivenChip → List ℕ
+family_asked given = unwrap_or (option_map (λ t. t.now) given.part) (codes "generic")
+
+-- a chip and a family are named, and the status is of its form
+abbrev pub is_setup : GivenSetup → Bool
+is_setup given =
+    is_some (chip_asked given.chip) && is_some (part_of (family_asked given.chip)) && is_some (said_status (option_map (λ t. t.now) given.status))
+
+-- each value is the one that its text spells
+pub record AsksSetup (given : GivenSetup) (setup : Setup) : Type 0 where
+  pub chip : chip_asked given.chip ≡ Some (origin_of setup.chip)
+  pub part : part_of (family_asked given.chip) ≡ Some setup.part
+  pub status : said_status (option_map (λ t. t.now) given.status) ≡ Some setup.status
+  pub mode4 : setup.mode4 ≡ given.mode4
+  pub quad : setup.quad ≡ given.quad
+  pub erased_only : setup.erased_only ≡ given.erased_only
+
+-- the task of a chip whose tables are these bytes; it has neither image nor layout
+abbrev pub setup_task : Setup → List ℕ → Task
+setup_task setup tables = record {
+  hex = [];
+  layout = None;
+  regions = [];
+  chip = task_chip (origin_of setup.chip) tables;
+  part = setup.part;
+  status = setup.status;
+  mode4 = setup.mode4;
+  quad = setup.quad;
+  base = 0;
+  verify = false;
+  erased_only = setup.erased_only;
+}
+
+-- the task of a chip, with the tables that the file of its name gave
+pub record IsSetupTask (files : FileFacts) (setup : Setup) (t : Task) : Type 0 where
+  pub tables : List ℕ
+  pub gave : AreTables files (origin_of setup.chip) tables
+  pub task : t ≡ setup_task setup tables
+
+-- so it is of the chip that the texts ask for, each value by the one that its text spells
+pub record ServesSetup (files : FileFacts) (given : GivenSetup) (t : Task) : Type 0 where
+  pub setup : Setup
+  pub asks : AsksSetup given setup
+  pub task : IsSetupTask files setup t
+
+-- the inputs don't contradict one another, and give the chip these parameters
+pub record IsKnown (t : Task) (m : Parameters) : Type 0 where
+  pub consistent : contradiction t ≡ None
+  pub chip : HasChip t m
+
+-- why there is no such chip; no earlier cause holds
+abbrev pub RefusesChipOf : Task → Refusal → Type 0
+RefusesChipOf t (Build (fault.Contradiction number)) = contradiction t ≡ Some number
+RefusesChipOf t (Build (fault.Sfdp why)) = (contradiction t ≡ None) × RefusesChip t (fault.Sfdp why)
+RefusesChipOf t (Build (fault.Status number)) = (contradiction t ≡ None) × RefusesChip t (fault.Status number)
+RefusesChipOf t (Build fault.ModeImpossible) = (contradiction t ≡ None) × RefusesChip t fault.ModeImpossible
+RefusesChipOf t other = ⊥

@@ -1,0 +1,97 @@
+-- Which file gave what, and took what (this project's).
+use Rattle.std.specs.Prelude.{◌≡◌, ◌⊎◌, ⊤, ℕ, List, [], ◌∷◌, ◌++◌, Option, Some, None}
+use Rattle.nor_base.specs.Device.{Ahead}
+use Rattle.nor_script.specs.Stream.{IsTextOf}
+use Rattle.norprog_common.specs.Chip.{Origin, Sfdp, Uniform}
+use Rattle.norprog_common.specs.declared.faults.FileName.{FileName}
+use Rattle.norprog_common.specs.declared.files.Place.{Place}
+use Rattle.norprog_common.specs.declared.files.ScriptFile.{ScriptFile}
+use Rattle.norprog_common.specs.declared.files.ScriptFile.TheVariants.{Twice, Held}
+
+-- what is known of files, each by its name. `gave`: the file gave these bytes, read whole. `opened`: it was opened, this is ahead
+-- of its reader, and this is its length in bytes. `stood`: it was opened, and stood at this place. `made`: it was made, or emptied,
+-- at none of these places, and held this then. `flushed`: some file that was made had taken this, and all of it has gone out.
+-- `lacked`: of a file that is told so some couldn't be used
+pub record FileFacts : Type 1 where
+  pub gave : List ℕ → List ℕ → Type 0
+  pub opened : List ℕ → Ahead → ℕ → Type 0
+  pub stood : List ℕ → Place → Type 0
+  pub made : List ℕ → List Place → Option (List ℕ) → Type 0
+  pub flushed : Option (List ℕ) → Type 0
+  pub lacked : FileName → Type 0
+
+-- of the system's files nothing is known
+abbrev pub nothing_known : FileFacts
+nothing_known = record {
+  gave = λ name bytes. ⊤;
+  opened = λ name ahead len. ⊤;
+  stood = λ name place. ⊤;
+  made = λ name places held. ⊤;
+  flushed = λ held. ⊤;
+  lacked = λ told. ⊤;
+}
+
+-- the tables of a chip are what the file of its name gave; a chip of a size has no file
+abbrev pub AreTables : FileFacts → Origin → List ℕ → Type 0
+AreTables files (Sfdp name bits) tables = files.gave name tables
+AreTables files (Uniform size) tables = ⊤
+
+-- the file of the tables of a chip, which one of a size has none of
+abbrev pub tables_file : Origin → List (List ℕ)
+tables_file (Sfdp name bits) = name ∷ []
+tables_file (Uniform size) = []
+
+-- the files of these names stood at these places, one at each
+abbrev pub StoodAt : FileFacts → List (List ℕ) → List Place → Type 0
+StoodAt files [] [] = ⊤
+StoodAt files (name ∷ names) (place ∷ places) = files.stood name place × StoodAt files names places
+StoodAt files names places = ⊥
+
+-- the places of the files of these names are noted behind those that were
+abbrev pub Notes : FileFacts → List (List ℕ) → List Place → List Place → Type 0
+Notes files names before after = (places : List Place) × StoodAt files names places × (after ≡ before ++ places)
+
+-- the output of this name was made as none of the files of those names, and held this then
+abbrev pub IsMadeApart : FileFacts → List (List ℕ) → List ℕ → Option (List ℕ) → Type 0
+IsMadeApart files inputs name held = (places : List Place) × StoodAt files inputs places × files.made name places held
+
+-- a file is named, and it has this
+abbrev pub Named : (List ℕ → Type 0) → Option (List ℕ) → Type 0
+Named Has (Some name) = Has name
+Named Has None = ⊥
+
+-- where a file is named there is something that it has; where none is there is nothing
+abbrev pub WhereNamed : {A : Type 0} → (List ℕ → A → Type 0) → Option (List ℕ) → Option A → Type 0
+WhereNamed Has (Some name) (Some x) = Has name x
+WhereNamed Has (Some name) None = ⊥
+WhereNamed Has None (Some x) = ⊥
+WhereNamed Has None None = ⊤
+
+-- the file was opened, whatever its length, and this is ahead of its reader
+abbrev pub IsAheadIn : FileFacts → List ℕ → Ahead → Type 0
+IsAheadIn files name ahead = (len : ℕ) × files.opened name ahead len
+
+-- the text that the file gave, or that a reader of it had ahead
+abbrev pub IsTextIn : FileFacts → List ℕ → List ℕ → Type 0
+IsTextIn files name text =
+    files.gave name text ⊎ ((ahead : Ahead) × (rest : Ahead) × IsAheadIn files name ahead × IsTextOf ahead rest text)
+
+-- a script is what the file of this name was opened with, twice, or what it gave
+abbrev pub IsOfScript : {F : Type 0} → FileFacts → List ℕ → (F → Ahead) → ScriptFile F → Type 0
+IsOfScript files name ahead (Twice first again) = IsAheadIn files name (ahead first) × IsAheadIn files name (ahead again)
+IsOfScript files name ahead (Held text) = files.gave name text.items
+
+-- its readers haven't failed
+abbrev pub DoNotFail : {F : Type 0} → (F → ℕ) → ScriptFile F → Type 0
+DoNotFail count (Twice first again) = (count first ≡ 0) × (count again ≡ 0)
+DoNotFail count (Held text) = ⊤
+
+-- the text that a script holds, or that its second reader had ahead
+abbrev pub IsTextOfFile : {F : Type 0} → (F → Ahead) → ScriptFile F → List ℕ → Type 0
+IsTextOfFile ahead (Twice first again) text = (rest : Ahead) × IsTextOf (ahead again) rest text
+IsTextOfFile ahead (Held held) text = text ≡ held.items
+
+-- the output, if there is one, held this first, and is so of what it had taken
+abbrev pub GoesOut : (Option (List ℕ) → Type 0) → Option (Option (List ℕ)) → Option (List ℕ) → Option (List ℕ) → Type 0
+GoesOut Sent (Some held) before after = (before ≡ held) × Sent after
+GoesOut Sent None before after = ⊤

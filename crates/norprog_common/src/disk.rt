@@ -1,0 +1,99 @@
+//! The files of the system as a shelf.
+
+ghost use Rattle.norprog_common.specs.Shelf.{DoNotFail};
+
+use crate::faults::{FileName, Refusal};
+use crate::files::{
+    Place, ScriptFile, create_output, open_device, open_input, open_script, read_whole,
+};
+use crate::shelf::Shelf;
+use nor_base::{Failed, FromRead, IntoWrite};
+use std::alloc::Global;
+use std::fs::Files;
+use std::io::{BufWriter, Read, Write};
+
+/// Bytes that are gathered before they are written to a file.
+const BUFFER: usize = 65536;
+
+/// The files of the system. Nothing is known of what they give.
+#[derive(Clone, Copy)]
+pub struct Disk<'a, R> {
+    files: &'a R,
+}
+
+impl<'a, R: Files> Disk<'a, R> {
+    /// The files that this runtime opens.
+    pub fn new(files: &'a R) -> Disk<'a, R> {
+        Disk { files }
+    }
+}
+
+impl<'a, R: Files> Shelf for Disk<'a, R> {
+    ghost use Rattle.norprog_common.specs.Shelf.{nothing_known};
+
+    type Input = FromRead<R::File>;
+
+    type Output = IntoWrite<BufWriter<R::File>>;
+
+    type FromDevice = R::File;
+
+    type ToDevice = R::File;
+
+    ghost facts = { λ _. nothing_known };
+
+    fn read(&self, alloc: Global, path: &str, name: FileName) -> Result<(Vec<u8>, Place), Refusal> {
+        read_whole(self.files, alloc, path, name)
+    }
+
+    fn open(&self, path: &str, name: FileName) -> Result<(FromRead<R::File>, Place, u64), Refusal> {
+        let (file, place, len) = open_input(self.files, path, name)?;
+        Ok((FromRead::new(file), place, len))
+    }
+
+    fn open_script(
+        &self,
+        alloc: Global,
+        path: &str,
+    ) -> Result<(ScriptFile<FromRead<R::File>>, Place), Refusal> {
+        let (script, place) = open_script(self.files, alloc, path)?;
+        Ok((as_devices(script), place))
+    }
+
+    fn create(
+        &self,
+        alloc: Global,
+        path: &str,
+        name: FileName,
+        inputs: &[Place],
+    ) -> Result<IntoWrite<BufWriter<R::File>>, Refusal> {
+        let file = create_output(self.files, path, name, inputs)?;
+        match BufWriter::with_capacity(alloc, BUFFER, file) {
+            Ok(writer) => Ok(IntoWrite::new(writer)),
+            Err(_) => Err(Refusal::MEMORY),
+        }
+    }
+
+    fn flush(&self, file: &mut IntoWrite<BufWriter<R::File>>) -> Result<(), Failed> {
+        match file.inner.flush() {
+            Ok(()) => Ok(()),
+            Err(_) => Err(Failed),
+        }
+    }
+
+    fn open_device(&self, path: &str) -> Result<(R::File, R::File), Refusal> {
+        open_device(self.files, path)
+    }
+}
+
+/// A script's file as devices that haven't failed.
+fn as_devices<F: Read + Drop>(script: ScriptFile<F>) -> ScriptFile<FromRead<F>>
+    ensures { DoNotFail (λ file. file.failed) result }
+{
+    match script {
+        ScriptFile::Twice(first, again) => ScriptFile::Twice(
+            FromRead::new(first),
+            FromRead::new(again),
+        ),
+        ScriptFile::Held(text) => ScriptFile::Held(text),
+    }
+}

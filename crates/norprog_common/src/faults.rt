@@ -1,0 +1,288 @@
+//! Why a command isn't done, what is printed of it, and the status that it ends with.
+
+ghost use Rattle.std.specs.Prelude.{◌≡◌, ◌<◌, ◌-◌, ◌^◌, IfOk, IfErr};
+ghost use Rattle.std.specs.Io.KnownBytes.{Appends};
+ghost use Rattle.nor_base.specs.Device.{Writes, Counts};
+ghost use Rattle.norprog_common.specs.Lines.{spelled, hex_text, layout_text, sfdp_text, plan_text, script_text, fault_text, file_text, script_refusal, program_line, printed, status_after};
+ghost use Rattle.nor_job.specs.declared.fault.BuildFault.TheVariants.{Memory};
+ghost use Rattle.norprog_common.specs.declared.faults.Refusal.TheVariants.{Build};
+
+use itoa::Buffer;
+use nor_base::{ByteOut, Failed, put_all, put_parts};
+use nor_geometry::PlanFault;
+use nor_hex::HexFault;
+use nor_job::BuildFault;
+use nor_layout::LayoutFault;
+use nor_script::{ScriptFault, hex_number};
+use nor_sfdp::SfdpFault;
+use std::alloc::{AllocError, AllocFailed};
+
+/// A file of the command line.
+#[derive(Clone, Copy)]
+pub enum FileName {
+    Hex,
+    Layout,
+    Sfdp,
+    Content,
+    Script,
+    Out,
+    Map,
+    Device,
+}
+
+/// What stands behind the words of a refusal.
+#[derive(Clone, Copy)]
+pub(crate) enum Behind {
+    Nothing,
+    /// A number in decimal.
+    Number(u64),
+    /// An address in eight hexadecimal digits.
+    Address(u32),
+}
+
+/// Why a command isn't done.
+#[derive(Drop)]
+pub enum Refusal {
+    /// The words are no command line, or ask for help: the text of the command line library.
+    Text(String),
+    /// A value isn't of its form, or options don't go together.
+    Usage,
+    /// A file can't be used.
+    File(FileName),
+    /// The build is refused. Want of memory and a failed output of the program itself count among these.
+    Build(BuildFault),
+    /// No chip of this meaning has that page.
+    Page,
+    /// The script's text is none. It is never the reader's `Memory`.
+    Script(ScriptFault),
+}
+
+impl Refusal {
+    /// Want of memory.
+    pub const MEMORY: Refusal = Refusal::Build(BuildFault::Memory);
+
+    /// An output failed.
+    pub const WRITE: Refusal = Refusal::Build(BuildFault::Write);
+}
+
+impl From<AllocError> for Refusal {
+    ghost from_gives = { λ _ refusal. refusal ≡ Build Memory };
+
+    fn from(_error: AllocError) -> Refusal {
+        Refusal::MEMORY
+    }
+}
+
+impl<T: Drop> From<AllocFailed<T>> for Refusal {
+    ghost from_gives = { λ _ refusal. refusal ≡ Build Memory };
+
+    fn from(_error: AllocFailed<T>) -> Refusal {
+        Refusal::MEMORY
+    }
+}
+
+impl From<ScriptFault> for Refusal {
+    ghost from_gives = { λ fault refusal. refusal ≡ script_refusal fault };
+
+    fn from(fault: ScriptFault) -> Refusal {
+        match fault {
+            ScriptFault::Memory => Refusal::MEMORY,
+            other => Refusal::Script(other),
+        }
+    }
+}
+
+/// Writes a refusal, and answers the status that the program ends with. Where `err` fails a part of the text is lost,
+/// and nothing more is told.
+pub fn refuse<E: ByteOut>(refusal: &Refusal, err: &mut E) -> u8
+    requires { E.count err.old < 2 ^ 64 - 1 }
+    ensures status { result ≡ status_after refusal.now }
+    ensures told { E.count err.new ≡ E.count err.old
+        → Appends (E.held err.old) (E.held err.new) (printed refusal.now) }
+{
+    let _ = write_refusal(refusal, err);
+    exit_status(refusal)
+}
+
+/// Ends a command: answers the status of its work, or writes why there is none and answers that status.
+pub fn answered<E: ByteOut>(work: Result<u8, Refusal>, err: &mut E) -> u8
+    requires { E.count err.old < 2 ^ 64 - 1 }
+    ensures done { IfOk work (λ status. (result ≡ status) × (err.new ≡ err.old)) }
+    ensures told { IfErr work (λ why. (result ≡ status_after why)
+        × (E.count err.new ≡ E.count err.old → Appends (E.held err.old) (E.held err.new) (printed why))) }
+{
+    match work {
+        Ok(status) => status,
+        Err(refusal) => refuse(&refusal, err),
+    }
+}
+
+/// 2 where the command line is at fault or asks for help, else 1.
+fn exit_status(refusal: &Refusal) -> u8
+    ensures { result ≡ status_after refusal.now }
+{
+    match refusal {
+        Refusal::Text(_) | Refusal::Usage => 2,
+        Refusal::File(_) | Refusal::Build(_) | Refusal::Page | Refusal::Script(_) => 1,
+    }
+}
+
+/// Writes the line of a refusal, or the command line library's text. It takes no memory.
+fn write_refusal<E: ByteOut>(refusal: &Refusal, err: &mut E) -> Result<(), Failed>
+    requires { E.count err.old < 2 ^ 64 - 1 }
+    ensures bytes { Writes (E.held err.old) (E.held err.new) result (printed refusal.now) }
+    ensures count { Counts (E.count err.old) (E.count err.new) result }
+{
+    match refusal {
+        Refusal::Text(text) => put_all(err, text.as_bytes()),
+        Refusal::Usage => put_line(err, b"usage", Behind::Nothing),
+        Refusal::File(name) => put_line(err, file_words(*name), Behind::Nothing),
+        Refusal::Build(fault) => {
+            let (words, behind) = fault_words(*fault);
+            put_line(err, words, behind)
+        }
+        Refusal::Page => put_line(err, b"page", Behind::Nothing),
+        Refusal::Script(fault) => {
+            let (words, behind) = script_words(*fault);
+            put_line(err, words, behind)
+        }
+    }
+}
+
+/// Writes `norprog: `, the words, what stands behind them, and LF.
+fn put_line<E: ByteOut>(err: &mut E, words: &[u8], behind: Behind) -> Result<(), Failed>
+    requires { E.count err.old < 2 ^ 64 - 1 }
+    ensures bytes { Writes (E.held err.old) (E.held err.new) result (program_line (spelled words.now behind)) }
+    ensures count { Counts (E.count err.old) (E.count err.new) result }
+{
+    match behind {
+        Behind::Nothing => put_parts(err, &[b"norprog: ", words, b"\n"]),
+        Behind::Number(number) => {
+            let mut digits = Buffer::new();
+            put_parts(
+                err,
+                &[b"norprog: ", words, digits.format(number).as_bytes(), b"\n"],
+            )
+        }
+        Behind::Address(address) => put_parts(
+            err,
+            &[b"norprog: ", words, &hex_number(address), b"\n"],
+        ),
+    }
+}
+
+/// The words for a file.
+fn file_words(name: FileName) -> &'static [u8]
+    ensures { result.now ≡ file_text name }
+{
+    match name {
+        FileName::Hex => b"file hex",
+        FileName::Layout => b"file layout",
+        FileName::Sfdp => b"file sfdp",
+        FileName::Content => b"file content",
+        FileName::Script => b"file script",
+        FileName::Out => b"file out",
+        FileName::Map => b"file map",
+        FileName::Device => b"file device",
+    }
+}
+
+/// The words for a fault, and what stands behind them.
+fn fault_words(fault: BuildFault) -> (&'static [u8], Behind)
+    ensures { spelled result.0.now result.1 ≡ fault_text fault }
+{
+    match fault {
+        BuildFault::Contradiction(number) => (b"contradiction ", Behind::Number(u64::from(number))),
+        BuildFault::Hex(fault) => hex_words(fault),
+        BuildFault::Layout(fault) => layout_words(fault),
+        BuildFault::Sfdp(fault) => (sfdp_words(fault), Behind::Nothing),
+        BuildFault::Status(number) => (b"status ", Behind::Number(u64::from(number))),
+        BuildFault::ModeImpossible => (b"mode", Behind::Nothing),
+        BuildFault::ContentSize => (b"content size", Behind::Nothing),
+        BuildFault::Plan(fault) => plan_words(fault),
+        BuildFault::ContentShort => (b"content short", Behind::Nothing),
+        BuildFault::Read => (b"read", Behind::Nothing),
+        BuildFault::Write => (b"write", Behind::Nothing),
+        BuildFault::Memory => (b"memory", Behind::Nothing),
+    }
+}
+
+/// The words for a fault of the plan, and its address.
+fn plan_words(fault: PlanFault) -> (&'static [u8], Behind)
+    ensures { spelled result.0.now result.1 ≡ plan_text fault }
+{
+    match fault {
+        PlanFault::NoErase(address) => (b"plan 1 at ", Behind::Address(address)),
+        PlanFault::Unreachable(address) => (b"plan 2 at ", Behind::Address(address)),
+        PlanFault::Memory => (b"memory", Behind::Nothing),
+    }
+}
+
+/// The words for a fault of the image, and its line.
+fn hex_words(fault: HexFault) -> (&'static [u8], Behind)
+    ensures { spelled result.0.now result.1 ≡ hex_text fault }
+{
+    match fault {
+        HexFault::NoColon { line } => (b"hex 1 line ", Behind::Number(line)),
+        HexFault::BadDigit { line } => (b"hex 2 line ", Behind::Number(line)),
+        HexFault::BadLength { line } => (b"hex 3 line ", Behind::Number(line)),
+        HexFault::BadSum { line } => (b"hex 4 line ", Behind::Number(line)),
+        HexFault::BadType { line } => (b"hex 5 line ", Behind::Number(line)),
+        HexFault::Conflict { line } => (b"hex 6 line ", Behind::Number(line)),
+        HexFault::NoEnd { line } => (b"hex 7 line ", Behind::Number(line)),
+        HexFault::AfterEnd { line } => (b"hex 8 line ", Behind::Number(line)),
+        HexFault::Memory => (b"memory", Behind::Nothing),
+    }
+}
+
+/// The words for a fault of the layout, and its line or the index of the chosen name.
+fn layout_words(fault: LayoutFault) -> (&'static [u8], Behind)
+    ensures { spelled result.0.now result.1 ≡ layout_text fault }
+{
+    match fault {
+        LayoutFault::BadLine(line) => (b"layout 1 line ", Behind::Number(line)),
+        LayoutFault::BadNumber(line) => (b"layout 2 line ", Behind::Number(line)),
+        LayoutFault::EndBeforeStart(line) => (b"layout 3 line ", Behind::Number(line)),
+        LayoutFault::RepeatedName(line) => (b"layout 4 line ", Behind::Number(line)),
+        LayoutFault::TooMany(line) => (b"layout 5 line ", Behind::Number(line)),
+        LayoutFault::UnknownRegion(index) => (b"layout 6 region ", Behind::Number(index)),
+        LayoutFault::Memory => (b"memory", Behind::Nothing),
+    }
+}
+
+/// The words for a fault of the script, and its line.
+fn script_words(fault: ScriptFault) -> (&'static [u8], Behind)
+    ensures { spelled result.0.now result.1 ≡ script_text fault }
+{
+    match fault {
+        ScriptFault::Header(line) => (b"script 1 line ", Behind::Number(line)),
+        ScriptFault::BadLine(line) => (b"script 2 line ", Behind::Number(line)),
+        ScriptFault::BadSymbol(line) => (b"script 3 line ", Behind::Number(line)),
+        ScriptFault::BadCount(line) => (b"script 4 line ", Behind::Number(line)),
+        ScriptFault::NoEnd(line) => (b"script 5 line ", Behind::Number(line)),
+        ScriptFault::AfterEnd(line) => (b"script 6 line ", Behind::Number(line)),
+        ScriptFault::Memory => (b"memory", Behind::Nothing),
+    }
+}
+
+/// The words for a fault of the SFDP bytes.
+fn sfdp_words(fault: SfdpFault) -> &'static [u8]
+    ensures { result.now ≡ sfdp_text fault }
+{
+    match fault {
+        SfdpFault::Signature => b"sfdp 1",
+        SfdpFault::Truncated => b"sfdp 2",
+        SfdpFault::NoBasic => b"sfdp 3",
+        SfdpFault::Major => b"sfdp 4",
+        SfdpFault::ShortTable => b"sfdp 5",
+        SfdpFault::Density => b"sfdp 6",
+        SfdpFault::AddressBytes => b"sfdp 7",
+        SfdpFault::PageSize => b"sfdp 8",
+        SfdpFault::EraseSize => b"sfdp 9",
+        SfdpFault::MapForm => b"sfdp 10",
+        SfdpFault::ConfigBits => b"sfdp 11",
+        SfdpFault::NoMap => b"sfdp 12",
+        SfdpFault::MapSize => b"sfdp 13",
+        SfdpFault::Opcode => b"sfdp 14",
+    }
+}

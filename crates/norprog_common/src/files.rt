@@ -1,0 +1,230 @@
+//! The files that a command line names.
+
+ghost use Rattle.std.specs.Prelude.{◌≡◌, ◌≤◌, ◌^◌, length, true, IfOk, IfErr, MatchResult};
+ghost use Rattle.std.specs.Fs.{metadata_mode};
+ghost use Rattle.norprog_common.specs.declared.faults.FileName.TheVariants.{Device, Script};
+ghost use Rattle.norprog_common.specs.Files.{RefusesFile, IsOfFiles, is_character_device};
+
+use crate::faults::{FileName, Refusal};
+use std::alloc::Global;
+use std::fs::{self, Files, Metadata, OpenFile, OpenOptions};
+use std::io::{self, Read};
+use std::os::unix::fs::MetadataExt;
+
+/// A file of more bytes counts as one that couldn't be read.
+const MOST_BYTES: u64 = 1 << 36;
+
+/// Which file of the system it is, by whatever name it was opened.
+#[derive(Clone, Copy, PartialEq, Eq)]
+pub struct Place {
+    /// The device that the file is on.
+    pub device: u64,
+    /// Its number there.
+    pub inode: u64,
+}
+
+/// A script's file, for who reads it twice.
+#[derive(Drop)]
+pub enum ScriptFile<F: Drop> {
+    /// A regular file, opened twice: each gives it from its first byte on.
+    Twice(F, F),
+    /// What any other file gave, as a pipe, which can be read once.
+    Held(Vec<u8>),
+}
+
+/// Opens a file and reads it whole; answers its bytes, at most 2^36, and which file it is.
+///
+/// Where it can't be opened, is a folder or has more bytes, and where a read fails, `File` of `name`; `Memory` where a growth
+/// is refused.
+pub(crate) fn read_whole<R: Files>(
+    rt: &R,
+    alloc: Global,
+    path: &str,
+    name: FileName,
+) -> Result<(Vec<u8>, Place), Refusal>
+    ensures length { IfOk result (λ read. length read.0.items ≤ 2 ^ 36) }
+    ensures refused { IfErr result (RefusesFile name) }
+    ensures files { IfErr result IsOfFiles }
+{
+    let (file, place, len) = open_input(rt, path, name)?;
+    if len > MOST_BYTES {
+        return Err(Refusal::File(name));
+    }
+    let bytes = read_opened(alloc, file, name)?;
+    Ok((bytes, place))
+}
+
+/// What an open file gives from where it stands on, at most 2^36 bytes.
+fn read_opened<F: Read + Drop>(
+    alloc: Global,
+    mut file: F,
+    name: FileName,
+) -> Result<Vec<u8>, Refusal>
+    ensures length { IfOk result (λ bytes. length bytes.items ≤ 2 ^ 36) }
+    ensures refused { IfErr result (RefusesFile name) }
+    ensures files { IfErr result IsOfFiles }
+{
+    let mut bytes = Vec::new(alloc);
+    match (&mut file).take(MOST_BYTES + 1).read_to_end(&mut bytes) {
+        Ok(_) => {}
+        Err(error) => return Err(refusal_of(&error, name)),
+    }
+    if bytes.len() as u64 > MOST_BYTES {
+        return Err(Refusal::File(name));
+    }
+    Ok(bytes)
+}
+
+/// Opens a script's file twice, where it is a regular one, so that it needn't be held; any other is read whole. Answers which
+/// file it is as well.
+///
+/// Where it can't be opened, is a folder or has more than 2^36 bytes, where a read fails, and where its name came to mean
+/// another file between the two openings, `File` of `Script`; `Memory` where a growth is refused.
+pub(crate) fn open_script<R: Files>(
+    rt: &R,
+    alloc: Global,
+    path: &str,
+) -> Result<(ScriptFile<R::File>, Place), Refusal>
+    ensures refused { IfErr result (RefusesFile Script) }
+    ensures files { IfErr result IsOfFiles }
+{
+    let name = FileName::Script;
+    let (first, place, len) = open_input(rt, path, name)?;
+    if len > MOST_BYTES {
+        return Err(Refusal::File(name));
+    }
+    if !is_regular(&first) {
+        let held = read_opened(alloc, first, name)?;
+        return Ok((ScriptFile::Held(held), place));
+    }
+    let (again, same, _len) = open_input(rt, path, name)?;
+    if same != place {
+        return Err(Refusal::File(name));
+    }
+    Ok((ScriptFile::Twice(first, again), place))
+}
+
+/// Whether an open file is known to be a regular one.
+fn is_regular<F: OpenFile>(file: &F) -> bool {
+    match file.metadata() {
+        Ok(metadata) => metadata.is_file(),
+        Err(_) => false,
+    }
+}
+
+/// Opens a file that isn't a folder, and answers which one it is and its length in bytes.
+///
+/// Where it can't be opened or asked, and where it is a folder, `File` of `name`; `Memory` where the system says that it lacks
+/// that.
+pub(crate) fn open_input<R: Files>(
+    rt: &R,
+    path: &str,
+    name: FileName,
+) -> Result<(R::File, Place, u64), Refusal>
+    ensures refused { IfErr result (RefusesFile name) }
+    ensures files { IfErr result IsOfFiles }
+{
+    let file = match fs::open(rt, path) {
+        Ok(file) => file,
+        Err(error) => return Err(refusal_of(&error, name)),
+    };
+    let metadata = match file.metadata() {
+        Ok(metadata) => metadata,
+        Err(error) => return Err(refusal_of(&error, name)),
+    };
+    if metadata.is_dir() {
+        return Err(Refusal::File(name));
+    }
+    let place = Place {
+        device: metadata.dev(),
+        inode: metadata.ino(),
+    };
+    let len = metadata.len();
+    Ok((file, place, len))
+}
+
+/// Makes an output file, or empties the one that is there, unless it is one of the inputs.
+///
+/// Where it is, and where it can't be made, `File` of `name`; `Memory` where the system says that it lacks that.
+pub(crate) fn create_output<R: Files>(
+    rt: &R,
+    path: &str,
+    name: FileName,
+    inputs: &[Place],
+) -> Result<R::File, Refusal>
+    ensures refused { IfErr result (RefusesFile name) }
+    ensures files { IfErr result IsOfFiles }
+{
+    if is_input(rt, path, inputs) {
+        return Err(Refusal::File(name));
+    }
+    match fs::create(rt, path) {
+        Ok(file) => Ok(file),
+        Err(error) => Err(refusal_of(&error, name)),
+    }
+}
+
+/// Opens a character device twice, to read from it and to write to it. Nothing else is opened to write, nor changed.
+///
+/// Where it isn't one, can't be opened or asked, `File` of `Device`; `Memory` where the system says that it lacks that.
+pub(crate) fn open_device<R: Files>(rt: &R, path: &str) -> Result<(R::File, R::File), Refusal>
+    ensures refused { IfErr result (RefusesFile Device) }
+    ensures files { IfErr result IsOfFiles }
+{
+    only_device(fs::metadata(rt, path))?;
+    let from = match fs::open(rt, path) {
+        Ok(file) => file,
+        Err(error) => return Err(refusal_of(&error, FileName::Device)),
+    };
+    let to = match OpenOptions::new().write(true).open(rt, path) {
+        Ok(file) => file,
+        Err(error) => return Err(refusal_of(&error, FileName::Device)),
+    };
+    // the name may have come to mean another file since it was asked about
+    only_device(from.metadata())?;
+    only_device(to.metadata())?;
+    Ok((from, to))
+}
+
+/// Refuses what isn't known to be a character device.
+fn only_device(metadata: io::Result<Metadata>) -> Result<(), Refusal>
+    ensures device { IfOk result (λ _. MatchResult metadata (λ m. is_character_device (metadata_mode m) ≡ true) (λ _. ⊥)) }
+    ensures refused { IfErr result (RefusesFile Device) }
+    ensures files { IfErr result IsOfFiles }
+{
+    match metadata {
+        Ok(metadata) if is_character_device(metadata.mode()) => Ok(()),
+        Ok(_) => Err(Refusal::File(FileName::Device)),
+        Err(error) => Err(refusal_of(&error, FileName::Device)),
+    }
+}
+
+/// Whether a file of this mode, the kind of file and its permissions, is a character device.
+fn is_character_device(mode: u32) -> bool
+    ensures { result ≡ is_character_device mode }
+{
+    mode / 4096 % 16 == 2
+}
+
+/// Whether the file of this name is there and is one of the inputs.
+fn is_input<R: Files>(rt: &R, path: &str, inputs: &[Place]) -> bool {
+    match fs::metadata(rt, path) {
+        Ok(metadata) => inputs.contains(&Place {
+            device: metadata.dev(),
+            inode: metadata.ino(),
+        }),
+        Err(_) => false,
+    }
+}
+
+/// Want of memory is that; any other error says that the file can't be used.
+fn refusal_of(error: &io::Error, name: FileName) -> Refusal
+    ensures refused { RefusesFile name result }
+    ensures files { IsOfFiles result }
+{
+    if error.kind() == io::ErrorKind::OutOfMemory {
+        Refusal::MEMORY
+    } else {
+        Refusal::File(name)
+    }
+}

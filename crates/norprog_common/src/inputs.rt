@@ -1,0 +1,107 @@
+//! From the files of a job to the library's inputs.
+
+ghost use Rattle.std.specs.Prelude.{◌≡◌, [], ◌∷◌, IfOk, IfErr, option_map, option_to_list};
+ghost use Rattle.norprog_common.specs.declared.faults.FileName.TheVariants.{Layout};
+ghost use Rattle.norprog_common.specs.Files.{RefusesFile, TellsFile};
+ghost use Rattle.norprog_common.specs.Shelf.{Notes, WhereNamed};
+ghost use Rattle.norprog_common.specs.Served.{task_by, held_in, text_files_of, AreGiven};
+
+use crate::chip::source_of;
+use crate::faults::{FileName, Refusal};
+use crate::files::Place;
+use crate::request::Request;
+use crate::shelf::{Shelf, noted_tables};
+use nor_job::Inputs;
+use std::alloc::Global;
+
+/// What the input files of a job hold, the content aside.
+#[derive(Drop)]
+pub struct Texts {
+    pub hex: Vec<u8>,
+    pub layout: Option<Vec<u8>>,
+    /// The chip's tables; nothing for a chip of a size.
+    pub sfdp: Vec<u8>,
+}
+
+/// Reads the files that are read whole, in their order, and notes which files they are.
+pub(crate) fn read_texts<S: Shelf>(
+    alloc: Global,
+    shelf: &S,
+    request: &Request<'_>,
+    places: &mut Vec<Place>,
+) -> Result<Texts, Refusal>
+    ensures given { IfOk result (λ texts. AreGiven (S.facts shelf.now) request.now (held_in texts)) }
+    ensures noted { IfOk result (λ _. Notes (S.facts shelf.now) (text_files_of request.now) places.old.items places.new.items) }
+    ensures lacked { IfErr result (TellsFile (S.facts shelf.now).lacked) }
+{
+    let hex = read_noted(alloc, shelf, request.hex, FileName::Hex, places)?;
+    let layout = read_layout(alloc, shelf, request.layout, places)?;
+    let sfdp = noted_tables(alloc, shelf, request.chip, places)?;
+    Ok(Texts { hex, layout, sfdp })
+}
+
+/// Reads the layout, where one is named. `File` of `Layout`, or `Memory`.
+fn read_layout<S: Shelf>(
+    alloc: Global,
+    shelf: &S,
+    path: Option<&str>,
+    places: &mut Vec<Place>,
+) -> Result<Option<Vec<u8>>, Refusal>
+    ensures gave { IfOk result (λ bytes. WhereNamed (S.facts shelf.now).gave (option_map (λ t. t.now) path.entry)
+        (option_map (λ held. held.items) bytes)) }
+    ensures noted { IfOk result (λ _. Notes (S.facts shelf.now) (option_to_list (option_map (λ t. t.now) path.entry))
+        places.old.items places.new.items) }
+    ensures refused { IfErr result (RefusesFile Layout) }
+    ensures lacked { IfErr result (TellsFile (S.facts shelf.now).lacked) }
+{
+    match path {
+        Some(path) => Ok(Some(read_noted(alloc, shelf, path, FileName::Layout, places)?)),
+        None => Ok(None),
+    }
+}
+
+/// Reads a file whole, and notes which one it is. `File` of `name`, or `Memory`.
+fn read_noted<S: Shelf>(
+    alloc: Global,
+    shelf: &S,
+    path: &str,
+    name: FileName,
+    places: &mut Vec<Place>,
+) -> Result<Vec<u8>, Refusal>
+    ensures gave { IfOk result (λ bytes. (S.facts shelf.now).gave path.now bytes.items) }
+    ensures noted { IfOk result (λ _. Notes (S.facts shelf.now) (path.now ∷ []) places.old.items places.new.items) }
+    ensures refused { IfErr result (RefusesFile name) }
+    ensures lacked { IfErr result (TellsFile (S.facts shelf.now).lacked) }
+{
+    let (bytes, place) = shelf.read(alloc, path, name)?;
+    places.push(place)?;
+    Ok(bytes)
+}
+
+/// The inputs of the request's job.
+pub fn inputs_of<'a>(request: &'a Request<'_>, texts: &'a Texts) -> Inputs<'a>
+    ensures { result ≡ task_by request.entry.now (held_in texts.entry.now) }
+{
+    Inputs {
+        hex: texts.hex.as_slice(),
+        layout: bytes_or_none(&texts.layout),
+        regions: request.regions.as_slice(),
+        chip: source_of(request.chip, texts.sfdp.as_slice()),
+        part: request.part,
+        status: request.status,
+        mode4: request.mode4,
+        quad: request.quad,
+        base: request.base,
+        verify: request.verify,
+        erased_only: request.erased_only,
+    }
+}
+
+fn bytes_or_none(bytes: &Option<Vec<u8>>) -> Option<&[u8]>
+    ensures { option_map (λ text. text.now) result ≡ option_map (λ held. held.items) bytes.entry.now }
+{
+    match bytes {
+        Some(bytes) => Some(bytes.as_slice()),
+        None => None,
+    }
+}

@@ -1,0 +1,47 @@
+//! What the values of a command line ask for.
+
+ghost use Rattle.std.specs.Prelude.{◌≡◌, is_some, IfSome};
+ghost use Rattle.norprog_common.specs.Request.{is_well_formed, AsksFor};
+
+use crate::chip::{Chip, chip_of, optional_status};
+use crate::given::Given;
+use crate::values::{base, part};
+use nor_base::{Bytes, Part};
+
+/// The job that is asked for: each value is of its form.
+#[derive(Drop)]
+pub struct Request<'a> {
+    pub hex: &'a str,
+    pub layout: Option<&'a str>,
+    pub chip: Chip<'a>,
+    pub part: Part,
+    pub status: Option<u32>,
+    pub mode4: bool,
+    pub quad: bool,
+    pub base: u32,
+    pub content: &'a str,
+    pub verify: bool,
+    pub erased_only: bool,
+    pub regions: Vec<Bytes>,
+}
+
+/// The job that the values spell, or None where one isn't of its form.
+pub fn request_of<'a>(given: Given<'a>) -> Option<Request<'a>>
+    ensures forms { is_some result ≡ is_well_formed given.entry }
+    ensures values { IfSome result (λ request. AsksFor given.entry request) }
+{
+    Some(Request {
+        hex: given.hex?,
+        layout: given.layout,
+        chip: chip_of(given.sfdp, given.uniform, given.bits)?,
+        part: part(given.part.unwrap_or("generic"))?,
+        status: optional_status(given.status)?,
+        mode4: given.mode4,
+        quad: given.quad,
+        base: base(given.base.unwrap_or("0"))?,
+        content: given.content?,
+        verify: given.verify,
+        erased_only: given.erased_only,
+        regions: given.regions,
+    })
+}

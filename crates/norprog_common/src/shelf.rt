@@ -1,0 +1,135 @@
+//! Files by name.
+
+ghost use Rattle.std.specs.Prelude.{◌≡◌, ◌≤◌, ◌^◌, length, IfOk, IfErr};
+ghost use Rattle.std.specs.Io.KnownBytes.{Keeps};
+ghost use Rattle.norprog_common.specs.Chip.{origin_of};
+ghost use Rattle.norprog_common.specs.declared.faults.FileName.TheVariants.{Device, Script, Sfdp};
+ghost use Rattle.norprog_common.specs.Files.{RefusesFile, TellsFile};
+ghost use Rattle.norprog_common.specs.Shelf.{AreTables, FileFacts, IsOfScript, DoNotFail, Notes, tables_file};
+
+use crate::chip::Chip;
+use crate::faults::{FileName, Refusal};
+use crate::files::{Place, ScriptFile};
+use nor_base::{ByteIn, ByteOut, Failed};
+use std::alloc::Global;
+use std::io::{Read, Write};
+
+/// Files by name. What a file gave, or took, is left open: what is proved of every shelf holds of the system's files.
+pub trait Shelf {
+    /// A file that is read.
+    type Input: ByteIn + Drop;
+
+    /// A file that was made.
+    type Output: ByteOut + Drop;
+
+    /// What a character device is read by.
+    type FromDevice: Read + Drop;
+
+    /// What a character device is written by.
+    type ToDevice: Write + Drop;
+
+    /// What its files gave and took.
+    ghost facts: { Self → FileFacts };
+
+    /// Opens a file and reads it whole; answers its bytes, at most 2^36, and which file it is.
+    ///
+    /// Where it can't be opened, is a folder or has more bytes, and where a read fails, `File` of `name`; `Memory` where a growth
+    /// is refused.
+    fn read(&self, alloc: Global, path: &str, name: FileName) -> Result<(Vec<u8>, Place), Refusal>
+        ensures gave { IfOk result (λ read. (facts self.now).gave path.now read.0.items) }
+        ensures stood { IfOk result (λ read. (facts self.now).stood path.now read.1) }
+        ensures length { IfOk result (λ read. length read.0.items ≤ 2 ^ 36) }
+        ensures refused { IfErr result (RefusesFile name) }
+        ensures lacked { IfErr result (TellsFile (facts self.now).lacked) };
+
+    /// Opens a file that isn't a folder, and answers which one it is and its length in bytes.
+    ///
+    /// Where it can't be opened or asked, and where it is a folder, `File` of `name`; `Memory` where the system says that it lacks
+    /// that.
+    fn open(&self, path: &str, name: FileName) -> Result<(Self::Input, Place, u64), Refusal>
+        ensures opened { IfOk result (λ file. (facts self.now).opened path.now (Self.Input.ahead file.0) file.2) }
+        ensures stood { IfOk result (λ file. (facts self.now).stood path.now file.1) }
+        ensures count { IfOk result (λ file. Self.Input.count file.0 ≡ 0) }
+        ensures refused { IfErr result (RefusesFile name) }
+        ensures lacked { IfErr result (TellsFile (facts self.now).lacked) };
+
+    /// Opens a script's file twice, where it is a regular one, so that it needn't be held; any other is read whole. Answers which
+    /// file it is as well.
+    ///
+    /// Where it can't be opened, is a folder or has more than 2^36 bytes, where a read fails, and where its name came to mean
+    /// another file between the two openings, `File` of `Script`; `Memory` where a growth is refused.
+    fn open_script(
+        &self,
+        alloc: Global,
+        path: &str,
+    ) -> Result<(ScriptFile<Self::Input>, Place), Refusal>
+        ensures script { IfOk result (λ script. IsOfScript (facts self.now) path.now Self.Input.ahead script.0) }
+        ensures stood { IfOk result (λ script. (facts self.now).stood path.now script.1) }
+        ensures count { IfOk result (λ script. DoNotFail Self.Input.count script.0) }
+        ensures refused { IfErr result (RefusesFile Script) }
+        ensures lacked { IfErr result (TellsFile (facts self.now).lacked) };
+
+    /// Makes an output file, or empties the one that is there, unless it is one of the inputs. What is written to it goes out
+    /// where it is flushed, if not before.
+    ///
+    /// Where it is an input, and where it can't be made, `File` of `name`; `Memory` where a growth is refused.
+    fn create(
+        &self,
+        alloc: Global,
+        path: &str,
+        name: FileName,
+        inputs: &[Place],
+    ) -> Result<Self::Output, Refusal>
+        ensures made { IfOk result (λ file. (facts self.now).made path.now inputs.now (Self.Output.held file)) }
+        ensures count { IfOk result (λ file. Self.Output.count file ≡ 0) }
+        ensures refused { IfErr result (RefusesFile name) }
+        ensures lacked { IfErr result (TellsFile (facts self.now).lacked) };
+
+    /// Has all go out that a file took. `Failed` where some of it may not have.
+    fn flush(&self, file: &mut Self::Output) -> Result<(), Failed>
+        ensures flushed { IfOk result (λ _. (facts self.now).flushed (Self.Output.held file.old)) }
+        ensures bytes { Keeps (Self.Output.held file.old) (Self.Output.held file.new) };
+
+    /// Opens a character device twice, to read from it and to write to it. Nothing else is opened to write, nor changed.
+    ///
+    /// Where it isn't one, can't be opened or asked, `File` of `Device`; `Memory` where the system says that it lacks that.
+    fn open_device(&self, path: &str) -> Result<(Self::FromDevice, Self::ToDevice), Refusal>
+        ensures refused { IfErr result (RefusesFile Device) }
+        ensures lacked { IfErr result (TellsFile (facts self.now).lacked) };
+}
+
+/// What the file of a chip's SFDP tables holds; nothing for a uniform chip, which has none.
+///
+/// `File` of `Sfdp` and `Memory`, as [`Shelf::read`] answers them.
+pub fn tables_of<S: Shelf>(alloc: Global, shelf: &S, chip: Chip<'_>) -> Result<Vec<u8>, Refusal>
+    ensures tables { IfOk result (λ tables. AreTables (S.facts shelf.now) (origin_of chip.entry) tables.items) }
+    ensures refused { IfErr result (RefusesFile Sfdp) }
+    ensures lacked { IfErr result (TellsFile (S.facts shelf.now).lacked) }
+{
+    noted_tables(alloc, shelf, chip, &mut Vec::new(alloc))
+}
+
+/// What the file of a chip's SFDP tables holds, with which file it is put at the end of `places`, so that no output is made
+/// over it; nothing for a uniform chip, which has none, and `places` as they were.
+///
+/// `File` of `Sfdp` and `Memory`, as [`Shelf::read`] answers them; `Memory` too where `places` can't grow.
+pub fn noted_tables<S: Shelf>(
+    alloc: Global,
+    shelf: &S,
+    chip: Chip<'_>,
+    places: &mut Vec<Place>,
+) -> Result<Vec<u8>, Refusal>
+    ensures tables { IfOk result (λ tables. AreTables (S.facts shelf.now) (origin_of chip.entry) tables.items) }
+    ensures noted { IfOk result (λ _. Notes (S.facts shelf.now) (tables_file (origin_of chip.entry)) places.old.items places.new.items) }
+    ensures refused { IfErr result (RefusesFile Sfdp) }
+    ensures lacked { IfErr result (TellsFile (S.facts shelf.now).lacked) }
+{
+    match chip {
+        Chip::Sfdp { file, bits: _ } => {
+            let (bytes, place) = shelf.read(alloc, file, FileName::Sfdp)?;
+            places.push(place)?;
+            Ok(bytes)
+        }
+        Chip::Uniform(_) => Ok(Vec::new(alloc)),
+    }
+}

@@ -1,8 +1,0 @@
--- A writer that didn't fail took the whole text.
-use Rattle.norprog_words.specs.Lines.{printed}
-use Rattle.norprog_words.proofs.LineLemmas.{all_taken}
-use Rattle.norprog_words.proofs.faults.refuse.Goals as goal
-
-pub returns-clause-told : goal.returns-clause-told
-returns-clause-told g c same =
-    all_taken _ _ _ _ c.write_refusal.result (printed c.args.refusal.now) c.write_refusal.ensures.bytes c.write_refusal.ensures.count same
