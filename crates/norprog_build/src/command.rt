@@ -9,7 +9,7 @@ ghost use Rattle.norprog_common.specs.Served.{IsJobOf};
 use nor_base::{ByteOut, Failed};
 use norprog::{BuildFault, Report, write_report};
 use norprog_common::{
-    FileName, GivenBuild, Refusal, Request, Shelf, answered, inputs_of, open_job, request_of,
+    BuildArgs, FileName, FileStore, Refusal, Request, answered, inputs_of, open_job, request_of,
 };
 use std::alloc::Global;
 
@@ -18,10 +18,10 @@ use std::alloc::Global;
 /// made as none of the files that are read.
 ///
 /// Usage is told where the texts ask for no build.
-pub fn build<S: Shelf, O: ByteOut, E: ByteOut>(
+pub fn build<S: FileStore, O: ByteOut, E: ByteOut>(
     alloc: Global,
-    shelf: &S,
-    given: GivenBuild<'_>,
+    store: &S,
+    given: BuildArgs<'_>,
     out: &mut O,
     err: &mut E,
 ) -> u8
@@ -29,32 +29,32 @@ pub fn build<S: Shelf, O: ByteOut, E: ByteOut>(
     requires err { E.count err.old < 2 ^ 64 - 1 }
     ensures status { result ≤ 2 }
     ensures quiet { result ≡ 0 → err.new ≡ err.old }
-    ensures answer { AnswersBuild (S.facts shelf.now) given.entry (O.held out.old) (O.held out.new) (err.new ≡ err.old)
+    ensures answer { AnswersBuild (S.facts store.now) given.entry (O.held out.old) (O.held out.new) (err.new ≡ err.old)
         (E.count err.new ≡ E.count err.old) (E.held err.old) (E.held err.new) result }
 {
-    answered(report_build(alloc, shelf, given, out), err)
+    answered(report_build(alloc, store, given, out), err)
 }
 
 /// Builds what is asked for, and writes the report.
-fn report_build<S: Shelf, O: ByteOut>(
+fn report_build<S: FileStore, O: ByteOut>(
     alloc: Global,
-    shelf: &S,
-    given: GivenBuild<'_>,
+    store: &S,
+    given: BuildArgs<'_>,
     out: &mut O,
 ) -> Result<u8, Refusal>
     requires { O.count out.old < 2 ^ 64 - 1 }
     ensures status { IfOk result (λ status. status ≡ 0) }
-    ensures printed { IfOk result (λ _. PrintsReport (ServesBuild (S.facts shelf.now) given.entry) (S.facts shelf.now).flushed
+    ensures printed { IfOk result (λ _. PrintsReport (ServesBuild (S.facts store.now) given.entry) (S.facts store.now).flushed
         (O.held out.old) (O.held out.new)) }
-    ensures unprinted { IfErr result (λ _. CutsReport (ServesBuild (S.facts shelf.now) given.entry) (S.facts shelf.now).flushed
+    ensures unprinted { IfErr result (λ _. CutsReport (ServesBuild (S.facts store.now) given.entry) (S.facts store.now).flushed
         (O.held out.old) (O.held out.new)) }
     ensures asked { IfOk result (λ _. asks_build given.entry ≡ true) }
-    ensures first { IfErr result (OrUsage (asks_build given.entry) (RefusesBuild (S.facts shelf.now).lacked
-        (ServesBuild (S.facts shelf.now) given.entry))) }
+    ensures first { IfErr result (OrUsage (asks_build given.entry) (RefusesBuild (S.facts store.now).lacked
+        (ServesBuild (S.facts store.now) given.entry))) }
 {
     let request = request_of(given.job).ok_or(Refusal::Usage)?;
     let path = given.out.ok_or(Refusal::Usage)?;
-    let report = run_build(alloc, shelf, &request, path)?;
+    let report = run_build(alloc, store, &request, path)?;
     match write_report(&report, out) {
         Ok(()) => Ok(0),
         Err(_) => Err(Refusal::WRITE),
@@ -62,21 +62,21 @@ fn report_build<S: Shelf, O: ByteOut>(
 }
 
 /// Opens the files of a request in their order, and builds into the file of that name.
-fn run_build<S: Shelf>(
+fn run_build<S: FileStore>(
     alloc: Global,
-    shelf: &S,
+    store: &S,
     request: &Request<'_>,
     path: &str,
 ) -> Result<Report, Refusal>
-    ensures built { IfOk result (IsBuildReport (IsJobOf (S.facts shelf.now) request.now (Some path.now)) (S.facts shelf.now).flushed) }
-    ensures refused { IfErr result (RefusesBuild (S.facts shelf.now).lacked (IsJobOf (S.facts shelf.now) request.now (Some path.now))) }
+    ensures built { IfOk result (IsBuildReport (IsJobOf (S.facts store.now) request.now (Some path.now)) (S.facts store.now).flushed) }
+    ensures refused { IfErr result (RefusesBuild (S.facts store.now).lacked (IsJobOf (S.facts store.now) request.now (Some path.now))) }
 {
     let mut places = Vec::new(alloc);
-    let (texts, mut content, len) = open_job(alloc, shelf, request, &mut places)?;
-    let mut script = shelf.create(alloc, path, FileName::Out, places.as_slice())?;
+    let (texts, mut content, len) = open_job(alloc, store, request, &mut places)?;
+    let mut script = store.create(alloc, path, FileName::Out, places.as_slice())?;
     let inputs = inputs_of(request, &texts);
     let answer = norprog::build(alloc, &inputs, &mut content, len, &mut script);
-    let flushed = shelf.flush(&mut script);
+    let flushed = store.flush(&mut script);
     done(answer, flushed)
 }
 

@@ -1,17 +1,17 @@
 -- The job and the script that a command line of `check` names (this project's).
 use Rattle.std.specs.Prelude.{ℕ, List, None, option_map, Bool, ◌&&◌, is_some}
-use Rattle.norprog_common.specs.Shelf.{FileFacts, IsTextIn, Named}
-use Rattle.norprog_common.specs.declared.given.GivenCheck.{GivenCheck}
+use Rattle.norprog_common.specs.FileStore.{FileFacts, IsTextIn, Named}
+use Rattle.norprog_common.specs.declared.given.CheckArgs.{CheckArgs}
 use Rattle.norprog_common.specs.Request.{is_well_formed}
 use Rattle.norprog_common.specs.Served.{Job, Serves}
 
 -- a job, and the name of the script's file
-abbrev pub asks_check : GivenCheck → Bool
+abbrev pub asks_check : CheckArgs → Bool
 asks_check given = is_well_formed given.job && is_some given.script
 
-abbrev pub ServesCheck : FileFacts → GivenCheck → Job → Type 0
+abbrev pub ServesCheck : FileFacts → CheckArgs → Job → Type 0
 ServesCheck files given = Serves files given.job None
 
 -- the text is that of the script's file
-abbrev pub ServesScript : FileFacts → GivenCheck → List ℕ → Type 0
+abbrev pub ServesScript : FileFacts → CheckArgs → List ℕ → Type 0
 ServesScript files given text = Named (λ name. IsTextIn files name text) (option_map (λ t. t.now) given.script)

@@ -3,7 +3,7 @@
 ghost use Rattle.std.specs.Prelude.{◌≡◌, ◌<◌, ◌≤◌, ◌-◌, ◌^◌, None, true, IfOk, IfErr};
 ghost use Rattle.std.specs.Io.KnownBytes.{Appends};
 ghost use Rattle.norprog_check.specs.Line.{verdict_text};
-ghost use Rattle.norprog_common.specs.Shelf.{DoNotFail, IsTextIn, IsTextOfFile};
+ghost use Rattle.norprog_common.specs.FileStore.{DoNotFail, IsTextIn, IsTextOfFile};
 ghost use Rattle.norprog_common.specs.declared.faults.FileName.TheVariants.{Script};
 ghost use Rattle.norprog_common.specs.Told.{OrScript, OrUsage};
 ghost use Rattle.norprog_check.specs.Served.{asks_check, ServesCheck, ServesScript};
@@ -18,7 +18,7 @@ use nor_base::{ByteIn, ByteOut};
 use nor_check::Verdict;
 use nor_job::Inputs;
 use norprog_common::{
-    FileName, GivenCheck, Refusal, Request, ScriptFile, Shelf, inputs_of, open_job, refuse,
+    CheckArgs, FileName, FileStore, Refusal, Request, ScriptFile, inputs_of, open_job, refuse,
     request_of,
 };
 use std::alloc::Global;
@@ -27,10 +27,10 @@ use std::alloc::Global;
 /// answers the status: 0 it does, 1 it doesn't or is refused, 2 usage.
 ///
 /// Usage is told where the texts ask for no check.
-pub fn check<S: Shelf, O: ByteOut, E: ByteOut>(
+pub fn check<S: FileStore, O: ByteOut, E: ByteOut>(
     alloc: Global,
-    shelf: &S,
-    given: GivenCheck<'_>,
+    store: &S,
+    given: CheckArgs<'_>,
     out: &mut O,
     err: &mut E,
 ) -> u8
@@ -38,10 +38,10 @@ pub fn check<S: Shelf, O: ByteOut, E: ByteOut>(
     requires err { E.count err.old < 2 ^ 64 - 1 }
     ensures status { result ≤ 2 }
     ensures quiet { result ≡ 0 → err.new ≡ err.old }
-    ensures answer { AnswersCheck (S.facts shelf.now) given.entry (O.held out.old) (O.held out.new) (err.new ≡ err.old)
+    ensures answer { AnswersCheck (S.facts store.now) given.entry (O.held out.old) (O.held out.new) (err.new ≡ err.old)
         (E.count err.new ≡ E.count err.old) (E.held err.old) (E.held err.new) result }
 {
-    match report_check(alloc, shelf, given, out) {
+    match report_check(alloc, store, given, out) {
         Ok(verdict) => exit_status(verdict),
         Err(refusal) => refuse(&refusal, err),
     }
@@ -58,24 +58,24 @@ fn exit_status(verdict: Verdict) -> u8
 }
 
 /// Checks what is asked for, and writes the verdict.
-fn report_check<S: Shelf, O: ByteOut>(
+fn report_check<S: FileStore, O: ByteOut>(
     alloc: Global,
-    shelf: &S,
-    given: GivenCheck<'_>,
+    store: &S,
+    given: CheckArgs<'_>,
     out: &mut O,
 ) -> Result<Verdict, Refusal>
     requires { O.count out.old < 2 ^ 64 - 1 }
-    ensures checked { IfOk result (IsCheckVerdict (ServesCheck (S.facts shelf.now) given.entry) (ServesScript (S.facts shelf.now) given.entry)) }
+    ensures checked { IfOk result (IsCheckVerdict (ServesCheck (S.facts store.now) given.entry) (ServesScript (S.facts store.now) given.entry)) }
     ensures printed { IfOk result (λ verdict. Appends (O.held out.old) (O.held out.new) (verdict_text verdict)) }
-    ensures unprinted { IfErr result (λ _. CutsVerdict (ServesCheck (S.facts shelf.now) given.entry) (ServesScript (S.facts shelf.now) given.entry)
+    ensures unprinted { IfErr result (λ _. CutsVerdict (ServesCheck (S.facts store.now) given.entry) (ServesScript (S.facts store.now) given.entry)
         (O.held out.old) (O.held out.new)) }
     ensures asked { IfOk result (λ _. asks_check given.entry ≡ true) }
-    ensures first { IfErr result (OrUsage (asks_check given.entry) (RefusesCheck (OrScript (S.facts shelf.now).lacked)
-        (ServesCheck (S.facts shelf.now) given.entry) (ServesScript (S.facts shelf.now) given.entry))) }
+    ensures first { IfErr result (OrUsage (asks_check given.entry) (RefusesCheck (OrScript (S.facts store.now).lacked)
+        (ServesCheck (S.facts store.now) given.entry) (ServesScript (S.facts store.now) given.entry))) }
 {
     let request = request_of(given.job).ok_or(Refusal::Usage)?;
     let path = given.script.ok_or(Refusal::Usage)?;
-    let verdict = run_check(alloc, shelf, &request, path)?;
+    let verdict = run_check(alloc, store, &request, path)?;
     match write_verdict(&verdict, out) {
         Ok(()) => Ok(verdict),
         Err(_) => Err(Refusal::WRITE),
@@ -83,19 +83,19 @@ fn report_check<S: Shelf, O: ByteOut>(
 }
 
 /// Opens the files of a request in their order, the script last, and checks it.
-fn run_check<S: Shelf>(
+fn run_check<S: FileStore>(
     alloc: Global,
-    shelf: &S,
+    store: &S,
     request: &Request<'_>,
     path: &str,
 ) -> Result<Verdict, Refusal>
-    ensures checked { IfOk result (IsCheckVerdict (IsJobOf (S.facts shelf.now) request.now None) (IsTextIn (S.facts shelf.now) path.now)) }
-    ensures refused { IfErr result (RefusesCheck (OrScript (S.facts shelf.now).lacked)
-        (IsJobOf (S.facts shelf.now) request.now None) (IsTextIn (S.facts shelf.now) path.now)) }
+    ensures checked { IfOk result (IsCheckVerdict (IsJobOf (S.facts store.now) request.now None) (IsTextIn (S.facts store.now) path.now)) }
+    ensures refused { IfErr result (RefusesCheck (OrScript (S.facts store.now).lacked)
+        (IsJobOf (S.facts store.now) request.now None) (IsTextIn (S.facts store.now) path.now)) }
 {
     let mut places = Vec::new(alloc);
-    let (texts, mut content, len) = open_job(alloc, shelf, request, &mut places)?;
-    let (script, _place) = shelf.open_script(alloc, path)?;
+    let (texts, mut content, len) = open_job(alloc, store, request, &mut places)?;
+    let (script, _place) = store.open_script(alloc, path)?;
     let inputs = inputs_of(request, &texts);
     check_file(alloc, &inputs, script, &mut content, len)
 }

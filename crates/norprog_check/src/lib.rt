@@ -1,6 +1,6 @@
 //! `norprog check`: whether a script, from anybody, does the job of a build's inputs on every chip that they describe.
 //!
-//! [`check`] does what the texts of a command line ask for; whoever reads one hands them over as [`GivenCheck`].
+//! [`check`] does what the texts of a command line ask for; whoever reads one hands them over as [`CheckArgs`].
 //! [`check_script`] answers it from the bytes of inputs, script and content; [`check_streams`] of a script that two devices tell,
 //! which is never held; [`write_verdict`] writes the answer's line.
 #![tactic(auto)]
@@ -21,5 +21,5 @@ pub use nor_base::{ByteIn, ByteOut, Failed, Wrong};
 pub use nor_check::{Verdict, Why};
 pub use nor_job::{BuildFault, Inputs};
 pub use nor_script::ScriptFault;
-pub use norprog_common::GivenCheck;
+pub use norprog_common::CheckArgs;
 pub use streams::check_streams;

@@ -1,7 +1,7 @@
 -- What the program answers (this project's).
 use Rattle.std.specs.Prelude.{◌≡◌, ℕ, List, Option, Result, Ok, Err, IfOk}
 use Rattle.norprog_common.specs.declared.faults.Refusal.{Refusal}
-use Rattle.norprog_common.specs.Shelf.{FileFacts}
+use Rattle.norprog_common.specs.FileStore.{FileFacts}
 use Rattle.norprog_common.specs.Told.{TellsOf}
 use Rattle.norprog_options.specs.declared.options.Asked.{Asked}
 use Rattle.norprog_options.specs.declared.options.Asked.TheVariants as command

@@ -16,7 +16,7 @@ ghost use Rattle.norprog_cli.specs.Answers.{AnswersTo, AnswersSome};
 use nor_base::{ByteOut, IntoWrite, Nowhere};
 use norprog_build::build;
 use norprog_check::check;
-use norprog_common::{Disk, Refusal, Shelf, refuse};
+use norprog_common::{FileStore, Refusal, SystemFiles, refuse};
 use norprog_draw::draw;
 use norprog_explain::explain;
 use norprog_list::list;
@@ -51,7 +51,7 @@ fn main_status<E: ByteOut>(rt: &HostRuntime, err: &mut E) -> u8
         Err(_) => return refuse(&Refusal::MEMORY, err),
     };
     let mut out = IntoWrite::new(gathered);
-    let files = Disk::new(rt);
+    let files = SystemFiles::new(rt);
     let status = if rt.stderr().is_terminal() {
         let mut progress = IntoWrite::new(rt.stderr());
         command(rt.alloc(), &files, words, &mut out, err, &mut progress)
@@ -92,9 +92,9 @@ fn words_of(rt: &HostRuntime) -> Result<Vec<String>, Refusal> {
 /// Runs the command that the words spell, the program's name not among them. It opens the files that they name, writes
 /// what goes to standard output to `out`, a refusal to `err`, and the progress of a play to `progress`. It answers the status: 0
 /// done, 1 refused or a script that goes wrong or doesn't do its job, 2 usage.
-fn command<S: Shelf, O: ByteOut, E: ByteOut, P: ByteOut>(
+fn command<S: FileStore, O: ByteOut, E: ByteOut, P: ByteOut>(
     alloc: Global,
-    shelf: &S,
+    store: &S,
     words: Vec<String>,
     out: &mut O,
     err: &mut E,
@@ -105,17 +105,17 @@ fn command<S: Shelf, O: ByteOut, E: ByteOut, P: ByteOut>(
     requires progress { P.count progress.old < 2 ^ 64 - 1 }
     ensures status { result ≤ 2 }
     ensures quiet { result ≡ 0 → err.new ≡ err.old }
-    ensures answer { AnswersSome (S.facts shelf.now) (O.held out.old) (O.held out.new) (err.new ≡ err.old)
+    ensures answer { AnswersSome (S.facts store.now) (O.held out.old) (O.held out.new) (err.new ≡ err.old)
         (E.count err.new ≡ E.count err.old) (E.held err.old) (E.held err.new) result }
 {
     let asked = asked_by(alloc, words.as_slice());
-    answer_to(alloc, shelf, asked, out, err, progress)
+    answer_to(alloc, store, asked, out, err, progress)
 }
 
 /// Does what is asked for, or tells why it couldn't be read.
-fn answer_to<S: Shelf, O: ByteOut, E: ByteOut, P: ByteOut>(
+fn answer_to<S: FileStore, O: ByteOut, E: ByteOut, P: ByteOut>(
     alloc: Global,
-    shelf: &S,
+    store: &S,
     asked: Result<Asked<'_>, Refusal>,
     out: &mut O,
     err: &mut E,
@@ -126,18 +126,18 @@ fn answer_to<S: Shelf, O: ByteOut, E: ByteOut, P: ByteOut>(
     requires progress { P.count progress.old < 2 ^ 64 - 1 }
     ensures status { result ≤ 2 }
     ensures quiet { result ≡ 0 → err.new ≡ err.old }
-    ensures answer { AnswersTo (S.facts shelf.now) asked.entry (O.held out.old) (O.held out.new) (err.new ≡ err.old)
+    ensures answer { AnswersTo (S.facts store.now) asked.entry (O.held out.old) (O.held out.new) (err.new ≡ err.old)
         (E.count err.new ≡ E.count err.old) (E.held err.old) (E.held err.new) result }
 {
     match asked {
-        Ok(Asked::Build(given)) => build(alloc, shelf, given, out, err),
-        Ok(Asked::Plan(given)) => plan(alloc, shelf, given, out, err),
-        Ok(Asked::Check(given)) => check(alloc, shelf, given, out, err),
-        Ok(Asked::Run(given)) => run(alloc, shelf, given, out, err),
-        Ok(Asked::List(given)) => list(alloc, shelf, given, out, err),
-        Ok(Asked::Draw(given)) => draw(alloc, shelf, Ok(given), err),
-        Ok(Asked::Play(given)) => play(alloc, shelf, Ok(given), out, err, progress),
-        Ok(Asked::Sfdp(given)) => sfdp(alloc, shelf, given, out, err),
+        Ok(Asked::Build(given)) => build(alloc, store, given, out, err),
+        Ok(Asked::Plan(given)) => plan(alloc, store, given, out, err),
+        Ok(Asked::Check(given)) => check(alloc, store, given, out, err),
+        Ok(Asked::Run(given)) => run(alloc, store, given, out, err),
+        Ok(Asked::List(given)) => list(alloc, store, given, out, err),
+        Ok(Asked::Draw(given)) => draw(alloc, store, Ok(given), err),
+        Ok(Asked::Play(given)) => play(alloc, store, Ok(given), out, err, progress),
+        Ok(Asked::Sfdp(given)) => sfdp(alloc, store, given, out, err),
         Ok(Asked::Explain(words)) => explain(words.as_slice(), out, err),
         Err(refusal) => refuse(&refusal, err),
     }

@@ -1,5 +1,5 @@
 mod NumberLemmas
 mod LineLemmas
 pub mod ToldLemmas
-pub mod ShelfLemmas
+pub mod StoreLemmas
 pub mod ServedLemmas

@@ -6,7 +6,7 @@ use Rattle.nor_job.specs.Task as job
 use Rattle.norprog_common.specs.declared.faults.Refusal.{Refusal}
 use Rattle.norprog_common.specs.declared.faults.Refusal.TheVariants.{Usage}
 use Rattle.norprog_common.specs.Chip.{Origin, origin_of, task_chip}
-use Rattle.norprog_common.specs.Shelf.{FileFacts, IsMadeApart, Named, WhereNamed}
+use Rattle.norprog_common.specs.FileStore.{FileFacts, IsMadeApart, Named, WhereNamed}
 use Rattle.norprog_common.specs.Told.{OrUsage}
 use Rattle.norprog_common.specs.declared.given.Given.{Given}
 use Rattle.norprog_common.specs.declared.request.Request.{Request}

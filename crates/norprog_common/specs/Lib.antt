@@ -2,7 +2,7 @@ pub mod Values
 pub mod Chip
 pub mod Lines
 pub mod Files
-pub mod Shelf
+pub mod FileStore
 pub mod Setup
 pub mod Content
 pub mod Told

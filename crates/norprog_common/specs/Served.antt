@@ -3,7 +3,7 @@ use Rattle.std.specs.Prelude.{◌≡◌, ℕ, List, ◌++◌, Option, Some, opti
 use Rattle.nor_base.specs.Device.{Ahead}
 use Rattle.nor_job.specs.Task.{Task}
 use Rattle.norprog_common.specs.Chip.{Origin, origin_of, task_chip}
-use Rattle.norprog_common.specs.Shelf.{FileFacts, AreTables, IsMadeApart, Named, WhereNamed, tables_file}
+use Rattle.norprog_common.specs.FileStore.{FileFacts, AreTables, IsMadeApart, Named, WhereNamed, tables_file}
 use Rattle.norprog_common.specs.Values.{part_of, base_of, said_status}
 use Rattle.norprog_common.specs.declared.inputs.Texts.{Texts}
 use Rattle.norprog_common.specs.declared.given.Given.{Given}

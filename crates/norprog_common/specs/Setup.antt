@@ -5,29 +5,29 @@ use Rattle.nor_job.specs.declared.fault.BuildFault.TheVariants as fault
 use Rattle.nor_job.specs.Chip.{HasChip, RefusesChip}
 use Rattle.nor_job.specs.Task.{Task, contradiction}
 use Rattle.norprog_common.specs.Chip.{Origin, origin_of, chosen_origin, task_chip}
-use Rattle.norprog_common.specs.Shelf.{FileFacts, AreTables}
+use Rattle.norprog_common.specs.FileStore.{FileFacts, AreTables}
 use Rattle.norprog_common.specs.Values.{part_of, said_status}
 use Rattle.norprog_common.specs.declared.faults.Refusal.{Refusal}
 use Rattle.norprog_common.specs.declared.faults.Refusal.TheVariants.{Build}
-use Rattle.norprog_common.specs.declared.given.GivenChip.{GivenChip}
-use Rattle.norprog_common.specs.declared.given.GivenSetup.{GivenSetup}
+use Rattle.norprog_common.specs.declared.given.ChipArgs.{ChipArgs}
+use Rattle.norprog_common.specs.declared.given.SetupArgs.{SetupArgs}
 use Rattle.norprog_common.specs.declared.setup.Setup.{Setup}
 
 -- the chip that the options name, and the family's name, `generic` where none is given
-abbrev pub chip_asked : GivenChip → Option Origin
+abbrev pub chip_asked : ChipArgs → Option Origin
 chip_asked given =
     chosen_origin (option_map (λ t. t.now) given.sfdp) (option_map (λ t. t.now) given.uniform) (option_map (λ t. t.now) given.bits)
 
-abbrev pub family_asked : GivenChip → List ℕ
+abbrev pub family_asked : ChipArgs → List ℕ
 family_asked given = unwrap_or (option_map (λ t. t.now) given.part) (codes "generic")
 
 -- a chip and a family are named, and the status is of its form
-abbrev pub is_setup : GivenSetup → Bool
+abbrev pub is_setup : SetupArgs → Bool
 is_setup given =
     is_some (chip_asked given.chip) && is_some (part_of (family_asked given.chip)) && is_some (said_status (option_map (λ t. t.now) given.status))
 
 -- each value is the one that its text spells
-pub record AsksSetup (given : GivenSetup) (setup : Setup) : Type 0 where
+pub record AsksSetup (given : SetupArgs) (setup : Setup) : Type 0 where
   pub chip : chip_asked given.chip ≡ Some (origin_of setup.chip)
   pub part : part_of (family_asked given.chip) ≡ Some setup.part
   pub status : said_status (option_map (λ t. t.now) given.status) ≡ Some setup.status
@@ -58,7 +58,7 @@ pub record IsSetupTask (files : FileFacts) (setup : Setup) (t : Task) : Type 0 w
   pub task : t ≡ setup_task setup tables
 
 -- so it is of the chip that the texts ask for, each value by the one that its text spells
-pub record ServesSetup (files : FileFacts) (given : GivenSetup) (t : Task) : Type 0 where
+pub record ServesSetup (files : FileFacts) (given : SetupArgs) (t : Task) : Type 0 where
   pub setup : Setup
   pub asks : AsksSetup given setup
   pub task : IsSetupTask files setup t

@@ -16,7 +16,7 @@ const MOST_BYTES: u64 = 1 << 36;
 
 /// Which file of the system it is, by whatever name it was opened.
 #[derive(Clone, Copy, PartialEq, Eq)]
-pub struct Place {
+pub struct FileId {
     /// The device that the file is on.
     pub device: u64,
     /// Its number there.
@@ -41,7 +41,7 @@ pub(crate) fn read_whole<R: Files>(
     alloc: Global,
     path: &str,
     name: FileName,
-) -> Result<(Vec<u8>, Place), Refusal>
+) -> Result<(Vec<u8>, FileId), Refusal>
     ensures length { IfOk result (λ read. length read.0.items ≤ 2 ^ 36) }
     ensures refused { IfErr result (RefusesFile name) }
     ensures files { IfErr result IsOfFiles }
@@ -84,7 +84,7 @@ pub(crate) fn open_script<R: Files>(
     rt: &R,
     alloc: Global,
     path: &str,
-) -> Result<(ScriptFile<R::File>, Place), Refusal>
+) -> Result<(ScriptFile<R::File>, FileId), Refusal>
     ensures refused { IfErr result (RefusesFile Script) }
     ensures files { IfErr result IsOfFiles }
 {
@@ -120,7 +120,7 @@ pub(crate) fn open_input<R: Files>(
     rt: &R,
     path: &str,
     name: FileName,
-) -> Result<(R::File, Place, u64), Refusal>
+) -> Result<(R::File, FileId, u64), Refusal>
     ensures refused { IfErr result (RefusesFile name) }
     ensures files { IfErr result IsOfFiles }
 {
@@ -135,7 +135,7 @@ pub(crate) fn open_input<R: Files>(
     if metadata.is_dir() {
         return Err(Refusal::File(name));
     }
-    let place = Place {
+    let place = FileId {
         device: metadata.dev(),
         inode: metadata.ino(),
     };
@@ -150,7 +150,7 @@ pub(crate) fn create_output<R: Files>(
     rt: &R,
     path: &str,
     name: FileName,
-    inputs: &[Place],
+    inputs: &[FileId],
 ) -> Result<R::File, Refusal>
     ensures refused { IfErr result (RefusesFile name) }
     ensures files { IfErr result IsOfFiles }
@@ -207,9 +207,9 @@ fn is_character_device(mode: u32) -> bool
 }
 
 /// Whether the file of this name is there and is one of the inputs.
-fn is_input<R: Files>(rt: &R, path: &str, inputs: &[Place]) -> bool {
+fn is_input<R: Files>(rt: &R, path: &str, inputs: &[FileId]) -> bool {
     match fs::metadata(rt, path) {
-        Ok(metadata) => inputs.contains(&Place {
+        Ok(metadata) => inputs.contains(&FileId {
             device: metadata.dev(),
             inode: metadata.ino(),
         }),

@@ -23,14 +23,14 @@ pub struct Given<'a> {
 
 /// Of `build`: the job, and the name of the script's file.
 #[derive(Drop)]
-pub struct GivenBuild<'a> {
+pub struct BuildArgs<'a> {
     pub job: Given<'a>,
     pub out: Option<&'a str>,
 }
 
 /// Of `plan`: the job, whether the times are told, and the name of the map's file.
 #[derive(Drop)]
-pub struct GivenPlan<'a> {
+pub struct PlanArgs<'a> {
     pub job: Given<'a>,
     pub times: bool,
     pub map: Option<&'a str>,
@@ -38,14 +38,14 @@ pub struct GivenPlan<'a> {
 
 /// Of `check`: the job, and the name of the script's file.
 #[derive(Drop)]
-pub struct GivenCheck<'a> {
+pub struct CheckArgs<'a> {
     pub job: Given<'a>,
     pub script: Option<&'a str>,
 }
 
 /// Of `sfdp`.
 #[derive(Clone, Copy)]
-pub struct GivenChip<'a> {
+pub struct ChipArgs<'a> {
     pub sfdp: Option<&'a str>,
     pub uniform: Option<&'a str>,
     pub bits: Option<&'a str>,
@@ -54,8 +54,8 @@ pub struct GivenChip<'a> {
 
 /// The chip of a command that does no build, and how it begins.
 #[derive(Clone, Copy)]
-pub struct GivenSetup<'a> {
-    pub chip: GivenChip<'a>,
+pub struct SetupArgs<'a> {
+    pub chip: ChipArgs<'a>,
     pub status: Option<&'a str>,
     pub mode4: bool,
     pub quad: bool,
@@ -64,14 +64,14 @@ pub struct GivenSetup<'a> {
 
 /// Of `list`.
 #[derive(Clone, Copy)]
-pub struct GivenList<'a> {
-    pub setup: GivenSetup<'a>,
+pub struct ListArgs<'a> {
+    pub setup: SetupArgs<'a>,
     pub script: Option<&'a str>,
 }
 
 /// Of `draw`.
 #[derive(Clone, Copy)]
-pub struct GivenDraw<'a> {
+pub struct DrawArgs<'a> {
     pub script: Option<&'a str>,
     pub from: Option<&'a str>,
     pub steps: Option<&'a str>,
@@ -80,8 +80,8 @@ pub struct GivenDraw<'a> {
 
 /// Of `run`.
 #[derive(Clone, Copy)]
-pub struct GivenRun<'a> {
-    pub setup: GivenSetup<'a>,
+pub struct RunArgs<'a> {
+    pub setup: SetupArgs<'a>,
     pub content: Option<&'a str>,
     pub script: Option<&'a str>,
     pub busy: Option<&'a str>,
@@ -93,8 +93,8 @@ pub struct GivenRun<'a> {
 
 /// Of `play`.
 #[derive(Clone, Copy)]
-pub struct GivenPlay<'a> {
-    pub setup: GivenSetup<'a>,
+pub struct PlayArgs<'a> {
+    pub setup: SetupArgs<'a>,
     pub content: Option<&'a str>,
     pub script: Option<&'a str>,
     pub device: Option<&'a str>,

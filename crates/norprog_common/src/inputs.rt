@@ -3,14 +3,14 @@
 ghost use Rattle.std.specs.Prelude.{◌≡◌, [], ◌∷◌, IfOk, IfErr, option_map, option_to_list};
 ghost use Rattle.norprog_common.specs.declared.faults.FileName.TheVariants.{Layout};
 ghost use Rattle.norprog_common.specs.Files.{RefusesFile, TellsFile};
-ghost use Rattle.norprog_common.specs.Shelf.{Notes, WhereNamed};
+ghost use Rattle.norprog_common.specs.FileStore.{Notes, WhereNamed};
 ghost use Rattle.norprog_common.specs.Served.{task_by, held_in, text_files_of, AreGiven};
 
 use crate::chip::source_of;
 use crate::faults::{FileName, Refusal};
-use crate::files::Place;
+use crate::files::FileId;
 use crate::request::Request;
-use crate::shelf::{Shelf, noted_tables};
+use crate::store::{FileStore, noted_tables};
 use nor_job::Inputs;
 use std::alloc::Global;
 
@@ -24,56 +24,56 @@ pub struct Texts {
 }
 
 /// Reads the files that are read whole, in their order, and notes which files they are.
-pub(crate) fn read_texts<S: Shelf>(
+pub(crate) fn read_texts<S: FileStore>(
     alloc: Global,
-    shelf: &S,
+    store: &S,
     request: &Request<'_>,
-    places: &mut Vec<Place>,
+    places: &mut Vec<FileId>,
 ) -> Result<Texts, Refusal>
-    ensures given { IfOk result (λ texts. AreGiven (S.facts shelf.now) request.now (held_in texts)) }
-    ensures noted { IfOk result (λ _. Notes (S.facts shelf.now) (text_files_of request.now) places.old.items places.new.items) }
-    ensures lacked { IfErr result (TellsFile (S.facts shelf.now).lacked) }
+    ensures given { IfOk result (λ texts. AreGiven (S.facts store.now) request.now (held_in texts)) }
+    ensures noted { IfOk result (λ _. Notes (S.facts store.now) (text_files_of request.now) places.old.items places.new.items) }
+    ensures lacked { IfErr result (TellsFile (S.facts store.now).lacked) }
 {
-    let hex = read_noted(alloc, shelf, request.hex, FileName::Hex, places)?;
-    let layout = read_layout(alloc, shelf, request.layout, places)?;
-    let sfdp = noted_tables(alloc, shelf, request.chip, places)?;
+    let hex = read_noted(alloc, store, request.hex, FileName::Hex, places)?;
+    let layout = read_layout(alloc, store, request.layout, places)?;
+    let sfdp = noted_tables(alloc, store, request.chip, places)?;
     Ok(Texts { hex, layout, sfdp })
 }
 
 /// Reads the layout, where one is named. `File` of `Layout`, or `Memory`.
-fn read_layout<S: Shelf>(
+fn read_layout<S: FileStore>(
     alloc: Global,
-    shelf: &S,
+    store: &S,
     path: Option<&str>,
-    places: &mut Vec<Place>,
+    places: &mut Vec<FileId>,
 ) -> Result<Option<Vec<u8>>, Refusal>
-    ensures gave { IfOk result (λ bytes. WhereNamed (S.facts shelf.now).gave (option_map (λ t. t.now) path.entry)
+    ensures gave { IfOk result (λ bytes. WhereNamed (S.facts store.now).gave (option_map (λ t. t.now) path.entry)
         (option_map (λ held. held.items) bytes)) }
-    ensures noted { IfOk result (λ _. Notes (S.facts shelf.now) (option_to_list (option_map (λ t. t.now) path.entry))
+    ensures noted { IfOk result (λ _. Notes (S.facts store.now) (option_to_list (option_map (λ t. t.now) path.entry))
         places.old.items places.new.items) }
     ensures refused { IfErr result (RefusesFile Layout) }
-    ensures lacked { IfErr result (TellsFile (S.facts shelf.now).lacked) }
+    ensures lacked { IfErr result (TellsFile (S.facts store.now).lacked) }
 {
     match path {
-        Some(path) => Ok(Some(read_noted(alloc, shelf, path, FileName::Layout, places)?)),
+        Some(path) => Ok(Some(read_noted(alloc, store, path, FileName::Layout, places)?)),
         None => Ok(None),
     }
 }
 
 /// Reads a file whole, and notes which one it is. `File` of `name`, or `Memory`.
-fn read_noted<S: Shelf>(
+fn read_noted<S: FileStore>(
     alloc: Global,
-    shelf: &S,
+    store: &S,
     path: &str,
     name: FileName,
-    places: &mut Vec<Place>,
+    places: &mut Vec<FileId>,
 ) -> Result<Vec<u8>, Refusal>
-    ensures gave { IfOk result (λ bytes. (S.facts shelf.now).gave path.now bytes.items) }
-    ensures noted { IfOk result (λ _. Notes (S.facts shelf.now) (path.now ∷ []) places.old.items places.new.items) }
+    ensures gave { IfOk result (λ bytes. (S.facts store.now).gave path.now bytes.items) }
+    ensures noted { IfOk result (λ _. Notes (S.facts store.now) (path.now ∷ []) places.old.items places.new.items) }
     ensures refused { IfErr result (RefusesFile name) }
-    ensures lacked { IfErr result (TellsFile (S.facts shelf.now).lacked) }
+    ensures lacked { IfErr result (TellsFile (S.facts store.now).lacked) }
 {
-    let (bytes, place) = shelf.read(alloc, path, name)?;
+    let (bytes, place) = store.read(alloc, path, name)?;
     places.push(place)?;
     Ok(bytes)
 }

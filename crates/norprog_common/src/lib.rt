@@ -4,7 +4,6 @@
 
 mod chip;
 mod content;
-mod disk;
 mod faults;
 mod files;
 mod given;
@@ -12,23 +11,24 @@ mod inputs;
 mod opened;
 mod request;
 mod setup;
-mod shelf;
+mod store;
+mod system_files;
 mod values;
 mod wrongs;
 
 pub use chip::{Chip, chip_of, optional_status, source_of};
 pub use content::read_content;
-pub use disk::Disk;
 pub use faults::{FileName, Refusal, answered, refuse};
-pub use files::{Place, ScriptFile};
+pub use files::{FileId, ScriptFile};
 pub use given::{
-    Given, GivenBuild, GivenCheck, GivenChip, GivenDraw, GivenList, GivenPlan, GivenPlay, GivenRun,
-    GivenSetup,
+    BuildArgs, CheckArgs, ChipArgs, DrawArgs, Given, ListArgs, PlanArgs, PlayArgs, RunArgs,
+    SetupArgs,
 };
 pub use inputs::{Texts, inputs_of};
 pub use opened::open_job;
 pub use request::{Request, request_of};
 pub use setup::{Setup, known_chip, setup_inputs, setup_of};
-pub use shelf::{Shelf, noted_tables, tables_of};
+pub use store::{FileStore, noted_tables, tables_of};
+pub use system_files::SystemFiles;
 pub use values::{base, decimal, limit, part};
 pub use wrongs::wrong_number;

@@ -2,32 +2,32 @@
 
 ghost use Rattle.std.specs.Prelude.{◌≡◌, IfOk, IfErr};
 ghost use Rattle.norprog_common.specs.Files.{TellsFile};
-ghost use Rattle.norprog_common.specs.Shelf.{Notes};
+ghost use Rattle.norprog_common.specs.FileStore.{Notes};
 ghost use Rattle.norprog_common.specs.Served.{held_in, input_files_of, AreGiven};
 
 use crate::faults::{FileName, Refusal};
-use crate::files::Place;
+use crate::files::FileId;
 use crate::inputs::{Texts, read_texts};
 use crate::request::Request;
-use crate::shelf::Shelf;
+use crate::store::FileStore;
 use std::alloc::Global;
 
 /// Opens the files that a job reads, in their order, and notes which files they are: what those hold that are read whole, the
 /// content, and how many bytes that has.
-pub fn open_job<S: Shelf>(
+pub fn open_job<S: FileStore>(
     alloc: Global,
-    shelf: &S,
+    store: &S,
     request: &Request<'_>,
-    places: &mut Vec<Place>,
+    places: &mut Vec<FileId>,
 ) -> Result<(Texts, S::Input, u64), Refusal>
-    ensures given { IfOk result (λ job. AreGiven (S.facts shelf.now) request.now (held_in job.0)) }
-    ensures content { IfOk result (λ job. (S.facts shelf.now).opened request.now.content.now (S.Input.ahead job.1) job.2) }
+    ensures given { IfOk result (λ job. AreGiven (S.facts store.now) request.now (held_in job.0)) }
+    ensures content { IfOk result (λ job. (S.facts store.now).opened request.now.content.now (S.Input.ahead job.1) job.2) }
     ensures count { IfOk result (λ job. S.Input.count job.1 ≡ 0) }
-    ensures noted { IfOk result (λ _. Notes (S.facts shelf.now) (input_files_of request.now) places.old.items places.new.items) }
-    ensures lacked { IfErr result (TellsFile (S.facts shelf.now).lacked) }
+    ensures noted { IfOk result (λ _. Notes (S.facts store.now) (input_files_of request.now) places.old.items places.new.items) }
+    ensures lacked { IfErr result (TellsFile (S.facts store.now).lacked) }
 {
-    let texts = read_texts(alloc, shelf, request, places)?;
-    let (content, place, len) = shelf.open(request.content, FileName::Content)?;
+    let texts = read_texts(alloc, store, request, places)?;
+    let (content, place, len) = store.open(request.content, FileName::Content)?;
     places.push(place)?;
     Ok((texts, content, len))
 }

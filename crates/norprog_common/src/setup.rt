@@ -6,7 +6,7 @@ ghost use Rattle.norprog_common.specs.Setup.{is_setup, setup_task, AsksSetup, Is
 
 use crate::chip::{Chip, chip_of, optional_status, source_of};
 use crate::faults::Refusal;
-use crate::given::GivenSetup;
+use crate::given::SetupArgs;
 use crate::values::part;
 use nor_base::{Meaning, Part, Start};
 use nor_job::{BuildFault, Inputs, contradiction};
@@ -23,7 +23,7 @@ pub struct Setup<'a> {
 }
 
 /// The chip that the values spell, and how it begins. None where one isn't of its form.
-pub fn setup_of<'a>(given: GivenSetup<'a>) -> Option<Setup<'a>>
+pub fn setup_of<'a>(given: SetupArgs<'a>) -> Option<Setup<'a>>
     ensures forms { is_some result ≡ is_setup given.entry }
     ensures values { IfSome result (AsksSetup given.entry) }
 {

@@ -1,11 +1,11 @@
 -- What is drawn for a request is what its texts ask for, and what is so of it is so of that.
 use Rattle.std.proofs.Common.{◌≡◌, option_map, option_to_list, refl, sym, subst, List, [], ◌∷◌, ℕ, Option, None, Result, Ok, Err, IfOk, IfErr, inr}
 use Rattle.std.specs.Prelude.{⊤}
-use Rattle.norprog_common.specs.Shelf.{FileFacts, IsMadeApart, Named}
+use Rattle.norprog_common.specs.FileStore.{FileFacts, IsMadeApart, Named}
 use Rattle.norprog_common.specs.declared.faults.Refusal.{Refusal}
 use Rattle.norprog_common.specs.Told.{line_fault, Refuses}
 use Rattle.norprog_common.proofs.ToldLemmas.{asked_wider, refuses_wider, by_fault}
-use Rattle.norprog_common.specs.declared.given.GivenDraw.{GivenDraw}
+use Rattle.norprog_common.specs.declared.given.DrawArgs.{DrawArgs}
 use Rattle.norprog_draw.specs.declared.request.DrawRequest.{DrawRequest}
 use Rattle.norprog_draw.specs.Answer.{IsDrawingOf, IsDrawing, IsStopOf, IsDrawFault, RefusesDraw, done}
 use Rattle.norprog_draw.specs.Drawn.{WasDrawn, RefusesDrawing}
@@ -13,7 +13,7 @@ use Rattle.norprog_draw.specs.Request.{is_well_formed, AsksFor}
 use Rattle.norprog_draw.specs.Served.{DrawTask, IsTaskOf, Serves, OfDraw}
 
 -- what a request has is what the texts ask for
-serves : (files : FileFacts) (given : GivenDraw) (request : DrawRequest) → AsksFor given request → (t : DrawTask) → IsTaskOf files request t → Serves files given t
+serves : (files : FileFacts) (given : DrawArgs) (request : DrawRequest) → AsksFor given request → (t : DrawTask) → IsTaskOf files request t → Serves files given t
 serves files given request asks t of = record {
   text = subst (λ s. Named (λ name. files.gave name t.text) (option_map (λ t. t.now) s)) (sym asks.script) of.text;
   from = rw of.from asks.from;
@@ -23,20 +23,20 @@ serves files given request asks t of = record {
 }
 
 -- the same of the command line on which those texts stand
-on_line : (files : FileFacts) (line : Result GivenDraw Refusal) (given : GivenDraw) (request : DrawRequest) → line ≡ Ok given → AsksFor given request
+on_line : (files : FileFacts) (line : Result DrawArgs Refusal) (given : DrawArgs) (request : DrawRequest) → line ≡ Ok given → AsksFor given request
     → (t : DrawTask) → IsTaskOf files request t → OfDraw files line t
 on_line files line given request is asks t of = rw is (serves files given request asks t of)
 
-drawing_asked : (files : FileFacts) (line : Result GivenDraw Refusal) (given : GivenDraw) (request : DrawRequest) (Sent : Option (List ℕ) → Type 0) → line ≡ Ok given → AsksFor given request
+drawing_asked : (files : FileFacts) (line : Result DrawArgs Refusal) (given : DrawArgs) (request : DrawRequest) (Sent : Option (List ℕ) → Type 0) → line ≡ Ok given → AsksFor given request
     → IsDrawing (IsTaskOf files request) Sent → IsDrawing (OfDraw files line) Sent
 drawing_asked files line given request Sent is asks = asked_wider DrawTask (IsTaskOf files request) (OfDraw files line) (IsDrawingOf Sent) (on_line files line given request is asks)
 
-pub drawings_asked : {T : Type 0} (files : FileFacts) (line : Result GivenDraw Refusal) (given : GivenDraw) (request : DrawRequest) (r : Result T Refusal) → line ≡ Ok given → AsksFor given request
+pub drawings_asked : {T : Type 0} (files : FileFacts) (line : Result DrawArgs Refusal) (given : DrawArgs) (request : DrawRequest) (r : Result T Refusal) → line ≡ Ok given → AsksFor given request
     → IfOk r (λ _. IsDrawing (IsTaskOf files request) files.flushed) → IfOk r (λ _. IsDrawing (OfDraw files line) files.flushed)
 drawings_asked files line given request (Ok x) is asks of = drawing_asked files line given request files.flushed is asks of
 drawings_asked files line given request (Err why) is asks of = tt
 
-refusal_asked : (files : FileFacts) (line : Result GivenDraw Refusal) (given : GivenDraw) (request : DrawRequest) (why : Refusal) → line ≡ Ok given → AsksFor given request
+refusal_asked : (files : FileFacts) (line : Result DrawArgs Refusal) (given : DrawArgs) (request : DrawRequest) (why : Refusal) → line ≡ Ok given → AsksFor given request
     → RefusesDraw files.lacked (IsTaskOf files request) why → RefusesDraw files.lacked (OfDraw files line) why
 refusal_asked files line given request why is asks =
     refuses_wider files.lacked files.lacked (IsDrawFault (IsTaskOf files request)) (IsDrawFault (OfDraw files line)) (IsDrawing (IsTaskOf files request) (λ held. ⊤)) (IsDrawing (OfDraw files line) (λ held. ⊤))
@@ -44,7 +44,7 @@ refusal_asked files line given request why is asks =
     (drawing_asked files line given request (λ held. ⊤) is asks) why
 
 -- the same of whichever came
-pub refusals_asked : {T : Type 0} (files : FileFacts) (line : Result GivenDraw Refusal) (given : GivenDraw) (request : DrawRequest) (r : Result T Refusal)
+pub refusals_asked : {T : Type 0} (files : FileFacts) (line : Result DrawArgs Refusal) (given : DrawArgs) (request : DrawRequest) (r : Result T Refusal)
     → line ≡ Ok given → AsksFor given request → line_fault is_well_formed line ≡ None → IfErr r (RefusesDraw files.lacked (IsTaskOf files request))
     → IfErr r (Refuses (line_fault is_well_formed line) (RefusesDraw files.lacked (OfDraw files line)))
 refusals_asked files line given request (Ok x) is asks none of = tt

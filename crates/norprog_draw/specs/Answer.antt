@@ -4,9 +4,9 @@ use Rattle.nor_job.specs.declared.fault.BuildFault.TheVariants.{Write}
 use Rattle.norprog_common.specs.declared.faults.FileName.{FileName}
 use Rattle.norprog_common.specs.declared.faults.Refusal.{Refusal}
 use Rattle.norprog_common.specs.declared.faults.Refusal.TheVariants.{Build}
-use Rattle.norprog_common.specs.Shelf.{FileFacts}
+use Rattle.norprog_common.specs.FileStore.{FileFacts}
 use Rattle.norprog_common.specs.Told.{ForAsked, RefusesFor, Refuses, line_fault, Answers}
-use Rattle.norprog_common.specs.declared.given.GivenDraw.{GivenDraw}
+use Rattle.norprog_common.specs.declared.given.DrawArgs.{DrawArgs}
 use Rattle.norprog_draw.specs.Drawn.{WasDrawn, RefusesDrawing}
 use Rattle.norprog_draw.specs.Request.{is_well_formed}
 use Rattle.norprog_draw.specs.Served.{DrawTask, OfDraw}
@@ -41,11 +41,11 @@ done (Ok drawn) (Err e) = Err (Build Write)
 done (Ok drawn) (Ok u) = Ok drawn
 
 -- why what a command line asks for isn't drawn
-abbrev pub RefusesToDraw : FileFacts → Result GivenDraw Refusal → Refusal → Type 0
+abbrev pub RefusesToDraw : FileFacts → Result DrawArgs Refusal → Refusal → Type 0
 RefusesToDraw files line = Refuses (line_fault is_well_formed line) (RefusesDraw files.lacked (OfDraw files line))
 
 -- what `draw` answers to a command line: status 0 where it was drawn and has gone out, or a refusal. It prints nothing else
-abbrev pub AnswersDraw : FileFacts → Result GivenDraw Refusal → Type 0 → Type 0 → Option (List ℕ) → Option (List ℕ) → ℕ → Type 0
+abbrev pub AnswersDraw : FileFacts → Result DrawArgs Refusal → Type 0 → Type 0 → Option (List ℕ) → Option (List ℕ) → ℕ → Type 0
 AnswersDraw files line Quiet Works told_before told_after status =
     Answers (line_fault is_well_formed line)
     ((status ≡ 0) × IsDrawing (OfDraw files line) files.flushed × Quiet)

@@ -1,9 +1,9 @@
 -- The drawing that a command line of `draw` asks for (this project's). `files` is what is known of files by their names.
 use Rattle.std.specs.Prelude.{◌≡◌, ℕ, List, [], ◌∷◌, Option, Some, Result, option_map, option_to_list}
 use Rattle.norprog_common.specs.declared.faults.Refusal.{Refusal}
-use Rattle.norprog_common.specs.Shelf.{FileFacts, IsMadeApart, Named}
+use Rattle.norprog_common.specs.FileStore.{FileFacts, IsMadeApart, Named}
 use Rattle.norprog_common.specs.Told.{OfLine}
-use Rattle.norprog_common.specs.declared.given.GivenDraw.{GivenDraw}
+use Rattle.norprog_common.specs.declared.given.DrawArgs.{DrawArgs}
 use Rattle.norprog_draw.specs.declared.request.DrawRequest.{DrawRequest}
 use Rattle.norprog_draw.specs.Request.{asked_from, asked_count}
 
@@ -23,12 +23,12 @@ pub record IsTaskOf (files : FileFacts) (request : DrawRequest) (t : DrawTask) :
 
 -- those that the texts ask for, each by the value that its text spells, each file by its name; the output was made as another file
 -- than the script's
-pub record Serves (files : FileFacts) (given : GivenDraw) (t : DrawTask) : Type 0 where
+pub record Serves (files : FileFacts) (given : DrawArgs) (t : DrawTask) : Type 0 where
   pub text : Named (λ name. files.gave name t.text) (option_map (λ t. t.now) given.script)
   pub from : asked_from given ≡ Some t.from
   pub count : asked_count given ≡ Some t.count
   pub made : Named (λ name. IsMadeApart files (option_to_list (option_map (λ t. t.now) given.script)) name t.begun) (option_map (λ t. t.now) given.out)
 
 -- of a command line: what it asks for, where it was read
-abbrev pub OfDraw : FileFacts → Result GivenDraw Refusal → DrawTask → Type 0
+abbrev pub OfDraw : FileFacts → Result DrawArgs Refusal → DrawTask → Type 0
 OfDraw files = OfLine (Serves files)

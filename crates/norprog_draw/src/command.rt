@@ -9,7 +9,7 @@ ghost use Rattle.norprog_draw.specs.Served.{IsTaskOf, OfDraw};
 use crate::request::{DrawRequest, request_of};
 use crate::script::draw_script;
 use nor_base::{ByteOut, Failed};
-use norprog_common::{FileName, GivenDraw, Refusal, Shelf, refuse};
+use norprog_common::{DrawArgs, FileName, FileStore, Refusal, refuse};
 use std::alloc::Global;
 
 /// Draws the script on a command line into the file that it names, or writes a refusal to `err` (docs/FORMATS.md, section 9), and
@@ -18,45 +18,45 @@ use std::alloc::Global;
 ///
 /// `given` is what stands on the command line, or why that couldn't be read, which is told. Usage is told where the texts ask for
 /// no waveform.
-pub fn draw<S: Shelf, E: ByteOut>(
+pub fn draw<S: FileStore, E: ByteOut>(
     alloc: Global,
-    shelf: &S,
-    given: Result<GivenDraw<'_>, Refusal>,
+    store: &S,
+    given: Result<DrawArgs<'_>, Refusal>,
     err: &mut E,
 ) -> u8
     requires { E.count err.old < 2 ^ 64 - 1 }
     ensures status { result ≤ 2 }
     ensures quiet { result ≡ 0 → err.new ≡ err.old }
-    ensures answer { AnswersDraw (S.facts shelf.now) given.entry (err.new ≡ err.old)
+    ensures answer { AnswersDraw (S.facts store.now) given.entry (err.new ≡ err.old)
         (E.count err.new ≡ E.count err.old) (E.held err.old) (E.held err.new) result }
 {
-    match drawn_in(alloc, shelf, given) {
+    match drawn_in(alloc, store, given) {
         Ok(()) => 0,
         Err(refusal) => refuse(&refusal, err),
     }
 }
 
 /// Draws what is asked for.
-fn drawn_in<S: Shelf>(
+fn drawn_in<S: FileStore>(
     alloc: Global,
-    shelf: &S,
-    given: Result<GivenDraw<'_>, Refusal>,
+    store: &S,
+    given: Result<DrawArgs<'_>, Refusal>,
 ) -> Result<(), Refusal>
-    ensures drawn { IfOk result (λ _. IsDrawing (OfDraw (S.facts shelf.now) given.entry) (S.facts shelf.now).flushed) }
+    ensures drawn { IfOk result (λ _. IsDrawing (OfDraw (S.facts store.now) given.entry) (S.facts store.now).flushed) }
     ensures asked { IfOk result (λ _. line_fault is_well_formed given.entry ≡ None) }
-    ensures first { IfErr result (RefusesToDraw (S.facts shelf.now) given.entry) }
+    ensures first { IfErr result (RefusesToDraw (S.facts store.now) given.entry) }
 {
     let request = request_of(given?).ok_or(Refusal::Usage)?;
-    run_draw(alloc, shelf, request)
+    run_draw(alloc, store, request)
 }
 
 /// Opens the files of a request in their order, and draws the script into the second.
-fn run_draw<S: Shelf>(alloc: Global, shelf: &S, request: DrawRequest<'_>) -> Result<(), Refusal>
-    ensures drawn { IfOk result (λ _. IsDrawing (IsTaskOf (S.facts shelf.now) request.entry) (S.facts shelf.now).flushed) }
-    ensures refused { IfErr result (RefusesDraw (S.facts shelf.now).lacked (IsTaskOf (S.facts shelf.now) request.entry)) }
+fn run_draw<S: FileStore>(alloc: Global, store: &S, request: DrawRequest<'_>) -> Result<(), Refusal>
+    ensures drawn { IfOk result (λ _. IsDrawing (IsTaskOf (S.facts store.now) request.entry) (S.facts store.now).flushed) }
+    ensures refused { IfErr result (RefusesDraw (S.facts store.now).lacked (IsTaskOf (S.facts store.now) request.entry)) }
 {
-    let (script, place) = shelf.read(alloc, request.script, FileName::Script)?;
-    let mut out = shelf.create(alloc, request.out, FileName::Out, &[place])?;
+    let (script, place) = store.read(alloc, request.script, FileName::Script)?;
+    let mut out = store.create(alloc, request.out, FileName::Out, &[place])?;
     let answer = draw_script(
         alloc,
         script.as_slice(),
@@ -64,7 +64,7 @@ fn run_draw<S: Shelf>(alloc: Global, shelf: &S, request: DrawRequest<'_>) -> Res
         request.count,
         &mut out,
     );
-    let flushed = shelf.flush(&mut out);
+    let flushed = store.flush(&mut out);
     done(answer, flushed)
 }
 

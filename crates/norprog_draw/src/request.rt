@@ -4,7 +4,7 @@ ghost use Rattle.std.specs.Prelude.{◌≡◌, is_some, option_map, IfSome};
 ghost use Rattle.norprog_common.specs.Values.{said_number};
 ghost use Rattle.norprog_draw.specs.Request.{is_well_formed, AsksFor};
 
-use norprog_common::{GivenDraw, decimal};
+use norprog_common::{DrawArgs, decimal};
 
 /// What `draw` is asked for: each value is of its form.
 #[derive(Clone, Copy)]
@@ -18,7 +18,7 @@ pub struct DrawRequest<'a> {
 }
 
 /// The request that the values spell. None where one isn't of its form, or one that has to be there isn't.
-pub fn request_of<'a>(given: GivenDraw<'a>) -> Option<DrawRequest<'a>>
+pub fn request_of<'a>(given: DrawArgs<'a>) -> Option<DrawRequest<'a>>
     ensures forms { is_some result ≡ is_well_formed given.entry }
     ensures values { IfSome result (λ request. AsksFor given.entry request) }
 {

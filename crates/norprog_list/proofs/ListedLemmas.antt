@@ -23,7 +23,7 @@ use Rattle.std.specs.Prelude.{IsErrAnd}
 use Rattle.norprog_common.specs.Setup.{IsKnown, RefusesChipOf}
 use Rattle.norprog_common.specs.Chip.{origin_of}
 use Rattle.norprog_common.specs.Setup.{setup_task}
-use Rattle.norprog_common.specs.Shelf.{AreTables, FileFacts}
+use Rattle.norprog_common.specs.FileStore.{AreTables, FileFacts}
 use Rattle.norprog_common.proofs.ToldLemmas.{by_fault}
 use Rattle.norprog_list.specs.declared.request.ListRequest.{ListRequest}
 use Rattle.norprog_list.specs.Served.{ListTask, IsTaskOf}

@@ -3,10 +3,10 @@ use Rattle.std.specs.Prelude.{◌≡◌, ◌⊎◌, ℕ, List, Option}
 use Rattle.nor_base.specs.Device.{Ahead}
 use Rattle.nor_script.specs.declared.fault.ScriptFault.{ScriptFault}
 use Rattle.nor_script.specs.Stream.{HadText}
-use Rattle.norprog_common.specs.Shelf.{FileFacts}
+use Rattle.norprog_common.specs.FileStore.{FileFacts}
 use Rattle.norprog_common.specs.declared.faults.FileName.{FileName}
 use Rattle.norprog_common.specs.declared.faults.Refusal.{Refusal}
-use Rattle.norprog_common.specs.declared.given.GivenList.{GivenList}
+use Rattle.norprog_common.specs.declared.given.ListArgs.{ListArgs}
 use Rattle.norprog_common.specs.Told.{ForAsked, RefusesFor, AnswersAsked}
 use Rattle.norprog_list.specs.Listed.{WasCut, WasStopped, WasToldAbove, ListsText, RefusesText}
 use Rattle.norprog_list.specs.Request.{is_well_formed}
@@ -43,7 +43,7 @@ abbrev pub RefusesList : (FileName → Type 0) → (ListTask → Type 0) → Opt
 RefusesList Lacked Asked before after = RefusesFor Lacked (IsListFault Asked before after) ⊥
 
 -- what `list` answers to the texts of a command line: the listing at status 0, or a refusal
-abbrev pub AnswersList : FileFacts → GivenList → Option (List ℕ) → Option (List ℕ) → Type 0 → Type 0 → Option (List ℕ) → Option (List ℕ) → ℕ → Type 0
+abbrev pub AnswersList : FileFacts → ListArgs → Option (List ℕ) → Option (List ℕ) → Type 0 → Type 0 → Option (List ℕ) → Option (List ℕ) → ℕ → Type 0
 AnswersList files given before after Quiet Works told_before told_after status =
     AnswersAsked (is_well_formed given)
     ((status ≡ 0) × PrintsListing (Serves files given) before after × Quiet)

@@ -3,8 +3,8 @@ use Rattle.std.specs.Prelude.{◌≡◌, ℕ, List, Some, option_map}
 use Rattle.nor_base.specs.Device.{Ahead}
 use Rattle.nor_job.specs.Task.{Task}
 use Rattle.norprog_common.specs.Setup.{IsSetupTask, ServesSetup}
-use Rattle.norprog_common.specs.Shelf.{FileFacts, IsAheadIn}
-use Rattle.norprog_common.specs.declared.given.GivenList.{GivenList}
+use Rattle.norprog_common.specs.FileStore.{FileFacts, IsAheadIn}
+use Rattle.norprog_common.specs.declared.given.ListArgs.{ListArgs}
 use Rattle.norprog_list.specs.declared.request.ListRequest.{ListRequest}
 
 -- what is asked of a listing: the chip, in a task that has neither image nor layout, and what the script's file has ahead
@@ -18,7 +18,7 @@ pub record IsTaskOf (files : FileFacts) (request : ListRequest) (t : ListTask) :
   pub script : IsAheadIn files request.script.now t.script
 
 -- what the texts ask for, each by the value that its text spells
-pub record Serves (files : FileFacts) (given : GivenList) (t : ListTask) : Type 0 where
+pub record Serves (files : FileFacts) (given : ListArgs) (t : ListTask) : Type 0 where
   pub chip : ServesSetup files given.setup t.chip
   pub name : List ℕ
   pub named : option_map (λ t. t.now) given.script ≡ Some name

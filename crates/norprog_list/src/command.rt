@@ -9,7 +9,7 @@ ghost use Rattle.norprog_list.specs.Served.{IsTaskOf, Serves};
 use crate::listing::list_script;
 use crate::request::{ListRequest, request_of};
 use nor_base::ByteOut;
-use norprog_common::{FileName, GivenList, Refusal, Shelf, answered, setup_inputs, tables_of};
+use norprog_common::{FileName, FileStore, ListArgs, Refusal, answered, setup_inputs, tables_of};
 use std::alloc::Global;
 
 /// Writes to `out` the listing of the script on a command line, by the chip that it names, or a refusal to `err`
@@ -17,10 +17,10 @@ use std::alloc::Global;
 /// steps above its fault may stand in `out`.
 ///
 /// Usage is told where the texts ask for no listing.
-pub fn list<S: Shelf, O: ByteOut, E: ByteOut>(
+pub fn list<S: FileStore, O: ByteOut, E: ByteOut>(
     alloc: Global,
-    shelf: &S,
-    given: GivenList<'_>,
+    store: &S,
+    given: ListArgs<'_>,
     out: &mut O,
     err: &mut E,
 ) -> u8
@@ -28,47 +28,47 @@ pub fn list<S: Shelf, O: ByteOut, E: ByteOut>(
     requires err { E.count err.old < 2 ^ 64 - 1 }
     ensures status { result ≤ 2 }
     ensures quiet { result ≡ 0 → err.new ≡ err.old }
-    ensures answer { AnswersList (S.facts shelf.now) given.entry (O.held out.old) (O.held out.new) (err.new ≡ err.old)
+    ensures answer { AnswersList (S.facts store.now) given.entry (O.held out.old) (O.held out.new) (err.new ≡ err.old)
         (E.count err.new ≡ E.count err.old) (E.held err.old) (E.held err.new) result }
 {
-    answered(listed_in(alloc, shelf, given, out), err)
+    answered(listed_in(alloc, store, given, out), err)
 }
 
 /// Lists what is asked for.
-fn listed_in<S: Shelf, O: ByteOut>(
+fn listed_in<S: FileStore, O: ByteOut>(
     alloc: Global,
-    shelf: &S,
-    given: GivenList<'_>,
+    store: &S,
+    given: ListArgs<'_>,
     out: &mut O,
 ) -> Result<u8, Refusal>
     requires { O.count out.old < 2 ^ 64 - 1 }
     ensures status { IfOk result (λ status. status ≡ 0) }
-    ensures printed { IfOk result (λ _. PrintsListing (Serves (S.facts shelf.now) given.entry) (O.held out.old) (O.held out.new)) }
-    ensures unprinted { IfErr result (λ _. CutsListing (Serves (S.facts shelf.now) given.entry) (O.held out.old) (O.held out.new)) }
+    ensures printed { IfOk result (λ _. PrintsListing (Serves (S.facts store.now) given.entry) (O.held out.old) (O.held out.new)) }
+    ensures unprinted { IfErr result (λ _. CutsListing (Serves (S.facts store.now) given.entry) (O.held out.old) (O.held out.new)) }
     ensures asked { IfOk result (λ _. is_well_formed given.entry ≡ true) }
-    ensures first { IfErr result (OrUsage (is_well_formed given.entry) (RefusesList (S.facts shelf.now).lacked
-        (Serves (S.facts shelf.now) given.entry) (O.held out.old) (O.held out.new))) }
+    ensures first { IfErr result (OrUsage (is_well_formed given.entry) (RefusesList (S.facts store.now).lacked
+        (Serves (S.facts store.now) given.entry) (O.held out.old) (O.held out.new))) }
 {
     let request = request_of(given).ok_or(Refusal::Usage)?;
-    run_list(alloc, shelf, request, out)?;
+    run_list(alloc, store, request, out)?;
     Ok(0)
 }
 
 /// Opens the files of a request in their order, and lists the script.
-fn run_list<S: Shelf, O: ByteOut>(
+fn run_list<S: FileStore, O: ByteOut>(
     alloc: Global,
-    shelf: &S,
+    store: &S,
     request: ListRequest<'_>,
     out: &mut O,
 ) -> Result<(), Refusal>
     requires { O.count out.old < 2 ^ 64 - 1 }
-    ensures printed { IfOk result (λ _. PrintsListing (IsTaskOf (S.facts shelf.now) request.entry) (O.held out.old) (O.held out.new)) }
-    ensures unprinted { IfErr result (λ _. CutsListing (IsTaskOf (S.facts shelf.now) request.entry) (O.held out.old) (O.held out.new)) }
-    ensures refused { IfErr result (RefusesList (S.facts shelf.now).lacked
-        (IsTaskOf (S.facts shelf.now) request.entry) (O.held out.old) (O.held out.new)) }
+    ensures printed { IfOk result (λ _. PrintsListing (IsTaskOf (S.facts store.now) request.entry) (O.held out.old) (O.held out.new)) }
+    ensures unprinted { IfErr result (λ _. CutsListing (IsTaskOf (S.facts store.now) request.entry) (O.held out.old) (O.held out.new)) }
+    ensures refused { IfErr result (RefusesList (S.facts store.now).lacked
+        (IsTaskOf (S.facts store.now) request.entry) (O.held out.old) (O.held out.new)) }
 {
-    let tables = tables_of(alloc, shelf, request.setup.chip)?;
-    let (mut script, _place, _len) = shelf.open(request.script, FileName::Script)?;
+    let tables = tables_of(alloc, store, request.setup.chip)?;
+    let (mut script, _place, _len) = store.open(request.script, FileName::Script)?;
     let inputs = setup_inputs(request.setup, tables.as_slice());
     list_script(alloc, &inputs, &mut script, out)
 }

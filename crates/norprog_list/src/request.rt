@@ -3,7 +3,7 @@
 ghost use Rattle.std.specs.Prelude.{◌≡◌, is_some, IfSome};
 ghost use Rattle.norprog_list.specs.Request.{is_well_formed, AsksFor};
 
-use norprog_common::{GivenList, Setup, setup_of};
+use norprog_common::{ListArgs, Setup, setup_of};
 
 /// What `list` is asked for: each value is of its form.
 #[derive(Clone, Copy)]
@@ -13,7 +13,7 @@ pub struct ListRequest<'a> {
 }
 
 /// The request that the values spell. None where one isn't of its form, or one that has to be there isn't.
-pub fn request_of<'a>(given: GivenList<'a>) -> Option<ListRequest<'a>>
+pub fn request_of<'a>(given: ListArgs<'a>) -> Option<ListRequest<'a>>
     ensures forms { is_some result ≡ is_well_formed given.entry }
     ensures values { IfSome result (λ request. AsksFor given.entry request) }
 {

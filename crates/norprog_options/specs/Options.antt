@@ -4,15 +4,15 @@ use Rattle.clap.specs.Words.{first_value, matched_of, one_text, raw_values, rows
 use Rattle.clap.specs.declared.parser.matches.ArgMatches.{ArgMatches}
 use Rattle.clap.specs.declared.parser.matches.Found.{Found}
 use Rattle.norprog_common.specs.declared.given.Given.{Given}
-use Rattle.norprog_common.specs.declared.given.GivenBuild.{GivenBuild}
-use Rattle.norprog_common.specs.declared.given.GivenCheck.{GivenCheck}
-use Rattle.norprog_common.specs.declared.given.GivenChip.{GivenChip}
-use Rattle.norprog_common.specs.declared.given.GivenDraw.{GivenDraw}
-use Rattle.norprog_common.specs.declared.given.GivenList.{GivenList}
-use Rattle.norprog_common.specs.declared.given.GivenPlan.{GivenPlan}
-use Rattle.norprog_common.specs.declared.given.GivenPlay.{GivenPlay}
-use Rattle.norprog_common.specs.declared.given.GivenRun.{GivenRun}
-use Rattle.norprog_common.specs.declared.given.GivenSetup.{GivenSetup}
+use Rattle.norprog_common.specs.declared.given.BuildArgs.{BuildArgs}
+use Rattle.norprog_common.specs.declared.given.CheckArgs.{CheckArgs}
+use Rattle.norprog_common.specs.declared.given.ChipArgs.{ChipArgs}
+use Rattle.norprog_common.specs.declared.given.DrawArgs.{DrawArgs}
+use Rattle.norprog_common.specs.declared.given.ListArgs.{ListArgs}
+use Rattle.norprog_common.specs.declared.given.PlanArgs.{PlanArgs}
+use Rattle.norprog_common.specs.declared.given.PlayArgs.{PlayArgs}
+use Rattle.norprog_common.specs.declared.given.RunArgs.{RunArgs}
+use Rattle.norprog_common.specs.declared.given.SetupArgs.{SetupArgs}
 use Rattle.norprog_options.specs.declared.options.Asked.{Asked}
 use Rattle.norprog_options.specs.declared.options.Asked.TheVariants as command
 
@@ -30,7 +30,7 @@ pub record Sets (found : Found) (name : List ℕ) (flag : Bool) : Type 0 where
   pub unused : one_text found name ≡ Some (codes "false") → flag ≡ false
   pub absent : one_text found name ≡ None → flag ≡ false
 
-pub record IsChipIn (found : Found) (given : GivenChip) : Type 0 where
+pub record IsChipIn (found : Found) (given : ChipArgs) : Type 0 where
   pub sfdp : Has found (codes "sfdp") (option_map (λ t. t.now) given.sfdp)
   pub uniform : Has found (codes "uniform") (option_map (λ t. t.now) given.uniform)
   pub bits : Has found (codes "bits") (option_map (λ t. t.now) given.bits)
@@ -52,14 +52,14 @@ pub record IsJobIn (found : Found) (given : Given) : Type 0 where
   pub erased_only : Sets found (codes "erased-only") given.erased_only
   pub regions : given.regions.items ≡ texts_of found (codes "regions")
 
-pub record IsSetupIn (found : Found) (given : GivenSetup) : Type 0 where
+pub record IsSetupIn (found : Found) (given : SetupArgs) : Type 0 where
   pub chip : IsChipIn found given.chip
   pub status : Has found (codes "status") (option_map (λ t. t.now) given.status)
   pub mode4 : Sets found (codes "mode4") given.mode4
   pub quad : Sets found (codes "quad") given.quad
   pub erased_only : Sets found (codes "erased-only") given.erased_only
 
-pub record IsRunIn (found : Found) (given : GivenRun) : Type 0 where
+pub record IsRunIn (found : Found) (given : RunArgs) : Type 0 where
   pub setup : IsSetupIn found given.setup
   pub content : Has found (codes "content") (option_map (λ t. t.now) given.content)
   pub script : Has found (codes "script") (option_map (λ t. t.now) given.script)
@@ -69,17 +69,17 @@ pub record IsRunIn (found : Found) (given : GivenRun) : Type 0 where
   pub out : Has found (codes "out") (option_map (λ t. t.now) given.out)
   pub keep : Sets found (codes "keep") given.keep
 
-pub record IsListIn (found : Found) (given : GivenList) : Type 0 where
+pub record IsListIn (found : Found) (given : ListArgs) : Type 0 where
   pub setup : IsSetupIn found given.setup
   pub script : Has found (codes "script") (option_map (λ t. t.now) given.script)
 
-pub record IsDrawIn (found : Found) (given : GivenDraw) : Type 0 where
+pub record IsDrawIn (found : Found) (given : DrawArgs) : Type 0 where
   pub script : Has found (codes "script") (option_map (λ t. t.now) given.script)
   pub from : Has found (codes "from") (option_map (λ t. t.now) given.from)
   pub steps : Has found (codes "steps") (option_map (λ t. t.now) given.steps)
   pub out : Has found (codes "out") (option_map (λ t. t.now) given.out)
 
-pub record IsPlayIn (found : Found) (given : GivenPlay) : Type 0 where
+pub record IsPlayIn (found : Found) (given : PlayArgs) : Type 0 where
   pub setup : IsSetupIn found given.setup
   pub content : Has found (codes "content") (option_map (λ t. t.now) given.content)
   pub script : Has found (codes "script") (option_map (λ t. t.now) given.script)
@@ -87,16 +87,16 @@ pub record IsPlayIn (found : Found) (given : GivenPlay) : Type 0 where
   pub limit : Has found (codes "limit") (option_map (λ t. t.now) given.limit)
   pub trust : Sets found (codes "trust") given.trust
 
-pub record IsBuildIn (found : Found) (given : GivenBuild) : Type 0 where
+pub record IsBuildIn (found : Found) (given : BuildArgs) : Type 0 where
   pub job : IsJobIn found given.job
   pub out : Has found (codes "out") (option_map (λ t. t.now) given.out)
 
-pub record IsPlanIn (found : Found) (given : GivenPlan) : Type 0 where
+pub record IsPlanIn (found : Found) (given : PlanArgs) : Type 0 where
   pub job : IsJobIn found given.job
   pub times : Sets found (codes "times") given.times
   pub map : Has found (codes "map") (option_map (λ t. t.now) given.map)
 
-pub record IsCheckIn (found : Found) (given : GivenCheck) : Type 0 where
+pub record IsCheckIn (found : Found) (given : CheckArgs) : Type 0 where
   pub job : IsJobIn found given.job
   pub script : Has found (codes "script") (option_map (λ t. t.now) given.script)
 

@@ -41,7 +41,7 @@ enum Group {
     /// How it stands.
     Start,
     /// How the chip in memory behaves.
-    Bench,
+    ChipBehaviour,
     /// Whether what is written is read back.
     Verify,
     /// The script's file.
@@ -325,7 +325,7 @@ static FORMS: [Form; 9] = [
             Group::Content,
             Group::Start,
             Group::Script,
-            Group::Bench,
+            Group::ChipBehaviour,
         ],
         choices: &[CONTENT_OUT],
     },
@@ -392,7 +392,7 @@ fn choices_of(group: Group) -> &'static [Choice] {
         Group::Chip => CHIP,
         Group::Content => CONTENT,
         Group::Start => START,
-        Group::Bench => BENCH,
+        Group::ChipBehaviour => BENCH,
         Group::Verify => VERIFY,
         Group::Script => SCRIPT,
     }

@@ -9,22 +9,22 @@ use clap::error::ErrorKind;
 use clap::{ArgMatches, Error};
 use nor_base::Bytes;
 use norprog_common::{
-    Given, GivenBuild, GivenCheck, GivenChip, GivenDraw, GivenList, GivenPlan, GivenPlay, GivenRun,
-    GivenSetup, Refusal,
+    BuildArgs, CheckArgs, ChipArgs, DrawArgs, Given, ListArgs, PlanArgs, PlayArgs, Refusal,
+    RunArgs, SetupArgs,
 };
 use std::alloc::Global;
 
 /// What stands on a command line, by its command.
 #[derive(Drop)]
 pub enum Asked<'a> {
-    Build(GivenBuild<'a>),
-    Plan(GivenPlan<'a>),
-    Check(GivenCheck<'a>),
-    Run(GivenRun<'a>),
-    List(GivenList<'a>),
-    Draw(GivenDraw<'a>),
-    Play(GivenPlay<'a>),
-    Sfdp(GivenChip<'a>),
+    Build(BuildArgs<'a>),
+    Plan(PlanArgs<'a>),
+    Check(CheckArgs<'a>),
+    Run(RunArgs<'a>),
+    List(ListArgs<'a>),
+    Draw(DrawArgs<'a>),
+    Play(PlayArgs<'a>),
+    Sfdp(ChipArgs<'a>),
     /// The words that are asked about.
     Explain(Vec<Bytes>),
 }
@@ -126,30 +126,30 @@ fn given_in<'a>(alloc: Global, job: &ArgMatches<'a>) -> Result<Given<'a>, Refusa
 }
 
 /// The build.
-fn build_in<'a>(alloc: Global, build: &ArgMatches<'a>) -> Result<GivenBuild<'a>, Refusal>
+fn build_in<'a>(alloc: Global, build: &ArgMatches<'a>) -> Result<BuildArgs<'a>, Refusal>
     ensures { IfOk result (IsBuildIn (found_of build.now)) }
 {
-    Ok(GivenBuild {
+    Ok(BuildArgs {
         job: given_in(alloc, build)?,
         out: build.get_str("out"),
     })
 }
 
 /// The check of a script.
-fn check_in<'a>(alloc: Global, check: &ArgMatches<'a>) -> Result<GivenCheck<'a>, Refusal>
+fn check_in<'a>(alloc: Global, check: &ArgMatches<'a>) -> Result<CheckArgs<'a>, Refusal>
     ensures { IfOk result (IsCheckIn (found_of check.now)) }
 {
-    Ok(GivenCheck {
+    Ok(CheckArgs {
         job: given_in(alloc, check)?,
         script: check.get_str("script"),
     })
 }
 
 /// The plan.
-fn plan_in<'a>(alloc: Global, plan: &ArgMatches<'a>) -> Result<GivenPlan<'a>, Refusal>
+fn plan_in<'a>(alloc: Global, plan: &ArgMatches<'a>) -> Result<PlanArgs<'a>, Refusal>
     ensures { IfOk result (IsPlanIn (found_of plan.now)) }
 {
-    Ok(GivenPlan {
+    Ok(PlanArgs {
         job: given_in(alloc, plan)?,
         times: plan.get_flag("times"),
         map: plan.get_str("map"),
@@ -157,10 +157,10 @@ fn plan_in<'a>(alloc: Global, plan: &ArgMatches<'a>) -> Result<GivenPlan<'a>, Re
 }
 
 /// The chip.
-fn chip_in<'a>(chip: &ArgMatches<'a>) -> GivenChip<'a>
+fn chip_in<'a>(chip: &ArgMatches<'a>) -> ChipArgs<'a>
     ensures { IsChipIn (found_of chip.now) result }
 {
-    GivenChip {
+    ChipArgs {
         sfdp: chip.get_str("sfdp"),
         uniform: chip.get_str("uniform"),
         bits: chip.get_str("bits"),
@@ -169,10 +169,10 @@ fn chip_in<'a>(chip: &ArgMatches<'a>) -> GivenChip<'a>
 }
 
 /// The chip and how it begins.
-fn setup_in<'a>(setup: &ArgMatches<'a>) -> GivenSetup<'a>
+fn setup_in<'a>(setup: &ArgMatches<'a>) -> SetupArgs<'a>
     ensures { IsSetupIn (found_of setup.now) result }
 {
-    GivenSetup {
+    SetupArgs {
         chip: chip_in(setup),
         status: setup.get_str("status"),
         mode4: setup.get_flag("mode4"),
@@ -182,10 +182,10 @@ fn setup_in<'a>(setup: &ArgMatches<'a>) -> GivenSetup<'a>
 }
 
 /// The play.
-fn run_in<'a>(run: &ArgMatches<'a>) -> GivenRun<'a>
+fn run_in<'a>(run: &ArgMatches<'a>) -> RunArgs<'a>
     ensures { IsRunIn (found_of run.now) result }
 {
-    GivenRun {
+    RunArgs {
         setup: setup_in(run),
         content: run.get_str("content"),
         script: run.get_str("script"),
@@ -198,20 +198,20 @@ fn run_in<'a>(run: &ArgMatches<'a>) -> GivenRun<'a>
 }
 
 /// The listing.
-fn list_in<'a>(list: &ArgMatches<'a>) -> GivenList<'a>
+fn list_in<'a>(list: &ArgMatches<'a>) -> ListArgs<'a>
     ensures { IsListIn (found_of list.now) result }
 {
-    GivenList {
+    ListArgs {
         setup: setup_in(list),
         script: list.get_str("script"),
     }
 }
 
 /// The waveform.
-fn draw_in<'a>(draw: &ArgMatches<'a>) -> GivenDraw<'a>
+fn draw_in<'a>(draw: &ArgMatches<'a>) -> DrawArgs<'a>
     ensures { IsDrawIn (found_of draw.now) result }
 {
-    GivenDraw {
+    DrawArgs {
         script: draw.get_str("script"),
         from: draw.get_str("from"),
         steps: draw.get_str("steps"),
@@ -220,10 +220,10 @@ fn draw_in<'a>(draw: &ArgMatches<'a>) -> GivenDraw<'a>
 }
 
 /// The play on a device.
-fn play_in<'a>(play: &ArgMatches<'a>) -> GivenPlay<'a>
+fn play_in<'a>(play: &ArgMatches<'a>) -> PlayArgs<'a>
     ensures { IsPlayIn (found_of play.now) result }
 {
-    GivenPlay {
+    PlayArgs {
         setup: setup_in(play),
         content: play.get_str("content"),
         script: play.get_str("script"),

@@ -26,8 +26,8 @@ use Rattle.norprog.specs.declared.report.Report.{Report}
 use Rattle.norprog_common.specs.declared.faults.FileName.{FileName}
 use Rattle.norprog_common.specs.declared.faults.Refusal.{Refusal}
 use Rattle.norprog_common.specs.declared.faults.Refusal.TheVariants.{Build}
-use Rattle.norprog_common.specs.declared.given.GivenPlan.{GivenPlan}
-use Rattle.norprog_common.specs.Shelf.{FileFacts}
+use Rattle.norprog_common.specs.declared.given.PlanArgs.{PlanArgs}
+use Rattle.norprog_common.specs.FileStore.{FileFacts}
 use Rattle.norprog_common.specs.Told.{ForAsked, OfFault, RefusesFor, AnswersAsked}
 use Rattle.norprog_common.specs.Served.{Job}
 use Rattle.norprog_plan.specs.Served.{asks_plan, ServesPlan}
@@ -161,7 +161,7 @@ RefusesPlan Lacked Sent times Asked before after =
 
 -- what `plan` answers to the texts of a command line: the lines and the report at status 0, after the picture has gone out where one
 -- is asked for; or a refusal
-abbrev pub AnswersPlan : FileFacts → GivenPlan → Option (List ℕ) → Option (List ℕ) → Type 0 → Type 0 → Option (List ℕ) → Option (List ℕ) → ℕ → Type 0
+abbrev pub AnswersPlan : FileFacts → PlanArgs → Option (List ℕ) → Option (List ℕ) → Type 0 → Type 0 → Option (List ℕ) → Option (List ℕ) → ℕ → Type 0
 AnswersPlan files given before after Quiet Works told_before told_after status =
     AnswersAsked (asks_plan given)
     ((status ≡ 0) × PrintsPlan files.flushed given.times (ServesPlan files given) before after × Quiet)

@@ -1,14 +1,14 @@
 -- The job that a command line of `plan` asks for (this project's).
 use Rattle.std.specs.Prelude.{option_map, Bool}
-use Rattle.norprog_common.specs.Shelf.{FileFacts}
-use Rattle.norprog_common.specs.declared.given.GivenPlan.{GivenPlan}
+use Rattle.norprog_common.specs.FileStore.{FileFacts}
+use Rattle.norprog_common.specs.declared.given.PlanArgs.{PlanArgs}
 use Rattle.norprog_common.specs.Request.{is_well_formed}
 use Rattle.norprog_common.specs.Served.{Job, Serves}
 
 -- a job
-abbrev pub asks_plan : GivenPlan → Bool
+abbrev pub asks_plan : PlanArgs → Bool
 asks_plan given = is_well_formed given.job
 
 -- the picture's file is made, where there is one
-abbrev pub ServesPlan : FileFacts → GivenPlan → Job → Type 0
+abbrev pub ServesPlan : FileFacts → PlanArgs → Job → Type 0
 ServesPlan files given = Serves files given.job (option_map (λ t. t.now) given.map)

@@ -6,7 +6,7 @@ ghost use Rattle.nor_base.specs.Device.{Cuts};
 ghost use Rattle.nor_job.specs.declared.fault.BuildFault.TheVariants.{Write};
 ghost use Rattle.norprog_common.specs.declared.faults.Refusal.TheVariants.{Build};
 ghost use Rattle.norprog_common.specs.Files.{TellsFile};
-ghost use Rattle.norprog_common.specs.Shelf.{IsMadeApart, WhereNamed};
+ghost use Rattle.norprog_common.specs.FileStore.{IsMadeApart, WhereNamed};
 ghost use Rattle.norprog_common.specs.Told.{ForAsked, OrUsage};
 ghost use Rattle.norprog_plan.specs.Served.{asks_plan, ServesPlan};
 ghost use Rattle.norprog_plan.specs.Answer.{IsPart, IsWhole, StopsTask, PrintsPlan, CutsPlan, RefusesPlan, AnswersPlan};
@@ -15,7 +15,8 @@ ghost use Rattle.norprog_common.specs.Served.{Job, IsJobOf, AreGiven, held_in, i
 use crate::outline::{Outline, outline_of};
 use nor_base::{ByteOut, put_all, put_parts};
 use norprog_common::{
-    FileName, GivenPlan, Refusal, Request, Shelf, Texts, answered, inputs_of, open_job, request_of,
+    FileName, FileStore, PlanArgs, Refusal, Request, Texts, answered, inputs_of, open_job,
+    request_of,
 };
 use std::alloc::Global;
 
@@ -26,10 +27,10 @@ use std::alloc::Global;
 /// the text.
 ///
 /// Usage is told where the texts ask for no plan.
-pub fn plan<S: Shelf, O: ByteOut, E: ByteOut>(
+pub fn plan<S: FileStore, O: ByteOut, E: ByteOut>(
     alloc: Global,
-    shelf: &S,
-    given: GivenPlan<'_>,
+    store: &S,
+    given: PlanArgs<'_>,
     out: &mut O,
     err: &mut E,
 ) -> u8
@@ -37,32 +38,32 @@ pub fn plan<S: Shelf, O: ByteOut, E: ByteOut>(
     requires err { E.count err.old < 2 ^ 64 - 1 }
     ensures status { result ≤ 2 }
     ensures quiet { result ≡ 0 → err.new ≡ err.old }
-    ensures answer { AnswersPlan (S.facts shelf.now) given.entry (O.held out.old) (O.held out.new) (err.new ≡ err.old)
+    ensures answer { AnswersPlan (S.facts store.now) given.entry (O.held out.old) (O.held out.new) (err.new ≡ err.old)
         (E.count err.new ≡ E.count err.old) (E.held err.old) (E.held err.new) result }
 {
-    answered(report_plan(alloc, shelf, given, out), err)
+    answered(report_plan(alloc, store, given, out), err)
 }
 
 /// Plans what is asked for, and prints what tells it.
-fn report_plan<S: Shelf, O: ByteOut>(
+fn report_plan<S: FileStore, O: ByteOut>(
     alloc: Global,
-    shelf: &S,
-    given: GivenPlan<'_>,
+    store: &S,
+    given: PlanArgs<'_>,
     out: &mut O,
 ) -> Result<u8, Refusal>
     requires { O.count out.old < 2 ^ 64 - 1 }
     ensures status { IfOk result (λ status. status ≡ 0) }
-    ensures printed { IfOk result (λ _. PrintsPlan (S.facts shelf.now).flushed given.entry.times
-        (ServesPlan (S.facts shelf.now) given.entry) (O.held out.old) (O.held out.new)) }
-    ensures unprinted { IfErr result (λ _. CutsPlan (S.facts shelf.now).flushed given.entry.times
-        (ServesPlan (S.facts shelf.now) given.entry) (O.held out.old) (O.held out.new)) }
+    ensures printed { IfOk result (λ _. PrintsPlan (S.facts store.now).flushed given.entry.times
+        (ServesPlan (S.facts store.now) given.entry) (O.held out.old) (O.held out.new)) }
+    ensures unprinted { IfErr result (λ _. CutsPlan (S.facts store.now).flushed given.entry.times
+        (ServesPlan (S.facts store.now) given.entry) (O.held out.old) (O.held out.new)) }
     ensures asked { IfOk result (λ _. asks_plan given.entry ≡ true) }
-    ensures first { IfErr result (OrUsage (asks_plan given.entry) (RefusesPlan (S.facts shelf.now).lacked (S.facts shelf.now).flushed
-        given.entry.times (ServesPlan (S.facts shelf.now) given.entry) (O.held out.old) (O.held out.new))) }
+    ensures first { IfErr result (OrUsage (asks_plan given.entry) (RefusesPlan (S.facts store.now).lacked (S.facts store.now).flushed
+        given.entry.times (ServesPlan (S.facts store.now) given.entry) (O.held out.old) (O.held out.new))) }
 {
-    let GivenPlan { job, times, map } = given;
+    let PlanArgs { job, times, map } = given;
     let request = request_of(job).ok_or(Refusal::Usage)?;
-    let Outline { lines, rest } = run_plan(alloc, shelf, &request, times, map);
+    let Outline { lines, rest } = run_plan(alloc, store, &request, times, map);
     match rest {
         Ok(rest) => print_whole(lines.as_slice(), rest.as_slice(), out),
         Err(refusal) => Err(print_lines(lines.as_slice(), refusal, out)),
@@ -111,21 +112,21 @@ struct PlanFiles<I, O> {
 }
 
 /// Opens the files of a request in their order, and plans.
-fn run_plan<S: Shelf>(
+fn run_plan<S: FileStore>(
     alloc: Global,
-    shelf: &S,
+    store: &S,
     request: &Request<'_>,
     times: bool,
     map: Option<&str>,
 ) -> Outline
-    ensures whole { IfOk result.rest (λ rest. ForAsked Job (IsJobOf (S.facts shelf.now) request.now (option_map (λ t. t.now) map.entry))
-        (IsWhole (S.facts shelf.now).flushed times result.lines.items rest.items)) }
+    ensures whole { IfOk result.rest (λ rest. ForAsked Job (IsJobOf (S.facts store.now) request.now (option_map (λ t. t.now) map.entry))
+        (IsWhole (S.facts store.now).flushed times result.lines.items rest.items)) }
     ensures part { IfErr result.rest (λ _. (result.lines.items ≡ [])
-        ⊎ ForAsked Job (IsJobOf (S.facts shelf.now) request.now (option_map (λ t. t.now) map.entry)) (IsPart result.lines.items)) }
-    ensures refused { IfErr result.rest (StopsTask (S.facts shelf.now).lacked
-        (IsJobOf (S.facts shelf.now) request.now (option_map (λ t. t.now) map.entry))) }
+        ⊎ ForAsked Job (IsJobOf (S.facts store.now) request.now (option_map (λ t. t.now) map.entry)) (IsPart result.lines.items)) }
+    ensures refused { IfErr result.rest (StopsTask (S.facts store.now).lacked
+        (IsJobOf (S.facts store.now) request.now (option_map (λ t. t.now) map.entry))) }
 {
-    match open_files(alloc, shelf, request, map) {
+    match open_files(alloc, store, request, map) {
         Ok(files) => {
             let PlanFiles {
                 texts,
@@ -134,7 +135,7 @@ fn run_plan<S: Shelf>(
                 map,
             } = files;
             let inputs = inputs_of(request, &texts);
-            outline_of(alloc, shelf, &inputs, &mut content, len, times, map)
+            outline_of(alloc, store, &inputs, &mut content, len, times, map)
         }
         Err(refusal) => Outline {
             lines: Vec::new(alloc),
@@ -144,24 +145,24 @@ fn run_plan<S: Shelf>(
 }
 
 /// Opens the files of a request in their order, and then makes the file for the picture where there is one.
-fn open_files<S: Shelf>(
+fn open_files<S: FileStore>(
     alloc: Global,
-    shelf: &S,
+    store: &S,
     request: &Request<'_>,
     map: Option<&str>,
 ) -> Result<PlanFiles<S::Input, S::Output>, Refusal>
-    ensures given { IfOk result (λ files. AreGiven (S.facts shelf.now) request.now (held_in files.texts)) }
-    ensures content { IfOk result (λ files. (S.facts shelf.now).opened request.now.content.now (S.Input.ahead files.content) files.len) }
+    ensures given { IfOk result (λ files. AreGiven (S.facts store.now) request.now (held_in files.texts)) }
+    ensures content { IfOk result (λ files. (S.facts store.now).opened request.now.content.now (S.Input.ahead files.content) files.len) }
     ensures count { IfOk result (λ files. S.Input.count files.content ≡ 0) }
-    ensures made { IfOk result (λ files. WhereNamed (IsMadeApart (S.facts shelf.now) (input_files_of request.now))
+    ensures made { IfOk result (λ files. WhereNamed (IsMadeApart (S.facts store.now) (input_files_of request.now))
         (option_map (λ t. t.now) map.entry) (option_map S.Output.held files.map)) }
     ensures fresh { IfOk result (λ files. IfSome files.map (λ file. S.Output.count file ≡ 0)) }
-    ensures lacked { IfErr result (TellsFile (S.facts shelf.now).lacked) }
+    ensures lacked { IfErr result (TellsFile (S.facts store.now).lacked) }
 {
     let mut places = Vec::new(alloc);
-    let (texts, content, len) = open_job(alloc, shelf, request, &mut places)?;
+    let (texts, content, len) = open_job(alloc, store, request, &mut places)?;
     let map = match map {
-        Some(path) => Some(shelf.create(alloc, path, FileName::Map, places.as_slice())?),
+        Some(path) => Some(store.create(alloc, path, FileName::Map, places.as_slice())?),
         None => None,
     };
     Ok(PlanFiles {

@@ -18,15 +18,15 @@ use nor_job::{Inputs, chip_of};
 use nor_layout::{Chosen, Region};
 use nor_map::{Grid, write_map};
 use nor_plan_read::PlanLine;
-use norprog_common::{Refusal, Shelf};
+use norprog_common::{FileStore, Refusal};
 use std::alloc::Global;
 
 /// Draws the plan of the inputs that these lines tell into a file, with the text behind the lines.
 ///
 /// `Write` where the file fails, also at its flush, and `Memory` where a growth is refused.
-pub(crate) fn draw_file<S: Shelf>(
+pub(crate) fn draw_file<S: FileStore>(
     alloc: Global,
-    shelf: &S,
+    store: &S,
     inputs: &Inputs<'_>,
     text: &[u8],
     rest: &[u8],
@@ -34,11 +34,11 @@ pub(crate) fn draw_file<S: Shelf>(
 ) -> Result<(), Refusal>
     requires { S.Output.count file.old < 2 ^ 64 - 1 }
     ensures drawn { (report : Report) (len : ℕ) (ahead : Ahead) (of : IsLines text.now report inputs.now len ahead)
-        → IfOk result (λ _. IsDrawn (S.facts shelf.now).flushed (S.Output.held file.old) inputs.now of.planned.m (read_lines of) rest.now) }
+        → IfOk result (λ _. IsDrawn (S.facts store.now).flushed (S.Output.held file.old) inputs.now of.planned.m (read_lines of) rest.now) }
     ensures refused { IfErr result LacksOutput }
 {
     draw(alloc, inputs, text, rest, file)?;
-    match shelf.flush(file) {
+    match store.flush(file) {
         Ok(()) => Ok(()),
         Err(_) => Err(Refusal::WRITE),
     }

@@ -20,7 +20,7 @@ use nor_job::{BuildFault, Inputs, Source, chip_of};
 use nor_plan_read::{PlanLine, read_plan};
 use nor_times::{bus_clocks, busy_time, read_times, text_of_plan, write_times};
 use norprog::{Report, plan, write_report};
-use norprog_common::{Refusal, Shelf};
+use norprog_common::{FileStore, Refusal};
 use std::alloc::Global;
 
 /// The text that tells a plan.
@@ -33,9 +33,9 @@ pub(crate) struct Outline {
 
 /// What tells the plan of the inputs, with the lines of its times where they are asked for; it is drawn where there is a file for
 /// that. Memory is taken for the text.
-pub(crate) fn outline_of<S: Shelf, R: ByteIn>(
+pub(crate) fn outline_of<S: FileStore, R: ByteIn>(
     alloc: Global,
-    shelf: &S,
+    store: &S,
     inputs: &Inputs<'_>,
     content: &mut R,
     len: u64,
@@ -44,18 +44,18 @@ pub(crate) fn outline_of<S: Shelf, R: ByteIn>(
 ) -> Outline
     requires content { R.count content.old < 2 ^ 64 - 1 }
     requires map { IfSome map (λ file. S.Output.count file < 2 ^ 64 - 1) }
-    ensures whole { IfOk result.rest (λ rest. IsWhole (S.facts shelf.now).flushed times result.lines.items rest.items
+    ensures whole { IfOk result.rest (λ rest. IsWhole (S.facts store.now).flushed times result.lines.items rest.items
         (job_with inputs.now (R.ahead content.old) len (option_map S.Output.held map))) }
     ensures part { IfErr result.rest (λ _. (result.lines.items ≡ [])
         ⊎ IsPart result.lines.items (job_with inputs.now (R.ahead content.old) len (option_map S.Output.held map))) }
-    ensures refused { IfErr result.rest (StopsTask (S.facts shelf.now).lacked
+    ensures refused { IfErr result.rest (StopsTask (S.facts store.now).lacked
         (Is (job_with inputs.now (R.ahead content.old) len (option_map S.Output.held map)))) }
 {
     let mut lines = IntoWrite::new(Vec::new(alloc));
     match plan(alloc, inputs, content, len, &mut lines) {
         Ok(report) => {
             let lines = lines.inner;
-            let rest = rest_of(alloc, shelf, inputs, &report, lines.as_slice(), times, map);
+            let rest = rest_of(alloc, store, inputs, &report, lines.as_slice(), times, map);
             Outline { lines, rest }
         }
         Err(fault) => Outline {
@@ -68,9 +68,9 @@ pub(crate) fn outline_of<S: Shelf, R: ByteIn>(
 /// What stands behind the lines of a plan, which is drawn where there is a file for that.
 ///
 /// `Write` where that file fails, and `Memory` where a growth is refused.
-fn rest_of<S: Shelf>(
+fn rest_of<S: FileStore>(
     alloc: Global,
-    shelf: &S,
+    store: &S,
     inputs: &Inputs<'_>,
     report: &Report,
     lines: &[u8],
@@ -81,13 +81,13 @@ fn rest_of<S: Shelf>(
     ensures rest { (len : ℕ) (ahead : Ahead) (of : IsLines lines.now report.now inputs.now len ahead)
         → IfOk result (λ rest. rest.items ≡ behind_lines times report.now inputs.now of.planned.m (read_lines of)) }
     ensures drawn { (len : ℕ) (ahead : Ahead) (of : IsLines lines.now report.now inputs.now len ahead)
-        → IfOk result (λ rest. Draws (S.facts shelf.now).flushed (option_map S.Output.held map) inputs.now of.planned.m (read_lines of)
+        → IfOk result (λ rest. Draws (S.facts store.now).flushed (option_map S.Output.held map) inputs.now of.planned.m (read_lines of)
         rest.items) }
     ensures refused { IfErr result (λ why. (why ≡ Build Memory) ⊎ ((is_some map ≡ true) × (why ≡ Build Write))) }
 {
     let rest = behind_lines(alloc, inputs, report, lines, times)?;
     if let Some(mut file) = map {
-        draw_file(alloc, shelf, inputs, lines, rest.as_slice(), &mut file)?;
+        draw_file(alloc, store, inputs, lines, rest.as_slice(), &mut file)?;
         return Ok(rest);
     }
     Ok(rest)

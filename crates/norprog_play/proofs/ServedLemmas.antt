@@ -9,11 +9,11 @@ use Rattle.nor_job.specs.Status.{start_of}
 use Rattle.nor_job.specs.Task.{Task}
 use Rattle.norprog_common.specs.declared.faults.FileName.{FileName}
 use Rattle.norprog_common.specs.declared.faults.Refusal.{Refusal}
-use Rattle.norprog_common.specs.declared.given.GivenPlay.{GivenPlay}
+use Rattle.norprog_common.specs.declared.given.PlayArgs.{PlayArgs}
 use Rattle.norprog_common.specs.Chip.{origin_of}
 use Rattle.norprog_common.specs.Files.{TellsFile}
 use Rattle.norprog_common.specs.Setup.{setup_task}
-use Rattle.norprog_common.specs.Shelf.{AreTables, FileFacts, Named}
+use Rattle.norprog_common.specs.FileStore.{AreTables, FileFacts, Named}
 use Rattle.norprog_common.specs.Told.{line_fault}
 use Rattle.norprog_common.proofs.ToldLemmas.{asked_wider, refuses_wider, by_fault, by_files}
 use Rattle.norprog_play.specs.declared.ending.Ending.{Ending}
@@ -27,7 +27,7 @@ use Rattle.norprog_play.specs.Request.{is_well_formed, AsksFor}
 use Rattle.norprog_play.specs.Served.{PlayTask, IsTaskOf, Serves, OfPlay}
 
 -- a play of a request that the texts ask for is one that they ask for
-serves : (files : FileFacts) (given : GivenPlay) (request : PlayRequest) → AsksFor given request → (t : PlayTask) → IsTaskOf files request t → Serves files given t
+serves : (files : FileFacts) (given : PlayArgs) (request : PlayRequest) → AsksFor given request → (t : PlayTask) → IsTaskOf files request t → Serves files given t
 serves files given request asks t of = record {
   chip = record { setup = request.setup; asks = asks.setup; task = of.chip };
   text = subst (λ s. Named (λ name. files.gave name t.text) (option_map (λ t. t.now) s)) (sym asks.script) of.text;
@@ -36,22 +36,22 @@ serves files given request asks t of = record {
   trusted = rw of.trusted asks.trust;
 }
 
-on_line : (files : FileFacts) (line : Result GivenPlay Refusal) (given : GivenPlay) (request : PlayRequest) → line ≡ Ok given → AsksFor given request
+on_line : (files : FileFacts) (line : Result PlayArgs Refusal) (given : PlayArgs) (request : PlayRequest) → line ≡ Ok given → AsksFor given request
     → (t : PlayTask) → IsTaskOf files request t → OfPlay files line t
 on_line files line given request is asks t of = rw is (serves files given request asks t of)
 
-ending_asked : (files : FileFacts) (line : Result GivenPlay Refusal) (given : GivenPlay) (request : PlayRequest) (ending : Ending) → line ≡ Ok given → AsksFor given request
+ending_asked : (files : FileFacts) (line : Result PlayArgs Refusal) (given : PlayArgs) (request : PlayRequest) (ending : Ending) → line ≡ Ok given → AsksFor given request
     → IsEnding (IsTaskOf files request) ending → IsEnding (OfPlay files line) ending
 ending_asked files line given request ending is asks of =
     asked_wider PlayTask (IsTaskOf files request) (OfPlay files line) (IsEndingOf ending) (on_line files line given request is asks) of
 
-pub endings_asked : (files : FileFacts) (line : Result GivenPlay Refusal) (given : GivenPlay) (request : PlayRequest) (r : Result Ending Unplayed) → line ≡ Ok given → AsksFor given request
+pub endings_asked : (files : FileFacts) (line : Result PlayArgs Refusal) (given : PlayArgs) (request : PlayRequest) (r : Result Ending Unplayed) → line ≡ Ok given → AsksFor given request
     → IfOk r (IsEnding (IsTaskOf files request)) → IfOk r (IsEnding (OfPlay files line))
 endings_asked files line given request (Ok ending) is asks of = ending_asked files line given request ending is asks of
 endings_asked files line given request (Err why) is asks of = tt
 
 -- and why it isn't played
-pub refusals_asked : (files : FileFacts) (line : Result GivenPlay Refusal) (given : GivenPlay) (request : PlayRequest) (r : Result Ending Unplayed) → line ≡ Ok given → AsksFor given request
+pub refusals_asked : (files : FileFacts) (line : Result PlayArgs Refusal) (given : PlayArgs) (request : PlayRequest) (r : Result Ending Unplayed) → line ≡ Ok given → AsksFor given request
     → line_fault is_well_formed line ≡ None → IfErr r (IsUnplayed files.lacked (IsTaskOf files request))
     → IfErr r (RefusesLine (line_fault is_well_formed line) files.lacked (OfPlay files line))
 refusals_asked files line given request (Ok ending) is asks none of = tt

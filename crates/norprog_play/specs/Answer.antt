@@ -8,8 +8,8 @@ use Rattle.nor_job.specs.Status.{start_of}
 use Rattle.nor_serprog.specs.declared.fault.GreetFault.{GreetFault}
 use Rattle.norprog_common.specs.declared.faults.FileName.{FileName}
 use Rattle.norprog_common.specs.declared.faults.Refusal.{Refusal}
-use Rattle.norprog_common.specs.declared.given.GivenPlay.{GivenPlay}
-use Rattle.norprog_common.specs.Shelf.{FileFacts}
+use Rattle.norprog_common.specs.declared.given.PlayArgs.{PlayArgs}
+use Rattle.norprog_common.specs.FileStore.{FileFacts}
 use Rattle.norprog_common.specs.Told.{ForAsked, RefusesFor, Refuses, line_fault, TellsOf}
 use Rattle.norprog_play.specs.declared.ending.Ending.{Ending}
 use Rattle.norprog_play.specs.declared.unplayed.Unplayed.{Unplayed}
@@ -67,7 +67,7 @@ RefusesLine cause Lacked Asked (Refused why) = Refuses cause (RefusesPlay Lacked
 RefusesLine cause Lacked Asked (Device why) = (cause ≡ None) × IsGreeting Asked why
 
 -- why what a command line asks for isn't played
-abbrev pub RefusesToPlay : FileFacts → Result GivenPlay Refusal → Unplayed → Type 0
+abbrev pub RefusesToPlay : FileFacts → Result PlayArgs Refusal → Unplayed → Type 0
 RefusesToPlay files line = RefusesLine (line_fault is_well_formed line) files.lacked (OfPlay files line)
 
 -- nothing was printed, or a proper prefix of the line of such an ending
@@ -102,7 +102,7 @@ pub record TellsGreeting (Asked : PlayTask → Type 0) (before after : Option (L
   pub told : Works → Appends told_before told_after (device_line why)
 
 -- what `play` answers to a command line: the line of the ending, whose status it is; the handshake's fault; or a refusal
-abbrev pub AnswersPlay : FileFacts → Result GivenPlay Refusal → Option (List ℕ) → Option (List ℕ) → Type 0 → Type 0 → Option (List ℕ) → Option (List ℕ) → ℕ → Type 0
+abbrev pub AnswersPlay : FileFacts → Result PlayArgs Refusal → Option (List ℕ) → Option (List ℕ) → Type 0 → Type 0 → Option (List ℕ) → Option (List ℕ) → ℕ → Type 0
 AnswersPlay files line before after Quiet Works told_before told_after status =
     ((line_fault is_well_formed line ≡ None) × PrintsEnding (OfPlay files line) before after Quiet Works told_before told_after status)
     ⊎ (((line_fault is_well_formed line ≡ None) × TellsGreeting (OfPlay files line) before after Works told_before told_after status)

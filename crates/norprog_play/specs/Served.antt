@@ -3,9 +3,9 @@ use Rattle.std.specs.Prelude.{◌≡◌, ℕ, Bool, List, Some, Result, option_m
 use Rattle.nor_base.specs.Device.{Ahead}
 use Rattle.nor_job.specs.Task.{Task}
 use Rattle.norprog_common.specs.declared.faults.Refusal.{Refusal}
-use Rattle.norprog_common.specs.declared.given.GivenPlay.{GivenPlay}
+use Rattle.norprog_common.specs.declared.given.PlayArgs.{PlayArgs}
 use Rattle.norprog_common.specs.Setup.{IsSetupTask, ServesSetup}
-use Rattle.norprog_common.specs.Shelf.{FileFacts, Named}
+use Rattle.norprog_common.specs.FileStore.{FileFacts, Named}
 use Rattle.norprog_common.specs.Told.{OfLine}
 use Rattle.norprog_common.specs.Values.{limit_of}
 use Rattle.norprog_play.specs.declared.request.PlayRequest.{PlayRequest}
@@ -30,7 +30,7 @@ pub record IsTaskOf (files : FileFacts) (request : PlayRequest) (t : PlayTask) :
   pub trusted : t.trusted ≡ request.trust
 
 -- what the texts ask for, each by the value that its text spells, each file by its name
-pub record Serves (files : FileFacts) (given : GivenPlay) (t : PlayTask) : Type 0 where
+pub record Serves (files : FileFacts) (given : PlayArgs) (t : PlayTask) : Type 0 where
   pub chip : ServesSetup files given.setup t.chip
   pub text : Named (λ name. files.gave name t.text) (option_map (λ t. t.now) given.script)
   pub content : Named (λ name. files.opened name t.content t.len) (option_map (λ t. t.now) given.content)
@@ -38,5 +38,5 @@ pub record Serves (files : FileFacts) (given : GivenPlay) (t : PlayTask) : Type 
   pub trusted : t.trusted ≡ given.trust
 
 -- of a command line: what it asks for, where it was read
-abbrev pub OfPlay : FileFacts → Result GivenPlay Refusal → PlayTask → Type 0
+abbrev pub OfPlay : FileFacts → Result PlayArgs Refusal → PlayTask → Type 0
 OfPlay files = OfLine (Serves files)

@@ -24,7 +24,7 @@ use crate::unplayed::Unplayed;
 use nor_base::{ByteOut, Meaning, Start, Step};
 use nor_chip::Chip;
 use nor_serprog::Shadowed;
-use norprog_common::{FileName, GivenPlay, Refusal, Shelf, refuse, setup_inputs, tables_of};
+use norprog_common::{FileName, FileStore, PlayArgs, Refusal, refuse, setup_inputs, tables_of};
 use std::alloc::Global;
 use std::io::BufReader;
 
@@ -39,10 +39,10 @@ use std::io::BufReader;
 ///
 /// `given` is what stands on the command line, or why that couldn't be read, which is told. Usage is told where the texts
 /// ask for no play.
-pub fn play<S: Shelf, O: ByteOut, E: ByteOut, P: ByteOut>(
+pub fn play<S: FileStore, O: ByteOut, E: ByteOut, P: ByteOut>(
     alloc: Global,
-    shelf: &S,
-    given: Result<GivenPlay<'_>, Refusal>,
+    store: &S,
+    given: Result<PlayArgs<'_>, Refusal>,
     out: &mut O,
     err: &mut E,
     progress: &mut P,
@@ -52,10 +52,10 @@ pub fn play<S: Shelf, O: ByteOut, E: ByteOut, P: ByteOut>(
     requires progress { P.count progress.old < 2 ^ 64 - 1 }
     ensures status { result ≤ 2 }
     ensures quiet { result ≡ 0 → err.new ≡ err.old }
-    ensures answer { AnswersPlay (S.facts shelf.now) given.entry (O.held out.old) (O.held out.new) (err.new ≡ err.old)
+    ensures answer { AnswersPlay (S.facts store.now) given.entry (O.held out.old) (O.held out.new) (err.new ≡ err.old)
         (E.count err.new ≡ E.count err.old) (E.held err.old) (E.held err.new) result }
 {
-    match report_play(alloc, shelf, given, out, progress) {
+    match report_play(alloc, store, given, out, progress) {
         Ok(ending) => tell_state(&ending, err),
         Err(Unplayed::Refused(refusal)) => refuse(&refusal, err),
         Err(Unplayed::Device(fault)) => refuse_device(fault, err),
@@ -63,22 +63,22 @@ pub fn play<S: Shelf, O: ByteOut, E: ByteOut, P: ByteOut>(
 }
 
 /// Plays what is asked for, and writes the ending's line.
-fn report_play<S: Shelf, O: ByteOut, P: ByteOut>(
+fn report_play<S: FileStore, O: ByteOut, P: ByteOut>(
     alloc: Global,
-    shelf: &S,
-    given: Result<GivenPlay<'_>, Refusal>,
+    store: &S,
+    given: Result<PlayArgs<'_>, Refusal>,
     out: &mut O,
     progress: &mut P,
 ) -> Result<Ending, Unplayed>
     requires out { O.count out.old < 2 ^ 64 - 1 }
     requires progress { P.count progress.old < 2 ^ 64 - 1 }
-    ensures played { IfOk result (IsEnding (OfPlay (S.facts shelf.now) given.entry)) }
+    ensures played { IfOk result (IsEnding (OfPlay (S.facts store.now) given.entry)) }
     ensures printed { IfOk result (λ ending. Appends (O.held out.old) (O.held out.new) (ending_line ending)) }
-    ensures unprinted { IfErr result (IsUnprinted (OfPlay (S.facts shelf.now) given.entry) (O.held out.old) (O.held out.new)) }
+    ensures unprinted { IfErr result (IsUnprinted (OfPlay (S.facts store.now) given.entry) (O.held out.old) (O.held out.new)) }
     ensures asked { IfOk result (λ _. line_fault is_well_formed given.entry ≡ None) }
-    ensures first { IfErr result (RefusesToPlay (S.facts shelf.now) given.entry) }
+    ensures first { IfErr result (RefusesToPlay (S.facts store.now) given.entry) }
 {
-    let ending = ending_of(alloc, shelf, given, progress)?;
+    let ending = ending_of(alloc, store, given, progress)?;
     match write_ending(&ending, out) {
         Ok(()) => Ok(ending),
         Err(_) => Err(Unplayed::Refused(Refusal::WRITE)),
@@ -86,40 +86,40 @@ fn report_play<S: Shelf, O: ByteOut, P: ByteOut>(
 }
 
 /// Plays what is asked for.
-fn ending_of<S: Shelf, P: ByteOut>(
+fn ending_of<S: FileStore, P: ByteOut>(
     alloc: Global,
-    shelf: &S,
-    given: Result<GivenPlay<'_>, Refusal>,
+    store: &S,
+    given: Result<PlayArgs<'_>, Refusal>,
     progress: &mut P,
 ) -> Result<Ending, Unplayed>
     requires { P.count progress.old < 2 ^ 64 - 1 }
-    ensures played { IfOk result (IsEnding (OfPlay (S.facts shelf.now) given.entry)) }
+    ensures played { IfOk result (IsEnding (OfPlay (S.facts store.now) given.entry)) }
     ensures asked { IfOk result (λ _. line_fault is_well_formed given.entry ≡ None) }
-    ensures first { IfErr result (RefusesToPlay (S.facts shelf.now) given.entry) }
+    ensures first { IfErr result (RefusesToPlay (S.facts store.now) given.entry) }
 {
     let request = request_of(given?).ok_or(Refusal::Usage)?;
-    play_request(alloc, shelf, request, progress)
+    play_request(alloc, store, request, progress)
 }
 
 /// Opens the files of a request in their order, and plays.
-fn play_request<S: Shelf, P: ByteOut>(
+fn play_request<S: FileStore, P: ByteOut>(
     alloc: Global,
-    shelf: &S,
+    store: &S,
     request: PlayRequest<'_>,
     progress: &mut P,
 ) -> Result<Ending, Unplayed>
     requires { P.count progress.old < 2 ^ 64 - 1 }
-    ensures played { IfOk result (IsEnding (IsTaskOf (S.facts shelf.now) request.entry)) }
-    ensures refused { IfErr result (IsUnplayed (S.facts shelf.now).lacked (IsTaskOf (S.facts shelf.now) request.entry)) }
+    ensures played { IfOk result (IsEnding (IsTaskOf (S.facts store.now) request.entry)) }
+    ensures refused { IfErr result (IsUnplayed (S.facts store.now).lacked (IsTaskOf (S.facts store.now) request.entry)) }
 {
-    let tables = tables_of(alloc, shelf, request.setup.chip)?;
-    let (mut content, _place, len) = shelf.open(request.content, FileName::Content)?;
-    let (script, _place) = shelf.read(alloc, request.script, FileName::Script)?;
+    let tables = tables_of(alloc, store, request.setup.chip)?;
+    let (mut content, _place, len) = store.open(request.content, FileName::Content)?;
+    let (script, _place) = store.read(alloc, request.script, FileName::Script)?;
     let inputs = setup_inputs(request.setup, tables.as_slice());
     let job = job_of(alloc, &inputs, script.as_slice(), &mut content, len)?;
     play_job(
         alloc,
-        shelf,
+        store,
         job,
         request.device,
         request.limit,
@@ -129,9 +129,9 @@ fn play_request<S: Shelf, P: ByteOut>(
 }
 
 /// Plays steps in memory and then, unless they end there, on the device of this name.
-fn play_job<S: Shelf, P: ByteOut>(
+fn play_job<S: FileStore, P: ByteOut>(
     alloc: Global,
-    shelf: &S,
+    store: &S,
     job: Job,
     device: &str,
     limit: u64,
@@ -142,7 +142,7 @@ fn play_job<S: Shelf, P: ByteOut>(
     requires mode { IsPossible job.meaning job.start }
     requires progress { P.count progress.old < 2 ^ 64 - 1 }
     ensures { MatchResult result (Ends limit trust job.meaning job.start job.content.items job.steps.items)
-        (StopsPlay (S.facts shelf.now).lacked job.meaning job.start job.content.items job.steps.items) }
+        (StopsPlay (S.facts store.now).lacked job.meaning job.start job.content.items job.steps.items) }
 {
     let Job {
         meaning,
@@ -155,7 +155,7 @@ fn play_job<S: Shelf, P: ByteOut>(
         Early::Ends(ending) => Ok(ending),
         Early::Goes { transactions } => play_known(
             alloc,
-            shelf,
+            store,
             &meaning,
             start,
             content,
@@ -170,9 +170,9 @@ fn play_job<S: Shelf, P: ByteOut>(
 }
 
 /// Plays steps that go well in memory, in so many transactions, on the device of this name.
-fn play_known<S: Shelf, P: ByteOut>(
+fn play_known<S: FileStore, P: ByteOut>(
     alloc: Global,
-    shelf: &S,
+    store: &S,
     meaning: &Meaning,
     start: Start,
     content: Vec<u8>,
@@ -190,9 +190,9 @@ fn play_known<S: Shelf, P: ByteOut>(
         (chip_with meaning.now start content.items).chip steps.now) }
     requires progress { P.count progress.old < 2 ^ 64 - 1 }
     ensures { MatchResult result (EndsOnDevice limit trust meaning.now start content.items steps.now)
-        (StopsPlay (S.facts shelf.now).lacked meaning.now start content.items steps.now) }
+        (StopsPlay (S.facts store.now).lacked meaning.now start content.items steps.now) }
 {
-    let (from, to) = open_port(alloc, shelf, device)?;
+    let (from, to) = open_port(alloc, store, device)?;
     let chip = Chip::new(meaning, start, content, Vec::new(alloc), false);
     let mut port = Shadowed::new(chip, from, to, widest(), limit);
     greet_and_play(
@@ -208,14 +208,14 @@ fn play_known<S: Shelf, P: ByteOut>(
 }
 
 /// The device of this name, opened.
-fn open_port<S: Shelf>(
+fn open_port<S: FileStore>(
     alloc: Global,
-    shelf: &S,
+    store: &S,
     device: &str,
 ) -> Result<(BufReader<S::FromDevice>, S::ToDevice), Refusal>
-    ensures { IfErr result (TellsFile (S.facts shelf.now).lacked) }
+    ensures { IfErr result (TellsFile (S.facts store.now).lacked) }
 {
-    let (from, to) = shelf.open_device(device)?;
+    let (from, to) = store.open_device(device)?;
     match BufReader::new(alloc, from) {
         Ok(from) => Ok((from, to)),
         Err(_) => Err(Refusal::MEMORY),

@@ -37,7 +37,7 @@ pub use ending::Ending;
 pub use greeted::greet_and_play;
 pub use job::{Job, job_of};
 pub use line::write_ending;
-pub use norprog_common::GivenPlay;
+pub use norprog_common::PlayArgs;
 pub use rehearsal::{Rehearsal, rehearse};
 pub use request::{PlayRequest, request_of};
 pub use unplayed::Unplayed;

@@ -3,7 +3,7 @@
 ghost use Rattle.std.specs.Prelude.{◌≡◌, is_some, IfSome};
 ghost use Rattle.norprog_play.specs.Request.{is_well_formed, AsksFor};
 
-use norprog_common::{GivenPlay, Setup, limit, setup_of};
+use norprog_common::{PlayArgs, Setup, limit, setup_of};
 
 /// What `play` is asked for: each value is of its form.
 #[derive(Clone, Copy)]
@@ -19,7 +19,7 @@ pub struct PlayRequest<'a> {
 }
 
 /// The request that the values spell. None where one isn't of its form, or one that has to be there isn't.
-pub fn request_of<'a>(given: GivenPlay<'a>) -> Option<PlayRequest<'a>>
+pub fn request_of<'a>(given: PlayArgs<'a>) -> Option<PlayRequest<'a>>
     ensures forms { is_some result ≡ is_well_formed given.entry }
     ensures values { IfSome result (λ request. AsksFor given.entry request) }
 {

@@ -8,17 +8,17 @@ use Rattle.nor_script.specs.Stream.{IsTextOf}
 use Rattle.norprog_common.specs.declared.faults.FileName.{FileName}
 use Rattle.norprog_common.specs.declared.faults.FileName.TheVariants as file
 use Rattle.norprog_common.specs.declared.faults.Refusal.{Refusal}
-use Rattle.norprog_common.specs.declared.files.Place.{Place}
+use Rattle.norprog_common.specs.declared.files.FileId.{FileId}
 use Rattle.norprog_common.specs.declared.faults.Refusal.TheVariants.{Text, Usage, File, Build, Page, Script}
 use Rattle.norprog_common.specs.Chip.{origin_of}
 use Rattle.norprog_common.specs.Files.{TellsFile}
 use Rattle.norprog_common.specs.Setup.{setup_task}
-use Rattle.norprog_common.specs.Shelf.{FileFacts, AreTables, GoesOut, IsMadeApart, IsTextIn, Named, Notes, WhereNamed, tables_file}
-use Rattle.norprog_common.proofs.ShelfLemmas.{made_apart, more_noted, one_noted}
+use Rattle.norprog_common.specs.FileStore.{FileFacts, AreTables, GoesOut, IsMadeApart, IsTextIn, Named, Notes, WhereNamed, tables_file}
+use Rattle.norprog_common.proofs.StoreLemmas.{made_apart, more_noted, one_noted}
 use Rattle.norprog_common.specs.Told.{RefusesFor, OrScript}
 use Rattle.norprog_common.proofs.ToldLemmas.{asked_wider, by_fault, by_files, refuses_wider, or_usage}
-use Rattle.norprog_run.specs.declared.request.Bench.{Bench}
-use Rattle.norprog_common.specs.declared.given.GivenRun.{GivenRun}
+use Rattle.norprog_run.specs.declared.request.ChipBehaviour.{ChipBehaviour}
+use Rattle.norprog_common.specs.declared.given.RunArgs.{RunArgs}
 use Rattle.norprog_run.specs.declared.request.RunRequest.{RunRequest}
 use Rattle.norprog_run.specs.declared.verdict.Verdict.{Verdict}
 use Rattle.norprog_run.specs.Answer.{WasPlayedSo, IsPlayVerdict, IsStopOf, IsPlayFault, RefusesRun, RefusesToRun}
@@ -29,11 +29,11 @@ use Rattle.norprog_run.specs.Streams.{PlaysStreams, RefusesStreams}
 use Rattle.norprog_run.specs.Served.{PlayTask, play_with, Is, IsMadeFor, IsTaskOf, input_files_of, input_files_asked, Serves, ServesScript}
 
 -- the files of a request are those that the texts name
-same_inputs : (given : GivenRun) (request : RunRequest) → AsksFor given request → input_files_of request ≡ input_files_asked given (origin_of request.setup.chip)
+same_inputs : (given : RunArgs) (request : RunRequest) → AsksFor given request → input_files_of request ≡ input_files_asked given (origin_of request.setup.chip)
 same_inputs given request asks = rw (asks.beside.content, asks.beside.script) refl
 
 -- a play of a request that the texts ask for is one that they ask for, and so is its script
-serves : (files : FileFacts) (given : GivenRun) (request : RunRequest) → AsksFor given request → (t : PlayTask) → IsTaskOf files request t → Serves files given t
+serves : (files : FileFacts) (given : RunArgs) (request : RunRequest) → AsksFor given request → (t : PlayTask) → IsTaskOf files request t → Serves files given t
 serves files given request asks t of = record {
   chip = record { setup = request.setup; asks = asks.beside.setup; task = of.chip };
   content = subst (λ s. Named (λ name. files.opened name t.content t.len) (option_map (λ t. t.now) s)) (sym asks.beside.content) of.content;
@@ -45,13 +45,13 @@ serves files given request asks t of = record {
   limit = rw of.bench asks.beside.limit;
 }
 
-serves_script : (files : FileFacts) (given : GivenRun) (request : RunRequest) → AsksFor given request → (text : List ℕ) → IsTextIn files request.script.now text
+serves_script : (files : FileFacts) (given : RunArgs) (request : RunRequest) → AsksFor given request → (text : List ℕ) → IsTextIn files request.script.now text
     → ServesScript files given text
 serves_script files given request asks text of =
     subst (λ s. Named (λ name. IsTextIn files name text) (option_map (λ t. t.now) s)) (sym asks.beside.script) of
 
 -- of what is so of a script that is so of the same by another name
-played_wider : (P Q : List ℕ → Type 0) (chip : Task) (bench : Bench) (content : Ahead) (len : ℕ) (before after : Option (List ℕ)) (verdict : Verdict)
+played_wider : (P Q : List ℕ → Type 0) (chip : Task) (bench : ChipBehaviour) (content : Ahead) (len : ℕ) (before after : Option (List ℕ)) (verdict : Verdict)
     → ((text : List ℕ) → P text → Q text) → WasPlayedSo P chip bench content len before after verdict → WasPlayedSo Q chip bench content len before after verdict
 played_wider P Q chip bench content len before after verdict wider of = record { text = of.text; script = wider of.text of.script; rest = of.rest; played = of.played }
 
@@ -81,7 +81,7 @@ pub refusals_wider : (Lacked : FileName → Type 0) (Asked Other : PlayTask → 
 refusals_wider Lacked Asked Other P Q tasks texts (Ok verdict) of = tt
 refusals_wider Lacked Asked Other P Q tasks texts (Err why) of = refusal_wider Lacked Asked Other P Q tasks texts why of
 
-module _ (files : FileFacts) (given : GivenRun) (request : RunRequest) (asks : AsksFor given request) where
+module _ (files : FileFacts) (given : RunArgs) (request : RunRequest) (asks : AsksFor given request) where
   verdict_asked : (Sent : Option (List ℕ) → Type 0) (verdict : Verdict) → IsPlayVerdict (IsTaskOf files request) (IsTextIn files request.script.now) Sent verdict
       → IsPlayVerdict (Serves files given) (ServesScript files given) Sent verdict
   verdict_asked Sent verdict = verdict_wider (IsTaskOf files request) (Serves files given) (IsTextIn files request.script.now) (ServesScript files given) Sent verdict
@@ -106,7 +106,7 @@ module _ (files : FileFacts) (given : GivenRun) (request : RunRequest) (asks : A
 
 -- what the player answered
 
-module _ (t : Task) (bench : Bench) (len : ℕ) (before after : Ahead) (held held' : Option (List ℕ)) where
+module _ (t : Task) (bench : ChipBehaviour) (len : ℕ) (before after : Ahead) (held held' : Option (List ℕ)) where
   pub of_play : (text : List ℕ) (r : Result Verdict Refusal) → IfOk r (WasPlayed t bench text len before after held held')
       → IfOk r (WasPlayedSo (λ held. held ≡ text) t bench before len held held')
   of_play text (Ok verdict) played = record { text = text; script = refl; rest = after; played = played }
@@ -149,14 +149,14 @@ module _ (t : Task) (bench : Bench) (len : ℕ) (before after : Ahead) (held hel
 
 -- what was played of the files that a request names
 
-pub asked_of : (files : FileFacts) (request : RunRequest) (chip : Task) (bench : Bench) (tables : List ℕ) (content : Ahead) (len : ℕ) (begun : Option (Option (List ℕ)))
+pub asked_of : (files : FileFacts) (request : RunRequest) (chip : Task) (bench : ChipBehaviour) (tables : List ℕ) (content : Ahead) (len : ℕ) (begun : Option (Option (List ℕ)))
     → chip ≡ setup_task request.setup tables → bench ≡ request.bench → AreTables files (origin_of request.setup.chip) tables → files.opened request.content.now content len
     → WhereNamed (IsMadeApart files (input_files_of request)) (option_map (λ t. t.now) request.out) begun → IsTaskOf files request (play_with chip bench content len begun)
 asked_of files request chip bench tables content len begun is same gave opened made =
     record { chip = record { tables = tables; gave = gave; task = is }; bench = same; content = opened; made = made }
 
 -- with an output that was made
-pub made_for : (files : FileFacts) (request : RunRequest) (path : List ℕ) (places : List Place) (chip : Task) (bench : Bench) (tables : List ℕ) (content : Ahead) (len : ℕ)
+pub made_for : (files : FileFacts) (request : RunRequest) (path : List ℕ) (places : List FileId) (chip : Task) (bench : ChipBehaviour) (tables : List ℕ) (content : Ahead) (len : ℕ)
     → chip ≡ setup_task request.setup tables → bench ≡ request.bench → AreTables files (origin_of request.setup.chip) tables → files.opened request.content.now content len
     → ((held : Option (List ℕ)) → files.made path places held → WhereNamed (IsMadeApart files (input_files_of request)) (option_map (λ t. t.now) request.out) (Some held))
     → (t : PlayTask) → IsMadeFor files path places chip bench content len t → IsTaskOf files request t
@@ -164,7 +164,7 @@ made_for files request path places chip bench tables content len is same gave op
     subst (IsTaskOf files request) (sym of.is) (asked_of files request chip bench tables content len (Some of.held) is same gave opened (made of.held of.made))
 
 -- the output that is asked for was made as none of the files that were noted: the tables', the content's and the script's
-pub made_beside : (files : FileFacts) (request : RunRequest) (path : Bor (List ℕ)) (none tables noted places inputs : List Place) (content script : Place)
+pub made_beside : (files : FileFacts) (request : RunRequest) (path : Bor (List ℕ)) (none tables noted places inputs : List FileId) (content script : FileId)
     (held : Option (List ℕ)) → request.out ≡ Some path → none ≡ [] → Notes files (tables_file (origin_of request.setup.chip)) none tables
     → files.stood request.content.now content → noted ≡ tables ++ content ∷ [] → files.stood request.script.now script → places ≡ noted ++ script ∷ []
     → inputs ≡ places → files.made path.now inputs held → WhereNamed (IsMadeApart files (input_files_of request)) (option_map (λ t. t.now) request.out) (Some held)
@@ -175,7 +175,7 @@ made_beside files request path none tables noted places inputs content script he
     (one_noted files request.script.now script noted places of_script last) in
     rw asked (made_apart files (input_files_of request) path.now none places inputs held first all same made)
 
-module _ (Asked : PlayTask → Type 0) (P Q : List ℕ → Type 0) (chip : Task) (bench : Bench) (content : Ahead) (len : ℕ) (begun : Option (Option (List ℕ)))
+module _ (Asked : PlayTask → Type 0) (P Q : List ℕ → Type 0) (chip : Task) (bench : ChipBehaviour) (content : Ahead) (len : ℕ) (begun : Option (Option (List ℕ)))
     (asked : Asked (play_with chip bench content len begun)) (texts : (text : List ℕ) → P text → Q text) (before after : Option (List ℕ)) where
   pub one_played : (Sent : Option (List ℕ) → Type 0) (verdict : Verdict) → GoesOut Sent begun before after → WasPlayedSo P chip bench content len before after verdict
       → IsPlayVerdict Asked Q Sent verdict
@@ -212,7 +212,7 @@ goes : (Sent : Option (List ℕ) → Type 0) (begun : Option (Option (List ℕ))
 goes Sent (Some held) before after out = (out.0, tt)
 goes Sent None before after out = tt
 
-pub late_refused : (files : FileFacts) (given : GivenRun) (verdict : Verdict) → is_well_formed given ≡ true
+pub late_refused : (files : FileFacts) (given : RunArgs) (verdict : Verdict) → is_well_formed given ≡ true
     → IsPlayVerdict (Serves files given) (ServesScript files given) files.flushed verdict
     → RefusesToRun files given (Build fault.Write)
 late_refused files given verdict formed of = inl (or_usage _ _ _ formed (inr (
@@ -225,7 +225,7 @@ late_refused files given verdict formed of = inl (or_usage _ _ _ formed (inr (
 )))
 
 -- texts that ask for nothing, and want of memory
-pub given_refused : (files : FileFacts) (given : GivenRun) (why : Refusal) → RefusesGiven given why
+pub given_refused : (files : FileFacts) (given : RunArgs) (why : Refusal) → RefusesGiven given why
     → RefusesToRun files given why
 given_refused files given Usage refused = inl (rw refused refl)
 given_refused files given (Build fault.Memory) refused = inr refl

@@ -13,7 +13,7 @@ use Rattle.norprog_common.specs.declared.faults.FileName.TheVariants as file
 use Rattle.norprog_common.specs.declared.faults.Refusal.{Refusal}
 use Rattle.norprog_common.specs.declared.faults.Refusal.TheVariants.{File, Build, Script}
 use Rattle.norprog_run.specs.declared.kind.Kind.{Kind}
-use Rattle.norprog_run.specs.declared.request.Bench.{Bench}
+use Rattle.norprog_run.specs.declared.request.ChipBehaviour.{ChipBehaviour}
 use Rattle.norprog_run.specs.declared.verdict.Verdict.{Verdict}
 use Rattle.norprog_run.specs.Kind.{kind_setting}
 use Rattle.norprog_run.specs.Play.{page_of, IsSized, setting_of}
@@ -26,10 +26,10 @@ pub text_wider : (before after : Ahead) (P Q : List ℕ → Type 0) → ((text :
 text_wider before after P Q wider has = (has.0, has.1, wider has.0 has.2)
 
 -- the chip of a kind is that of the inputs
-kind_is : (t : Task) (bench : Bench) (kind : Kind) → kind.start ≡ start_of t → kind.page ≡ page_of bench.page kind.meaning → kind_setting kind bench ≡ setting_of t bench kind.meaning
+kind_is : (t : Task) (bench : ChipBehaviour) (kind : Kind) → kind.start ≡ start_of t → kind.page ≡ page_of bench.page kind.meaning → kind_setting kind bench ≡ setting_of t bench kind.meaning
 kind_is t bench kind start page = rw (start, page) refl
 
-module _ (t : Task) (bench : Bench) (kind : Kind) (len : ℕ) (sized : IsSized t bench.page len kind.meaning) (start : kind.start ≡ start_of t)
+module _ (t : Task) (bench : ChipBehaviour) (kind : Kind) (len : ℕ) (sized : IsSized t bench.page len kind.meaning) (start : kind.start ≡ start_of t)
     (page : kind.page ≡ page_of bench.page kind.meaning) (first first' again again' before after : Ahead) (held held' : Option (List ℕ)) (Untouched : Type 0) where
   -- the first reading found no script
   pub first_refused : (why : Refusal) → RefusesScript first first' why → Untouched
@@ -117,7 +117,7 @@ works : (same n : ℕ) → ((same ≡ same + n) × (same ≡ same)) ⊎ ((same �
 works same n p one = elim p [ inl q ↦ let no = q.0 in omega (arith, no, one) | inr q ↦ let no = q.1 in omega (arith, no, one) ]
 
 -- a text that was read once without a fault has none the second time, after the content
-module _ (t : Task) (bench : Bench) (text : List ℕ) (len : ℕ) (first first' again again' before after : Ahead) (held held' : Option (List ℕ)) (once : first ≡ Finite text)
+module _ (t : Task) (bench : ChipBehaviour) (text : List ℕ) (len : ℕ) (first first' again again' before after : Ahead) (held held' : Option (List ℕ)) (once : first ≡ Finite text)
     (twice : again ≡ Finite text) (First Again Content : Type 0) (faultless : ScriptsAreFaultless) where
   abbrev Why : Refusal → Type 0
   Why = RefusesStreams t bench first first' again again' len before after held held' (Again × Content)
@@ -144,7 +144,7 @@ module _ (t : Task) (bench : Bench) (text : List ℕ) (len : ℕ) (first first' 
   text_unread (Err why) p counts chip = unread why p counts chip
 
 -- a refusal of the chip, before anything is read
-pub kind_refused : (t : Task) (bench : Bench) (first first' again again' : Ahead) (len : ℕ) (before after : Ahead) (held held' : Option (List ℕ)) (Untouched : Type 0) (why : Refusal)
+pub kind_refused : (t : Task) (bench : ChipBehaviour) (first first' again again' : Ahead) (len : ℕ) (before after : Ahead) (held held' : Option (List ℕ)) (Untouched : Type 0) (why : Refusal)
     → RefusesPaged t bench.page len why → RefusesStreams t bench first first' again again' len before after held held' Untouched why
 kind_refused t bench first first' again again' len before after held held' Untouched (Script why) p = absurd p
 kind_refused t bench first first' again again' len before after held held' Untouched (Build fault.ContentShort) p = absurd p

@@ -7,11 +7,11 @@ use Rattle.nor_job.specs.declared.fault.BuildFault.TheVariants.{Memory}
 use Rattle.norprog_common.specs.declared.faults.FileName.{FileName}
 use Rattle.norprog_common.specs.declared.faults.Refusal.{Refusal}
 use Rattle.norprog_common.specs.declared.faults.Refusal.TheVariants.{Build}
-use Rattle.norprog_common.specs.declared.given.GivenRun.{GivenRun}
-use Rattle.norprog_common.specs.Shelf.{FileFacts, GoesOut}
+use Rattle.norprog_common.specs.declared.given.RunArgs.{RunArgs}
+use Rattle.norprog_common.specs.FileStore.{FileFacts, GoesOut}
 use Rattle.norprog_common.specs.Told.{ForAsked, RefusesFor, OrScript, OrUsage, TellsOf}
 use Rattle.norprog_run.specs.Request.{is_well_formed}
-use Rattle.norprog_run.specs.declared.request.Bench.{Bench}
+use Rattle.norprog_run.specs.declared.request.ChipBehaviour.{ChipBehaviour}
 use Rattle.norprog_run.specs.declared.verdict.Verdict.{Verdict}
 use Rattle.norprog_run.specs.Play.{WasPlayed}
 use Rattle.norprog_run.specs.Refusals.{RefusesPlay}
@@ -19,7 +19,7 @@ use Rattle.norprog_run.specs.Served.{PlayTask, Serves, ServesScript}
 use Rattle.norprog_run.specs.Verdict.{verdict_line, status_of}
 
 -- a text that is so was played on that chip, on that bench, and this is how it ended
-pub record WasPlayedSo (Script : List ℕ → Type 0) (chip : Task) (bench : Bench) (content : Ahead) (len : ℕ) (before after : Option (List ℕ))
+pub record WasPlayedSo (Script : List ℕ → Type 0) (chip : Task) (bench : ChipBehaviour) (content : Ahead) (len : ℕ) (before after : Option (List ℕ))
     (verdict : Verdict) : Type 0 where
   pub text : List ℕ
   pub script : Script text
@@ -63,13 +63,13 @@ CutsVerdict Asked Script Sent before after =
 
 -- why what the texts of a command line ask for isn't run: usage where they ask for nothing, else a refusal of the work; or want of
 -- memory, which the busy times may meet while they are read
-abbrev pub RefusesToRun : FileFacts → GivenRun → Refusal → Type 0
+abbrev pub RefusesToRun : FileFacts → RunArgs → Refusal → Type 0
 RefusesToRun files given why =
     OrUsage (is_well_formed given) (RefusesRun (OrScript files.lacked) (Serves files given) (ServesScript files given)) why ⊎ (why ≡ Build Memory)
 
 -- what `run` answers to the texts of a command line: the line of the verdict, whose status it is, after what the chip holds has gone
 -- out; or a refusal
-abbrev pub AnswersRun : FileFacts → GivenRun → Option (List ℕ) → Option (List ℕ) → Type 0 → Type 0 → Option (List ℕ) → Option (List ℕ) → ℕ → Type 0
+abbrev pub AnswersRun : FileFacts → RunArgs → Option (List ℕ) → Option (List ℕ) → Type 0 → Type 0 → Option (List ℕ) → Option (List ℕ) → ℕ → Type 0
 AnswersRun files given before after Quiet Works told_before told_after status =
     ((is_well_formed given ≡ true) × PrintsVerdict (Serves files given) (ServesScript files given) files.flushed before after status × Quiet)
     ⊎ (CutsVerdict (Serves files given) (ServesScript files given) files.flushed before after

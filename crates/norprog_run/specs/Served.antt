@@ -2,13 +2,13 @@
 use Rattle.std.specs.Prelude.{◌≡◌, ℕ, List, ◌++◌, Option, Some, option_map, option_to_list}
 use Rattle.nor_base.specs.Device.{Ahead}
 use Rattle.nor_job.specs.Task.{Task}
-use Rattle.norprog_common.specs.declared.files.Place.{Place}
+use Rattle.norprog_common.specs.declared.files.FileId.{FileId}
 use Rattle.norprog_common.specs.Chip.{Origin, origin_of}
 use Rattle.norprog_common.specs.Setup.{IsSetupTask, ServesSetup}
-use Rattle.norprog_common.specs.Shelf.{FileFacts, IsMadeApart, IsTextIn, Named, WhereNamed, tables_file}
+use Rattle.norprog_common.specs.FileStore.{FileFacts, IsMadeApart, IsTextIn, Named, WhereNamed, tables_file}
 use Rattle.norprog_common.specs.Values.{limit_of, said_number}
-use Rattle.norprog_run.specs.declared.request.Bench.{Bench}
-use Rattle.norprog_common.specs.declared.given.GivenRun.{GivenRun}
+use Rattle.norprog_run.specs.declared.request.ChipBehaviour.{ChipBehaviour}
+use Rattle.norprog_common.specs.declared.given.RunArgs.{RunArgs}
 use Rattle.norprog_run.specs.declared.request.RunRequest.{RunRequest}
 use Rattle.norprog_run.specs.Request.{asked_busy, asked_limit}
 
@@ -16,12 +16,12 @@ use Rattle.norprog_run.specs.Request.{asked_busy, asked_limit}
 -- and its length in bytes; and what its output held when it was made, where it has one
 pub record PlayTask : Type 0 where
   pub chip : Task
-  pub bench : Bench
+  pub bench : ChipBehaviour
   pub content : Ahead
   pub len : ℕ
   pub begun : Option (Option (List ℕ))
 
-abbrev pub play_with : Task → Bench → Ahead → ℕ → Option (Option (List ℕ)) → PlayTask
+abbrev pub play_with : Task → ChipBehaviour → Ahead → ℕ → Option (Option (List ℕ)) → PlayTask
 play_with chip bench content len begun = record { chip = chip; bench = bench; content = content; len = len; begun = begun }
 
 -- the play is this one
@@ -29,7 +29,7 @@ abbrev pub Is : PlayTask → PlayTask → Type 0
 Is one other = other ≡ one
 
 -- the play is on that chip and bench, with that content, and its output of this name was made at none of these places
-pub record IsMadeFor (files : FileFacts) (path : List ℕ) (places : List Place) (chip : Task) (bench : Bench) (content : Ahead) (len : ℕ) (t : PlayTask) : Type 0
+pub record IsMadeFor (files : FileFacts) (path : List ℕ) (places : List FileId) (chip : Task) (bench : ChipBehaviour) (content : Ahead) (len : ℕ) (t : PlayTask) : Type 0
   where
     pub held : Option (List ℕ)
     pub made : files.made path places held
@@ -43,7 +43,7 @@ input_files origin content script = (tables_file origin ++ option_to_list conten
 abbrev pub input_files_of : RunRequest → List (List ℕ)
 input_files_of request = input_files (origin_of request.setup.chip) (Some request.content.now) (Some request.script.now)
 
-abbrev pub input_files_asked : GivenRun → Origin → List (List ℕ)
+abbrev pub input_files_asked : RunArgs → Origin → List (List ℕ)
 input_files_asked given origin = input_files origin (option_map (λ t. t.now) given.content) (option_map (λ t. t.now) given.script)
 
 -- the play of a request: its tables are what their file gave, the content's file was opened, and the output was made, as none of
@@ -56,7 +56,7 @@ pub record IsTaskOf (files : FileFacts) (request : RunRequest) (t : PlayTask) : 
 
 -- the play is the one that the texts ask for, each value by the one that its text spells, each file by its name; the output was made
 -- as none of the files that are read
-pub record Serves (files : FileFacts) (given : GivenRun) (t : PlayTask) : Type 0 where
+pub record Serves (files : FileFacts) (given : RunArgs) (t : PlayTask) : Type 0 where
   pub chip : ServesSetup files given.setup t.chip
   pub content : Named (λ name. files.opened name t.content t.len) (option_map (λ t. t.now) given.content)
   pub made : WhereNamed (IsMadeApart files (input_files_asked given (origin_of chip.setup.chip))) (option_map (λ t. t.now) given.out) t.begun
@@ -66,5 +66,5 @@ pub record Serves (files : FileFacts) (given : GivenRun) (t : PlayTask) : Type 0
   pub limit : limit_of (asked_limit given) ≡ Some t.bench.limit
 
 -- the text is that of the script's file
-abbrev pub ServesScript : FileFacts → GivenRun → List ℕ → Type 0
+abbrev pub ServesScript : FileFacts → RunArgs → List ℕ → Type 0
 ServesScript files given text = Named (λ name. IsTextIn files name text) (option_map (λ t. t.now) given.script)

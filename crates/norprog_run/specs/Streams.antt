@@ -15,7 +15,7 @@ use Rattle.norprog_common.specs.declared.faults.FileName.TheVariants as file
 use Rattle.norprog_common.specs.declared.faults.Refusal.{Refusal}
 use Rattle.norprog_common.specs.declared.faults.Refusal.TheVariants.{File, Build, Script}
 use Rattle.norprog_common.specs.Lines.{script_refusal}
-use Rattle.norprog_run.specs.declared.request.Bench.{Bench}
+use Rattle.norprog_run.specs.declared.request.ChipBehaviour.{ChipBehaviour}
 use Rattle.norprog_run.specs.declared.verdict.Verdict.{Verdict}
 use Rattle.norprog_run.specs.Play.{IsSized, EndsSo, WasPlayed}
 use Rattle.norprog_run.specs.Refusals.{StopsPlaying, RefusesPaged, RefusesPlay}
@@ -47,7 +47,7 @@ abbrev pub ReadsWhole : ℕ → Ahead → Ahead → Type 0
 ReadsWhole len before after = (content : List ℕ) × (length content ≡ len) × Gives before content after
 
 -- the first reading gave a script, and what the second gave was played
-abbrev pub PlaysStreams : Task → Bench → Ahead → Ahead → Ahead → Ahead → ℕ → Ahead → Ahead → Option (List ℕ) → Option (List ℕ) → Verdict → Type 0
+abbrev pub PlaysStreams : Task → ChipBehaviour → Ahead → Ahead → Ahead → Ahead → ℕ → Ahead → Ahead → Option (List ℕ) → Option (List ℕ) → Verdict → Type 0
 PlaysStreams t bench first first' again again' len before after held held' verdict =
     HadText first first' IsSpelled × HadText again again' (λ text. WasPlayed t bench text len before after held held' verdict)
 
@@ -59,7 +59,7 @@ TellsFault first first' again again' len before after Untouched Is =
 
 -- why a script that is read twice isn't played, by what is said of a text; but for Memory and a device of the script that failed, no
 -- earlier cause holds
-abbrev pub RefusesStreams : Task → Bench → Ahead → Ahead → Ahead → Ahead → ℕ → Ahead → Ahead → Option (List ℕ) → Option (List ℕ) → Type 0 → Refusal → Type 0
+abbrev pub RefusesStreams : Task → ChipBehaviour → Ahead → Ahead → Ahead → Ahead → ℕ → Ahead → Ahead → Option (List ℕ) → Option (List ℕ) → Type 0 → Refusal → Type 0
 RefusesStreams t bench first first' again again' len before after held held' Untouched (Script why) =
     TellsFault first first' again again' len before after Untouched (λ text. RefusesPlay t bench text len before after held held' (Script why))
 RefusesStreams t bench first first' again again' len before after held held' Untouched (Build fault.ContentShort) =

@@ -2,7 +2,7 @@
 
 ghost use Rattle.std.specs.Prelude.{◌≡◌, ◌<◌, ◌≤◌, ◌-◌, ◌^◌, List, ℕ, Some, true, Option, IfOk, IfErr};
 ghost use Rattle.std.specs.Io.KnownBytes.{Appends};
-ghost use Rattle.norprog_common.specs.Shelf.{DoNotFail, IsTextIn, IsTextOfFile};
+ghost use Rattle.norprog_common.specs.FileStore.{DoNotFail, IsTextIn, IsTextOfFile};
 ghost use Rattle.norprog_common.specs.declared.faults.FileName.TheVariants.{Script};
 ghost use Rattle.norprog_common.specs.Told.{RefusesFor, OrScript};
 ghost use Rattle.norprog_run.specs.Answer.{WasPlayedSo, IsPlayFault, IsPlayVerdict, CutsVerdict, RefusesRun, RefusesToRun, AnswersRun};
@@ -11,13 +11,13 @@ ghost use Rattle.norprog_run.specs.Served.{play_with, Is, IsMadeFor, IsTaskOf, S
 ghost use Rattle.norprog_run.specs.Verdict.{verdict_line};
 
 use crate::play::play_script;
-use crate::request::{Bench, RunRequest, request_of};
+use crate::request::{ChipBehaviour, RunRequest, request_of};
 use crate::streams::play_streams;
 use crate::verdict::{Verdict, status_of, write_verdict};
 use nor_base::{ByteIn, ByteOut, Nowhere};
 use nor_job::Inputs;
 use norprog_common::{
-    FileName, GivenRun, Place, Refusal, ScriptFile, Shelf, noted_tables, refuse, setup_inputs,
+    FileId, FileName, FileStore, Refusal, RunArgs, ScriptFile, noted_tables, refuse, setup_inputs,
 };
 use std::alloc::Global;
 
@@ -27,10 +27,10 @@ use std::alloc::Global;
 /// of the files that are read.
 ///
 /// Usage is told where the texts ask for no play.
-pub fn run<S: Shelf, O: ByteOut, E: ByteOut>(
+pub fn run<S: FileStore, O: ByteOut, E: ByteOut>(
     alloc: Global,
-    shelf: &S,
-    given: GivenRun<'_>,
+    store: &S,
+    given: RunArgs<'_>,
     out: &mut O,
     err: &mut E,
 ) -> u8
@@ -38,32 +38,32 @@ pub fn run<S: Shelf, O: ByteOut, E: ByteOut>(
     requires err { E.count err.old < 2 ^ 64 - 1 }
     ensures status { result ≤ 2 }
     ensures quiet { result ≡ 0 → err.new ≡ err.old }
-    ensures answer { AnswersRun (S.facts shelf.now) given.entry (O.held out.old) (O.held out.new) (err.new ≡ err.old)
+    ensures answer { AnswersRun (S.facts store.now) given.entry (O.held out.old) (O.held out.new) (err.new ≡ err.old)
         (E.count err.new ≡ E.count err.old) (E.held err.old) (E.held err.new) result }
 {
-    match report_run(alloc, shelf, given, out) {
+    match report_run(alloc, store, given, out) {
         Ok(verdict) => status_of(&verdict),
         Err(refusal) => refuse(&refusal, err),
     }
 }
 
 /// Plays what is asked for, and writes the verdict's line.
-fn report_run<S: Shelf, O: ByteOut>(
+fn report_run<S: FileStore, O: ByteOut>(
     alloc: Global,
-    shelf: &S,
-    given: GivenRun<'_>,
+    store: &S,
+    given: RunArgs<'_>,
     out: &mut O,
 ) -> Result<Verdict, Refusal>
     requires { O.count out.old < 2 ^ 64 - 1 }
-    ensures played { IfOk result (IsPlayVerdict (Serves (S.facts shelf.now) given.entry)
-        (ServesScript (S.facts shelf.now) given.entry) (S.facts shelf.now).flushed) }
+    ensures played { IfOk result (IsPlayVerdict (Serves (S.facts store.now) given.entry)
+        (ServesScript (S.facts store.now) given.entry) (S.facts store.now).flushed) }
     ensures printed { IfOk result (λ verdict. Appends (O.held out.old) (O.held out.new) (verdict_line verdict)) }
-    ensures unprinted { IfErr result (λ _. CutsVerdict (Serves (S.facts shelf.now) given.entry)
-        (ServesScript (S.facts shelf.now) given.entry) (S.facts shelf.now).flushed (O.held out.old) (O.held out.new)) }
+    ensures unprinted { IfErr result (λ _. CutsVerdict (Serves (S.facts store.now) given.entry)
+        (ServesScript (S.facts store.now) given.entry) (S.facts store.now).flushed (O.held out.old) (O.held out.new)) }
     ensures asked { IfOk result (λ _. is_well_formed given.entry ≡ true) }
-    ensures first { IfErr result (RefusesToRun (S.facts shelf.now) given.entry) }
+    ensures first { IfErr result (RefusesToRun (S.facts store.now) given.entry) }
 {
-    let verdict = verdict_of(alloc, shelf, given)?;
+    let verdict = verdict_of(alloc, store, given)?;
     match write_verdict(&verdict, out) {
         Ok(()) => Ok(verdict),
         Err(_) => Err(Refusal::WRITE),
@@ -71,39 +71,43 @@ fn report_run<S: Shelf, O: ByteOut>(
 }
 
 /// Plays what is asked for.
-fn verdict_of<S: Shelf>(alloc: Global, shelf: &S, given: GivenRun<'_>) -> Result<Verdict, Refusal>
-    ensures played { IfOk result (IsPlayVerdict (Serves (S.facts shelf.now) given.entry)
-        (ServesScript (S.facts shelf.now) given.entry) (S.facts shelf.now).flushed) }
+fn verdict_of<S: FileStore>(
+    alloc: Global,
+    store: &S,
+    given: RunArgs<'_>,
+) -> Result<Verdict, Refusal>
+    ensures played { IfOk result (IsPlayVerdict (Serves (S.facts store.now) given.entry)
+        (ServesScript (S.facts store.now) given.entry) (S.facts store.now).flushed) }
     ensures asked { IfOk result (λ _. is_well_formed given.entry ≡ true) }
-    ensures first { IfErr result (RefusesToRun (S.facts shelf.now) given.entry) }
+    ensures first { IfErr result (RefusesToRun (S.facts store.now) given.entry) }
 {
     let request = request_of(alloc, given)?;
-    play_request(alloc, shelf, request)
+    play_request(alloc, store, request)
 }
 
 /// Opens the files of a request in their order, and plays.
-fn play_request<S: Shelf>(
+fn play_request<S: FileStore>(
     alloc: Global,
-    shelf: &S,
+    store: &S,
     request: RunRequest<'_>,
 ) -> Result<Verdict, Refusal>
     requires { 0 < request.bench.limit }
-    ensures played { IfOk result (IsPlayVerdict (IsTaskOf (S.facts shelf.now) request.entry)
-        (IsTextIn (S.facts shelf.now) request.entry.script.now) (S.facts shelf.now).flushed) }
-    ensures refused { IfErr result (RefusesRun (OrScript (S.facts shelf.now).lacked) (IsTaskOf (S.facts shelf.now) request.entry)
-        (IsTextIn (S.facts shelf.now) request.entry.script.now)) }
+    ensures played { IfOk result (IsPlayVerdict (IsTaskOf (S.facts store.now) request.entry)
+        (IsTextIn (S.facts store.now) request.entry.script.now) (S.facts store.now).flushed) }
+    ensures refused { IfErr result (RefusesRun (OrScript (S.facts store.now).lacked) (IsTaskOf (S.facts store.now) request.entry)
+        (IsTextIn (S.facts store.now) request.entry.script.now)) }
 {
     let mut places = Vec::new(alloc);
-    let sfdp = noted_tables(alloc, shelf, request.setup.chip, &mut places)?;
-    let (mut content, place, len) = shelf.open(request.content, FileName::Content)?;
+    let sfdp = noted_tables(alloc, store, request.setup.chip, &mut places)?;
+    let (mut content, place, len) = store.open(request.content, FileName::Content)?;
     places.push(place)?;
-    let (script, place) = shelf.open_script(alloc, request.script)?;
+    let (script, place) = store.open_script(alloc, request.script)?;
     places.push(place)?;
     let inputs = setup_inputs(request.setup, sfdp.as_slice());
     match request.out {
         Some(path) => play_to(
             alloc,
-            shelf,
+            store,
             path,
             places.as_slice(),
             &inputs,
@@ -126,13 +130,13 @@ fn play_request<S: Shelf>(
 
 /// Makes the output's file as none of those at the places, plays a script's file on the chip of the inputs, and has what the
 /// chip holds after it go out there.
-fn play_to<S: Shelf>(
+fn play_to<S: FileStore>(
     alloc: Global,
-    shelf: &S,
+    store: &S,
     path: &str,
-    places: &[Place],
+    places: &[FileId],
     inputs: &Inputs<'_>,
-    bench: Bench,
+    bench: ChipBehaviour,
     script: ScriptFile<S::Input>,
     content: &mut S::Input,
     len: u64,
@@ -141,14 +145,14 @@ fn play_to<S: Shelf>(
     requires script { DoNotFail S.Input.count script }
     requires reader { S.Input.count content.old < 2 ^ 64 - 1 }
     ensures played { IfOk result (IsPlayVerdict
-        (IsMadeFor (S.facts shelf.now) path.now places.now inputs.now bench (S.Input.ahead content.old) len)
-        (IsTextOfFile S.Input.ahead script) (S.facts shelf.now).flushed) }
-    ensures refused { IfErr result (RefusesRun (OrScript (S.facts shelf.now).lacked)
-        (IsMadeFor (S.facts shelf.now) path.now places.now inputs.now bench (S.Input.ahead content.old) len) (IsTextOfFile S.Input.ahead script)) }
+        (IsMadeFor (S.facts store.now) path.now places.now inputs.now bench (S.Input.ahead content.old) len)
+        (IsTextOfFile S.Input.ahead script) (S.facts store.now).flushed) }
+    ensures refused { IfErr result (RefusesRun (OrScript (S.facts store.now).lacked)
+        (IsMadeFor (S.facts store.now) path.now places.now inputs.now bench (S.Input.ahead content.old) len) (IsTextOfFile S.Input.ahead script)) }
 {
-    let mut file = shelf.create(alloc, path, FileName::Out, places)?;
+    let mut file = store.create(alloc, path, FileName::Out, places)?;
     let verdict = play_file(alloc, inputs, bench, script, content, len, &mut file)?;
-    match shelf.flush(&mut file) {
+    match store.flush(&mut file) {
         Ok(()) => Ok(verdict),
         Err(_) => Err(Refusal::WRITE),
     }
@@ -158,7 +162,7 @@ fn play_to<S: Shelf>(
 fn play_file<F: ByteIn + Drop, R: ByteIn, W: ByteOut>(
     alloc: Global,
     inputs: &Inputs<'_>,
-    bench: Bench,
+    bench: ChipBehaviour,
     script: ScriptFile<F>,
     content: &mut R,
     len: u64,

@@ -13,7 +13,7 @@ ghost use Rattle.norprog_common.specs.Content.{CountsReader, CountsWriter};
 ghost use Rattle.norprog_run.specs.Streams.{PlaysText, StopsText, PlaysStreams, RefusesStreams, IsOfChip, IsOfContent, CountsScript, CountsOne, RefusesScript, refusal_of as told_of};
 
 use crate::kind::{Kind, kind_of};
-use crate::request::Bench;
+use crate::request::ChipBehaviour;
 use crate::steps::play_text;
 use crate::verdict::Verdict;
 use nor_base::{ByteIn, ByteOut, put_all};
@@ -38,7 +38,7 @@ use std::alloc::Global;
 pub fn play_streams<F: ByteIn, A: ByteIn, R: ByteIn, W: ByteOut>(
     alloc: Global,
     inputs: &Inputs<'_>,
-    bench: Bench,
+    bench: ChipBehaviour,
     first: &mut F,
     again: &mut A,
     content: &mut R,
@@ -87,7 +87,7 @@ fn check_script<F: ByteIn>(alloc: Global, script: &mut F) -> Result<(), Refusal>
 fn play_on<A: ByteIn, W: ByteOut>(
     alloc: Global,
     kind: &Kind,
-    bench: Bench,
+    bench: ChipBehaviour,
     script: &mut A,
     array: Vec<u8>,
     out: &mut W,

@@ -3,9 +3,9 @@ use Rattle.std.proofs.Common.{◌≡◌, ◌∙◌, ap, refl, sym, true, Bor, co
 use Rattle.nor_base.specs.declared.meaning.Part.{Part}
 use Rattle.nor_job.specs.Task.{Task}
 use Rattle.norprog_common.specs.Chip.{Origin}
-use Rattle.norprog_common.specs.Shelf.{FileFacts, AreTables}
+use Rattle.norprog_common.specs.FileStore.{FileFacts, AreTables}
 use Rattle.norprog_common.specs.Values.{part_of}
-use Rattle.norprog_common.specs.declared.given.GivenChip.{GivenChip}
+use Rattle.norprog_common.specs.declared.given.ChipArgs.{ChipArgs}
 use Rattle.norprog_common.specs.Setup.{chip_asked, family_asked}
 use Rattle.norprog_sfdp.specs.Served.{asks_chip, ServesChip, IsTaskAlone, IsChipTask}
 use Rattle.norprog_common.proofs.ServedLemmas.{both}
@@ -23,14 +23,14 @@ unwrapped : (o : Option (Bor (List ℕ))) (default : Bor (List ℕ)) → (unwrap
 unwrapped (Some text) default = refl
 unwrapped None default = refl
 
-pub family_of : (given : GivenChip) (text default : Bor (List ℕ)) (o : Option Part) (part : Part) → text ≡ unwrap_or given.part default
+pub family_of : (given : ChipArgs) (text default : Bor (List ℕ)) (o : Option Part) (part : Part) → text ≡ unwrap_or given.part default
     → default.now ≡ codes "generic" → o ≡ part_of text.now → o ≡ Some part → part_of (family_asked given) ≡ Some part
 family_of given text default o part is generic named some =
     sym (ap (λ (t : Bor (List ℕ)). part_of t.now) is ∙ ap part_of (unwrapped given.part default ∙ ap (unwrap_or (option_map (λ t. t.now) given.part)) generic)) ∙ (sym named ∙ some)
 
-pub chip_serves : (files : FileFacts) (given : GivenChip) (origin : Origin) (part : Part) → chip_asked given ≡ Some origin → part_of (family_asked given) ≡ Some part
+pub chip_serves : (files : FileFacts) (given : ChipArgs) (origin : Origin) (part : Part) → chip_asked given ≡ Some origin → part_of (family_asked given) ≡ Some part
     → (t : Task) → IsChipTask files origin part t → ServesChip files given t
 chip_serves files given origin part named family t of = record { origin = origin; named = named; part = part; family = family; chip = of }
 
-pub chip_is_asked : (given : GivenChip) (origin : Origin) (part : Part) → chip_asked given ≡ Some origin → part_of (family_asked given) ≡ Some part → asks_chip given ≡ true
+pub chip_is_asked : (given : ChipArgs) (origin : Origin) (part : Part) → chip_asked given ≡ Some origin → part_of (family_asked given) ≡ Some part → asks_chip given ≡ true
 chip_is_asked given origin part named family = both (is_some (chip_asked given)) (is_some (part_of (family_asked given))) (ap is_some named) (ap is_some family)

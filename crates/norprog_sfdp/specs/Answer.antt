@@ -10,8 +10,8 @@ use Rattle.nor_job.specs.Task.{Task, contradiction}
 use Rattle.norprog_sfdp.specs.ChipText.{meaning_text}
 use Rattle.norprog_common.specs.declared.faults.FileName.{FileName}
 use Rattle.norprog_common.specs.declared.faults.Refusal.{Refusal}
-use Rattle.norprog_common.specs.declared.given.GivenChip.{GivenChip}
-use Rattle.norprog_common.specs.Shelf.{FileFacts}
+use Rattle.norprog_common.specs.declared.given.ChipArgs.{ChipArgs}
+use Rattle.norprog_common.specs.FileStore.{FileFacts}
 use Rattle.norprog_common.specs.Told.{ForAsked, OfFault, RefusesFor, AnswersAsked}
 use Rattle.norprog_sfdp.specs.Served.{asks_chip, ServesChip}
 
@@ -44,7 +44,7 @@ CutsMeaning Asked before after =
     (after ≡ before) ⊎ ((m : Parameters) × IsMeaning Asked m × Cuts before after (meaning_text m))
 
 -- what `sfdp` answers to the texts of a command line: the lines of the meaning at status 0, or a refusal
-abbrev pub AnswersChip : FileFacts → GivenChip → Option (List ℕ) → Option (List ℕ) → Type 0 → Type 0 → Option (List ℕ) → Option (List ℕ) → ℕ → Type 0
+abbrev pub AnswersChip : FileFacts → ChipArgs → Option (List ℕ) → Option (List ℕ) → Type 0 → Type 0 → Option (List ℕ) → Option (List ℕ) → ℕ → Type 0
 AnswersChip files given before after Quiet Works told_before told_after status =
     AnswersAsked (asks_chip given)
     ((status ≡ 0) × PrintsMeaning (ServesChip files given) before after × Quiet)

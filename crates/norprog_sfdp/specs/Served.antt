@@ -3,13 +3,13 @@ use Rattle.std.specs.Prelude.{◌≡◌, ℕ, false, List, [], None, Some, Bool,
 use Rattle.nor_base.specs.declared.meaning.Part.{Part}
 use Rattle.nor_job.specs.Task.{Task}
 use Rattle.norprog_common.specs.Chip.{Origin, task_chip}
-use Rattle.norprog_common.specs.Shelf.{FileFacts, AreTables}
+use Rattle.norprog_common.specs.FileStore.{FileFacts, AreTables}
 use Rattle.norprog_common.specs.Values.{part_of}
-use Rattle.norprog_common.specs.declared.given.GivenChip.{GivenChip}
+use Rattle.norprog_common.specs.declared.given.ChipArgs.{ChipArgs}
 use Rattle.norprog_common.specs.Setup.{chip_asked, family_asked}
 
 -- a chip, and a family
-abbrev pub asks_chip : GivenChip → Bool
+abbrev pub asks_chip : ChipArgs → Bool
 asks_chip given = is_some (chip_asked given) && is_some (part_of (family_asked given))
 
 -- the task of a chip alone, of these tables or of its size, and of that family
@@ -33,7 +33,7 @@ abbrev pub IsChipTask : FileFacts → Origin → Part → Task → Type 0
 IsChipTask files origin part t = (tables : List ℕ) × AreTables files origin tables × IsTaskAlone origin part tables t
 
 -- the task is that of the chip that the texts name, alone
-pub record ServesChip (files : FileFacts) (given : GivenChip) (t : Task) : Type 0 where
+pub record ServesChip (files : FileFacts) (given : ChipArgs) (t : Task) : Type 0 where
   pub origin : Origin
   pub named : chip_asked given ≡ Some origin
   pub part : Part

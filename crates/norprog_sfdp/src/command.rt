@@ -10,7 +10,7 @@ use crate::chip_text::sfdp_text;
 use nor_base::{ByteOut, Meaning, Part};
 use nor_job::{BuildFault, Inputs, contradiction};
 use norprog_common::{
-    Chip, GivenChip, Refusal, Shelf, answered, chip_of, part, source_of, tables_of,
+    Chip, ChipArgs, FileStore, Refusal, answered, chip_of, part, source_of, tables_of,
 };
 use std::alloc::Global;
 
@@ -18,10 +18,10 @@ use std::alloc::Global;
 /// 9), and answers the status: 0 done, 1 refused, 2 usage.
 ///
 /// Usage is told where the texts ask for no chip.
-pub fn sfdp<S: Shelf, O: ByteOut, E: ByteOut>(
+pub fn sfdp<S: FileStore, O: ByteOut, E: ByteOut>(
     alloc: Global,
-    shelf: &S,
-    given: GivenChip<'_>,
+    store: &S,
+    given: ChipArgs<'_>,
     out: &mut O,
     err: &mut E,
 ) -> u8
@@ -29,30 +29,30 @@ pub fn sfdp<S: Shelf, O: ByteOut, E: ByteOut>(
     requires err { E.count err.old < 2 ^ 64 - 1 }
     ensures status { result ≤ 2 }
     ensures quiet { result ≡ 0 → err.new ≡ err.old }
-    ensures answer { AnswersChip (S.facts shelf.now) given.entry (O.held out.old) (O.held out.new) (err.new ≡ err.old)
+    ensures answer { AnswersChip (S.facts store.now) given.entry (O.held out.old) (O.held out.new) (err.new ≡ err.old)
         (E.count err.new ≡ E.count err.old) (E.held err.old) (E.held err.new) result }
 {
-    answered(report_meaning(alloc, shelf, given, out), err)
+    answered(report_meaning(alloc, store, given, out), err)
 }
 
 /// Writes what the tables mean.
-fn report_meaning<S: Shelf, O: ByteOut>(
+fn report_meaning<S: FileStore, O: ByteOut>(
     alloc: Global,
-    shelf: &S,
-    given: GivenChip<'_>,
+    store: &S,
+    given: ChipArgs<'_>,
     out: &mut O,
 ) -> Result<u8, Refusal>
     requires { O.count out.old < 2 ^ 64 - 1 }
     ensures status { IfOk result (λ status. status ≡ 0) }
-    ensures printed { IfOk result (λ _. PrintsMeaning (ServesChip (S.facts shelf.now) given.entry) (O.held out.old) (O.held out.new)) }
-    ensures unprinted { IfErr result (λ _. CutsMeaning (ServesChip (S.facts shelf.now) given.entry) (O.held out.old) (O.held out.new)) }
+    ensures printed { IfOk result (λ _. PrintsMeaning (ServesChip (S.facts store.now) given.entry) (O.held out.old) (O.held out.new)) }
+    ensures unprinted { IfErr result (λ _. CutsMeaning (ServesChip (S.facts store.now) given.entry) (O.held out.old) (O.held out.new)) }
     ensures asked { IfOk result (λ _. asks_chip given.entry ≡ true) }
-    ensures first { IfErr result (OrUsage (asks_chip given.entry) (RefusesMeaning (S.facts shelf.now).lacked
-        (ServesChip (S.facts shelf.now) given.entry))) }
+    ensures first { IfErr result (OrUsage (asks_chip given.entry) (RefusesMeaning (S.facts store.now).lacked
+        (ServesChip (S.facts store.now) given.entry))) }
 {
     let chip = chip_of(given.sfdp, given.uniform, given.bits).ok_or(Refusal::Usage)?;
     let part = part(given.part.unwrap_or("generic")).ok_or(Refusal::Usage)?;
-    let meaning = run_meaning(alloc, shelf, chip, part)?;
+    let meaning = run_meaning(alloc, store, chip, part)?;
     match sfdp_text(&meaning, out) {
         Ok(()) => Ok(0),
         Err(_) => Err(Refusal::WRITE),
@@ -60,17 +60,17 @@ fn report_meaning<S: Shelf, O: ByteOut>(
 }
 
 /// Opens the chip's file, if it has one, and answers the chip's meaning.
-fn run_meaning<S: Shelf>(
+fn run_meaning<S: FileStore>(
     alloc: Global,
-    shelf: &S,
+    store: &S,
     chip: Chip<'_>,
     part: Part,
 ) -> Result<Meaning, Refusal>
-    ensures means { IfOk result (IsMeaning (IsChipTask (S.facts shelf.now) (origin_of chip.entry) part)) }
-    ensures refused { IfErr result (RefusesMeaning (S.facts shelf.now).lacked
-        (IsChipTask (S.facts shelf.now) (origin_of chip.entry) part)) }
+    ensures means { IfOk result (IsMeaning (IsChipTask (S.facts store.now) (origin_of chip.entry) part)) }
+    ensures refused { IfErr result (RefusesMeaning (S.facts store.now).lacked
+        (IsChipTask (S.facts store.now) (origin_of chip.entry) part)) }
 {
-    let tables = tables_of(alloc, shelf, chip)?;
+    let tables = tables_of(alloc, store, chip)?;
     chip_alone(chip, part, tables.as_slice())
 }
 

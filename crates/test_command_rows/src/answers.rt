@@ -3,7 +3,7 @@
 use nor_base::{IntoWrite, Nowhere};
 use norprog_build::build;
 use norprog_check::check;
-use norprog_common::{Disk, Refusal, refuse};
+use norprog_common::{Refusal, SystemFiles, refuse};
 use norprog_draw::draw;
 use norprog_explain::explain;
 use norprog_list::list;
@@ -31,7 +31,7 @@ pub(crate) fn status_of(
 /// The status, with what is printed in these files.
 fn status_into(rt: &HostRuntime, asked: Result<Asked<'_>, Refusal>, out: File, err: File) -> u8 {
     let alloc = rt.alloc();
-    let files = Disk::new(rt);
+    let files = SystemFiles::new(rt);
     let mut out = IntoWrite::new(out);
     let mut err = IntoWrite::new(err);
     match asked {

@@ -19,6 +19,6 @@ mod refusals;
 #[cfg(test)]
 mod same;
 #[cfg(test)]
-mod shelf;
+mod store;
 #[cfg(test)]
 mod windows;

@@ -12,7 +12,7 @@ use Rattle.norprog_build.proofs.command.report_build.Goals as goal
 
 pub returns-in-Ok-clause-printed : goal.returns-in-Ok-clause-printed
 returns-in-Ok-clause-printed g c =
-    let files = g.S.Shelf.facts c.args.shelf.now in
+    let files = g.S.FileStore.facts c.args.store.now in
     let out = ap (option_map (λ t. t.now)) c.in_ok-path.ensures.ok_part in
     let wider = build_serves files c.args.given c.request_of.result c.in_ok-request.request c.in_ok-path.path.now
     c.in_ok-request.ensures.ok_part c.request_of.ensures.values out in
@@ -24,7 +24,7 @@ returns-in-Ok-clause-printed g c =
 
 pub returns-in_err-report-clause-first : goal.returns-in_err-report-clause-first
 returns-in_err-report-clause-first g c =
-    let files = g.S.Shelf.facts c.args.shelf.now in
+    let files = g.S.FileStore.facts c.args.store.now in
     let out = ap (option_map (λ t. t.now)) c.in_ok-path.ensures.ok_part in
     let wider = build_serves files c.args.given c.request_of.result c.in_ok-request.request c.in_ok-path.path.now
     c.in_ok-request.ensures.ok_part c.request_of.ensures.values out in
@@ -35,7 +35,7 @@ returns-in_err-report-clause-first g c =
 
 pub returns-clause-unprinted : goal.returns-clause-unprinted
 returns-clause-unprinted g c =
-    let files = g.S.Shelf.facts c.args.shelf.now in
+    let files = g.S.FileStore.facts c.args.store.now in
     let out = ap (option_map (λ t. t.now)) c.in_ok-path.ensures.ok_part in
     let wider = build_serves files c.args.given c.request_of.result c.in_ok-request.request c.in_ok-path.path.now
     c.in_ok-request.ensures.ok_part c.request_of.ensures.values out in
@@ -47,7 +47,7 @@ returns-clause-unprinted g c =
 
 pub returns-clause-first : goal.returns-clause-first
 returns-clause-first g c =
-    let files = g.S.Shelf.facts c.args.shelf.now in
+    let files = g.S.FileStore.facts c.args.store.now in
     let out = ap (option_map (λ t. t.now)) c.in_ok-path.ensures.ok_part in
     let wider = build_serves files c.args.given c.request_of.result c.in_ok-request.request c.in_ok-path.path.now
     c.in_ok-request.ensures.ok_part c.request_of.ensures.values out in

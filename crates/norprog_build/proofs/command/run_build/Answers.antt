@@ -1,6 +1,6 @@
 -- The report, or the fault, is that of the request's job.
 use Rattle.std.proofs.Common.{Some}
-use Rattle.norprog_common.proofs.ShelfLemmas.{made_apart}
+use Rattle.norprog_common.proofs.StoreLemmas.{made_apart}
 use Rattle.norprog_common.specs.Served.{IsJobOf, held_in, input_files_of}
 use Rattle.norprog_build.proofs.AnswerLemmas.{report_of, refusal_of_build}
 use Rattle.norprog_common.proofs.ServedLemmas.{job_of}
@@ -8,7 +8,7 @@ use Rattle.norprog_build.proofs.command.run_build.Goals as goal
 
 pub returns-clause-built : goal.returns-clause-built
 returns-clause-built g c =
-    let files = g.S.Shelf.facts c.args.shelf.now in
+    let files = g.S.FileStore.facts c.args.store.now in
     let made = made_apart files (input_files_of c.args.request.now) c.args.path.now _ _ _ _ c.new-places.ensures.items c.in_ok-texts.ensures.noted c.as_slice.ensures.value
     c.in_ok-script.ensures.made in
     let asked = job_of files c.args.request.now (Some c.args.path.now) c.inputs_of-inputs.result _ _ (Some _) (held_in c.in_ok-texts.texts)
@@ -18,7 +18,7 @@ returns-clause-built g c =
 
 pub returns-clause-refused : goal.returns-clause-refused
 returns-clause-refused g c =
-    let files = g.S.Shelf.facts c.args.shelf.now in
+    let files = g.S.FileStore.facts c.args.store.now in
     let made = made_apart files (input_files_of c.args.request.now) c.args.path.now _ _ _ _ c.new-places.ensures.items c.in_ok-texts.ensures.noted c.as_slice.ensures.value
     c.in_ok-script.ensures.made in
     let asked = job_of files c.args.request.now (Some c.args.path.now) c.inputs_of-inputs.result _ _ (Some _) (held_in c.in_ok-texts.texts)

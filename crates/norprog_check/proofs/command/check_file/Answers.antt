@@ -1,6 +1,6 @@
 -- The stop, of one reading or of two, is that of the job.
 use Rattle.std.proofs.Common.{None}
-use Rattle.norprog_common.specs.Shelf.{IsTextOfFile}
+use Rattle.norprog_common.specs.FileStore.{IsTextOfFile}
 use Rattle.norprog_common.specs.Served.{job_with}
 use Rattle.norprog_check.proofs.AnswerLemmas.{refusal_of_check, refusal_of_streams}
 use Rattle.norprog_check.proofs.command.check_file.Goals as goal

@@ -1,6 +1,6 @@
 -- The verdict is on what the texts ask for.
 use Rattle.std.proofs.Common.{ap, inr, is_some, None, option_map, ◌&&◌}
-use Rattle.norprog_common.specs.Shelf.{IsTextIn}
+use Rattle.norprog_common.specs.FileStore.{IsTextIn}
 use Rattle.norprog_common.specs.Told.{OrScript}
 use Rattle.nor_base.proofs.FaultLaws.{handed_on}
 use Rattle.norprog_common.proofs.ToldLemmas.{or_usage}
@@ -13,7 +13,7 @@ use Rattle.norprog_check.proofs.command.report_check.Goals as goal
 
 pub returns-in-Ok-clause-checked : goal.returns-in-Ok-clause-checked
 returns-in-Ok-clause-checked g c =
-    let files = g.S.Shelf.facts c.args.shelf.now in
+    let files = g.S.FileStore.facts c.args.store.now in
     let script = ap (option_map (λ t. t.now)) c.in_ok-path.ensures.ok_part in
     let wider = check_serves files c.args.given c.request_of.result c.in_ok-request.request
     c.in_ok-request.ensures.ok_part c.request_of.ensures.values in
@@ -22,7 +22,7 @@ returns-in-Ok-clause-checked g c =
 
 pub returns-in_err-verdict-clause-first : goal.returns-in_err-verdict-clause-first
 returns-in_err-verdict-clause-first g c =
-    let files = g.S.Shelf.facts c.args.shelf.now in
+    let files = g.S.FileStore.facts c.args.store.now in
     let script = ap (option_map (λ t. t.now)) c.in_ok-path.ensures.ok_part in
     let wider = check_serves files c.args.given c.request_of.result c.in_ok-request.request
     c.in_ok-request.ensures.ok_part c.request_of.ensures.values in
@@ -34,7 +34,7 @@ returns-in_err-verdict-clause-first g c =
 
 pub returns-clause-unprinted : goal.returns-clause-unprinted
 returns-clause-unprinted g c =
-    let files = g.S.Shelf.facts c.args.shelf.now in
+    let files = g.S.FileStore.facts c.args.store.now in
     let script = ap (option_map (λ t. t.now)) c.in_ok-path.ensures.ok_part in
     let wider = check_serves files c.args.given c.request_of.result c.in_ok-request.request
     c.in_ok-request.ensures.ok_part c.request_of.ensures.values in
@@ -47,7 +47,7 @@ returns-clause-unprinted g c =
 
 pub returns-clause-first : goal.returns-clause-first
 returns-clause-first g c =
-    let files = g.S.Shelf.facts c.args.shelf.now in
+    let files = g.S.FileStore.facts c.args.store.now in
     let script = ap (option_map (λ t. t.now)) c.in_ok-path.ensures.ok_part in
     let wider = check_serves files c.args.given c.request_of.result c.in_ok-request.request
     c.in_ok-request.ensures.ok_part c.request_of.ensures.values in

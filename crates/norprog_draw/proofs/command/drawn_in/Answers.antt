@@ -9,11 +9,11 @@ pub returns-clause-drawn : goal.returns-clause-drawn
 returns-clause-drawn g c =
     let line : c.args.given ≡ Ok c.in_ok-given.field-0 = search rules in
     let asks : AsksFor c.in_ok-given.field-0 c.in_ok-request.request = search rules in
-    drawings_asked (g.S.Shelf.facts c.args.shelf.now) c.args.given c.in_ok-given.field-0 c.in_ok-request.request _ line asks c.run_draw.ensures.drawn
+    drawings_asked (g.S.FileStore.facts c.args.store.now) c.args.given c.in_ok-given.field-0 c.in_ok-request.request _ line asks c.run_draw.ensures.drawn
 
 pub returns-clause-first : goal.returns-clause-first
 returns-clause-first g c =
     let line : c.args.given ≡ Ok c.in_ok-given.field-0 = search rules in
     let asks : AsksFor c.in_ok-given.field-0 c.in_ok-request.request = search rules in
     let none : line_fault is_well_formed c.args.given ≡ None = search rules in
-    refusals_asked (g.S.Shelf.facts c.args.shelf.now) c.args.given c.in_ok-given.field-0 c.in_ok-request.request _ line asks none c.run_draw.ensures.refused
+    refusals_asked (g.S.FileStore.facts c.args.store.now) c.args.given c.in_ok-given.field-0 c.in_ok-request.request _ line asks none c.run_draw.ensures.refused

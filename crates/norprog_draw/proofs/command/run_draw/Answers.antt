@@ -5,7 +5,7 @@ use Rattle.norprog_draw.proofs.command.run_draw.Goals as goal
 
 pub returns-clause-drawn : goal.returns-clause-drawn
 returns-clause-drawn g c =
-    let files = g.S.Shelf.facts c.args.shelf.now in
+    let files = g.S.FileStore.facts c.args.store.now in
     let gave = subst (files.gave c.args.request.script.now) (sym c.as_slice.ensures.value) c.in_ok-script.ensures.gave in
     done_is_drawn files c.args.request _ _ _ gave
     (c.in_ok-script.place ∷ [], (c.in_ok-script.ensures.stood, tt), c.in_ok-out.ensures.made) c.draw_script-answer.result c.flush-flushed.result _ c.draw_script-answer.ensures.drawn
@@ -13,7 +13,7 @@ returns-clause-drawn g c =
 
 pub returns-clause-refused : goal.returns-clause-refused
 returns-clause-refused g c =
-    let files = g.S.Shelf.facts c.args.shelf.now in
+    let files = g.S.FileStore.facts c.args.store.now in
     let gave = subst (files.gave c.args.request.script.now) (sym c.as_slice.ensures.value) c.in_ok-script.ensures.gave in
     done_is_refused files c.args.request _ _ _ gave
     (c.in_ok-script.place ∷ [], (c.in_ok-script.ensures.stood, tt), c.in_ok-out.ensures.made) c.draw_script-answer.result c.flush-flushed.result _ c.draw_script-answer.ensures.drawn

@@ -10,7 +10,7 @@ use Rattle.norprog_plan.proofs.command.report_plan.Goals as goal
 
 pub returns-in-Ok-clause-printed : goal.returns-in-Ok-clause-printed
 returns-in-Ok-clause-printed g c =
-    let files = g.S.Shelf.facts c.args.shelf.now in
+    let files = g.S.FileStore.facts c.args.store.now in
     let wider = plan_serves files c.args.given c.request_of.result c.in_ok-request.request c.in_ok-request.ensures.ok_part c.request_of.ensures.values in
     let whole = whole_of c.run_plan-lines.result.rest c.in-Ok.rest (λ rest. rest.items) files.flushed c.args.given.times (IsJobOf files c.in_ok-request.request (option_map (λ t. t.now) c.args.given.map))
     _ _ _ c.in-Ok.is c.as_slice.ensures.value c.as_slice-in-Ok.ensures.value c.run_plan-lines.ensures.whole in
@@ -18,7 +18,7 @@ returns-in-Ok-clause-printed g c =
 
 pub returns-in-Ok-clause-unprinted : goal.returns-in-Ok-clause-unprinted
 returns-in-Ok-clause-unprinted g c =
-    let files = g.S.Shelf.facts c.args.shelf.now in
+    let files = g.S.FileStore.facts c.args.store.now in
     let wider = plan_serves files c.args.given c.request_of.result c.in_ok-request.request c.in_ok-request.ensures.ok_part c.request_of.ensures.values in
     let whole = whole_of c.run_plan-lines.result.rest c.in-Ok.rest (λ rest. rest.items) files.flushed c.args.given.times (IsJobOf files c.in_ok-request.request (option_map (λ t. t.now) c.args.given.map))
     _ _ _ c.in-Ok.is c.as_slice.ensures.value c.as_slice-in-Ok.ensures.value c.run_plan-lines.ensures.whole in
@@ -26,7 +26,7 @@ returns-in-Ok-clause-unprinted g c =
 
 pub returns-in-Ok-clause-first : goal.returns-in-Ok-clause-first
 returns-in-Ok-clause-first g c =
-    let files = g.S.Shelf.facts c.args.shelf.now in
+    let files = g.S.FileStore.facts c.args.store.now in
     let wider = plan_serves files c.args.given c.request_of.result c.in_ok-request.request c.in_ok-request.ensures.ok_part c.request_of.ensures.values in
     let formed = is_formed c.args.given.job c.request_of.result c.in_ok-request.request c.in_ok-request.ensures.ok_part c.request_of.ensures.forms in
     let whole = whole_of c.run_plan-lines.result.rest c.in-Ok.rest (λ rest. rest.items) files.flushed c.args.given.times (IsJobOf files c.in_ok-request.request (option_map (λ t. t.now) c.args.given.map))
@@ -35,7 +35,7 @@ returns-in-Ok-clause-first g c =
 
 pub returns-clause-unprinted : goal.returns-clause-unprinted
 returns-clause-unprinted g c =
-    let files = g.S.Shelf.facts c.args.shelf.now in
+    let files = g.S.FileStore.facts c.args.store.now in
     let wider = plan_serves files c.args.given c.request_of.result c.in_ok-request.request c.in_ok-request.ensures.ok_part c.request_of.ensures.values in
     let part = part_of_lines c.run_plan-lines.result.rest c.in-Err.refusal (IsJobOf files c.in_ok-request.request (option_map (λ t. t.now) c.args.given.map))
     _ _ c.in-Err.is c.as_slice-in-Err.ensures.value c.run_plan-lines.ensures.part in
@@ -43,7 +43,7 @@ returns-clause-unprinted g c =
 
 pub returns-clause-first : goal.returns-clause-first
 returns-clause-first g c =
-    let files = g.S.Shelf.facts c.args.shelf.now in
+    let files = g.S.FileStore.facts c.args.store.now in
     let wider = plan_serves files c.args.given c.request_of.result c.in_ok-request.request c.in_ok-request.ensures.ok_part c.request_of.ensures.values in
     let formed = is_formed c.args.given.job c.request_of.result c.in_ok-request.request c.in_ok-request.ensures.ok_part c.request_of.ensures.forms in
     let part = part_of_lines c.run_plan-lines.result.rest c.in-Err.refusal (IsJobOf files c.in_ok-request.request (option_map (λ t. t.now) c.args.given.map))

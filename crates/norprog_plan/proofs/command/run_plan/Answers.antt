@@ -7,7 +7,7 @@ use Rattle.norprog_plan.proofs.command.run_plan.Goals as goal
 
 pub returns-in-Ok-clause-whole : goal.returns-in-Ok-clause-whole
 returns-in-Ok-clause-whole g c =
-    let files = g.S.Shelf.facts c.args.shelf.now in
+    let files = g.S.FileStore.facts c.args.store.now in
     let out = option_map (λ t. t.now) c.args.map in
     let asked = job_of files c.args.request.now out c.inputs_of-inputs.result _ _ _ (held_in c.in-Ok.files.texts)
     c.in-Ok.ensures.given c.inputs_of-inputs.ensures c.in-Ok.ensures.content c.in-Ok.ensures.made in
@@ -15,7 +15,7 @@ returns-in-Ok-clause-whole g c =
 
 pub returns-in-Ok-clause-part : goal.returns-in-Ok-clause-part
 returns-in-Ok-clause-part g c =
-    let files = g.S.Shelf.facts c.args.shelf.now in
+    let files = g.S.FileStore.facts c.args.store.now in
     let out = option_map (λ t. t.now) c.args.map in
     let asked = job_of files c.args.request.now out c.inputs_of-inputs.result _ _ _ (held_in c.in-Ok.files.texts)
     c.in-Ok.ensures.given c.inputs_of-inputs.ensures c.in-Ok.ensures.content c.in-Ok.ensures.made in
@@ -23,7 +23,7 @@ returns-in-Ok-clause-part g c =
 
 pub returns-in-Ok-clause-refused : goal.returns-in-Ok-clause-refused
 returns-in-Ok-clause-refused g c =
-    let files = g.S.Shelf.facts c.args.shelf.now in
+    let files = g.S.FileStore.facts c.args.store.now in
     let out = option_map (λ t. t.now) c.args.map in
     let asked = job_of files c.args.request.now out c.inputs_of-inputs.result _ _ _ (held_in c.in-Ok.files.texts)
     c.in-Ok.ensures.given c.inputs_of-inputs.ensures c.in-Ok.ensures.content c.in-Ok.ensures.made in

@@ -1,7 +1,7 @@
 -- The ending, or why there is none, is of the request's chip, script, content, limit and trust.
 use Rattle.std.proofs.Common.{sym, subst}
 use Rattle.norprog_common.specs.Chip.{origin_of}
-use Rattle.norprog_common.specs.Shelf.{AreTables}
+use Rattle.norprog_common.specs.FileStore.{AreTables}
 use Rattle.nor_base.proofs.FaultLaws.{handed_on}
 use Rattle.norprog_play.specs.declared.unplayed.Unplayed.TheVariants.{Refused}
 use Rattle.norprog_play.specs.Answer.{IsUnplayed}
@@ -11,7 +11,7 @@ use Rattle.norprog_play.proofs.command.play_request.Goals as goal
 
 pub returns-in_err-job-clause-refused : goal.returns-in_err-job-clause-refused
 returns-in_err-job-clause-refused g c =
-    let files = g.S.Shelf.facts c.args.shelf.now in
+    let files = g.S.FileStore.facts c.args.store.now in
     let tables = subst (AreTables files (origin_of c.args.request.setup.chip)) (sym c.as_slice.ensures.value) c.in_ok-tables.ensures.tables in
     let script = subst (files.gave c.args.request.script.now) (sym c.as_slice-2.ensures.value) c.in_ok-script.ensures.gave in
     handed_on _ _ _ c.from_residual-in_err-job.ensures.1
@@ -19,7 +19,7 @@ returns-in_err-job-clause-refused g c =
 
 pub returns-clause-played : goal.returns-clause-played
 returns-clause-played g c =
-    let files = g.S.Shelf.facts c.args.shelf.now in
+    let files = g.S.FileStore.facts c.args.store.now in
     let tables = subst (AreTables files (origin_of c.args.request.setup.chip)) (sym c.as_slice.ensures.value) c.in_ok-tables.ensures.tables in
     let script = subst (files.gave c.args.request.script.now) (sym c.as_slice-2.ensures.value) c.in_ok-script.ensures.gave in
     was_played files c.args.request _ _ _ _ _ c.setup_inputs-inputs.ensures tables script c.in_ok-content.ensures.opened _ c.in_ok-job.job.meaning c.in_ok-job.job.start
@@ -27,7 +27,7 @@ returns-clause-played g c =
 
 pub returns-clause-refused : goal.returns-clause-refused
 returns-clause-refused g c =
-    let files = g.S.Shelf.facts c.args.shelf.now in
+    let files = g.S.FileStore.facts c.args.store.now in
     let tables = subst (AreTables files (origin_of c.args.request.setup.chip)) (sym c.as_slice.ensures.value) c.in_ok-tables.ensures.tables in
     let script = subst (files.gave c.args.request.script.now) (sym c.as_slice-2.ensures.value) c.in_ok-script.ensures.gave in
     was_stopped files c.args.request _ _ _ _ _ c.setup_inputs-inputs.ensures tables script c.in_ok-content.ensures.opened _ c.in_ok-job.job.meaning c.in_ok-job.job.start
@@ -35,18 +35,18 @@ returns-clause-refused g c =
 
 pub returns-in_err-tables-clause-refused : goal.returns-in_err-tables-clause-refused
 returns-in_err-tables-clause-refused g c =
-    let files = g.S.Shelf.facts c.args.shelf.now in
+    let files = g.S.FileStore.facts c.args.store.now in
     handed_on (IsUnplayed files.lacked (IsTaskOf files c.args.request)) _ (Refused c.in_err-tables.field-0.0) c.from_residual.ensures.1
     (lacked_refused files.lacked (IsTaskOf files c.args.request) c.in_err-tables.field-0.0 c.in_err-tables.ensures.lacked)
 
 pub returns-in_err-content-clause-refused : goal.returns-in_err-content-clause-refused
 returns-in_err-content-clause-refused g c =
-    let files = g.S.Shelf.facts c.args.shelf.now in
+    let files = g.S.FileStore.facts c.args.store.now in
     handed_on (IsUnplayed files.lacked (IsTaskOf files c.args.request)) _ (Refused c.in_err-content.field-0.0) c.from_residual-in_err-content.ensures.1
     (lacked_refused files.lacked (IsTaskOf files c.args.request) c.in_err-content.field-0.0 c.in_err-content.ensures.lacked)
 
 pub returns-in_err-script-clause-refused : goal.returns-in_err-script-clause-refused
 returns-in_err-script-clause-refused g c =
-    let files = g.S.Shelf.facts c.args.shelf.now in
+    let files = g.S.FileStore.facts c.args.store.now in
     handed_on (IsUnplayed files.lacked (IsTaskOf files c.args.request)) _ (Refused c.in_err-script.field-0.0) c.from_residual-in_err-script.ensures.1
     (lacked_refused files.lacked (IsTaskOf files c.args.request) c.in_err-script.field-0.0 c.in_err-script.ensures.lacked)

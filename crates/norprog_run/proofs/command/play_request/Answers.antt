@@ -1,8 +1,8 @@
 -- What was played is of the chip, the content and the script of the request's files.
 use Rattle.std.proofs.Common.{List, ℕ, None, refl, sym, subst}
 use Rattle.norprog_common.specs.Chip.{origin_of}
-use Rattle.norprog_common.specs.Shelf.{AreTables, IsTextIn, IsTextOfFile}
-use Rattle.norprog_common.proofs.ShelfLemmas.{text_in}
+use Rattle.norprog_common.specs.FileStore.{AreTables, IsTextIn, IsTextOfFile}
+use Rattle.norprog_common.proofs.StoreLemmas.{text_in}
 use Rattle.norprog_common.specs.Told.{OrScript}
 use Rattle.nor_base.proofs.FaultLaws.{handed_on}
 use Rattle.norprog_run.specs.Answer.{RefusesRun}
@@ -12,7 +12,7 @@ use Rattle.norprog_run.proofs.command.play_request.Goals as goal
 
 pub returns-clause-played : goal.returns-clause-played
 returns-clause-played g c =
-    let files = g.S.Shelf.facts c.args.shelf.now in
+    let files = g.S.FileStore.facts c.args.store.now in
     let request = c.args.request in
     let tables = subst (AreTables files (origin_of request.setup.chip)) (sym c.as_slice.ensures.value) c.in_ok-sfdp.ensures.tables in
     let asked = asked_of files request c.setup_inputs-inputs.result request.bench _ _ c.in_ok-content.len None c.setup_inputs-inputs.ensures refl tables
@@ -22,7 +22,7 @@ returns-clause-played g c =
 
 pub returns-clause-refused : goal.returns-clause-refused
 returns-clause-refused g c =
-    let files = g.S.Shelf.facts c.args.shelf.now in
+    let files = g.S.FileStore.facts c.args.store.now in
     let request = c.args.request in
     let tables = subst (AreTables files (origin_of request.setup.chip)) (sym c.as_slice.ensures.value) c.in_ok-sfdp.ensures.tables in
     let asked = asked_of files request c.setup_inputs-inputs.result request.bench _ _ c.in_ok-content.len None c.setup_inputs-inputs.ensures refl tables
@@ -31,7 +31,7 @@ returns-clause-refused g c =
 
 pub returns-in-Some-clause-played : goal.returns-in-Some-clause-played
 returns-in-Some-clause-played g c =
-    let files = g.S.Shelf.facts c.args.shelf.now in
+    let files = g.S.FileStore.facts c.args.store.now in
     let request = c.args.request in
     let tables = subst (AreTables files (origin_of request.setup.chip)) (sym c.as_slice.ensures.value) c.in_ok-sfdp.ensures.tables in
     let tasks = made_for files request c.in-Some.path.now _ c.setup_inputs-inputs.result request.bench _ _ c.in_ok-content.len c.setup_inputs-inputs.ensures refl tables
@@ -43,7 +43,7 @@ returns-in-Some-clause-played g c =
 
 pub returns-in-Some-clause-refused : goal.returns-in-Some-clause-refused
 returns-in-Some-clause-refused g c =
-    let files = g.S.Shelf.facts c.args.shelf.now in
+    let files = g.S.FileStore.facts c.args.store.now in
     let request = c.args.request in
     let tables = subst (AreTables files (origin_of request.setup.chip)) (sym c.as_slice.ensures.value) c.in_ok-sfdp.ensures.tables in
     let tasks = made_for files request c.in-Some.path.now _ c.setup_inputs-inputs.result request.bench _ _ c.in_ok-content.len c.setup_inputs-inputs.ensures refl tables
@@ -55,18 +55,18 @@ returns-in-Some-clause-refused g c =
 
 pub returns-in_err-sfdp-clause-refused : goal.returns-in_err-sfdp-clause-refused
 returns-in_err-sfdp-clause-refused g c =
-    let files = g.S.Shelf.facts c.args.shelf.now in
+    let files = g.S.FileStore.facts c.args.store.now in
     handed_on (RefusesRun (OrScript files.lacked) (IsTaskOf files c.args.request) (IsTextIn files c.args.request.script.now)) _ _ c.from_residual.ensures.1
     (lacked_refused files.lacked (IsTaskOf files c.args.request) (IsTextIn files c.args.request.script.now) c.in_err-sfdp.field-0.0 c.in_err-sfdp.ensures.lacked)
 
 pub returns-in_err-content-clause-refused : goal.returns-in_err-content-clause-refused
 returns-in_err-content-clause-refused g c =
-    let files = g.S.Shelf.facts c.args.shelf.now in
+    let files = g.S.FileStore.facts c.args.store.now in
     handed_on (RefusesRun (OrScript files.lacked) (IsTaskOf files c.args.request) (IsTextIn files c.args.request.script.now)) _ _ c.from_residual-in_err-content.ensures.1
     (lacked_refused files.lacked (IsTaskOf files c.args.request) (IsTextIn files c.args.request.script.now) c.in_err-content.field-0.0 c.in_err-content.ensures.lacked)
 
 pub returns-in_err-script-clause-refused : goal.returns-in_err-script-clause-refused
 returns-in_err-script-clause-refused g c =
-    let files = g.S.Shelf.facts c.args.shelf.now in
+    let files = g.S.FileStore.facts c.args.store.now in
     handed_on (RefusesRun (OrScript files.lacked) (IsTaskOf files c.args.request) (IsTextIn files c.args.request.script.now)) _ _ c.from_residual-in_err-script.ensures.1
     (lacked_refused files.lacked (IsTaskOf files c.args.request) (IsTextIn files c.args.request.script.now) c.in_err-script.field-0.0 c.in_err-script.ensures.lacked)

@@ -1,7 +1,7 @@
 -- What was played went out into the output, which was made first.
 use Rattle.std.proofs.Common.{inr, refl, Some}
 use Rattle.nor_base.proofs.FaultLaws.{handed_on}
-use Rattle.norprog_common.specs.Shelf.{IsTextOfFile}
+use Rattle.norprog_common.specs.FileStore.{IsTextOfFile}
 use Rattle.norprog_common.specs.Told.{OrScript}
 use Rattle.norprog_run.specs.Answer.{RefusesRun}
 use Rattle.norprog_run.specs.Served.{IsMadeFor, play_with}
@@ -10,7 +10,7 @@ use Rattle.norprog_run.proofs.command.play_to.Goals as goal
 
 pub returns-in_err-verdict-clause-refused : goal.returns-in_err-verdict-clause-refused
 returns-in_err-verdict-clause-refused g c =
-    let files = g.S.Shelf.facts c.args.shelf.now in
+    let files = g.S.FileStore.facts c.args.store.now in
     let Asked = IsMadeFor files c.args.path.now c.args.places.now c.args.inputs.now c.args.bench (g.S.Input.ByteIn.ahead c.args.content.now) c.args.len in
     let Spoken = IsTextOfFile g.S.Input.ByteIn.ahead c.args.script in
     let t = play_with c.args.inputs.now c.args.bench (g.S.Input.ByteIn.ahead c.args.content.now) c.args.len (Some (g.S.Output.ByteOut.held c.in_ok-file.file)) in
@@ -20,7 +20,7 @@ returns-in_err-verdict-clause-refused g c =
 
 pub returns-in-Ok-clause-played : goal.returns-in-Ok-clause-played
 returns-in-Ok-clause-played g c =
-    let files = g.S.Shelf.facts c.args.shelf.now in
+    let files = g.S.FileStore.facts c.args.store.now in
     let Asked = IsMadeFor files c.args.path.now c.args.places.now c.args.inputs.now c.args.bench (g.S.Input.ByteIn.ahead c.args.content.now) c.args.len in
     let Spoken = IsTextOfFile g.S.Input.ByteIn.ahead c.args.script in
     let t = play_with c.args.inputs.now c.args.bench (g.S.Input.ByteIn.ahead c.args.content.now) c.args.len (Some (g.S.Output.ByteOut.held c.in_ok-file.file)) in
@@ -29,7 +29,7 @@ returns-in-Ok-clause-played g c =
 
 pub returns-clause-refused : goal.returns-clause-refused
 returns-clause-refused g c =
-    let files = g.S.Shelf.facts c.args.shelf.now in
+    let files = g.S.FileStore.facts c.args.store.now in
     let Asked = IsMadeFor files c.args.path.now c.args.places.now c.args.inputs.now c.args.bench (g.S.Input.ByteIn.ahead c.args.content.now) c.args.len in
     let Spoken = IsTextOfFile g.S.Input.ByteIn.ahead c.args.script in
     let t = play_with c.args.inputs.now c.args.bench (g.S.Input.ByteIn.ahead c.args.content.now) c.args.len (Some (g.S.Output.ByteOut.held c.in_ok-file.file)) in

@@ -4,4 +4,4 @@ use Rattle.norprog_run.proofs.command.report_run.Goals as goal
 
 pub returns-in-Err-clause-first : goal.returns-in-Err-clause-first
 returns-in-Err-clause-first g c =
-    late_refused (g.S.Shelf.facts c.args.shelf.now) c.args.given c.in_ok-verdict.verdict c.in_ok-verdict.ensures.asked c.in_ok-verdict.ensures.played
+    late_refused (g.S.FileStore.facts c.args.store.now) c.args.given c.in_ok-verdict.verdict c.in_ok-verdict.ensures.asked c.in_ok-verdict.ensures.played

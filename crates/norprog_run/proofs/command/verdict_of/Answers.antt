@@ -6,9 +6,9 @@ use Rattle.norprog_run.proofs.command.verdict_of.Goals as goal
 
 pub returns-clause-played : goal.returns-clause-played
 returns-clause-played g c =
-    verdicts_asked (g.S.Shelf.facts c.args.shelf.now) c.args.given c.in_ok-request.request c.in_ok-request.ensures.values _ _ c.play_request.ensures.played
+    verdicts_asked (g.S.FileStore.facts c.args.store.now) c.args.given c.in_ok-request.request c.in_ok-request.ensures.values _ _ c.play_request.ensures.played
 
 pub returns-clause-first : goal.returns-clause-first
 returns-clause-first g c =
     let formed : is_well_formed c.args.given ≡ true = search rules in
-    refusals_asked (g.S.Shelf.facts c.args.shelf.now) c.args.given c.in_ok-request.request c.in_ok-request.ensures.values _ formed c.play_request.ensures.refused
+    refusals_asked (g.S.FileStore.facts c.args.store.now) c.args.given c.in_ok-request.request c.in_ok-request.ensures.values _ formed c.play_request.ensures.refused

@@ -13,7 +13,7 @@ use Rattle.norprog_sfdp.proofs.command.report_meaning.Goals as goal
 
 pub returns-in-Ok-clause-printed : goal.returns-in-Ok-clause-printed
 returns-in-Ok-clause-printed g c =
-    let files = g.S.Shelf.facts c.args.shelf.now in
+    let files = g.S.FileStore.facts c.args.store.now in
     let named = named_of origin_of c.chip_of.result c.in_ok-chip.chip (chip_asked c.args.given) c.chip_of.ensures c.in_ok-chip.ensures.ok_part in
     let family = family_of c.args.given c.unwrap_or.result _ c.part.result c.in_ok-part.part c.unwrap_or.ensures refl c.part.ensures c.in_ok-part.ensures.ok_part in
     let wider = chip_serves files c.args.given (origin_of c.in_ok-chip.chip) c.in_ok-part.part named family in
@@ -21,7 +21,7 @@ returns-in-Ok-clause-printed g c =
 
 pub returns-in_err-meaning-clause-first : goal.returns-in_err-meaning-clause-first
 returns-in_err-meaning-clause-first g c =
-    let files = g.S.Shelf.facts c.args.shelf.now in
+    let files = g.S.FileStore.facts c.args.store.now in
     let named = named_of origin_of c.chip_of.result c.in_ok-chip.chip (chip_asked c.args.given) c.chip_of.ensures c.in_ok-chip.ensures.ok_part in
     let family = family_of c.args.given c.unwrap_or.result _ c.part.result c.in_ok-part.part c.unwrap_or.ensures refl c.part.ensures c.in_ok-part.ensures.ok_part in
     let wider = chip_serves files c.args.given (origin_of c.in_ok-chip.chip) c.in_ok-part.part named family in
@@ -31,7 +31,7 @@ returns-in_err-meaning-clause-first g c =
 
 pub returns-in-Err-clause-unprinted : goal.returns-in-Err-clause-unprinted
 returns-in-Err-clause-unprinted g c =
-    let files = g.S.Shelf.facts c.args.shelf.now in
+    let files = g.S.FileStore.facts c.args.store.now in
     let named = named_of origin_of c.chip_of.result c.in_ok-chip.chip (chip_asked c.args.given) c.chip_of.ensures c.in_ok-chip.ensures.ok_part in
     let family = family_of c.args.given c.unwrap_or.result _ c.part.result c.in_ok-part.part c.unwrap_or.ensures refl c.part.ensures c.in_ok-part.ensures.ok_part in
     let wider = chip_serves files c.args.given (origin_of c.in_ok-chip.chip) c.in_ok-part.part named family in
@@ -39,7 +39,7 @@ returns-in-Err-clause-unprinted g c =
 
 pub returns-in-Err-clause-first : goal.returns-in-Err-clause-first
 returns-in-Err-clause-first g c =
-    let files = g.S.Shelf.facts c.args.shelf.now in
+    let files = g.S.FileStore.facts c.args.store.now in
     let named = named_of origin_of c.chip_of.result c.in_ok-chip.chip (chip_asked c.args.given) c.chip_of.ensures c.in_ok-chip.ensures.ok_part in
     let family = family_of c.args.given c.unwrap_or.result _ c.part.result c.in_ok-part.part c.unwrap_or.ensures refl c.part.ensures c.in_ok-part.ensures.ok_part in
     let wider = chip_serves files c.args.given (origin_of c.in_ok-chip.chip) c.in_ok-part.part named family in

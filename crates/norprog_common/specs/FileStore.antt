@@ -4,7 +4,7 @@ use Rattle.nor_base.specs.Device.{Ahead}
 use Rattle.nor_script.specs.Stream.{IsTextOf}
 use Rattle.norprog_common.specs.Chip.{Origin, Sfdp, Uniform}
 use Rattle.norprog_common.specs.declared.faults.FileName.{FileName}
-use Rattle.norprog_common.specs.declared.files.Place.{Place}
+use Rattle.norprog_common.specs.declared.files.FileId.{FileId}
 use Rattle.norprog_common.specs.declared.files.ScriptFile.{ScriptFile}
 use Rattle.norprog_common.specs.declared.files.ScriptFile.TheVariants.{Twice, Held}
 
@@ -15,8 +15,8 @@ use Rattle.norprog_common.specs.declared.files.ScriptFile.TheVariants.{Twice, He
 pub record FileFacts : Type 1 where
   pub gave : List ℕ → List ℕ → Type 0
   pub opened : List ℕ → Ahead → ℕ → Type 0
-  pub stood : List ℕ → Place → Type 0
-  pub made : List ℕ → List Place → Option (List ℕ) → Type 0
+  pub stood : List ℕ → FileId → Type 0
+  pub made : List ℕ → List FileId → Option (List ℕ) → Type 0
   pub flushed : Option (List ℕ) → Type 0
   pub lacked : FileName → Type 0
 
@@ -42,18 +42,18 @@ tables_file (Sfdp name bits) = name ∷ []
 tables_file (Uniform size) = []
 
 -- the files of these names stood at these places, one at each
-abbrev pub StoodAt : FileFacts → List (List ℕ) → List Place → Type 0
+abbrev pub StoodAt : FileFacts → List (List ℕ) → List FileId → Type 0
 StoodAt files [] [] = ⊤
 StoodAt files (name ∷ names) (place ∷ places) = files.stood name place × StoodAt files names places
 StoodAt files names places = ⊥
 
 -- the places of the files of these names are noted behind those that were
-abbrev pub Notes : FileFacts → List (List ℕ) → List Place → List Place → Type 0
-Notes files names before after = (places : List Place) × StoodAt files names places × (after ≡ before ++ places)
+abbrev pub Notes : FileFacts → List (List ℕ) → List FileId → List FileId → Type 0
+Notes files names before after = (places : List FileId) × StoodAt files names places × (after ≡ before ++ places)
 
 -- the output of this name was made as none of the files of those names, and held this then
 abbrev pub IsMadeApart : FileFacts → List (List ℕ) → List ℕ → Option (List ℕ) → Type 0
-IsMadeApart files inputs name held = (places : List Place) × StoodAt files inputs places × files.made name places held
+IsMadeApart files inputs name held = (places : List FileId) × StoodAt files inputs places × files.made name places held
 
 -- a file is named, and it has this
 abbrev pub Named : (List ℕ → Type 0) → Option (List ℕ) → Type 0

@@ -5,17 +5,17 @@ ghost use Rattle.std.specs.Io.KnownBytes.{Keeps};
 ghost use Rattle.norprog_common.specs.Chip.{origin_of};
 ghost use Rattle.norprog_common.specs.declared.faults.FileName.TheVariants.{Device, Script, Sfdp};
 ghost use Rattle.norprog_common.specs.Files.{RefusesFile, TellsFile};
-ghost use Rattle.norprog_common.specs.Shelf.{AreTables, FileFacts, IsOfScript, DoNotFail, Notes, tables_file};
+ghost use Rattle.norprog_common.specs.FileStore.{AreTables, FileFacts, IsOfScript, DoNotFail, Notes, tables_file};
 
 use crate::chip::Chip;
 use crate::faults::{FileName, Refusal};
-use crate::files::{Place, ScriptFile};
+use crate::files::{FileId, ScriptFile};
 use nor_base::{ByteIn, ByteOut, Failed};
 use std::alloc::Global;
 use std::io::{Read, Write};
 
-/// Files by name. What a file gave, or took, is left open: what is proved of every shelf holds of the system's files.
-pub trait Shelf {
+/// Files by name. What a file gave, or took, is left open: what is proved of every store holds of the system's files.
+pub trait FileStore {
     /// A file that is read.
     type Input: ByteIn + Drop;
 
@@ -35,7 +35,7 @@ pub trait Shelf {
     ///
     /// Where it can't be opened, is a folder or has more bytes, and where a read fails, `File` of `name`; `Memory` where a growth
     /// is refused.
-    fn read(&self, alloc: Global, path: &str, name: FileName) -> Result<(Vec<u8>, Place), Refusal>
+    fn read(&self, alloc: Global, path: &str, name: FileName) -> Result<(Vec<u8>, FileId), Refusal>
         ensures gave { IfOk result (λ read. (facts self.now).gave path.now read.0.items) }
         ensures stood { IfOk result (λ read. (facts self.now).stood path.now read.1) }
         ensures length { IfOk result (λ read. length read.0.items ≤ 2 ^ 36) }
@@ -46,7 +46,7 @@ pub trait Shelf {
     ///
     /// Where it can't be opened or asked, and where it is a folder, `File` of `name`; `Memory` where the system says that it lacks
     /// that.
-    fn open(&self, path: &str, name: FileName) -> Result<(Self::Input, Place, u64), Refusal>
+    fn open(&self, path: &str, name: FileName) -> Result<(Self::Input, FileId, u64), Refusal>
         ensures opened { IfOk result (λ file. (facts self.now).opened path.now (Self.Input.ahead file.0) file.2) }
         ensures stood { IfOk result (λ file. (facts self.now).stood path.now file.1) }
         ensures count { IfOk result (λ file. Self.Input.count file.0 ≡ 0) }
@@ -62,7 +62,7 @@ pub trait Shelf {
         &self,
         alloc: Global,
         path: &str,
-    ) -> Result<(ScriptFile<Self::Input>, Place), Refusal>
+    ) -> Result<(ScriptFile<Self::Input>, FileId), Refusal>
         ensures script { IfOk result (λ script. IsOfScript (facts self.now) path.now Self.Input.ahead script.0) }
         ensures stood { IfOk result (λ script. (facts self.now).stood path.now script.1) }
         ensures count { IfOk result (λ script. DoNotFail Self.Input.count script.0) }
@@ -78,7 +78,7 @@ pub trait Shelf {
         alloc: Global,
         path: &str,
         name: FileName,
-        inputs: &[Place],
+        inputs: &[FileId],
     ) -> Result<Self::Output, Refusal>
         ensures made { IfOk result (λ file. (facts self.now).made path.now inputs.now (Self.Output.held file)) }
         ensures count { IfOk result (λ file. Self.Output.count file ≡ 0) }
@@ -100,33 +100,33 @@ pub trait Shelf {
 
 /// What the file of a chip's SFDP tables holds; nothing for a uniform chip, which has none.
 ///
-/// `File` of `Sfdp` and `Memory`, as [`Shelf::read`] answers them.
-pub fn tables_of<S: Shelf>(alloc: Global, shelf: &S, chip: Chip<'_>) -> Result<Vec<u8>, Refusal>
-    ensures tables { IfOk result (λ tables. AreTables (S.facts shelf.now) (origin_of chip.entry) tables.items) }
+/// `File` of `Sfdp` and `Memory`, as [`FileStore::read`] answers them.
+pub fn tables_of<S: FileStore>(alloc: Global, store: &S, chip: Chip<'_>) -> Result<Vec<u8>, Refusal>
+    ensures tables { IfOk result (λ tables. AreTables (S.facts store.now) (origin_of chip.entry) tables.items) }
     ensures refused { IfErr result (RefusesFile Sfdp) }
-    ensures lacked { IfErr result (TellsFile (S.facts shelf.now).lacked) }
+    ensures lacked { IfErr result (TellsFile (S.facts store.now).lacked) }
 {
-    noted_tables(alloc, shelf, chip, &mut Vec::new(alloc))
+    noted_tables(alloc, store, chip, &mut Vec::new(alloc))
 }
 
 /// What the file of a chip's SFDP tables holds, with which file it is put at the end of `places`, so that no output is made
 /// over it; nothing for a uniform chip, which has none, and `places` as they were.
 ///
-/// `File` of `Sfdp` and `Memory`, as [`Shelf::read`] answers them; `Memory` too where `places` can't grow.
-pub fn noted_tables<S: Shelf>(
+/// `File` of `Sfdp` and `Memory`, as [`FileStore::read`] answers them; `Memory` too where `places` can't grow.
+pub fn noted_tables<S: FileStore>(
     alloc: Global,
-    shelf: &S,
+    store: &S,
     chip: Chip<'_>,
-    places: &mut Vec<Place>,
+    places: &mut Vec<FileId>,
 ) -> Result<Vec<u8>, Refusal>
-    ensures tables { IfOk result (λ tables. AreTables (S.facts shelf.now) (origin_of chip.entry) tables.items) }
-    ensures noted { IfOk result (λ _. Notes (S.facts shelf.now) (tables_file (origin_of chip.entry)) places.old.items places.new.items) }
+    ensures tables { IfOk result (λ tables. AreTables (S.facts store.now) (origin_of chip.entry) tables.items) }
+    ensures noted { IfOk result (λ _. Notes (S.facts store.now) (tables_file (origin_of chip.entry)) places.old.items places.new.items) }
     ensures refused { IfErr result (RefusesFile Sfdp) }
-    ensures lacked { IfErr result (TellsFile (S.facts shelf.now).lacked) }
+    ensures lacked { IfErr result (TellsFile (S.facts store.now).lacked) }
 {
     match chip {
         Chip::Sfdp { file, bits: _ } => {
-            let (bytes, place) = shelf.read(alloc, file, FileName::Sfdp)?;
+            let (bytes, place) = store.read(alloc, file, FileName::Sfdp)?;
             places.push(place)?;
             Ok(bytes)
         }

@@ -9,8 +9,8 @@ use nor_base::{Failed, FromRead, IntoWrite};
 use norprog_build::build;
 use norprog_check::check;
 use norprog_common::{
-    FileName, Given, GivenBuild, GivenCheck, GivenChip, GivenRun, GivenSetup, Place, Refusal,
-    ScriptFile, Shelf,
+    BuildArgs, CheckArgs, ChipArgs, FileId, FileName, FileStore, Given, Refusal, RunArgs,
+    ScriptFile, SetupArgs,
 };
 use norprog_run::run;
 use std::alloc::Global;
@@ -33,14 +33,14 @@ fn file_of<'a>(
     files: &'a [(&'a str, &'a [u8])],
     path: &str,
     name: FileName,
-) -> Result<(&'a [u8], Place), Refusal>
+) -> Result<(&'a [u8], FileId), Refusal>
     ensures refused { IfErr result (RefusesFile name) }
     ensures files { IfErr result IsOfFiles }
 {
     for (number, file) in files.iter().enumerate() {
         if file.0 == path {
             let inode = number as u64;
-            return Ok((file.1, Place { device: 0, inode }));
+            return Ok((file.1, FileId { device: 0, inode }));
         }
     }
     Err(Refusal::File(name))
@@ -58,8 +58,8 @@ fn whole(alloc: Global, bytes: &[u8], name: FileName) -> Result<Vec<u8>, Refusal
     Ok(Vec::from_slice(alloc, bytes)?)
 }
 
-impl<'a> Shelf for Memory<'a> {
-    ghost use Rattle.norprog_common.specs.Shelf.{nothing_known};
+impl<'a> FileStore for Memory<'a> {
+    ghost use Rattle.norprog_common.specs.FileStore.{nothing_known};
 
     type Input = FromRead<&'a [u8]>;
 
@@ -71,7 +71,12 @@ impl<'a> Shelf for Memory<'a> {
 
     ghost facts = { λ _. nothing_known };
 
-    fn read(&self, alloc: Global, path: &str, name: FileName) -> Result<(Vec<u8>, Place), Refusal> {
+    fn read(
+        &self,
+        alloc: Global,
+        path: &str,
+        name: FileName,
+    ) -> Result<(Vec<u8>, FileId), Refusal> {
         let (bytes, place) = file_of(self.files, path, name)?;
         Ok((whole(alloc, bytes, name)?, place))
     }
@@ -80,7 +85,7 @@ impl<'a> Shelf for Memory<'a> {
         &self,
         path: &str,
         name: FileName,
-    ) -> Result<(FromRead<&'a [u8]>, Place, u64), Refusal> {
+    ) -> Result<(FromRead<&'a [u8]>, FileId, u64), Refusal> {
         let (bytes, place) = file_of(self.files, path, name)?;
         Ok((FromRead::new(bytes), place, bytes.len() as u64))
     }
@@ -89,7 +94,7 @@ impl<'a> Shelf for Memory<'a> {
         &self,
         _alloc: Global,
         path: &str,
-    ) -> Result<(ScriptFile<FromRead<&'a [u8]>>, Place), Refusal> {
+    ) -> Result<(ScriptFile<FromRead<&'a [u8]>>, FileId), Refusal> {
         let (bytes, place) = file_of(self.files, path, FileName::Script)?;
         Ok((
             ScriptFile::Twice(FromRead::new(bytes), FromRead::new(bytes)),
@@ -102,7 +107,7 @@ impl<'a> Shelf for Memory<'a> {
         alloc: Global,
         _path: &str,
         _name: FileName,
-        _inputs: &[Place],
+        _inputs: &[FileId],
     ) -> Result<IntoWrite<Vec<u8>>, Refusal> {
         Ok(IntoWrite::new(Vec::new(alloc)))
     }
@@ -123,7 +128,7 @@ impl<'a> Shelf for Memory<'a> {
 }
 
 /// A chip of 8 KiB.
-const CHIP: GivenChip<'static> = GivenChip {
+const CHIP: ChipArgs<'static> = ChipArgs {
     sfdp: None,
     uniform: Some("8192"),
     bits: None,
@@ -151,9 +156,9 @@ fn one_byte<'a>(alloc: Global) -> Given<'a> {
 }
 
 /// A play of the script of one byte, after which the chip goes to a file.
-fn one_play<'a>() -> GivenRun<'a> {
-    GivenRun {
-        setup: GivenSetup {
+fn one_play<'a>() -> RunArgs<'a> {
+    RunArgs {
+        setup: SetupArgs {
             chip: CHIP,
             status: None,
             mode4: false,
@@ -178,36 +183,36 @@ fn commands_go_over_files_in_memory(rt: HostRuntime) {
         ("content", &BLANK[..8192]),
         ("script", ONE_BYTE.as_bytes()),
     ];
-    let shelf = Memory {
+    let store = Memory {
         files: &files,
         flushed: Cell::new(Vec::new(rt.alloc())),
     };
-    builds(&rt, rt.alloc(), &shelf);
-    checks(&rt, rt.alloc(), &shelf);
-    plays(&rt, rt.alloc(), &shelf);
+    builds(&rt, rt.alloc(), &store);
+    checks(&rt, rt.alloc(), &store);
+    plays(&rt, rt.alloc(), &store);
 }
 
-fn builds(rt: &impl Abort, alloc: Global, shelf: &Memory<'_>) {
-    let given = GivenBuild {
+fn builds(rt: &impl Abort, alloc: Global, store: &Memory<'_>) {
+    let given = BuildArgs {
         job: one_byte(alloc),
         out: Some("new"),
     };
     let mut out = IntoWrite::new(Vec::new(alloc));
     let mut err = IntoWrite::new(Vec::new(alloc));
-    let built = build(alloc, shelf, given, &mut out, &mut err);
+    let built = build(alloc, store, given, &mut out, &mut err);
     same(rt, "the build", built, 0);
-    let script = shelf.flushed.replace(Vec::new(alloc));
+    let script = store.flushed.replace(Vec::new(alloc));
     holds(rt, "the script", script.as_slice() == ONE_BYTE.as_bytes());
 }
 
-fn checks(rt: &impl Abort, alloc: Global, shelf: &Memory<'_>) {
-    let given = GivenCheck {
+fn checks(rt: &impl Abort, alloc: Global, store: &Memory<'_>) {
+    let given = CheckArgs {
         job: one_byte(alloc),
         script: Some("script"),
     };
     let mut out = IntoWrite::new(Vec::new(alloc));
     let mut err = IntoWrite::new(Vec::new(alloc));
-    let checked = check(alloc, shelf, given, &mut out, &mut err);
+    let checked = check(alloc, store, given, &mut out, &mut err);
     same(rt, "the check", checked, 0);
     holds(
         rt,
@@ -216,12 +221,12 @@ fn checks(rt: &impl Abort, alloc: Global, shelf: &Memory<'_>) {
     );
 }
 
-fn plays(rt: &impl Abort, alloc: Global, shelf: &Memory<'_>) {
+fn plays(rt: &impl Abort, alloc: Global, store: &Memory<'_>) {
     let mut out = IntoWrite::new(Vec::new(alloc));
     let mut err = IntoWrite::new(Vec::new(alloc));
-    let played = run(alloc, shelf, one_play(), &mut out, &mut err);
+    let played = run(alloc, store, one_play(), &mut out, &mut err);
     same(rt, "the play", played, 0);
     holds(rt, "its line", out.inner.as_slice() == b"ok 3\n".as_slice());
-    let after = shelf.flushed.replace(Vec::new(alloc));
+    let after = store.flushed.replace(Vec::new(alloc));
     same(rt, "the byte", after.as_slice().first().copied(), Some(0));
 }

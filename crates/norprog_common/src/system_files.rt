@@ -1,12 +1,12 @@
-//! The files of the system as a shelf.
+//! The files of the system as a store.
 
-ghost use Rattle.norprog_common.specs.Shelf.{DoNotFail};
+ghost use Rattle.norprog_common.specs.FileStore.{DoNotFail};
 
 use crate::faults::{FileName, Refusal};
 use crate::files::{
-    Place, ScriptFile, create_output, open_device, open_input, open_script, read_whole,
+    FileId, ScriptFile, create_output, open_device, open_input, open_script, read_whole,
 };
-use crate::shelf::Shelf;
+use crate::store::FileStore;
 use nor_base::{Failed, FromRead, IntoWrite};
 use std::alloc::Global;
 use std::fs::Files;
@@ -17,19 +17,19 @@ const BUFFER: usize = 65536;
 
 /// The files of the system. Nothing is known of what they give.
 #[derive(Clone, Copy)]
-pub struct Disk<'a, R> {
+pub struct SystemFiles<'a, R> {
     files: &'a R,
 }
 
-impl<'a, R: Files> Disk<'a, R> {
+impl<'a, R: Files> SystemFiles<'a, R> {
     /// The files that this runtime opens.
-    pub fn new(files: &'a R) -> Disk<'a, R> {
-        Disk { files }
+    pub fn new(files: &'a R) -> SystemFiles<'a, R> {
+        SystemFiles { files }
     }
 }
 
-impl<'a, R: Files> Shelf for Disk<'a, R> {
-    ghost use Rattle.norprog_common.specs.Shelf.{nothing_known};
+impl<'a, R: Files> FileStore for SystemFiles<'a, R> {
+    ghost use Rattle.norprog_common.specs.FileStore.{nothing_known};
 
     type Input = FromRead<R::File>;
 
@@ -41,11 +41,20 @@ impl<'a, R: Files> Shelf for Disk<'a, R> {
 
     ghost facts = { λ _. nothing_known };
 
-    fn read(&self, alloc: Global, path: &str, name: FileName) -> Result<(Vec<u8>, Place), Refusal> {
+    fn read(
+        &self,
+        alloc: Global,
+        path: &str,
+        name: FileName,
+    ) -> Result<(Vec<u8>, FileId), Refusal> {
         read_whole(self.files, alloc, path, name)
     }
 
-    fn open(&self, path: &str, name: FileName) -> Result<(FromRead<R::File>, Place, u64), Refusal> {
+    fn open(
+        &self,
+        path: &str,
+        name: FileName,
+    ) -> Result<(FromRead<R::File>, FileId, u64), Refusal> {
         let (file, place, len) = open_input(self.files, path, name)?;
         Ok((FromRead::new(file), place, len))
     }
@@ -54,7 +63,7 @@ impl<'a, R: Files> Shelf for Disk<'a, R> {
         &self,
         alloc: Global,
         path: &str,
-    ) -> Result<(ScriptFile<FromRead<R::File>>, Place), Refusal> {
+    ) -> Result<(ScriptFile<FromRead<R::File>>, FileId), Refusal> {
         let (script, place) = open_script(self.files, alloc, path)?;
         Ok((as_devices(script), place))
     }
@@ -64,7 +73,7 @@ impl<'a, R: Files> Shelf for Disk<'a, R> {
         alloc: Global,
         path: &str,
         name: FileName,
-        inputs: &[Place],
+        inputs: &[FileId],
     ) -> Result<IntoWrite<BufWriter<R::File>>, Refusal> {
         let file = create_output(self.files, path, name, inputs)?;
         match BufWriter::with_capacity(alloc, BUFFER, file) {
