@@ -3,4 +3,5 @@ pub mod Windows
 pub mod Build
 pub mod Plan
 pub mod Report
+pub mod ChipText
 pub mod Laws

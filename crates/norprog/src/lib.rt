@@ -2,15 +2,17 @@
 //! chip holds now to the text of a script in which every clock of every transaction stands.
 //!
 //! [`build`] writes the script. Its contract says what running it on the chip does. [`plan`] writes lines that tell what
-//! that script erases, why, and what it programs.
+//! that script erases, why, and what it programs. [`sfdp_text`] writes lines that say what a chip's tables mean.
 #![tactic(auto)]
 
 pub mod builder;
+mod chip_text;
 pub mod planner;
 pub mod report;
 mod windows;
 
 pub use builder::build;
+pub use chip_text::sfdp_text;
 pub use nor_base::{ByteIn, ByteOut, Bytes, Failed, FromRead, IntoWrite, Nowhere, Part, Strategy};
 pub use nor_hex::HexFault;
 pub use nor_job::{BuildFault, Inputs, Source};

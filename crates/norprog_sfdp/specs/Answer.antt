@@ -7,7 +7,7 @@ use Rattle.nor_job.specs.declared.fault.BuildFault.{BuildFault}
 use Rattle.nor_job.specs.declared.fault.BuildFault.TheVariants as fault
 use Rattle.nor_job.specs.Chip.{HasChip, RefusesChip}
 use Rattle.nor_job.specs.Task.{Task, contradiction}
-use Rattle.norprog_sfdp.specs.ChipText.{meaning_text}
+use Rattle.norprog.specs.ChipText.{meaning_text}
 use Rattle.norprog_common.specs.declared.faults.FileName.{FileName}
 use Rattle.norprog_common.specs.declared.faults.Refusal.{Refusal}
 use Rattle.norprog_common.specs.declared.given.ChipArgs.{ChipArgs}

@@ -1,3 +1,2 @@
-pub mod ChipText
 pub mod Served
 pub mod Answer

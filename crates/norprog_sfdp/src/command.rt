@@ -6,9 +6,9 @@ ghost use Rattle.norprog_common.specs.Told.{OrUsage};
 ghost use Rattle.norprog_sfdp.specs.Served.{asks_chip, IsChipTask, IsTaskAlone, ServesChip};
 ghost use Rattle.norprog_sfdp.specs.Answer.{IsMeaning, RefusesMeaning, PrintsMeaning, CutsMeaning, AnswersChip};
 
-use crate::chip_text::sfdp_text;
 use nor_base::{ByteOut, Meaning, Part};
 use nor_job::{BuildFault, Inputs, contradiction};
+use norprog::sfdp_text;
 use norprog_common::{
     Chip, ChipArgs, FileStore, Refusal, answered, chip_of, part, source_of, tables_of,
 };

@@ -1,12 +1,9 @@
 //! `norprog sfdp`: from the texts of a command line to the lines that tell what a chip's tables mean (docs/FORMATS.md, section 9).
 //!
-//! [`sfdp`] does what those texts ask for; whoever reads a command line hands them over as [`ChipArgs`]. [`sfdp_text`] writes the
-//! lines.
+//! [`sfdp`] does what those texts ask for; whoever reads a command line hands them over as [`ChipArgs`].
 #![tactic(auto)]
 
-mod chip_text;
 mod command;
 
-pub use chip_text::sfdp_text;
 pub use command::sfdp;
 pub use norprog_common::ChipArgs;

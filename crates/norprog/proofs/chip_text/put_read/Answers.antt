@@ -3,8 +3,8 @@ use Rattle.std.proofs.Common.{◌≡◌, ◌∙◌, ℕ, List, ◌++◌, ap, sub
 use Rattle.std.specs.Prelude.{codes, decimal}
 use Rattle.nor_base.specs.declared.meaning.QuadRead.{QuadRead}
 use Rattle.nor_base.specs.Device.{Writes}
-use Rattle.norprog_sfdp.specs.ChipText.{hex_byte, read_text}
-use Rattle.norprog_sfdp.proofs.chip_text.put_read.Goals as goal
+use Rattle.norprog.specs.ChipText.{hex_byte, read_text}
+use Rattle.norprog.proofs.chip_text.put_read.Goals as goal
 
 parts : (read : QuadRead) (two digits : List ℕ) → two ≡ hex_byte read.op → digits ≡ decimal read.dummies
     → codes "quadread " ++ (two ++ (codes " " ++ (digits ++ codes "\n"))) ≡ read_text read

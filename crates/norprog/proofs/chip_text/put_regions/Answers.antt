@@ -1,7 +1,7 @@
 -- At a failure the lines before this one were put, and a proper prefix of it.
 use Rattle.nor_base.proofs.DeviceLaws.{Cuts-at, Writes-cut}
-use Rattle.norprog_sfdp.specs.ChipText.{region_text}
-use Rattle.norprog_sfdp.proofs.chip_text.put_regions.Goals as goal
+use Rattle.norprog.specs.ChipText.{region_text}
+use Rattle.norprog.proofs.chip_text.put_regions.Goals as goal
 
 pub returns-in_err-put_region-clause-bytes : goal.returns-in_err-put_region-clause-bytes
 returns-in_err-put_region-clause-bytes g c =

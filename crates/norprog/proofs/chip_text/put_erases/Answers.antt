@@ -1,8 +1,8 @@
 -- The kinds before were put, and at a failure a proper prefix of this one.
 use Rattle.std.proofs.Common.{◌++◌}
-use Rattle.norprog_sfdp.specs.ChipText.{kind_text}
+use Rattle.norprog.specs.ChipText.{kind_text}
 use Rattle.nor_base.proofs.DeviceLaws.{Cuts-then, Cuts-more, Writes-then, Writes-cut}
-use Rattle.norprog_sfdp.proofs.chip_text.put_erases.Goals as goal
+use Rattle.norprog.proofs.chip_text.put_erases.Goals as goal
 
 pub returns-in_err-put_kind-clause-bytes : goal.returns-in_err-put_kind-clause-bytes
 returns-in_err-put_kind-clause-bytes g c =

@@ -4,9 +4,9 @@ use Rattle.std.specs.Io.KnownBytes.{Appends}
 use Rattle.nor_base.specs.Device.{Cuts, Writes}
 use Rattle.nor_base.specs.Parameters.{Parameters}
 use Rattle.std.specs.Prelude.{flat_map}
-use Rattle.norprog_sfdp.specs.ChipText.{front_text, erases_text, modes_text, quad_read_text, dedicated_text, region_text, meaning_text}
+use Rattle.norprog.specs.ChipText.{front_text, erases_text, modes_text, quad_read_text, dedicated_text, region_text, meaning_text}
 use Rattle.nor_base.proofs.DeviceLaws.{Cuts-then, Cuts-more, Writes-then, Writes-cut}
-use Rattle.norprog_sfdp.proofs.chip_text.sfdp_text.Goals as goal
+use Rattle.norprog.proofs.chip_text.sfdp_text.Goals as goal
 
 pub returns-in_err-put_front-clause-bytes : goal.returns-in_err-put_front-clause-bytes
 unfolding meaning_text

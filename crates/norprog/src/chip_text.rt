@@ -2,7 +2,7 @@
 
 ghost use Rattle.std.specs.Prelude.{◌≡◌, ◌<◌, ◌-◌, ◌^◌, flat_map};
 ghost use Rattle.nor_base.specs.Device.{Writes, Counts};
-ghost use Rattle.norprog_sfdp.specs.ChipText.{hex_digit, hex_byte, page_end, width_text, front_text, op4_text, erase_text, kind_text, erases_text, switch_text, read_text, quad_read_text, offered_text, dedicated_text, modes_text, region_text, meaning_text};
+ghost use Rattle.norprog.specs.ChipText.{hex_digit, hex_byte, page_end, width_text, front_text, op4_text, erase_text, kind_text, erases_text, switch_text, read_text, quad_read_text, offered_text, dedicated_text, modes_text, region_text, meaning_text};
 
 use itoa::Buffer;
 use nor_base::{

@@ -2,8 +2,8 @@
 use Rattle.std.proofs.Common.{◌≡◌, take}
 use Rattle.std.specs.Prelude.{flat_map}
 use Rattle.std.specs.Io.KnownBytes.{Appends}
-use Rattle.norprog_sfdp.specs.ChipText.{region_text}
-use Rattle.norprog_sfdp.proofs.chip_text.put_regions.Given as goal
+use Rattle.norprog.specs.ChipText.{region_text}
+use Rattle.norprog.proofs.chip_text.put_regions.Given as goal
 
 abbrev pub invariant-loop-region : goal.invariant-loop-region
 invariant-loop-region g l = record {

@@ -1,5 +1,5 @@
 -- With a read and without one.
-use Rattle.norprog_sfdp.proofs.chip_text.put_quad_read.Goals as goal
+use Rattle.norprog.proofs.chip_text.put_quad_read.Goals as goal
 
 pub returns-in-None-clause-bytes : goal.returns-in-None-clause-bytes
 returns-in-None-clause-bytes g c = rw c.in-None.is c.put_all.ensures.bytes
