@@ -13,7 +13,7 @@ use Rattle.norprog_common.specs.declared.faults.Refusal.{Refusal}
 use Rattle.norprog_common.specs.declared.faults.Refusal.TheVariants.{Build}
 use Rattle.norprog_common.specs.declared.given.BuildArgs.{BuildArgs}
 use Rattle.norprog_common.specs.FileStore.{FileFacts}
-use Rattle.norprog_common.specs.Told.{ForAsked, OfFault, RefusesFor, AnswersAsked}
+use Rattle.norprog_common.specs.Told.{ForAsked, OfFault, RefusesFor, Answers}
 use Rattle.norprog_build.specs.Served.{asks_build, ServesBuild}
 use Rattle.norprog_common.specs.Served.{Job}
 
@@ -64,7 +64,7 @@ done (Ok report) (Ok u) = Ok report
 -- what `build` answers to the texts of a command line: the report at status 0, after the script has gone out; or a refusal
 abbrev pub AnswersBuild : FileFacts → BuildArgs → Option (List ℕ) → Option (List ℕ) → Type 0 → Type 0 → Option (List ℕ) → Option (List ℕ) → ℕ → Type 0
 AnswersBuild files given before after Quiet Works told_before told_after status =
-    AnswersAsked (asks_build given)
+    Answers (asks_build given)
     ((status ≡ 0) × PrintsReport (ServesBuild files given) files.flushed before after × Quiet)
     (CutsReport (ServesBuild files given) files.flushed before after)
     (RefusesBuild files.lacked (ServesBuild files given))

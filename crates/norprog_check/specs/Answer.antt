@@ -17,7 +17,7 @@ use Rattle.norprog_common.specs.declared.faults.Refusal.TheVariants.{File, Build
 use Rattle.norprog_common.specs.Lines.{script_refusal}
 use Rattle.norprog_common.specs.declared.given.CheckArgs.{CheckArgs}
 use Rattle.norprog_common.specs.FileStore.{FileFacts}
-use Rattle.norprog_common.specs.Told.{ForAsked, RefusesFor, OrScript, AnswersAsked}
+use Rattle.norprog_common.specs.Told.{ForAsked, RefusesFor, OrScript, Answers}
 use Rattle.norprog_check.specs.Served.{asks_check, ServesCheck, ServesScript}
 use Rattle.norprog_common.specs.Served.{Job}
 
@@ -75,7 +75,7 @@ CutsVerdict Asked IsText before after =
 -- what `check` answers to the texts of a command line: the line of the verdict, whose status it is, or a refusal
 abbrev pub AnswersCheck : FileFacts → CheckArgs → Option (List ℕ) → Option (List ℕ) → Type 0 → Type 0 → Option (List ℕ) → Option (List ℕ) → ℕ → Type 0
 AnswersCheck files given before after Quiet Works told_before told_after status =
-    AnswersAsked (asks_check given)
+    Answers (asks_check given)
     (PrintsJudgement (ServesCheck files given) (ServesScript files given) before after status × Quiet)
     (CutsVerdict (ServesCheck files given) (ServesScript files given) before after)
     (RefusesCheck (OrScript files.lacked) (ServesCheck files given) (ServesScript files given))

@@ -30,9 +30,9 @@ AnswersTo files (Ok (command.Run given)) before after Quiet Works told_before to
 AnswersTo files (Ok (command.List given)) before after Quiet Works told_before told_after status =
     AnswersList files given before after Quiet Works told_before told_after status
 AnswersTo files (Ok (command.Draw given)) before after Quiet Works told_before told_after status =
-    (after ≡ before) × AnswersDraw files (Ok given) Quiet Works told_before told_after status
+    (after ≡ before) × AnswersDraw files given Quiet Works told_before told_after status
 AnswersTo files (Ok (command.Play given)) before after Quiet Works told_before told_after status =
-    AnswersPlay files (Ok given) before after Quiet Works told_before told_after status
+    AnswersPlay files given before after Quiet Works told_before told_after status
 AnswersTo files (Ok (command.Sfdp given)) before after Quiet Works told_before told_after status =
     AnswersChip files given before after Quiet Works told_before told_after status
 AnswersTo files (Ok (command.Explain words)) before after Quiet Works told_before told_after status =

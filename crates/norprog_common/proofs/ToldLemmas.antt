@@ -7,7 +7,7 @@ use Rattle.norprog_common.specs.declared.faults.Refusal.{Refusal}
 use Rattle.norprog_common.specs.declared.faults.Refusal.TheVariants.{Text, Usage, File, Build, Page, Script}
 use Rattle.norprog_common.specs.Files.{TellsFile}
 use Rattle.norprog_common.specs.Lines.{status_after}
-use Rattle.norprog_common.specs.Told.{ForAsked, OfFault, RefusesFor, Refuses, OrUsage}
+use Rattle.norprog_common.specs.Told.{ForAsked, OfFault, RefusesFor, OrUsage}
 
 -- what is so of something is so of the same by another name
 pub asked_wider : (A : Type 0) (P Q Has : A → Type 0) → ((x : A) → P x → Q x) → ForAsked A P Has → ForAsked A Q Has
@@ -82,10 +82,6 @@ refuses_wider L M F G D E files wider more (Text words) is = wider (Text words) 
 refuses_wider L M F G D E files wider more Usage is = wider Usage is
 refuses_wider L M F G D E files wider more Page is = wider Page is
 refuses_wider L M F G D E files wider more (Script why) is = wider (Script why) is
-
--- a refusal of the work is one of a command line that has no fault
-pub refuses : (cause : Option Refusal) (Work : Refusal → Type 0) (why : Refusal) → cause ≡ None → Work why → Refuses cause Work why
-refuses cause Work why is work = rw is work
 
 -- a refusal of the work is one of texts that ask for it
 pub or_usage : (asks : Bool) (Work : Refusal → Type 0) (why : Refusal) → asks ≡ true → Work why → OrUsage asks Work why

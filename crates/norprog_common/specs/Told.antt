@@ -1,5 +1,5 @@
 -- What a command line's answer is: what it asks for was done, or a refusal is told (this project's).
-use Rattle.std.specs.Prelude.{◌≡◌, ◌⊎◌, ⊤, ℕ, Bool, true, false, if◌then◌else◌, Option, Some, None, Result, Ok, Err, List}
+use Rattle.std.specs.Prelude.{◌≡◌, ◌⊎◌, ⊤, ℕ, Bool, true, false, Option, List}
 use Rattle.std.specs.Io.KnownBytes.{Appends}
 use Rattle.nor_job.specs.declared.fault.BuildFault.{BuildFault}
 use Rattle.nor_job.specs.declared.fault.BuildFault.TheVariants.{Memory, Write}
@@ -8,16 +8,6 @@ use Rattle.norprog_common.specs.declared.faults.FileName.TheVariants.{Script}
 use Rattle.norprog_common.specs.declared.faults.Refusal.{Refusal}
 use Rattle.norprog_common.specs.declared.faults.Refusal.TheVariants.{Usage, File, Build}
 use Rattle.norprog_common.specs.Lines.{printed, status_after}
-
--- why a command line asks for nothing: what was found where it was read, or usage where its texts ask for nothing
-abbrev pub line_fault : {G : Type 0} → (G → Bool) → Result G Refusal → Option Refusal
-line_fault asks (Err why) = Some why
-line_fault asks (Ok given) = if asks given then None else Some Usage
-
--- what a command line that was read asks for; one that wasn't asks for nothing
-abbrev pub OfLine : {G A : Type 0} → (G → A → Type 0) → Result G Refusal → A → Type 0
-OfLine Asks (Ok given) x = Asks given x
-OfLine Asks (Err why) x = ⊥
 
 -- something that is asked for has this
 pub record ForAsked (A : Type 0) (Asked Has : A → Type 0) : Type 0 where
@@ -42,20 +32,10 @@ RefusesFor Lacked Fault Done why = Fault why
 abbrev pub OrScript : (FileName → Type 0) → FileName → Type 0
 OrScript Lacked name = Lacked name ⊎ (name ≡ Script)
 
--- the fault of the command line where there is one, else a refusal of its work
-abbrev pub Refuses : Option Refusal → (Refusal → Type 0) → Refusal → Type 0
-Refuses (Some cause) Work why = why ≡ cause
-Refuses None Work why = Work why
-
 -- such a refusal ends with this status, and where the writer works its text was written
 abbrev pub TellsOf : (Refusal → Type 0) → Type 0 → Option (List ℕ) → Option (List ℕ) → ℕ → Type 0
 TellsOf Why Works before after status =
     (why : Refusal) × Why why × (status ≡ status_after why) × (Works → Appends before after (printed why))
-
--- a command line without a fault was done; or no more than a part was printed, and such a refusal is told
-abbrev pub Answers : Option Refusal → Type 0 → Type 0 → (Refusal → Type 0) → Type 0 → Option (List ℕ) → Option (List ℕ) → ℕ → Type 0
-Answers cause Done Cut Why Works before after status =
-    ((cause ≡ None) × Done) ⊎ (Cut × TellsOf Why Works before after status)
 
 -- usage where texts ask for nothing, else a refusal of the work that they ask for
 abbrev pub OrUsage : Bool → (Refusal → Type 0) → Refusal → Type 0
@@ -63,6 +43,6 @@ OrUsage true Work why = Work why
 OrUsage false Work why = why ≡ Usage
 
 -- what texts ask for was done; or no more than a part was printed, and such a refusal is told, or usage where they ask for nothing
-abbrev pub AnswersAsked : Bool → Type 0 → Type 0 → (Refusal → Type 0) → Type 0 → Option (List ℕ) → Option (List ℕ) → ℕ → Type 0
-AnswersAsked asks Done Cut Work Works before after status =
+abbrev pub Answers : Bool → Type 0 → Type 0 → (Refusal → Type 0) → Type 0 → Option (List ℕ) → Option (List ℕ) → ℕ → Type 0
+Answers asks Done Cut Work Works before after status =
     ((asks ≡ true) × Done) ⊎ (Cut × TellsOf (OrUsage asks Work) Works before after status)

@@ -1,16 +1,16 @@
 -- What is drawn for a request is what its texts ask for, and what is so of it is so of that.
-use Rattle.std.proofs.Common.{◌≡◌, option_map, option_to_list, refl, sym, subst, List, [], ◌∷◌, ℕ, Option, None, Result, Ok, Err, IfOk, IfErr, inr}
+use Rattle.std.proofs.Common.{◌≡◌, option_map, option_to_list, true, refl, sym, subst, List, [], ◌∷◌, ℕ, Option, None, Result, Ok, Err, IfOk, IfErr, inr}
 use Rattle.std.specs.Prelude.{⊤}
 use Rattle.norprog_common.specs.FileStore.{FileFacts, IsMadeApart, Named}
 use Rattle.norprog_common.specs.declared.faults.Refusal.{Refusal}
-use Rattle.norprog_common.specs.Told.{line_fault, Refuses}
-use Rattle.norprog_common.proofs.ToldLemmas.{asked_wider, refuses_wider, by_fault}
+use Rattle.norprog_common.specs.Told.{OrUsage}
+use Rattle.norprog_common.proofs.ToldLemmas.{asked_wider, refuses_wider, by_fault, or_usage}
 use Rattle.norprog_common.specs.declared.given.DrawArgs.{DrawArgs}
 use Rattle.norprog_draw.specs.declared.request.DrawRequest.{DrawRequest}
 use Rattle.norprog_draw.specs.Answer.{IsDrawingOf, IsDrawing, IsStopOf, IsDrawFault, RefusesDraw, done}
 use Rattle.norprog_draw.specs.Drawn.{WasDrawn, RefusesDrawing}
 use Rattle.norprog_draw.specs.Request.{is_well_formed, AsksFor}
-use Rattle.norprog_draw.specs.Served.{DrawTask, IsTaskOf, Serves, OfDraw}
+use Rattle.norprog_draw.specs.Served.{DrawTask, IsTaskOf, Serves}
 
 -- what a request has is what the texts ask for
 serves : (files : FileFacts) (given : DrawArgs) (request : DrawRequest) → AsksFor given request → (t : DrawTask) → IsTaskOf files request t → Serves files given t
@@ -22,33 +22,28 @@ serves files given request asks t of = record {
       (subst (λ s. IsMadeApart files (option_to_list (option_map (λ t. t.now) s)) request.out.now t.begun) (sym asks.script) of.made);
 }
 
--- the same of the command line on which those texts stand
-on_line : (files : FileFacts) (line : Result DrawArgs Refusal) (given : DrawArgs) (request : DrawRequest) → line ≡ Ok given → AsksFor given request
-    → (t : DrawTask) → IsTaskOf files request t → OfDraw files line t
-on_line files line given request is asks t of = rw is (serves files given request asks t of)
+drawing_asked : (files : FileFacts) (given : DrawArgs) (request : DrawRequest) (Sent : Option (List ℕ) → Type 0) → AsksFor given request
+    → IsDrawing (IsTaskOf files request) Sent → IsDrawing (Serves files given) Sent
+drawing_asked files given request Sent asks = asked_wider DrawTask (IsTaskOf files request) (Serves files given) (IsDrawingOf Sent) (serves files given request asks)
 
-drawing_asked : (files : FileFacts) (line : Result DrawArgs Refusal) (given : DrawArgs) (request : DrawRequest) (Sent : Option (List ℕ) → Type 0) → line ≡ Ok given → AsksFor given request
-    → IsDrawing (IsTaskOf files request) Sent → IsDrawing (OfDraw files line) Sent
-drawing_asked files line given request Sent is asks = asked_wider DrawTask (IsTaskOf files request) (OfDraw files line) (IsDrawingOf Sent) (on_line files line given request is asks)
+pub drawings_asked : {T : Type 0} (files : FileFacts) (given : DrawArgs) (request : DrawRequest) (r : Result T Refusal) → AsksFor given request
+    → IfOk r (λ _. IsDrawing (IsTaskOf files request) files.flushed) → IfOk r (λ _. IsDrawing (Serves files given) files.flushed)
+drawings_asked files given request (Ok x) asks of = drawing_asked files given request files.flushed asks of
+drawings_asked files given request (Err why) asks of = tt
 
-pub drawings_asked : {T : Type 0} (files : FileFacts) (line : Result DrawArgs Refusal) (given : DrawArgs) (request : DrawRequest) (r : Result T Refusal) → line ≡ Ok given → AsksFor given request
-    → IfOk r (λ _. IsDrawing (IsTaskOf files request) files.flushed) → IfOk r (λ _. IsDrawing (OfDraw files line) files.flushed)
-drawings_asked files line given request (Ok x) is asks of = drawing_asked files line given request files.flushed is asks of
-drawings_asked files line given request (Err why) is asks of = tt
-
-refusal_asked : (files : FileFacts) (line : Result DrawArgs Refusal) (given : DrawArgs) (request : DrawRequest) (why : Refusal) → line ≡ Ok given → AsksFor given request
-    → RefusesDraw files.lacked (IsTaskOf files request) why → RefusesDraw files.lacked (OfDraw files line) why
-refusal_asked files line given request why is asks =
-    refuses_wider files.lacked files.lacked (IsDrawFault (IsTaskOf files request)) (IsDrawFault (OfDraw files line)) (IsDrawing (IsTaskOf files request) (λ held. ⊤)) (IsDrawing (OfDraw files line) (λ held. ⊤))
-    (λ name lacks. lacks) (λ why of. asked_wider DrawTask (IsTaskOf files request) (OfDraw files line) (IsStopOf why) (on_line files line given request is asks) of)
-    (drawing_asked files line given request (λ held. ⊤) is asks) why
+refusal_asked : (files : FileFacts) (given : DrawArgs) (request : DrawRequest) (why : Refusal) → AsksFor given request
+    → RefusesDraw files.lacked (IsTaskOf files request) why → RefusesDraw files.lacked (Serves files given) why
+refusal_asked files given request why asks =
+    refuses_wider files.lacked files.lacked (IsDrawFault (IsTaskOf files request)) (IsDrawFault (Serves files given)) (IsDrawing (IsTaskOf files request) (λ held. ⊤)) (IsDrawing (Serves files given) (λ held. ⊤))
+    (λ name lacks. lacks) (λ why of. asked_wider DrawTask (IsTaskOf files request) (Serves files given) (IsStopOf why) (serves files given request asks) of)
+    (drawing_asked files given request (λ held. ⊤) asks) why
 
 -- the same of whichever came
-pub refusals_asked : {T : Type 0} (files : FileFacts) (line : Result DrawArgs Refusal) (given : DrawArgs) (request : DrawRequest) (r : Result T Refusal)
-    → line ≡ Ok given → AsksFor given request → line_fault is_well_formed line ≡ None → IfErr r (RefusesDraw files.lacked (IsTaskOf files request))
-    → IfErr r (Refuses (line_fault is_well_formed line) (RefusesDraw files.lacked (OfDraw files line)))
-refusals_asked files line given request (Ok x) is asks none of = tt
-refusals_asked files line given request (Err why) is asks none of = rw none (refusal_asked files line given request why is asks of)
+pub refusals_asked : {T : Type 0} (files : FileFacts) (given : DrawArgs) (request : DrawRequest) (r : Result T Refusal)
+    → AsksFor given request → is_well_formed given ≡ true → IfErr r (RefusesDraw files.lacked (IsTaskOf files request))
+    → IfErr r (OrUsage (is_well_formed given) (RefusesDraw files.lacked (Serves files given)))
+refusals_asked files given request (Ok x) asks formed of = tt
+refusals_asked files given request (Err why) asks formed of = or_usage _ _ _ formed (refusal_asked files given request why asks of)
 
 -- a drawing whose file was flushed
 module _ (files : FileFacts) (request : DrawRequest) (text : List ℕ) (before after : Option (List ℕ)) (gave : files.gave request.script.now text)
@@ -69,13 +64,13 @@ module _ (files : FileFacts) (request : DrawRequest) (text : List ℕ) (before a
     has = record { after = after; refused = is };
   })
 
-  pub done_is_drawn : {T U E : Type 0} (answer : Result T Refusal) (flushed : Result U E) (r : Result T Refusal) → IfOk answer (λ _. WasDrawn text request.from request.count before after)
+  pub done_is_drawn : {T U E : Type 0} (answer : Result T Refusal) (flushed : Result U E) (r : Result ℕ Refusal) → IfOk answer (λ _. WasDrawn text request.from request.count before after)
       → IfOk flushed (λ _. files.flushed after) → r ≡ done answer flushed → IfOk r (λ _. IsDrawing (IsTaskOf files request) files.flushed)
   done_is_drawn (Err why) flushed r drawn sent is = rw is tt
   done_is_drawn (Ok x) (Err e) r drawn sent is = rw is tt
   done_is_drawn (Ok x) (Ok u) r drawn sent is = rw is (was_drawn files.flushed sent drawn)
 
-  pub done_is_refused : {T U E : Type 0} (answer : Result T Refusal) (flushed : Result U E) (r : Result T Refusal) → IfOk answer (λ _. WasDrawn text request.from request.count before after)
+  pub done_is_refused : {T U E : Type 0} (answer : Result T Refusal) (flushed : Result U E) (r : Result ℕ Refusal) → IfOk answer (λ _. WasDrawn text request.from request.count before after)
       → IfErr answer (RefusesDrawing text request.from request.count before after) → r ≡ done answer flushed → IfErr r (RefusesDraw files.lacked (IsTaskOf files request))
   done_is_refused (Err why) flushed r drawn refused is = rw is (was_refused why refused)
   done_is_refused (Ok x) (Err e) r drawn refused is = rw is (inr (was_drawn (λ held. ⊤) tt drawn))

@@ -5,11 +5,11 @@ use Rattle.norprog_common.specs.declared.faults.FileName.{FileName}
 use Rattle.norprog_common.specs.declared.faults.Refusal.{Refusal}
 use Rattle.norprog_common.specs.declared.faults.Refusal.TheVariants.{Build}
 use Rattle.norprog_common.specs.FileStore.{FileFacts}
-use Rattle.norprog_common.specs.Told.{ForAsked, RefusesFor, Refuses, line_fault, Answers}
+use Rattle.norprog_common.specs.Told.{ForAsked, RefusesFor, Answers}
 use Rattle.norprog_common.specs.declared.given.DrawArgs.{DrawArgs}
 use Rattle.norprog_draw.specs.Drawn.{WasDrawn, RefusesDrawing}
 use Rattle.norprog_draw.specs.Request.{is_well_formed}
-use Rattle.norprog_draw.specs.Served.{DrawTask, OfDraw}
+use Rattle.norprog_draw.specs.Served.{DrawTask, Serves}
 
 -- these steps of the text were drawn, and the output is so of what it had taken
 pub record IsDrawingOf (Sent : Option (List ℕ) → Type 0) (t : DrawTask) : Type 0 where
@@ -34,21 +34,17 @@ IsDrawFault Asked why = ForAsked DrawTask Asked (IsStopOf why)
 abbrev pub RefusesDraw : (FileName → Type 0) → (DrawTask → Type 0) → Refusal → Type 0
 RefusesDraw Lacked Asked = RefusesFor Lacked (IsDrawFault Asked) (IsDrawing Asked (λ held. ⊤))
 
--- a drawing is done where its file was flushed as well
-abbrev pub done : {T U E : Type 0} → Result T Refusal → Result U E → Result T Refusal
+-- status 0 where the steps were drawn and the file was flushed as well
+abbrev pub done : {T U E : Type 0} → Result T Refusal → Result U E → Result ℕ Refusal
 done (Err why) flushed = Err why
 done (Ok drawn) (Err e) = Err (Build Write)
-done (Ok drawn) (Ok u) = Ok drawn
+done (Ok drawn) (Ok u) = Ok 0
 
--- why what a command line asks for isn't drawn
-abbrev pub RefusesToDraw : FileFacts → Result DrawArgs Refusal → Refusal → Type 0
-RefusesToDraw files line = Refuses (line_fault is_well_formed line) (RefusesDraw files.lacked (OfDraw files line))
-
--- what `draw` answers to a command line: status 0 where it was drawn and has gone out, or a refusal. It prints nothing else
-abbrev pub AnswersDraw : FileFacts → Result DrawArgs Refusal → Type 0 → Type 0 → Option (List ℕ) → Option (List ℕ) → ℕ → Type 0
-AnswersDraw files line Quiet Works told_before told_after status =
-    Answers (line_fault is_well_formed line)
-    ((status ≡ 0) × IsDrawing (OfDraw files line) files.flushed × Quiet)
+-- what `draw` answers to the texts of a command line: status 0 where it was drawn and has gone out, or a refusal. It prints nothing else
+abbrev pub AnswersDraw : FileFacts → DrawArgs → Type 0 → Type 0 → Option (List ℕ) → Option (List ℕ) → ℕ → Type 0
+AnswersDraw files given Quiet Works told_before told_after status =
+    Answers (is_well_formed given)
+    ((status ≡ 0) × IsDrawing (Serves files given) files.flushed × Quiet)
     (Unit {0})
-    (RefusesToDraw files line)
+    (RefusesDraw files.lacked (Serves files given))
     Works told_before told_after status

@@ -1,8 +1,6 @@
 -- The drawing that a command line of `draw` asks for (this project's). `files` is what is known of files by their names.
-use Rattle.std.specs.Prelude.{◌≡◌, ℕ, List, [], ◌∷◌, Option, Some, Result, option_map, option_to_list}
-use Rattle.norprog_common.specs.declared.faults.Refusal.{Refusal}
+use Rattle.std.specs.Prelude.{◌≡◌, ℕ, List, [], ◌∷◌, Option, Some, option_map, option_to_list}
 use Rattle.norprog_common.specs.FileStore.{FileFacts, IsMadeApart, Named}
-use Rattle.norprog_common.specs.Told.{OfLine}
 use Rattle.norprog_common.specs.declared.given.DrawArgs.{DrawArgs}
 use Rattle.norprog_draw.specs.declared.request.DrawRequest.{DrawRequest}
 use Rattle.norprog_draw.specs.Request.{asked_from, asked_count}
@@ -28,7 +26,3 @@ pub record Serves (files : FileFacts) (given : DrawArgs) (t : DrawTask) : Type 0
   pub from : asked_from given ≡ Some t.from
   pub count : asked_count given ≡ Some t.count
   pub made : Named (λ name. IsMadeApart files (option_to_list (option_map (λ t. t.now) given.script)) name t.begun) (option_map (λ t. t.now) given.out)
-
--- of a command line: what it asks for, where it was read
-abbrev pub OfDraw : FileFacts → Result DrawArgs Refusal → DrawTask → Type 0
-OfDraw files = OfLine (Serves files)

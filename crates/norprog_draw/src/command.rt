@@ -1,27 +1,26 @@
 //! `draw`: from the texts of the command line to a waveform in its file.
 
-ghost use Rattle.std.specs.Prelude.{◌≡◌, ◌<◌, ◌≤◌, ◌-◌, ◌^◌, None, IfOk, IfErr};
-ghost use Rattle.norprog_common.specs.Told.{line_fault};
-ghost use Rattle.norprog_draw.specs.Answer.{IsDrawing, RefusesDraw, RefusesToDraw, AnswersDraw, done};
+ghost use Rattle.std.specs.Prelude.{◌≡◌, ◌<◌, ◌≤◌, ◌-◌, ◌^◌, true, IfOk, IfErr};
+ghost use Rattle.norprog_common.specs.Told.{OrUsage};
+ghost use Rattle.norprog_draw.specs.Answer.{IsDrawing, RefusesDraw, AnswersDraw, done};
 ghost use Rattle.norprog_draw.specs.Request.{is_well_formed};
-ghost use Rattle.norprog_draw.specs.Served.{IsTaskOf, OfDraw};
+ghost use Rattle.norprog_draw.specs.Served.{IsTaskOf, Serves};
 
 use crate::request::{DrawRequest, request_of};
 use crate::script::draw_script;
 use nor_base::{ByteOut, Failed};
-use norprog_common::{DrawArgs, FileName, FileStore, Refusal, refuse};
+use norprog_common::{DrawArgs, FileName, FileStore, Refusal, answered};
 use std::alloc::Global;
 
 /// Draws the script on a command line into the file that it names, or writes a refusal to `err` (docs/FORMATS.md, section 9), and
 /// answers the status: 0 done, 1 refused, 2 usage. Nothing is printed where it is done. That file is made as another one than the
 /// script's.
 ///
-/// `given` is what stands on the command line, or why that couldn't be read, which is told. Usage is told where the texts ask for
-/// no waveform.
+/// Usage is told where the texts ask for no waveform.
 pub fn draw<S: FileStore, E: ByteOut>(
     alloc: Global,
     store: &S,
-    given: Result<DrawArgs<'_>, Refusal>,
+    given: DrawArgs<'_>,
     err: &mut E,
 ) -> u8
     requires { E.count err.old < 2 ^ 64 - 1 }
@@ -30,28 +29,24 @@ pub fn draw<S: FileStore, E: ByteOut>(
     ensures answer { AnswersDraw (S.facts store.now) given.entry (err.new ≡ err.old)
         (E.count err.new ≡ E.count err.old) (E.held err.old) (E.held err.new) result }
 {
-    match drawn_in(alloc, store, given) {
-        Ok(()) => 0,
-        Err(refusal) => refuse(&refusal, err),
-    }
+    answered(drawn_in(alloc, store, given), err)
 }
 
 /// Draws what is asked for.
-fn drawn_in<S: FileStore>(
-    alloc: Global,
-    store: &S,
-    given: Result<DrawArgs<'_>, Refusal>,
-) -> Result<(), Refusal>
-    ensures drawn { IfOk result (λ _. IsDrawing (OfDraw (S.facts store.now) given.entry) (S.facts store.now).flushed) }
-    ensures asked { IfOk result (λ _. line_fault is_well_formed given.entry ≡ None) }
-    ensures first { IfErr result (RefusesToDraw (S.facts store.now) given.entry) }
+fn drawn_in<S: FileStore>(alloc: Global, store: &S, given: DrawArgs<'_>) -> Result<u8, Refusal>
+    ensures status { IfOk result (λ status. status ≡ 0) }
+    ensures drawn { IfOk result (λ _. IsDrawing (Serves (S.facts store.now) given.entry) (S.facts store.now).flushed) }
+    ensures asked { IfOk result (λ _. is_well_formed given.entry ≡ true) }
+    ensures first { IfErr result (OrUsage (is_well_formed given.entry)
+        (RefusesDraw (S.facts store.now).lacked (Serves (S.facts store.now) given.entry))) }
 {
-    let request = request_of(given?).ok_or(Refusal::Usage)?;
+    let request = request_of(given).ok_or(Refusal::Usage)?;
     run_draw(alloc, store, request)
 }
 
 /// Opens the files of a request in their order, and draws the script into the second.
-fn run_draw<S: FileStore>(alloc: Global, store: &S, request: DrawRequest<'_>) -> Result<(), Refusal>
+fn run_draw<S: FileStore>(alloc: Global, store: &S, request: DrawRequest<'_>) -> Result<u8, Refusal>
+    ensures status { IfOk result (λ status. status ≡ 0) }
     ensures drawn { IfOk result (λ _. IsDrawing (IsTaskOf (S.facts store.now) request.entry) (S.facts store.now).flushed) }
     ensures refused { IfErr result (RefusesDraw (S.facts store.now).lacked (IsTaskOf (S.facts store.now) request.entry)) }
 {
@@ -68,13 +63,13 @@ fn run_draw<S: FileStore>(alloc: Global, store: &S, request: DrawRequest<'_>) ->
     done(answer, flushed)
 }
 
-/// The answer of a drawing whose file was flushed: done only where both are.
-fn done(answer: Result<(), Refusal>, flushed: Result<(), Failed>) -> Result<(), Refusal>
+/// The status of a drawing whose file was flushed: 0 only where both are done.
+fn done(answer: Result<(), Refusal>, flushed: Result<(), Failed>) -> Result<u8, Refusal>
     ensures { result ≡ done answer flushed }
 {
     match (answer, flushed) {
         (Err(refusal), _) => Err(refusal),
         (Ok(()), Err(_)) => Err(Refusal::WRITE),
-        (Ok(()), Ok(())) => Ok(()),
+        (Ok(()), Ok(())) => Ok(0),
     }
 }

@@ -7,7 +7,7 @@ use Rattle.norprog_common.specs.FileStore.{FileFacts}
 use Rattle.norprog_common.specs.declared.faults.FileName.{FileName}
 use Rattle.norprog_common.specs.declared.faults.Refusal.{Refusal}
 use Rattle.norprog_common.specs.declared.given.ListArgs.{ListArgs}
-use Rattle.norprog_common.specs.Told.{ForAsked, RefusesFor, AnswersAsked}
+use Rattle.norprog_common.specs.Told.{ForAsked, RefusesFor, Answers}
 use Rattle.norprog_list.specs.Listed.{WasCut, WasStopped, WasToldAbove, ListsText, RefusesText}
 use Rattle.norprog_list.specs.Request.{is_well_formed}
 use Rattle.norprog_list.specs.Served.{ListTask, Serves}
@@ -45,7 +45,7 @@ RefusesList Lacked Asked before after = RefusesFor Lacked (IsListFault Asked bef
 -- what `list` answers to the texts of a command line: the listing at status 0, or a refusal
 abbrev pub AnswersList : FileFacts → ListArgs → Option (List ℕ) → Option (List ℕ) → Type 0 → Type 0 → Option (List ℕ) → Option (List ℕ) → ℕ → Type 0
 AnswersList files given before after Quiet Works told_before told_after status =
-    AnswersAsked (is_well_formed given)
+    Answers (is_well_formed given)
     ((status ≡ 0) × PrintsListing (Serves files given) before after × Quiet)
     (CutsListing (Serves files given) before after)
     (RefusesList files.lacked (Serves files given) before after)

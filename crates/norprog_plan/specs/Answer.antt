@@ -28,7 +28,7 @@ use Rattle.norprog_common.specs.declared.faults.Refusal.{Refusal}
 use Rattle.norprog_common.specs.declared.faults.Refusal.TheVariants.{Build}
 use Rattle.norprog_common.specs.declared.given.PlanArgs.{PlanArgs}
 use Rattle.norprog_common.specs.FileStore.{FileFacts}
-use Rattle.norprog_common.specs.Told.{ForAsked, OfFault, RefusesFor, AnswersAsked}
+use Rattle.norprog_common.specs.Told.{ForAsked, OfFault, RefusesFor, Answers}
 use Rattle.norprog_common.specs.Served.{Job}
 use Rattle.norprog_plan.specs.Served.{asks_plan, ServesPlan}
 
@@ -163,7 +163,7 @@ RefusesPlan Lacked Sent times Asked before after =
 -- is asked for; or a refusal
 abbrev pub AnswersPlan : FileFacts → PlanArgs → Option (List ℕ) → Option (List ℕ) → Type 0 → Type 0 → Option (List ℕ) → Option (List ℕ) → ℕ → Type 0
 AnswersPlan files given before after Quiet Works told_before told_after status =
-    AnswersAsked (asks_plan given)
+    Answers (asks_plan given)
     ((status ≡ 0) × PrintsPlan files.flushed given.times (ServesPlan files given) before after × Quiet)
     (CutsPlan files.flushed given.times (ServesPlan files given) before after)
     (RefusesPlan files.lacked files.flushed given.times (ServesPlan files given) before after)

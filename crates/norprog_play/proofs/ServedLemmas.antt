@@ -1,5 +1,5 @@
 -- The play that a request has is the one that its texts ask for.
-use Rattle.std.proofs.Common.{◌≡◌, option_map, refl, sym, subst, List, ℕ, None, Result, Ok, Err, IfOk, IfErr}
+use Rattle.std.proofs.Common.{◌≡◌, option_map, refl, sym, subst, List, ℕ, true, Result, Ok, Err, IfOk, IfErr}
 use Rattle.std.specs.Prelude.{MatchResult}
 use Rattle.nor_base.specs.declared.meaning.Start.{Start}
 use Rattle.nor_base.specs.declared.step.Step.{Step}
@@ -14,17 +14,16 @@ use Rattle.norprog_common.specs.Chip.{origin_of}
 use Rattle.norprog_common.specs.Files.{TellsFile}
 use Rattle.norprog_common.specs.Setup.{setup_task}
 use Rattle.norprog_common.specs.FileStore.{AreTables, FileFacts, Named}
-use Rattle.norprog_common.specs.Told.{line_fault}
-use Rattle.norprog_common.proofs.ToldLemmas.{asked_wider, refuses_wider, by_fault, by_files}
+use Rattle.norprog_common.proofs.ToldLemmas.{asked_wider, refuses_wider, by_fault, by_files, or_usage}
 use Rattle.norprog_play.specs.declared.ending.Ending.{Ending}
 use Rattle.norprog_play.specs.declared.request.PlayRequest.{PlayRequest}
 use Rattle.norprog_play.specs.declared.unplayed.Unplayed.{Unplayed}
 use Rattle.norprog_play.specs.declared.unplayed.Unplayed.TheVariants.{Refused, Device}
-use Rattle.norprog_play.specs.Answer.{IsEndingOf, IsEnding, IsStopOf, IsPlayFault, RefusesPlay, IsGreetingOf, IsUnplayed, RefusesLine}
+use Rattle.norprog_play.specs.Answer.{IsEndingOf, IsEnding, IsStopOf, IsPlayFault, RefusesPlay, IsGreetingOf, IsUnplayed, RefusesToPlay}
 use Rattle.norprog_play.specs.Job.{IsReady, RefusesJob}
 use Rattle.norprog_play.specs.Played.{Ends, EndsGreeting, StopsPlay}
 use Rattle.norprog_play.specs.Request.{is_well_formed, AsksFor}
-use Rattle.norprog_play.specs.Served.{PlayTask, IsTaskOf, Serves, OfPlay}
+use Rattle.norprog_play.specs.Served.{PlayTask, IsTaskOf, Serves}
 
 -- a play of a request that the texts ask for is one that they ask for
 serves : (files : FileFacts) (given : PlayArgs) (request : PlayRequest) → AsksFor given request → (t : PlayTask) → IsTaskOf files request t → Serves files given t
@@ -36,33 +35,29 @@ serves files given request asks t of = record {
   trusted = rw of.trusted asks.trust;
 }
 
-on_line : (files : FileFacts) (line : Result PlayArgs Refusal) (given : PlayArgs) (request : PlayRequest) → line ≡ Ok given → AsksFor given request
-    → (t : PlayTask) → IsTaskOf files request t → OfPlay files line t
-on_line files line given request is asks t of = rw is (serves files given request asks t of)
+ending_asked : (files : FileFacts) (given : PlayArgs) (request : PlayRequest) (ending : Ending) → AsksFor given request
+    → IsEnding (IsTaskOf files request) ending → IsEnding (Serves files given) ending
+ending_asked files given request ending asks of =
+    asked_wider PlayTask (IsTaskOf files request) (Serves files given) (IsEndingOf ending) (serves files given request asks) of
 
-ending_asked : (files : FileFacts) (line : Result PlayArgs Refusal) (given : PlayArgs) (request : PlayRequest) (ending : Ending) → line ≡ Ok given → AsksFor given request
-    → IsEnding (IsTaskOf files request) ending → IsEnding (OfPlay files line) ending
-ending_asked files line given request ending is asks of =
-    asked_wider PlayTask (IsTaskOf files request) (OfPlay files line) (IsEndingOf ending) (on_line files line given request is asks) of
-
-pub endings_asked : (files : FileFacts) (line : Result PlayArgs Refusal) (given : PlayArgs) (request : PlayRequest) (r : Result Ending Unplayed) → line ≡ Ok given → AsksFor given request
-    → IfOk r (IsEnding (IsTaskOf files request)) → IfOk r (IsEnding (OfPlay files line))
-endings_asked files line given request (Ok ending) is asks of = ending_asked files line given request ending is asks of
-endings_asked files line given request (Err why) is asks of = tt
+pub endings_asked : (files : FileFacts) (given : PlayArgs) (request : PlayRequest) (r : Result Ending Unplayed) → AsksFor given request
+    → IfOk r (IsEnding (IsTaskOf files request)) → IfOk r (IsEnding (Serves files given))
+endings_asked files given request (Ok ending) asks of = ending_asked files given request ending asks of
+endings_asked files given request (Err why) asks of = tt
 
 -- and why it isn't played
-pub refusals_asked : (files : FileFacts) (line : Result PlayArgs Refusal) (given : PlayArgs) (request : PlayRequest) (r : Result Ending Unplayed) → line ≡ Ok given → AsksFor given request
-    → line_fault is_well_formed line ≡ None → IfErr r (IsUnplayed files.lacked (IsTaskOf files request))
-    → IfErr r (RefusesLine (line_fault is_well_formed line) files.lacked (OfPlay files line))
-refusals_asked files line given request (Ok ending) is asks none of = tt
-refusals_asked files line given request (Err (Refused why)) is asks none of = rw none (
-    refuses_wider files.lacked files.lacked (IsPlayFault (IsTaskOf files request)) (IsPlayFault (OfPlay files line))
-    ((ending : Ending) × IsEnding (IsTaskOf files request) ending) ((ending : Ending) × IsEnding (OfPlay files line) ending)
-    (λ name lacks. lacks) (λ why of. asked_wider PlayTask (IsTaskOf files request) (OfPlay files line) (IsStopOf why) (on_line files line given request is asks) of)
-    (λ late. (late.0, ending_asked files line given request late.0 is asks late.1)) why of
+pub refusals_asked : (files : FileFacts) (given : PlayArgs) (request : PlayRequest) (r : Result Ending Unplayed) → AsksFor given request
+    → is_well_formed given ≡ true → IfErr r (IsUnplayed files.lacked (IsTaskOf files request))
+    → IfErr r (RefusesToPlay files given)
+refusals_asked files given request (Ok ending) asks formed of = tt
+refusals_asked files given request (Err (Refused why)) asks formed of = or_usage _ _ _ formed (
+    refuses_wider files.lacked files.lacked (IsPlayFault (IsTaskOf files request)) (IsPlayFault (Serves files given))
+    ((ending : Ending) × IsEnding (IsTaskOf files request) ending) ((ending : Ending) × IsEnding (Serves files given) ending)
+    (λ name lacks. lacks) (λ why of. asked_wider PlayTask (IsTaskOf files request) (Serves files given) (IsStopOf why) (serves files given request asks) of)
+    (λ late. (late.0, ending_asked files given request late.0 asks late.1)) why of
     )
-refusals_asked files line given request (Err (Device why)) is asks none of =
-    (none, asked_wider PlayTask (IsTaskOf files request) (OfPlay files line) (IsGreetingOf why) (on_line files line given request is asks) of)
+refusals_asked files given request (Err (Device why)) asks formed of =
+    (formed, asked_wider PlayTask (IsTaskOf files request) (Serves files given) (IsGreetingOf why) (serves files given request asks) of)
 
 -- a file that couldn't be used
 pub lacked_refused : (Lacked : FileName → Type 0) (Asked : PlayTask → Type 0) (why : Refusal) → TellsFile Lacked why → RefusesPlay Lacked Asked why

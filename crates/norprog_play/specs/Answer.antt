@@ -10,7 +10,7 @@ use Rattle.norprog_common.specs.declared.faults.FileName.{FileName}
 use Rattle.norprog_common.specs.declared.faults.Refusal.{Refusal}
 use Rattle.norprog_common.specs.declared.given.PlayArgs.{PlayArgs}
 use Rattle.norprog_common.specs.FileStore.{FileFacts}
-use Rattle.norprog_common.specs.Told.{ForAsked, RefusesFor, Refuses, line_fault, TellsOf}
+use Rattle.norprog_common.specs.Told.{ForAsked, RefusesFor, OrUsage, TellsOf}
 use Rattle.norprog_play.specs.declared.ending.Ending.{Ending}
 use Rattle.norprog_play.specs.declared.unplayed.Unplayed.{Unplayed}
 use Rattle.norprog_play.specs.declared.unplayed.Unplayed.TheVariants.{Refused, Device}
@@ -18,7 +18,7 @@ use Rattle.norprog_play.specs.Job.{IsReady, RefusesJob}
 use Rattle.norprog_play.specs.Line.{ending_line}
 use Rattle.norprog_play.specs.Played.{Ends, EndsGreeting}
 use Rattle.norprog_play.specs.Request.{is_well_formed}
-use Rattle.norprog_play.specs.Served.{PlayTask, OfPlay}
+use Rattle.norprog_play.specs.Served.{PlayTask, Serves}
 use Rattle.norprog_play.specs.State.{is_partial, state_line, status_of, device_line}
 
 -- the script's steps, on that chip with that content, ended so
@@ -61,14 +61,10 @@ abbrev pub IsUnplayed : (FileName → Type 0) → (PlayTask → Type 0) → Unpl
 IsUnplayed Lacked Asked (Refused why) = RefusesPlay Lacked Asked why
 IsUnplayed Lacked Asked (Device why) = IsGreeting Asked why
 
--- the fault of the command line where there is one, else why its work isn't done
-abbrev pub RefusesLine : Option Refusal → (FileName → Type 0) → (PlayTask → Type 0) → Unplayed → Type 0
-RefusesLine cause Lacked Asked (Refused why) = Refuses cause (RefusesPlay Lacked Asked) why
-RefusesLine cause Lacked Asked (Device why) = (cause ≡ None) × IsGreeting Asked why
-
--- why what a command line asks for isn't played
-abbrev pub RefusesToPlay : FileFacts → Result PlayArgs Refusal → Unplayed → Type 0
-RefusesToPlay files line = RefusesLine (line_fault is_well_formed line) files.lacked (OfPlay files line)
+-- why what texts ask for isn't played: usage where they ask for nothing
+abbrev pub RefusesToPlay : FileFacts → PlayArgs → Unplayed → Type 0
+RefusesToPlay files given (Refused why) = OrUsage (is_well_formed given) (RefusesPlay files.lacked (Serves files given)) why
+RefusesToPlay files given (Device why) = (is_well_formed given ≡ true) × IsGreeting (Serves files given) why
 
 -- nothing was printed, or a proper prefix of the line of such an ending
 abbrev pub CutsEnding : (PlayTask → Type 0) → Option (List ℕ) → Option (List ℕ) → Type 0
@@ -101,10 +97,10 @@ pub record TellsGreeting (Asked : PlayTask → Type 0) (before after : Option (L
   pub unprinted : after ≡ before
   pub told : Works → Appends told_before told_after (device_line why)
 
--- what `play` answers to a command line: the line of the ending, whose status it is; the handshake's fault; or a refusal
-abbrev pub AnswersPlay : FileFacts → Result PlayArgs Refusal → Option (List ℕ) → Option (List ℕ) → Type 0 → Type 0 → Option (List ℕ) → Option (List ℕ) → ℕ → Type 0
-AnswersPlay files line before after Quiet Works told_before told_after status =
-    ((line_fault is_well_formed line ≡ None) × PrintsEnding (OfPlay files line) before after Quiet Works told_before told_after status)
-    ⊎ (((line_fault is_well_formed line ≡ None) × TellsGreeting (OfPlay files line) before after Works told_before told_after status)
-    ⊎ (CutsEnding (OfPlay files line) before after
-    × TellsOf (Refuses (line_fault is_well_formed line) (RefusesPlay files.lacked (OfPlay files line))) Works told_before told_after status))
+-- what `play` answers to the texts of a command line: the line of the ending, whose status it is; the handshake's fault; or a refusal
+abbrev pub AnswersPlay : FileFacts → PlayArgs → Option (List ℕ) → Option (List ℕ) → Type 0 → Type 0 → Option (List ℕ) → Option (List ℕ) → ℕ → Type 0
+AnswersPlay files given before after Quiet Works told_before told_after status =
+    ((is_well_formed given ≡ true) × PrintsEnding (Serves files given) before after Quiet Works told_before told_after status)
+    ⊎ (((is_well_formed given ≡ true) × TellsGreeting (Serves files given) before after Works told_before told_after status)
+    ⊎ (CutsEnding (Serves files given) before after
+    × TellsOf (OrUsage (is_well_formed given) (RefusesPlay files.lacked (Serves files given))) Works told_before told_after status))

@@ -1,12 +1,10 @@
 -- The play that a command line of `play` asks for (this project's). `files` is what is known of files by their names.
-use Rattle.std.specs.Prelude.{◌≡◌, ℕ, Bool, List, Some, Result, option_map}
+use Rattle.std.specs.Prelude.{◌≡◌, ℕ, Bool, List, Some, option_map}
 use Rattle.nor_base.specs.Device.{Ahead}
 use Rattle.nor_job.specs.Task.{Task}
-use Rattle.norprog_common.specs.declared.faults.Refusal.{Refusal}
 use Rattle.norprog_common.specs.declared.given.PlayArgs.{PlayArgs}
 use Rattle.norprog_common.specs.Setup.{IsSetupTask, ServesSetup}
 use Rattle.norprog_common.specs.FileStore.{FileFacts, Named}
-use Rattle.norprog_common.specs.Told.{OfLine}
 use Rattle.norprog_common.specs.Values.{limit_of}
 use Rattle.norprog_play.specs.declared.request.PlayRequest.{PlayRequest}
 use Rattle.norprog_play.specs.Request.{asked_limit}
@@ -36,7 +34,3 @@ pub record Serves (files : FileFacts) (given : PlayArgs) (t : PlayTask) : Type 0
   pub content : Named (λ name. files.opened name t.content t.len) (option_map (λ t. t.now) given.content)
   pub limit : limit_of (asked_limit given) ≡ Some t.limit
   pub trusted : t.trusted ≡ given.trust
-
--- of a command line: what it asks for, where it was read
-abbrev pub OfPlay : FileFacts → Result PlayArgs Refusal → PlayTask → Type 0
-OfPlay files = OfLine (Serves files)

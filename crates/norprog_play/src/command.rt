@@ -1,17 +1,16 @@
 //! `play`: from the texts of the command line to the line of an ending.
 
-ghost use Rattle.std.specs.Prelude.{◌≡◌, ◌<◌, ◌≤◌, ◌-◌, ◌^◌, None, length, IfOk, IfErr, MatchResult};
+ghost use Rattle.std.specs.Prelude.{◌≡◌, ◌<◌, ◌≤◌, ◌-◌, ◌^◌, true, length, IfOk, IfErr, MatchResult};
 ghost use Rattle.std.specs.Io.KnownBytes.{Appends};
 ghost use Rattle.nor_base.specs.Chip.{IsPossible};
 ghost use Rattle.nor_base.specs.Run.{trail};
 ghost use Rattle.norprog_common.specs.Files.{TellsFile};
-ghost use Rattle.norprog_common.specs.Told.{line_fault};
 ghost use Rattle.norprog_play.specs.Answer.{IsEnding, IsUnplayed, IsUnprinted, RefusesToPlay, AnswersPlay};
 ghost use Rattle.norprog_play.specs.Early.{MayPlay, chip_with};
 ghost use Rattle.norprog_play.specs.Line.{ending_line};
 ghost use Rattle.norprog_play.specs.Played.{Ends, EndsOnDevice, StopsPlay};
 ghost use Rattle.norprog_play.specs.Request.{is_well_formed};
-ghost use Rattle.norprog_play.specs.Served.{IsTaskOf, OfPlay};
+ghost use Rattle.norprog_play.specs.Served.{IsTaskOf, Serves};
 
 use crate::early::{Early, ends_early, widest};
 use crate::ending::Ending;
@@ -37,12 +36,11 @@ use std::io::BufReader;
 /// Where steps are sent to the device, how many are done is told to `progress` after each hundred and at the end, in a line that is
 /// written over; where that fails nothing changes. What is said of the device is so of some device, from its handshake on.
 ///
-/// `given` is what stands on the command line, or why that couldn't be read, which is told. Usage is told where the texts
-/// ask for no play.
+/// Usage is told where the texts ask for no play.
 pub fn play<S: FileStore, O: ByteOut, E: ByteOut, P: ByteOut>(
     alloc: Global,
     store: &S,
-    given: Result<PlayArgs<'_>, Refusal>,
+    given: PlayArgs<'_>,
     out: &mut O,
     err: &mut E,
     progress: &mut P,
@@ -66,16 +64,16 @@ pub fn play<S: FileStore, O: ByteOut, E: ByteOut, P: ByteOut>(
 fn report_play<S: FileStore, O: ByteOut, P: ByteOut>(
     alloc: Global,
     store: &S,
-    given: Result<PlayArgs<'_>, Refusal>,
+    given: PlayArgs<'_>,
     out: &mut O,
     progress: &mut P,
 ) -> Result<Ending, Unplayed>
     requires out { O.count out.old < 2 ^ 64 - 1 }
     requires progress { P.count progress.old < 2 ^ 64 - 1 }
-    ensures played { IfOk result (IsEnding (OfPlay (S.facts store.now) given.entry)) }
+    ensures played { IfOk result (IsEnding (Serves (S.facts store.now) given.entry)) }
     ensures printed { IfOk result (λ ending. Appends (O.held out.old) (O.held out.new) (ending_line ending)) }
-    ensures unprinted { IfErr result (IsUnprinted (OfPlay (S.facts store.now) given.entry) (O.held out.old) (O.held out.new)) }
-    ensures asked { IfOk result (λ _. line_fault is_well_formed given.entry ≡ None) }
+    ensures unprinted { IfErr result (IsUnprinted (Serves (S.facts store.now) given.entry) (O.held out.old) (O.held out.new)) }
+    ensures asked { IfOk result (λ _. is_well_formed given.entry ≡ true) }
     ensures first { IfErr result (RefusesToPlay (S.facts store.now) given.entry) }
 {
     let ending = ending_of(alloc, store, given, progress)?;
@@ -89,15 +87,15 @@ fn report_play<S: FileStore, O: ByteOut, P: ByteOut>(
 fn ending_of<S: FileStore, P: ByteOut>(
     alloc: Global,
     store: &S,
-    given: Result<PlayArgs<'_>, Refusal>,
+    given: PlayArgs<'_>,
     progress: &mut P,
 ) -> Result<Ending, Unplayed>
     requires { P.count progress.old < 2 ^ 64 - 1 }
-    ensures played { IfOk result (IsEnding (OfPlay (S.facts store.now) given.entry)) }
-    ensures asked { IfOk result (λ _. line_fault is_well_formed given.entry ≡ None) }
+    ensures played { IfOk result (IsEnding (Serves (S.facts store.now) given.entry)) }
+    ensures asked { IfOk result (λ _. is_well_formed given.entry ≡ true) }
     ensures first { IfErr result (RefusesToPlay (S.facts store.now) given.entry) }
 {
-    let request = request_of(given?).ok_or(Refusal::Usage)?;
+    let request = request_of(given).ok_or(Refusal::Usage)?;
     play_request(alloc, store, request, progress)
 }
 

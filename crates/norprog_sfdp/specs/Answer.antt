@@ -12,7 +12,7 @@ use Rattle.norprog_common.specs.declared.faults.FileName.{FileName}
 use Rattle.norprog_common.specs.declared.faults.Refusal.{Refusal}
 use Rattle.norprog_common.specs.declared.given.ChipArgs.{ChipArgs}
 use Rattle.norprog_common.specs.FileStore.{FileFacts}
-use Rattle.norprog_common.specs.Told.{ForAsked, OfFault, RefusesFor, AnswersAsked}
+use Rattle.norprog_common.specs.Told.{ForAsked, OfFault, RefusesFor, Answers}
 use Rattle.norprog_sfdp.specs.Served.{asks_chip, ServesChip}
 
 -- the chip of the task has this meaning
@@ -46,7 +46,7 @@ CutsMeaning Asked before after =
 -- what `sfdp` answers to the texts of a command line: the lines of the meaning at status 0, or a refusal
 abbrev pub AnswersChip : FileFacts → ChipArgs → Option (List ℕ) → Option (List ℕ) → Type 0 → Type 0 → Option (List ℕ) → Option (List ℕ) → ℕ → Type 0
 AnswersChip files given before after Quiet Works told_before told_after status =
-    AnswersAsked (asks_chip given)
+    Answers (asks_chip given)
     ((status ≡ 0) × PrintsMeaning (ServesChip files given) before after × Quiet)
     (CutsMeaning (ServesChip files given) before after)
     (RefusesMeaning files.lacked (ServesChip files given))
