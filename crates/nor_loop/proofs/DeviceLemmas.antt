@@ -1,0 +1,222 @@
+-- What a device did for steps is a log of them.
+use Rattle.std.proofs.Common.{◌≡◌, inl, inr, ℕ, ◌+◌, List, [], ◌∷◌, ◌++◌, length, map, Option, Err, refl, sym, ap, subst, arith, append-nil, append_assoc}
+use Rattle.std.specs.Prelude.{flat_map}
+use Rattle.std.specs.Io.KnownBytes.{Appends}
+use Rattle.std.specs.List.{AllByRecursion}
+use Rattle.std.proofs.lemmas.Grind.{flat_map-append}
+use Rattle.std.proofs.lemmas.List.Folds.{flat_map-map}
+use Rattle.nor_base.specs.declared.step.Step.{Step}
+use Rattle.nor_base.specs.declared.step.Step.TheVariants.{Send, Poll, Verify}
+use Rattle.nor_base.specs.Device.{Ahead, Unknown, Finite, Endless, Gives}
+use Rattle.nor_base.specs.Step.{step_clocks}
+use Rattle.nor_base.proofs.ListLaws.{all_append}
+use Rattle.nor_base.proofs.DeviceLaws.{Appends-none, Appends-append, Gives-append}
+use Rattle.nor_serprog.specs.declared.limits.Limits.{Limits}
+use Rattle.nor_base.specs.Run.{DoesTaskOnEvery}
+use Rattle.nor_serprog.specs.declared.fault.Reason.{Reason}
+use Rattle.nor_serprog.specs.declared.fault.Reason.TheVariants as reason
+use Rattle.nor_plan_laws.specs.Laws.{PlannedDoesTask}
+use Rattle.nor_serprog.specs.Follow.{HasOperated, status_request}
+use Rattle.nor_serprog.specs.Follow as follow
+use Rattle.nor_serprog.specs.Protocol.{request, answer}
+use Rattle.nor_loop.specs.Device.{HasDone, HasStopped, HasDoneAll, HasStoppedAmong}
+use Rattle.nor_loop.specs.Laws.{DoneIsLogged, StoppedIsLogged, ToldLoopCloses, LoopBreaks, LoopIsExplained, DeviceCloses, DeviceBreaks}
+use Rattle.nor_loop.specs.Log.{Operation, IsShort, HasLogged}
+use Rattle.nor_loop.specs.Steps.{status_read, IsOne, IsWaiting, IsLogOf, IsBegun, AreLogOf, AreBegun}
+
+-- what goes out, and what comes back
+abbrev outs : List Operation → List ℕ
+outs log = flat_map (λ (o : Operation). request o.sent (length o.got)) log
+
+abbrev backs : List Operation → List ℕ
+backs log = flat_map (λ (o : Operation). answer o.got) log
+
+gives_none : (a : Ahead) → Gives a [] a
+gives_none Unknown = tt
+gives_none (Finite bytes) = refl
+gives_none (Endless f) = (λ k fits. absurd (omega arith), λ k. let same : k ≡ 0 + k = omega arith in ap f same)
+
+pub logged_none : (held : Option (List ℕ)) (ahead : Ahead) → HasLogged held held ahead ahead []
+logged_none held ahead = record { short = tt; talked = record { out = Appends-none held; back = gives_none ahead } }
+
+pub logged_both : (h i j : Option (List ℕ)) (a b c : Ahead) (xs ys : List Operation) → HasLogged h i a b xs → HasLogged i j b c ys → HasLogged h j a c (xs ++ ys)
+logged_both h i j a b c xs ys p q = record {
+  short = all_append IsShort xs ys p.short q.short;
+  talked = record {
+    out = subst (Appends h j) (sym (flat_map-append (λ (o : Operation). request o.sent (length o.got)) xs ys))
+        (Appends-append h i j (outs xs) (outs ys) p.talked.out q.talked.out);
+    back = subst (λ bytes. Gives a bytes c) (sym (flat_map-append (λ (o : Operation). answer o.got) xs ys))
+        (Gives-append a b c (backs xs) (backs ys) p.talked.back q.talked.back);
+  };
+}
+
+record Logged (h i : Option (List ℕ)) (a b : Ahead) (Is : List Operation → Type 0) : Type 0 where
+  log : List Operation
+  wire : HasLogged h i a b log
+  is : Is log
+
+statuses_short : (statuses : List ℕ) → AllByRecursion IsShort (map status_read statuses)
+statuses_short [] = tt
+statuses_short (x ∷ xs) = ((omega arith, omega arith), statuses_short xs)
+
+statuses_logged : (h i : Option (List ℕ)) (a b : Ahead) (statuses : List ℕ) → follow.HasRead h i a b statuses → HasLogged h i a b (map status_read statuses)
+statuses_logged h i a b statuses read = record {
+  short = statuses_short statuses;
+  talked = record {
+    out = subst (Appends h i) (sym (flat_map-map (λ (o : Operation). request o.sent (length o.got)) status_read statuses)) read.out;
+    back = subst (λ bytes. Gives a bytes b) (sym (flat_map-map (λ (o : Operation). answer o.got) status_read statuses)) read.back;
+  };
+}
+
+operated : (h i : Option (List ℕ)) (a b : Ahead) (limits : Limits) (symbols want : List ℕ) (Holds : Operation → Type 0)
+    → ((o : Operation) → o.got ≡ want → Holds o) → HasOperated h i a b limits symbols want → Logged h i a b (IsOne symbols Holds)
+operated h i a b limits symbols want Holds holds did =
+    let o : Operation = record { sent = did.sent; got = want } in
+    let few_sent = did.spelled.few_sent in
+    let few_asked = did.spelled.few_asked in
+    let most_sent = limits.few_sent in
+    let most_asked = limits.few_asked in record {
+      log = o ∷ [];
+      wire = record {
+        short = ((omega (arith, few_sent, most_sent), omega (arith, few_asked, most_asked)), tt);
+        talked = record {
+          out = subst (Appends h i) (sym (append-nil (request did.sent (length want)))) did.talked.out;
+          back = subst (λ bytes. Gives a bytes b) (sym (append-nil (answer want))) did.talked.back;
+        };
+      };
+      is = (o, sym did.spelled.spelled, holds o refl, refl);
+    }
+
+done_logged : (h i : Option (List ℕ)) (a b : Ahead) (limits : Limits) (turns : ℕ) (x : Step) → HasDone h i a b limits turns x → Logged h i a b (IsLogOf x)
+done_logged h i a b limits turns (Send symbols) did = operated h i a b limits symbols [] _ (λ o is. is) did
+done_logged h i a b limits turns (Poll symbols) (same, waited) =
+    let statuses = waited.busy ++ waited.idle ∷ [] in record {
+      log = map status_read statuses;
+      wire = statuses_logged h i a b statuses waited.read;
+      is = (same, record { busy = waited.busy; idle = waited.idle; each = waited.each; last = waited.last; those = refl });
+    }
+done_logged h i a b limits turns (Verify symbols expect) did = operated h i a b limits symbols expect _ (λ o is. is) did
+
+all_logged : (h i : Option (List ℕ)) (a b : Ahead) (limits : Limits) (turns : ℕ) (steps : List Step) → HasDoneAll h i a b limits turns steps
+    → Logged h i a b (AreLogOf steps)
+all_logged h i a b limits turns [] (held, ahead) = record {
+  log = [];
+  wire = subst (λ (j : Option (List ℕ)). HasLogged h j a b []) (sym held) (subst (λ (c : Ahead). HasLogged h h a c []) (sym ahead) (logged_none h a));
+  is = refl;
+}
+all_logged h i a b limits turns (x ∷ xs) (j, c, did, more) =
+    let first = done_logged h j a c limits turns x did in
+    let rest = all_logged j i c b limits turns xs more in record {
+      log = first.log ++ rest.log;
+      wire = logged_both h j i a c b first.log rest.log first.wire rest.wire;
+      is = (first.log, rest.log, refl, first.is, rest.is);
+    }
+
+pub done_is_logged : DoneIsLogged
+done_is_logged h i a b limits turns steps did = let all = all_logged h i a b limits turns steps did in (all.log, all.wire, all.is)
+
+-- up to where it stopped
+record StoppedAt (h : Option (List ℕ)) (a : Ahead) (Is : List Operation → Type 0) : Type 0 where
+  held : Option (List ℕ)
+  ahead : Ahead
+  upto : Logged h held a ahead Is
+
+at_once : (h : Option (List ℕ)) (a : Ahead) (Is : List Operation → Type 0) → Is [] → StoppedAt h a Is
+at_once h a Is is = record { held = h; ahead = a; upto = record { log = []; wire = logged_none h a; is = is } }
+
+waiting : (h i : Option (List ℕ)) (a b : Ahead) (turns : ℕ) (why : Reason) → follow.Waits h i a b (Err why) turns → StoppedAt h a IsWaiting
+waiting h i a b turns reason.Busy stays = record {
+  held = i;
+  ahead = b;
+  upto = record {
+    log = map status_read stays.busy;
+    wire = statuses_logged h i a b stays.busy stays.read;
+    is = record { busy = stays.busy; each = stays.each; those = refl };
+  };
+}
+waiting h i a b turns (reason.Exchange fault) stops = record {
+  held = stops.held;
+  ahead = stops.ahead;
+  upto = record {
+    log = map status_read stops.busy;
+    wire = statuses_logged h stops.held a stops.ahead stops.busy stops.read;
+    is = record { busy = stops.busy; each = stops.each; those = refl };
+  };
+}
+waiting h i a b turns reason.Carried none = absurd none
+
+stopped_logged : (h i : Option (List ℕ)) (a b : Ahead) (limits : Limits) (turns : ℕ) (why : Reason) (x : Step) → HasStopped h i a b limits turns why x
+    → StoppedAt h a (IsBegun x)
+stopped_logged h i a b limits turns why (Send symbols) did = at_once h a (IsBegun (Send symbols)) refl
+stopped_logged h i a b limits turns why (Poll symbols) (same, stops) =
+    let w = waiting h i a b turns why stops in record {
+      held = w.held;
+      ahead = w.ahead;
+      upto = record { log = w.upto.log; wire = w.upto.wire; is = (same, w.upto.is) };
+    }
+stopped_logged h i a b limits turns why (Verify symbols expect) did = at_once h a (IsBegun (Verify symbols expect)) refl
+
+record StoppedAmong (h : Option (List ℕ)) (a : Ahead) (steps : List Step) : Type 0 where
+  next : List ℕ
+  upto : StoppedAt h a (λ log. AreBegun steps log next)
+
+among_logged : (h i : Option (List ℕ)) (a b : Ahead) (limits : Limits) (turns : ℕ) (why : Reason) (steps : List Step)
+    → HasStoppedAmong h i a b limits turns why steps → StoppedAmong h a steps
+among_logged h i a b limits turns why [] none = absurd none
+among_logged h i a b limits turns why (x ∷ xs) (inl stops) =
+    let at = stopped_logged h i a b limits turns why x stops in record {
+      next = step_clocks x;
+      upto = record {
+        held = at.held;
+        ahead = at.ahead;
+        upto = record { log = at.upto.log; wire = at.upto.wire; is = inl (at.upto.is, refl) };
+      };
+    }
+among_logged h i a b limits turns why (x ∷ xs) (inr (j, c, did, more)) =
+    let first = done_logged h j a c limits turns x did in
+    let rest = among_logged j i c b limits turns why xs more in
+    let at = rest.upto in record {
+      next = rest.next;
+      upto = record {
+        held = at.held;
+        ahead = at.ahead;
+        upto = record {
+          log = first.log ++ at.upto.log;
+          wire = logged_both h j at.held a c at.ahead first.log at.upto.log first.wire at.upto.wire;
+          is = inr (first.log, at.upto.log, refl, first.is, at.upto.is);
+        };
+      };
+    }
+
+pub stopped_is_logged : StoppedIsLogged
+stopped_is_logged h i a b limits turns why steps did =
+    let among = among_logged h i a b limits turns why steps did in
+    (among.upto.held, among.upto.ahead, among.upto.upto.log, among.next, among.upto.upto.wire, among.upto.upto.is)
+
+-- planned work does the task, so the loop closes
+pub device_closes : PlannedDoesTask → ToldLoopCloses → LoopIsExplained → DeviceCloses
+device_closes does closes shown h i j a b c limits turns m start verify content goal steps able planned twice did =
+    let all = all_logged i j b c limits turns steps did in
+    let joined = append_assoc twice.first twice.again all.log in
+    let task : DoesTaskOnEvery m start content (goal content) steps = does m start verify content (goal content) steps able planned in record {
+      log = twice.first ++ (twice.again ++ all.log);
+      wire = subst (HasLogged h j a c) joined (logged_both h i j a b c (twice.first ++ twice.again) all.log twice.wire all.wire);
+      every = closes m start content goal steps twice.first twice.again all.log twice.reads.tells twice.rereads.tells task all.is;
+      some =
+          let one = shown m start verify content (goal content) steps twice.first twice.again all.log able planned twice.reads twice.rereads all.is in
+          (one.0, content, one.1, one.2);
+    }
+
+pub device_breaks : LoopBreaks → DeviceBreaks
+device_breaks breaks h i j a b c limits turns why m start verify content goal steps able planned twice did =
+    let among = among_logged i j b c limits turns why steps did in
+    let at = among.upto in
+    let joined = append_assoc twice.first twice.again at.upto.log in record {
+      held = at.held;
+      ahead = at.ahead;
+      log = twice.first ++ (twice.again ++ at.upto.log);
+      wire = subst (HasLogged h at.held a at.ahead) joined
+          (logged_both h i at.held a b at.ahead (twice.first ++ twice.again) at.upto.log twice.wire at.upto.wire);
+      next = among.next;
+      every = breaks m start verify content goal steps twice.first twice.again at.upto.log among.next able planned twice.reads twice.rereads at.upto.is;
+    }

@@ -1,0 +1,152 @@
+-- Laws of logs (this project's).
+use Rattle.std.specs.Prelude.{◌≡◌, ◌≤◌, ◌<◌, ◌⊎◌, ℕ, ◌^◌, true, false, Bool, List, ◌++◌, length, Option, Some}
+use Rattle.std.specs.List.{AllByRecursion, concat}
+use Rattle.nor_base.specs.declared.meaning.Start.{Start}
+use Rattle.nor_base.specs.declared.step.Step.{Step}
+use Rattle.nor_base.specs.Parameters.{Parameters}
+use Rattle.nor_base.specs.Chip.{Setting, Chip, IsChipOf, begins4, ready}
+use Rattle.nor_base.specs.Instructions.{is_there}
+use Rattle.nor_base.specs.Planned.{ArePlanned, IsWorkable}
+use Rattle.nor_base.specs.Run.{DoesTaskOnEvery}
+use Rattle.nor_base.specs.Device.{Ahead, Finite}
+use Rattle.nor_serprog.specs.declared.fault.Reason.{Reason}
+use Rattle.nor_serprog.specs.declared.limits.Limits.{Limits}
+use Rattle.nor_loop.specs.Device.{HasDoneAll, HasStoppedAmong, ClosesLoop, BreaksLoop}
+use Rattle.nor_loop.specs.Log.{Operation, Explains, HasLogged}
+use Rattle.nor_loop.specs.Reads.{ReadsAll, EntersAndReads, reads_from}
+use Rattle.nor_loop.specs.Steps.{AreLogOf, AreBegun}
+use Rattle.nor_loop.specs.Loop.{MayBe, EndsAs, EveryChipEnds, EveryChipHoldsPart}
+
+-- a chip can be read whole from the mode that it begins in: its addresses fit three bytes, or that mode has four, or it has 13h
+abbrev pub IsReadable : Parameters → Start → Type 0
+IsReadable m start = (m.size ≤ 2 ^ 24) ⊎ ((begins4 m start ≡ true) ⊎ (m.read4 ≡ true))
+
+-- every chip that explains reads of the whole held just what came back, and is as it was
+abbrev pub ReadsTell : Type 0
+ReadsTell = (m : Parameters) (start : Start) (content : List ℕ) (log : List Operation) (s : Setting) (held : List ℕ) (after : Chip)
+    → m.size ≤ 2 ^ 32 → IsReadable m start → length content ≡ m.size → ReadsAll (begins4 m start) content log → MayBe m start log s held after
+    → (held ≡ content) × (after ≡ ready s held)
+
+-- reads of only a part, from address 0 on, leave it as it was
+abbrev pub ReadsKeep : Type 0
+ReadsKeep = (m : Parameters) (start : Start) (pieces : List (List ℕ)) (s : Setting) (held : List ℕ) (after : Chip)
+    → m.size ≤ 2 ^ 32 → IsReadable m start → AllByRecursion (λ piece. 0 < length piece) pieces → length (concat pieces) ≤ m.size
+    → MayBe m start (reads_from (begins4 m start) 0 pieces) s held after → after ≡ ready s held
+
+-- a log reports a content: every chip that explains it held that, and is as it was
+abbrev pub Tells : Parameters → Start → List ℕ → List Operation → Type 0
+Tells m start content log = (s : Setting) (held : List ℕ) (after : Chip) → MayBe m start log s held after → (held ≡ content) × (after ≡ ready s held)
+
+-- and each chip with that content explains it
+abbrev pub Shows : Parameters → Start → List ℕ → List Operation → Type 0
+Shows m start content log = (s : Setting) → IsChipOf m start s → Explains s (ready s content) log (ready s content)
+
+-- a log reads a content: it reports it, and leaves out no chip that has it
+pub record IsReading (m : Parameters) (start : Start) (content : List ℕ) (log : List Operation) : Type 0 where
+  pub tells : Tells m start content log
+  pub shows : Shows m start content log
+
+-- reads of the whole chip read the content
+abbrev pub ReadsRead : Type 0
+ReadsRead = (m : Parameters) (start : Start) (content : List ℕ) (log : List Operation) → m.size ≤ 2 ^ 32 → IsReadable m start
+    → length content ≡ m.size → ReadsAll (begins4 m start) content log → IsReading m start content log
+
+-- and so do reads for which four-byte mode is entered, on a chip that begins in the other mode
+abbrev pub EnteredReadsRead : Type 0
+EnteredReadsRead = (m : Parameters) (start : Start) (content : List ℕ) (log : List Operation) → m.size ≤ 2 ^ 32 → is_there m.enter ≡ true
+    → is_there m.leave ≡ true → begins4 m start ≡ false → length content ≡ m.size → EntersAndReads m content log → IsReading m start content log
+
+-- in particular these report it
+abbrev pub EnteredReadsTell : Type 0
+EnteredReadsTell = (m : Parameters) (start : Start) (content : List ℕ) (log : List Operation) → m.size ≤ 2 ^ 32 → is_there m.enter ≡ true
+    → is_there m.leave ≡ true → begins4 m start ≡ false → length content ≡ m.size → EntersAndReads m content log → Tells m start content log
+
+-- two logs that report a content, and then steps that do the task for it: every chip that explains them ends with the goal
+abbrev pub ToldLoopCloses : Type 0
+ToldLoopCloses = (m : Parameters) (start : Start) (content : List ℕ) (goal : List ℕ → List ℕ) (steps : List Step) (first again work : List Operation)
+    → Tells m start content first → Tells m start content again → DoesTaskOnEvery m start content (goal content) steps → AreLogOf steps work
+    → EveryChipEnds m start goal (first ++ (again ++ work))
+
+-- the same where the two logs are reads of the whole chip
+abbrev pub LoopCloses : Type 0
+LoopCloses = (m : Parameters) (start : Start) (content : List ℕ) (goal : List ℕ → List ℕ) (steps : List Step) (first again work : List Operation)
+    → m.size ≤ 2 ^ 32 → IsReadable m start → length content ≡ m.size
+    → ReadsAll (begins4 m start) content first → ReadsAll (begins4 m start) content again
+    → DoesTaskOnEvery m start content (goal content) steps → AreLogOf steps work
+    → EveryChipEnds m start goal (first ++ (again ++ work))
+
+-- where the steps are planned work, some chip with that content explains the log
+abbrev pub LoopIsExplained : Type 0
+LoopIsExplained = (m : Parameters) (start : Start) (verify : Bool) (content goal : List ℕ) (steps : List Step) (first again work : List Operation)
+    → IsWorkable m start content goal → ArePlanned m start verify content goal steps
+    → IsReading m start content first → IsReading m start content again → AreLogOf steps work
+    → (s : Setting) × (after : Chip) × MayBe m start (first ++ (again ++ work)) s content after
+
+-- the same where the goal is that of another content, such as an older dump
+abbrev pub LoopResumes : Type 0
+LoopResumes = (m : Parameters) (start : Start) (content dump : List ℕ) (goal : List ℕ → List ℕ) (steps : List Step) (first again work : List Operation)
+    → m.size ≤ 2 ^ 32 → IsReadable m start → length content ≡ m.size
+    → ReadsAll (begins4 m start) content first → ReadsAll (begins4 m start) content again
+    → DoesTaskOnEvery m start content (goal dump) steps → AreLogOf steps work
+    → EveryChipEnds m start (λ held. goal dump) (first ++ (again ++ work))
+
+-- planned work was broken off: every chip that explains the log held what was read, and at most one unit is in the making
+abbrev pub LoopBreaks : Type 0
+LoopBreaks = (m : Parameters) (start : Start) (verify : Bool) (content goal : List ℕ) (steps : List Step) (first again work : List Operation)
+    (next : List ℕ) → IsWorkable m start content goal → ArePlanned m start verify content goal steps
+    → IsReading m start content first → IsReading m start content again → AreBegun steps work next
+    → EveryChipHoldsPart m start content goal (first ++ (again ++ work)) next
+
+-- a log begins with reads of the whole chip. Another log, on the chip with whatever it then held, ends with the goal of what these
+-- reads gave. So the chip ends with the goal of what it held before the first log
+abbrev pub LoopMends : Type 0
+LoopMends = (m : Parameters) (start : Start) (dump : List ℕ) (goal : List ℕ → List ℕ) (first again begun log : List Operation)
+    → m.size ≤ 2 ^ 32 → IsReadable m start → length dump ≡ m.size
+    → ReadsAll (begins4 m start) dump first → EveryChipEnds m start (λ held. goal dump) log
+    → (s t : Setting) (held between : List ℕ) (broken after : Chip) → MayBe m start (first ++ (again ++ begun)) s held broken
+    → MayBe m start log t between after → EndsAs goal t held after
+
+-- where writer and reader tell their bytes, they have one log
+abbrev pub OneLog : Type 0
+OneLog = (held_before held_after ahead_before ahead_after : List ℕ) (xs ys : List Operation)
+    → HasLogged (Some held_before) (Some held_after) (Finite ahead_before) (Finite ahead_after) xs
+    → HasLogged (Some held_before) (Some held_after) (Finite ahead_before) (Finite ahead_after) ys → xs ≡ ys
+
+-- what a device did for steps is a log of them, over its wire; where it stopped, a log of those before, and the next clocks
+abbrev pub DoneIsLogged : Type 0
+DoneIsLogged = (held_before held_after : Option (List ℕ)) (ahead_before ahead_after : Ahead) (limits : Limits) (turns : ℕ) (steps : List Step)
+    → HasDoneAll held_before held_after ahead_before ahead_after limits turns steps
+    → (log : List Operation) × HasLogged held_before held_after ahead_before ahead_after log × AreLogOf steps log
+
+abbrev pub StoppedIsLogged : Type 0
+StoppedIsLogged = (held_before held_after : Option (List ℕ)) (ahead_before ahead_after : Ahead) (limits : Limits) (turns : ℕ) (why : Reason)
+    (steps : List Step) → HasStoppedAmong held_before held_after ahead_before ahead_after limits turns why steps
+    → (held : Option (List ℕ)) × (ahead : Ahead) × (log : List Operation) × (next : List ℕ) × HasLogged held_before held ahead_before ahead log
+    × AreBegun steps log next
+
+-- a device read a content twice
+pub record ReadTwice (held_before held_after : Option (List ℕ)) (ahead_before ahead_after : Ahead) (m : Parameters) (start : Start) (content : List ℕ)
+    : Type 0 where
+  pub first : List Operation
+  pub again : List Operation
+  pub reads : IsReading m start content first
+  pub rereads : IsReading m start content again
+  pub wire : HasLogged held_before held_after ahead_before ahead_after (first ++ again)
+
+-- a device read a content twice, and then did planned work on it: the loop is closed
+abbrev pub DeviceCloses : Type 0
+DeviceCloses = (held_before held held_after : Option (List ℕ)) (ahead_before ahead ahead_after : Ahead) (limits : Limits) (turns : ℕ)
+    (m : Parameters) (start : Start) (verify : Bool) (content : List ℕ) (goal : List ℕ → List ℕ) (steps : List Step)
+    → IsWorkable m start content (goal content) → ArePlanned m start verify content (goal content) steps
+    → ReadTwice held_before held ahead_before ahead m start content
+    → HasDoneAll held held_after ahead ahead_after limits turns steps
+    → ClosesLoop held_before held_after ahead_before ahead_after m start goal
+
+-- or it stopped in that work: the loop is broken off
+abbrev pub DeviceBreaks : Type 0
+DeviceBreaks = (held_before held held_after : Option (List ℕ)) (ahead_before ahead ahead_after : Ahead) (limits : Limits) (turns : ℕ) (why : Reason)
+    (m : Parameters) (start : Start) (verify : Bool) (content goal : List ℕ) (steps : List Step)
+    → IsWorkable m start content goal → ArePlanned m start verify content goal steps
+    → ReadTwice held_before held ahead_before ahead m start content
+    → HasStoppedAmong held held_after ahead ahead_after limits turns why steps
+    → BreaksLoop held_before ahead_before m start content goal

@@ -1,0 +1,98 @@
+//! Laws of logs. A log has each operation that went over the wire of a device that speaks serprog, and the bytes that came back. A chip
+//! explains it where it does each operation and gives these bytes. What is promised speaks of every chip that explains a log.
+//!
+//! The functions do nothing: their contracts are the laws, and the gate proves them. No command rests on them yet.
+#![tactic(auto)]
+
+pub mod worked;
+
+ghost use Rattle.nor_loop.specs.Flash.{FlashIsMet};
+ghost use Rattle.nor_loop.specs.Single.{SingleIsOperation, PlannedIsSingle, DoneInParts, StoppedInParts, QuadUnseen, WhateverQuad};
+ghost use Rattle.nor_loop.specs.Laws.{ReadsTell, ReadsKeep, LoopCloses, LoopResumes, LoopMends, LoopBreaks, LoopIsExplained, DoneIsLogged, StoppedIsLogged, DeviceCloses, DeviceBreaks, OneLog, EnteredReadsTell, ReadsRead, EnteredReadsRead, ToldLoopCloses};
+
+use nor_laws::spelling;
+use nor_plan_laws::planned_work;
+
+/// Reads of the whole chip report its content: every chip that explains them held just what came back, and is as it was. This is so
+/// too where four-byte mode is entered for the reads and left after them. Each chip with that content explains them. Reads of only a
+/// part leave a chip as it was.
+pub fn reads()
+    ensures tell { ReadsTell }
+    ensures keep { ReadsKeep }
+    ensures entered { EnteredReadsTell }
+    ensures reading { ReadsRead }
+    ensures entered_reading { EnteredReadsRead }
+{
+    spelling();
+}
+
+/// A log reads the whole chip twice, and then does the task for what was read. Every chip that explains it ends with the goal of what
+/// it held at first, or with the goal of an older dump where that was the task. It ends settled.
+///
+/// Where such work was broken off, and a later log ends every chip with the goal of the first reading, the chip ends with the goal of
+/// what it held before the first log.
+pub fn loop_closes()
+    ensures closes { LoopCloses }
+    ensures resumes { LoopResumes }
+    ensures mends { LoopMends }
+    ensures told { ToldLoopCloses }
+{
+    reads();
+}
+
+/// A log reads the whole chip twice, and planned work on what was read was broken off. Every chip that explains it held just what was
+/// read, and at most one unit of the work is in the making. The same holds where the chip did the operation that came next.
+pub fn loop_breaks()
+    ensures { LoopBreaks }
+{
+    planned_work();
+}
+
+/// Some chip explains a log that reads the whole chip twice and then does planned work on what was read. So what is promised of every
+/// such chip isn't empty.
+pub fn loop_is_explained()
+    ensures { LoopIsExplained }
+{
+    planned_work();
+}
+
+/// What a device did for steps is a log of these steps, and just that log went over its wire; where it stopped, the log of those before.
+/// Where it read the content of its chip twice, and did planned work on it, every chip that explains the log ends with the goal, and some
+/// chip explains it. Where it stopped in that work, every chip that explains the log has at most one unit in the making.
+pub fn device()
+    ensures logged { DoneIsLogged }
+    ensures stopped { StoppedIsLogged }
+    ensures closes { DeviceCloses }
+    ensures breaks { DeviceBreaks }
+{
+    planned_work();
+    loop_closes();
+    loop_breaks();
+    loop_is_explained();
+}
+
+/// An instruction on one lane without dummy clocks is one operation of a device; without the quad setting planned work has no other
+/// instruction. What a device did in two parts it did as a whole, and so where it stopped in the second. A log doesn't show the chip's
+/// quad setting, so what is promised for one setting is promised for the other.
+pub fn single()
+    ensures operation { SingleIsOperation }
+    ensures planned { PlannedIsSingle }
+    ensures parts { DoneInParts }
+    ensures stops { StoppedInParts }
+    ensures quad { QuadUnseen }
+    ensures whatever { WhateverQuad }
+{}
+
+/// Where writer and reader tell their bytes, a wire has just one log, so nobody can choose one that suits.
+pub fn wire()
+    ensures { OneLog }
+{}
+
+/// What a command would promise that reads a chip, plans for what it read, and programs (`Flashed`). It is met where the device greeted,
+/// read the tables, read the content twice, and did planned work on it.
+pub fn flash()
+    ensures { FlashIsMet }
+{
+    device();
+    single();
+}

@@ -1,0 +1,25 @@
+//! Values of the definitions, worked out by hand. The functions do nothing: their contracts are the values, and the gate computes
+//! them.
+
+ghost use Rattle.nor_loop.specs.Worked.{ClocksOfEnable, ClocksOfStatus, ClocksOfRead, RequestOfRead, BytesOfReads, ReadsOfPieces, Counting, OneByteExplained, OneByteLog, AnotherByte, BusyAtRest, AnotherOpcode};
+
+/// Operations, their clocks and requests, and what counts of their answers.
+pub fn operations_worked()
+    ensures enable { ClocksOfEnable }
+    ensures status { ClocksOfStatus }
+    ensures read { ClocksOfRead }
+    ensures request { RequestOfRead }
+    ensures bytes { BytesOfReads }
+    ensures pieces { ReadsOfPieces }
+    ensures counting { Counting }
+{}
+
+/// The log that programs one byte of the 8 KiB chip and reads it back, and three operations that the erased chip doesn't explain:
+/// another byte, a status that says busy, and an opcode that it doesn't know.
+pub fn logs_worked()
+    ensures explained { OneByteExplained }
+    ensures those { OneByteLog }
+    ensures byte { AnotherByte }
+    ensures busy { BusyAtRest }
+    ensures opcode { AnotherOpcode }
+{}
