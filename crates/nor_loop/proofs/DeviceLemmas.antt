@@ -144,6 +144,7 @@ waiting h i a b turns (reason.Exchange fault) stops = record {
   };
 }
 waiting h i a b turns reason.Carried none = absurd none
+waiting h i a b turns (reason.Differs place byte) none = absurd none
 
 stopped_logged : (h i : Option (List ℕ)) (a b : Ahead) (limits : Limits) (turns : ℕ) (why : Reason) (x : Step) → HasStopped h i a b limits turns why x
     → StoppedAt h a (IsBegun x)

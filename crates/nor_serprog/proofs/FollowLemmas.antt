@@ -1,28 +1,27 @@
 -- A wait turn by turn, and an operation by its clocks.
-use Rattle.std.proofs.Common.{◌≡◌, ◌≢◌, ℕ, ◌+◌, ◌<◌, ◌%◌, ◌==◌, true, List, [], ◌∷◌, ◌++◌, length, get_or, Option, Ok, Err, refl, sym, ◌∙◌, ap, subst, append-nil, arith, length-append}
+use Rattle.std.proofs.Common.{◌≡◌, ◌≢◌, ℕ, ◌+◌, ◌<◌, ◌%◌, ◌==◌, true, List, [], ◌∷◌, ◌++◌, length, get_or, Option, Result, Ok, Err, refl, sym, ◌∙◌, ap, subst, append-nil, arith, length-append}
 use Rattle.std.specs.Prelude.{flat_map}
 use Rattle.std.specs.Io.KnownBytes.{Appends}
 use Rattle.std.proofs.lemmas.Grind.{flat_map-append}
 use Rattle.std.proofs.lemmas.List.Folds.{list_all-append}
-use Rattle.nor_base.specs.Device.{Ahead, Unknown, Finite, Endless, Gives}
+use Rattle.nor_base.specs.Device.{Ahead, Gives}
 use Rattle.nor_base.specs.Run.{poll_clocks}
 use Rattle.nor_base.specs.Sample.{sampled_count}
 use Rattle.nor_base.proofs.DeviceLaws.{Appends-append, Appends-none, Gives-append}
 use Rattle.nor_serprog.specs.declared.fault.Fault.{Fault}
+use Rattle.nor_serprog.specs.declared.fault.Reason.{Reason}
 use Rattle.nor_serprog.specs.declared.fault.Reason.TheVariants as reason
 use Rattle.nor_serprog.specs.declared.limits.Limits.{Limits}
 use Rattle.nor_serprog.specs.Protocol.{request, answer}
-use Rattle.nor_serprog.specs.Exchange.{Talked, Answers, AnswersWith, Asks}
-use Rattle.nor_serprog.specs.Follow.{HasRead, are_busy, HasWaited, StaysBusy, StopsWaiting, Follows, status_request}
+use Rattle.nor_serprog.specs.Exchange.{Talked, Answers, Asks, Knows}
+use Rattle.nor_serprog.specs.Follow.{HasRead, are_busy, HasWaited, StaysBusy, StopsWaiting, Operates, Follows, status_request}
 use Rattle.nor_serprog.specs.Carried.{IsOperation}
 use Rattle.nor_serprog.proofs.CarriedLemmas.{asked_is}
-use Rattle.nor_serprog.proofs.ExchangeLemmas.{single}
+use Rattle.nor_serprog.proofs.ExchangeLemmas.{single, gives_nothing}
 
 -- nothing was talked yet; one more exchange
 pub nothing_talked : (held : Option (List ℕ)) (ahead : Ahead) → Talked held held ahead ahead [] []
-nothing_talked held Unknown = record { out = Appends-none held; back = tt }
-nothing_talked held (Finite bytes) = record { out = Appends-none held; back = refl }
-nothing_talked held (Endless byte_at) = record { out = Appends-none held; back = ((λ k fits. absurd (omega arith)), (λ k. ap byte_at (omega arith))) }
+nothing_talked held ahead = record { out = Appends-none held; back = gives_nothing ahead }
 
 pub talked_more : {h m h' : Option (List ℕ)} {a b a' : Ahead} (put given more answered : List ℕ) → Talked h m a b put given → Talked m h' b a' more answered
     → Talked h h' a a' (put ++ more) (given ++ answered)
@@ -98,17 +97,18 @@ pub of_want : (limits : Limits) (clocks sent want : List ℕ) (asked : ℕ) → 
     → IsOperation limits clocks sent (length want)
 of_want limits clocks sent want asked op long = subst (IsOperation limits clocks sent) (sym (asked_is limits clocks sent asked op) ∙ sym long) op
 
-pub operated : {h h' : Option (List ℕ)} {a a' : Ahead} (limits : Limits) (turns : ℕ) (clocks sent want : List ℕ) → clocks ≢ poll_clocks → IsOperation limits clocks sent (length want)
-    → Appends h h' (request sent (length want)) → Gives a (answer want) a' → Follows h h' a a' (Ok tt) limits turns clocks want
-operated limits turns clocks sent want other op out back = record {
-  poll = (λ (is : clocks ≡ poll_clocks). absurd (other is));
-  other = (λ (is : clocks ≢ poll_clocks). record { sent = sent; spelled = op; talked = record { out = out; back = back } });
-}
+-- an operation by what is known of its answer
+operates_as : (h h' : Option (List ℕ)) (a a' : Ahead) (limits : Limits) (clocks sent want : List ℕ) (r : Result (Unit {0}) Reason)
+    → IsOperation limits clocks sent (length want) → Knows h h' a a' r (request sent (length want)) want → Operates h h' a a' r limits clocks want
+operates_as h h' a a' limits clocks sent want (Ok u) op p = record { sent = sent; spelled = op; talked = record { out = p.0; back = p.1 } }
+operates_as h h' a a' limits clocks sent want (Err (reason.Differs place byte)) op p = record { sent = sent; spelled = op; put = p.0; gives = p.1 }
+operates_as h h' a a' limits clocks sent want (Err (reason.Exchange why)) op p = record { sent = sent; spelled = op; got = p.0; as_many = p.1; stop = p.2 }
+operates_as h h' a a' limits clocks sent want (Err reason.Busy) op p = absurd p
+operates_as h h' a a' limits clocks sent want (Err reason.Carried) op p = absurd p
 
-pub operates_not : (h h' : Option (List ℕ)) (a a' : Ahead) (limits : Limits) (turns : ℕ) (clocks sent want : List ℕ) (why : Fault) → clocks ≢ poll_clocks
-    → IsOperation limits clocks sent (length want) → Asks h h' a a' (Err why) (request sent (length want)) (AnswersWith a a' (Err why) want)
-    → Follows h h' a a' (Err (reason.Exchange why)) limits turns clocks want
-operates_not h h' a a' limits turns clocks sent want why other op stop = record {
+pub operates_by : (h h' : Option (List ℕ)) (a a' : Ahead) (limits : Limits) (turns : ℕ) (clocks sent want : List ℕ) (r : Result (Unit {0}) Reason) → clocks ≢ poll_clocks
+    → IsOperation limits clocks sent (length want) → Knows h h' a a' r (request sent (length want)) want → Follows h h' a a' r limits turns clocks want
+operates_by h h' a a' limits turns clocks sent want r other op p = record {
   poll = (λ (is : clocks ≡ poll_clocks). absurd (other is));
-  other = (λ (is : clocks ≢ poll_clocks). record { sent = sent; spelled = op; stop = stop });
+  other = (λ (is : clocks ≢ poll_clocks). operates_as h h' a a' limits clocks sent want r op p);
 }

@@ -4,3 +4,4 @@ mod WordLemmas
 mod GreetLemmas
 mod FollowLemmas
 mod PieceLemmas
+mod LineLemmas

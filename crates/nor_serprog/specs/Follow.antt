@@ -1,6 +1,7 @@
 -- What a device beside a chip in memory did in one transaction (this project's).
 use Rattle.std.specs.Prelude.{◌≡◌, ◌≢◌, ◌<◌, ◌%◌, ◌==◌, ◌+◌, ℕ, Bool, true, List, [], ◌∷◌, ◌++◌, length, flat_map, Option, Some, None, Result, Ok, Err}
 use Rattle.std.specs.List.{list_all}
+use Rattle.std.specs.Io.KnownBytes.{Appends}
 use Rattle.nor_base.specs.declared.wrong.PortFault.{PortFault}
 use Rattle.nor_base.specs.declared.wrong.PortFault.TheVariants as port
 use Rattle.nor_base.specs.Device.{Ahead}
@@ -12,7 +13,7 @@ use Rattle.nor_serprog.specs.declared.fault.Reason.{Reason}
 use Rattle.nor_serprog.specs.declared.fault.Reason.TheVariants as reason
 use Rattle.nor_serprog.specs.declared.limits.Limits.{Limits}
 use Rattle.nor_serprog.specs.Protocol.{request, answer}
-use Rattle.nor_serprog.specs.Exchange.{Talked, Answers, AnswersWith, Asks}
+use Rattle.nor_serprog.specs.Exchange.{Talked, Answers, GivesOther, Asks}
 use Rattle.nor_serprog.specs.Carried.{IsOperation, IsNoOperation}
 
 -- the operation of a status read: 05h goes out, one byte comes in
@@ -65,6 +66,7 @@ Waits held_before held_after ahead_before ahead_after (Err reason.Busy) turns = 
     turns
 Waits held_before held_after ahead_before ahead_after (Err (reason.Exchange why)) turns =
     StopsWaiting held_before held_after ahead_before ahead_after turns why
+Waits held_before held_after ahead_before ahead_after (Err (reason.Differs place byte)) turns = ⊥
 Waits held_before held_after ahead_before ahead_after (Err reason.Carried) turns = ⊥
 
 -- the device did the operation of these clocks, and gave these bytes
@@ -79,8 +81,18 @@ pub record StopsOperating (held_before held_after : Option (List ℕ)) (ahead_be
     (clocks want : List ℕ) (why : Fault) : Type 0 where
   pub sent : List ℕ
   pub spelled : IsOperation limits clocks sent (length want)
+  pub got : List ℕ
+  pub as_many : length got ≡ length want
   pub stop : Asks held_before held_after ahead_before ahead_after (Err why) (request sent (length want))
-      (AnswersWith ahead_before ahead_after (Err why) want)
+      (Answers ahead_before ahead_after (Err why) got)
+
+-- the device did the operation of these clocks, and of as many bytes as were to come this is the first that is another
+pub record DiffersOperating (held_before held_after : Option (List ℕ)) (ahead_before ahead_after : Ahead) (limits : Limits)
+    (clocks want : List ℕ) (place byte : ℕ) : Type 0 where
+  pub sent : List ℕ
+  pub spelled : IsOperation limits clocks sent (length want)
+  pub put : Appends held_before held_after (request sent (length want))
+  pub gives : GivesOther ahead_before ahead_after want place byte
 
 -- no device can do these clocks, and nothing was asked of it
 pub record IsNotCarried (held_before held_after : Option (List ℕ)) (ahead_before ahead_after : Ahead) (limits : Limits) (clocks : List ℕ)
@@ -96,6 +108,8 @@ Operates held_before held_after ahead_before ahead_after (Ok u) limits clocks wa
 Operates held_before held_after ahead_before ahead_after (Err reason.Busy) limits clocks want = ⊥
 Operates held_before held_after ahead_before ahead_after (Err (reason.Exchange why)) limits clocks want =
     StopsOperating held_before held_after ahead_before ahead_after limits clocks want why
+Operates held_before held_after ahead_before ahead_after (Err (reason.Differs place byte)) limits clocks want =
+    DiffersOperating held_before held_after ahead_before ahead_after limits clocks want place byte
 Operates held_before held_after ahead_before ahead_after (Err reason.Carried) limits clocks want =
     IsNotCarried held_before held_after ahead_before ahead_after limits clocks
 
@@ -110,6 +124,7 @@ abbrev pub CountsReason : Fault → ℕ → ℕ → Result (Unit {0}) Reason →
 CountsReason device before after (Ok u) = after ≡ before
 CountsReason device before after (Err reason.Busy) = after ≡ before
 CountsReason device before after (Err reason.Carried) = after ≡ before
+CountsReason device before after (Err (reason.Differs place byte)) = after ≡ before
 CountsReason fault.Read before after (Err (reason.Exchange fault.Read)) = after ≡ before + 1
 CountsReason fault.Write before after (Err (reason.Exchange fault.Write)) = after ≡ before + 1
 CountsReason device before after (Err (reason.Exchange why)) = after ≡ before

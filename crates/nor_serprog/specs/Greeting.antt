@@ -23,6 +23,10 @@ command_bytes command.QueryWriteMax = 0x08 ∷ []
 command_bytes command.QueryReadMax = 0x11 ∷ []
 command_bytes command.SetPins = 0x15 ∷ 0x01 ∷ []
 
+-- 15h has the pins driven no more
+abbrev pub release_bytes : List ℕ
+release_bytes = 0x15 ∷ 0x00 ∷ []
+
 -- what a device says of itself, and how often it was asked for the first word
 pub record Greeting : Type 0 where
   pub tries : ℕ
@@ -93,10 +97,10 @@ Reaches g command.SetPins = (g.version ≡ first_version) × (offers g.commands 
 
 -- at most so many tries at the first word, and at most so many bytes before it
 abbrev pub most_tries : ℕ
-most_tries = 8
+most_tries = 2
 
 abbrev pub most_noise : ℕ
-most_noise = 4096
+most_noise = 65536
 
 -- the first word, and whether it stands in some bytes
 abbrev pub is_word : ℕ → ℕ → Bool
@@ -122,7 +126,7 @@ number_told told = slice_index told 0 + 256 * slice_index told 1 + 65536 * slice
 abbrev pub most : Bool → List ℕ → ℕ
 most offered told = if offered && not (number_told told == 0) then number_told told else 2 ^ 24 - 1
 
--- the device speaks version 1 and does SPI operations, and these are its limits
+-- the device speaks version 1 and does SPI operations, these are its limits, and it drives the chip's pins or doesn't
 pub record Greets (held_before held_after : Option (List ℕ)) (ahead_before ahead_after : Ahead) (limits : Limits) : Type 0 where
   pub greeting : Greeting
   pub word : IsWord greeting.tries greeting.noise greeting.late
@@ -134,6 +138,7 @@ pub record Greets (held_before held_after : Option (List ℕ)) (ahead_before ahe
   pub gives : length greeting.gives ≡ 3
   pub sent : limits.sent ≡ most (offers greeting.commands 0x08) greeting.sends
   pub asked : limits.asked ≡ most (offers greeting.commands 0x11) greeting.gives
+  pub pins : limits.pins ≡ offers greeting.commands 0x15
 
 -- how many bytes come after ACK
 abbrev pub answer_length : Command → ℕ

@@ -2,4 +2,5 @@ pub mod Protocol
 pub mod Exchange
 pub mod Carried
 pub mod Greeting
+pub mod Line
 pub mod Follow

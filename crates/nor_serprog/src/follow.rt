@@ -5,7 +5,7 @@ ghost use Rattle.nor_base.specs.Decoding.{bytes_of_bits};
 ghost use Rattle.nor_base.specs.Device.{Counts, Writes};
 ghost use Rattle.nor_base.specs.Sample.{sampled_count};
 ghost use Rattle.nor_serprog.specs.declared.fault.Fault.TheVariants.{Read, Write};
-ghost use Rattle.nor_serprog.specs.Exchange.{AnswersWith, Asks, CountsReads, CountsWrites};
+ghost use Rattle.nor_serprog.specs.Exchange.{Knows};
 ghost use Rattle.nor_serprog.specs.Follow.{Follows, Waits, CountsReason};
 ghost use Rattle.nor_serprog.specs.Protocol.{request};
 
@@ -42,10 +42,7 @@ pub(crate) fn follow<R: ByteIn, W: ByteOut>(
         return wait(from, to, turns);
     }
     match bits_sent(clocks, limits) {
-        Some(bits) => {
-            operate_as(from, to, bits, want)?;
-            Ok(())
-        }
+        Some(bits) => operate_as(from, to, bits, want),
         None => Err(Reason::Carried),
     }
 }
@@ -74,15 +71,15 @@ fn operate_as<R: ByteIn, W: ByteOut>(
     to: &mut W,
     bits: &[u8],
     want: &[u8],
-) -> Result<(), Fault>
+) -> Result<(), Reason>
     requires sent { length (bytes_of_bits bits.now) < 2 ^ 24 }
     requires asked { length want.now < 2 ^ 24 }
     requires reader { R.count from.old < 2 ^ 64 - 1 }
     requires writer { W.count to.old < 2 ^ 64 - 1 }
-    ensures asked { Asks (W.held to.old) (W.held to.new) (R.ahead from.old) (R.ahead from.new) result
-        (request (bytes_of_bits bits.now) (length want.now)) (AnswersWith (R.ahead from.old) (R.ahead from.new) result want.now) }
-    ensures reads { CountsReads (R.count from.old) (R.count from.new) result }
-    ensures writes { CountsWrites (W.count to.old) (W.count to.new) result }
+    ensures known { Knows (W.held to.old) (W.held to.new) (R.ahead from.old) (R.ahead from.new) result
+        (request (bytes_of_bits bits.now) (length want.now)) want.now }
+    ensures reads { CountsReason Read (R.count from.old) (R.count from.new) result }
+    ensures writes { CountsReason Write (W.count to.old) (W.count to.new) result }
 {
     put_request(to, bits, want.len() as u32).map_err(|_| Fault::Write)?;
     answered(from, want)

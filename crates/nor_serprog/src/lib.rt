@@ -1,8 +1,10 @@
-//! The host's side of a serprog device, a programmer with a chip behind it (flashrom's Serial Flasher Protocol Specification,
-//! version 1), over any reader and writer.
+//! The host's side of a serprog device, a programmer with a chip behind it (flashrom's Serial
+//! Flasher Protocol Specification, version 1), over any reader and writer.
 //!
-//! [`greet`] begins, [`operate`] does one SPI operation, [`operate_with`] one whose answer is known, [`is_carried`] tells which
-//! clocks are one. [`Shadowed`] is a [`nor_chip::Port`]: a chip in memory that the chip behind the device is to go along with.
+//! [`greet`] begins, [`test_line`] shows that each byte reaches the device as it was sent,
+//! [`operate`] does one SPI operation, [`operate_with`] one whose answer is known, [`is_carried`]
+//! tells which clocks are one. [`release`] ends. [`Shadowed`] is a [`nor_chip::Port`]: a chip in
+//! memory that the chip behind the device is to go along with.
 #![tactic(auto)]
 
 mod carried;
@@ -11,7 +13,9 @@ mod fault;
 mod follow;
 mod handshake;
 mod limits;
+mod line;
 mod operation;
+mod pins;
 mod shadowed;
 mod word;
 
@@ -19,5 +23,7 @@ pub use carried::is_carried;
 pub use fault::{Command, Fault, GreetFault, Reason};
 pub use handshake::greet;
 pub use limits::Limits;
+pub use line::test_line;
 pub use operation::{operate, operate_with};
+pub use pins::release;
 pub use shadowed::Shadowed;

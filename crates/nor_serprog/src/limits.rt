@@ -2,13 +2,15 @@
 
 ghost use Rattle.std.specs.Prelude.{◌<◌, ◌^◌};
 
-/// The most bytes of one SPI operation of a device.
+/// The most bytes of one SPI operation of a device, and whether it drives the pins of its chip.
 #[derive(Clone, Copy)]
 pub struct Limits {
     /// That go out, from 1 to 2^24 - 1.
     pub sent: u32,
     /// That come in, likewise.
     pub asked: u32,
+    /// Whether the device drives and releases the chip's pins (it offers 15h).
+    pub pins: bool,
     ghost some_sent: { 0 < sent },
     ghost few_sent: { sent < 2 ^ 24 },
     ghost some_asked: { 0 < asked },

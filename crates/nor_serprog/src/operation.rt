@@ -2,10 +2,12 @@
 
 ghost use Rattle.std.specs.Prelude.{◌≡◌, ◌<◌, ◌-◌, ◌^◌, length};
 ghost use Rattle.nor_serprog.specs.Protocol.{head, request};
-ghost use Rattle.nor_serprog.specs.Exchange.{Answers, AnswersWith, Asks, CountsReads, CountsWrites};
+ghost use Rattle.nor_serprog.specs.declared.fault.Fault.TheVariants.{Read, Write};
+ghost use Rattle.nor_serprog.specs.Exchange.{Answers, Asks, CountsReads, CountsWrites, Knows};
+ghost use Rattle.nor_serprog.specs.Follow.{CountsReason};
 
 use crate::exchange::{answered, ask};
-use crate::fault::Fault;
+use crate::fault::{Fault, Reason};
 use nor_base::{ByteIn, ByteOut, put_parts};
 
 /// The command of an SPI operation.
@@ -36,22 +38,26 @@ pub fn operate<R: ByteIn, W: ByteOut>(
     ask(from, to, &[&head, sent], got)
 }
 
-/// The same where the bytes are known that are to come: they are compared as they come, and `Differs` also where one of them
-/// is another. No more is taken then.
+/// The same where the bytes are known that are to come. After ACK as many bytes are taken, by a
+/// buffer on the stack, and compared.
+///
+/// On Ok just that request went out, and just ACK and these bytes came. `Differs` where as many
+/// came, but not the same: the place of the first that is another, counted from 0, and what came
+/// there. `Exchange` as `operate`.
 pub fn operate_with<R: ByteIn, W: ByteOut>(
     from: &mut R,
     to: &mut W,
     sent: &[u8],
     want: &[u8],
-) -> Result<(), Fault>
+) -> Result<(), Reason>
     requires sent { length sent.now < 2 ^ 24 }
     requires asked { length want.now < 2 ^ 24 }
     requires reader { R.count from.old < 2 ^ 64 - 1 }
     requires writer { W.count to.old < 2 ^ 64 - 1 }
-    ensures asked { Asks (W.held to.old) (W.held to.new) (R.ahead from.old) (R.ahead from.new) result
-        (request sent.now (length want.now)) (AnswersWith (R.ahead from.old) (R.ahead from.new) result want.now) }
-    ensures reads { CountsReads (R.count from.old) (R.count from.new) result }
-    ensures writes { CountsWrites (W.count to.old) (W.count to.new) result }
+    ensures known { Knows (W.held to.old) (W.held to.new) (R.ahead from.old) (R.ahead from.new) result
+        (request sent.now (length want.now)) want.now }
+    ensures reads { CountsReason Read (R.count from.old) (R.count from.new) result }
+    ensures writes { CountsReason Write (W.count to.old) (W.count to.new) result }
 {
     let head = head(sent.len() as u32, want.len() as u32);
     put_parts(to, &[&head, sent]).map_err(|_| Fault::Write)?;

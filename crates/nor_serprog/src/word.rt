@@ -8,11 +8,14 @@ use crate::exchange::{ACK, NAK};
 use crate::fault::{Command, Fault};
 use nor_base::{ByteIn, ByteOut, fill_from, put_all};
 
-/// How often the device is asked for it: some boards reset when they are opened, and then miss what comes meanwhile.
-const TRIES: usize = 8;
+/// How often the device is asked for it: some boards reset when they are opened, and then miss what
+/// comes meanwhile. With a reader that waits two seconds for a byte, a device that never answers
+/// takes four.
+const TRIES: usize = 2;
 
-/// How many bytes are looked through for it, silences counted.
-const NOISE: usize = 4096;
+/// How many bytes are looked through for it, silences counted: what an earlier use left in a pipe
+/// comes before it.
+const NOISE: usize = 65536;
 
 /// Asks the device for its first word until it comes, again at each silence, and takes what comes late after it.
 pub(crate) fn synchronize<R: ByteIn, W: ByteOut>(from: &mut R, to: &mut W) -> Result<(), Fault>

@@ -1,5 +1,5 @@
 -- What a waveform of a script's text is, and why there is none (this project's).
-use Rattle.std.specs.Prelude.{◌≡◌, ℕ, List, take, drop, Option, None, Some}
+use Rattle.std.specs.Prelude.{◌≡◌, ◌⊎◌, ◌<◌, ℕ, List, length, take, drop, Option, None, Some}
 use Rattle.std.specs.Io.KnownBytes.{Appends}
 use Rattle.nor_base.specs.Device.{Cuts}
 use Rattle.nor_base.specs.Script.{IsScript}
@@ -8,17 +8,28 @@ use Rattle.nor_job.specs.declared.fault.BuildFault.TheVariants as fault
 use Rattle.nor_script.specs.Faults.{IsFault}
 use Rattle.nor_waves.specs.Waves.{waves}
 use Rattle.norprog_common.specs.declared.faults.Refusal.{Refusal}
-use Rattle.norprog_common.specs.declared.faults.Refusal.TheVariants.{Build, Script}
+use Rattle.norprog_common.specs.declared.faults.Refusal.TheVariants.{Build, Script, Usage}
 
 -- so many steps from one on; all from there on where no number is given
 abbrev pub part : ℕ → Option ℕ → List Step → List Step
 part from None steps = drop from steps
 part from (Some count) steps = take count (drop from steps)
 
+-- there is a step of this number; the first may be missing
+abbrev pub IsThere : ℕ → List Step → Type 0
+IsThere from steps = (from ≡ 0) ⊎ (from < length steps)
+
+-- the text spells some steps, none of which has this number
+pub record LacksStep (text : List ℕ) (from : ℕ) : Type 0 where
+  pub steps : List Step
+  pub script : IsScript text steps
+  pub none : IsThere from steps → ⊥
+
 -- the text spells some steps, and the waveform of that part of them is these bytes
 pub record IsWaveform (text : List ℕ) (from : ℕ) (count : Option ℕ) (bytes : List ℕ) : Type 0 where
   pub steps : List Step
   pub script : IsScript text steps
+  pub there : IsThere from steps
   pub drawn : bytes ≡ waves (part from count steps)
 
 -- the waveform was appended
@@ -38,4 +49,5 @@ abbrev pub RefusesDrawing : List ℕ → ℕ → Option ℕ → Option (List ℕ
 RefusesDrawing text from count before after (Script why) = IsFault text why × (after ≡ before)
 RefusesDrawing text from count before after (Build fault.Write) = WasCut text from count before after
 RefusesDrawing text from count before after (Build fault.Memory) = after ≡ before
+RefusesDrawing text from count before after Usage = LacksStep text from × (after ≡ before)
 RefusesDrawing text from count before after other = ⊥

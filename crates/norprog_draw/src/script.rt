@@ -14,7 +14,8 @@ use std::alloc::Global;
 /// Writes the waveform of steps that a script's text spells: of `count` steps from step `from` on, or of all from there on where
 /// no number is given; of as many as there are. Steps count from 0. Memory is taken for the steps.
 ///
-/// The first fault is told: `Script` where the text is none; `Write` where `out` fails, which has taken a proper prefix of the
+/// The first fault is reported: `Script` where the text is none; `Usage` where the script has no step `from`, unless that is 0;
+/// `Write` where `out` fails, which has taken a proper prefix of the
 /// waveform then. `Memory` comes where a growth is refused. All but `Write` leave `out` as it was.
 pub fn draw_script<W: ByteOut>(
     alloc: Global,
@@ -30,6 +31,9 @@ pub fn draw_script<W: ByteOut>(
     ensures count { CountsWriter (W.count out.old) (W.count out.new) result }
 {
     let steps = nor_script::read(alloc, script)?;
+    if from > 0 && from >= steps.len() as u64 {
+        return Err(Refusal::Usage);
+    }
     match write_waves(part(steps.as_slice(), from, count), out) {
         Ok(()) => Ok(()),
         Err(_) => Err(Refusal::WRITE),

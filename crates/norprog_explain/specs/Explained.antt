@@ -1,5 +1,5 @@
 -- What is told of a text that the program prints (this project's).
-use Rattle.std.specs.Prelude.{◌≡◌, ℕ, Bool, nat_eq, if◌then◌else◌, List, [], ◌∷◌, ◌++◌, flat_map, map, bytes_eq, codes, Option, Some, None, option_map}
+use Rattle.std.specs.Prelude.{◌≡◌, ◌⊎◌, ℕ, Bool, nat_eq, if◌then◌else◌, List, [], ◌∷◌, ◌++◌, flat_map, map, bytes_eq, codes, Option, Some, None, option_map}
 use Rattle.std.specs.Borrow.{Bor}
 use Rattle.std.specs.Io.KnownBytes.{Appends}
 use Rattle.std.specs.List.{find, starts_with}
@@ -8,7 +8,7 @@ use Rattle.nor_base.specs.Script.{closed}
 use Rattle.nor_job.specs.declared.fault.BuildFault.TheVariants.{Write}
 use Rattle.norprog_common.specs.declared.faults.Refusal.{Refusal}
 use Rattle.norprog_common.specs.declared.faults.Refusal.TheVariants.{Usage, Build}
-use Rattle.norprog_common.specs.Told.{Answers}
+use Rattle.norprog_common.specs.Told.{TellsOf}
 
 -- the words that a text begins with, and what is told of it
 abbrev pub Topic : Type 0
@@ -50,11 +50,6 @@ nameless (argument ∷ more) = if bytes_eq argument (codes "norprog:") then more
 abbrev pub explained : List Topic → List (List ℕ) → Option (List ℕ)
 explained topics arguments = answered topics (nameless arguments)
 
--- usage, where there is nothing to tell
-abbrev pub asked_fault : Option (List ℕ) → Option Refusal
-asked_fault None = Some Usage
-asked_fault (Some text) = None
-
 -- the text was written
 abbrev pub Tells : Option (List ℕ) → Option (List ℕ) → Option (List ℕ) → Type 0
 Tells (Some text) before after = Appends before after text
@@ -73,5 +68,5 @@ RefusesText None why = why ≡ Usage
 -- what `explain` answers to a command line: the text at status 0, or a refusal
 abbrev pub AnswersExplain : Option (List ℕ) → Option (List ℕ) → Option (List ℕ) → Type 0 → Type 0 → Option (List ℕ) → Option (List ℕ) → ℕ → Type 0
 AnswersExplain text before after Quiet Works told_before told_after status =
-    Answers (asked_fault text) ((status ≡ 0) × Tells text before after × Quiet) (CutsText text before after) (RefusesText text)
-    Works told_before told_after status
+    ((status ≡ 0) × Tells text before after × Quiet)
+    ⊎ (CutsText text before after × TellsOf (RefusesText text) Works told_before told_after status)

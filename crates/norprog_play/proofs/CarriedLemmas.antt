@@ -1,25 +1,28 @@
 -- Steps that are operations of the device.
-use Rattle.std.proofs.Common.{◌≡◌, Bool, true, false, ℕ, ◌+◌, ◌<◌, ◌≤◌, List, [], ◌∷◌, ◌++◌, take, length, get_or, Err, sym, ◌∙◌, ap, subst, arith}
+use Rattle.std.proofs.Common.{◌≡◌, Bool, true, false, ℕ, ◌+◌, ◌<◌, ◌≤◌, inl, inr, Option, Some, None, List, [], ◌∷◌, ◌++◌, take, length, get_or, Err, sym, ◌∙◌, ap, subst, arith}
 use Rattle.std.proofs.lemmas.List.{take_more, take_all}
 use Rattle.std.proofs.lemmas.List.Elements.{All-nil, All-cons, All-append, All-get_or}
 use Rattle.std.specs.Prelude.{All, IsTrue, ◌↔◌}
 use Rattle.nor_base.specs.declared.step.Step.{Step}
-use Rattle.nor_base.specs.declared.meaning.Start.{Start}
-use Rattle.nor_base.specs.Chip.{begins4}
-use Rattle.nor_base.specs.Parameters.{Parameters}
 use Rattle.nor_serprog.specs.Carried.{IsOperation}
 use Rattle.nor_serprog.specs.declared.limits.Limits.{Limits}
 use Rattle.nor_serprog.specs.declared.fault.Reason.{Reason}
 use Rattle.nor_serprog.specs.declared.fault.Reason.TheVariants as reason
 use Rattle.nor_serprog.specs.Follow.{Follows}
+use Rattle.nor_probe.specs.declared.difference.Mismatch.{Mismatch}
+use Rattle.nor_probe.specs.declared.difference.Mismatch.TheVariants as mismatch
+use Rattle.nor_base.specs.Parameters.{Parameters}
 use Rattle.norprog_play.specs.declared.ending.Ending.TheVariants.{Failed}
+use Rattle.norprog_play.specs.declared.ending.Failure.{Failure}
+use Rattle.norprog_play.specs.declared.ending.Failure.TheVariants as failure
 use Rattle.nor_base.specs.Sample.{sampled_count}
 use Rattle.nor_base.specs.Step.{step_clocks}
 use Rattle.norprog_play.specs.Carried.{IsCarried, AreCarried, IsFirstNotCarried}
-use Rattle.norprog_play.specs.Likeness.{Begins}
-use Rattle.norprog_play.specs.Ending.{EndsSo, MayBegin}
+use Rattle.norprog_play.specs.Asked.{Begins}
+use Rattle.norprog_play.specs.Expected.{Expectation}
+use Rattle.norprog_play.specs.Failure.{FailsAs, read_address, other_byte}
+use Rattle.norprog_play.specs.Ending.{EndsComparing, IsUnlikeAfter, MayBegin, failure_by}
 use Rattle.norprog_play.specs.Moment.{Moment, DoesAll, StopsAt}
-use Rattle.norprog_play.specs.Touched.{IsCompared}
 
 -- all of the steps so far, and one more
 pub all_more : (P : Step → Type 0) (steps : List Step) (at : ℕ) (x : Step) → at < length steps → x ≡ get_or steps at x → All P (take at steps) → P x → All P (take (at + 1) steps)
@@ -38,15 +41,44 @@ never_none : (limits : Limits) (turns : ℕ) (b c : Moment) (x : Step) (given : 
     → Follows b.held c.held b.ahead c.ahead (Err reason.Carried) limits turns (step_clocks x) given → ⊥
 never_none limits turns b c x given can follows = (follows.other (λ is. follows.poll is)).none can.0 can.1 can.2
 
+-- a step that may be sent never fails as none
+not_none : (m : Parameters) (limits : Limits) (turns : ℕ) (b c : Moment) (x : Step) (given : List ℕ) (why : Reason) → IsCarried limits x
+    → Follows b.held c.held b.ahead c.ahead (Err why) limits turns (step_clocks x) given → FailsAs m (step_clocks x) given why failure.Carried → ⊥
+not_none m limits turns b c x given (reason.Exchange why) can follows fails = cc
+not_none m limits turns b c x given reason.Busy can follows fails = cc
+not_none m limits turns b c x given reason.Carried can follows fails = never_none limits turns b c x given can follows
+not_none m limits turns b c x given (reason.Differs place byte) can follows fails =
+    by_address (read_address m (step_clocks x)) fails
+  where
+    by_address : (o : Option ℕ) → failure.Carried ≡ other_byte o place byte (get_or given place 0) → ⊥
+    by_address (Some start) h = cc
+    by_address None h = cc
+
 -- where a play that began stops
-pub stops : (limits : Limits) (turns : ℕ) (trusted : Bool) (m : Parameters) (start : Start) (before between after : Moment) (steps : List Step) (at : ℕ) (why : Reason)
-    → MayBegin limits before steps → Begins trusted (begins4 m start) (IsCompared m start steps) before between → StopsAt limits turns between steps at why after
-    → EndsSo limits turns trusted m start before steps (Failed at why) after
-stops limits turns trusted m start before between after steps at reason.Busy may begins stop = record { may = may; between = between; begins = begins; stops = stop }
-stops limits turns trusted m start before between after steps at (reason.Exchange why) may begins stop = record { may = may; between = between; begins = begins; stops = stop }
-stops limits turns trusted m start before between after steps at reason.Carried may begins stop =
-    absurd (never_none limits turns stop.reached after stop.last stop.stop.given
-    (one_of (IsCarried limits) steps at stop.last stop.within stop.is may.carried) stop.stop.device)
+pub stops : (limits : Limits) (turns : ℕ) (x : Expectation) (m : Parameters) (mode4 : Bool) (Wanted : ℕ → Type 0) (before between after : Moment) (steps : List Step) (at : ℕ)
+    (failed : Failure) → MayBegin limits before steps → Begins x limits turns mode4 Wanted before between → StopsAt m limits turns between steps at failed after
+    → EndsComparing limits turns x m mode4 Wanted before steps (Failed at failed) after
+stops limits turns x m mode4 Wanted before between after steps at failure.Busy may begins stop = inl (record { may = may; between = between; begins = begins; stops = stop })
+stops limits turns x m mode4 Wanted before between after steps at (failure.Exchange why) may begins stop =
+    inl (record { may = may; between = between; begins = begins; stops = stop })
+stops limits turns x m mode4 Wanted before between after steps at (failure.Differs d) may begins stop =
+    inl (record { may = may; between = between; begins = begins; stops = stop })
+stops limits turns x m mode4 Wanted before between after steps at (failure.Gives chip want) may begins stop =
+    inl (record { may = may; between = between; begins = begins; stops = stop })
+stops limits turns x m mode4 Wanted before between after steps at failure.Carried may begins stop =
+    absurd (not_none m limits turns stop.reached after stop.last stop.stop.given stop.stop.reason
+    (one_of (IsCarried limits) steps at stop.last stop.within stop.is may.carried) stop.stop.device stop.stop.failure)
+
+-- and where the last comparison does
+pub stops_after : (limits : Limits) (turns : ℕ) (x : Expectation) (m : Parameters) (mode4 : Bool) (Wanted : ℕ → Type 0) (before after : Moment) (steps : List Step) (at : ℕ)
+    (why : Mismatch) (failed : Failure) → failed ≡ failure_by why → IsUnlikeAfter limits turns x mode4 Wanted before steps at failed after
+    → EndsComparing limits turns x m mode4 Wanted before steps (Failed at failed) after
+stops_after limits turns x m mode4 Wanted before after steps at (mismatch.Exchange why) failed is stop =
+    subst (λ (f : Failure). EndsComparing limits turns x m mode4 Wanted before steps (Failed at f) after) (sym is)
+    (inr (subst (λ (f : Failure). IsUnlikeAfter limits turns x mode4 Wanted before steps at f after) is stop))
+stops_after limits turns x m mode4 Wanted before after steps at (mismatch.Differs d) failed is stop =
+    subst (λ (f : Failure). EndsComparing limits turns x m mode4 Wanted before steps (Failed at f) after) (sym is)
+    (inr (subst (λ (f : Failure). IsUnlikeAfter limits turns x mode4 Wanted before steps at f after) is stop))
 
 -- the first that isn't
 pub not_carried : (limits : Limits) (steps : List Step) (at number : ℕ) (x : Step) → at < length steps → x ≡ get_or steps at x → number ≡ at
@@ -70,10 +102,10 @@ told_not limits x clocks r is tells failed can =
     let both : true ≡ false = sym passed ∙ failed in cc
 
 -- of limits and turns that stayed
-pub same_bounds : (limits limits' : Limits) (turns turns' : ℕ) (before after : Moment) (steps : List Step) (at : ℕ) (why : Reason) → limits' ≡ limits → turns' ≡ turns
-    → StopsAt limits' turns' before steps at why after → StopsAt limits turns before steps at why after
-same_bounds limits limits' turns turns' before after steps at why same as_many stop =
-    subst (λ (l : Limits). StopsAt l turns before steps at why after) same (subst (λ n. StopsAt limits' n before steps at why after) as_many stop)
+pub same_bounds : (m : Parameters) (limits limits' : Limits) (turns turns' : ℕ) (before after : Moment) (steps : List Step) (at : ℕ) (failed : Failure) → limits' ≡ limits → turns' ≡ turns
+    → StopsAt m limits' turns' before steps at failed after → StopsAt m limits turns before steps at failed after
+same_bounds m limits limits' turns turns' before after steps at failed same as_many stop =
+    subst (λ (l : Limits). StopsAt m l turns before steps at failed after) same (subst (λ n. StopsAt m limits' n before steps at failed after) as_many stop)
 
 pub done_bounds : (limits limits' : Limits) (turns turns' : ℕ) (before after : Moment) (steps : List Step) → limits' ≡ limits → turns' ≡ turns
     → DoesAll limits' turns' before steps after → DoesAll limits turns before steps after

@@ -1,5 +1,5 @@
 -- Ranges read one after the other.
-use Rattle.std.proofs.Common.{◌≡◌, Bool, ℕ, ◌+◌, ◌-◌, ◌<◌, ◌≤◌, ◌⊎◌, inl, inr, List, [], ◌∷◌, ◌++◌, take, drop, length, Option, Err, sym, ◌∙◌, ap, subst, arith, append-nil}
+use Rattle.std.proofs.Common.{◌≡◌, Bool, ℕ, ◌+◌, ◌-◌, ◌<◌, ◌≤◌, ◌⊎◌, inl, inr, List, [], ◌∷◌, ◌++◌, take, drop, length, Option, sym, ◌∙◌, ap, subst, arith, append-nil}
 use Rattle.std.specs.Prelude.{flat_map, ◌↔◌}
 use Rattle.std.specs.List.{slice_range}
 use Rattle.std.specs.Io.KnownBytes.{Appends}
@@ -9,10 +9,9 @@ use Rattle.std.proofs.lemmas.List.{length-take-le}
 use Rattle.std.proofs.Common.{length-drop}
 use Rattle.nor_base.specs.Device.{Ahead, Gives}
 use Rattle.nor_base.proofs.DeviceLaws.{Appends-append, Appends-none, Gives-append}
-use Rattle.nor_serprog.specs.declared.fault.Fault.{Fault}
-use Rattle.nor_serprog.specs.Exchange.{Asks, AnswersWith}
+use Rattle.nor_probe.specs.declared.difference.Mismatch.{Mismatch}
 use Rattle.nor_serprog.specs.Protocol.{request, answer}
-use Rattle.norprog_play.specs.Compared.{Range, LiesIn, LiesInOne, AreInOrder, read_from, read_of, bytes_in, HasComparedTo, HasCompared, StopsComparing}
+use Rattle.norprog_play.specs.Compared.{Range, LiesIn, LiesInOne, AreInOrder, read_from, read_of, bytes_in, HasComparedTo, HasCompared, StopsRange, StopsComparing}
 use Rattle.norprog_play.specs.Marks.{IsMarked, IsNextMarked, AreMarkedFrom}
 use Rattle.nor_job.proofs.TargetLemmas.{gives_none}
 
@@ -116,25 +115,21 @@ piece_more held held' held'' a b c mode4 content piece marks done most start len
     (subst (λ n. Appends held' held'' (request (read_from mode4 start n) n)) long put)
     (subst (λ (l : List ℕ). Gives b (answer l) c) is given)
 
--- its exchange ended so
-pub piece_stopped : (held held' held'' : Option (List ℕ)) (a b c : Ahead) (mode4 : Bool) (content piece : List ℕ) (marks : List Bool) (done most start len : ℕ) (why : Fault)
+-- its read ended so
+pub piece_stopped : (held held' held'' : Option (List ℕ)) (a b c : Ahead) (mode4 : Bool) (content piece : List ℕ) (marks : List Bool) (done most start len : ℕ) (why : Mismatch)
     → start + len ≤ length content → piece ≡ slice_range content start (start + len) → IsNextMarked marks done start → AreMarkedFrom marks start most len
-    → HasComparedTo held held' a b mode4 content (IsMarked marks) done
-    → Asks held' held'' b c (Err why) (request (read_from mode4 start (length piece)) (length piece)) (AnswersWith b c (Err why) piece)
+    → HasComparedTo held held' a b mode4 content (IsMarked marks) done → StopsRange held' held'' b c mode4 start piece why
     → StopsComparing held held'' a c mode4 content (IsMarked marks) why
-piece_stopped held held' held'' a b c mode4 content piece marks done most start len why within is next from so_far stop =
-    let long : length piece ≡ len = ap length is ∙ slice_of content start len within in
-    record {
-      last = piece_of start len;
-      some = from.some;
-      within = within;
-      wanted = λ k h. from.each k h.0 h.1;
-      held = held';
-      ahead = b;
-      before = reaches held held' a b mode4 content (IsMarked marks) done start next.past next.none_before so_far;
-      stop = subst (λ (l : List ℕ). Asks held' held'' b c (Err why) (request (read_from mode4 start len) len) (AnswersWith b c (Err why) l)) is
-          (subst (λ n. Asks held' held'' b c (Err why) (request (read_from mode4 start n) n) (AnswersWith b c (Err why) piece)) long stop);
-    }
+piece_stopped held held' held'' a b c mode4 content piece marks done most start len why within is next from so_far stop = record {
+  last = piece_of start len;
+  some = from.some;
+  within = within;
+  wanted = λ k h. from.each k h.0 h.1;
+  held = held';
+  ahead = b;
+  before = reaches held held' a b mode4 content (IsMarked marks) done start next.past next.none_before so_far;
+  stop = subst (λ (l : List ℕ). StopsRange held' held'' b c mode4 start l why) is stop;
+}
 
 -- there are no more
 pub all_read : (held held' : Option (List ℕ)) (a b : Ahead) (mode4 : Bool) (content : List ℕ) (marks : List Bool) (done : ℕ) → done ≤ length content

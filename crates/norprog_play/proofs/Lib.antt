@@ -6,3 +6,4 @@ mod TouchedLemmas
 mod LikenessLemmas
 mod ServedLemmas
 mod OpenedLemmas
+mod LineLemmas

@@ -1,19 +1,25 @@
 -- Where memory is refused after the handshake.
-use Rattle.std.proofs.Common.{◌≡◌, ℕ, Bool, List, Ok, Err, Result, sym, subst}
+use Rattle.std.proofs.Common.{◌≡◌, ℕ, List, Option, Ok, Err, Result, sym, subst}
 use Rattle.std.specs.Prelude.{MatchResult, IsErrAnd}
-use Rattle.nor_base.specs.declared.meaning.Start.{Start}
 use Rattle.nor_base.specs.declared.step.Step.{Step}
+use Rattle.nor_base.specs.Device.{Ahead}
 use Rattle.nor_base.specs.Parameters.{Parameters}
+use Rattle.nor_serprog.specs.Greeting.{Greeted}
+use Rattle.nor_serprog.specs.Line.{TestsLine}
 use Rattle.nor_job.specs.declared.fault.BuildFault.TheVariants.{Memory}
 use Rattle.nor_serprog.specs.declared.limits.Limits.{Limits}
 use Rattle.norprog_common.specs.declared.faults.FileName.{FileName}
 use Rattle.norprog_common.specs.declared.faults.Refusal.TheVariants.{Build}
 use Rattle.norprog_play.specs.declared.ending.Ending.{Ending}
+use Rattle.norprog_play.specs.declared.unplayed.DeviceFault.{DeviceFault}
+use Rattle.norprog_play.specs.declared.unplayed.DeviceFault.TheVariants.{Greet, Line}
 use Rattle.norprog_play.specs.declared.unplayed.Unplayed.{Unplayed}
 use Rattle.norprog_play.specs.declared.unplayed.Unplayed.TheVariants.{Refused, Device}
 use Rattle.norprog_play.specs.Early.{MayPlay, chip_with}
+use Rattle.norprog_play.specs.Ending.{EndsSo}
+use Rattle.norprog_play.specs.Expected.{Expectation}
 use Rattle.norprog_play.specs.Moment.{Moment}
-use Rattle.norprog_play.specs.Opened.{GreetsSo, HasPlayed, StopsBefore}
+use Rattle.norprog_play.specs.Opened.{FailsTest, GreetsSo, HasPlayed, Opens, Releases, StopsBefore}
 use Rattle.norprog_play.specs.Played.{EndsOnDevice, StopsPlay}
 
 pub for_memory : {T : Type 0} (P : T → Type 0) (limits : Limits) (before after : Moment) (r : Result T Unplayed) → IsErrAnd r (λ why. why ≡ Refused (Build Memory))
@@ -21,19 +27,43 @@ pub for_memory : {T : Type 0} (P : T → Type 0) (limits : Limits) (before after
 for_memory P limits before after (Ok x) is greets = absurd is
 for_memory P limits before after (Err why) is greets = subst (StopsBefore before after) (sym is) (limits, greets)
 
+-- a test of the line after a handshake
+pub opens_so : (held held' held'' : Option (List ℕ)) (ahead ahead' ahead'' : Ahead) (limits limits' : Limits) → limits' ≡ limits → Greeted held held' ahead ahead' (Ok limits)
+    → (r : Result (Unit {0}) DeviceFault) → MatchResult r (λ _. TestsLine held' held'' ahead' ahead'' (Ok tt) limits) (FailsTest held' held'' ahead' ahead'' limits)
+    → MatchResult r (λ _. Opens held held'' ahead ahead'' (Ok limits')) (λ why. Opens held held'' ahead ahead'' (Err why))
+opens_so held held' held'' ahead ahead' ahead'' limits limits' same greeted (Ok u) tested =
+    subst (λ (l : Limits). Opens held held'' ahead ahead'' (Ok l)) (sym same) (record { held = held'; ahead = ahead'; greeted = greeted; tested = tested })
+opens_so held held' held'' ahead ahead' ahead'' limits limits' same greeted (Err (Line why)) tested =
+    (limits, record { held = held'; ahead = ahead'; greeted = greeted; tested = tested })
+opens_so held held' held'' ahead ahead' ahead'' limits limits' same greeted (Err (Greet why)) tested = absurd tested
+
+-- steps that ended after a handshake, by what the code says of the limits and the turns
+pub has_played : (limits limits' : Limits) (turns turns' : ℕ) (x : Expectation) (m : Parameters) (before between after : Moment) (steps : List Step) (ending : Ending)
+    → limits' ≡ limits → turns ≡ turns' → GreetsSo before between (Ok limits) → EndsSo limits turns x m between steps ending after
+    → HasPlayed limits' turns' x m before steps ending after
+has_played limits limits' turns turns' x m before between after steps ending same as_many greets ends = record {
+  between = between;
+  greets = subst (λ (l : Limits). GreetsSo before between (Ok l)) (sym same) greets;
+  ends = subst (λ (l : Limits). EndsSo l turns' x m between steps ending after) (sym same)
+      (subst (λ n. EndsSo limits n x m between steps ending after) as_many ends);
+}
+
 -- a play on some device of steps that may be played
-pub known_ends : (Lacked : FileName → Type 0) (limit turns : ℕ) (trusted : Bool) (m : Parameters) (start : Start) (content : List ℕ) (steps : List Step) (before after : Moment)
-    → MayPlay (chip_with m start content) steps → before.shown ≡ chip_with m start content → turns ≡ limit → (r : Result Ending Unplayed)
-    → MatchResult r (λ ending. HasPlayed turns trusted m start before steps ending after) (StopsBefore before after)
-    → MatchResult r (EndsOnDevice limit trusted m start content steps) (StopsPlay Lacked m start content steps)
-known_ends Lacked limit turns trusted m start content steps before after may shown same (Ok ending) is = record {
+pub known_ends : (Lacked : FileName → Type 0) (limit turns : ℕ) (limits : Limits) (x : Expectation) (m : Parameters) (content : List ℕ) (steps : List Step) (before reached after : Moment)
+    → MayPlay (chip_with m x.start content) steps → before.shown ≡ chip_with m x.start content → turns ≡ limit → Releases limits.pins reached after → (r : Result Ending Unplayed)
+    → MatchResult r (λ ending. HasPlayed limits turns x m before steps ending reached) (StopsBefore before reached)
+    → MatchResult r (EndsOnDevice limit x m content steps) (StopsPlay Lacked m x.start content steps)
+known_ends Lacked limit turns limits x m content steps before reached after may shown same released (Ok ending) is = record {
   may = may;
   before = before;
+  reached = reached;
   after = after;
+  limits = limits;
   shown = shown;
-  played = subst (λ n. HasPlayed n trusted m start before steps ending after) same is;
+  played = subst (λ n. HasPlayed limits n x m before steps ending reached) same is;
+  released = released;
 }
-known_ends Lacked limit turns trusted m start content steps before after may shown same (Err (Device why)) is =
-    record { may = may; before = before; after = after; shown = shown; greeted = is }
-known_ends Lacked limit turns trusted m start content steps before after may shown same (Err (Refused (Build Memory))) is = tt
-known_ends Lacked limit turns trusted m start content steps before after may shown same (Err (Refused other)) is = absurd is
+known_ends Lacked limit turns limits x m content steps before reached after may shown same released (Err (Device why)) is =
+    record { may = may; before = before; reached = reached; after = after; shown = shown; greeted = is; pins = limits.pins; released = released }
+known_ends Lacked limit turns limits x m content steps before reached after may shown same released (Err (Refused (Build Memory))) is = tt
+known_ends Lacked limit turns limits x m content steps before reached after may shown same released (Err (Refused other)) is = absurd is

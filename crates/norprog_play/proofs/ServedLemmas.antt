@@ -1,6 +1,7 @@
 -- The play that a request has is the one that its texts ask for.
-use Rattle.std.proofs.Common.{◌≡◌, option_map, refl, sym, subst, List, ℕ, true, Result, Ok, Err, IfOk, IfErr}
+use Rattle.std.proofs.Common.{◌≡◌, option_map, ◌∙◌, ap, Bool, refl, sym, subst, List, ℕ, true, Result, Ok, Err, IfOk, IfErr}
 use Rattle.std.specs.Prelude.{MatchResult}
+use Rattle.nor_base.specs.declared.meaning.Part.{Part}
 use Rattle.nor_base.specs.declared.meaning.Start.{Start}
 use Rattle.nor_base.specs.declared.step.Step.{Step}
 use Rattle.nor_base.specs.Device.{Ahead}
@@ -23,7 +24,9 @@ use Rattle.norprog_play.specs.Answer.{IsEndingOf, IsEnding, IsStopOf, IsPlayFaul
 use Rattle.norprog_play.specs.Job.{IsReady, RefusesJob}
 use Rattle.norprog_play.specs.Played.{Ends, EndsGreeting, StopsPlay}
 use Rattle.norprog_play.specs.Request.{is_well_formed, AsksFor}
-use Rattle.norprog_play.specs.Served.{PlayTask, IsTaskOf, Serves}
+use Rattle.norprog_play.specs.Served.{PlayTask, IsTaskOf, Serves, expectation}
+use Rattle.norprog_play.specs.Expected.{Expectation}
+use Rattle.norprog_play.specs.Tables.{tables_of}
 
 -- a play of a request that the texts ask for is one that they ask for
 serves : (files : FileFacts) (given : PlayArgs) (request : PlayRequest) → AsksFor given request → (t : PlayTask) → IsTaskOf files request t → Serves files given t
@@ -52,16 +55,27 @@ pub refusals_asked : (files : FileFacts) (given : PlayArgs) (request : PlayReque
 refusals_asked files given request (Ok ending) asks formed of = tt
 refusals_asked files given request (Err (Refused why)) asks formed of = or_usage _ _ _ formed (
     refuses_wider files.lacked files.lacked (IsPlayFault (IsTaskOf files request)) (IsPlayFault (Serves files given))
-    ((ending : Ending) × IsEnding (IsTaskOf files request) ending) ((ending : Ending) × IsEnding (Serves files given) ending)
+    ⊥ ⊥
     (λ name lacks. lacks) (λ why of. asked_wider PlayTask (IsTaskOf files request) (Serves files given) (IsStopOf why) (serves files given request asks) of)
-    (λ late. (late.0, ending_asked files given request late.0 asks late.1)) why of
+    (λ none. none) why of
     )
 refusals_asked files given request (Err (Device why)) asks formed of =
     (formed, asked_wider PlayTask (IsTaskOf files request) (Serves files given) (IsGreetingOf why) (serves files given request asks) of)
 
 -- a file that couldn't be used
 pub lacked_refused : (Lacked : FileName → Type 0) (Asked : PlayTask → Type 0) (why : Refusal) → TellsFile Lacked why → RefusesPlay Lacked Asked why
-lacked_refused Lacked Asked why = by_files Lacked Lacked (IsPlayFault Asked) ((ending : Ending) × IsEnding Asked ending) why (λ name lacks. lacks)
+lacked_refused Lacked Asked why = by_files Lacked Lacked (IsPlayFault Asked) ⊥ why (λ name lacks. lacks)
+
+-- the chip that is expected, by what the code says of how it begins and of its tables
+abbrev expected_of : Part → Start → List ℕ → Bool → Expectation
+expected_of part start tables trusted = record { part = part; start = start; tables = tables; trusted = trusted }
+
+pub expected_so : (t : Task) (part : Part) (start : Start) (tables : List ℕ) (trusted : Bool) → part ≡ t.part → start ≡ start_of t → tables ≡ tables_of t.chip
+    → expected_of part start tables trusted ≡ expected_of t.part (start_of t) (tables_of t.chip) trusted
+expected_so t part start tables trusted family begins known =
+    ap (λ (p : Part). expected_of p start tables trusted) family
+    ∙ ap (λ (s : Start). expected_of t.part s tables trusted) begins
+    ∙ ap (λ (l : List ℕ). expected_of t.part (start_of t) l trusted) known
 
 -- what a request's play is of
 module _ (files : FileFacts) (request : PlayRequest) (tables : List ℕ) (t : Task) (text : List ℕ) (before : Ahead) (len : ℕ) (same : t ≡ setup_task request.setup tables)
@@ -80,23 +94,23 @@ module _ (files : FileFacts) (request : PlayRequest) (tables : List ℕ) (t : Ta
     has = record { after = after; refused = refused };
   })
 
-  module _ (after : Ahead) (m : Parameters) (start : Start) (steps : List Step) (content : List ℕ)
-      (ready : IsReady t text len before after m steps content) (begins : start ≡ start_of t) where
-    pub was_played : (r : Result Ending Unplayed) → MatchResult r (Ends request.limit request.trust m start content steps) (StopsPlay files.lacked m start content steps)
+  module _ (after : Ahead) (m : Parameters) (steps : List Step) (content : List ℕ) (ready : IsReady t text len before after m steps content)
+      (x : Expectation) (is_so : x ≡ expectation task) where
+    pub was_played : (r : Result Ending Unplayed) → MatchResult r (Ends request.limit x m content steps) (StopsPlay files.lacked m x.start content steps)
         → IfOk r (IsEnding (IsTaskOf files request))
     was_played (Ok ending) is = record {
       it = task;
       asked = asked;
-      has = record { after = after; m = m; steps = steps; content = content; ready = ready; ends = subst (λ (s : Start). Ends request.limit request.trust m s content steps ending) begins is };
+      has = record { after = after; m = m; steps = steps; content = content; ready = ready; ends = subst (λ (y : Expectation). Ends request.limit y m content steps ending) is_so is };
     }
     was_played (Err why) is = tt
 
-    pub was_stopped : (r : Result Ending Unplayed) → MatchResult r (Ends request.limit request.trust m start content steps) (StopsPlay files.lacked m start content steps)
+    pub was_stopped : (r : Result Ending Unplayed) → MatchResult r (Ends request.limit x m content steps) (StopsPlay files.lacked m x.start content steps)
         → IfErr r (IsUnplayed files.lacked (IsTaskOf files request))
     was_stopped (Ok ending) is = tt
     was_stopped (Err (Refused why)) is = by_files files.lacked files.lacked (IsPlayFault (IsTaskOf files request)) _ why (λ name lacks. lacks) is
     was_stopped (Err (Device why)) is = record {
       it = task;
       asked = asked;
-      has = record { after = after; m = m; steps = steps; content = content; ready = ready; stops = subst (λ (s : Start). EndsGreeting m s content steps why) begins is };
+      has = record { after = after; m = m; steps = steps; content = content; ready = ready; stops = subst (λ (y : Expectation). EndsGreeting m y.start content steps why) is_so is };
     }

@@ -1,11 +1,11 @@
 -- What is told of a play on a device (this project's).
-use Rattle.std.specs.Prelude.{◌≡◌, ◌⊎◌, ℕ, Bool, true, false, List, Option, None, Result}
+use Rattle.std.specs.Prelude.{◌≡◌, ◌⊎◌, ℕ, true, List, Option}
 use Rattle.std.specs.Io.KnownBytes.{Appends}
 use Rattle.nor_base.specs.declared.step.Step.{Step}
-use Rattle.nor_base.specs.Device.{Ahead, Cuts}
+use Rattle.nor_base.specs.Device.{Ahead}
 use Rattle.nor_base.specs.Parameters.{Parameters}
 use Rattle.nor_job.specs.Status.{start_of}
-use Rattle.nor_serprog.specs.declared.fault.GreetFault.{GreetFault}
+use Rattle.norprog_play.specs.declared.unplayed.DeviceFault.{DeviceFault}
 use Rattle.norprog_common.specs.declared.faults.FileName.{FileName}
 use Rattle.norprog_common.specs.declared.faults.Refusal.{Refusal}
 use Rattle.norprog_common.specs.declared.given.PlayArgs.{PlayArgs}
@@ -15,11 +15,10 @@ use Rattle.norprog_play.specs.declared.ending.Ending.{Ending}
 use Rattle.norprog_play.specs.declared.unplayed.Unplayed.{Unplayed}
 use Rattle.norprog_play.specs.declared.unplayed.Unplayed.TheVariants.{Refused, Device}
 use Rattle.norprog_play.specs.Job.{IsReady, RefusesJob}
-use Rattle.norprog_play.specs.Line.{ending_line}
 use Rattle.norprog_play.specs.Played.{Ends, EndsGreeting}
 use Rattle.norprog_play.specs.Request.{is_well_formed}
-use Rattle.norprog_play.specs.Served.{PlayTask, Serves}
-use Rattle.norprog_play.specs.State.{is_partial, state_line, status_of, device_line}
+use Rattle.norprog_play.specs.Served.{PlayTask, Serves, expectation}
+use Rattle.norprog_play.specs.State.{device_line, ReportsEnding}
 
 -- the script's steps, on that chip with that content, ended so
 pub record IsEndingOf (ending : Ending) (t : PlayTask) : Type 0 where
@@ -28,7 +27,7 @@ pub record IsEndingOf (ending : Ending) (t : PlayTask) : Type 0 where
   pub steps : List Step
   pub content : List ℕ
   pub ready : IsReady t.chip t.text t.len t.content after m steps content
-  pub ends : Ends t.limit t.trusted m (start_of t.chip) content steps ending
+  pub ends : Ends t.limit (expectation t) m content steps ending
 
 abbrev pub IsEnding : (PlayTask → Type 0) → Ending → Type 0
 IsEnding Asked ending = ForAsked PlayTask Asked (IsEndingOf ending)
@@ -43,10 +42,10 @@ IsPlayFault Asked why = ForAsked PlayTask Asked (IsStopOf why)
 
 -- why a play that was asked for has no ending
 abbrev pub RefusesPlay : (FileName → Type 0) → (PlayTask → Type 0) → Refusal → Type 0
-RefusesPlay Lacked Asked = RefusesFor Lacked (IsPlayFault Asked) ((ending : Ending) × IsEnding Asked ending)
+RefusesPlay Lacked Asked = RefusesFor Lacked (IsPlayFault Asked) ⊥
 
 -- the script's steps might be played on that chip with that content, but the handshake ended so
-pub record IsGreetingOf (why : GreetFault) (t : PlayTask) : Type 0 where
+pub record IsGreetingOf (why : DeviceFault) (t : PlayTask) : Type 0 where
   pub after : Ahead
   pub m : Parameters
   pub steps : List Step
@@ -54,7 +53,7 @@ pub record IsGreetingOf (why : GreetFault) (t : PlayTask) : Type 0 where
   pub ready : IsReady t.chip t.text t.len t.content after m steps content
   pub stops : EndsGreeting m (start_of t.chip) content steps why
 
-abbrev pub IsGreeting : (PlayTask → Type 0) → GreetFault → Type 0
+abbrev pub IsGreeting : (PlayTask → Type 0) → DeviceFault → Type 0
 IsGreeting Asked why = ForAsked PlayTask Asked (IsGreetingOf why)
 
 abbrev pub IsUnplayed : (FileName → Type 0) → (PlayTask → Type 0) → Unplayed → Type 0
@@ -66,41 +65,25 @@ abbrev pub RefusesToPlay : FileFacts → PlayArgs → Unplayed → Type 0
 RefusesToPlay files given (Refused why) = OrUsage (is_well_formed given) (RefusesPlay files.lacked (Serves files given)) why
 RefusesToPlay files given (Device why) = (is_well_formed given ≡ true) × IsGreeting (Serves files given) why
 
--- nothing was printed, or a proper prefix of the line of such an ending
-abbrev pub CutsEnding : (PlayTask → Type 0) → Option (List ℕ) → Option (List ℕ) → Type 0
-CutsEnding Asked before after = (after ≡ before) ⊎ ((ending : Ending) × IsEnding Asked ending × Cuts before after (ending_line ending))
-
-abbrev pub IsUnprinted : (PlayTask → Type 0) → Option (List ℕ) → Option (List ℕ) → Unplayed → Type 0
-IsUnprinted Asked before after (Refused why) = CutsEnding Asked before after
-IsUnprinted Asked before after (Device why) = after ≡ before
-
--- where the chip may hold a part of the work the line that says so was written, if the writer works; else nothing was
-abbrev pub TellsState : Bool → Type 0 → Type 0 → Option (List ℕ) → Option (List ℕ) → Type 0
-TellsState true Quiet Works before after = Works → Appends before after state_line
-TellsState false Quiet Works before after = Quiet
-
--- the line of the ending of a play that was asked for was printed, whose status it is
+-- a play that was asked for ended so, and that is what was written of it
 pub record PrintsEnding (Asked : PlayTask → Type 0) (before after : Option (List ℕ)) (Quiet Works : Type 0) (told_before told_after : Option (List ℕ))
     (status : ℕ) : Type 0 where
   pub ending : Ending
   pub is : IsEnding Asked ending
-  pub by_it : status ≡ status_of ending
-  pub printed : Appends before after (ending_line ending)
-  pub told : TellsState (is_partial ending) Quiet Works told_before told_after
+  pub reported : ReportsEnding ending before after Quiet Works told_before told_after status
 
 -- nothing was printed, and the handshake's fault was told
 pub record TellsGreeting (Asked : PlayTask → Type 0) (before after : Option (List ℕ)) (Works : Type 0) (told_before told_after : Option (List ℕ))
     (status : ℕ) : Type 0 where
-  pub why : GreetFault
+  pub why : DeviceFault
   pub is : IsGreeting Asked why
   pub one : status ≡ 1
   pub unprinted : after ≡ before
   pub told : Works → Appends told_before told_after (device_line why)
 
--- what `play` answers to the texts of a command line: the line of the ending, whose status it is; the handshake's fault; or a refusal
+-- what `play` answers to the texts of a command line: an ending, the handshake's fault, or a refusal, with nothing printed at either
 abbrev pub AnswersPlay : FileFacts → PlayArgs → Option (List ℕ) → Option (List ℕ) → Type 0 → Type 0 → Option (List ℕ) → Option (List ℕ) → ℕ → Type 0
 AnswersPlay files given before after Quiet Works told_before told_after status =
     ((is_well_formed given ≡ true) × PrintsEnding (Serves files given) before after Quiet Works told_before told_after status)
     ⊎ (((is_well_formed given ≡ true) × TellsGreeting (Serves files given) before after Works told_before told_after status)
-    ⊎ (CutsEnding (Serves files given) before after
-    × TellsOf (OrUsage (is_well_formed given) (RefusesPlay files.lacked (Serves files given))) Works told_before told_after status))
+    ⊎ ((after ≡ before) × TellsOf (OrUsage (is_well_formed given) (RefusesPlay files.lacked (Serves files given))) Works told_before told_after status))

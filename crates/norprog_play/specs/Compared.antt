@@ -1,10 +1,13 @@
 -- What the chip behind a device holds, compared with a content (W25Q256JV datasheet, Read Data 03h and Read Data with 4-Byte
 -- Address 13h; the exchanges are the Serial Flasher Protocol's).
-use Rattle.std.specs.Prelude.{◌⊎◌, ◌↔◌, ℕ, ◌+◌, ◌/◌, ◌%◌, ◌^◌, ◌<◌, ◌≤◌, nat_lt, if◌then◌else◌, Bool, true, false, List, [], ◌∷◌, length, flat_map, Option, Err}
+use Rattle.std.specs.Prelude.{◌≡◌, ◌⊎◌, ◌↔◌, ℕ, ◌+◌, ◌/◌, ◌%◌, ◌^◌, ◌<◌, ◌≤◌, nat_lt, if◌then◌else◌, Bool, true, false, List, [], ◌∷◌, length, flat_map, slice_index, Option, Result, Ok, Err}
 use Rattle.std.specs.List.{slice_range}
-use Rattle.nor_base.specs.Device.{Ahead}
-use Rattle.nor_serprog.specs.declared.fault.Fault.{Fault}
-use Rattle.nor_serprog.specs.Exchange.{Talked, Asks, AnswersWith}
+use Rattle.std.specs.Io.KnownBytes.{Appends}
+use Rattle.nor_base.specs.Device.{Ahead, Gives}
+use Rattle.nor_probe.specs.declared.difference.Difference.{Difference}
+use Rattle.nor_probe.specs.declared.difference.Mismatch.{Mismatch}
+use Rattle.nor_probe.specs.declared.difference.Mismatch.TheVariants.{Exchange, Differs}
+use Rattle.nor_serprog.specs.Exchange.{Talked, Answers, Asks, GivesOther}
 use Rattle.nor_serprog.specs.Protocol.{request, answer}
 
 -- so many addresses from one on
@@ -64,9 +67,33 @@ abbrev pub HasCompared : Option (List ℕ) → Option (List ℕ) → Ahead → A
 HasCompared held_before held_after ahead_before ahead_after mode4 content Wanted =
     HasComparedTo held_before held_after ahead_before ahead_after mode4 content Wanted (length content)
 
--- those before this range were compared, and the exchange of it ended so
+-- the answer of a read from an address on came whole, and this is the first byte of it that is another
+pub record GivesAnother (before after : Ahead) (want : List ℕ) (start : ℕ) (d : Difference) : Type 0 where
+  pub place : ℕ
+  pub other : GivesOther before after want place d.chip
+  pub address : d.address ≡ start + place
+  pub wanted : d.want ≡ slice_index want place
+
+-- a read from an address on that is to give these bytes ended so: in its exchange, or with another byte
+abbrev pub StopsRange : Option (List ℕ) → Option (List ℕ) → Ahead → Ahead → Bool → ℕ → List ℕ → Mismatch → Type 0
+StopsRange held_before held_after ahead_before ahead_after mode4 start want (Exchange why) =
+    (got : List ℕ) × (length got ≡ length want)
+    × Asks held_before held_after ahead_before ahead_after (Err why) (request (read_from mode4 start (length want)) (length want))
+    (Answers ahead_before ahead_after (Err why) got)
+StopsRange held_before held_after ahead_before ahead_after mode4 start want (Differs d) =
+    Appends held_before held_after (request (read_from mode4 start (length want)) (length want))
+    × GivesAnother ahead_before ahead_after want start d
+
+-- what such a read says
+abbrev pub ReadsRange : Option (List ℕ) → Option (List ℕ) → Ahead → Ahead → Result (Unit {0}) Mismatch → Bool → ℕ → List ℕ → Type 0
+ReadsRange held_before held_after ahead_before ahead_after (Ok u) mode4 start want =
+    Appends held_before held_after (request (read_from mode4 start (length want)) (length want)) × Gives ahead_before (answer want) ahead_after
+ReadsRange held_before held_after ahead_before ahead_after (Err why) mode4 start want =
+    StopsRange held_before held_after ahead_before ahead_after mode4 start want why
+
+-- those before this range were compared, and its own read ended so
 pub record StopsComparing (held_before held_after : Option (List ℕ)) (ahead_before ahead_after : Ahead) (mode4 : Bool) (content : List ℕ)
-    (Wanted : ℕ → Type 0) (why : Fault) : Type 0 where
+    (Wanted : ℕ → Type 0) (why : Mismatch) : Type 0 where
   pub last : Range
   pub some : 0 < last.len
   pub within : last.start + last.len ≤ length content
@@ -74,4 +101,4 @@ pub record StopsComparing (held_before held_after : Option (List ℕ)) (ahead_be
   pub held : Option (List ℕ)
   pub ahead : Ahead
   pub before : HasComparedTo held_before held ahead_before ahead mode4 content Wanted last.start
-  pub stop : Asks held held_after ahead ahead_after (Err why) (read_of mode4 last) (AnswersWith ahead ahead_after (Err why) (bytes_in content last))
+  pub stop : StopsRange held held_after ahead ahead_after mode4 last.start (bytes_in content last) why

@@ -1,19 +1,23 @@
 -- How steps end on a device beside a chip in memory (this project's).
-use Rattle.std.specs.Prelude.{◌≡◌, ℕ, Bool, false, List, length, Ok}
-use Rattle.nor_base.specs.declared.meaning.Start.{Start}
+use Rattle.std.specs.Prelude.{◌≡◌, ◌⊎◌, ℕ, Bool, true, false, List, length, Ok}
 use Rattle.nor_base.specs.declared.step.Step.{Step}
 use Rattle.nor_base.specs.Chip.{Chip, begins4}
 use Rattle.nor_base.specs.Parameters.{Parameters}
 use Rattle.nor_base.specs.Run.{trail}
 use Rattle.nor_play.specs.Play.{play}
-use Rattle.nor_serprog.specs.declared.fault.Fault.{Fault}
-use Rattle.nor_serprog.specs.declared.fault.Reason.{Reason}
-use Rattle.nor_serprog.specs.declared.fault.Reason.TheVariants.{Exchange, Busy, Carried}
+use Rattle.nor_probe.specs.declared.difference.Mismatch.{Mismatch}
+use Rattle.nor_probe.specs.declared.difference.Mismatch.TheVariants as mismatch
 use Rattle.nor_serprog.specs.declared.limits.Limits.{Limits}
 use Rattle.norprog_play.specs.declared.ending.Ending.{Ending}
 use Rattle.norprog_play.specs.declared.ending.Ending.TheVariants.{Done, Wrong as GoesWrong, No, Unlike, Failed}
+use Rattle.norprog_play.specs.declared.ending.Failure.{Failure}
+use Rattle.norprog_play.specs.declared.ending.Failure.TheVariants as failure
+use Rattle.norprog_play.specs.declared.ending.Unlike.{Unlike as Unlikeness}
+use Rattle.norprog_play.specs.Asked.{Begins, IsUnknown}
+use Rattle.norprog_play.specs.Edges.{IsBlank}
 use Rattle.norprog_play.specs.Carried.{AreCarried, IsFirstNotCarried}
-use Rattle.norprog_play.specs.Likeness.{Begins, IsUnlike}
+use Rattle.norprog_play.specs.Expected.{Expectation}
+use Rattle.norprog_play.specs.Likeness.{Compares, IsUnlike}
 use Rattle.norprog_play.specs.Moment.{Moment, DoesAll, StopsAt}
 use Rattle.norprog_play.specs.Touched.{IsCompared}
 
@@ -26,15 +30,28 @@ pub record MayBegin (limits : Limits) (before : Moment) (steps : List Step) : Ty
   pub well : GoesWell before steps
   pub carried : AreCarried limits steps
 
--- the device did all of them, and the chip in memory is as their run leaves it
-pub record IsDone (limits : Limits) (turns : ℕ) (trusted : Bool) (m : Parameters) (start : Start) (before : Moment) (steps : List Step)
-    (transactions : ℕ) (after : Moment) : Type 0 where
+-- the chip behind the device was asked, unless it is trusted, and then the device did all steps
+pub record HasDoneAll (limits : Limits) (turns : ℕ) (x : Expectation) (mode4 : Bool) (Wanted : ℕ → Type 0) (before : Moment) (steps : List Step)
+    (after : Moment) : Type 0 where
+  pub between : Moment
+  pub begins : Begins x limits turns mode4 Wanted before between
+  pub does : DoesAll limits turns between steps after
+
+-- whether the chip isn't trusted and its content is blank, so that it says nothing of which chip it is
+abbrev pub SaysBlank : Expectation → List ℕ → Bool → Type 0
+SaysBlank x content true = (x.trusted ≡ false) × IsBlank content
+SaysBlank x content false = x.trusted ≡ false → IsBlank content → ⊥
+
+-- so, the chip in memory is as their run leaves it, and the chip behind the device was compared with that, unless it is trusted
+pub record IsDone (limits : Limits) (turns : ℕ) (x : Expectation) (mode4 : Bool) (Wanted : ℕ → Type 0) (before : Moment) (steps : List Step)
+    (transactions : ℕ) (blank : Bool) (after : Moment) : Type 0 where
   pub carried : AreCarried limits steps
   pub ends : play before.shown.setting 1 before.shown.chip steps ≡ Ok after.shown.chip
   pub counted : transactions ≡ length (trail before.shown.setting before.shown.chip steps)
-  pub between : Moment
-  pub begins : Begins trusted (begins4 m start) (IsCompared m start steps) before between
-  pub does : DoesAll limits turns between steps after
+  pub reached : Moment
+  pub done : HasDoneAll limits turns x mode4 Wanted before steps reached
+  pub back : Compares x.trusted mode4 Wanted reached after
+  pub says : SaysBlank x before.shown.chip.array blank
 
 -- they go well, this one is the first that is no operation of the device, and nothing was done
 pub record IsNotCarriedBefore (limits : Limits) (before : Moment) (steps : List Step) (at : ℕ) (after : Moment) : Type 0 where
@@ -42,28 +59,53 @@ pub record IsNotCarriedBefore (limits : Limits) (before : Moment) (steps : List 
   pub first : IsFirstNotCarried limits steps at
   pub untouched : after ≡ before
 
--- they may begin, but the chip behind the device isn't known to be like that in memory
-pub record IsUnlikeBefore (limits : Limits) (trusted : Bool) (m : Parameters) (start : Start) (before : Moment) (steps : List Step) (why : Fault)
-    (after : Moment) : Type 0 where
+-- they may begin, but the chip behind the device isn't known to be the one that is expected
+pub record IsUnlikeBefore (limits : Limits) (turns : ℕ) (x : Expectation) (mode4 : Bool) (Wanted : ℕ → Type 0) (before : Moment)
+    (steps : List Step) (why : Unlikeness) (after : Moment) : Type 0 where
   pub may : MayBegin limits before steps
-  pub wary : trusted ≡ false
-  pub unlike : IsUnlike (begins4 m start) (IsCompared m start steps) before after why
+  pub wary : x.trusted ≡ false
+  pub unlike : IsUnknown x limits turns mode4 Wanted before after why
 
 -- they began, and ended at this one
-pub record StopsOnDevice (limits : Limits) (turns : ℕ) (trusted : Bool) (m : Parameters) (start : Start) (before : Moment) (steps : List Step)
-    (at : ℕ) (why : Reason) (after : Moment) : Type 0 where
+pub record StopsOnDevice (limits : Limits) (turns : ℕ) (x : Expectation) (m : Parameters) (mode4 : Bool) (Wanted : ℕ → Type 0) (before : Moment)
+    (steps : List Step) (at : ℕ) (failed : Failure) (after : Moment) : Type 0 where
   pub may : MayBegin limits before steps
   pub between : Moment
-  pub begins : Begins trusted (begins4 m start) (IsCompared m start steps) before between
-  pub stops : StopsAt limits turns between steps at why after
+  pub begins : Begins x limits turns mode4 Wanted before between
+  pub stops : StopsAt m limits turns between steps at failed after
 
--- how steps end that go well on the chip in memory; what was compared before is what they touch, unless the chip is trusted
-abbrev pub EndsSo : Limits → ℕ → Bool → Parameters → Start → Moment → List Step → Ending → Moment → Type 0
-EndsSo limits turns trusted m start before steps (Done transactions) after = IsDone limits turns trusted m start before steps transactions after
-EndsSo limits turns trusted m start before steps (GoesWrong at why) after = ⊥
-EndsSo limits turns trusted m start before steps (No at why) after = ⊥
-EndsSo limits turns trusted m start before steps (Unlike why) after = IsUnlikeBefore limits trusted m start before steps why after
-EndsSo limits turns trusted m start before steps (Failed at Carried) after = IsNotCarriedBefore limits before steps at after
-EndsSo limits turns trusted m start before steps (Failed at Busy) after = StopsOnDevice limits turns trusted m start before steps at Busy after
-EndsSo limits turns trusted m start before steps (Failed at (Exchange why)) after =
-    StopsOnDevice limits turns trusted m start before steps at (Exchange why) after
+-- how a comparison that ended so is reported where it comes after the steps
+abbrev pub failure_by : Mismatch → Failure
+failure_by (mismatch.Exchange why) = failure.Exchange why
+failure_by (mismatch.Differs d) = failure.Differs d
+
+-- they were all done, but the chip behind the device isn't known to hold what they leave on the chip in memory
+pub record IsUnlikeAfter (limits : Limits) (turns : ℕ) (x : Expectation) (mode4 : Bool) (Wanted : ℕ → Type 0) (before : Moment) (steps : List Step)
+    (at : ℕ) (failed : Failure) (after : Moment) : Type 0 where
+  pub may : MayBegin limits before steps
+  pub all : at ≡ length steps
+  pub reached : Moment
+  pub done : HasDoneAll limits turns x mode4 Wanted before steps reached
+  pub ends : play before.shown.setting 1 before.shown.chip steps ≡ Ok reached.shown.chip
+  pub wary : x.trusted ≡ false
+  pub why : Mismatch
+  pub unlike : IsUnlike mode4 Wanted reached after why
+  pub failure : failed ≡ failure_by why
+
+-- how steps end that go well on the chip in memory, where these addresses are compared before and after, in this address mode
+abbrev pub EndsComparing : Limits → ℕ → Expectation → Parameters → Bool → (ℕ → Type 0) → Moment → List Step → Ending → Moment → Type 0
+EndsComparing limits turns x m mode4 Wanted before steps (Done transactions blank) after =
+    IsDone limits turns x mode4 Wanted before steps transactions blank after
+EndsComparing limits turns x m mode4 Wanted before steps (GoesWrong at why) after = ⊥
+EndsComparing limits turns x m mode4 Wanted before steps (No at why) after = ⊥
+EndsComparing limits turns x m mode4 Wanted before steps (Unlike why) after =
+    IsUnlikeBefore limits turns x mode4 Wanted before steps why after
+EndsComparing limits turns x m mode4 Wanted before steps (Failed at failure.Carried) after = IsNotCarriedBefore limits before steps at after
+EndsComparing limits turns x m mode4 Wanted before steps (Failed at failed) after =
+    StopsOnDevice limits turns x m mode4 Wanted before steps at failed after
+    ⊎ IsUnlikeAfter limits turns x mode4 Wanted before steps at failed after
+
+-- so, where what is compared is what they touch, and the edges of the content, in the chip's first address mode
+abbrev pub EndsSo : Limits → ℕ → Expectation → Parameters → Moment → List Step → Ending → Moment → Type 0
+EndsSo limits turns x m before steps ending after =
+    EndsComparing limits turns x m (begins4 m x.start) (IsCompared m x.start before.shown.chip.array steps) before steps ending after

@@ -1,10 +1,15 @@
 pub mod Moment
+pub mod Expected
+pub mod Tables
+pub mod Asked
+pub mod Failure
 pub mod Carried
 pub mod Rehearsal
 pub mod Ending
 pub mod Line
 pub mod Touched
 pub mod Marks
+pub mod Edges
 pub mod Compared
 pub mod Likeness
 pub mod Request

@@ -1,6 +1,6 @@
 -- Whether the chip behind a device holds what the chip in memory does (this project's).
 use Rattle.std.specs.Prelude.{◌≡◌, ℕ, Bool, true, false}
-use Rattle.nor_serprog.specs.declared.fault.Fault.{Fault}
+use Rattle.nor_probe.specs.declared.difference.Mismatch.{Mismatch}
 use Rattle.norprog_play.specs.Compared.{HasCompared, StopsComparing}
 use Rattle.norprog_play.specs.Moment.{Moment}
 
@@ -11,11 +11,11 @@ pub record IsLike (mode4 : Bool) (Wanted : ℕ → Type 0) (before after : Momen
   pub compared : HasCompared before.held after.held before.ahead after.ahead mode4 before.shown.chip.array Wanted
 
 -- the reading stopped so
-pub record IsUnlike (mode4 : Bool) (Wanted : ℕ → Type 0) (before after : Moment) (why : Fault) : Type 0 where
+pub record IsUnlike (mode4 : Bool) (Wanted : ℕ → Type 0) (before after : Moment) (why : Mismatch) : Type 0 where
   pub shown : after.shown ≡ before.shown
   pub stopped : StopsComparing before.held after.held before.ahead after.ahead mode4 before.shown.chip.array Wanted why
 
--- what comes before the steps: nothing where the chip is trusted
-abbrev pub Begins : Bool → Bool → (ℕ → Type 0) → Moment → Moment → Type 0
-Begins true mode4 Wanted before after = after ≡ before
-Begins false mode4 Wanted before after = IsLike mode4 Wanted before after
+-- nothing was done where the chip is trusted; else it was compared
+abbrev pub Compares : Bool → Bool → (ℕ → Type 0) → Moment → Moment → Type 0
+Compares true mode4 Wanted before after = after ≡ before
+Compares false mode4 Wanted before after = IsLike mode4 Wanted before after

@@ -1,10 +1,18 @@
 -- The line that tells how a script ends on a device (this project's).
-use Rattle.std.specs.Prelude.{ℕ, List, ◌∷◌, ◌++◌, codes, decimal}
+use Rattle.std.specs.Prelude.{ℕ, ◌/◌, ◌%◌, Bool, true, false, List, ◌∷◌, ◌++◌, codes, decimal}
 use Rattle.nor_base.specs.declared.wrong.Wrong.TheVariants.{PollNever}
 use Rattle.nor_base.specs.Script.{closed}
 use Rattle.nor_serprog.specs.declared.fault.Fault.{Fault}
 use Rattle.nor_serprog.specs.declared.fault.Fault.TheVariants as fault
-use Rattle.nor_serprog.specs.declared.fault.Reason.TheVariants.{Exchange, Busy, Carried}
+use Rattle.nor_base.specs.Script.{hex_pair}
+use Rattle.nor_probe.specs.declared.difference.Difference.{Difference}
+use Rattle.nor_probe.specs.declared.difference.Mismatch.{Mismatch}
+use Rattle.nor_probe.specs.declared.difference.Mismatch.TheVariants as mismatch
+use Rattle.nor_script.specs.Hexadecimal.{hex_number}
+use Rattle.norprog_play.specs.declared.ending.Failure.{Failure}
+use Rattle.norprog_play.specs.declared.ending.Failure.TheVariants as failure
+use Rattle.norprog_play.specs.declared.ending.Unlike.{Unlike as Unlikeness}
+use Rattle.norprog_play.specs.declared.ending.Unlike.TheVariants as unlike
 use Rattle.nor_check.specs.declared.verdict.Verdict.TheVariants.{No as Says}
 use Rattle.norprog_check.specs.Line.{verdict_text}
 use Rattle.norprog_common.specs.Wrongs.{wrong_number}
@@ -26,15 +34,57 @@ wrong_line number step = closed (codes "wrong " ++ (decimal number ++ (codes " a
 abbrev pub failed_line : ℕ → List ℕ → List ℕ
 failed_line step why = closed (codes "failed at " ++ (decimal step ++ (codes " " ++ why)))
 
--- `ok N`, a check's line, or one of these; a device that stays busy is a poll that never ends
+-- the address of a byte that is another, the chip's and the one that was wanted, behind and between these texts, and LF
+abbrev pub other_line : List ℕ → List ℕ → Difference → List ℕ
+other_line front last d =
+    front ++ (hex_number d.address ++ (codes " chip " ++ (hex_pair d.chip ++ (last ++ (hex_pair d.want ++ codes "\n")))))
+
+-- `unlike` and the word of an exchange, and LF
+abbrev pub exchange_line : Fault → List ℕ
+exchange_line why = closed (codes "unlike " ++ fault_word why)
+
+abbrev pub mismatch_line : List ℕ → List ℕ → Mismatch → List ℕ
+mismatch_line front last (mismatch.Exchange why) = exchange_line why
+mismatch_line front last (mismatch.Differs d) = other_line front last d
+
+-- `unlike status` and S7 to S0, and LF; or S23 to S0
+abbrev pub status_line : ℕ → List ℕ
+status_line status = codes "unlike status " ++ (hex_pair (status % 256) ++ codes "\n")
+
+abbrev pub registers_line : ℕ → List ℕ
+registers_line status =
+    codes "unlike status " ++ (hex_pair (status / 65536 % 256) ++ (hex_pair (status / 256 % 256) ++ (hex_pair (status % 256) ++ codes "\n")))
+
+-- why the chip isn't known to be the one that is expected
+abbrev pub unlike_line : Unlikeness → List ℕ
+unlike_line unlike.Busy = codes "unlike busy\n"
+unlike_line (unlike.Asking why) = exchange_line why
+unlike_line (unlike.Status status) = status_line status
+unlike_line (unlike.Registers status) = registers_line status
+unlike_line (unlike.Tables why) = mismatch_line (codes "unlike tables at ") (codes " file ") why
+unlike_line (unlike.Content why) = mismatch_line (codes "unlike differs at ") (codes " dump ") why
+
+-- why a step isn't done; a device that stays busy is a poll that never ends
+abbrev pub failure_line : ℕ → Failure → List ℕ
+failure_line step (failure.Exchange why) = failed_line step (fault_word why)
+failure_line step failure.Busy = wrong_line (wrong_number PollNever) step
+failure_line step failure.Carried = failed_line step (codes "carried")
+failure_line step (failure.Differs d) = codes "failed at " ++ (decimal step ++ other_line (codes " differs at ") (codes " want ") d)
+failure_line step (failure.Gives chip want) =
+    codes "failed at " ++ (decimal step ++ (codes " differs chip " ++ (hex_pair chip ++ (codes " want " ++ (hex_pair want ++ codes "\n")))))
+
+-- `ok N`, and `blank` on a line before it where the content says nothing of which chip it is
+abbrev pub done_line : ℕ → Bool → List ℕ
+done_line transactions true = codes "blank\nok " ++ (decimal transactions ++ codes "\n")
+done_line transactions false = codes "ok " ++ (decimal transactions ++ codes "\n")
+
+-- so, or a check's line, or one of these
 abbrev pub ending_line : Ending → List ℕ
-ending_line (Done transactions) = closed (codes "ok " ++ decimal transactions)
+ending_line (Done transactions blank) = done_line transactions blank
 ending_line (Wrong step why) = wrong_line (wrong_number why) step
 ending_line (No step why) = verdict_text (Says step why)
-ending_line (Unlike why) = closed (codes "unlike " ++ fault_word why)
-ending_line (Failed step Busy) = wrong_line (wrong_number PollNever) step
-ending_line (Failed step Carried) = failed_line step (codes "carried")
-ending_line (Failed step (Exchange why)) = failed_line step (fault_word why)
+ending_line (Unlike why) = unlike_line why
+ending_line (Failed step failed) = failure_line step failed
 
 -- `step N of M, B of C bytes`, from the line's begin on
 abbrev pub progress_line : ℕ → ℕ → ℕ → ℕ → List ℕ

@@ -8,6 +8,9 @@ use Rattle.nor_base.specs.Device.{Ahead, ahead_of}
 use Rattle.nor_base.specs.Port.{Shown, Transacts}
 use Rattle.nor_serprog.specs.declared.fault.Reason.{Reason}
 use Rattle.nor_serprog.specs.declared.limits.Limits.{Limits}
+use Rattle.norprog_play.specs.declared.ending.Failure.{Failure}
+use Rattle.norprog_play.specs.Failure.{FailsAs}
+use Rattle.nor_base.specs.Parameters.{Parameters}
 use Rattle.nor_serprog.specs.Follow.{Follows}
 
 -- at one moment: the chip in memory, what the device was sent so far, and what it has yet to give
@@ -30,11 +33,13 @@ pub record Does (limits : Limits) (turns : ℕ) (before : Moment) (clocks : List
   pub chip : Transacts before.shown after.shown (Ok tt) clocks given
   pub device : Follows before.held after.held before.ahead after.ahead (Ok tt) limits turns clocks given
 
--- the chip in memory did it, and with the device it ended so
-pub record Stops (limits : Limits) (turns : ℕ) (before : Moment) (clocks : List ℕ) (why : Reason) (after : Moment) : Type 0 where
+-- the chip in memory did it and gave some bytes, and with the device it ended so
+pub record Stops (m : Parameters) (limits : Limits) (turns : ℕ) (before : Moment) (clocks : List ℕ) (failed : Failure) (after : Moment) : Type 0 where
   pub given : List ℕ
+  pub reason : Reason
   pub chip : Transacts before.shown after.shown (Ok tt) clocks given
-  pub device : Follows before.held after.held before.ahead after.ahead (Err why) limits turns clocks given
+  pub device : Follows before.held after.held before.ahead after.ahead (Err reason) limits turns clocks given
+  pub failure : FailsAs m clocks given reason failed
 
 -- both did the transactions of steps, one after the other, and nothing else
 abbrev pub DoesAll : Limits → ℕ → Moment → List Step → Moment → Type 0
@@ -43,11 +48,11 @@ DoesAll limits turns before (x ∷ xs) after =
     (between : Moment) × Does limits turns before (step_clocks x) between × DoesAll limits turns between xs after
 
 -- both did those before this one, which ended so, and nothing else
-pub record StopsAt (limits : Limits) (turns : ℕ) (before : Moment) (steps : List Step) (at : ℕ) (why : Reason) (after : Moment) : Type 0
-  where
-    pub within : at < length steps
-    pub reached : Moment
-    pub done : DoesAll limits turns before (take at steps) reached
-    pub last : Step
-    pub is : last ≡ get_or steps at last
-    pub stop : Stops limits turns reached (step_clocks last) why after
+pub record StopsAt (m : Parameters) (limits : Limits) (turns : ℕ) (before : Moment) (steps : List Step) (at : ℕ) (failed : Failure) (after : Moment)
+    : Type 0 where
+  pub within : at < length steps
+  pub reached : Moment
+  pub done : DoesAll limits turns before (take at steps) reached
+  pub last : Step
+  pub is : last ≡ get_or steps at last
+  pub stop : Stops m limits turns reached (step_clocks last) failed after

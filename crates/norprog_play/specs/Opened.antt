@@ -1,34 +1,70 @@
 -- How a script ends on a device, from its handshake on (this project's).
-use Rattle.std.specs.Prelude.{◌≡◌, ℕ, Bool, List, Result, Ok, Err}
-use Rattle.nor_base.specs.declared.meaning.Start.{Start}
+use Rattle.std.specs.Prelude.{◌≡◌, ℕ, Bool, true, false, List, [], Option, Result, Ok, Err}
 use Rattle.nor_base.specs.declared.step.Step.{Step}
+use Rattle.nor_base.specs.Device.{Ahead}
 use Rattle.nor_base.specs.Parameters.{Parameters}
 use Rattle.nor_job.specs.declared.fault.BuildFault.TheVariants.{Memory}
-use Rattle.nor_serprog.specs.declared.fault.GreetFault.{GreetFault}
+use Rattle.nor_serprog.specs.declared.fault.Fault.{Fault}
 use Rattle.nor_serprog.specs.declared.limits.Limits.{Limits}
-use Rattle.nor_serprog.specs.Greeting.{Greeted}
+use Rattle.nor_serprog.specs.Exchange.{Answers, Asks}
+use Rattle.nor_serprog.specs.Greeting.{Greeted, release_bytes}
+use Rattle.nor_serprog.specs.Line.{TestsLine}
 use Rattle.norprog_common.specs.declared.faults.Refusal.TheVariants.{Build}
 use Rattle.norprog_play.specs.declared.ending.Ending.{Ending}
+use Rattle.norprog_play.specs.declared.unplayed.DeviceFault.{DeviceFault}
+use Rattle.norprog_play.specs.declared.unplayed.DeviceFault.TheVariants.{Greet, Line}
 use Rattle.norprog_play.specs.declared.unplayed.Unplayed.{Unplayed}
 use Rattle.norprog_play.specs.declared.unplayed.Unplayed.TheVariants.{Refused, Device}
 use Rattle.norprog_play.specs.Ending.{EndsSo}
+use Rattle.norprog_play.specs.Expected.{Expectation}
 use Rattle.norprog_play.specs.Moment.{Moment}
 
--- the handshake ended so, the chip in memory as it was
-pub record GreetsSo (before after : Moment) (r : Result Limits GreetFault) : Type 0 where
-  pub shown : after.shown ≡ before.shown
-  pub greeted : Greeted before.held after.held before.ahead after.ahead r
+-- the device reported these limits, and then the test of the line to it ended so
+pub record HasOpened (held_before held_after : Option (List ℕ)) (ahead_before ahead_after : Ahead) (limits : Limits)
+    (result : Result (Unit {0}) Fault) : Type 0 where
+  pub held : Option (List ℕ)
+  pub ahead : Ahead
+  pub greeted : Greeted held_before held ahead_before ahead (Ok limits)
+  pub tested : TestsLine held held_after ahead ahead_after result limits
 
--- the device told its limits, and then the steps ended so
-pub record HasPlayed (turns : ℕ) (trusted : Bool) (m : Parameters) (start : Start) (before : Moment) (steps : List Step) (ending : Ending)
+-- the handshake and the test of the line ended so
+abbrev pub Opens : Option (List ℕ) → Option (List ℕ) → Ahead → Ahead → Result Limits DeviceFault → Type 0
+Opens held_before held_after ahead_before ahead_after (Ok limits) = HasOpened held_before held_after ahead_before ahead_after limits (Ok tt)
+Opens held_before held_after ahead_before ahead_after (Err (Greet why)) = Greeted held_before held_after ahead_before ahead_after (Err why)
+Opens held_before held_after ahead_before ahead_after (Err (Line why)) =
+    (limits : Limits) × HasOpened held_before held_after ahead_before ahead_after limits (Err why)
+
+-- the test of the line ended early, and so it is reported
+abbrev pub FailsTest : Option (List ℕ) → Option (List ℕ) → Ahead → Ahead → Limits → DeviceFault → Type 0
+FailsTest held_before held_after ahead_before ahead_after limits (Line why) =
+    TestsLine held_before held_after ahead_before ahead_after (Err why) limits
+FailsTest held_before held_after ahead_before ahead_after limits (Greet why) = ⊥
+
+-- so, the chip in memory as it was
+pub record GreetsSo (before after : Moment) (r : Result Limits DeviceFault) : Type 0 where
+  pub shown : after.shown ≡ before.shown
+  pub opened : Opens before.held after.held before.ahead after.ahead r
+
+-- the device reported these limits, and then the steps ended so
+pub record HasPlayed (limits : Limits) (turns : ℕ) (x : Expectation) (m : Parameters) (before : Moment) (steps : List Step) (ending : Ending)
     (after : Moment) : Type 0 where
-  pub limits : Limits
   pub between : Moment
   pub greets : GreetsSo before between (Ok limits)
-  pub ends : EndsSo limits turns trusted m start between steps ending after
+  pub ends : EndsSo limits turns x m between steps ending after
 
 -- the handshake ended early; or memory was refused after it
 abbrev pub StopsBefore : Moment → Moment → Unplayed → Type 0
 StopsBefore before after (Device why) = GreetsSo before after (Err why)
 StopsBefore before after (Refused (Build Memory)) = (limits : Limits) × GreetsSo before after (Ok limits)
 StopsBefore before after other = ⊥
+
+-- the device was asked to drive the pins of the chip no more, whatever it answered
+pub record LetsGo (before after : Moment) : Type 0 where
+  pub shown : after.shown ≡ before.shown
+  pub answer : Result (Unit {0}) Fault
+  pub asked : Asks before.held after.held before.ahead after.ahead answer release_bytes (Answers before.ahead after.ahead answer [])
+
+-- so, where it drives them; else nothing was done
+abbrev pub Releases : Bool → Moment → Moment → Type 0
+Releases true before after = LetsGo before after
+Releases false before after = after ≡ before

@@ -1,7 +1,10 @@
 -- The play that a command line of `play` asks for (this project's). `files` is what is known of files by their names.
 use Rattle.std.specs.Prelude.{◌≡◌, ℕ, Bool, List, Some, option_map}
 use Rattle.nor_base.specs.Device.{Ahead}
+use Rattle.nor_job.specs.Status.{start_of}
 use Rattle.nor_job.specs.Task.{Task}
+use Rattle.norprog_play.specs.Expected.{Expectation}
+use Rattle.norprog_play.specs.Tables.{tables_of}
 use Rattle.norprog_common.specs.declared.given.PlayArgs.{PlayArgs}
 use Rattle.norprog_common.specs.Setup.{IsSetupTask, ServesSetup}
 use Rattle.norprog_common.specs.FileStore.{FileFacts, Named}
@@ -18,6 +21,10 @@ pub record PlayTask : Type 0 where
   pub len : ℕ
   pub limit : ℕ
   pub trusted : Bool
+
+-- what the chip behind the device has to be
+abbrev pub expectation : PlayTask → Expectation
+expectation t = record { part = t.chip.part; start = start_of t.chip; tables = tables_of t.chip.chip; trusted = t.trusted }
 
 -- what a request asks for: its tables and its script are what their files gave, and the content's file was opened
 pub record IsTaskOf (files : FileFacts) (request : PlayRequest) (t : PlayTask) : Type 0 where

@@ -11,6 +11,7 @@ use Rattle.nor_base.specs.Effect.{place}
 use Rattle.nor_base.specs.Parameters.{Parameters, block_size}
 use Rattle.nor_base.specs.Spelling.{mode_by}
 use Rattle.nor_base.specs.Step.{step_clocks}
+use Rattle.norprog_play.specs.Edges.{IsEdge}
 
 -- some byte of a program goes there: on from its address, and round within its page
 abbrev pub Programs : Parameters → Instruction → ℕ → Type 0
@@ -53,6 +54,7 @@ IsTouched m mode4 (x ∷ xs) a = Touches m mode4 x a ⊎ IsTouched m (mode_past 
 abbrev pub IsInCellOf : (ℕ → Type 0) → ℕ → Type 0
 IsInCellOf P a = (b : ℕ) × (b / 256 ≡ a / 256) × P b
 
--- the addresses that are compared: those of the cells of which the steps touch some byte
-abbrev pub IsCompared : Parameters → Start → List Step → ℕ → Type 0
-IsCompared m start steps a = IsInCellOf (IsTouched m (begins4 m start) steps) a
+-- the addresses that are compared: those of the cells of which the steps touch some byte, and of the first and the last byte of the
+-- content that aren't blank
+abbrev pub IsCompared : Parameters → Start → List ℕ → List Step → ℕ → Type 0
+IsCompared m start content steps a = IsInCellOf (λ b. IsTouched m (begins4 m start) steps b ⊎ IsEdge content b) a

@@ -1,26 +1,25 @@
 //! `play`: from the texts of the command line to the line of an ending.
 
 ghost use Rattle.std.specs.Prelude.{◌≡◌, ◌<◌, ◌≤◌, ◌-◌, ◌^◌, true, length, IfOk, IfErr, MatchResult};
-ghost use Rattle.std.specs.Io.KnownBytes.{Appends};
 ghost use Rattle.nor_base.specs.Chip.{IsPossible};
 ghost use Rattle.nor_base.specs.Run.{trail};
 ghost use Rattle.norprog_common.specs.Files.{TellsFile};
-ghost use Rattle.norprog_play.specs.Answer.{IsEnding, IsUnplayed, IsUnprinted, RefusesToPlay, AnswersPlay};
+ghost use Rattle.norprog_play.specs.Answer.{IsEnding, IsUnplayed, RefusesToPlay, AnswersPlay};
 ghost use Rattle.norprog_play.specs.Early.{MayPlay, chip_with};
-ghost use Rattle.norprog_play.specs.Line.{ending_line};
+ghost use Rattle.norprog_play.specs.Expected.{expectation_of};
 ghost use Rattle.norprog_play.specs.Played.{Ends, EndsOnDevice, StopsPlay};
 ghost use Rattle.norprog_play.specs.Request.{is_well_formed};
 ghost use Rattle.norprog_play.specs.Served.{IsTaskOf, Serves};
 
 use crate::early::{Early, ends_early, widest};
 use crate::ending::Ending;
-use crate::greeted::greet_and_play;
+use crate::expected::{Expected, known_tables};
+use crate::greeted::{greet_and_play, release_pins};
 use crate::job::{Job, job_of};
-use crate::line::write_ending;
 use crate::request::{PlayRequest, request_of};
-use crate::state::{refuse_device, tell_state};
+use crate::state::{refuse_device, report_ending};
 use crate::unplayed::Unplayed;
-use nor_base::{ByteOut, Meaning, Start, Step};
+use nor_base::{ByteOut, Meaning, Step};
 use nor_chip::Chip;
 use nor_serprog::Shadowed;
 use norprog_common::{FileName, FileStore, PlayArgs, Refusal, refuse, setup_inputs, tables_of};
@@ -30,11 +29,11 @@ use std::io::BufReader;
 /// Does what the texts of a command line of `play` ask for. It opens the files that they name, plays the script on the chip in
 /// memory, and then, where nothing goes wrong there and every chip that they describe does the same, on the chip behind the device
 /// that they name; it writes the line of the ending to `out`, or a refusal to `err` (docs/FORMATS.md, sections 9 and 14). Where
-/// steps were sent and not all of them were done it tells that to `err` too. It answers the status: 0 all done, 1 not so or
-/// refused, 2 usage.
+/// steps were sent and the chip may hold a part of the work it first writes to `err` what to do then. It returns the status: 0 all
+/// done, 1 not so or refused, 2 usage.
 ///
-/// Where steps are sent to the device, how many are done is told to `progress` after each hundred and at the end, in a line that is
-/// written over; where that fails nothing changes. What is said of the device is so of some device, from its handshake on.
+/// Where steps are sent to the device, how many are done is written to `progress` after each hundred and at the end, in a line that
+/// is written over; where that fails nothing changes. What is said of the device is so of some device, from its handshake on.
 ///
 /// Usage is told where the texts ask for no play.
 pub fn play<S: FileStore, O: ByteOut, E: ByteOut, P: ByteOut>(
@@ -53,33 +52,10 @@ pub fn play<S: FileStore, O: ByteOut, E: ByteOut, P: ByteOut>(
     ensures answer { AnswersPlay (S.facts store.now) given.entry (O.held out.old) (O.held out.new) (err.new ≡ err.old)
         (E.count err.new ≡ E.count err.old) (E.held err.old) (E.held err.new) result }
 {
-    match report_play(alloc, store, given, out, progress) {
-        Ok(ending) => tell_state(&ending, err),
+    match ending_of(alloc, store, given, progress) {
+        Ok(ending) => report_ending(&ending, out, err),
         Err(Unplayed::Refused(refusal)) => refuse(&refusal, err),
         Err(Unplayed::Device(fault)) => refuse_device(fault, err),
-    }
-}
-
-/// Plays what is asked for, and writes the ending's line.
-fn report_play<S: FileStore, O: ByteOut, P: ByteOut>(
-    alloc: Global,
-    store: &S,
-    given: PlayArgs<'_>,
-    out: &mut O,
-    progress: &mut P,
-) -> Result<Ending, Unplayed>
-    requires out { O.count out.old < 2 ^ 64 - 1 }
-    requires progress { P.count progress.old < 2 ^ 64 - 1 }
-    ensures played { IfOk result (IsEnding (Serves (S.facts store.now) given.entry)) }
-    ensures printed { IfOk result (λ ending. Appends (O.held out.old) (O.held out.new) (ending_line ending)) }
-    ensures unprinted { IfErr result (IsUnprinted (Serves (S.facts store.now) given.entry) (O.held out.old) (O.held out.new)) }
-    ensures asked { IfOk result (λ _. is_well_formed given.entry ≡ true) }
-    ensures first { IfErr result (RefusesToPlay (S.facts store.now) given.entry) }
-{
-    let ending = ending_of(alloc, store, given, progress)?;
-    match write_ending(&ending, out) {
-        Ok(()) => Ok(ending),
-        Err(_) => Err(Unplayed::Refused(Refusal::WRITE)),
     }
 }
 
@@ -115,13 +91,19 @@ fn play_request<S: FileStore, P: ByteOut>(
     let (script, _place) = store.read(alloc, request.script, FileName::Script)?;
     let inputs = setup_inputs(request.setup, tables.as_slice());
     let job = job_of(alloc, &inputs, script.as_slice(), &mut content, len)?;
+    let expected = Expected {
+        part: request.setup.part,
+        start: job.start,
+        tables: known_tables(&inputs),
+        trusted: request.trust,
+    };
     play_job(
         alloc,
         store,
         job,
+        expected,
         request.device,
         request.limit,
-        request.trust,
         progress,
     )
 }
@@ -131,37 +113,36 @@ fn play_job<S: FileStore, P: ByteOut>(
     alloc: Global,
     store: &S,
     job: Job,
+    expected: Expected<'_>,
     device: &str,
     limit: u64,
-    trust: bool,
     progress: &mut P,
 ) -> Result<Ending, Unplayed>
     requires size { length job.content.items ≡ job.meaning.size }
-    requires mode { IsPossible job.meaning job.start }
+    requires mode { IsPossible job.meaning expected.start }
     requires progress { P.count progress.old < 2 ^ 64 - 1 }
-    ensures { MatchResult result (Ends limit trust job.meaning job.start job.content.items job.steps.items)
-        (StopsPlay (S.facts store.now).lacked job.meaning job.start job.content.items job.steps.items) }
+    ensures { MatchResult result (Ends limit (expectation_of expected.entry) job.meaning job.content.items job.steps.items)
+        (StopsPlay (S.facts store.now).lacked job.meaning expected.entry.start job.content.items job.steps.items) }
 {
     let Job {
         meaning,
-        start,
+        start: _,
         steps,
         content,
     } = job;
     let steps = steps.as_slice();
-    match ends_early(alloc, &meaning, start, content.as_slice(), steps)? {
+    match ends_early(alloc, &meaning, expected.start, content.as_slice(), steps)? {
         Early::Ends(ending) => Ok(ending),
         Early::Goes { transactions } => play_known(
             alloc,
             store,
             &meaning,
-            start,
+            expected,
             content,
             steps,
             transactions,
             device,
             limit,
-            trust,
             progress,
         ),
     }
@@ -172,37 +153,37 @@ fn play_known<S: FileStore, P: ByteOut>(
     alloc: Global,
     store: &S,
     meaning: &Meaning,
-    start: Start,
+    expected: Expected<'_>,
     content: Vec<u8>,
     steps: &[Step],
     transactions: u128,
     device: &str,
     limit: u64,
-    trust: bool,
     progress: &mut P,
 ) -> Result<Ending, Unplayed>
     requires size { length content.items ≡ meaning.now.size }
-    requires mode { IsPossible meaning.now start }
-    requires may { MayPlay (chip_with meaning.now start content.items) steps.now }
-    requires counted { transactions ≡ length (trail (chip_with meaning.now start content.items).setting
-        (chip_with meaning.now start content.items).chip steps.now) }
+    requires mode { IsPossible meaning.now expected.start }
+    requires may { MayPlay (chip_with meaning.now expected.start content.items) steps.now }
+    requires counted { transactions ≡ length (trail (chip_with meaning.now expected.start content.items).setting
+        (chip_with meaning.now expected.start content.items).chip steps.now) }
     requires progress { P.count progress.old < 2 ^ 64 - 1 }
-    ensures { MatchResult result (EndsOnDevice limit trust meaning.now start content.items steps.now)
-        (StopsPlay (S.facts store.now).lacked meaning.now start content.items steps.now) }
+    ensures { MatchResult result (EndsOnDevice limit (expectation_of expected.entry) meaning.now content.items steps.now)
+        (StopsPlay (S.facts store.now).lacked meaning.now expected.entry.start content.items steps.now) }
 {
     let (from, to) = open_port(alloc, store, device)?;
-    let chip = Chip::new(meaning, start, content, Vec::new(alloc), false);
+    let chip = Chip::new(meaning, expected.start, content, Vec::new(alloc), false);
     let mut port = Shadowed::new(chip, from, to, widest(), limit);
-    greet_and_play(
+    let ended = greet_and_play(
         alloc,
         meaning,
-        start,
+        expected,
         steps,
         transactions,
-        trust,
         &mut port,
         progress,
-    )
+    );
+    release_pins(&mut port);
+    ended
 }
 
 /// The device of this name, opened.

@@ -1,76 +1,164 @@
 //! A script on a device.
 
-ghost use Rattle.std.specs.Prelude.{◌≡◌, ◌<◌, ◌-◌, ◌^◌, [], None, false, length, MatchResult};
+ghost use Rattle.std.specs.Prelude.{◌≡◌, ◌≤◌, ◌<◌, ◌+◌, ◌-◌, ◌*◌, ◌^◌, [], None, false, length, All, MatchResult};
 ghost use Rattle.nor_base.specs.Chip.{chip_of};
 ghost use Rattle.nor_base.specs.Run.{trail};
+ghost use Rattle.nor_base.specs.Sample.{sampled_count};
+ghost use Rattle.nor_base.specs.Step.{step_clocks};
 ghost use Rattle.nor_chip.specs.Ready.{ready_chip};
 ghost use Rattle.norprog_play.specs.Early.{GoesWellInMemory};
 ghost use Rattle.norprog_play.specs.Moment.{moment};
-ghost use Rattle.norprog_play.specs.Ending.{EndsSo};
+ghost use Rattle.norprog_play.specs.Ending.{EndsComparing, EndsSo, MayBegin, SaysBlank, failure_by};
+ghost use Rattle.norprog_play.specs.Expected.{expectation_of};
+ghost use Rattle.norprog_play.specs.Marks.{IsMarked};
 
-use crate::ending::Ending;
-use crate::follow::follow_steps;
-use crate::likeness::begin;
+use crate::asked::begin;
+use crate::edges::first_held;
+use crate::ending::{Ending, Failure};
+use crate::expected::Expected;
+use crate::follow::{Halt, follow_steps};
+use crate::likeness::compare_unless_trusted;
 use crate::step::widest;
-use crate::touched::touched_cells;
+use crate::touched::compared_cells;
 use crate::within::carried;
-use nor_base::{ByteOut, Meaning, Start, Step};
-use nor_serprog::{Reason, Shadowed};
+use nor_base::{ByteOut, Meaning, Step};
+use nor_probe::Mismatch;
+use nor_serprog::Shadowed;
 use std::alloc::{AllocError, Global};
 use std::io::{Read, Write};
 
 /// Plays steps on a device, after its handshake, beside a ready chip in memory that is never busy, on which they go well in so
-/// many transactions ([`ends_early`](crate::ends_early) tells).
+/// many transactions ([`ends_early`](crate::ends_early) says).
 ///
 /// First each is looked at: `Failed` for `Carried` with the first whose clocks are no operation of the device. Then, unless the
-/// chip behind the device is trusted to hold what the chip in memory does, the device reads each cell of 256 bytes of which some
-/// step erases or programs a byte: `Unlike` where a byte is another, or where the reading stops. It reads by 03h with the address
-/// bytes of the chip's first mode, so a chip in the other mode gives other bytes, and past 2^24 in three-byte mode by 13h. Then the
-/// device is asked for one step after the other: `Failed` with the first that it didn't do as the chip in memory did, and why.
-/// `Done` where it did all.
+/// chip behind the device is trusted, it is asked for its status until it is idle, at most as often as the port has turns, and its
+/// SFDP bytes are compared with those that it has to have: `Unlike` where it stays busy, where its status shows that it can't take
+/// the steps, or where a byte is another. Then the device reads each cell of 256 bytes of which some step erases or programs a byte, and
+/// those of the first and the last byte of the content that aren't FFh: `Unlike` where a byte is another, or where the reading
+/// stops. It reads by 03h with the address bytes of the chip's first mode, so a chip in the other mode gives other bytes, and past
+/// 2^24 in three-byte mode by 13h. Then the device is asked for one step after the other: `Failed` with the first that it didn't do
+/// as the chip in memory did, and why. Last, unless the chip is trusted, the same cells are read again, and compared with what the
+/// chip in memory holds then: `Failed` with the number of steps where a byte is another, or where the reading stops. `Done` where
+/// all that went well.
 ///
-/// How many steps are done is told to `progress` after each hundred and at the end; where that fails nothing changes.
+/// How many steps are done is written to `progress` after each hundred and at the end; where that fails nothing changes.
 ///
 /// Memory is taken for the marks of the cells and for the most bytes that a step samples. Where a growth is refused the device was
 /// asked for nothing.
 pub fn play_on_device<R: Read + Drop, W: Write + Drop, P: ByteOut>(
     alloc: Global,
     meaning: &Meaning,
-    start: Start,
+    expected: Expected<'_>,
     steps: &[Step],
     transactions: u128,
-    trusted: bool,
     port: &mut Shadowed<'_, R, W>,
     progress: &mut P,
 ) -> Result<Ending, AllocError>
     requires fresh { port.old.reason ≡ None }
     requires count { port.old.failed < 2 ^ 64 - 1 }
-    requires chip { port.old.chip ≡ ready_chip (chip_of meaning.now start [] false) port.old.chip.chip.array }
+    requires chip { port.old.chip ≡ ready_chip (chip_of meaning.now expected.start [] false) port.old.chip.chip.array }
     requires size { length port.old.chip.chip.array ≡ meaning.now.size }
     requires well { GoesWellInMemory port.old.chip steps.now }
     requires counted { transactions ≡ length (trail port.old.chip.setting port.old.chip.chip steps.now) }
     requires told { P.count progress.old < 2 ^ 64 - 1 }
     ensures ends { MatchResult result
-        (λ ending. EndsSo port.old.limits port.old.turns trusted meaning.now start
+        (λ ending. EndsSo port.old.limits port.old.turns (expectation_of expected.entry) meaning.now
         (moment port.old.chip (W.contents port.old.to.inner) (R.remaining port.old.from.inner))
         steps.now ending (moment port.new.chip (W.contents port.new.to.inner) (R.remaining port.new.from.inner)))
         (λ _. port.new ≡ port.old) }
+    ensures room { port.new.failed ≤ port.old.failed + 1 }
+    ensures limits { port.new.limits ≡ port.old.limits }
 {
     if let Err(step) = carried(steps, &port.limits) {
-        let why = Reason::Carried;
+        let why = Failure::Carried;
         return Ok(Ending::Failed { step, why });
     }
-    let mut room = vec![in alloc; 0u8; widest(steps)]?;
-    let cells = touched_cells(alloc, meaning, &start, steps)?;
     meaning.acceptance();
-    if let Err(why) = begin(port, meaning.begins4(&start), cells.as_slice(), trusted) {
-        return Ok(Ending::Unlike { why });
+    let mut room = vec![in alloc; 0u8; widest(steps)]?;
+    let cells = compared_cells(alloc, meaning, &expected.start, port.chip.content(), steps)?;
+    let room = room.as_mut_slice();
+    let mode4 = meaning.begins4(&expected.start);
+    let blank = says_blank(expected, port.chip.content());
+    Ok(play_compared(
+        meaning,
+        expected,
+        mode4,
+        cells.as_slice(),
+        steps,
+        transactions,
+        blank,
+        port,
+        room,
+        progress,
+    ))
+}
+
+/// Asks the chip behind the device, plays steps that go well in memory and that the device can do, and reads the chip again.
+fn play_compared<R: Read + Drop, W: Write + Drop, P: ByteOut>(
+    meaning: &Meaning,
+    expected: Expected<'_>,
+    mode4: bool,
+    cells: &[bool],
+    steps: &[Step],
+    transactions: u128,
+    blank: bool,
+    port: &mut Shadowed<'_, R, W>,
+    room: &mut [u8],
+    progress: &mut P,
+) -> Ending
+    requires fresh { port.old.reason ≡ None }
+    requires count { port.old.failed < 2 ^ 64 - 1 }
+    requires size { length port.old.chip.chip.array < 2 ^ 32 }
+    requires marked { length port.old.chip.chip.array ≡ 256 * length cells.now }
+    requires may { MayBegin port.old.limits (moment port.old.chip (W.contents port.old.to.inner) (R.remaining port.old.from.inner)) steps.now }
+    requires counted { transactions ≡ length (trail port.old.chip.setting port.old.chip.chip steps.now) }
+    requires blank { SaysBlank (expectation_of expected) port.old.chip.chip.array blank }
+    requires wide { All (λ step. sampled_count (step_clocks step) ≤ length room.old) steps.now }
+    requires told { P.count progress.old < 2 ^ 64 - 1 }
+    ensures ends { EndsComparing port.old.limits port.old.turns (expectation_of expected.entry) meaning.now mode4 (IsMarked cells.now)
+        (moment port.old.chip (W.contents port.old.to.inner) (R.remaining port.old.from.inner))
+        steps.now result (moment port.new.chip (W.contents port.new.to.inner) (R.remaining port.new.from.inner)) }
+    ensures room { port.new.failed ≤ port.old.failed + 1 }
+    ensures limits { port.new.limits ≡ port.old.limits }
+{
+    if let Err(why) = begin(port, expected, mode4, cells) {
+        return Ending::Unlike { why };
     }
-    match follow_steps(steps, port, room.as_mut_slice(), progress) {
-        Ok(()) => Ok(Ending::Done { transactions }),
-        Err(halt) => Ok(Ending::Failed {
-            step: halt.step,
-            why: halt.why,
-        }),
+    if let Err(halt) = follow_steps(meaning, steps, port, room, progress) {
+        let Halt { step, why } = halt;
+        return Ending::Failed { step, why };
+    }
+    match compare_unless_trusted(port, mode4, cells, expected.trusted) {
+        Ok(()) => Ending::Done {
+            transactions,
+            blank,
+        },
+        Err(why) => Ending::Failed {
+            step: steps.len() as u64,
+            why: failure_by(why),
+        },
+    }
+}
+
+/// Whether a content says nothing of which chip it is, and the chip isn't trusted.
+fn says_blank(expected: Expected<'_>, content: &[u8]) -> bool
+    ensures { SaysBlank (expectation_of expected.entry) content.now result }
+{
+    if expected.trusted {
+        return false;
+    }
+    match first_held(content) {
+        Some(_) => false,
+        None => true,
+    }
+}
+
+/// How a comparison that ended so is reported where it comes after the steps.
+fn failure_by(why: Mismatch) -> Failure
+    ensures { result ≡ failure_by why }
+{
+    match why {
+        Mismatch::Exchange(fault) => Failure::Exchange(fault),
+        Mismatch::Differs(difference) => Failure::Differs(difference),
     }
 }

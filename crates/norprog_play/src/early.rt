@@ -1,14 +1,14 @@
 //! What is known of a play before a device is asked.
 
-ghost use Rattle.std.specs.Prelude.{◌≡◌, ◌-◌, ◌^◌, length, IfOk};
+ghost use Rattle.std.specs.Prelude.{◌≡◌, ◌-◌, ◌^◌, false, length, IfOk};
 ghost use Rattle.nor_base.specs.Chip.{IsPossible};
 ghost use Rattle.norprog_play.specs.Early.{chip_with, EndsEarly};
 
-use crate::ending::Ending;
+use crate::ending::{Ending, Failure};
 use crate::rehearsal::{Rehearsal, rehearse};
 use crate::within::carried;
 use nor_base::{Meaning, Start, Step};
-use nor_serprog::{Limits, Reason};
+use nor_serprog::Limits;
 use std::alloc::{AllocError, Global};
 
 /// The most that a request has room for: no device can do more bytes in one operation.
@@ -18,10 +18,12 @@ const MOST: u32 = (1 << 24) - 1;
 pub(crate) fn widest() -> Limits
     ensures sent { result.sent ≡ 2 ^ 24 - 1 }
     ensures asked { result.asked ≡ 2 ^ 24 - 1 }
+    ensures pins { result.pins ≡ false }
 {
     Limits {
         sent: MOST,
         asked: MOST,
+        pins: false,
     }
 }
 
@@ -60,7 +62,7 @@ pub fn ends_early(
             Ok(()) => Ok(Early::Goes { transactions }),
             Err(step) => Ok(Early::Ends(Ending::Failed {
                 step,
-                why: Reason::Carried,
+                why: Failure::Carried,
             })),
         },
     }

@@ -2,7 +2,8 @@
 
 use nor_base::Wrong;
 use nor_check::Why;
-use nor_serprog::{Fault, Reason};
+use nor_probe::{Difference, Mismatch};
+use nor_serprog::Fault;
 
 /// How a script ends on a device.
 #[derive(Clone, Copy, PartialEq, Eq, Drop)]
@@ -11,6 +12,8 @@ pub enum Ending {
     Done {
         /// Transactions of the chip in memory, one for each step.
         transactions: u128,
+        /// The chip isn't trusted and its content is FFh alone, so what was compared says nothing of which chip it is.
+        blank: bool,
     },
     /// The chip in memory goes wrong: the device was asked for nothing.
     Wrong {
@@ -27,16 +30,53 @@ pub enum Ending {
         /// How it goes wrong there.
         why: Why,
     },
-    /// The chip behind the device isn't known to hold what the chip in memory does: no step was asked for.
+    /// The chip behind the device isn't known to be the one that is expected, idle and unprotected: no step was asked for.
     Unlike {
-        /// How the reading stopped: at `Differs` also by another byte.
-        why: Fault,
+        /// Why.
+        why: Unlike,
     },
     /// The device didn't do this step.
     Failed {
-        /// The step, counted from 0.
+        /// The step, counted from 0; the number of steps where the chip isn't known to hold what they leave.
         step: u64,
         /// Why: at `Carried` the device was asked for nothing.
-        why: Reason,
+        why: Failure,
+    },
+}
+
+/// Why a chip isn't known to be the one that is expected.
+#[derive(Clone, Copy, PartialEq, Eq, Drop)]
+pub enum Unlike {
+    /// It stays busy.
+    Busy,
+    /// An exchange ended early in which it was asked for its status.
+    Asking(Fault),
+    /// Its status, S7 to S0, shows that it can't take the steps.
+    Status(u32),
+    /// The three status registers of a W25Q256JV do, S23 to S0.
+    Registers(u32),
+    /// Its SFDP bytes are others, or their reading stopped.
+    Tables(Mismatch),
+    /// A byte that it holds is another, or the reading of these stopped.
+    Content(Mismatch),
+}
+
+/// Why a step isn't done.
+#[derive(Clone, Copy, PartialEq, Eq, Drop)]
+pub enum Failure {
+    /// Its exchange ended early.
+    Exchange(Fault),
+    /// The chip stays busy.
+    Busy,
+    /// It is no operation of the device.
+    Carried,
+    /// Of a step that reads the chip's bytes the first that is another.
+    Differs(Difference),
+    /// Of another step the first byte that is another.
+    Gives {
+        /// What came.
+        chip: u8,
+        /// What the chip in memory gave.
+        want: u8,
     },
 }

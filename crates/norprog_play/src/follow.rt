@@ -1,6 +1,6 @@
 //! Steps done by a device, beside a chip in memory.
 
-ghost use Rattle.std.specs.Prelude.{◌≡◌, ◌≤◌, ◌<◌, ◌-◌, ◌^◌, None, Ok, length, All, MatchResult, IfOk};
+ghost use Rattle.std.specs.Prelude.{◌≡◌, ◌≤◌, ◌<◌, ◌+◌, ◌-◌, ◌^◌, None, Ok, length, All, MatchResult, IfOk};
 ghost use Rattle.nor_base.specs.Chip.{Chip as ShownChip};
 ghost use Rattle.nor_base.specs.Run.{played};
 ghost use Rattle.nor_base.specs.Sample.{sampled_count};
@@ -8,23 +8,26 @@ ghost use Rattle.nor_base.specs.Step.{step_clocks};
 ghost use Rattle.norprog_play.specs.Carried.{AreCarried};
 ghost use Rattle.norprog_play.specs.Moment.{moment, Does, DoesAll, Stops, StopsAt, IsTaken};
 
+use crate::ending::Failure;
+use crate::failure::failure_of;
 use crate::progress::Progress;
-use nor_base::{ByteOut, PortFault, Step, sampled};
+use nor_base::{ByteOut, Meaning, PortFault, Step, sampled};
 use nor_chip::Port;
-use nor_serprog::{Reason, Shadowed};
+use nor_serprog::Shadowed;
 use std::io::{Read, Write};
 
 /// Why a device didn't go on, and at which step.
 #[derive(Clone, Copy, Drop)]
 pub(crate) struct Halt {
     pub(crate) step: u64,
-    pub(crate) why: Reason,
+    pub(crate) why: Failure,
 }
 
 /// Has the device do steps that go well on the chip in memory, none of which samples more bytes than there is room.
 ///
 /// How far it has come is told to `progress`; where that fails nothing changes.
 pub(crate) fn follow_steps<R: Read + Drop, W: Write + Drop, P: ByteOut>(
+    meaning: &Meaning,
     steps: &[Step],
     port: &mut Shadowed<'_, R, W>,
     room: &mut [u8],
@@ -37,16 +40,19 @@ pub(crate) fn follow_steps<R: Read + Drop, W: Write + Drop, P: ByteOut>(
     requires carried { AreCarried port.old.limits steps.now }
     requires told { P.count progress.old < 2 ^ 64 - 1 }
     ensures chip { IfOk result (λ _. played port.old.chip.setting 1 port.old.chip.chip steps.now ≡ Ok port.new.chip.chip) }
+    ensures count { IfOk result (λ _. port.new.failed ≡ port.old.failed) }
+    ensures room { port.new.failed ≤ port.old.failed + 1 }
+    ensures limits { port.new.limits ≡ port.old.limits }
     ensures done { MatchResult result
         (λ _. DoesAll port.old.limits port.old.turns (moment port.old.chip (W.contents port.old.to.inner) (R.remaining port.old.from.inner))
         steps.now (moment port.new.chip (W.contents port.new.to.inner) (R.remaining port.new.from.inner)))
-        (λ halt. StopsAt port.old.limits port.old.turns (moment port.old.chip (W.contents port.old.to.inner) (R.remaining port.old.from.inner))
+        (λ halt. StopsAt meaning.now port.old.limits port.old.turns (moment port.old.chip (W.contents port.old.to.inner) (R.remaining port.old.from.inner))
         steps.now halt.step halt.why (moment port.new.chip (W.contents port.new.to.inner) (R.remaining port.new.from.inner))) }
 {
     let mut far = Progress::of(steps);
     let mut number: u64 = 0;
     for step in steps {
-        if let Err(why) = follow_step(step, port, room) {
+        if let Err(why) = follow_step(meaning, step, port, room) {
             far.end(progress);
             return Err(Halt { step: number, why });
         }
@@ -59,10 +65,11 @@ pub(crate) fn follow_steps<R: Read + Drop, W: Write + Drop, P: ByteOut>(
 
 /// Has the device do a step that the chip in memory takes.
 fn follow_step<R: Read + Drop, W: Write + Drop>(
+    meaning: &Meaning,
     step: &Step,
     port: &mut Shadowed<'_, R, W>,
     room: &mut [u8],
-) -> Result<(), Reason>
+) -> Result<(), Failure>
     requires fresh { port.old.reason ≡ None }
     requires count { port.old.failed < 2 ^ 64 - 1 }
     requires wide { sampled_count (step_clocks step.now) ≤ length room.old }
@@ -70,8 +77,9 @@ fn follow_step<R: Read + Drop, W: Write + Drop>(
     ensures done { MatchResult result
         (λ _. Does port.old.limits port.old.turns (moment port.old.chip (W.contents port.old.to.inner) (R.remaining port.old.from.inner))
         (step_clocks step.now) (moment port.new.chip (W.contents port.new.to.inner) (R.remaining port.new.from.inner)))
-        (λ why. Stops port.old.limits port.old.turns (moment port.old.chip (W.contents port.old.to.inner) (R.remaining port.old.from.inner))
-        (step_clocks step.now) why (moment port.new.chip (W.contents port.new.to.inner) (R.remaining port.new.from.inner))) }
+        (λ failed. Stops meaning.now port.old.limits port.old.turns (moment port.old.chip (W.contents port.old.to.inner) (R.remaining port.old.from.inner))
+        (step_clocks step.now) failed (moment port.new.chip (W.contents port.new.to.inner) (R.remaining port.new.from.inner))) }
+    ensures room_left { port.new.failed ≤ port.old.failed + 1 }
     ensures fresh { IfOk result (λ _. port.new.reason ≡ None) }
     ensures count { IfOk result (λ _. port.new.failed ≡ port.old.failed) }
     ensures limits { port.new.limits ≡ port.old.limits }
@@ -79,12 +87,13 @@ fn follow_step<R: Read + Drop, W: Write + Drop>(
     ensures room { length room.new ≡ length room.old }
 {
     let clocks = step.clocks();
-    match port.transact(clocks, &mut room[..sampled(clocks)]) {
+    let given = &mut room[..sampled(clocks)];
+    match port.transact(clocks, given) {
         Ok(()) => Ok(()),
         Err(PortFault::Wrong(_)) => unreachable!("the chip in memory takes the step"),
         Err(PortFault::Failed) => match port.reason {
-            Some(why) => Err(why),
-            None => unreachable!("a port that failed tells why"),
+            Some(why) => Err(failure_of(meaning, clocks, given, why)),
+            None => unreachable!("a port that failed says why"),
         },
     }
 }

@@ -1,80 +1,103 @@
 //! A script on a device, from its handshake on.
 
-ghost use Rattle.std.specs.Prelude.{◌≡◌, ◌<◌, ◌-◌, ◌^◌, [], None, Ok, Err, false, length, IfOk, MatchResult};
+ghost use Rattle.std.specs.Prelude.{◌≡◌, ◌<◌, ◌≤◌, ◌+◌, ◌-◌, ◌^◌, [], None, Ok, Err, false, length, IfOk, MatchResult};
 ghost use Rattle.nor_base.specs.Chip.{chip_of};
 ghost use Rattle.nor_base.specs.Device.{ahead_of};
 ghost use Rattle.nor_base.specs.Run.{trail};
 ghost use Rattle.nor_chip.specs.Ready.{ready_chip};
 ghost use Rattle.nor_serprog.specs.Greeting.{Greeted};
+ghost use Rattle.nor_serprog.specs.Line.{TestsLine};
 ghost use Rattle.norprog_play.specs.Early.{GoesWellInMemory};
+ghost use Rattle.norprog_play.specs.Expected.{expectation_of};
 ghost use Rattle.norprog_play.specs.Moment.{moment};
-ghost use Rattle.norprog_play.specs.Opened.{HasPlayed, StopsBefore};
+ghost use Rattle.norprog_play.specs.Opened.{FailsTest, HasPlayed, Opens, Releases, StopsBefore};
 
 use crate::device::play_on_device;
 use crate::ending::Ending;
-use crate::unplayed::Unplayed;
-use nor_base::{ByteOut, Meaning, Start, Step};
-use nor_serprog::{GreetFault, Shadowed, greet};
+use crate::expected::Expected;
+use crate::unplayed::{DeviceFault, Unplayed};
+use nor_base::{ByteOut, Meaning, Step};
+use nor_serprog::{Shadowed, greet, release, test_line};
 use std::alloc::Global;
 use std::io::{Read, Write};
 
 /// Begins with a device, and plays steps on it that go well on the chip in memory in so many transactions, as [`play_on_device`]
 /// does, by the limits that the device tells.
 ///
-/// `Device` where the handshake ends early, and why: no operation was asked for, and the port isn't to be used any more. `Refused`
-/// for `Memory` where a growth is refused: then nothing but the handshake was done.
+/// `Device` where the handshake or the test of the line ends early, and why: nothing was sent to the chip but what it ignores, and the
+/// port isn't to be used any more. `Refused` for `Memory` where a growth is refused: then nothing else was done.
 pub fn greet_and_play<R: Read + Drop, W: Write + Drop, P: ByteOut>(
     alloc: Global,
     meaning: &Meaning,
-    start: Start,
+    expected: Expected<'_>,
     steps: &[Step],
     transactions: u128,
-    trusted: bool,
     port: &mut Shadowed<'_, R, W>,
     progress: &mut P,
 ) -> Result<Ending, Unplayed>
     requires fresh { port.old.reason ≡ None }
     requires count { port.old.failed < 2 ^ 64 - 1 }
-    requires chip { port.old.chip ≡ ready_chip (chip_of meaning.now start [] false) port.old.chip.chip.array }
+    requires chip { port.old.chip ≡ ready_chip (chip_of meaning.now expected.start [] false) port.old.chip.chip.array }
     requires size { length port.old.chip.chip.array ≡ meaning.now.size }
     requires well { GoesWellInMemory port.old.chip steps.now }
     requires counted { transactions ≡ length (trail port.old.chip.setting port.old.chip.chip steps.now) }
     requires told { P.count progress.old < 2 ^ 64 - 1 }
     ensures ends { MatchResult result
-        (λ ending. HasPlayed port.old.turns trusted meaning.now start
+        (λ ending. HasPlayed port.new.limits port.old.turns (expectation_of expected.entry) meaning.now
         (moment port.old.chip (W.contents port.old.to.inner) (R.remaining port.old.from.inner))
         steps.now ending (moment port.new.chip (W.contents port.new.to.inner) (R.remaining port.new.from.inner)))
         (λ why. StopsBefore (moment port.old.chip (W.contents port.old.to.inner) (R.remaining port.old.from.inner))
         (moment port.new.chip (W.contents port.new.to.inner) (R.remaining port.new.from.inner)) why) }
+    ensures room { port.new.failed ≤ port.old.failed + 1 }
 {
-    greet_port(port)?;
+    greet_and_test(port)?;
     let ending = play_on_device(
         alloc,
         meaning,
-        start,
+        expected,
         steps,
         transactions,
-        trusted,
         port,
         progress,
     )?;
     Ok(ending)
 }
 
-/// Begins with the device of a port, whose limits are then those that it tells.
-fn greet_port<R: Read + Drop, W: Write + Drop>(
+/// Begins with the device of a port, whose limits are then those that it reports, and tests the line to it.
+fn greet_and_test<R: Read + Drop, W: Write + Drop>(
     port: &mut Shadowed<'_, R, W>,
-) -> Result<(), GreetFault>
+) -> Result<(), DeviceFault>
     requires count { port.old.failed < 2 ^ 64 - 1 }
-    ensures greeted { MatchResult result
-        (λ _. Greeted (W.contents port.old.to.inner) (W.contents port.new.to.inner) (ahead_of (R.remaining port.old.from.inner))
+    ensures opened { MatchResult result
+        (λ _. Opens (W.contents port.old.to.inner) (W.contents port.new.to.inner) (ahead_of (R.remaining port.old.from.inner))
         (ahead_of (R.remaining port.new.from.inner)) (Ok port.new.limits))
-        (λ why. Greeted (W.contents port.old.to.inner) (W.contents port.new.to.inner) (ahead_of (R.remaining port.old.from.inner))
+        (λ why. Opens (W.contents port.old.to.inner) (W.contents port.new.to.inner) (ahead_of (R.remaining port.old.from.inner))
         (ahead_of (R.remaining port.new.from.inner)) (Err why)) }
     ensures chip { port.new.chip ≡ port.old.chip }
     ensures turns { port.new.turns ≡ port.old.turns }
     ensures fresh { port.new.reason ≡ port.old.reason }
     ensures count { IfOk result (λ _. port.new.failed ≡ port.old.failed) }
+    ensures room { port.new.failed ≤ port.old.failed + 1 }
+{
+    greet_port(port)?;
+    test_port(port)
+}
+
+/// Begins with the device of a port, whose limits are then those that it reports.
+fn greet_port<R: Read + Drop, W: Write + Drop>(
+    port: &mut Shadowed<'_, R, W>,
+) -> Result<(), DeviceFault>
+    requires count { port.old.failed < 2 ^ 64 - 1 }
+    ensures greeted { MatchResult result
+        (λ _. Greeted (W.contents port.old.to.inner) (W.contents port.new.to.inner) (ahead_of (R.remaining port.old.from.inner))
+        (ahead_of (R.remaining port.new.from.inner)) (Ok port.new.limits))
+        (λ why. Opens (W.contents port.old.to.inner) (W.contents port.new.to.inner) (ahead_of (R.remaining port.old.from.inner))
+        (ahead_of (R.remaining port.new.from.inner)) (Err why)) }
+    ensures chip { port.new.chip ≡ port.old.chip }
+    ensures turns { port.new.turns ≡ port.old.turns }
+    ensures fresh { port.new.reason ≡ port.old.reason }
+    ensures count { IfOk result (λ _. port.new.failed ≡ port.old.failed) }
+    ensures room { port.new.failed ≤ port.old.failed + 1 }
 {
     match greet(&mut port.from, &mut port.to) {
         Ok(limits) => {
@@ -83,7 +106,47 @@ fn greet_port<R: Read + Drop, W: Write + Drop>(
         }
         Err(why) => {
             port.failed += 1;
-            Err(why)
+            Err(DeviceFault::Greet(why))
+        }
+    }
+}
+
+/// Tests the line to the device of a port.
+fn test_port<R: Read + Drop, W: Write + Drop>(
+    port: &mut Shadowed<'_, R, W>,
+) -> Result<(), DeviceFault>
+    requires count { port.old.failed < 2 ^ 64 - 1 }
+    ensures tested { MatchResult result
+        (λ _. TestsLine (W.contents port.old.to.inner) (W.contents port.new.to.inner) (ahead_of (R.remaining port.old.from.inner))
+        (ahead_of (R.remaining port.new.from.inner)) (Ok tt) port.old.limits)
+        (FailsTest (W.contents port.old.to.inner) (W.contents port.new.to.inner) (ahead_of (R.remaining port.old.from.inner))
+        (ahead_of (R.remaining port.new.from.inner)) port.old.limits) }
+    ensures chip { port.new.chip ≡ port.old.chip }
+    ensures turns { port.new.turns ≡ port.old.turns }
+    ensures fresh { port.new.reason ≡ port.old.reason }
+    ensures limits { port.new.limits ≡ port.old.limits }
+    ensures count { IfOk result (λ _. port.new.failed ≡ port.old.failed) }
+    ensures room { port.new.failed ≤ port.old.failed + 1 }
+{
+    match test_line(&mut port.from, &mut port.to, &port.limits) {
+        Ok(()) => Ok(()),
+        Err(why) => {
+            port.failed += 1;
+            Err(DeviceFault::Line(why))
+        }
+    }
+}
+
+/// Has the device of a port drive the pins of the chip no more, where it does; whatever it answers.
+pub(crate) fn release_pins<R: Read + Drop, W: Write + Drop>(port: &mut Shadowed<'_, R, W>)
+    requires count { port.old.failed < 2 ^ 64 - 1 }
+    ensures { Releases port.old.limits.pins
+        (moment port.old.chip (W.contents port.old.to.inner) (R.remaining port.old.from.inner))
+        (moment port.new.chip (W.contents port.new.to.inner) (R.remaining port.new.from.inner)) }
+{
+    if port.limits.pins {
+        if release(&mut port.from, &mut port.to).is_err() {
+            port.failed += 1;
         }
     }
 }

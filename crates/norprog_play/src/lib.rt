@@ -10,11 +10,15 @@
 //! what the chip in memory holds. [`write_ending`] tells how it ended.
 #![tactic(auto)]
 
+mod asked;
 mod command;
 mod content;
 mod device;
 mod early;
+mod edges;
 mod ending;
+mod expected;
+mod failure;
 mod follow;
 mod greeted;
 mod job;
@@ -33,12 +37,13 @@ mod within;
 pub use command::play;
 pub use device::play_on_device;
 pub use early::{Early, ends_early};
-pub use ending::Ending;
+pub use ending::{Ending, Failure, Unlike};
+pub use expected::{Expected, known_tables};
 pub use greeted::greet_and_play;
 pub use job::{Job, job_of};
 pub use line::write_ending;
 pub use norprog_common::PlayArgs;
 pub use rehearsal::{Rehearsal, rehearse};
 pub use request::{PlayRequest, request_of};
-pub use unplayed::Unplayed;
+pub use unplayed::{DeviceFault, Unplayed};
 pub use within::carried;

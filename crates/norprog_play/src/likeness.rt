@@ -1,33 +1,34 @@
 //! Whether the chip behind a device is like the chip in memory.
 
-ghost use Rattle.std.specs.Prelude.{◌≡◌, ◌<◌, ◌-◌, ◌*◌, ◌^◌, false, length, MatchResult, IfOk};
+ghost use Rattle.std.specs.Prelude.{◌≡◌, ◌<◌, ◌≤◌, ◌+◌, ◌-◌, ◌*◌, ◌^◌, false, length, MatchResult, IfOk};
 ghost use Rattle.norprog_play.specs.Marks.{IsMarked};
 ghost use Rattle.norprog_play.specs.Moment.{moment};
-ghost use Rattle.norprog_play.specs.Likeness.{Begins, IsLike, IsUnlike};
+ghost use Rattle.norprog_play.specs.Likeness.{Compares, IsLike, IsUnlike};
 
 use crate::content::compare;
-use nor_serprog::{Fault, Reason, Shadowed};
+use nor_probe::Mismatch;
+use nor_serprog::{Reason, Shadowed};
 use std::io::{Read, Write};
 
-/// What comes before the steps: unless the chip behind the device is trusted, the marked cells of it are compared with the chip in
-/// memory.
-pub(crate) fn begin<R: Read + Drop, W: Write + Drop>(
+/// Compares the marked cells of the chip behind the device with the chip in memory, unless it is trusted.
+pub(crate) fn compare_unless_trusted<R: Read + Drop, W: Write + Drop>(
     port: &mut Shadowed<'_, R, W>,
     mode4: bool,
     marks: &[bool],
     trusted: bool,
-) -> Result<(), Fault>
+) -> Result<(), Mismatch>
     requires size { length port.old.chip.chip.array < 2 ^ 32 }
     requires cells { length port.old.chip.chip.array ≡ 256 * length marks.now }
     requires count { port.old.failed < 2 ^ 64 - 1 }
-    ensures begins { MatchResult result
-        (λ _. Begins trusted mode4 (IsMarked marks.now) (moment port.old.chip (W.contents port.old.to.inner) (R.remaining port.old.from.inner))
+    ensures compared { MatchResult result
+        (λ _. Compares trusted mode4 (IsMarked marks.now) (moment port.old.chip (W.contents port.old.to.inner) (R.remaining port.old.from.inner))
         (moment port.new.chip (W.contents port.new.to.inner) (R.remaining port.new.from.inner)))
         (λ why. (trusted ≡ false) × IsUnlike mode4 (IsMarked marks.now) (moment port.old.chip (W.contents port.old.to.inner) (R.remaining port.old.from.inner))
         (moment port.new.chip (W.contents port.new.to.inner) (R.remaining port.new.from.inner)) why) }
     ensures chip { port.new.chip ≡ port.old.chip }
     ensures fresh { IfOk result (λ _. port.new.reason ≡ port.old.reason) }
     ensures count { IfOk result (λ _. port.new.failed ≡ port.old.failed) }
+    ensures room { port.new.failed ≤ port.old.failed + 1 }
     ensures limits { port.new.limits ≡ port.old.limits }
     ensures turns { port.new.turns ≡ port.old.turns }
 {
@@ -38,11 +39,11 @@ pub(crate) fn begin<R: Read + Drop, W: Write + Drop>(
 }
 
 /// Has the device read the marked cells of its chip, and compares them with the chip in memory. A port where that stops has failed.
-fn compare_chip<R: Read + Drop, W: Write + Drop>(
+pub(crate) fn compare_chip<R: Read + Drop, W: Write + Drop>(
     port: &mut Shadowed<'_, R, W>,
     mode4: bool,
     marks: &[bool],
-) -> Result<(), Fault>
+) -> Result<(), Mismatch>
     requires size { length port.old.chip.chip.array < 2 ^ 32 }
     requires cells { length port.old.chip.chip.array ≡ 256 * length marks.now }
     requires count { port.old.failed < 2 ^ 64 - 1 }
@@ -54,6 +55,7 @@ fn compare_chip<R: Read + Drop, W: Write + Drop>(
     ensures chip { port.new.chip ≡ port.old.chip }
     ensures fresh { IfOk result (λ _. port.new.reason ≡ port.old.reason) }
     ensures count { IfOk result (λ _. port.new.failed ≡ port.old.failed) }
+    ensures room { port.new.failed ≤ port.old.failed + 1 }
     ensures limits { port.new.limits ≡ port.old.limits }
     ensures turns { port.new.turns ≡ port.old.turns }
 {
@@ -68,7 +70,18 @@ fn compare_chip<R: Read + Drop, W: Write + Drop>(
     );
     if let Err(why) = compared {
         port.failed += 1;
-        port.reason = Some(Reason::Exchange(why));
+        port.reason = Some(reason_of(why));
     }
     compared
+}
+
+/// Why a port has failed in which a comparison ended so.
+pub(crate) fn reason_of(why: Mismatch) -> Reason {
+    match why {
+        Mismatch::Exchange(fault) => Reason::Exchange(fault),
+        Mismatch::Differs(difference) => Reason::Differs {
+            place: difference.address,
+            byte: difference.chip,
+        },
+    }
 }

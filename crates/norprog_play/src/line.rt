@@ -2,20 +2,23 @@
 
 ghost use Rattle.std.specs.Prelude.{◌≡◌, ◌<◌, ◌-◌, ◌^◌};
 ghost use Rattle.nor_base.specs.Device.{Writes, Counts};
-ghost use Rattle.norprog_play.specs.Line.{ending_line, wrong_line, failed_line, fault_word};
+ghost use Rattle.norprog_play.specs.declared.ending.Failure.TheVariants.{Differs, Gives};
+ghost use Rattle.norprog_play.specs.Line.{done_line, ending_line, failed_line, failure_line, fault_word, exchange_line, mismatch_line, other_line, registers_line, status_line, unlike_line, wrong_line};
 
-use crate::ending::Ending;
+use crate::ending::{Ending, Failure, Unlike};
 use itoa::Buffer;
-use nor_base::{ByteOut, Failed, Wrong, put_parts};
+use nor_base::{ByteOut, Failed, Wrong, put_all, put_parts};
 use nor_check::Verdict;
-use nor_serprog::{Fault, Reason};
+use nor_probe::{Difference, Mismatch};
+use nor_script::{hex_number, hex_pair};
+use nor_serprog::Fault;
 use norprog_check::write_verdict;
 use norprog_common::wrong_number;
 
-/// Writes the line of an ending, closed by LF, with numbers in decimal: `ok N` with the number of transactions; `wrong N at K`
-/// with the wrong's number and the step; a check's line, `no at K` and why; `failed at K WHY`, where WHY is `read`, `write`,
-/// `silent`, `nak`, `differs` or `carried`; `unlike WHY`, with one of the first five of these. A device that stays busy is told as
-/// the wrong of a poll that never ends, 6. It takes no memory.
+/// Writes the line of an ending, closed by LF, with counts in decimal, addresses in eight and bytes in two lower-case hexadecimal
+/// digits: `ok N` with the number of transactions; `wrong N at K` with the wrong's number and the step; a check's line, `no at K` and
+/// why; `unlike WHY`; `failed at K WHY` (docs/FORMATS.md, section 14). A device that stays busy in a step is the wrong of a poll that
+/// never ends, 6. It takes no memory.
 ///
 /// At `Failed` a proper prefix was taken; it comes from the writer alone, whose count of failures rose by one.
 pub fn write_ending<W: ByteOut>(ending: &Ending, writer: &mut W) -> Result<(), Failed>
@@ -24,29 +27,188 @@ pub fn write_ending<W: ByteOut>(ending: &Ending, writer: &mut W) -> Result<(), F
     ensures count { Counts (W.count writer.old) (W.count writer.new) result }
 {
     match *ending {
-        Ending::Done { transactions } => {
-            let mut count = Buffer::new();
-            put_parts(
-                writer,
-                &[b"ok ", count.format(transactions).as_bytes(), b"\n"],
-            )
-        }
+        Ending::Done {
+            transactions,
+            blank,
+        } => write_done(transactions, blank, writer),
         Ending::Wrong { step, why } => write_wrong(wrong_number(why), step, writer),
         Ending::No { step, why } => write_verdict(&Verdict::No { step, why }, writer),
-        Ending::Unlike { why } => put_parts(writer, &[b"unlike ", word(why), b"\n"]),
-        Ending::Failed {
-            step,
-            why: Reason::Busy,
-        } => write_wrong(wrong_number(Wrong::PollNever), step, writer),
-        Ending::Failed {
-            step,
-            why: Reason::Carried,
-        } => write_failed(step, b"carried", writer),
-        Ending::Failed {
-            step,
-            why: Reason::Exchange(fault),
-        } => write_failed(step, word(fault), writer),
+        Ending::Unlike { why } => write_unlike(why, writer),
+        Ending::Failed { step, why } => write_failure(step, why, writer),
     }
+}
+
+/// Writes `ok N`, and `blank` on a line before it where the content says nothing of which chip it is.
+fn write_done<W: ByteOut>(transactions: u128, blank: bool, writer: &mut W) -> Result<(), Failed>
+    requires { W.count writer.old < 2 ^ 64 - 1 }
+    ensures bytes { Writes (W.held writer.old) (W.held writer.new) result (done_line transactions blank) }
+    ensures count { Counts (W.count writer.old) (W.count writer.new) result }
+{
+    let mut count = Buffer::new();
+    let digits = count.format(transactions).as_bytes();
+    if blank {
+        put_parts(writer, &[b"blank\nok ", digits, b"\n"])
+    } else {
+        put_parts(writer, &[b"ok ", digits, b"\n"])
+    }
+}
+
+/// Writes `unlike WHY`: `busy`, `status` and the status, `tables` or `differs` and the first byte that is another, or the word of an
+/// exchange.
+fn write_unlike<W: ByteOut>(why: Unlike, writer: &mut W) -> Result<(), Failed>
+    requires { W.count writer.old < 2 ^ 64 - 1 }
+    ensures bytes { Writes (W.held writer.old) (W.held writer.new) result (unlike_line why) }
+    ensures count { Counts (W.count writer.old) (W.count writer.new) result }
+{
+    match why {
+        Unlike::Busy => put_all(writer, b"unlike busy\n"),
+        Unlike::Asking(fault) => write_exchange(fault, writer),
+        Unlike::Status(status) => write_status(status, writer),
+        Unlike::Registers(status) => write_registers(status, writer),
+        Unlike::Tables(why) => write_mismatch(b"unlike tables at ", b" file ", why, writer),
+        Unlike::Content(why) => write_mismatch(b"unlike differs at ", b" dump ", why, writer),
+    }
+}
+
+/// Writes `unlike` and the word of an exchange.
+fn write_exchange<W: ByteOut>(fault: Fault, writer: &mut W) -> Result<(), Failed>
+    requires { W.count writer.old < 2 ^ 64 - 1 }
+    ensures bytes { Writes (W.held writer.old) (W.held writer.new) result (exchange_line fault) }
+    ensures count { Counts (W.count writer.old) (W.count writer.new) result }
+{
+    put_parts(writer, &[b"unlike ", word(fault), b"\n"])
+}
+
+/// Writes `unlike status` and S7 to S0.
+fn write_status<W: ByteOut>(status: u32, writer: &mut W) -> Result<(), Failed>
+    requires { W.count writer.old < 2 ^ 64 - 1 }
+    ensures bytes { Writes (W.held writer.old) (W.held writer.new) result (status_line status) }
+    ensures count { Counts (W.count writer.old) (W.count writer.new) result }
+{
+    let low = (status % 256) as u8;
+    put_parts(writer, &[b"unlike status ", &hex_pair(low), b"\n"])
+}
+
+/// Writes `unlike status` and S23 to S0.
+fn write_registers<W: ByteOut>(status: u32, writer: &mut W) -> Result<(), Failed>
+    requires { W.count writer.old < 2 ^ 64 - 1 }
+    ensures bytes { Writes (W.held writer.old) (W.held writer.new) result (registers_line status) }
+    ensures count { Counts (W.count writer.old) (W.count writer.new) result }
+{
+    let high = (status / 65536 % 256) as u8;
+    let middle = (status / 256 % 256) as u8;
+    let low = (status % 256) as u8;
+    put_parts(
+        writer,
+        &[
+            b"unlike status ",
+            &hex_pair(high),
+            &hex_pair(middle),
+            &hex_pair(low),
+            b"\n",
+        ],
+    )
+}
+
+/// Writes the first byte that is another, behind and between these texts, or `unlike` and the word of an exchange.
+fn write_mismatch<W: ByteOut>(
+    front: &[u8],
+    last: &[u8],
+    why: Mismatch,
+    writer: &mut W,
+) -> Result<(), Failed>
+    requires { W.count writer.old < 2 ^ 64 - 1 }
+    ensures bytes { Writes (W.held writer.old) (W.held writer.new) result (mismatch_line front.now last.now why) }
+    ensures count { Counts (W.count writer.old) (W.count writer.new) result }
+{
+    match why {
+        Mismatch::Exchange(fault) => write_exchange(fault, writer),
+        Mismatch::Differs(d) => write_difference(front, last, d, writer),
+    }
+}
+
+/// Writes the first byte that is another, behind and between these texts.
+fn write_difference<W: ByteOut>(
+    front: &[u8],
+    last: &[u8],
+    d: Difference,
+    writer: &mut W,
+) -> Result<(), Failed>
+    requires { W.count writer.old < 2 ^ 64 - 1 }
+    ensures bytes { Writes (W.held writer.old) (W.held writer.new) result (other_line front.now last.now d) }
+    ensures count { Counts (W.count writer.old) (W.count writer.new) result }
+{
+    put_parts(
+        writer,
+        &[
+            front,
+            &hex_number(d.address),
+            b" chip ",
+            &hex_pair(d.chip),
+            last,
+            &hex_pair(d.want),
+            b"\n",
+        ],
+    )
+}
+
+/// Writes why a step isn't done.
+fn write_failure<W: ByteOut>(step: u64, why: Failure, writer: &mut W) -> Result<(), Failed>
+    requires { W.count writer.old < 2 ^ 64 - 1 }
+    ensures bytes { Writes (W.held writer.old) (W.held writer.new) result (failure_line step why) }
+    ensures count { Counts (W.count writer.old) (W.count writer.new) result }
+{
+    match why {
+        Failure::Exchange(fault) => write_failed(step, word(fault), writer),
+        Failure::Busy => write_wrong(wrong_number(Wrong::PollNever), step, writer),
+        Failure::Carried => write_failed(step, b"carried", writer),
+        Failure::Differs(d) => write_other(step, d, writer),
+        Failure::Gives { chip, want } => write_gives(step, chip, want, writer),
+    }
+}
+
+/// Writes `failed at K differs at AAAAAAAA chip HH want HH`.
+fn write_other<W: ByteOut>(step: u64, d: Difference, writer: &mut W) -> Result<(), Failed>
+    requires { W.count writer.old < 2 ^ 64 - 1 }
+    ensures bytes { Writes (W.held writer.old) (W.held writer.new) result (failure_line step (Differs d)) }
+    ensures count { Counts (W.count writer.old) (W.count writer.new) result }
+{
+    let mut place = Buffer::new();
+    put_parts(
+        writer,
+        &[
+            b"failed at ",
+            place.format(step).as_bytes(),
+            b" differs at ",
+            &hex_number(d.address),
+            b" chip ",
+            &hex_pair(d.chip),
+            b" want ",
+            &hex_pair(d.want),
+            b"\n",
+        ],
+    )
+}
+
+/// Writes `failed at K differs chip HH want HH`.
+fn write_gives<W: ByteOut>(step: u64, chip: u8, want: u8, writer: &mut W) -> Result<(), Failed>
+    requires { W.count writer.old < 2 ^ 64 - 1 }
+    ensures bytes { Writes (W.held writer.old) (W.held writer.new) result (failure_line step (Gives chip want)) }
+    ensures count { Counts (W.count writer.old) (W.count writer.new) result }
+{
+    let mut place = Buffer::new();
+    put_parts(
+        writer,
+        &[
+            b"failed at ",
+            place.format(step).as_bytes(),
+            b" differs chip ",
+            &hex_pair(chip),
+            b" want ",
+            &hex_pair(want),
+            b"\n",
+        ],
+    )
 }
 
 /// Writes `wrong N at K`.

@@ -1,43 +1,89 @@
 //! What is told beside an ending, its status, and what is told of a handshake that ended early.
 
-ghost use Rattle.std.specs.Prelude.{◌≡◌, ◌<◌, ◌-◌, ◌^◌};
+ghost use Rattle.std.specs.Prelude.{◌≡◌, ◌≤◌, ◌<◌, ◌-◌, ◌^◌, false, IfOk, IfErr};
 ghost use Rattle.std.specs.Io.KnownBytes.{Appends};
 ghost use Rattle.nor_base.specs.Device.{Writes, Counts};
-ghost use Rattle.norprog_play.specs.Answer.{TellsState};
-ghost use Rattle.norprog_play.specs.State.{is_partial, status_of, greet_word, device_line};
+ghost use Rattle.nor_job.specs.declared.fault.BuildFault.TheVariants.{Write};
+ghost use Rattle.norprog_common.specs.declared.faults.Refusal.TheVariants.{Build};
+ghost use Rattle.norprog_common.specs.Lines.{printed};
+ghost use Rattle.norprog_play.specs.State.{is_partial, is_sent, state_told, status_of, device_word, device_line, ReportsEnding};
 
-use crate::ending::Ending;
-use crate::line::word;
+use crate::ending::{Ending, Failure};
+use crate::line::{word, write_ending};
+use crate::unplayed::DeviceFault;
 use nor_base::{ByteOut, Failed, put_all, put_parts};
-use nor_serprog::{GreetFault, Reason};
+use nor_serprog::{Fault, GreetFault};
+use norprog_common::{Refusal, refuse};
 
-/// What is told where the chip may hold a part of what the steps do.
+/// What is written where the chip may hold a part of what the steps do.
 const STATE: &[u8] =
-    b"norprog: the chip may hold a part of the work: read it again, and build from that dump what it is to hold\n";
+    b"norprog: the chip is half done. Don't build the old HEX again: what must be on the chip is what \
+    `norprog run --out want.bin` of this script leaves. See: norprog explain the chip may hold\n";
 
-/// Tells beside an ending that the chip may hold a part of the work, where that is so, and answers the status: 0 where all was
-/// done, else 1. Where `err` fails a part of the text is lost, and nothing more is told.
-pub(crate) fn tell_state<E: ByteOut>(ending: &Ending, err: &mut E) -> u8
-    requires { E.count err.old < 2 ^ 64 - 1 }
-    ensures status { result ≡ status_of ending.now }
-    ensures told { TellsState (is_partial ending.now) (err.new ≡ err.old) (E.count err.new ≡ E.count err.old)
-        (E.held err.old) (E.held err.new) }
+/// Writes to `err` what to do with a chip that may hold a part of the work, where that is so, and then the line of an ending to
+/// `out`, or to `err` that it can't be written. Returns the status: 0 where all was done and printed, else 1. Where `err` fails a
+/// part of its text is lost, and nothing more is written there.
+pub(crate) fn report_ending<O: ByteOut, E: ByteOut>(ending: &Ending, out: &mut O, err: &mut E) -> u8
+    requires out { O.count out.old < 2 ^ 64 - 1 }
+    requires err { E.count err.old < 2 ^ 64 - 1 }
+    ensures reported { ReportsEnding ending.now (O.held out.old) (O.held out.new) (err.new ≡ err.old)
+        (E.count err.new ≡ E.count err.old) (E.held err.old) (E.held err.new) result }
+    ensures status { result ≤ 1 }
     ensures quiet { result ≡ 0 → err.new ≡ err.old }
 {
-    if is_partial(ending) {
-        let _ = put_all(err, STATE);
+    let told = write_state(ending, err);
+    match write_ending(ending, out) {
+        Ok(()) => status_of(ending),
+        Err(_) => refuse_line(told, err),
     }
-    status_of(ending)
 }
 
-/// Whether steps were sent, and not all of them were done.
+/// Writes that the line of an ending can't be written, where what came before was. Returns the status, 1.
+fn refuse_line<E: ByteOut>(told: Result<(), Failed>, err: &mut E) -> u8
+    requires { IfOk told (λ _. E.count err.old < 2 ^ 64 - 1) }
+    ensures status { result ≡ 1 }
+    ensures told { IfOk told (λ _. E.count err.new ≡ E.count err.old → Appends (E.held err.old) (E.held err.new) (printed (Build Write))) }
+    ensures lost { IfErr told (λ _. err.new ≡ err.old) }
+{
+    match told {
+        Ok(()) => refuse(&Refusal::WRITE, err),
+        Err(_) => 1,
+    }
+}
+
+/// Writes what to do with a chip that may hold a part of the work, where that is so.
+fn write_state<E: ByteOut>(ending: &Ending, err: &mut E) -> Result<(), Failed>
+    requires { E.count err.old < 2 ^ 64 - 1 }
+    ensures bytes { Writes (E.held err.old) (E.held err.new) result (state_told ending.now) }
+    ensures count { Counts (E.count err.old) (E.count err.new) result }
+    ensures quiet { is_partial ending.now ≡ false → err.new ≡ err.old }
+{
+    if is_partial(ending) {
+        put_all(err, STATE)
+    } else {
+        Ok(())
+    }
+}
+
+/// Whether steps were sent, and not all of them are known to be done.
 fn is_partial(ending: &Ending) -> bool
     ensures { result ≡ is_partial ending.now }
 {
     match *ending {
-        Ending::Failed { why, step: _ } => why != Reason::Carried,
+        Ending::Failed { why, step: _ } => is_sent(why),
         Ending::Done { .. } | Ending::Wrong { .. } | Ending::No { .. } | Ending::Unlike { .. } =>
             false,
+    }
+}
+
+/// Whether a step that failed so was sent.
+fn is_sent(why: Failure) -> bool
+    ensures { result ≡ is_sent why }
+{
+    match why {
+        Failure::Carried => false,
+        Failure::Exchange(_) | Failure::Busy => true,
+        Failure::Differs(_) | Failure::Gives { .. } => true,
     }
 }
 
@@ -52,9 +98,9 @@ fn status_of(ending: &Ending) -> u8
     }
 }
 
-/// Tells how a handshake ended early, and answers the status, 1. Where `err` fails a part of the text is lost, and nothing more
-/// is told.
-pub(crate) fn refuse_device<E: ByteOut>(fault: GreetFault, err: &mut E) -> u8
+/// Writes why a device can't be used, and returns the status, 1. Where `err` fails a part of the text is lost, and nothing more is
+/// written.
+pub(crate) fn refuse_device<E: ByteOut>(fault: DeviceFault, err: &mut E) -> u8
     requires { E.count err.old < 2 ^ 64 - 1 }
     ensures status { result ≡ 1 }
     ensures told { E.count err.new ≡ E.count err.old → Appends (E.held err.old) (E.held err.new) (device_line fault) }
@@ -63,22 +109,25 @@ pub(crate) fn refuse_device<E: ByteOut>(fault: GreetFault, err: &mut E) -> u8
     1
 }
 
-/// Writes `norprog: device WHY`, where WHY is `read`, `write`, `silent`, `nak`, `differs`, `version` or `operation`.
-fn write_device<E: ByteOut>(fault: GreetFault, err: &mut E) -> Result<(), Failed>
+/// Writes `norprog: device WHY`, where WHY is `read`, `write`, `silent`, `nak`, `differs`, `version`, `operation` or `line`.
+fn write_device<E: ByteOut>(fault: DeviceFault, err: &mut E) -> Result<(), Failed>
     requires { E.count err.old < 2 ^ 64 - 1 }
     ensures bytes { Writes (E.held err.old) (E.held err.new) result (device_line fault) }
     ensures count { Counts (E.count err.old) (E.count err.new) result }
 {
-    put_parts(err, &[b"norprog: device ", greet_word(fault), b"\n"])
+    put_parts(err, &[b"norprog: device ", device_word(fault), b"\n"])
 }
 
-/// The word of a handshake that ended early.
-fn greet_word(fault: GreetFault) -> &'static [u8]
-    ensures { result.now ≡ greet_word fault }
+/// The word of a device that can't be used.
+fn device_word(fault: DeviceFault) -> &'static [u8]
+    ensures { result.now ≡ device_word fault }
 {
     match fault {
-        GreetFault::Command { why, at: _ } => word(why),
-        GreetFault::Version => b"version",
-        GreetFault::NoOperation => b"operation",
+        DeviceFault::Greet(GreetFault::Command { why, at: _ }) => word(why),
+        DeviceFault::Greet(GreetFault::Version) => b"version",
+        DeviceFault::Greet(GreetFault::NoOperation) => b"operation",
+        DeviceFault::Line(Fault::Read) => b"read",
+        DeviceFault::Line(Fault::Write) => b"write",
+        DeviceFault::Line(_) => b"line",
     }
 }

@@ -1,13 +1,15 @@
 //! Which cells of a chip hold a byte that steps touch.
 
-ghost use Rattle.std.specs.Prelude.{◌≡◌, ◌<◌, ◌+◌, ◌/◌, ◌^◌, IfOk, false, true, length};
+ghost use Rattle.std.specs.Prelude.{◌≡◌, ◌<◌, ◌≤◌, ◌⊎◌, ◌+◌, ◌/◌, ◌^◌, IfOk, false, true, length};
 ghost use Rattle.nor_base.specs.Chip.{begins4};
 ghost use Rattle.nor_base.specs.Effect.{is_program};
 ghost use Rattle.nor_base.specs.Spelling.{mode_after};
 ghost use Rattle.nor_chip.specs.Sent.{instruction_of, sent};
+ghost use Rattle.norprog_play.specs.Edges.{IsEdge};
 ghost use Rattle.norprog_play.specs.Marks.{MarkedBy, AreMarks};
 ghost use Rattle.norprog_play.specs.Touched.{LiesBetween, Changes, Programs, Touches, IsTouched, mode_past};
 
+use crate::edges::mark_edges;
 use nor_base::{Meaning, Start, Step, What};
 use nor_chip::program::place;
 use nor_decode::{Seen, decode};
@@ -17,21 +19,32 @@ use std::alloc::{AllocError, Global};
 pub(crate) const CELL: usize = 256;
 
 /// Of each cell of a chip whether it holds a byte that some step erases or programs, in the address mode that the steps before
-/// leave.
+/// leave, or the first or the last byte of its content that isn't FFh.
 ///
 /// Memory is taken for a mark of each cell.
-pub(crate) fn touched_cells(
+pub(crate) fn compared_cells(
     alloc: Global,
     meaning: &Meaning,
     start: &Start,
+    content: &[u8],
     steps: &[Step],
 ) -> Result<Vec<bool>, AllocError>
-    ensures { IfOk result (λ marks. AreMarks (IsTouched meaning.now (begins4 meaning.now start.now) steps.now)
+    requires { length content.now ≤ 2 ^ 32 }
+    ensures { IfOk result (λ marks. AreMarks (λ a. IsTouched meaning.now (begins4 meaning.now start.now) steps.now a ⊎ IsEdge content.now a)
         (meaning.now.size / 256) marks.items) }
 {
     let mut marks = vec![in alloc; false; meaning.size as usize / CELL]?;
-    mark_steps(&mut marks, meaning, meaning.begins4(start), steps);
+    mark_compared(&mut marks, meaning, meaning.begins4(start), content, steps);
     Ok(marks)
+}
+
+/// Marks the cells of the bytes that steps touch, from an address mode on, and of the first and the last that aren't FFh.
+fn mark_compared(marks: &mut [bool], meaning: &Meaning, mode4: bool, content: &[u8], steps: &[Step])
+    requires { length content.now ≤ 2 ^ 32 }
+    ensures { MarkedBy (λ a. IsTouched meaning.now mode4 steps.now a ⊎ IsEdge content.now a) marks.old marks.new }
+{
+    mark_steps(marks, meaning, mode4, steps);
+    mark_edges(marks, content);
 }
 
 /// Marks the cells of the bytes that steps touch, from an address mode on.
@@ -105,7 +118,7 @@ fn count_sent(seen: &Seen<'_>) -> usize
 }
 
 /// Marks the cells of the addresses from one to before another.
-fn mark(marks: &mut [bool], start: usize, end: usize)
+pub(crate) fn mark(marks: &mut [bool], start: usize, end: usize)
     requires { end < 2 ^ 40 }
     ensures { MarkedBy (LiesBetween start end) marks.old marks.new }
 {

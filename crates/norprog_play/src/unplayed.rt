@@ -5,7 +5,7 @@ ghost use Rattle.nor_job.specs.declared.fault.BuildFault.TheVariants.{Memory};
 ghost use Rattle.norprog_common.specs.declared.faults.Refusal.TheVariants.{Build};
 ghost use Rattle.norprog_play.specs.declared.unplayed.Unplayed.TheVariants as unplayed;
 
-use nor_serprog::GreetFault;
+use nor_serprog::{Fault, GreetFault};
 use norprog_common::Refusal;
 use std::alloc::AllocError;
 
@@ -14,8 +14,17 @@ use std::alloc::AllocError;
 pub enum Unplayed {
     /// As other commands are refused.
     Refused(Refusal),
-    /// The handshake with the device ended early.
-    Device(GreetFault),
+    /// The device can't be used.
+    Device(DeviceFault),
+}
+
+/// Why a device can't be used.
+#[derive(Clone, Copy, PartialEq, Eq, Drop)]
+pub enum DeviceFault {
+    /// The handshake with it ended early.
+    Greet(GreetFault),
+    /// The test of the line to it did.
+    Line(Fault),
 }
 
 impl From<Refusal> for Unplayed {
@@ -26,10 +35,10 @@ impl From<Refusal> for Unplayed {
     }
 }
 
-impl From<GreetFault> for Unplayed {
+impl From<DeviceFault> for Unplayed {
     ghost from_gives = { λ fault why. why ≡ unplayed.Device fault };
 
-    fn from(fault: GreetFault) -> Unplayed {
+    fn from(fault: DeviceFault) -> Unplayed {
         Unplayed::Device(fault)
     }
 }

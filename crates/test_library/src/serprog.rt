@@ -3,5 +3,8 @@
 mod canned;
 mod endings;
 mod greets;
+mod line;
 mod operations;
 mod plays;
+mod scripts;
+mod store;

@@ -10,9 +10,9 @@ pub(crate) const TOPICS: &[Topic] = &[
         "usage",
         "A value isn't of its form, or options don't go together: give exactly one of\n\
          --sfdp and --uniform, no --bits beside --uniform, numbers as digits alone,\n\
-         and six hexadecimal digits as --status. Look at the command's --help. Of\n\
-         explain: nothing is told of these words; alone it lists what can be asked,\n\
-         which are the words behind `norprog:`.",
+         and six hexadecimal digits as --status. Of draw also: the script lacks the\n\
+         step of --from. Look at the command's --help. Of explain: it has nothing on\n\
+         these words; without words it lists what can be asked.",
     ),
     (
         "file hex",

@@ -18,14 +18,15 @@ pub(crate) const TOPICS: &[Topic] = &[
          step, from 0, at which some chip goes wrong, and the number of the wrong (ask\n\
          for `wrong` and the number). `differs` tells an address whose byte isn't its\n\
          target at the end. Or image, regions, base or content aren't those it is for.\n\
-         Of `play` the target is what the steps leave on the chip in memory, and no step\n\
-         was sent.",
+         Of `play` the target is what the steps leave on the chip in memory, and no\n\
+         step was sent.",
     ),
     (
         "ok",
         "The script was played to its end and nothing went wrong; the number counts\n\
          the transactions, each turn of a poll too. With --out the file holds what the\n\
-         chip holds then.",
+         chip holds then. Of `play` each poll counts once, and without --trust what the\n\
+         steps touch was read back: the chip holds there what it must.",
     ),
     (
         "wrong 1",
@@ -57,8 +58,8 @@ pub(crate) const TOPICS: &[Topic] = &[
     (
         "wrong 6",
         "PollNever: one poll was busy for as many turns as --limit allows. Give a\n\
-         greater limit, or shorter busy times. On a device the chip may hold a part of\n\
-         the work: ask for `the chip may hold`.",
+         greater limit, or shorter busy times. On a device the chip is half done then:\n\
+         ask for `the chip`.",
     ),
     (
         "wrong 7",

@@ -6,6 +6,7 @@ use nor_base::{FromRead, IntoWrite};
 use nor_serprog::{Command, Fault, GreetFault, Limits, greet};
 use std::alloc::Global;
 use std::process::Abort;
+use std::test::Fail;
 
 /// What a device answers that offers 01h, 02h, 08h, 11h, 12h, 13h and 15h: at most 256 bytes out, and 2^24 in.
 const ANSWERS: &[u8; 48] = b"\x15\x06\
@@ -70,14 +71,19 @@ const CUT: GreetFault = GreetFault::Command {
 };
 
 /// Answers after some silence, what is put, and the limits.
-static GREETED: [(&[u8], u32, &[u8], Result<(u32, u32), GreetFault>); 4] = [
+static GREETED: [(&[u8], u32, &[u8], Result<(u32, u32, bool), GreetFault>); 4] = [
     (
         ANSWERS,
         0,
         b"\x10\x01\x02\x12\x08\x08\x11\x15\x01",
-        Ok((256, 0xFF_FFFF)),
+        Ok((256, 0xFF_FFFF, true)),
     ),
-    (BARE, 0, b"\x10\x01\x02\x12\x08", Ok((0xFF_FFFF, 0xFF_FFFF))),
+    (
+        BARE,
+        0,
+        b"\x10\x01\x02\x12\x08",
+        Ok((0xFF_FFFF, 0xFF_FFFF, false)),
+    ),
     (b"\x15\x06\x15\x06", 1, b"\x10\x10\x01", Err(CUT)),
     (b"\x00\x06\x15\x15\x06", 0, b"\x10\x01", Err(CUT)),
 ];
@@ -92,7 +98,7 @@ fn greets_devices(rt: HostRuntime) {
         };
         let (met, held) = greets(rt.alloc(), &row);
         holds(&rt, "what was put", held.as_slice() == *put);
-        let limits = met.map(|limits| (limits.sent, limits.asked));
+        let limits = met.map(|limits| (limits.sent, limits.asked, limits.pins));
         same(&rt, "the limits", limits, *want);
     }
 }
@@ -162,8 +168,8 @@ static OTHERS: [((usize, u8), GreetFault, usize); 3] = [
 fn devices_that_are_none(rt: HostRuntime) {
     let at = Command::SyncNop;
     for (answers, why, put) in [
-        (b"".as_slice(), Fault::Silent, 8),
-        (&[0x15; 5000], Fault::Differs, 1),
+        (b"".as_slice(), Fault::Silent, 2),
+        (&[0x15; 5000], Fault::Silent, 2),
     ] {
         let row = Row { answers, ..GOOD };
         stops(&rt, rt.alloc(), &row, GreetFault::Command { at, why }, put);
@@ -171,4 +177,31 @@ fn devices_that_are_none(rt: HostRuntime) {
     for (change, fault, put) in &OTHERS {
         stops_with(&rt, rt.alloc(), *change, *fault, *put);
     }
+}
+
+/// So many NAKs and then ACK: the last two of 65536 bytes may be the word, and none after them.
+static NOISE: [(usize, GreetFault, usize); 2] = [
+    (65535, CUT, 2),
+    (
+        65536,
+        GreetFault::Command {
+            at: Command::SyncNop,
+            why: Fault::Differs,
+        },
+        1,
+    ),
+];
+
+#[test]
+fn noise_comes_before_the_word(rt: HostRuntime) -> Result<(), Fail> {
+    for (noise, fault, put) in &NOISE {
+        let mut answers = vec![in rt.alloc(); 0x15u8; *noise]?;
+        answers.push(0x06)?;
+        let row = Row {
+            answers: answers.as_slice(),
+            ..GOOD
+        };
+        stops(&rt, rt.alloc(), &row, *fault, *put);
+    }
+    Ok(())
 }

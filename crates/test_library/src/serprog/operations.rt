@@ -8,7 +8,11 @@ use std::alloc::Global;
 use std::process::Abort;
 
 /// Ten bytes out and two in at most.
-const LIMITS: Limits = Limits { sent: 10, asked: 2 };
+const LIMITS: Limits = Limits {
+    sent: 10,
+    asked: 2,
+    pins: false,
+};
 
 /// Clocks, and whether they are one operation.
 static CLOCKS: [(&str, bool); 16] = [

@@ -70,13 +70,25 @@ impl<'a> Row<'a> {
 }
 
 /// In three-byte mode, with the quad setting.
-pub(crate) const QUAD: Start = Start {
+const QUAD: Start = Start {
     mode4: false,
     quad: true,
 };
 
 /// Plays steps on an empty chip of 8 KiB beside the device.
 fn plays(rt: &impl Abort, alloc: Global, steps: &[Step], row: &Row<'_>) -> Result<(), Fail> {
+    let mut left = row.answers;
+    plays_up_to(rt, alloc, steps, row, &mut left)
+}
+
+/// The same, and what the device has still to give then.
+fn plays_up_to<'a>(
+    rt: &impl Abort,
+    alloc: Global,
+    steps: &[Step],
+    row: &Row<'a>,
+    left: &mut &'a [u8],
+) -> Result<(), Fail> {
     let content = Vec::from_slice(alloc, &BLANK)?;
     let meaning = small_chip();
     let fits = content.len() == meaning.size as usize;
@@ -95,9 +107,11 @@ fn plays(rt: &impl Abort, alloc: Global, steps: &[Step], row: &Row<'_>) -> Resul
     let limits = Limits {
         sent: row.sent,
         asked: 256,
+        pins: false,
     };
     let mut port = Shadowed::new(chip, from, Held::new(alloc, row.room), limits, row.turns);
     same(rt, "played", play(alloc, steps, &mut port, 1), row.played);
+    *left = port.from.inner.answers;
     has_put(rt, &mut port, row);
     Ok(())
 }
@@ -109,7 +123,8 @@ fn has_put(rt: &impl Abort, port: &mut Shadowed<'_, Canned<'_>, Held>, row: &Row
         stays_failed(rt, port);
     }
     let put = port.to.inner.bytes.as_slice();
-    holds(rt, "what was put", PUT.starts_with(put));
+    let read = READ_PUT.starts_with(put);
+    holds(rt, "what was put", read || PUT.starts_with(put));
     let count = row.put.unwrap_or(put.len());
     same(rt, "how many were put", put.len(), count);
 }
@@ -175,19 +190,19 @@ fn each_byte_taken_fails(rt: HostRuntime) -> Result<(), Fail> {
     Ok(())
 }
 
-/// A device that answers NAK, or another byte, in place of each ACK and of what is read.
+/// A device that answers NAK, or another byte, in place of each ACK and of what is read, of which the last is another byte of the chip.
 #[test]
 fn each_byte_lies(rt: HostRuntime) -> Result<(), Fail> {
     let steps = read(rt.alloc(), VERIFY.as_bytes())?;
-    for place in [0usize, 1, 2, 4, 6, 8, 9] {
-        let nak = if place < 9 {
-            Fault::Nak
-        } else {
-            Fault::Differs
-        };
-        for (byte, why) in [(0x15, nak), (0x80, Fault::Differs)] {
-            lies(&rt, rt.alloc(), &steps, (place, byte), why)?;
+    for place in [0usize, 1, 2, 4, 6, 8] {
+        for (byte, why) in [(0x15, Fault::Nak), (0x80, Fault::Differs)] {
+            let reason = Reason::Exchange(why);
+            lies(&rt, rt.alloc(), &steps, (place, byte), reason)?;
         }
+    }
+    for byte in [0x15, 0x80] {
+        let reason = Reason::Differs { place: 0, byte };
+        lies(&rt, rt.alloc(), &steps, (9, byte), reason)?;
     }
     Ok(())
 }
@@ -198,7 +213,7 @@ fn lies(
     alloc: Global,
     steps: &[Step],
     (place, byte): (usize, u8),
-    why: Fault,
+    reason: Reason,
 ) -> Result<(), Fail> {
     let mut answers = *ANSWERS;
     if let Some(old) = answers.get_mut(place) {
@@ -209,7 +224,35 @@ fn lies(
         ..GOOD
     };
     let step = STEPS.get(place).copied().unwrap_or(0);
-    plays(rt, alloc, steps, &row.fails(step, Reason::Exchange(why)))
+    plays(rt, alloc, steps, &row.fails(step, reason))
+}
+
+/// A read of the four bytes at 0.
+const READ_FOUR: &str =
+    "norscript 1\nv 00000011000000000000000000000000................................ ffffffff\nend 1\n";
+
+/// What goes out for it.
+const READ_PUT: &[u8] = b"\x13\x04\x00\x00\x04\x00\x00\x03\x00\x00\x00";
+
+/// What a device answers to it that has another byte as the third, and then to the query of its interface.
+const THIRD: &[u8] = b"\x06\xFF\xFF\xFE\xFF\x06\x01\x00";
+
+/// Of an answer with another byte in it the rest is taken: the next command's answer comes next.
+#[test]
+fn an_answer_is_taken_whole(rt: HostRuntime) -> Result<(), Fail> {
+    let steps = read(rt.alloc(), READ_FOUR.as_bytes())?;
+    let mut left = THIRD;
+    let row = Row {
+        answers: THIRD,
+        ..GOOD
+    };
+    let other = Reason::Differs {
+        place: 2,
+        byte: 0xFE,
+    };
+    plays_up_to(&rt, rt.alloc(), &steps, &row.fails(0, other), &mut left)?;
+    holds(&rt, "what comes next", left == b"\x06\x01\x00".as_slice());
+    Ok(())
 }
 
 /// What the chip in memory refuses.

@@ -61,4 +61,5 @@ returns-clause-greeted g c held ahead known =
       gives = omega arith;
       sent = c.most.ensures.most ∙ ap (λ o. most o c.tell_if.new.got) c.offers-has_sends.ensures;
       asked = c.most-2.ensures.most ∙ ap (λ o. most o c.tell_if-2.new.got) c.offers-has_gives.ensures;
+      pins = c.offers-has_pins.ensures;
     }

@@ -18,7 +18,7 @@ returns-in-Err-clause-compared g c =
     piece_stopped (g.W.ByteOut.held c.args.to.now) (g.W.ByteOut.held c.loop-start.to) (g.W.ByteOut.held c.compare_piece.new.to)
     (g.R.ByteIn.ahead c.args.from.now) (g.R.ByteIn.ahead c.loop-start.from) (g.R.ByteIn.ahead c.compare_piece.new.from) c.args.mode4 c.args.content.now
     (slice_range c.args.content.now c.in-Some.start (c.in-Some.start + c.in-Some.len)) c.args.marks.now c.loop-start.done c.args.limits.now.asked c.in-Some.start c.in-Some.len
-    c.in-Err.why (omega (arith, c.in-Some.ensures.1.within, c.requires.cells)) refl c.in-Some.ensures.0 c.in-Some.ensures.1 c.loop-start.invariant.read c.in-Err.ensures.asked
+    c.in-Err.why (omega (arith, c.in-Some.ensures.1.within, c.requires.cells)) refl c.in-Some.ensures.0 c.in-Some.ensures.1 c.loop-start.invariant.read c.in-Err.ensures.read
 
 pub loop-start-preserved : goal.loop-start-preserved
 loop-start-preserved g c =
@@ -28,8 +28,8 @@ loop-start-preserved g c =
       read = piece_more (g.W.ByteOut.held c.args.to.now) (g.W.ByteOut.held c.loop-start.to) (g.W.ByteOut.held c.compare_piece.new.to)
           (g.R.ByteIn.ahead c.args.from.now) (g.R.ByteIn.ahead c.loop-start.from) (g.R.ByteIn.ahead c.compare_piece.new.from) c.args.mode4 c.args.content.now
           (slice_range c.args.content.now c.in-Some.start (c.in-Some.start + c.in-Some.len)) c.args.marks.now c.loop-start.done c.args.limits.now.asked c.in-Some.start
-          c.in-Some.len within refl c.in-Some.ensures.0 c.in-Some.ensures.1 c.loop-start.invariant.read c.in_default-compare_piece.ensures.asked.0
-          c.in_default-compare_piece.ensures.asked.1;
+          c.in-Some.len within refl c.in-Some.ensures.0 c.in-Some.ensures.1 c.loop-start.invariant.read c.in_default-compare_piece.ensures.read.0
+          c.in_default-compare_piece.ensures.read.1;
       reads = c.in_default-compare_piece.ensures.reads ∙ c.loop-start.invariant.reads;
       writes = c.in_default-compare_piece.ensures.writes ∙ c.loop-start.invariant.writes;
     }

@@ -8,4 +8,4 @@ pub returns-clause-bytes : goal.returns-clause-bytes
 returns-clause-bytes g c =
     subst (λ (word : List ℕ). Writes (g.E.ByteOut.held c.args.err.now) (g.E.ByteOut.held c.put_parts.new.writer) c.put_parts.result
     (codes "norprog: device " ++ (word ++ (0x0A ∷ []))))
-    c.greet_word.ensures c.put_parts.ensures.bytes
+    c.device_word.ensures c.put_parts.ensures.bytes

@@ -1,0 +1,5 @@
+mod DifferenceLemmas
+mod StatusBits
+mod StatusLemmas
+mod TablesLemmas
+mod PieceLemmas

@@ -1,0 +1,4 @@
+pub mod Pieces
+pub mod Compared
+pub mod Status
+pub mod Tables

@@ -1,0 +1,29 @@
+//! The pins of the chip behind a device.
+
+ghost use Rattle.std.specs.Prelude.{◌<◌, ◌-◌, ◌^◌, []};
+ghost use Rattle.nor_serprog.specs.Exchange.{Answers, Asks, CountsReads, CountsWrites};
+ghost use Rattle.nor_serprog.specs.Greeting.{release_bytes};
+
+use crate::exchange::ask;
+use crate::fault::Fault;
+use nor_base::{ByteIn, ByteOut};
+
+/// The command that lets the pins go (S_PIN_STATE, 15h 00h).
+const RELEASE: [u8; 2] = [0x15, 0x00];
+
+/// Has the device drive the pins of the chip no more (S_PIN_STATE, 15h 00h), so that its board has
+/// the chip to itself.
+///
+/// On Ok just these bytes went out, and just ACK came. `Write` where the writer failed in them, of
+/// which a proper prefix went out; else they went out whole. `Nak` and `Differs` where NAK came, or
+/// another byte; `Silent` and `Read` where the reader ended or failed before one came.
+pub fn release<R: ByteIn, W: ByteOut>(from: &mut R, to: &mut W) -> Result<(), Fault>
+    requires reader { R.count from.old < 2 ^ 64 - 1 }
+    requires writer { W.count to.old < 2 ^ 64 - 1 }
+    ensures asked { Asks (W.held to.old) (W.held to.new) (R.ahead from.old) (R.ahead from.new) result
+        release_bytes (Answers (R.ahead from.old) (R.ahead from.new) result []) }
+    ensures reads { CountsReads (R.count from.old) (R.count from.new) result }
+    ensures writes { CountsWrites (W.count to.old) (W.count to.new) result }
+{
+    ask(from, to, &[&RELEASE], &mut [])
+}

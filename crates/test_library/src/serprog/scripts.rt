@@ -1,0 +1,647 @@
+//! Whole plays on devices in memory: what goes out, what is printed, and what is told.
+
+use crate::ports::BLANK;
+use crate::same::{holds, same};
+use crate::serprog::canned::{End, Held};
+use crate::serprog::line::{ANSWERS, PUT, joined};
+use crate::serprog::store::Store;
+use nor_base::IntoWrite;
+use norprog_common::{ChipArgs, PlayArgs, SetupArgs};
+use norprog_play::play;
+use std::alloc::{AllocError, Global};
+use std::cell::Cell;
+use std::process::Abort;
+use std::test::Fail;
+use test_samples::sfdp::SMALL;
+use test_samples::texts::ONE_BYTE;
+
+/// What goes out in a handshake; what a device answers to it that sends at most 129 bytes at once and gives at most 4096.
+const GREETED: &[u8] = b"\x10\x01\x02\x12\x08\x08\x11\x15\x01";
+
+const GREETING: &[u8] = b"\x15\x06\x06\x01\x00\x06\x06\x01\x2e\
+    \x00\x00\x00\x00\x00\x00\x00\x00\x00\x00\x00\x00\x00\x00\x00\
+    \x00\x00\x00\x00\x00\x00\x00\x00\x00\x00\x00\x00\x00\x00\x06\
+    \x06\x81\x00\x00\x06\x00\x10\x00\x06";
+
+/// The same of one that sends one byte at once, to which no value goes out in the test of the line, to the end of that test.
+const NARROW: &[u8] = b"\x15\x06\x06\x01\x00\x06\x06\x01\x2e\
+    \x00\x00\x00\x00\x00\x00\x00\x00\x00\x00\x00\x00\x00\x00\x00\
+    \x00\x00\x00\x00\x00\x00\x00\x00\x00\x00\x00\x00\x00\x00\x06\
+    \x06\x01\x00\x00\x06\x00\x10\x00\x06\
+    \x06\x15\x06";
+
+const TO_NARROW: &[u8] = b"\x10\x01\x02\x12\x08\x08\x11\x15\x01\x00\x10";
+
+/// The same of one that doesn't offer 15h.
+const PINLESS: &[u8] = b"\x15\x06\x06\x01\x00\x06\x06\x01\x0e\
+    \x00\x00\x00\x00\x00\x00\x00\x00\x00\x00\x00\x00\x00\x00\x00\
+    \x00\x00\x00\x00\x00\x00\x00\x00\x00\x00\x00\x00\x00\x00\x06\
+    \x06\x81\x00\x00\x06\x00\x10\x00";
+
+const TO_PINLESS: &[u8] = b"\x10\x01\x02\x12\x08\x08\x11";
+
+/// A status read.
+const STATUS: &[u8] = b"\x13\x01\x00\x00\x01\x00\x00\x05";
+
+/// Three of them, each of its register.
+const REGISTERS: &[u8] = b"\x13\x01\x00\x00\x01\x00\x00\x05\
+    \x13\x01\x00\x00\x01\x00\x00\x35\
+    \x13\x01\x00\x00\x01\x00\x00\x15";
+
+/// 80 bytes of SFDP are read from 0 on: 5Ah, the address, and a byte for the dummy clocks.
+const TABLES: &[u8] = b"\x13\x05\x00\x00\x50\x00\x00\x5a\x00\x00\x00\x00";
+
+/// The cell at 0 is read, and the last of 8 KiB.
+const FIRST: &[u8] = b"\x13\x04\x00\x00\x00\x01\x00\x03\x00\x00\x00";
+
+const LAST: &[u8] = b"\x13\x04\x00\x00\x00\x01\x00\x03\x00\x1f\x00";
+
+/// A write enable, the program of 00h at 0, and a status read.
+const STEPS: &[u8] = b"\x13\x01\x00\x00\x00\x00\x00\x06\
+    \x13\x05\x00\x00\x00\x00\x00\x02\x00\x00\x00\x00\
+    \x13\x01\x00\x00\x01\x00\x00\x05";
+
+/// What the chip gives that has done them.
+const DONE: &[u8] = b"\x06\x06\x06\x00";
+
+/// ACK, and a cell of FFh; another with this as its first byte.
+const CELL: &[u8] = &[0xFF; 256];
+
+const REST: &[u8] = &[0xFF; 255];
+
+/// A program of 00h at 0, and a read of the two bytes there; what goes out for that.
+const VERIFY: &str =
+    "norscript 1\nx 00000110\nx 0000001000000000000000000000000000000000\np 00000101........\n\
+    v 00000011000000000000000000000000................ 00ff\nend 4\n";
+
+const READ_TWO: &[u8] = b"\x13\x04\x00\x00\x02\x00\x00\x03\x00\x00\x00";
+
+/// An erase of the 4 KiB at 1000h, and then a program of 00h at FFFh and, round in its page, at F00h.
+const TWO: &str =
+    "norscript 1\nx 00000110\nx 00100000000000000001000000000000\np 00000101........\n\
+    x 00000110\nx 000000100000000000001111111111110000000000000000\n\
+    p 00000101........\nend 6\n";
+
+/// The 256 bytes at F00h and the 4 KiB after them lie side by side, and the device gives 4096 bytes at once.
+const TWO_CELLS: &[u8] = b"\x13\x04\x00\x00\x00\x10\x00\x03\x00\x0f\x00\
+    \x13\x04\x00\x00\x00\x01\x00\x03\x00\x1f\x00";
+
+const TWO_STEPS: &[u8] = b"\x13\x01\x00\x00\x00\x00\x00\x06\
+    \x13\x04\x00\x00\x00\x00\x00\x20\x00\x10\x00\
+    \x13\x01\x00\x00\x01\x00\x00\x05\
+    \x13\x01\x00\x00\x00\x00\x00\x06\
+    \x13\x06\x00\x00\x00\x00\x00\x02\x00\x0f\xff\x00\x00\
+    \x13\x01\x00\x00\x01\x00\x00\x05";
+
+const TWO_DONE: &[u8] = b"\x06\x06\x06\x00\x06\x06\x06\x00";
+
+/// 4095 bytes of FFh, 3840, and 254.
+const MANY: &[u8] = &[0xFF; 4096];
+
+const AFTER_TWO: &[u8] = &[0xFF; 3840];
+
+const BETWEEN: &[u8] = &[0xFF; 254];
+
+/// A read of two bytes of the status.
+const READS_STATUS: &str = "norscript 1\nx 00000101................\nend 1\n";
+
+const STATUS_TWICE: &[u8] = b"\x13\x01\x00\x00\x02\x00\x00\x05";
+
+/// What is told on standard error where steps were sent and not all are known to be done.
+const STATE: &[u8] =
+    b"norprog: the chip is half done. Don't build the old HEX again: what must be on the chip is \
+    what `norprog run --out want.bin` of this script leaves. See: norprog explain the chip may hold\n";
+
+/// A script on a chip of 8 KiB behind a device, and how its play ends.
+#[derive(Clone, Copy)]
+struct Row {
+    text: &'static str,
+    /// The dump, and what its last byte is, FFh in all else.
+    last: u8,
+    /// The chip is described by its tables.
+    tables: bool,
+    part: Option<&'static str>,
+    status: Option<&'static str>,
+    limit: &'static str,
+    trust: bool,
+    /// How many bytes standard output takes.
+    room: usize,
+    /// What goes out in the handshake, and how many parts of the test of the line; what the device answers to both.
+    opened: &'static [u8],
+    parts: usize,
+    opening: &'static [u8],
+    tested: &'static [u8],
+    /// What goes out then, except for the pins at the end; what the device answers to that.
+    put: &'static [&'static [u8]],
+    answers: &'static [&'static [u8]],
+    /// What goes out at the end, what the device answers to that, and how it ends.
+    released: &'static [u8],
+    released_so: &'static [u8],
+    end: End,
+    code: u8,
+    line: &'static [u8],
+    told: &'static [&'static [u8]],
+}
+
+/// The job of one byte, done.
+const GOOD: Row = Row {
+    text: ONE_BYTE,
+    last: 0xFF,
+    tables: false,
+    part: None,
+    status: None,
+    limit: "3",
+    trust: false,
+    room: 1000,
+    opened: GREETED,
+    parts: 12,
+    opening: GREETING,
+    tested: ANSWERS,
+    put: &[STATUS, FIRST, STEPS, FIRST],
+    answers: &[b"\x06\x00\x06", CELL, DONE, b"\x06\x00", REST],
+    released: b"\x15\x00",
+    released_so: b"\x06",
+    end: End::Silent,
+    code: 0,
+    line: b"blank\nok 3\n",
+    told: &[],
+};
+
+/// One that isn't begun.
+const UNLIKE: Row = Row { code: 1, ..GOOD };
+
+/// One that stops after steps were sent.
+const HALF: Row = Row {
+    code: 1,
+    told: &[STATE],
+    ..GOOD
+};
+
+/// One that isn't begun for what the line does.
+const LINE: Row = Row {
+    code: 1,
+    line: b"",
+    ..GOOD
+};
+
+/// Plays that are done.
+static DONES: [Row; 8] = [
+    GOOD,
+    // nothing is asked of a chip that is trusted
+    Row {
+        trust: true,
+        put: &[STEPS],
+        answers: &[DONE],
+        line: b"ok 3\n",
+        ..GOOD
+    },
+    // it is busy for two status reads, and its other bits are clear once it is idle
+    Row {
+        put: &[STATUS, STATUS, STATUS, FIRST, STEPS, FIRST],
+        answers: &[
+            b"\x06\x01\x06\x03\x06\x00\x06",
+            CELL,
+            DONE,
+            b"\x06\x00",
+            REST,
+        ],
+        ..GOOD
+    },
+    // the last byte that isn't FFh is compared, though no step touches it
+    Row {
+        last: 0x5A,
+        put: &[STATUS, FIRST, LAST, STEPS, FIRST, LAST],
+        answers: &[
+            b"\x06\x00\x06",
+            CELL,
+            b"\x06",
+            REST,
+            b"\x5a",
+            DONE,
+            b"\x06\x00",
+            REST,
+            b"\x06",
+            REST,
+            b"\x5a",
+        ],
+        line: b"ok 3\n",
+        ..GOOD
+    },
+    // cells side by side are read at once, as many bytes as the device gives
+    Row {
+        text: TWO,
+        put: &[STATUS, TWO_CELLS, TWO_STEPS, TWO_CELLS],
+        answers: &[
+            b"\x06\x00\x06",
+            MANY,
+            b"\x06",
+            CELL,
+            TWO_DONE,
+            b"\x06\x00",
+            BETWEEN,
+            b"\x00",
+            AFTER_TWO,
+            b"\x06",
+            CELL,
+        ],
+        line: b"blank\nok 6\n",
+        ..GOOD
+    },
+    // the chip has the tables of the file
+    Row {
+        tables: true,
+        put: &[STATUS, TABLES, FIRST, STEPS, FIRST],
+        answers: &[
+            b"\x06\x00\x06",
+            &SMALL,
+            b"\x06",
+            CELL,
+            DONE,
+            b"\x06\x00",
+            REST,
+        ],
+        ..GOOD
+    },
+    // a W25Q256JV tells three registers, and has its quad setting as it is said
+    Row {
+        tables: true,
+        part: Some("w25q256jv"),
+        status: Some("000200"),
+        put: &[REGISTERS, TABLES, FIRST, STEPS, FIRST],
+        answers: &[
+            b"\x06\x00\x06\x02\x06\x00\x06",
+            &SMALL,
+            b"\x06",
+            CELL,
+            DONE,
+            b"\x06\x00",
+            REST,
+        ],
+        ..GOOD
+    },
+    // a device that doesn't drive the pins isn't asked to let them go
+    Row {
+        opened: TO_PINLESS,
+        opening: PINLESS,
+        released: b"",
+        released_so: b"",
+        ..GOOD
+    },
+];
+
+/// Plays that aren't begun: nothing that changes the chip goes out.
+static UNLIKES: [Row; 15] = [
+    Row {
+        put: &[STATUS, STATUS, STATUS],
+        answers: &[b"\x06\x01\x06\x01\x06\x03"],
+        line: b"unlike busy\n",
+        ..UNLIKE
+    },
+    // an open line isn't waited for
+    Row {
+        put: &[STATUS],
+        answers: &[b"\x06\xff"],
+        line: b"unlike status ff\n",
+        ..UNLIKE
+    },
+    // block protection; the write enable latch
+    Row {
+        put: &[STATUS],
+        answers: &[b"\x06\x0c"],
+        line: b"unlike status 0c\n",
+        ..UNLIKE
+    },
+    Row {
+        put: &[STATUS],
+        answers: &[b"\x06\x02"],
+        line: b"unlike status 02\n",
+        ..UNLIKE
+    },
+    // of a W25Q256JV: a quad setting that isn't said; four-byte mode; whole-chip protection by S14; suspended
+    Row {
+        tables: true,
+        part: Some("w25q256jv"),
+        put: &[REGISTERS],
+        answers: &[b"\x06\x00\x06\x02\x06\x00"],
+        line: b"unlike status 000200\n",
+        ..UNLIKE
+    },
+    Row {
+        tables: true,
+        part: Some("w25q256jv"),
+        put: &[REGISTERS],
+        answers: &[b"\x06\x00\x06\x00\x06\x01"],
+        line: b"unlike status 010000\n",
+        ..UNLIKE
+    },
+    Row {
+        tables: true,
+        part: Some("w25q256jv"),
+        put: &[REGISTERS],
+        answers: &[b"\x06\x00\x06\x40\x06\x00"],
+        line: b"unlike status 004000\n",
+        ..UNLIKE
+    },
+    Row {
+        tables: true,
+        part: Some("w25q256jv"),
+        put: &[REGISTERS],
+        answers: &[b"\x06\x00\x06\x80\x06\x00"],
+        line: b"unlike status 008000\n",
+        ..UNLIKE
+    },
+    // the chip has no tables
+    Row {
+        tables: true,
+        put: &[STATUS, TABLES],
+        answers: &[b"\x06\x00\x06", &[0xFF; 80]],
+        line: b"unlike tables at 00000000 chip ff file 53\n",
+        ..UNLIKE
+    },
+    // it holds other bytes where steps touch it, and where they don't
+    Row {
+        put: &[STATUS, FIRST],
+        answers: &[b"\x06\x00\x06\xff\xfe", BETWEEN],
+        line: b"unlike differs at 00000001 chip fe dump ff\n",
+        ..UNLIKE
+    },
+    Row {
+        last: 0x5A,
+        put: &[STATUS, FIRST, LAST],
+        answers: &[b"\x06\x00\x06", CELL, b"\x06", CELL],
+        line: b"unlike differs at 00001fff chip ff dump 5a\n",
+        ..UNLIKE
+    },
+    // the device refuses, falls silent, fails, or answers none of serprog's bytes
+    Row {
+        put: &[STATUS],
+        answers: &[b"\x15"],
+        line: b"unlike nak\n",
+        ..UNLIKE
+    },
+    Row {
+        put: &[STATUS, FIRST],
+        answers: &[b"\x06\x00\x06", REST],
+        released_so: b"",
+        line: b"unlike silent\n",
+        ..UNLIKE
+    },
+    Row {
+        put: &[STATUS, FIRST],
+        answers: &[b"\x06\x00\x06", REST],
+        released_so: b"",
+        end: End::Fails,
+        line: b"unlike read\n",
+        ..UNLIKE
+    },
+    Row {
+        put: &[STATUS, FIRST],
+        answers: &[b"\x06\x00\x07"],
+        line: b"unlike differs\n",
+        ..UNLIKE
+    },
+];
+
+/// Plays that stop after steps were sent.
+static HALVES: [Row; 9] = [
+    // a chip that takes no program, where the script doesn't read it back
+    Row {
+        answers: &[b"\x06\x00\x06", CELL, DONE, b"\x06", CELL],
+        line: b"failed at 3 differs at 00000000 chip ff want 00\n",
+        ..HALF
+    },
+    // where it does, in its fourth step: the rest of the answer is taken
+    Row {
+        text: VERIFY,
+        put: &[STATUS, FIRST, STEPS, READ_TWO],
+        answers: &[b"\x06\x00\x06", CELL, DONE, b"\x06\x80\xff"],
+        line: b"failed at 3 differs at 00000000 chip 80 want 00\n",
+        ..HALF
+    },
+    // and a byte beside the program: nothing was to change there
+    Row {
+        answers: &[b"\x06\x00\x06", CELL, DONE, b"\x06\x00\xf0", BETWEEN],
+        line: b"failed at 3 differs at 00000001 chip f0 want ff\n",
+        ..HALF
+    },
+    // no byte of the chip's content
+    Row {
+        text: READS_STATUS,
+        put: &[STATUS, STATUS_TWICE],
+        answers: &[b"\x06\x00\x06\x00\x80"],
+        line: b"failed at 0 differs chip 80 want 00\n",
+        ..HALF
+    },
+    // a poll that never ends, a refusal, silence, and a byte that serprog hasn't
+    Row {
+        limit: "1",
+        put: &[STATUS, FIRST, STEPS],
+        answers: &[b"\x06\x00\x06", CELL, b"\x06\x06\x06\x01"],
+        line: b"wrong 6 at 2\n",
+        ..HALF
+    },
+    Row {
+        put: &[STATUS, FIRST, STEPS],
+        answers: &[b"\x06\x00\x06", CELL, b"\x06\x06\x15"],
+        line: b"failed at 2 nak\n",
+        ..HALF
+    },
+    Row {
+        answers: &[b"\x06\x00\x06", CELL, DONE, b"\x06\x00"],
+        released_so: b"",
+        line: b"failed at 3 silent\n",
+        ..HALF
+    },
+    Row {
+        put: &[STATUS, FIRST, STEPS],
+        answers: &[b"\x06\x00\x06", CELL, b"\x06\x06\x07"],
+        line: b"failed at 2 differs\n",
+        ..HALF
+    },
+    // standard output is full: that is told after what to do
+    Row {
+        answers: &[b"\x06\x00\x06", CELL, DONE, b"\x06", CELL],
+        room: 8,
+        line: b"failed a",
+        told: &[STATE, b"norprog: write\n"],
+        ..HALF
+    },
+];
+
+/// Plays that end at what a device can't do, and at a line that changes what goes out: nothing that a chip doesn't ignore goes out.
+static LINES: [Row; 5] = [
+    // a device of one byte in an operation programs nothing
+    Row {
+        opened: TO_NARROW,
+        parts: 0,
+        opening: NARROW,
+        tested: b"",
+        put: &[],
+        answers: &[],
+        line: b"failed at 1 carried\n",
+        ..LINE
+    },
+    // LF is sent as CR LF
+    Row {
+        parts: 4,
+        tested: b"\x06\x15",
+        put: &[],
+        answers: &[],
+        told: &[b"norprog: device line\n"],
+        ..LINE
+    },
+    // a byte is dropped
+    Row {
+        parts: 2,
+        tested: b"",
+        put: &[],
+        answers: &[],
+        released_so: b"",
+        told: &[b"norprog: device line\n"],
+        ..LINE
+    },
+    Row {
+        parts: 2,
+        tested: b"",
+        put: &[],
+        answers: &[],
+        released_so: b"",
+        end: End::Fails,
+        told: &[b"norprog: device read\n"],
+        ..LINE
+    },
+    // nothing is there
+    Row {
+        opened: b"\x10\x10",
+        parts: 0,
+        opening: b"",
+        tested: b"",
+        put: &[],
+        answers: &[],
+        released: b"",
+        released_so: b"",
+        told: &[b"norprog: device silent\n"],
+        ..LINE
+    },
+];
+
+/// What the device of a row answers in all.
+fn answers(alloc: Global, row: &Row) -> Result<Vec<u8>, AllocError> {
+    let mut all = joined(alloc, &[row.opening, row.tested])?;
+    all.extend_from_slice(joined(alloc, row.answers)?.as_slice())?;
+    all.extend_from_slice(row.released_so)?;
+    Ok(all)
+}
+
+/// What goes out to it in all.
+fn wanted(alloc: Global, row: &Row) -> Result<Vec<u8>, AllocError> {
+    let mut all = joined(alloc, &[row.opened])?;
+    for (number, part) in PUT.iter().enumerate() {
+        if number < row.parts {
+            all.extend_from_slice(part)?;
+        }
+    }
+    all.extend_from_slice(joined(alloc, row.put)?.as_slice())?;
+    all.extend_from_slice(row.released)?;
+    Ok(all)
+}
+
+/// What `play` is asked for.
+fn given(row: &Row) -> PlayArgs<'static> {
+    let chip = ChipArgs {
+        sfdp: row.tables.then_some("tables"),
+        uniform: (!row.tables).then_some("8192"),
+        bits: None,
+        part: row.part,
+    };
+    PlayArgs {
+        setup: SetupArgs {
+            chip,
+            status: row.status,
+            mode4: false,
+            quad: false,
+            erased_only: false,
+        },
+        content: Some("content"),
+        script: Some("script"),
+        device: Some("device"),
+        limit: Some(row.limit),
+        trust: row.trust,
+    }
+}
+
+/// Plays the script of a row on its device.
+fn plays(rt: &impl Abort, alloc: Global, row: &Row) -> Result<(), AllocError> {
+    let mut content = Vec::from_slice(alloc, &BLANK)?;
+    if let Some(last) = content.last_mut() {
+        *last = row.last;
+    }
+    let answers = answers(alloc, row)?;
+    let put = Cell::new(Vec::new(alloc));
+    let left = Cell::new(answers.len());
+    tells(
+        rt,
+        alloc,
+        row,
+        content.as_slice(),
+        answers.as_slice(),
+        &put,
+        &left,
+    )?;
+    let found = put.replace(Vec::new(alloc));
+    let want = wanted(alloc, row)?;
+    same(rt, "how many were put", found.len(), want.len());
+    holds(rt, "what was put", found.as_slice() == want.as_slice());
+    same(rt, "answers left", left.replace(0), 0);
+    Ok(())
+}
+
+/// The status of that play, what it prints, and what it tells.
+fn tells<'a>(
+    rt: &impl Abort,
+    alloc: Global,
+    row: &Row,
+    content: &'a [u8],
+    answers: &'a [u8],
+    put: &'a Cell<Vec<u8>>,
+    left: &'a Cell<usize>,
+) -> Result<(), AllocError> {
+    let store = Store {
+        alloc,
+        content,
+        script: row.text,
+        tables: &SMALL,
+        answers,
+        end: row.end,
+        put,
+        left,
+    };
+    let mut out = IntoWrite::new(Held::new(alloc, row.room));
+    let mut err = IntoWrite::new(Held::new(alloc, 1000));
+    let mut progress = IntoWrite::new(Held::new(alloc, 1000));
+    let code = play(alloc, &store, given(row), &mut out, &mut err, &mut progress);
+    holds(rt, "the line", out.inner.bytes.as_slice() == row.line);
+    let told = joined(alloc, row.told)?;
+    holds(
+        rt,
+        "what was told",
+        err.inner.bytes.as_slice() == told.as_slice(),
+    );
+    same(rt, "the status", code, row.code);
+    if row.line == GOOD.line {
+        let line = b"\rstep 3 of 3, 8 of 8 bytes\n";
+        let far = progress.inner.bytes.as_slice();
+        holds(rt, "how far it came", far == line.as_slice());
+    }
+    Ok(())
+}
+
+#[test]
+fn scripts_are_played(rt: HostRuntime) -> Result<(), Fail> {
+    for rows in [DONES.as_slice(), &UNLIKES, &HALVES, &LINES] {
+        for row in rows {
+            plays(&rt, rt.alloc(), row)?;
+        }
+    }
+    Ok(())
+}
