@@ -1,6 +1,6 @@
-# README.md says what each target is for.
+# README.md says what try, build and install are for, CONTRIBUTING.md the others.
 
-.PHONY: build test edits refusals peers demo docs-check install uninstall
+.PHONY: build try demo check test hooks edits refusals peers docs-check install uninstall
 
 # the sample job of one byte, for the program in crates/norprog_cli
 job = build --hex data/one.hex --uniform 8192 --content data/chip.bin --out
@@ -14,12 +14,21 @@ build:
 	@tools/stamp norprog
 	@echo "proved and built: ./norprog"
 
-# the merge gate: that docs/ARCHITECTURE.md and docs/HEADLINE.md say what is so; then every proof, must-fail edit and test, from
-# nothing
+# proves each crate that changed and those above it, side by side, over the work that earlier checks kept; no test, edit or program
+# is run, so it isn't the gate
+check:
+	rt all check --jobs $$(nproc)
+
+# the merge gate: that the documents say what is so and name what is there; then every proof, must-fail edit and test, from nothing
 test:
 	@tools/architecture
 	@tools/headline
+	@tools/links
 	rt ci
+
+# has git run tools/hooks/pre-commit before each commit in this clone
+hooks:
+	git config core.hooksPath tools/hooks
 
 # tries every must-fail edit, also those that the gate doesn't: make edits, or make edits CRATES="nor_hex nor_sfdp"
 edits:
@@ -35,10 +44,14 @@ peers:
 
 # the program unproved on a job that matters: a chip by its SFDP bytes, of which one region is programmed; it holds bits that
 # must rise, so a sector is erased, and what else the sector holds is restored
-demo:
+try:
+	@echo "unproved: this runs norprog as it stands, and proves nothing; make build proves it"
 	@dir=$$(mktemp -d) && cd crates/norprog_cli && rt try -- build --sfdp data/sfdp.bin --layout data/chip.layout \
 		--hex data/config.hex --content data/held.bin --verify --out $$dir/config.script config && cut -c 1-120 $$dir/config.script; \
 	status=$$?; rm -rf "$$dir"; exit $$status
+
+# the old name of try; the next version drops it
+demo: try
 
 # runs each command of README.md and docs/GUIDE.md by the program that was built, and compares what it prints
 docs-check:
