@@ -23,7 +23,9 @@ check:
 test:
 	@tools/architecture
 	@tools/headline
+	@tools/definitions
 	@tools/links
+	@tools/said-twice
 	rt ci
 
 # has git run tools/hooks/pre-commit before each commit in this clone

@@ -12,7 +12,7 @@ use Rattle.nor_base.proofs.DeviceLaws.{Appends-append, Appends-none, Gives-appen
 use Rattle.nor_probe.specs.declared.difference.Mismatch.{Mismatch}
 use Rattle.nor_serprog.specs.Protocol.{request, answer}
 use Rattle.norprog_play.specs.Compared.{Range, LiesIn, LiesInOne, AreInOrder, read_from, read_of, bytes_in, HasComparedTo, HasCompared, StopsRange, StopsComparing}
-use Rattle.norprog_play.specs.Marks.{IsMarked, IsNextMarked, AreMarkedFrom}
+use Rattle.nor_cells.specs.Marks.{IsMarked, IsNextMarked, AreMarkedFrom}
 use Rattle.nor_job.proofs.TargetLemmas.{gives_none}
 
 -- one range more

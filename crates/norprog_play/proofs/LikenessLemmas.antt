@@ -1,5 +1,5 @@
--- What was compared by marked cells was what the steps touch.
-use Rattle.std.proofs.Common.{◌≡◌, ◌∙◌, ap, Bool, true, false, ℕ, ◌*◌, ◌/◌, ◌%◌, ◌<◌, inl, inr, List, [], ◌∷◌, length, subst, arith}
+-- What was compared by marked cells was what was to be compared.
+use Rattle.std.proofs.Common.{◌≡◌, ◌∙◌, refl, ap, Bool, true, false, ℕ, ◌*◌, ◌/◌, ◌%◌, ◌<◌, inl, inr, List, [], ◌∷◌, length, subst, arith}
 use Rattle.std.specs.Prelude.{◌↔◌, ◌⊎◌}
 use Rattle.nor_base.specs.declared.step.Step.{Step}
 use Rattle.nor_base.specs.Port.{Shown}
@@ -18,29 +18,42 @@ use Rattle.norprog_play.specs.Asked.{IsIdentified, BeginsWith, Begins, IsUnknown
 use Rattle.norprog_play.specs.Expected.{Expectation}
 use Rattle.norprog_play.specs.Ending.{HasDoneAll, StopsOnDevice, IsUnlikeAfter, EndsComparing}
 use Rattle.norprog_play.specs.Likeness.{IsUnlike, Compares}
-use Rattle.norprog_play.specs.Marks.{IsMarked, AreMarks}
+use Rattle.nor_cells.specs.Marks.{IsMarkedCell, IsMarked, MarkedBy, AreMarks}
 use Rattle.norprog_play.specs.Moment.{Moment, DoesAll}
-use Rattle.norprog_play.specs.Touched.{IsInCellOf}
+use Rattle.nor_cells.specs.Cells.{IsInCellOf}
+use Rattle.nor_cells.specs.Wrap.{ShowsWrap}
 use Rattle.norprog_play.proofs.ComparedLemmas.{wanted_alike}
 
 -- the marked addresses of a content of so many cells
-marked_alike : (P : ℕ → Type 0) (count size : ℕ) (marks : List Bool) → AreMarks P count marks → size ≡ 256 * length marks → (k : ℕ) → k < size → (IsMarked marks k ↔ IsInCellOf P k)
+pub marked_alike : (P : ℕ → Type 0) (count size : ℕ) (marks : List Bool) → AreMarks P count marks → size ≡ 256 * length marks → (k : ℕ) → k < size → (IsMarked marks k ↔ IsInCellOf P k)
 marked_alike P count size marks are cells k inside = are.each k (omega (arith, inside, cells, are.as_many))
 
-compares_alike : (trusted mode4 : Bool) (P : ℕ → Type 0) (count : ℕ) (marks : List Bool) (before after : Moment) → AreMarks P count marks
-    → length before.shown.chip.array ≡ 256 * length marks → Compares trusted mode4 (IsMarked marks) before after → Compares trusted mode4 (IsInCellOf P) before after
-compares_alike true mode4 P count marks before after are cells begins = begins
-compares_alike false mode4 P count marks before after are cells begins = record {
-  shown = begins.shown;
-  compared = wanted_alike before.held after.held before.ahead after.ahead mode4 before.shown.chip.array (IsMarked marks) (IsInCellOf P) (length before.shown.chip.array)
-      (marked_alike P count (length before.shown.chip.array) marks are cells) begins.compared;
+-- and with those that were marked later
+pub marked_since : (P : ℕ → Type 0) (size : ℕ) (old new : List Bool) → MarkedBy P old new → size ≡ 256 * length old → (k : ℕ) → k < size
+    → (IsMarked new k ↔ (IsMarked old k ⊎ IsInCellOf P k))
+marked_since P size old new marked cells k inside = (
+  marked.only k,
+  (λ is. elim is [
+    | inl before ↦ marked.kept k before
+    | inr near ↦
+        let there : near.0 / 256 < length old = omega (arith, near.1, inside, cells) in
+        subst (λ (c : ℕ). IsMarkedCell new c) near.1 (marked.more near.0 there near.2)
+  ]),
+)
+
+-- where the same addresses were to be compared
+pub compares_alike : (trusted mode4 : Bool) (V W : ℕ → Type 0) (before after : Moment) → ((k : ℕ) → k < length before.shown.chip.array → (V k ↔ W k))
+    → Compares trusted mode4 V before after → Compares trusted mode4 W before after
+compares_alike true mode4 V W before after alike compared = compared
+compares_alike false mode4 V W before after alike compared = record {
+  shown = compared.shown;
+  compared = wanted_alike before.held after.held before.ahead after.ahead mode4 before.shown.chip.array V W (length before.shown.chip.array) alike compared.compared;
 }
 
-unlike_alike : (mode4 : Bool) (P : ℕ → Type 0) (count : ℕ) (marks : List Bool) (before after : Moment) (why : Mismatch) → AreMarks P count marks
-    → length before.shown.chip.array ≡ 256 * length marks → IsUnlike mode4 (IsMarked marks) before after why → IsUnlike mode4 (IsInCellOf P) before after why
-unlike_alike mode4 P count marks before after why are cells unlike =
+pub unlike_alike : (mode4 : Bool) (V W : ℕ → Type 0) (before after : Moment) (why : Mismatch) → ((k : ℕ) → k < length before.shown.chip.array → (V k ↔ W k))
+    → IsUnlike mode4 V before after why → IsUnlike mode4 W before after why
+unlike_alike mode4 V W before after why alike unlike =
     let stop = unlike.stopped in
-    let alike = marked_alike P count (length before.shown.chip.array) marks are cells in
     record {
       shown = unlike.shown;
       stopped = record {
@@ -50,11 +63,34 @@ unlike_alike mode4 P count marks before after why are cells unlike =
         wanted = λ k h. (alike k (omega (arith, h.1, stop.within))).0 (stop.wanted k h);
         held = stop.held;
         ahead = stop.ahead;
-        before = wanted_alike before.held stop.held before.ahead stop.ahead mode4 before.shown.chip.array (IsMarked marks) (IsInCellOf P) stop.last.start
+        before = wanted_alike before.held stop.held before.ahead stop.ahead mode4 before.shown.chip.array V W stop.last.start
             (λ k below. alike k (omega (arith, below, stop.within))) stop.before;
         stop = stop.stop;
       };
     }
+
+-- marked addresses, and those by which a smaller chip shows in a content
+abbrev pub MarkedSince : List Bool → List ℕ → ℕ → Type 0
+MarkedSince marks left a = IsMarked marks a ⊎ IsInCellOf (ShowsWrap left) a
+
+-- and so where the marks are those after the wraps were marked
+since : (content : List ℕ) (old new : List Bool) (reached : Moment) → MarkedBy (ShowsWrap content) old new → content ≡ reached.shown.chip.array
+    → length reached.shown.chip.array ≡ 256 * length old → (k : ℕ) → k < length reached.shown.chip.array
+    → (IsMarked new k ↔ MarkedSince old reached.shown.chip.array k)
+since content old new reached marked is cells = marked_since (ShowsWrap reached.shown.chip.array) (length reached.shown.chip.array) old new
+    (subst (λ (l : List ℕ). MarkedBy (ShowsWrap l) old new) is marked) cells
+
+pub compares_since : (trusted mode4 : Bool) (content : List ℕ) (old new : List Bool) (reached after : Moment) → MarkedBy (ShowsWrap content) old new
+    → content ≡ reached.shown.chip.array → length reached.shown.chip.array ≡ 256 * length old → Compares trusted mode4 (IsMarked new) reached after
+    → Compares trusted mode4 (MarkedSince old reached.shown.chip.array) reached after
+compares_since trusted mode4 content old new reached after marked is cells =
+    compares_alike trusted mode4 (IsMarked new) (MarkedSince old reached.shown.chip.array) reached after (since content old new reached marked is cells)
+
+pub unlike_since : (mode4 : Bool) (content : List ℕ) (old new : List Bool) (reached after : Moment) (why : Mismatch) → MarkedBy (ShowsWrap content) old new
+    → content ≡ reached.shown.chip.array → length reached.shown.chip.array ≡ 256 * length old → IsUnlike mode4 (IsMarked new) reached after why
+    → IsUnlike mode4 (MarkedSince old reached.shown.chip.array) reached after why
+unlike_since mode4 content old new reached after why marked is cells =
+    unlike_alike mode4 (IsMarked new) (MarkedSince old reached.shown.chip.array) reached after why (since content old new reached marked is cells)
 
 -- a chip of whole cells
 pub as_cells : (P : ℕ → Type 0) (marks : List Bool) (long size : ℕ) → AreMarks P (size / 256) marks → long ≡ size → size % 4096 ≡ 0 → long ≡ 256 * length marks
@@ -92,40 +128,47 @@ pub done_keep : (limits : Limits) (turns : ℕ) (x : Expectation) (mode4 : Bool)
 done_keep limits turns x mode4 Wanted before after steps done =
     all_keep limits turns done.between after steps done.does ∙ ap (λ (s : Shown). length s.chip.array) (begins_keep x limits turns mode4 Wanted before done.between done.begins)
 
--- how steps end where marked cells are compared
-module _ (limits : Limits) (turns : ℕ) (x : Expectation) (m : Parameters) (mode4 : Bool) (P : ℕ → Type 0) (count : ℕ) (marks : List Bool) (before : Moment) (steps : List Step)
-    (are : AreMarks P count marks) (cells : length before.shown.chip.array ≡ 256 * length marks) where
-  cells_then : (after : Moment) → after.shown ≡ before.shown → length after.shown.chip.array ≡ 256 * length marks
-  cells_then after same = ap (λ (s : Shown). length s.chip.array) same ∙ cells
+-- how steps end where the same addresses were to be compared
+module _ (limits : Limits) (turns : ℕ) (x : Expectation) (m : Parameters) (mode4 : Bool) (V W : ℕ → Type 0) (Again More : List ℕ → ℕ → Type 0) (before : Moment)
+    (steps : List Step) (size : ℕ) (is_size : length before.shown.chip.array ≡ size) (alike : (k : ℕ) → k < size → (V k ↔ W k))
+    (again : (left : List ℕ) (k : ℕ) → k < size → (Again left k ↔ More left k)) where
+  size_then : (after : Moment) → after.shown ≡ before.shown → length after.shown.chip.array ≡ size
+  size_then after same = ap (λ (s : Shown). length s.chip.array) same ∙ is_size
 
-  begins_alike : (trusted : Bool) (after : Moment) → BeginsWith trusted x limits turns mode4 (IsMarked marks) before after
-      → BeginsWith trusted x limits turns mode4 (IsInCellOf P) before after
+  alike_then : (after : Moment) → length after.shown.chip.array ≡ size → (k : ℕ) → k < length after.shown.chip.array → (V k ↔ W k)
+  alike_then after same k inside = alike k (omega (arith, inside, same))
+
+  again_then : (after : Moment) → length after.shown.chip.array ≡ size → (k : ℕ) → k < length after.shown.chip.array
+      → (Again after.shown.chip.array k ↔ More after.shown.chip.array k)
+  again_then after same k inside = again after.shown.chip.array k (omega (arith, inside, same))
+
+  size_known : (between : Moment) → IsIdentified x limits turns before between → length between.shown.chip.array ≡ size
+  size_known between identified = size_then between (identified_keep x limits turns before between identified)
+
+  begins_alike : (trusted : Bool) (after : Moment) → BeginsWith trusted x limits turns mode4 V before after → BeginsWith trusted x limits turns mode4 W before after
   begins_alike true after same = same
   begins_alike false after known = record {
     between = known.between;
     identified = known.identified;
-    like = compares_alike false mode4 P count marks known.between after are
-        (cells_then known.between (identified_keep x limits turns before known.between known.identified)) known.like;
+    like = compares_alike false mode4 V W known.between after (alike_then known.between (size_known known.between known.identified)) known.like;
   }
 
-  unknown_alike : (why : Unlikeness) (after : Moment) → IsUnknown x limits turns mode4 (IsMarked marks) before after why
-      → IsUnknown x limits turns mode4 (IsInCellOf P) before after why
+  unknown_alike : (why : Unlikeness) (after : Moment) → IsUnknown x limits turns mode4 V before after why → IsUnknown x limits turns mode4 W before after why
   unknown_alike unlike.Busy after is = is
   unknown_alike (unlike.Asking why) after is = is
   unknown_alike (unlike.Status status) after is = is
   unknown_alike (unlike.Registers status) after is = is
   unknown_alike (unlike.Tables why) after is = is
-  unknown_alike (unlike.Content why) after is =
-      (is.0, is.1, unlike_alike mode4 P count marks is.0 after why are (cells_then is.0 (identified_keep x limits turns before is.0 is.1)) is.2)
+  unknown_alike (unlike.Content why) after is = (is.0, is.1, unlike_alike mode4 V W is.0 after why (alike_then is.0 (size_known is.0 is.1)) is.2)
 
-  done_alike : (after : Moment) → HasDoneAll limits turns x mode4 (IsMarked marks) before steps after → HasDoneAll limits turns x mode4 (IsInCellOf P) before steps after
+  done_alike : (after : Moment) → HasDoneAll limits turns x mode4 V before steps after → HasDoneAll limits turns x mode4 W before steps after
   done_alike after done = record { between = done.between; begins = begins_alike x.trusted done.between done.begins; does = done.does }
 
-  cells_after : (after : Moment) → HasDoneAll limits turns x mode4 (IsMarked marks) before steps after → length after.shown.chip.array ≡ 256 * length marks
-  cells_after after done = done_keep limits turns x mode4 (IsMarked marks) before after steps done ∙ cells
+  size_after : (after : Moment) → HasDoneAll limits turns x mode4 V before steps after → length after.shown.chip.array ≡ size
+  size_after after done = done_keep limits turns x mode4 V before after steps done ∙ is_size
 
-  stops_alike : (at : ℕ) (failed : Failure) (after : Moment) → StopsOnDevice limits turns x m mode4 (IsMarked marks) before steps at failed after
-      → StopsOnDevice limits turns x m mode4 (IsInCellOf P) before steps at failed after
+  stops_alike : (at : ℕ) (failed : Failure) (after : Moment) → StopsOnDevice limits turns x m mode4 V before steps at failed after
+      → StopsOnDevice limits turns x m mode4 W before steps at failed after
   stops_alike at failed after stop = record {
     may = stop.may;
     between = stop.between;
@@ -133,8 +176,8 @@ module _ (limits : Limits) (turns : ℕ) (x : Expectation) (m : Parameters) (mod
     stops = stop.stops;
   }
 
-  after_alike : (at : ℕ) (failed : Failure) (after : Moment) → IsUnlikeAfter limits turns x mode4 (IsMarked marks) before steps at failed after
-      → IsUnlikeAfter limits turns x mode4 (IsInCellOf P) before steps at failed after
+  after_alike : (at : ℕ) (failed : Failure) (after : Moment) → IsUnlikeAfter limits turns x mode4 V Again before steps at failed after
+      → IsUnlikeAfter limits turns x mode4 W More before steps at failed after
   after_alike at failed after stop = record {
     may = stop.may;
     all = stop.all;
@@ -143,24 +186,26 @@ module _ (limits : Limits) (turns : ℕ) (x : Expectation) (m : Parameters) (mod
     ends = stop.ends;
     wary = stop.wary;
     why = stop.why;
-    unlike = unlike_alike mode4 P count marks stop.reached after stop.why are (cells_after stop.reached stop.done) stop.unlike;
+    unlike = unlike_alike mode4 (Again stop.reached.shown.chip.array) (More stop.reached.shown.chip.array) stop.reached after stop.why
+        (again_then stop.reached (size_after stop.reached stop.done)) stop.unlike;
     failure = stop.failure;
   }
 
   either_alike : (at : ℕ) (failed : Failure) (after : Moment)
-      → StopsOnDevice limits turns x m mode4 (IsMarked marks) before steps at failed after ⊎ IsUnlikeAfter limits turns x mode4 (IsMarked marks) before steps at failed after
-      → StopsOnDevice limits turns x m mode4 (IsInCellOf P) before steps at failed after ⊎ IsUnlikeAfter limits turns x mode4 (IsInCellOf P) before steps at failed after
+      → StopsOnDevice limits turns x m mode4 V before steps at failed after ⊎ IsUnlikeAfter limits turns x mode4 V Again before steps at failed after
+      → StopsOnDevice limits turns x m mode4 W before steps at failed after ⊎ IsUnlikeAfter limits turns x mode4 W More before steps at failed after
   either_alike at failed after is = elim is [ inl stop ↦ inl (stops_alike at failed after stop) | inr late ↦ inr (after_alike at failed after late) ]
 
-  pub ends_alike : (ending : Ending) (after : Moment) → EndsComparing limits turns x m mode4 (IsMarked marks) before steps ending after
-      → EndsComparing limits turns x m mode4 (IsInCellOf P) before steps ending after
+  pub ends_alike : (ending : Ending) (after : Moment) → EndsComparing limits turns x m mode4 V Again before steps ending after
+      → EndsComparing limits turns x m mode4 W More before steps ending after
   ends_alike (Done transactions blank) after is = record {
     carried = is.carried;
     ends = is.ends;
     counted = is.counted;
     reached = is.reached;
     done = done_alike is.reached is.done;
-    back = compares_alike x.trusted mode4 P count marks is.reached after are (cells_after is.reached is.done) is.back;
+    back = compares_alike x.trusted mode4 (Again is.reached.shown.chip.array) (More is.reached.shown.chip.array) is.reached after
+        (again_then is.reached (size_after is.reached is.done)) is.back;
     says = is.says;
   }
   ends_alike (GoesWrong at why) after is = is
@@ -175,8 +220,15 @@ module _ (limits : Limits) (turns : ℕ) (x : Expectation) (m : Parameters) (mod
 -- by what the code says of the mode and the marks
 pub ends_told : (limits : Limits) (turns : ℕ) (x : Expectation) (m : Parameters) (mode4 mode4' : Bool) (P : ℕ → Type 0) (count : ℕ) (marks marks' : List Bool) (before : Moment)
     (steps : List Step) → mode4' ≡ mode4 → marks' ≡ marks → AreMarks P count marks → length before.shown.chip.array ≡ 256 * length marks → (ending : Ending) (after : Moment)
-    → EndsComparing limits turns x m mode4' (IsMarked marks') before steps ending after → EndsComparing limits turns x m mode4 (IsInCellOf P) before steps ending after
+    → EndsComparing limits turns x m mode4' (IsMarked marks') (MarkedSince marks') before steps ending after
+    → EndsComparing limits turns x m mode4 (IsInCellOf P) (λ left a. IsInCellOf P a ⊎ IsInCellOf (ShowsWrap left) a) before steps ending after
 ends_told limits turns x m mode4 mode4' P count marks marks' before steps width same are cells ending after ends =
-    ends_alike limits turns x m mode4 P count marks before steps are cells ending after
-    (subst (λ b. EndsComparing limits turns x m b (IsMarked marks) before steps ending after) width
-    (subst (λ l. EndsComparing limits turns x m mode4' (IsMarked l) before steps ending after) same ends))
+    let size = length before.shown.chip.array in
+    let alike = marked_alike P count size marks are cells in
+    ends_alike limits turns x m mode4 (IsMarked marks) (IsInCellOf P) (MarkedSince marks) (λ left a. IsInCellOf P a ⊎ IsInCellOf (ShowsWrap left) a) before steps size refl alike
+    (λ left k inside. (
+      (λ h. elim h [ inl is ↦ inl ((alike k inside).0 is) | inr wrap ↦ inr wrap ]),
+      (λ h. elim h [ inl is ↦ inl ((alike k inside).1 is) | inr wrap ↦ inr wrap ]),
+    )) ending after
+    (subst (λ b. EndsComparing limits turns x m b (IsMarked marks) (MarkedSince marks) before steps ending after) width
+    (subst (λ l. EndsComparing limits turns x m mode4' (IsMarked l) (MarkedSince l) before steps ending after) same ends))

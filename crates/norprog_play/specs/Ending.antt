@@ -14,12 +14,12 @@ use Rattle.norprog_play.specs.declared.ending.Failure.{Failure}
 use Rattle.norprog_play.specs.declared.ending.Failure.TheVariants as failure
 use Rattle.norprog_play.specs.declared.ending.Unlike.{Unlike as Unlikeness}
 use Rattle.norprog_play.specs.Asked.{Begins, IsUnknown}
-use Rattle.norprog_play.specs.Edges.{IsBlank}
+use Rattle.nor_cells.specs.Edges.{IsBlank}
 use Rattle.norprog_play.specs.Carried.{AreCarried, IsFirstNotCarried}
 use Rattle.norprog_play.specs.Expected.{Expectation}
 use Rattle.norprog_play.specs.Likeness.{Compares, IsUnlike}
 use Rattle.norprog_play.specs.Moment.{Moment, DoesAll, StopsAt}
-use Rattle.norprog_play.specs.Touched.{IsCompared}
+use Rattle.nor_cells.specs.Compared.{IsCompared, IsReadBack}
 
 -- the steps go well on the chip in memory
 abbrev pub GoesWell : Moment → List Step → Type 0
@@ -43,14 +43,14 @@ SaysBlank x content true = (x.trusted ≡ false) × IsBlank content
 SaysBlank x content false = x.trusted ≡ false → IsBlank content → ⊥
 
 -- so, the chip in memory is as their run leaves it, and the chip behind the device was compared with that, unless it is trusted
-pub record IsDone (limits : Limits) (turns : ℕ) (x : Expectation) (mode4 : Bool) (Wanted : ℕ → Type 0) (before : Moment) (steps : List Step)
-    (transactions : ℕ) (blank : Bool) (after : Moment) : Type 0 where
+pub record IsDone (limits : Limits) (turns : ℕ) (x : Expectation) (mode4 : Bool) (Wanted : ℕ → Type 0) (Again : List ℕ → ℕ → Type 0)
+    (before : Moment) (steps : List Step) (transactions : ℕ) (blank : Bool) (after : Moment) : Type 0 where
   pub carried : AreCarried limits steps
   pub ends : play before.shown.setting 1 before.shown.chip steps ≡ Ok after.shown.chip
   pub counted : transactions ≡ length (trail before.shown.setting before.shown.chip steps)
   pub reached : Moment
   pub done : HasDoneAll limits turns x mode4 Wanted before steps reached
-  pub back : Compares x.trusted mode4 Wanted reached after
+  pub back : Compares x.trusted mode4 (Again reached.shown.chip.array) reached after
   pub says : SaysBlank x before.shown.chip.array blank
 
 -- they go well, this one is the first that is no operation of the device, and nothing was done
@@ -80,8 +80,8 @@ failure_by (mismatch.Exchange why) = failure.Exchange why
 failure_by (mismatch.Differs d) = failure.Differs d
 
 -- they were all done, but the chip behind the device isn't known to hold what they leave on the chip in memory
-pub record IsUnlikeAfter (limits : Limits) (turns : ℕ) (x : Expectation) (mode4 : Bool) (Wanted : ℕ → Type 0) (before : Moment) (steps : List Step)
-    (at : ℕ) (failed : Failure) (after : Moment) : Type 0 where
+pub record IsUnlikeAfter (limits : Limits) (turns : ℕ) (x : Expectation) (mode4 : Bool) (Wanted : ℕ → Type 0) (Again : List ℕ → ℕ → Type 0)
+    (before : Moment) (steps : List Step) (at : ℕ) (failed : Failure) (after : Moment) : Type 0 where
   pub may : MayBegin limits before steps
   pub all : at ≡ length steps
   pub reached : Moment
@@ -89,23 +89,26 @@ pub record IsUnlikeAfter (limits : Limits) (turns : ℕ) (x : Expectation) (mode
   pub ends : play before.shown.setting 1 before.shown.chip steps ≡ Ok reached.shown.chip
   pub wary : x.trusted ≡ false
   pub why : Mismatch
-  pub unlike : IsUnlike mode4 Wanted reached after why
+  pub unlike : IsUnlike mode4 (Again reached.shown.chip.array) reached after why
   pub failure : failed ≡ failure_by why
 
--- how steps end that go well on the chip in memory, where these addresses are compared before and after, in this address mode
-abbrev pub EndsComparing : Limits → ℕ → Expectation → Parameters → Bool → (ℕ → Type 0) → Moment → List Step → Ending → Moment → Type 0
-EndsComparing limits turns x m mode4 Wanted before steps (Done transactions blank) after =
-    IsDone limits turns x mode4 Wanted before steps transactions blank after
-EndsComparing limits turns x m mode4 Wanted before steps (GoesWrong at why) after = ⊥
-EndsComparing limits turns x m mode4 Wanted before steps (No at why) after = ⊥
-EndsComparing limits turns x m mode4 Wanted before steps (Unlike why) after =
+-- how steps end that go well on the chip in memory, where these addresses are compared before them, and those after them, by the
+-- content that they leave, in this address mode
+abbrev pub EndsComparing : Limits → ℕ → Expectation → Parameters → Bool → (ℕ → Type 0) → (List ℕ → ℕ → Type 0) → Moment → List Step → Ending → Moment
+    → Type 0
+EndsComparing limits turns x m mode4 Wanted Again before steps (Done transactions blank) after =
+    IsDone limits turns x mode4 Wanted Again before steps transactions blank after
+EndsComparing limits turns x m mode4 Wanted Again before steps (GoesWrong at why) after = ⊥
+EndsComparing limits turns x m mode4 Wanted Again before steps (No at why) after = ⊥
+EndsComparing limits turns x m mode4 Wanted Again before steps (Unlike why) after =
     IsUnlikeBefore limits turns x mode4 Wanted before steps why after
-EndsComparing limits turns x m mode4 Wanted before steps (Failed at failure.Carried) after = IsNotCarriedBefore limits before steps at after
-EndsComparing limits turns x m mode4 Wanted before steps (Failed at failed) after =
+EndsComparing limits turns x m mode4 Wanted Again before steps (Failed at failure.Carried) after = IsNotCarriedBefore limits before steps at after
+EndsComparing limits turns x m mode4 Wanted Again before steps (Failed at failed) after =
     StopsOnDevice limits turns x m mode4 Wanted before steps at failed after
-    ⊎ IsUnlikeAfter limits turns x mode4 Wanted before steps at failed after
+    ⊎ IsUnlikeAfter limits turns x mode4 Wanted Again before steps at failed after
 
--- so, where what is compared is what they touch, and the edges of the content, in the chip's first address mode
+-- so, where what is compared is what they touch, and by which another chip shows, in the chip's first address mode
 abbrev pub EndsSo : Limits → ℕ → Expectation → Parameters → Moment → List Step → Ending → Moment → Type 0
 EndsSo limits turns x m before steps ending after =
-    EndsComparing limits turns x m (begins4 m x.start) (IsCompared m x.start before.shown.chip.array steps) before steps ending after
+    EndsComparing limits turns x m (begins4 m x.start) (IsCompared m x.start before.shown.chip.array steps)
+    (IsReadBack m x.start before.shown.chip.array steps) before steps ending after

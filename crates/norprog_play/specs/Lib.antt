@@ -7,9 +7,6 @@ pub mod Carried
 pub mod Rehearsal
 pub mod Ending
 pub mod Line
-pub mod Touched
-pub mod Marks
-pub mod Edges
 pub mod Compared
 pub mod Likeness
 pub mod Request

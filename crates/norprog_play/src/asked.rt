@@ -5,7 +5,7 @@ ghost use Rattle.nor_base.specs.Device.{ahead_of};
 ghost use Rattle.nor_probe.specs.Tables.{Compares as ComparesTables};
 ghost use Rattle.norprog_play.specs.Asked.{Begins, IsUnknown, IsIdentified, IsSuited, StopsAsking};
 ghost use Rattle.norprog_play.specs.Expected.{expectation_of};
-ghost use Rattle.norprog_play.specs.Marks.{IsMarked};
+ghost use Rattle.nor_cells.specs.Marks.{IsMarked};
 ghost use Rattle.norprog_play.specs.Moment.{moment};
 
 use crate::ending::Unlike;

@@ -7,10 +7,10 @@ ghost use Rattle.nor_serprog.specs.Exchange.{Knows};
 ghost use Rattle.nor_serprog.specs.Follow.{CountsReason};
 ghost use Rattle.nor_serprog.specs.Protocol.{request};
 ghost use Rattle.norprog_play.specs.Compared.{read_from, HasCompared, ReadsRange, StopsComparing};
-ghost use Rattle.norprog_play.specs.Marks.{IsMarked};
+ghost use Rattle.nor_cells.specs.Marks.{IsMarked};
 
-use crate::marked::next_piece;
 use nor_base::{ByteIn, ByteOut};
+use nor_cells::next_piece;
 use nor_probe::{Difference, Mismatch};
 use nor_serprog::{Limits, Reason, operate_with};
 

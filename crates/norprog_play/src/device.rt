@@ -1,6 +1,6 @@
 //! A script on a device.
 
-ghost use Rattle.std.specs.Prelude.{◌≡◌, ◌≤◌, ◌<◌, ◌+◌, ◌-◌, ◌*◌, ◌^◌, [], None, false, length, All, MatchResult};
+ghost use Rattle.std.specs.Prelude.{◌≡◌, ◌≤◌, ◌<◌, ◌+◌, ◌-◌, ◌*◌, ◌^◌, ◌⊎◌, [], None, false, length, All, MatchResult};
 ghost use Rattle.nor_base.specs.Chip.{chip_of};
 ghost use Rattle.nor_base.specs.Run.{trail};
 ghost use Rattle.nor_base.specs.Sample.{sampled_count};
@@ -10,18 +10,19 @@ ghost use Rattle.norprog_play.specs.Early.{GoesWellInMemory};
 ghost use Rattle.norprog_play.specs.Moment.{moment};
 ghost use Rattle.norprog_play.specs.Ending.{EndsComparing, EndsSo, MayBegin, SaysBlank, failure_by};
 ghost use Rattle.norprog_play.specs.Expected.{expectation_of};
-ghost use Rattle.norprog_play.specs.Marks.{IsMarked};
+ghost use Rattle.nor_cells.specs.Cells.{IsInCellOf};
+ghost use Rattle.nor_cells.specs.Marks.{IsMarked};
+ghost use Rattle.nor_cells.specs.Wrap.{ShowsWrap};
 
 use crate::asked::begin;
-use crate::edges::first_held;
 use crate::ending::{Ending, Failure};
 use crate::expected::Expected;
 use crate::follow::{Halt, follow_steps};
 use crate::likeness::compare_unless_trusted;
 use crate::step::widest;
-use crate::touched::compared_cells;
 use crate::within::carried;
 use nor_base::{ByteOut, Meaning, Step};
+use nor_cells::{compared_cells, first_held, mark_wraps};
 use nor_probe::Mismatch;
 use nor_serprog::Shadowed;
 use std::alloc::{AllocError, Global};
@@ -33,12 +34,11 @@ use std::io::{Read, Write};
 /// First each is looked at: `Failed` for `Carried` with the first whose clocks are no operation of the device. Then, unless the
 /// chip behind the device is trusted, it is asked for its status until it is idle, at most as often as the port has turns, and its
 /// SFDP bytes are compared with those that it has to have: `Unlike` where it stays busy, where its status shows that it can't take
-/// the steps, or where a byte is another. Then the device reads each cell of 256 bytes of which some step erases or programs a byte, and
-/// those of the first and the last byte of the content that aren't FFh: `Unlike` where a byte is another, or where the reading
-/// stops. It reads by 03h with the address bytes of the chip's first mode, so a chip in the other mode gives other bytes, and past
+/// the steps, or where a byte is another. Then the device reads the cells that [`compared_cells`] marks: `Unlike` where a byte is
+/// another, or where the reading stops. It reads by 03h with the address bytes of the chip's first mode, so a chip in the other mode gives other bytes, and past
 /// 2^24 in three-byte mode by 13h. Then the device is asked for one step after the other: `Failed` with the first that it didn't do
-/// as the chip in memory did, and why. Last, unless the chip is trusted, the same cells are read again, and compared with what the
-/// chip in memory holds then: `Failed` with the number of steps where a byte is another, or where the reading stops. `Done` where
+/// as the chip in memory did, and why. Last, unless the chip is trusted, the same cells are read again, and those
+/// that [`mark_wraps`] marks for what the chip in memory holds then, and compared with that: `Failed` with the number of steps where a byte is another, or where the reading stops. `Done` where
 /// all that went well.
 ///
 /// How many steps are done is written to `progress` after each hundred and at the end; where that fails nothing changes.
@@ -75,7 +75,7 @@ pub fn play_on_device<R: Read + Drop, W: Write + Drop, P: ByteOut>(
     }
     meaning.acceptance();
     let mut room = vec![in alloc; 0u8; widest(steps)]?;
-    let cells = compared_cells(alloc, meaning, &expected.start, port.chip.content(), steps)?;
+    let mut cells = compared_cells(alloc, meaning, &expected.start, port.chip.content(), steps)?;
     let room = room.as_mut_slice();
     let mode4 = meaning.begins4(&expected.start);
     let blank = says_blank(expected, port.chip.content());
@@ -83,7 +83,7 @@ pub fn play_on_device<R: Read + Drop, W: Write + Drop, P: ByteOut>(
         meaning,
         expected,
         mode4,
-        cells.as_slice(),
+        cells.as_mut_slice(),
         steps,
         transactions,
         blank,
@@ -98,7 +98,7 @@ fn play_compared<R: Read + Drop, W: Write + Drop, P: ByteOut>(
     meaning: &Meaning,
     expected: Expected<'_>,
     mode4: bool,
-    cells: &[bool],
+    cells: &mut [bool],
     steps: &[Step],
     transactions: u128,
     blank: bool,
@@ -109,13 +109,14 @@ fn play_compared<R: Read + Drop, W: Write + Drop, P: ByteOut>(
     requires fresh { port.old.reason ≡ None }
     requires count { port.old.failed < 2 ^ 64 - 1 }
     requires size { length port.old.chip.chip.array < 2 ^ 32 }
-    requires marked { length port.old.chip.chip.array ≡ 256 * length cells.now }
+    requires marked { length port.old.chip.chip.array ≡ 256 * length cells.old }
     requires may { MayBegin port.old.limits (moment port.old.chip (W.contents port.old.to.inner) (R.remaining port.old.from.inner)) steps.now }
     requires counted { transactions ≡ length (trail port.old.chip.setting port.old.chip.chip steps.now) }
     requires blank { SaysBlank (expectation_of expected) port.old.chip.chip.array blank }
     requires wide { All (λ step. sampled_count (step_clocks step) ≤ length room.old) steps.now }
     requires told { P.count progress.old < 2 ^ 64 - 1 }
-    ensures ends { EndsComparing port.old.limits port.old.turns (expectation_of expected.entry) meaning.now mode4 (IsMarked cells.now)
+    ensures ends { EndsComparing port.old.limits port.old.turns (expectation_of expected.entry) meaning.now mode4 (IsMarked cells.old)
+        (λ left a. IsMarked cells.old a ⊎ IsInCellOf (ShowsWrap left) a)
         (moment port.old.chip (W.contents port.old.to.inner) (R.remaining port.old.from.inner))
         steps.now result (moment port.new.chip (W.contents port.new.to.inner) (R.remaining port.new.from.inner)) }
     ensures room { port.new.failed ≤ port.old.failed + 1 }
@@ -128,6 +129,7 @@ fn play_compared<R: Read + Drop, W: Write + Drop, P: ByteOut>(
         let Halt { step, why } = halt;
         return Ending::Failed { step, why };
     }
+    mark_wraps(cells, port.chip.content());
     match compare_unless_trusted(port, mode4, cells, expected.trusted) {
         Ok(()) => Ending::Done {
             transactions,

@@ -1,7 +1,7 @@
 //! Whether the chip behind a device is like the chip in memory.
 
 ghost use Rattle.std.specs.Prelude.{◌≡◌, ◌<◌, ◌≤◌, ◌+◌, ◌-◌, ◌*◌, ◌^◌, false, length, MatchResult, IfOk};
-ghost use Rattle.norprog_play.specs.Marks.{IsMarked};
+ghost use Rattle.nor_cells.specs.Marks.{IsMarked};
 ghost use Rattle.norprog_play.specs.Moment.{moment};
 ghost use Rattle.norprog_play.specs.Likeness.{Compares, IsLike, IsUnlike};
 

@@ -7,6 +7,8 @@
 #[cfg(test)]
 mod bytes;
 #[cfg(test)]
+mod cells;
+#[cfg(test)]
 mod check;
 #[cfg(test)]
 mod devices;

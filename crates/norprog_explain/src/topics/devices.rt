@@ -14,9 +14,8 @@ pub(crate) const TOPICS: &[Topic] = &[
     ),
     (
         "device nak",
-        "The device refused a command of the handshake that it says it has, or, in the\n\
-         test of its line, an operation. Look at its firmware: it has to speak serprog,\n\
-         version 1. The chip is as it was.",
+        "The device refused a command of the handshake that it says it has. Look at its\n\
+         firmware: it has to speak serprog, version 1. The chip is as it was.",
     ),
     (
         "device differs",
@@ -107,7 +106,9 @@ pub(crate) const TOPICS: &[Topic] = &[
          done and it may be, in part: `nak` the device refused it, `silent` no answer\n\
          came, `read` or `write` failed, `differs` another byte came than `want`. Where\n\
          the number is that of all steps, all were sent, and then the chip was read\n\
-         back: at the address it doesn't hold what it must. Ask for `the chip`.",
+         back: at the address it doesn't hold what it must. Where no step touches that\n\
+         address, the chip is smaller than --uniform says, or an erase of it takes more\n\
+         than it should. Ask for `the chip`.",
     ),
     (
         "the chip",

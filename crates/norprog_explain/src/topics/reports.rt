@@ -81,7 +81,8 @@ pub(crate) const TOPICS: &[Topic] = &[
     (
         "because",
         "Why the block above is erased: the start of a smallest block inside it, and\n\
-         the lowest address there whose byte must get a 1 where the chip holds a 0.",
+         the lowest address there that has to be erased: its byte must get a 1 where\n\
+         the chip holds a 0 or, with --erased-only, another value while it isn't FF.",
     ),
     (
         "program",

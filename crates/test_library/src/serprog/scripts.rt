@@ -56,6 +56,13 @@ const FIRST: &[u8] = b"\x13\x04\x00\x00\x00\x01\x00\x03\x00\x00\x00";
 
 const LAST: &[u8] = b"\x13\x04\x00\x00\x00\x01\x00\x03\x00\x1f\x00";
 
+/// The cell 4 KiB after it, by which a chip of 4 KiB shows; the one before that cell; both.
+const MIDDLE: &[u8] = b"\x13\x04\x00\x00\x00\x01\x00\x03\x00\x10\x00";
+
+const BEFORE_IT: &[u8] = b"\x13\x04\x00\x00\x00\x01\x00\x03\x00\x0f\x00";
+
+const BOTH: &[u8] = b"\x13\x04\x00\x00\x00\x02\x00\x03\x00\x0f\x00";
+
 /// A write enable, the program of 00h at 0, and a status read.
 const STEPS: &[u8] = b"\x13\x01\x00\x00\x00\x00\x00\x06\
     \x13\x05\x00\x00\x00\x00\x00\x02\x00\x00\x00\x00\
@@ -157,8 +164,16 @@ const GOOD: Row = Row {
     parts: 12,
     opening: GREETING,
     tested: ANSWERS,
-    put: &[STATUS, FIRST, STEPS, FIRST],
-    answers: &[b"\x06\x00\x06", CELL, DONE, b"\x06\x00", REST],
+    put: &[STATUS, FIRST, STEPS, FIRST, MIDDLE],
+    answers: &[
+        b"\x06\x00\x06",
+        CELL,
+        DONE,
+        b"\x06\x00",
+        REST,
+        b"\x06",
+        CELL,
+    ],
     released: b"\x15\x00",
     released_so: b"\x06",
     end: End::Silent,
@@ -172,6 +187,7 @@ const UNLIKE: Row = Row { code: 1, ..GOOD };
 
 /// One that stops after steps were sent.
 const HALF: Row = Row {
+    put: &[STATUS, FIRST, STEPS, FIRST],
     code: 1,
     told: &[STATE],
     ..GOOD
@@ -197,22 +213,26 @@ static DONES: [Row; 8] = [
     },
     // it is busy for two status reads, and its other bits are clear once it is idle
     Row {
-        put: &[STATUS, STATUS, STATUS, FIRST, STEPS, FIRST],
+        put: &[STATUS, STATUS, STATUS, FIRST, STEPS, FIRST, MIDDLE],
         answers: &[
             b"\x06\x01\x06\x03\x06\x00\x06",
             CELL,
             DONE,
             b"\x06\x00",
             REST,
+            b"\x06",
+            CELL,
         ],
         ..GOOD
     },
-    // the last byte that isn't FFh is compared, though no step touches it
+    // the last byte that isn't FFh is compared, though no step touches it, and the one 4 KiB below
     Row {
         last: 0x5A,
-        put: &[STATUS, FIRST, LAST, STEPS, FIRST, LAST],
+        put: &[STATUS, FIRST, BEFORE_IT, LAST, STEPS, FIRST, BOTH, LAST],
         answers: &[
             b"\x06\x00\x06",
+            CELL,
+            b"\x06",
             CELL,
             b"\x06",
             REST,
@@ -220,6 +240,9 @@ static DONES: [Row; 8] = [
             DONE,
             b"\x06\x00",
             REST,
+            b"\x06",
+            CELL,
+            CELL,
             b"\x06",
             REST,
             b"\x5a",
@@ -250,7 +273,7 @@ static DONES: [Row; 8] = [
     // the chip has the tables of the file
     Row {
         tables: true,
-        put: &[STATUS, TABLES, FIRST, STEPS, FIRST],
+        put: &[STATUS, TABLES, FIRST, STEPS, FIRST, MIDDLE],
         answers: &[
             b"\x06\x00\x06",
             &SMALL,
@@ -259,6 +282,8 @@ static DONES: [Row; 8] = [
             DONE,
             b"\x06\x00",
             REST,
+            b"\x06",
+            CELL,
         ],
         ..GOOD
     },
@@ -267,7 +292,7 @@ static DONES: [Row; 8] = [
         tables: true,
         part: Some("w25q256jv"),
         status: Some("000200"),
-        put: &[REGISTERS, TABLES, FIRST, STEPS, FIRST],
+        put: &[REGISTERS, TABLES, FIRST, STEPS, FIRST, MIDDLE],
         answers: &[
             b"\x06\x00\x06\x02\x06\x00\x06",
             &SMALL,
@@ -276,6 +301,8 @@ static DONES: [Row; 8] = [
             DONE,
             b"\x06\x00",
             REST,
+            b"\x06",
+            CELL,
         ],
         ..GOOD
     },
@@ -367,8 +394,8 @@ static UNLIKES: [Row; 15] = [
     },
     Row {
         last: 0x5A,
-        put: &[STATUS, FIRST, LAST],
-        answers: &[b"\x06\x00\x06", CELL, b"\x06", CELL],
+        put: &[STATUS, FIRST, BEFORE_IT, LAST],
+        answers: &[b"\x06\x00\x06", CELL, b"\x06", CELL, b"\x06", CELL],
         line: b"unlike differs at 00001fff chip ff dump 5a\n",
         ..UNLIKE
     },
@@ -403,7 +430,22 @@ static UNLIKES: [Row; 15] = [
 ];
 
 /// Plays that stop after steps were sent.
-static HALVES: [Row; 9] = [
+static HALVES: [Row; 10] = [
+    // a chip of 4 KiB, whose addresses wrap: the byte that was programmed is at 1000h too
+    Row {
+        put: &[STATUS, FIRST, STEPS, FIRST, MIDDLE],
+        answers: &[
+            b"\x06\x00\x06",
+            CELL,
+            DONE,
+            b"\x06\x00",
+            REST,
+            b"\x06\x00",
+            REST,
+        ],
+        line: b"failed at 3 differs at 00001000 chip 00 want ff\n",
+        ..HALF
+    },
     // a chip that takes no program, where the script doesn't read it back
     Row {
         answers: &[b"\x06\x00\x06", CELL, DONE, b"\x06", CELL],

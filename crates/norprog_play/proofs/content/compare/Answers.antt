@@ -1,7 +1,7 @@
 -- Piece by piece.
 use Rattle.std.proofs.Common.{◌≤◌, ◌+◌, refl, length, ◌∙◌, arith}
 use Rattle.std.specs.List.{slice_range}
-use Rattle.norprog_play.specs.Marks.{IsMarked}
+use Rattle.nor_cells.specs.Marks.{IsMarked}
 use Rattle.norprog_play.proofs.ComparedLemmas.{none_read, piece_more, piece_stopped, all_read}
 use Rattle.norprog_play.proofs.content.compare.Goals as goal
 

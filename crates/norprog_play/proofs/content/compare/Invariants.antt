@@ -1,7 +1,7 @@
 -- The marked bytes so far were read.
 use Rattle.std.proofs.Common.{◌≡◌, ◌≤◌, ◌-◌, length}
 use Rattle.norprog_play.specs.Compared.{HasComparedTo}
-use Rattle.norprog_play.specs.Marks.{IsMarked}
+use Rattle.nor_cells.specs.Marks.{IsMarked}
 use Rattle.norprog_play.proofs.content.compare.Given as goal
 
 abbrev pub invariant-loop-start : goal.invariant-loop-start

@@ -1,12 +1,11 @@
--- What was compared was what the steps touch, and the edges of the content.
+-- What was compared was what was to be compared.
 use Rattle.std.proofs.Common.{ℕ, List, ◌/◌, length, subst}
-use Rattle.std.specs.Prelude.{◌⊎◌}
 use Rattle.nor_base.specs.Chip.{begins4}
-use Rattle.norprog_play.specs.Edges.{IsEdge}
+use Rattle.nor_cells.specs.Compared.{IsAsked}
 use Rattle.norprog_play.specs.Expected.{expectation_of}
-use Rattle.norprog_play.specs.Marks.{AreMarks}
+use Rattle.nor_cells.specs.Marks.{AreMarks}
 use Rattle.norprog_play.specs.Moment.{moment}
-use Rattle.norprog_play.specs.Touched.{IsTouched}
+use Rattle.nor_cells.specs.Touched.{IsTouched}
 use Rattle.norprog_play.proofs.LikenessLemmas.{ends_told, as_cells}
 use Rattle.norprog_play.proofs.device.play_on_device.Goals as goal
 
@@ -14,11 +13,11 @@ pub returns-clause-ends : goal.returns-clause-ends
 returns-clause-ends g c =
     let m = c.args.meaning.now in
     let mode4 = begins4 m c.args.expected.start in
-    let Wanted : List ℕ → ℕ → Type 0 = λ content a. IsTouched m mode4 c.args.steps.now a ⊎ IsEdge content a in
+    let Wanted : List ℕ → ℕ → Type 0 = λ content. IsAsked (IsTouched m mode4 c.args.steps.now) content in
     let before = moment c.args.port.now.chip (g.W.Write.contents c.args.port.now.to.inner) (g.R.Read.remaining c.args.port.now.from.inner) in
     let after = moment c.play_compared.new.port.chip (g.W.Write.contents c.play_compared.new.port.to.inner) (g.R.Read.remaining c.play_compared.new.port.from.inner) in
     let are : AreMarks (Wanted c.args.port.now.chip.chip.array) (m.size / 256) c.in_ok-cells.cells.items =
     subst (λ (content : List ℕ). AreMarks (Wanted content) (m.size / 256) c.in_ok-cells.cells.items) c.content.ensures c.in_ok-cells.ensures in
     let cells = as_cells (Wanted c.args.port.now.chip.chip.array) c.in_ok-cells.cells.items (length c.args.port.now.chip.chip.array) m.size are c.requires.size c.acceptance.ensures.size_whole in
     ends_told c.args.port.now.limits c.args.port.now.turns (expectation_of c.args.expected) m mode4 c.begins4-mode4.result (Wanted c.args.port.now.chip.chip.array) (m.size / 256)
-    c.in_ok-cells.cells.items c.as_slice.result.now before c.args.steps.now c.begins4-mode4.ensures c.as_slice.ensures.value are cells c.play_compared.result after c.play_compared.ensures.ends
+    c.in_ok-cells.cells.items c.as_mut_slice.result.now before c.args.steps.now c.begins4-mode4.ensures c.as_mut_slice.ensures.value are cells c.play_compared.result after c.play_compared.ensures.ends

@@ -1,0 +1,5 @@
+mod TouchedLemmas
+mod BesideLemmas
+mod WrapLemmas
+mod ComparedLemmas
+mod LawLemmas

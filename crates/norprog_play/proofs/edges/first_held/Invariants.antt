@@ -1,6 +1,0 @@
--- All bytes so far are blank.
-use Rattle.norprog_play.specs.Edges.{IsFrontBlank}
-use Rattle.norprog_play.proofs.edges.first_held.Given as goal
-
-abbrev pub invariant-loop-at : goal.invariant-loop-at
-invariant-loop-at l = IsFrontBlank l.content l.at
