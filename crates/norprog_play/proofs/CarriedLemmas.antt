@@ -12,6 +12,7 @@ use Rattle.nor_serprog.specs.Follow.{Follows}
 use Rattle.nor_probe.specs.declared.difference.Mismatch.{Mismatch}
 use Rattle.nor_probe.specs.declared.difference.Mismatch.TheVariants as mismatch
 use Rattle.nor_base.specs.Parameters.{Parameters}
+use Rattle.norprog_play.specs.declared.access.Access.{Access}
 use Rattle.norprog_play.specs.declared.ending.Ending.TheVariants.{Failed}
 use Rattle.norprog_play.specs.declared.ending.Failure.{Failure}
 use Rattle.norprog_play.specs.declared.ending.Failure.TheVariants as failure
@@ -55,30 +56,30 @@ not_none m limits turns b c x given (reason.Differs place byte) can follows fail
     by_address None h = cc
 
 -- where a play that began stops
-pub stops : (limits : Limits) (turns : ℕ) (x : Expectation) (m : Parameters) (mode4 : Bool) (Wanted : ℕ → Type 0) (Again : List ℕ → ℕ → Type 0) (before between after : Moment) (steps : List Step) (at : ℕ)
-    (failed : Failure) → MayBegin limits before steps → Begins x limits turns mode4 Wanted before between → StopsAt m limits turns between steps at failed after
-    → EndsComparing limits turns x m mode4 Wanted Again before steps (Failed at failed) after
-stops limits turns x m mode4 Wanted Again before between after steps at failure.Busy may begins stop = inl (record { may = may; between = between; begins = begins; stops = stop })
-stops limits turns x m mode4 Wanted Again before between after steps at (failure.Exchange why) may begins stop =
+pub stops : (limits : Limits) (turns : ℕ) (x : Expectation) (m : Parameters) (access : Access) (Wanted : ℕ → Type 0) (Again : List ℕ → ℕ → Type 0) (before between after : Moment) (steps : List Step) (at : ℕ)
+    (failed : Failure) → MayBegin limits before steps → Begins x limits turns access Wanted before between → StopsAt m limits turns between steps at failed after
+    → EndsComparing limits turns x m access Wanted Again before steps (Failed at failed) after
+stops limits turns x m access Wanted Again before between after steps at failure.Busy may begins stop = inl (record { may = may; between = between; begins = begins; stops = stop })
+stops limits turns x m access Wanted Again before between after steps at (failure.Exchange why) may begins stop =
     inl (record { may = may; between = between; begins = begins; stops = stop })
-stops limits turns x m mode4 Wanted Again before between after steps at (failure.Differs d) may begins stop =
+stops limits turns x m access Wanted Again before between after steps at (failure.Differs d) may begins stop =
     inl (record { may = may; between = between; begins = begins; stops = stop })
-stops limits turns x m mode4 Wanted Again before between after steps at (failure.Gives chip want) may begins stop =
+stops limits turns x m access Wanted Again before between after steps at (failure.Gives chip want) may begins stop =
     inl (record { may = may; between = between; begins = begins; stops = stop })
-stops limits turns x m mode4 Wanted Again before between after steps at failure.Carried may begins stop =
+stops limits turns x m access Wanted Again before between after steps at failure.Carried may begins stop =
     absurd (not_none m limits turns stop.reached after stop.last stop.stop.given stop.stop.reason
     (one_of (IsCarried limits) steps at stop.last stop.within stop.is may.carried) stop.stop.device stop.stop.failure)
 
 -- and where the last comparison does
-pub stops_after : (limits : Limits) (turns : ℕ) (x : Expectation) (m : Parameters) (mode4 : Bool) (Wanted : ℕ → Type 0) (Again : List ℕ → ℕ → Type 0) (before after : Moment) (steps : List Step) (at : ℕ)
-    (why : Mismatch) (failed : Failure) → failed ≡ failure_by why → IsUnlikeAfter limits turns x mode4 Wanted Again before steps at failed after
-    → EndsComparing limits turns x m mode4 Wanted Again before steps (Failed at failed) after
-stops_after limits turns x m mode4 Wanted Again before after steps at (mismatch.Exchange why) failed is stop =
-    subst (λ (f : Failure). EndsComparing limits turns x m mode4 Wanted Again before steps (Failed at f) after) (sym is)
-    (inr (subst (λ (f : Failure). IsUnlikeAfter limits turns x mode4 Wanted Again before steps at f after) is stop))
-stops_after limits turns x m mode4 Wanted Again before after steps at (mismatch.Differs d) failed is stop =
-    subst (λ (f : Failure). EndsComparing limits turns x m mode4 Wanted Again before steps (Failed at f) after) (sym is)
-    (inr (subst (λ (f : Failure). IsUnlikeAfter limits turns x mode4 Wanted Again before steps at f after) is stop))
+pub stops_after : (limits : Limits) (turns : ℕ) (x : Expectation) (m : Parameters) (access : Access) (Wanted : ℕ → Type 0) (Again : List ℕ → ℕ → Type 0) (before after : Moment) (steps : List Step) (at : ℕ)
+    (why : Mismatch) (failed : Failure) → failed ≡ failure_by why → IsUnlikeAfter limits turns x access Wanted Again before steps at failed after
+    → EndsComparing limits turns x m access Wanted Again before steps (Failed at failed) after
+stops_after limits turns x m access Wanted Again before after steps at (mismatch.Exchange why) failed is stop =
+    subst (λ (f : Failure). EndsComparing limits turns x m access Wanted Again before steps (Failed at f) after) (sym is)
+    (inr (subst (λ (f : Failure). IsUnlikeAfter limits turns x access Wanted Again before steps at f after) is stop))
+stops_after limits turns x m access Wanted Again before after steps at (mismatch.Differs d) failed is stop =
+    subst (λ (f : Failure). EndsComparing limits turns x m access Wanted Again before steps (Failed at f) after) (sym is)
+    (inr (subst (λ (f : Failure). IsUnlikeAfter limits turns x access Wanted Again before steps at f after) is stop))
 
 -- the first that isn't
 pub not_carried : (limits : Limits) (steps : List Step) (at number : ℕ) (x : Step) → at < length steps → x ≡ get_or steps at x → number ≡ at

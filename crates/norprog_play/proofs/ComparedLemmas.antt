@@ -1,19 +1,16 @@
 -- Ranges read one after the other.
-use Rattle.std.proofs.Common.{◌≡◌, Bool, ℕ, ◌+◌, ◌-◌, ◌<◌, ◌≤◌, ◌⊎◌, inl, inr, List, [], ◌∷◌, ◌++◌, take, drop, length, Option, sym, ◌∙◌, ap, subst, arith, append-nil}
+use Rattle.std.proofs.Common.{◌≡◌, Bool, ℕ, ◌+◌, ◌<◌, ◌≤◌, ◌⊎◌, inl, inr, List, [], ◌∷◌, ◌++◌, length, Option, Err, sym, ◌∙◌, ap, subst, arith, append-nil}
 use Rattle.std.specs.Prelude.{flat_map, ◌↔◌}
 use Rattle.std.specs.List.{slice_range}
-use Rattle.std.specs.Io.KnownBytes.{Appends}
 use Rattle.std.proofs.lemmas.Bool.{cases_lt}
 use Rattle.std.proofs.lemmas.Grind.{flat_map-append}
-use Rattle.std.proofs.lemmas.List.{length-take-le}
-use Rattle.std.proofs.Common.{length-drop}
-use Rattle.nor_base.specs.Device.{Ahead, Gives}
-use Rattle.nor_base.proofs.DeviceLaws.{Appends-append, Appends-none, Gives-append}
+use Rattle.nor_base.specs.Device.{Ahead}
 use Rattle.nor_probe.specs.declared.difference.Mismatch.{Mismatch}
-use Rattle.nor_serprog.specs.Protocol.{request, answer}
-use Rattle.norprog_play.specs.Compared.{Range, LiesIn, LiesInOne, AreInOrder, read_from, read_of, bytes_in, HasComparedTo, HasCompared, StopsRange, StopsComparing}
+use Rattle.norprog_play.specs.declared.access.Access.{Access}
+use Rattle.norprog_play.specs.Access.{read_ops}
+use Rattle.norprog_play.specs.Compared.{Range, LiesIn, LiesInOne, AreInOrder, IsOneSided, IsOneSidedPiece, range_ops, HasOperated, HasComparedTo, HasCompared, ReadsRange, StopsComparing}
 use Rattle.nor_cells.specs.Marks.{IsMarked, IsNextMarked, AreMarkedFrom}
-use Rattle.nor_job.proofs.TargetLemmas.{gives_none}
+use Rattle.norprog_play.proofs.PieceLemmas.{none_operated, operated_then}
 
 -- one range more
 in_one_more : (rs : List Range) (r : Range) (a : ℕ) → LiesInOne (rs ++ r ∷ []) a → LiesInOne rs a ⊎ LiesIn r a
@@ -33,26 +30,27 @@ in_one_last (x ∷ xs) r a h = inr (in_one_last xs r a h)
 
 in_order_higher : (low high higher : ℕ) (rs : List Range) → high ≤ higher → AreInOrder low high rs → AreInOrder low higher rs
 in_order_higher low high higher [] more order = omega arith
-in_order_higher low high higher (r ∷ rs) more order = (order.0, order.1, in_order_higher (r.start + r.len) high higher rs more order.2)
+in_order_higher low high higher (r ∷ rs) more order = (order.0, order.1, order.2, in_order_higher (r.start + r.len) high higher rs more order.3)
 
-in_order_more : (low high higher : ℕ) (rs : List Range) (r : Range) → AreInOrder low high rs → high ≤ r.start → 0 < r.len → r.start + r.len ≤ higher
+in_order_more : (low high higher : ℕ) (rs : List Range) (r : Range) → AreInOrder low high rs → high ≤ r.start → 0 < r.len → IsOneSided r → r.start + r.len ≤ higher
     → AreInOrder low higher (rs ++ r ∷ [])
-in_order_more low high higher [] r order past some upto = (omega arith, some, upto)
-in_order_more low high higher (x ∷ xs) r order past some upto = (order.0, order.1, in_order_more (x.start + x.len) high higher xs r order.2 past some upto)
+in_order_more low high higher [] r order past some sided upto = (omega arith, some, sided, upto)
+in_order_more low high higher (x ∷ xs) r order past some sided upto =
+    (order.0, order.1, order.2, in_order_more (x.start + x.len) high higher xs r order.3 past some sided upto)
 
 -- nothing was read yet
-pub none_read : (held : Option (List ℕ)) (a : Ahead) (mode4 : Bool) (content : List ℕ) (Wanted : ℕ → Type 0) → HasComparedTo held held a a mode4 content Wanted 0
-none_read held a mode4 content Wanted = record {
+pub none_read : (held : Option (List ℕ)) (a : Ahead) (access : Access) (content : List ℕ) (Wanted : ℕ → Type 0) → HasComparedTo held held a a access content Wanted 0
+none_read held a access content Wanted = record {
   ranges = [];
   in_order = omega arith;
   just = λ k. ((λ h. absurd h), (λ h. absurd (omega (arith, h.0))));
-  read = record { out = Appends-none held; back = gives_none a };
+  read = none_operated held a;
 }
 
 -- where no address up to a higher one is wanted
-pub reaches : (held held' : Option (List ℕ)) (a b : Ahead) (mode4 : Bool) (content : List ℕ) (Wanted : ℕ → Type 0) (high higher : ℕ) → high ≤ higher
-    → ((k : ℕ) → high ≤ k → k < higher → Wanted k → ⊥) → HasComparedTo held held' a b mode4 content Wanted high → HasComparedTo held held' a b mode4 content Wanted higher
-reaches held held' a b mode4 content Wanted high higher more none so_far = record {
+pub reaches : (held held' : Option (List ℕ)) (a b : Ahead) (access : Access) (content : List ℕ) (Wanted : ℕ → Type 0) (high higher : ℕ) → high ≤ higher
+    → ((k : ℕ) → high ≤ k → k < higher → Wanted k → ⊥) → HasComparedTo held held' a b access content Wanted high → HasComparedTo held held' a b access content Wanted higher
+reaches held held' a b access content Wanted high higher more none so_far = record {
   ranges = so_far.ranges;
   in_order = in_order_higher 0 high higher so_far.ranges more so_far.in_order;
   just = λ k. (
@@ -66,18 +64,15 @@ reaches held held' a b mode4 content Wanted high higher more none so_far = recor
 }
 
 -- one range more, of addresses that are all wanted
-pub reads_more : (held held' held'' : Option (List ℕ)) (a b c : Ahead) (mode4 : Bool) (content : List ℕ) (Wanted : ℕ → Type 0) (r : Range) → 0 < r.len
-    → ((k : ℕ) → r.start ≤ k → k < r.start + r.len → Wanted k) → HasComparedTo held held' a b mode4 content Wanted r.start
-    → Appends held' held'' (read_of mode4 r) → Gives b (answer (bytes_in content r)) c → HasComparedTo held held'' a c mode4 content Wanted (r.start + r.len)
-reads_more held held' held'' a b c mode4 content Wanted r some wanted so_far put given =
-    let asked : flat_map (read_of mode4) (so_far.ranges ++ r ∷ []) ≡ flat_map (read_of mode4) so_far.ranges ++ read_of mode4 r =
-    flat_map-append (read_of mode4) so_far.ranges (r ∷ []) ∙ ap (λ l. flat_map (read_of mode4) so_far.ranges ++ l) (append-nil (read_of mode4 r)) in
-    let answers : Range → List ℕ = λ (x : Range). answer (bytes_in content x) in
-    let answered : flat_map answers (so_far.ranges ++ r ∷ []) ≡ flat_map answers so_far.ranges ++ answers r =
-    flat_map-append answers so_far.ranges (r ∷ []) ∙ ap (λ l. flat_map answers so_far.ranges ++ l) (append-nil (answers r)) in
+pub reads_more : (held held' held'' : Option (List ℕ)) (a b c : Ahead) (access : Access) (content : List ℕ) (Wanted : ℕ → Type 0) (r : Range) → 0 < r.len → IsOneSided r
+    → ((k : ℕ) → r.start ≤ k → k < r.start + r.len → Wanted k) → HasComparedTo held held' a b access content Wanted r.start
+    → HasOperated held' held'' b c (range_ops access content r) → HasComparedTo held held'' a c access content Wanted (r.start + r.len)
+reads_more held held' held'' a b c access content Wanted r some sided wanted so_far read =
+    let ops : flat_map (range_ops access content) (so_far.ranges ++ r ∷ []) ≡ flat_map (range_ops access content) so_far.ranges ++ range_ops access content r =
+    flat_map-append (range_ops access content) so_far.ranges (r ∷ []) ∙ ap (λ l. flat_map (range_ops access content) so_far.ranges ++ l) (append-nil (range_ops access content r)) in
     record {
       ranges = so_far.ranges ++ r ∷ [];
-      in_order = in_order_more 0 r.start (r.start + r.len) so_far.ranges r so_far.in_order (omega arith) some (omega arith);
+      in_order = in_order_more 0 r.start (r.start + r.len) so_far.ranges r so_far.in_order (omega arith) some sided (omega arith);
       just = λ k. (
         (λ h. elim (in_one_more so_far.ranges r k h) [
           | inl before ↦ let both = (so_far.just k).0 before in (omega (arith, both.0), both.1)
@@ -88,59 +83,49 @@ reads_more held held' held'' a b c mode4 content Wanted r some wanted so_far put
           | inr past ↦ in_one_last so_far.ranges r k (past, h.0)
         ]),
       );
-      read = record {
-        out = subst (Appends held held'') (sym asked) (Appends-append held held' held'' _ _ so_far.read.out put);
-        back = subst (λ l. Gives a l c) (sym answered) (Gives-append a b c _ _ so_far.read.back given);
-      };
+      read = subst (HasOperated held held'' a c) (sym ops) (operated_then held held' held'' a b c _ _ so_far.read read);
     }
-
-slice_of : (content : List ℕ) (start len : ℕ) → start + len ≤ length content → length (slice_range content start (start + len)) ≡ len
-slice_of content start len within =
-    let long : start + len - start ≡ len = omega arith in
-    ap (λ n. length (take n (drop start content))) long
-    ∙ length-take-le len (drop start content) (let left = length-drop start content in omega (arith, left, within))
 
 abbrev piece_of : ℕ → ℕ → Range
 piece_of start len = record { start = start; len = len }
 
 -- the next piece of marked addresses
-pub piece_more : (held held' held'' : Option (List ℕ)) (a b c : Ahead) (mode4 : Bool) (content piece : List ℕ) (marks : List Bool) (done most start len : ℕ)
-    → start + len ≤ length content → piece ≡ slice_range content start (start + len) → IsNextMarked marks done start → AreMarkedFrom marks start most len
-    → HasComparedTo held held' a b mode4 content (IsMarked marks) done → Appends held' held'' (request (read_from mode4 start (length piece)) (length piece)) → Gives b (answer piece) c
-    → HasComparedTo held held'' a c mode4 content (IsMarked marks) (start + len)
-piece_more held held' held'' a b c mode4 content piece marks done most start len within is next from so_far put given =
-    let long : length piece ≡ len = ap length is ∙ slice_of content start len within in
-    reads_more held held' held'' a b c mode4 content (IsMarked marks) (piece_of start len) from.some from.each
-    (reaches held held' a b mode4 content (IsMarked marks) done start next.past next.none_before so_far)
-    (subst (λ n. Appends held' held'' (request (read_from mode4 start n) n)) long put)
-    (subst (λ (l : List ℕ). Gives b (answer l) c) is given)
+pub piece_more : (held held' held'' : Option (List ℕ)) (a b c : Ahead) (access : Access) (content piece : List ℕ) (marks : List Bool) (done most start upto len : ℕ)
+    → start + len ≤ length content → piece ≡ slice_range content start (start + len) → IsNextMarked marks done start → AreMarkedFrom marks start most upto → 0 < len → len ≤ upto
+    → IsOneSidedPiece start len → HasComparedTo held held' a b access content (IsMarked marks) done → HasOperated held' held'' b c (read_ops access start piece)
+    → HasComparedTo held held'' a c access content (IsMarked marks) (start + len)
+piece_more held held' held'' a b c access content piece marks done most start upto len within is next from some few sided so_far read =
+    reads_more held held' held'' a b c access content (IsMarked marks) (piece_of start len) some sided (λ k past below. from.each k past (omega (arith, below, few)))
+    (reaches held held' a b access content (IsMarked marks) done start next.past next.none_before so_far)
+    (subst (λ (l : List ℕ). HasOperated held' held'' b c (read_ops access start l)) is read)
 
 -- its read ended so
-pub piece_stopped : (held held' held'' : Option (List ℕ)) (a b c : Ahead) (mode4 : Bool) (content piece : List ℕ) (marks : List Bool) (done most start len : ℕ) (why : Mismatch)
-    → start + len ≤ length content → piece ≡ slice_range content start (start + len) → IsNextMarked marks done start → AreMarkedFrom marks start most len
-    → HasComparedTo held held' a b mode4 content (IsMarked marks) done → StopsRange held' held'' b c mode4 start piece why
-    → StopsComparing held held'' a c mode4 content (IsMarked marks) why
-piece_stopped held held' held'' a b c mode4 content piece marks done most start len why within is next from so_far stop = record {
+pub piece_stopped : (held held' held'' : Option (List ℕ)) (a b c : Ahead) (access : Access) (content piece : List ℕ) (marks : List Bool) (done most start upto len : ℕ) (why : Mismatch)
+    → start + len ≤ length content → piece ≡ slice_range content start (start + len) → IsNextMarked marks done start → AreMarkedFrom marks start most upto → 0 < len → len ≤ upto
+    → IsOneSidedPiece start len → HasComparedTo held held' a b access content (IsMarked marks) done → ReadsRange held' held'' b c (Err why) access start piece
+    → StopsComparing held held'' a c access content (IsMarked marks) why
+piece_stopped held held' held'' a b c access content piece marks done most start upto len why within is next from some few sided so_far stop = record {
   last = piece_of start len;
-  some = from.some;
+  some = some;
   within = within;
-  wanted = λ k h. from.each k h.0 h.1;
+  sided = sided;
+  wanted = λ k h. from.each k h.0 (omega (arith, h.1, few));
   held = held';
   ahead = b;
-  before = reaches held held' a b mode4 content (IsMarked marks) done start next.past next.none_before so_far;
-  stop = subst (λ (l : List ℕ). StopsRange held' held'' b c mode4 start l why) is stop;
+  before = reaches held held' a b access content (IsMarked marks) done start next.past next.none_before so_far;
+  stop = subst (λ (l : List ℕ). ReadsRange held' held'' b c (Err why) access start l) is stop;
 }
 
 -- there are no more
-pub all_read : (held held' : Option (List ℕ)) (a b : Ahead) (mode4 : Bool) (content : List ℕ) (marks : List Bool) (done : ℕ) → done ≤ length content
-    → ((k : ℕ) → done ≤ k → IsMarked marks k → ⊥) → HasComparedTo held held' a b mode4 content (IsMarked marks) done → HasCompared held held' a b mode4 content (IsMarked marks)
-all_read held held' a b mode4 content marks done within none so_far =
-    reaches held held' a b mode4 content (IsMarked marks) done (length content) within (λ k past below is. none k past is) so_far
+pub all_read : (held held' : Option (List ℕ)) (a b : Ahead) (access : Access) (content : List ℕ) (marks : List Bool) (done : ℕ) → done ≤ length content
+    → ((k : ℕ) → done ≤ k → IsMarked marks k → ⊥) → HasComparedTo held held' a b access content (IsMarked marks) done → HasCompared held held' a b access content (IsMarked marks)
+all_read held held' a b access content marks done within none so_far =
+    reaches held held' a b access content (IsMarked marks) done (length content) within (λ k past below is. none k past is) so_far
 
 -- of addresses that are wanted just where others are
-pub wanted_alike : (held held' : Option (List ℕ)) (a b : Ahead) (mode4 : Bool) (content : List ℕ) (P Q : ℕ → Type 0) (high : ℕ) → ((k : ℕ) → k < high → (P k ↔ Q k))
-    → HasComparedTo held held' a b mode4 content P high → HasComparedTo held held' a b mode4 content Q high
-wanted_alike held held' a b mode4 content P Q high alike so_far = record {
+pub wanted_alike : (held held' : Option (List ℕ)) (a b : Ahead) (access : Access) (content : List ℕ) (P Q : ℕ → Type 0) (high : ℕ) → ((k : ℕ) → k < high → (P k ↔ Q k))
+    → HasComparedTo held held' a b access content P high → HasComparedTo held held' a b access content Q high
+wanted_alike held held' a b access content P Q high alike so_far = record {
   ranges = so_far.ranges;
   in_order = so_far.in_order;
   just = λ k. (

@@ -1,6 +1,7 @@
 mod TakenLemmas
 mod FollowedLemmas
 mod CarriedLemmas
+mod PieceLemmas
 mod ComparedLemmas
 mod LikenessLemmas
 mod ServedLemmas

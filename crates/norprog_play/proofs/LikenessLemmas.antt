@@ -8,6 +8,7 @@ use Rattle.nor_laws.proofs.EffectLaws.{keeps_size}
 use Rattle.nor_base.specs.Parameters.{Parameters}
 use Rattle.nor_probe.specs.declared.difference.Mismatch.{Mismatch}
 use Rattle.nor_serprog.specs.declared.limits.Limits.{Limits}
+use Rattle.norprog_play.specs.declared.access.Access.{Access}
 use Rattle.norprog_play.specs.declared.ending.Ending.{Ending}
 use Rattle.norprog_play.specs.declared.ending.Ending.TheVariants.{Done, Wrong as GoesWrong, No, Unlike, Failed}
 use Rattle.norprog_play.specs.declared.ending.Failure.{Failure}
@@ -42,17 +43,17 @@ marked_since P size old new marked cells k inside = (
 )
 
 -- where the same addresses were to be compared
-pub compares_alike : (trusted mode4 : Bool) (V W : ℕ → Type 0) (before after : Moment) → ((k : ℕ) → k < length before.shown.chip.array → (V k ↔ W k))
-    → Compares trusted mode4 V before after → Compares trusted mode4 W before after
-compares_alike true mode4 V W before after alike compared = compared
-compares_alike false mode4 V W before after alike compared = record {
+pub compares_alike : (trusted : Bool) (access : Access) (V W : ℕ → Type 0) (before after : Moment) → ((k : ℕ) → k < length before.shown.chip.array → (V k ↔ W k))
+    → Compares trusted access V before after → Compares trusted access W before after
+compares_alike true access V W before after alike compared = compared
+compares_alike false access V W before after alike compared = record {
   shown = compared.shown;
-  compared = wanted_alike before.held after.held before.ahead after.ahead mode4 before.shown.chip.array V W (length before.shown.chip.array) alike compared.compared;
+  compared = wanted_alike before.held after.held before.ahead after.ahead access before.shown.chip.array V W (length before.shown.chip.array) alike compared.compared;
 }
 
-pub unlike_alike : (mode4 : Bool) (V W : ℕ → Type 0) (before after : Moment) (why : Mismatch) → ((k : ℕ) → k < length before.shown.chip.array → (V k ↔ W k))
-    → IsUnlike mode4 V before after why → IsUnlike mode4 W before after why
-unlike_alike mode4 V W before after why alike unlike =
+pub unlike_alike : (access : Access) (V W : ℕ → Type 0) (before after : Moment) (why : Mismatch) → ((k : ℕ) → k < length before.shown.chip.array → (V k ↔ W k))
+    → IsUnlike access V before after why → IsUnlike access W before after why
+unlike_alike access V W before after why alike unlike =
     let stop = unlike.stopped in
     record {
       shown = unlike.shown;
@@ -60,10 +61,11 @@ unlike_alike mode4 V W before after why alike unlike =
         last = stop.last;
         some = stop.some;
         within = stop.within;
+        sided = stop.sided;
         wanted = λ k h. (alike k (omega (arith, h.1, stop.within))).0 (stop.wanted k h);
         held = stop.held;
         ahead = stop.ahead;
-        before = wanted_alike before.held stop.held before.ahead stop.ahead mode4 before.shown.chip.array V W stop.last.start
+        before = wanted_alike before.held stop.held before.ahead stop.ahead access before.shown.chip.array V W stop.last.start
             (λ k below. alike k (omega (arith, below, stop.within))) stop.before;
         stop = stop.stop;
       };
@@ -80,38 +82,38 @@ since : (content : List ℕ) (old new : List Bool) (reached : Moment) → Marked
 since content old new reached marked is cells = marked_since (ShowsWrap reached.shown.chip.array) (length reached.shown.chip.array) old new
     (subst (λ (l : List ℕ). MarkedBy (ShowsWrap l) old new) is marked) cells
 
-pub compares_since : (trusted mode4 : Bool) (content : List ℕ) (old new : List Bool) (reached after : Moment) → MarkedBy (ShowsWrap content) old new
-    → content ≡ reached.shown.chip.array → length reached.shown.chip.array ≡ 256 * length old → Compares trusted mode4 (IsMarked new) reached after
-    → Compares trusted mode4 (MarkedSince old reached.shown.chip.array) reached after
-compares_since trusted mode4 content old new reached after marked is cells =
-    compares_alike trusted mode4 (IsMarked new) (MarkedSince old reached.shown.chip.array) reached after (since content old new reached marked is cells)
+pub compares_since : (trusted : Bool) (access : Access) (content : List ℕ) (old new : List Bool) (reached after : Moment) → MarkedBy (ShowsWrap content) old new
+    → content ≡ reached.shown.chip.array → length reached.shown.chip.array ≡ 256 * length old → Compares trusted access (IsMarked new) reached after
+    → Compares trusted access (MarkedSince old reached.shown.chip.array) reached after
+compares_since trusted access content old new reached after marked is cells =
+    compares_alike trusted access (IsMarked new) (MarkedSince old reached.shown.chip.array) reached after (since content old new reached marked is cells)
 
-pub unlike_since : (mode4 : Bool) (content : List ℕ) (old new : List Bool) (reached after : Moment) (why : Mismatch) → MarkedBy (ShowsWrap content) old new
-    → content ≡ reached.shown.chip.array → length reached.shown.chip.array ≡ 256 * length old → IsUnlike mode4 (IsMarked new) reached after why
-    → IsUnlike mode4 (MarkedSince old reached.shown.chip.array) reached after why
-unlike_since mode4 content old new reached after why marked is cells =
-    unlike_alike mode4 (IsMarked new) (MarkedSince old reached.shown.chip.array) reached after why (since content old new reached marked is cells)
+pub unlike_since : (access : Access) (content : List ℕ) (old new : List Bool) (reached after : Moment) (why : Mismatch) → MarkedBy (ShowsWrap content) old new
+    → content ≡ reached.shown.chip.array → length reached.shown.chip.array ≡ 256 * length old → IsUnlike access (IsMarked new) reached after why
+    → IsUnlike access (MarkedSince old reached.shown.chip.array) reached after why
+unlike_since access content old new reached after why marked is cells =
+    unlike_alike access (IsMarked new) (MarkedSince old reached.shown.chip.array) reached after why (since content old new reached marked is cells)
 
 -- a chip of whole cells
 pub as_cells : (P : ℕ → Type 0) (marks : List Bool) (long size : ℕ) → AreMarks P (size / 256) marks → long ≡ size → size % 4096 ≡ 0 → long ≡ 256 * length marks
 as_cells P marks long size are same whole = omega (arith, are.as_many, same, whole)
 
 -- a comparison leaves the chip in memory as it was
-pub compares_keep : (trusted mode4 : Bool) (Wanted : ℕ → Type 0) (before after : Moment) → Compares trusted mode4 Wanted before after → after.shown ≡ before.shown
-compares_keep true mode4 Wanted before after same = ap (λ (m : Moment). m.shown) same
-compares_keep false mode4 Wanted before after like = like.shown
+pub compares_keep : (trusted : Bool) (access : Access) (Wanted : ℕ → Type 0) (before after : Moment) → Compares trusted access Wanted before after → after.shown ≡ before.shown
+compares_keep true access Wanted before after same = ap (λ (m : Moment). m.shown) same
+compares_keep false access Wanted before after like = like.shown
 
 -- what was asked before it too
 identified_keep : (x : Expectation) (limits : Limits) (turns : ℕ) (before after : Moment) → IsIdentified x limits turns before after → after.shown ≡ before.shown
 identified_keep x limits turns before after is = is.tables.shown ∙ is.suited.asked.shown
 
-begins_by : (trusted : Bool) (x : Expectation) (limits : Limits) (turns : ℕ) (mode4 : Bool) (Wanted : ℕ → Type 0) (before after : Moment)
-    → BeginsWith trusted x limits turns mode4 Wanted before after → after.shown ≡ before.shown
-begins_by true x limits turns mode4 Wanted before after same = ap (λ (m : Moment). m.shown) same
-begins_by false x limits turns mode4 Wanted before after known = known.like.shown ∙ identified_keep x limits turns before known.between known.identified
+begins_by : (trusted : Bool) (x : Expectation) (limits : Limits) (turns : ℕ) (access : Access) (Wanted : ℕ → Type 0) (before after : Moment)
+    → BeginsWith trusted x limits turns access Wanted before after → after.shown ≡ before.shown
+begins_by true x limits turns access Wanted before after same = ap (λ (m : Moment). m.shown) same
+begins_by false x limits turns access Wanted before after known = known.like.shown ∙ identified_keep x limits turns before known.between known.identified
 
-pub begins_keep : (x : Expectation) (limits : Limits) (turns : ℕ) (mode4 : Bool) (Wanted : ℕ → Type 0) (before after : Moment)
-    → Begins x limits turns mode4 Wanted before after → after.shown ≡ before.shown
+pub begins_keep : (x : Expectation) (limits : Limits) (turns : ℕ) (access : Access) (Wanted : ℕ → Type 0) (before after : Moment)
+    → Begins x limits turns access Wanted before after → after.shown ≡ before.shown
 begins_keep x = begins_by x.trusted x
 
 -- and so do steps the number of its bytes
@@ -123,13 +125,13 @@ all_keep limits turns before after (x ∷ xs) all =
     let more = all_keep limits turns all.0 after xs all.2 in
     more ∙ one
 
-pub done_keep : (limits : Limits) (turns : ℕ) (x : Expectation) (mode4 : Bool) (Wanted : ℕ → Type 0) (before after : Moment) (steps : List Step)
-    → HasDoneAll limits turns x mode4 Wanted before steps after → length after.shown.chip.array ≡ length before.shown.chip.array
-done_keep limits turns x mode4 Wanted before after steps done =
-    all_keep limits turns done.between after steps done.does ∙ ap (λ (s : Shown). length s.chip.array) (begins_keep x limits turns mode4 Wanted before done.between done.begins)
+pub done_keep : (limits : Limits) (turns : ℕ) (x : Expectation) (access : Access) (Wanted : ℕ → Type 0) (before after : Moment) (steps : List Step)
+    → HasDoneAll limits turns x access Wanted before steps after → length after.shown.chip.array ≡ length before.shown.chip.array
+done_keep limits turns x access Wanted before after steps done =
+    all_keep limits turns done.between after steps done.does ∙ ap (λ (s : Shown). length s.chip.array) (begins_keep x limits turns access Wanted before done.between done.begins)
 
 -- how steps end where the same addresses were to be compared
-module _ (limits : Limits) (turns : ℕ) (x : Expectation) (m : Parameters) (mode4 : Bool) (V W : ℕ → Type 0) (Again More : List ℕ → ℕ → Type 0) (before : Moment)
+module _ (limits : Limits) (turns : ℕ) (x : Expectation) (m : Parameters) (access : Access) (V W : ℕ → Type 0) (Again More : List ℕ → ℕ → Type 0) (before : Moment)
     (steps : List Step) (size : ℕ) (is_size : length before.shown.chip.array ≡ size) (alike : (k : ℕ) → k < size → (V k ↔ W k))
     (again : (left : List ℕ) (k : ℕ) → k < size → (Again left k ↔ More left k)) where
   size_then : (after : Moment) → after.shown ≡ before.shown → length after.shown.chip.array ≡ size
@@ -145,30 +147,30 @@ module _ (limits : Limits) (turns : ℕ) (x : Expectation) (m : Parameters) (mod
   size_known : (between : Moment) → IsIdentified x limits turns before between → length between.shown.chip.array ≡ size
   size_known between identified = size_then between (identified_keep x limits turns before between identified)
 
-  begins_alike : (trusted : Bool) (after : Moment) → BeginsWith trusted x limits turns mode4 V before after → BeginsWith trusted x limits turns mode4 W before after
+  begins_alike : (trusted : Bool) (after : Moment) → BeginsWith trusted x limits turns access V before after → BeginsWith trusted x limits turns access W before after
   begins_alike true after same = same
   begins_alike false after known = record {
     between = known.between;
     identified = known.identified;
-    like = compares_alike false mode4 V W known.between after (alike_then known.between (size_known known.between known.identified)) known.like;
+    like = compares_alike false access V W known.between after (alike_then known.between (size_known known.between known.identified)) known.like;
   }
 
-  unknown_alike : (why : Unlikeness) (after : Moment) → IsUnknown x limits turns mode4 V before after why → IsUnknown x limits turns mode4 W before after why
+  unknown_alike : (why : Unlikeness) (after : Moment) → IsUnknown x limits turns access V before after why → IsUnknown x limits turns access W before after why
   unknown_alike unlike.Busy after is = is
   unknown_alike (unlike.Asking why) after is = is
   unknown_alike (unlike.Status status) after is = is
   unknown_alike (unlike.Registers status) after is = is
   unknown_alike (unlike.Tables why) after is = is
-  unknown_alike (unlike.Content why) after is = (is.0, is.1, unlike_alike mode4 V W is.0 after why (alike_then is.0 (size_known is.0 is.1)) is.2)
+  unknown_alike (unlike.Content why) after is = (is.0, is.1, unlike_alike access V W is.0 after why (alike_then is.0 (size_known is.0 is.1)) is.2)
 
-  done_alike : (after : Moment) → HasDoneAll limits turns x mode4 V before steps after → HasDoneAll limits turns x mode4 W before steps after
+  done_alike : (after : Moment) → HasDoneAll limits turns x access V before steps after → HasDoneAll limits turns x access W before steps after
   done_alike after done = record { between = done.between; begins = begins_alike x.trusted done.between done.begins; does = done.does }
 
-  size_after : (after : Moment) → HasDoneAll limits turns x mode4 V before steps after → length after.shown.chip.array ≡ size
-  size_after after done = done_keep limits turns x mode4 V before after steps done ∙ is_size
+  size_after : (after : Moment) → HasDoneAll limits turns x access V before steps after → length after.shown.chip.array ≡ size
+  size_after after done = done_keep limits turns x access V before after steps done ∙ is_size
 
-  stops_alike : (at : ℕ) (failed : Failure) (after : Moment) → StopsOnDevice limits turns x m mode4 V before steps at failed after
-      → StopsOnDevice limits turns x m mode4 W before steps at failed after
+  stops_alike : (at : ℕ) (failed : Failure) (after : Moment) → StopsOnDevice limits turns x m access V before steps at failed after
+      → StopsOnDevice limits turns x m access W before steps at failed after
   stops_alike at failed after stop = record {
     may = stop.may;
     between = stop.between;
@@ -176,8 +178,8 @@ module _ (limits : Limits) (turns : ℕ) (x : Expectation) (m : Parameters) (mod
     stops = stop.stops;
   }
 
-  after_alike : (at : ℕ) (failed : Failure) (after : Moment) → IsUnlikeAfter limits turns x mode4 V Again before steps at failed after
-      → IsUnlikeAfter limits turns x mode4 W More before steps at failed after
+  after_alike : (at : ℕ) (failed : Failure) (after : Moment) → IsUnlikeAfter limits turns x access V Again before steps at failed after
+      → IsUnlikeAfter limits turns x access W More before steps at failed after
   after_alike at failed after stop = record {
     may = stop.may;
     all = stop.all;
@@ -186,25 +188,25 @@ module _ (limits : Limits) (turns : ℕ) (x : Expectation) (m : Parameters) (mod
     ends = stop.ends;
     wary = stop.wary;
     why = stop.why;
-    unlike = unlike_alike mode4 (Again stop.reached.shown.chip.array) (More stop.reached.shown.chip.array) stop.reached after stop.why
+    unlike = unlike_alike access (Again stop.reached.shown.chip.array) (More stop.reached.shown.chip.array) stop.reached after stop.why
         (again_then stop.reached (size_after stop.reached stop.done)) stop.unlike;
     failure = stop.failure;
   }
 
   either_alike : (at : ℕ) (failed : Failure) (after : Moment)
-      → StopsOnDevice limits turns x m mode4 V before steps at failed after ⊎ IsUnlikeAfter limits turns x mode4 V Again before steps at failed after
-      → StopsOnDevice limits turns x m mode4 W before steps at failed after ⊎ IsUnlikeAfter limits turns x mode4 W More before steps at failed after
+      → StopsOnDevice limits turns x m access V before steps at failed after ⊎ IsUnlikeAfter limits turns x access V Again before steps at failed after
+      → StopsOnDevice limits turns x m access W before steps at failed after ⊎ IsUnlikeAfter limits turns x access W More before steps at failed after
   either_alike at failed after is = elim is [ inl stop ↦ inl (stops_alike at failed after stop) | inr late ↦ inr (after_alike at failed after late) ]
 
-  pub ends_alike : (ending : Ending) (after : Moment) → EndsComparing limits turns x m mode4 V Again before steps ending after
-      → EndsComparing limits turns x m mode4 W More before steps ending after
+  pub ends_alike : (ending : Ending) (after : Moment) → EndsComparing limits turns x m access V Again before steps ending after
+      → EndsComparing limits turns x m access W More before steps ending after
   ends_alike (Done transactions blank) after is = record {
     carried = is.carried;
     ends = is.ends;
     counted = is.counted;
     reached = is.reached;
     done = done_alike is.reached is.done;
-    back = compares_alike x.trusted mode4 (Again is.reached.shown.chip.array) (More is.reached.shown.chip.array) is.reached after
+    back = compares_alike x.trusted access (Again is.reached.shown.chip.array) (More is.reached.shown.chip.array) is.reached after
         (again_then is.reached (size_after is.reached is.done)) is.back;
     says = is.says;
   }
@@ -217,18 +219,18 @@ module _ (limits : Limits) (turns : ℕ) (x : Expectation) (m : Parameters) (mod
   ends_alike (Failed at (failure.Differs d)) after is = either_alike at (failure.Differs d) after is
   ends_alike (Failed at (failure.Gives chip want)) after is = either_alike at (failure.Gives chip want) after is
 
--- by what the code says of the mode and the marks
-pub ends_told : (limits : Limits) (turns : ℕ) (x : Expectation) (m : Parameters) (mode4 mode4' : Bool) (P : ℕ → Type 0) (count : ℕ) (marks marks' : List Bool) (before : Moment)
-    (steps : List Step) → mode4' ≡ mode4 → marks' ≡ marks → AreMarks P count marks → length before.shown.chip.array ≡ 256 * length marks → (ending : Ending) (after : Moment)
-    → EndsComparing limits turns x m mode4' (IsMarked marks') (MarkedSince marks') before steps ending after
-    → EndsComparing limits turns x m mode4 (IsInCellOf P) (λ left a. IsInCellOf P a ⊎ IsInCellOf (ShowsWrap left) a) before steps ending after
-ends_told limits turns x m mode4 mode4' P count marks marks' before steps width same are cells ending after ends =
+-- by what the code says of the access and the marks
+pub ends_told : (limits : Limits) (turns : ℕ) (x : Expectation) (m : Parameters) (access access' : Access) (P : ℕ → Type 0) (count : ℕ) (marks marks' : List Bool) (before : Moment)
+    (steps : List Step) → access' ≡ access → marks' ≡ marks → AreMarks P count marks → length before.shown.chip.array ≡ 256 * length marks → (ending : Ending) (after : Moment)
+    → EndsComparing limits turns x m access' (IsMarked marks') (MarkedSince marks') before steps ending after
+    → EndsComparing limits turns x m access (IsInCellOf P) (λ left a. IsInCellOf P a ⊎ IsInCellOf (ShowsWrap left) a) before steps ending after
+ends_told limits turns x m access access' P count marks marks' before steps width same are cells ending after ends =
     let size = length before.shown.chip.array in
     let alike = marked_alike P count size marks are cells in
-    ends_alike limits turns x m mode4 (IsMarked marks) (IsInCellOf P) (MarkedSince marks) (λ left a. IsInCellOf P a ⊎ IsInCellOf (ShowsWrap left) a) before steps size refl alike
+    ends_alike limits turns x m access (IsMarked marks) (IsInCellOf P) (MarkedSince marks) (λ left a. IsInCellOf P a ⊎ IsInCellOf (ShowsWrap left) a) before steps size refl alike
     (λ left k inside. (
       (λ h. elim h [ inl is ↦ inl ((alike k inside).0 is) | inr wrap ↦ inr wrap ]),
       (λ h. elim h [ inl is ↦ inl ((alike k inside).1 is) | inr wrap ↦ inr wrap ]),
     )) ending after
     (subst (λ b. EndsComparing limits turns x m b (IsMarked marks) (MarkedSince marks) before steps ending after) width
-    (subst (λ l. EndsComparing limits turns x m mode4' (IsMarked l) (MarkedSince l) before steps ending after) same ends))
+    (subst (λ l. EndsComparing limits turns x m access' (IsMarked l) (MarkedSince l) before steps ending after) same ends))

@@ -14,7 +14,7 @@ use Rattle.norprog_common.specs.declared.given.PlayArgs.{PlayArgs}
 use Rattle.norprog_common.specs.Chip.{origin_of}
 use Rattle.norprog_common.specs.Files.{TellsFile}
 use Rattle.norprog_common.specs.Setup.{setup_task}
-use Rattle.norprog_common.specs.FileStore.{AreTables, FileFacts, Named}
+use Rattle.norprog_common.specs.FileStore.{AreTables, FileFacts, IsAheadIn, Named}
 use Rattle.norprog_common.proofs.ToldLemmas.{asked_wider, refuses_wider, by_fault, by_files, or_usage}
 use Rattle.norprog_play.specs.declared.ending.Ending.{Ending}
 use Rattle.norprog_play.specs.declared.request.PlayRequest.{PlayRequest}
@@ -32,7 +32,7 @@ use Rattle.norprog_play.specs.Tables.{tables_of}
 serves : (files : FileFacts) (given : PlayArgs) (request : PlayRequest) → AsksFor given request → (t : PlayTask) → IsTaskOf files request t → Serves files given t
 serves files given request asks t of = record {
   chip = record { setup = request.setup; asks = asks.setup; task = of.chip };
-  text = subst (λ s. Named (λ name. files.gave name t.text) (option_map (λ t. t.now) s)) (sym asks.script) of.text;
+  script = subst (λ s. Named (λ name. IsAheadIn files name t.script) (option_map (λ t. t.now) s)) (sym asks.script) of.script;
   content = subst (λ s. Named (λ name. files.opened name t.content t.len) (option_map (λ t. t.now) s)) (sym asks.content) of.content;
   limit = rw of.limit asks.limit;
   trusted = rw of.trusted asks.trust;
@@ -77,31 +77,35 @@ expected_so t part start tables trusted family begins known =
     ∙ ap (λ (s : Start). expected_of t.part s tables trusted) begins
     ∙ ap (λ (l : List ℕ). expected_of t.part (start_of t) l trusted) known
 
+-- a file that was opened, whatever its length
+pub is_ahead_in : (files : FileFacts) (name : List ℕ) (ahead : Ahead) (len : ℕ) → files.opened name ahead len → IsAheadIn files name ahead
+is_ahead_in files name ahead len opened = (len, opened)
+
 -- what a request's play is of
-module _ (files : FileFacts) (request : PlayRequest) (tables : List ℕ) (t : Task) (text : List ℕ) (before : Ahead) (len : ℕ) (same : t ≡ setup_task request.setup tables)
-    (tables_gave : AreTables files (origin_of request.setup.chip) tables) (script_gave : files.gave request.script.now text)
+module _ (files : FileFacts) (request : PlayRequest) (tables : List ℕ) (t : Task) (script before : Ahead) (len : ℕ) (same : t ≡ setup_task request.setup tables)
+    (tables_gave : AreTables files (origin_of request.setup.chip) tables) (script_opened : IsAheadIn files request.script.now script)
     (opened : files.opened request.content.now before len) where
   abbrev task : PlayTask
-  task = record { chip = t; text = text; content = before; len = len; limit = request.limit; trusted = request.trust }
+  task = record { chip = t; script = script; content = before; len = len; limit = request.limit; trusted = request.trust }
 
   asked : IsTaskOf files request task
-  asked = record { chip = record { tables = tables; gave = tables_gave; task = same }; text = script_gave; content = opened; limit = refl; trusted = refl }
+  asked = record { chip = record { tables = tables; gave = tables_gave; task = same }; script = script_opened; content = opened; limit = refl; trusted = refl }
 
-  pub no_job : (after : Ahead) (why : Refusal) → RefusesJob t text len before after why → RefusesPlay files.lacked (IsTaskOf files request) why
-  no_job after why refused = by_fault files.lacked (IsPlayFault (IsTaskOf files request)) _ why (record {
+  pub no_job : (rest after : Ahead) (why : Refusal) → RefusesJob t script rest len before after why → RefusesPlay files.lacked (IsTaskOf files request) why
+  no_job rest after why refused = by_fault files.lacked (IsPlayFault (IsTaskOf files request)) _ why (record {
     it = task;
     asked = asked;
-    has = record { after = after; refused = refused };
+    has = record { rest = rest; after = after; refused = refused };
   })
 
-  module _ (after : Ahead) (m : Parameters) (steps : List Step) (content : List ℕ) (ready : IsReady t text len before after m steps content)
+  module _ (rest after : Ahead) (m : Parameters) (steps : List Step) (content : List ℕ) (ready : IsReady t script rest len before after m steps content)
       (x : Expectation) (is_so : x ≡ expectation task) where
     pub was_played : (r : Result Ending Unplayed) → MatchResult r (Ends request.limit x m content steps) (StopsPlay files.lacked m x.start content steps)
         → IfOk r (IsEnding (IsTaskOf files request))
     was_played (Ok ending) is = record {
       it = task;
       asked = asked;
-      has = record { after = after; m = m; steps = steps; content = content; ready = ready; ends = subst (λ (y : Expectation). Ends request.limit y m content steps ending) is_so is };
+      has = record { rest = rest; after = after; m = m; steps = steps; content = content; ready = ready; ends = subst (λ (y : Expectation). Ends request.limit y m content steps ending) is_so is };
     }
     was_played (Err why) is = tt
 
@@ -112,5 +116,5 @@ module _ (files : FileFacts) (request : PlayRequest) (tables : List ℕ) (t : Ta
     was_stopped (Err (Device why)) is = record {
       it = task;
       asked = asked;
-      has = record { after = after; m = m; steps = steps; content = content; ready = ready; stops = subst (λ (y : Expectation). EndsGreeting m y.start content steps why) is_so is };
+      has = record { rest = rest; after = after; m = m; steps = steps; content = content; ready = ready; stops = subst (λ (y : Expectation). EndsGreeting m y.start content steps why) is_so is };
     }

@@ -22,11 +22,12 @@ use Rattle.norprog_play.specs.State.{device_line, ReportsEnding}
 
 -- the script's steps, on that chip with that content, ended so
 pub record IsEndingOf (ending : Ending) (t : PlayTask) : Type 0 where
+  pub rest : Ahead
   pub after : Ahead
   pub m : Parameters
   pub steps : List Step
   pub content : List ℕ
-  pub ready : IsReady t.chip t.text t.len t.content after m steps content
+  pub ready : IsReady t.chip t.script rest t.len t.content after m steps content
   pub ends : Ends t.limit (expectation t) m content steps ending
 
 abbrev pub IsEnding : (PlayTask → Type 0) → Ending → Type 0
@@ -34,8 +35,9 @@ IsEnding Asked ending = ForAsked PlayTask Asked (IsEndingOf ending)
 
 -- why the script isn't played on that chip
 pub record IsStopOf (why : Refusal) (t : PlayTask) : Type 0 where
+  pub rest : Ahead
   pub after : Ahead
-  pub refused : RefusesJob t.chip t.text t.len t.content after why
+  pub refused : RefusesJob t.chip t.script rest t.len t.content after why
 
 abbrev pub IsPlayFault : (PlayTask → Type 0) → Refusal → Type 0
 IsPlayFault Asked why = ForAsked PlayTask Asked (IsStopOf why)
@@ -46,11 +48,12 @@ RefusesPlay Lacked Asked = RefusesFor Lacked (IsPlayFault Asked) ⊥
 
 -- the script's steps might be played on that chip with that content, but the handshake ended so
 pub record IsGreetingOf (why : DeviceFault) (t : PlayTask) : Type 0 where
+  pub rest : Ahead
   pub after : Ahead
   pub m : Parameters
   pub steps : List Step
   pub content : List ℕ
-  pub ready : IsReady t.chip t.text t.len t.content after m steps content
+  pub ready : IsReady t.chip t.script rest t.len t.content after m steps content
   pub stops : EndsGreeting m (start_of t.chip) content steps why
 
 abbrev pub IsGreeting : (PlayTask → Type 0) → DeviceFault → Type 0

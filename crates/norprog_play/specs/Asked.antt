@@ -7,6 +7,7 @@ use Rattle.nor_probe.specs.Tables.{Compares as ComparesTables}
 use Rattle.nor_serprog.specs.declared.fault.Reason.{Reason}
 use Rattle.nor_serprog.specs.declared.fault.Reason.TheVariants as reason
 use Rattle.nor_serprog.specs.declared.limits.Limits.{Limits}
+use Rattle.norprog_play.specs.declared.access.Access.{Access}
 use Rattle.norprog_play.specs.declared.ending.Unlike.{Unlike}
 use Rattle.norprog_play.specs.declared.ending.Unlike.TheVariants as unlike
 use Rattle.norprog_play.specs.Expected.{Expectation}
@@ -36,18 +37,18 @@ pub record IsIdentified (x : Expectation) (limits : Limits) (turns : ℕ) (befor
   pub tables : AsksTables x limits between after (Ok tt)
 
 -- and it holds what the chip in memory does at these addresses
-pub record IsKnownChip (x : Expectation) (limits : Limits) (turns : ℕ) (mode4 : Bool) (Wanted : ℕ → Type 0) (before after : Moment) : Type 0 where
+pub record IsKnownChip (x : Expectation) (limits : Limits) (turns : ℕ) (access : Access) (Wanted : ℕ → Type 0) (before after : Moment) : Type 0 where
   pub between : Moment
   pub identified : IsIdentified x limits turns before between
-  pub like : IsLike mode4 Wanted between after
+  pub like : IsLike access Wanted between after
 
 -- what comes before the steps: nothing where the chip is trusted
-abbrev pub BeginsWith : Bool → Expectation → Limits → ℕ → Bool → (ℕ → Type 0) → Moment → Moment → Type 0
-BeginsWith true x limits turns mode4 Wanted before after = after ≡ before
-BeginsWith false x limits turns mode4 Wanted before after = IsKnownChip x limits turns mode4 Wanted before after
+abbrev pub BeginsWith : Bool → Expectation → Limits → ℕ → Access → (ℕ → Type 0) → Moment → Moment → Type 0
+BeginsWith true x limits turns access Wanted before after = after ≡ before
+BeginsWith false x limits turns access Wanted before after = IsKnownChip x limits turns access Wanted before after
 
-abbrev pub Begins : Expectation → Limits → ℕ → Bool → (ℕ → Type 0) → Moment → Moment → Type 0
-Begins x limits turns mode4 Wanted before after = BeginsWith x.trusted x limits turns mode4 Wanted before after
+abbrev pub Begins : Expectation → Limits → ℕ → Access → (ℕ → Type 0) → Moment → Moment → Type 0
+Begins x limits turns access Wanted before after = BeginsWith x.trusted x limits turns access Wanted before after
 
 -- why it isn't known to be idle, to take the steps and to have these tables
 abbrev pub StopsAsking : Expectation → Limits → ℕ → Moment → Moment → Unlike → Type 0
@@ -62,7 +63,7 @@ StopsAsking x limits turns before after (unlike.Tables why) =
 StopsAsking x limits turns before after (unlike.Content why) = ⊥
 
 -- why it isn't known to be the chip that is expected
-abbrev pub IsUnknown : Expectation → Limits → ℕ → Bool → (ℕ → Type 0) → Moment → Moment → Unlike → Type 0
-IsUnknown x limits turns mode4 Wanted before after (unlike.Content why) =
-    (between : Moment) × IsIdentified x limits turns before between × IsUnlike mode4 Wanted between after why
-IsUnknown x limits turns mode4 Wanted before after other = StopsAsking x limits turns before after other
+abbrev pub IsUnknown : Expectation → Limits → ℕ → Access → (ℕ → Type 0) → Moment → Moment → Unlike → Type 0
+IsUnknown x limits turns access Wanted before after (unlike.Content why) =
+    (between : Moment) × IsIdentified x limits turns before between × IsUnlike access Wanted between after why
+IsUnknown x limits turns access Wanted before after other = StopsAsking x limits turns before after other

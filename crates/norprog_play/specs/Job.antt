@@ -1,5 +1,5 @@
 -- What is to be played on which chip, and why that isn't known (this project's).
-use Rattle.std.specs.Prelude.{◌≡◌, ◌≢◌, ℕ, List, length}
+use Rattle.std.specs.Prelude.{◌≡◌, ◌≢◌, ⊤, ℕ, List, length}
 use Rattle.nor_base.specs.declared.step.Step.{Step}
 use Rattle.nor_base.specs.Device.{Ahead, Gives, IsAtEnd}
 use Rattle.nor_base.specs.Parameters.{Parameters}
@@ -7,23 +7,25 @@ use Rattle.nor_base.specs.Script.{IsScript}
 use Rattle.nor_job.specs.declared.fault.BuildFault.TheVariants as fault
 use Rattle.nor_job.specs.Task.{Task}
 use Rattle.nor_script.specs.Faults.{IsFault}
+use Rattle.nor_script.specs.Stream.{HadText, IsSpelled}
 use Rattle.norprog_common.specs.Content.{ReadsLess}
 use Rattle.norprog_common.specs.Setup.{IsKnown, RefusesChipOf}
+use Rattle.norprog_common.specs.declared.faults.FileName.TheVariants as file
 use Rattle.norprog_common.specs.declared.faults.Refusal.{Refusal}
-use Rattle.norprog_common.specs.declared.faults.Refusal.TheVariants.{Build, Script}
+use Rattle.norprog_common.specs.declared.faults.Refusal.TheVariants.{Build, File, Script}
 
 -- the inputs don't contradict one another and give the chip these parameters, and the content has its size
 pub record IsSized (t : Task) (len : ℕ) (m : Parameters) : Type 0 where
   pub known : IsKnown t m
   pub size : len ≡ m.size
 
--- and the text spells these steps, and the reader gave the whole content
-pub record IsReady (t : Task) (text : List ℕ) (len : ℕ) (before after : Ahead) (m : Parameters) (steps : List Step) (content : List ℕ) : Type 0
-  where
-    pub sized : IsSized t len m
-    pub script : IsScript text steps
-    pub whole : length content ≡ len
-    pub given : Gives before content after
+-- and the script's reader gave the text of these steps, and the content's reader the whole content
+pub record IsReady (t : Task) (script script' : Ahead) (len : ℕ) (before after : Ahead) (m : Parameters) (steps : List Step) (content : List ℕ)
+    : Type 0 where
+  pub sized : IsSized t len m
+  pub spelled : HadText script script' (λ text. IsScript text steps)
+  pub whole : length content ≡ len
+  pub given : Gives before content after
 
 -- why the inputs give no such chip; no earlier cause holds
 abbrev pub RefusesSize : Task → ℕ → Refusal → Type 0
@@ -34,17 +36,22 @@ RefusesSize t len other = RefusesChipOf t other
 abbrev pub HasSized : Task → ℕ → Type 0
 HasSized t len = (m : Parameters) × IsSized t len m
 
--- and the text spells some steps
-abbrev pub HasSteps : Task → List ℕ → ℕ → Type 0
-HasSteps t text len = HasSized t len × ((steps : List Step) × IsScript text steps)
+-- why the script's reader gives no steps: its text has a fault, it failed, or memory was refused
+abbrev pub RefusesScript : Ahead → Ahead → Refusal → Type 0
+RefusesScript script script' (Script why) = HadText script script' (λ text. IsFault text why)
+RefusesScript script script' (File file.Script) = ⊤
+RefusesScript script script' (Build fault.Memory) = ⊤
+RefusesScript script script' other = ⊥
 
--- why nothing is played; but for Memory, where the text may have a fault, no earlier cause holds
-abbrev pub RefusesJob : Task → List ℕ → ℕ → Ahead → Ahead → Refusal → Type 0
-RefusesJob t text len before after (Script why) = HasSized t len × IsFault text why
-RefusesJob t text len before after (Build fault.ContentShort) = HasSteps t text len × ReadsLess len before after × IsAtEnd after
-RefusesJob t text len before after (Build fault.Read) = HasSteps t text len × ReadsLess len before after
-RefusesJob t text len before after (Build fault.Memory) = HasSized t len
-RefusesJob t text len before after other = RefusesSize t len other
+-- why nothing is played; except for Memory and a reader of the script that failed, no earlier cause holds
+abbrev pub RefusesJob : Task → Ahead → Ahead → ℕ → Ahead → Ahead → Refusal → Type 0
+RefusesJob t script script' len before after (Script why) = HasSized t len × HadText script script' (λ text. IsFault text why)
+RefusesJob t script script' len before after (File file.Script) = HasSized t len
+RefusesJob t script script' len before after (Build fault.ContentShort) =
+    HasSized t len × HadText script script' IsSpelled × ReadsLess len before after × IsAtEnd after
+RefusesJob t script script' len before after (Build fault.Read) = HasSized t len × HadText script script' IsSpelled × ReadsLess len before after
+RefusesJob t script script' len before after (Build fault.Memory) = HasSized t len
+RefusesJob t script script' len before after other = RefusesSize t len other
 
 -- a refusal that comes before any content is read
 abbrev pub IsEarly : Refusal → Type 0
@@ -52,3 +59,9 @@ IsEarly (Build fault.ContentShort) = ⊥
 IsEarly (Build fault.Read) = ⊥
 IsEarly (Build fault.Memory) = ⊥
 IsEarly other = Unit {0}
+
+-- and before the script is
+abbrev pub IsOfChip : Refusal → Type 0
+IsOfChip (Script why) = ⊥
+IsOfChip (File name) = ⊥
+IsOfChip why = IsEarly why

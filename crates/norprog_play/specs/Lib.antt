@@ -1,4 +1,5 @@
 pub mod Moment
+pub mod Access
 pub mod Expected
 pub mod Tables
 pub mod Asked

@@ -1,21 +1,22 @@
 -- Whether the chip behind a device holds what the chip in memory does (this project's).
 use Rattle.std.specs.Prelude.{◌≡◌, ℕ, Bool, true, false}
 use Rattle.nor_probe.specs.declared.difference.Mismatch.{Mismatch}
+use Rattle.norprog_play.specs.declared.access.Access.{Access}
 use Rattle.norprog_play.specs.Compared.{HasCompared, StopsComparing}
 use Rattle.norprog_play.specs.Moment.{Moment}
 
--- the device read just the bytes at these addresses, as a chip in this address mode is read, which are those of the chip in memory,
+-- the device read just the bytes at these addresses, as a chip is read that is read so, which are those of the chip in memory,
 -- and did nothing else
-pub record IsLike (mode4 : Bool) (Wanted : ℕ → Type 0) (before after : Moment) : Type 0 where
+pub record IsLike (access : Access) (Wanted : ℕ → Type 0) (before after : Moment) : Type 0 where
   pub shown : after.shown ≡ before.shown
-  pub compared : HasCompared before.held after.held before.ahead after.ahead mode4 before.shown.chip.array Wanted
+  pub compared : HasCompared before.held after.held before.ahead after.ahead access before.shown.chip.array Wanted
 
 -- the reading stopped so
-pub record IsUnlike (mode4 : Bool) (Wanted : ℕ → Type 0) (before after : Moment) (why : Mismatch) : Type 0 where
+pub record IsUnlike (access : Access) (Wanted : ℕ → Type 0) (before after : Moment) (why : Mismatch) : Type 0 where
   pub shown : after.shown ≡ before.shown
-  pub stopped : StopsComparing before.held after.held before.ahead after.ahead mode4 before.shown.chip.array Wanted why
+  pub stopped : StopsComparing before.held after.held before.ahead after.ahead access before.shown.chip.array Wanted why
 
 -- nothing was done where the chip is trusted; else it was compared
-abbrev pub Compares : Bool → Bool → (ℕ → Type 0) → Moment → Moment → Type 0
-Compares true mode4 Wanted before after = after ≡ before
-Compares false mode4 Wanted before after = IsLike mode4 Wanted before after
+abbrev pub Compares : Bool → Access → (ℕ → Type 0) → Moment → Moment → Type 0
+Compares true access Wanted before after = after ≡ before
+Compares false access Wanted before after = IsLike access Wanted before after

@@ -1,5 +1,5 @@
 -- The play that a command line of `play` asks for (this project's). `files` is what is known of files by their names.
-use Rattle.std.specs.Prelude.{◌≡◌, ℕ, Bool, List, Some, option_map}
+use Rattle.std.specs.Prelude.{◌≡◌, ℕ, Bool, Some, option_map}
 use Rattle.nor_base.specs.Device.{Ahead}
 use Rattle.nor_job.specs.Status.{start_of}
 use Rattle.nor_job.specs.Task.{Task}
@@ -7,16 +7,16 @@ use Rattle.norprog_play.specs.Expected.{Expectation}
 use Rattle.norprog_play.specs.Tables.{tables_of}
 use Rattle.norprog_common.specs.declared.given.PlayArgs.{PlayArgs}
 use Rattle.norprog_common.specs.Setup.{IsSetupTask, ServesSetup}
-use Rattle.norprog_common.specs.FileStore.{FileFacts, Named}
+use Rattle.norprog_common.specs.FileStore.{FileFacts, IsAheadIn, Named}
 use Rattle.norprog_common.specs.Values.{limit_of}
 use Rattle.norprog_play.specs.declared.request.PlayRequest.{PlayRequest}
 use Rattle.norprog_play.specs.Request.{asked_limit}
 
--- what is asked of a play: the chip, in a task that has neither image nor layout; the script's text; what is ahead of the content's
--- reader, and its length in bytes; the most status reads of a poll; and whether the chip behind the device is trusted
+-- what is asked of a play: the chip, in a task that has neither image nor layout; what is ahead of the script's reader and of the
+-- content's, and its length in bytes; the most status reads of a poll; and whether the chip behind the device is trusted
 pub record PlayTask : Type 0 where
   pub chip : Task
-  pub text : List ℕ
+  pub script : Ahead
   pub content : Ahead
   pub len : ℕ
   pub limit : ℕ
@@ -26,10 +26,10 @@ pub record PlayTask : Type 0 where
 abbrev pub expectation : PlayTask → Expectation
 expectation t = record { part = t.chip.part; start = start_of t.chip; tables = tables_of t.chip.chip; trusted = t.trusted }
 
--- what a request asks for: its tables and its script are what their files gave, and the content's file was opened
+-- what a request asks for: its tables are what their file gave, and the files of the script and of the content were opened
 pub record IsTaskOf (files : FileFacts) (request : PlayRequest) (t : PlayTask) : Type 0 where
   pub chip : IsSetupTask files request.setup t.chip
-  pub text : files.gave request.script.now t.text
+  pub script : IsAheadIn files request.script.now t.script
   pub content : files.opened request.content.now t.content t.len
   pub limit : t.limit ≡ request.limit
   pub trusted : t.trusted ≡ request.trust
@@ -37,7 +37,7 @@ pub record IsTaskOf (files : FileFacts) (request : PlayRequest) (t : PlayTask) :
 -- what the texts ask for, each by the value that its text spells, each file by its name
 pub record Serves (files : FileFacts) (given : PlayArgs) (t : PlayTask) : Type 0 where
   pub chip : ServesSetup files given.setup t.chip
-  pub text : Named (λ name. files.gave name t.text) (option_map (λ t. t.now) given.script)
+  pub script : Named (λ name. IsAheadIn files name t.script) (option_map (λ t. t.now) given.script)
   pub content : Named (λ name. files.opened name t.content t.len) (option_map (λ t. t.now) given.content)
   pub limit : limit_of (asked_limit given) ≡ Some t.limit
   pub trusted : t.trusted ≡ given.trust

@@ -8,6 +8,7 @@ ghost use Rattle.norprog_play.specs.Expected.{expectation_of};
 ghost use Rattle.nor_cells.specs.Marks.{IsMarked};
 ghost use Rattle.norprog_play.specs.Moment.{moment};
 
+use crate::access::Access;
 use crate::ending::Unlike;
 use crate::expected::Expected;
 use crate::likeness::{compare_chip, reason_of};
@@ -21,17 +22,17 @@ use std::io::{Read, Write};
 pub(crate) fn begin<R: Read + Drop, W: Write + Drop>(
     port: &mut Shadowed<'_, R, W>,
     expected: Expected<'_>,
-    mode4: bool,
+    access: Access,
     marks: &[bool],
 ) -> Result<(), Unlike>
     requires size { length port.old.chip.chip.array < 2 ^ 32 }
     requires cells { length port.old.chip.chip.array ≡ 256 * length marks.now }
     requires count { port.old.failed < 2 ^ 64 - 1 }
     ensures begins { MatchResult result
-        (λ _. Begins (expectation_of expected.entry) port.old.limits port.old.turns mode4 (IsMarked marks.now)
+        (λ _. Begins (expectation_of expected.entry) port.old.limits port.old.turns access (IsMarked marks.now)
         (moment port.old.chip (W.contents port.old.to.inner) (R.remaining port.old.from.inner))
         (moment port.new.chip (W.contents port.new.to.inner) (R.remaining port.new.from.inner)))
-        (λ why. (expected.entry.trusted ≡ false) × IsUnknown (expectation_of expected.entry) port.old.limits port.old.turns mode4 (IsMarked marks.now)
+        (λ why. (expected.entry.trusted ≡ false) × IsUnknown (expectation_of expected.entry) port.old.limits port.old.turns access (IsMarked marks.now)
         (moment port.old.chip (W.contents port.old.to.inner) (R.remaining port.old.from.inner))
         (moment port.new.chip (W.contents port.new.to.inner) (R.remaining port.new.from.inner)) why) }
     ensures chip { port.new.chip ≡ port.old.chip }
@@ -45,7 +46,7 @@ pub(crate) fn begin<R: Read + Drop, W: Write + Drop>(
         return Ok(());
     }
     identify(port, expected)?;
-    match compare_chip(port, mode4, marks) {
+    match compare_chip(port, access, marks) {
         Ok(()) => Ok(()),
         Err(why) => Err(Unlike::Content(why)),
     }

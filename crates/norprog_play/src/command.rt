@@ -88,9 +88,9 @@ fn play_request<S: FileStore, P: ByteOut>(
 {
     let tables = tables_of(alloc, store, request.setup.chip)?;
     let (mut content, _place, len) = store.open(request.content, FileName::Content)?;
-    let (script, _place) = store.read(alloc, request.script, FileName::Script)?;
+    let (mut script, _place, _len) = store.open(request.script, FileName::Script)?;
     let inputs = setup_inputs(request.setup, tables.as_slice());
-    let job = job_of(alloc, &inputs, script.as_slice(), &mut content, len)?;
+    let job = job_of(alloc, &inputs, &mut script, &mut content, len)?;
     let expected = Expected {
         part: request.setup.part,
         start: job.start,

@@ -14,6 +14,7 @@ ghost use Rattle.nor_cells.specs.Cells.{IsInCellOf};
 ghost use Rattle.nor_cells.specs.Marks.{IsMarked};
 ghost use Rattle.nor_cells.specs.Wrap.{ShowsWrap};
 
+use crate::access::{Access, access_of};
 use crate::asked::begin;
 use crate::ending::{Ending, Failure};
 use crate::expected::Expected;
@@ -77,12 +78,12 @@ pub fn play_on_device<R: Read + Drop, W: Write + Drop, P: ByteOut>(
     let mut room = vec![in alloc; 0u8; widest(steps)]?;
     let mut cells = compared_cells(alloc, meaning, &expected.start, port.chip.content(), steps)?;
     let room = room.as_mut_slice();
-    let mode4 = meaning.begins4(&expected.start);
+    let access = access_of(meaning, &expected.start);
     let blank = says_blank(expected, port.chip.content());
     Ok(play_compared(
         meaning,
         expected,
-        mode4,
+        access,
         cells.as_mut_slice(),
         steps,
         transactions,
@@ -97,7 +98,7 @@ pub fn play_on_device<R: Read + Drop, W: Write + Drop, P: ByteOut>(
 fn play_compared<R: Read + Drop, W: Write + Drop, P: ByteOut>(
     meaning: &Meaning,
     expected: Expected<'_>,
-    mode4: bool,
+    access: Access,
     cells: &mut [bool],
     steps: &[Step],
     transactions: u128,
@@ -115,14 +116,14 @@ fn play_compared<R: Read + Drop, W: Write + Drop, P: ByteOut>(
     requires blank { SaysBlank (expectation_of expected) port.old.chip.chip.array blank }
     requires wide { All (λ step. sampled_count (step_clocks step) ≤ length room.old) steps.now }
     requires told { P.count progress.old < 2 ^ 64 - 1 }
-    ensures ends { EndsComparing port.old.limits port.old.turns (expectation_of expected.entry) meaning.now mode4 (IsMarked cells.old)
+    ensures ends { EndsComparing port.old.limits port.old.turns (expectation_of expected.entry) meaning.now access (IsMarked cells.old)
         (λ left a. IsMarked cells.old a ⊎ IsInCellOf (ShowsWrap left) a)
         (moment port.old.chip (W.contents port.old.to.inner) (R.remaining port.old.from.inner))
         steps.now result (moment port.new.chip (W.contents port.new.to.inner) (R.remaining port.new.from.inner)) }
     ensures room { port.new.failed ≤ port.old.failed + 1 }
     ensures limits { port.new.limits ≡ port.old.limits }
 {
-    if let Err(why) = begin(port, expected, mode4, cells) {
+    if let Err(why) = begin(port, expected, access, cells) {
         return Ending::Unlike { why };
     }
     if let Err(halt) = follow_steps(meaning, steps, port, room, progress) {
@@ -130,7 +131,7 @@ fn play_compared<R: Read + Drop, W: Write + Drop, P: ByteOut>(
         return Ending::Failed { step, why };
     }
     mark_wraps(cells, port.chip.content());
-    match compare_unless_trusted(port, mode4, cells, expected.trusted) {
+    match compare_unless_trusted(port, access, cells, expected.trusted) {
         Ok(()) => Ending::Done {
             transactions,
             blank,

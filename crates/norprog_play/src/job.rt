@@ -1,13 +1,17 @@
 //! From the bytes of the inputs to what is to be played, and on which chip.
 
 ghost use Rattle.std.specs.Prelude.{◌≡◌, ◌<◌, ◌-◌, ◌^◌, IfOk, IfErr};
+ghost use Rattle.nor_base.specs.Script.{IsScript};
 ghost use Rattle.nor_job.specs.Status.{start_of};
 ghost use Rattle.norprog_common.specs.Content.{CountsReader};
-ghost use Rattle.norprog_play.specs.Job.{IsSized, IsReady, RefusesSize, RefusesJob, IsEarly};
+ghost use Rattle.nor_script.specs.Stream.{HadText};
+ghost use Rattle.norprog_play.specs.Job.{IsSized, IsReady, RefusesSize, RefusesScript, RefusesJob, IsOfChip, IsEarly};
 
+use crate::script::read_steps;
 use nor_base::{ByteIn, Meaning, Start, Step};
 use nor_job::{BuildFault, Inputs};
-use norprog_common::{Refusal, known_chip, read_content};
+use nor_script::ReadFault;
+use norprog_common::{FileName, Refusal, known_chip, read_content};
 use std::alloc::Global;
 
 /// Steps, and the chip that they are to be played on.
@@ -20,32 +24,34 @@ pub struct Job {
     pub content: Vec<u8>,
 }
 
-/// What is to be played: the steps that a script's text spells, on the chip of the inputs. But for contradictions the image, the
+/// What is to be played: the steps that a script spells, on the chip of the inputs. Except for contradictions the image, the
 /// layout's regions, the base and the verifying of the inputs have no part in it.
 ///
 /// `content` gives what the chip holds, `len` bytes from address 0 on; no more are read. Memory is taken for the steps and the
-/// content.
+/// content: the script's text is never held.
 ///
-/// The first fault is told. Before any content is read: `Contradiction`, `Sfdp`, `Status` and `ModeImpossible` as a build
-/// tells them; `ContentSize` where `len` isn't the chip's size; `Script` where the text is none. Then `ContentShort` where the
-/// reader ends before `len` bytes, and `Read` where it fails. `Memory` comes where a growth is refused.
-pub fn job_of<R: ByteIn>(
+/// The first fault is reported. Before anything is read: `Contradiction`, `Sfdp`, `Status`, `ModeImpossible`, and `ContentSize`
+/// where `len` isn't the chip's size. Before any content is: `Script` where the text is none, `File` of `Script` where its reader
+/// fails. Then `ContentShort` where the reader ends before `len` bytes, and `Read` where it fails. `Memory` comes where a growth
+/// is refused.
+pub fn job_of<A: ByteIn, R: ByteIn>(
     alloc: Global,
     inputs: &Inputs<'_>,
-    script: &[u8],
+    script: &mut A,
     content: &mut R,
     len: u64,
 ) -> Result<Job, Refusal>
-    requires { R.count content.old < 2 ^ 64 - 1 }
-    ensures ready { IfOk result (λ job. IsReady inputs.now script.now len (R.ahead content.old) (R.ahead content.new)
-        job.meaning job.steps.items job.content.items) }
-    ensures start { IfOk result (λ job. job.start ≡ start_of inputs.now) }
-    ensures refused { IfErr result (RefusesJob inputs.now script.now len (R.ahead content.old) (R.ahead content.new)) }
-    ensures unread { IfErr result (λ why. IsEarly why → content.new ≡ content.old) }
+    requires script { A.count script.old < 2 ^ 64 - 1 }
+    requires content { R.count content.old < 2 ^ 64 - 1 }
+    ensures ready { IfOk result (λ job. (job.start ≡ start_of inputs.now) × IsReady inputs.now (A.ahead script.old) (A.ahead script.new) len
+        (R.ahead content.old) (R.ahead content.new) job.meaning job.steps.items job.content.items) }
+    ensures refused { IfErr result (RefusesJob inputs.now (A.ahead script.old) (A.ahead script.new) len
+        (R.ahead content.old) (R.ahead content.new)) }
+    ensures unread { IfErr result (λ why. (IsOfChip why → script.new ≡ script.old) × (IsEarly why → content.new ≡ content.old)) }
     ensures count { CountsReader (R.count content.old) (R.count content.new) result }
 {
     let (meaning, start) = sized_chip(inputs, len)?;
-    let steps = nor_script::read(alloc, script)?;
+    let steps = steps_of(alloc, script)?;
     let content = read_content(alloc, content, meaning.size)?;
     Ok(Job {
         meaning,
@@ -53,6 +59,19 @@ pub fn job_of<R: ByteIn>(
         steps,
         content,
     })
+}
+
+/// The steps of a script: its fault, or `File` of `Script` where its reader fails.
+fn steps_of<A: ByteIn>(alloc: Global, script: &mut A) -> Result<Vec<Step>, Refusal>
+    requires { A.count script.old < 2 ^ 64 - 1 }
+    ensures read { IfOk result (λ steps. HadText (A.ahead script.old) (A.ahead script.new) (λ text. IsScript text steps.items)) }
+    ensures refused { IfErr result (RefusesScript (A.ahead script.old) (A.ahead script.new)) }
+{
+    match read_steps(alloc, script) {
+        Ok(steps) => Ok(steps),
+        Err(ReadFault::Script(fault)) => Err(Refusal::from(fault)),
+        Err(ReadFault::Device(_)) => Err(Refusal::File(FileName::Script)),
+    }
 }
 
 /// The chip that the inputs describe, whose content has `len` bytes, and how it begins.

@@ -10,6 +10,7 @@
 //! what the chip in memory holds. [`write_ending`] tells how it ended.
 #![tactic(auto)]
 
+mod access;
 mod asked;
 mod command;
 mod content;
@@ -23,9 +24,11 @@ mod greeted;
 mod job;
 mod likeness;
 mod line;
+mod piece;
 mod progress;
 mod rehearsal;
 mod request;
+mod script;
 mod state;
 mod step;
 mod unplayed;

@@ -5,6 +5,7 @@ ghost use Rattle.nor_cells.specs.Marks.{IsMarked};
 ghost use Rattle.norprog_play.specs.Moment.{moment};
 ghost use Rattle.norprog_play.specs.Likeness.{Compares, IsLike, IsUnlike};
 
+use crate::access::Access;
 use crate::content::compare;
 use nor_probe::Mismatch;
 use nor_serprog::{Reason, Shadowed};
@@ -13,7 +14,7 @@ use std::io::{Read, Write};
 /// Compares the marked cells of the chip behind the device with the chip in memory, unless it is trusted.
 pub(crate) fn compare_unless_trusted<R: Read + Drop, W: Write + Drop>(
     port: &mut Shadowed<'_, R, W>,
-    mode4: bool,
+    access: Access,
     marks: &[bool],
     trusted: bool,
 ) -> Result<(), Mismatch>
@@ -21,9 +22,9 @@ pub(crate) fn compare_unless_trusted<R: Read + Drop, W: Write + Drop>(
     requires cells { length port.old.chip.chip.array ≡ 256 * length marks.now }
     requires count { port.old.failed < 2 ^ 64 - 1 }
     ensures compared { MatchResult result
-        (λ _. Compares trusted mode4 (IsMarked marks.now) (moment port.old.chip (W.contents port.old.to.inner) (R.remaining port.old.from.inner))
+        (λ _. Compares trusted access (IsMarked marks.now) (moment port.old.chip (W.contents port.old.to.inner) (R.remaining port.old.from.inner))
         (moment port.new.chip (W.contents port.new.to.inner) (R.remaining port.new.from.inner)))
-        (λ why. (trusted ≡ false) × IsUnlike mode4 (IsMarked marks.now) (moment port.old.chip (W.contents port.old.to.inner) (R.remaining port.old.from.inner))
+        (λ why. (trusted ≡ false) × IsUnlike access (IsMarked marks.now) (moment port.old.chip (W.contents port.old.to.inner) (R.remaining port.old.from.inner))
         (moment port.new.chip (W.contents port.new.to.inner) (R.remaining port.new.from.inner)) why) }
     ensures chip { port.new.chip ≡ port.old.chip }
     ensures fresh { IfOk result (λ _. port.new.reason ≡ port.old.reason) }
@@ -35,22 +36,22 @@ pub(crate) fn compare_unless_trusted<R: Read + Drop, W: Write + Drop>(
     if trusted {
         return Ok(());
     }
-    compare_chip(port, mode4, marks)
+    compare_chip(port, access, marks)
 }
 
 /// Has the device read the marked cells of its chip, and compares them with the chip in memory. A port where that stops has failed.
 pub(crate) fn compare_chip<R: Read + Drop, W: Write + Drop>(
     port: &mut Shadowed<'_, R, W>,
-    mode4: bool,
+    access: Access,
     marks: &[bool],
 ) -> Result<(), Mismatch>
     requires size { length port.old.chip.chip.array < 2 ^ 32 }
     requires cells { length port.old.chip.chip.array ≡ 256 * length marks.now }
     requires count { port.old.failed < 2 ^ 64 - 1 }
     ensures compared { MatchResult result
-        (λ _. IsLike mode4 (IsMarked marks.now) (moment port.old.chip (W.contents port.old.to.inner) (R.remaining port.old.from.inner))
+        (λ _. IsLike access (IsMarked marks.now) (moment port.old.chip (W.contents port.old.to.inner) (R.remaining port.old.from.inner))
         (moment port.new.chip (W.contents port.new.to.inner) (R.remaining port.new.from.inner)))
-        (λ why. IsUnlike mode4 (IsMarked marks.now) (moment port.old.chip (W.contents port.old.to.inner) (R.remaining port.old.from.inner))
+        (λ why. IsUnlike access (IsMarked marks.now) (moment port.old.chip (W.contents port.old.to.inner) (R.remaining port.old.from.inner))
         (moment port.new.chip (W.contents port.new.to.inner) (R.remaining port.new.from.inner)) why) }
     ensures chip { port.new.chip ≡ port.old.chip }
     ensures fresh { IfOk result (λ _. port.new.reason ≡ port.old.reason) }
@@ -64,7 +65,7 @@ pub(crate) fn compare_chip<R: Read + Drop, W: Write + Drop>(
         &mut port.from,
         &mut port.to,
         &port.limits,
-        mode4,
+        access,
         content,
         marks,
     );

@@ -7,36 +7,36 @@ use Rattle.nor_base.proofs.FaultLaws.{handed_on}
 use Rattle.norprog_play.specs.declared.unplayed.Unplayed.TheVariants.{Refused}
 use Rattle.norprog_play.specs.Answer.{IsUnplayed}
 use Rattle.norprog_play.specs.Served.{IsTaskOf}
-use Rattle.norprog_play.proofs.ServedLemmas.{expected_so, lacked_refused, no_job, was_played, was_stopped}
+use Rattle.norprog_play.proofs.ServedLemmas.{expected_so, is_ahead_in, lacked_refused, no_job, was_played, was_stopped}
 use Rattle.norprog_play.proofs.command.play_request.Goals as goal
 
 pub returns-in_err-job-clause-refused : goal.returns-in_err-job-clause-refused
 returns-in_err-job-clause-refused g c =
     let files = g.S.FileStore.facts c.args.store.now in
     let tables = subst (AreTables files (origin_of c.args.request.setup.chip)) (sym c.as_slice.ensures.value) c.in_ok-tables.ensures.tables in
-    let script = subst (files.gave c.args.request.script.now) (sym c.as_slice-2.ensures.value) c.in_ok-script.ensures.gave in
+    let script = is_ahead_in files c.args.request.script.now _ _ c.in_ok-script.ensures.opened in
     handed_on _ _ _ c.from_residual-in_err-job.ensures.1
-    (no_job files c.args.request _ _ _ _ _ c.setup_inputs-inputs.ensures tables script c.in_ok-content.ensures.opened _ _ c.in_err-job.ensures.refused)
+    (no_job files c.args.request _ _ _ _ _ c.setup_inputs-inputs.ensures tables script c.in_ok-content.ensures.opened _ _ _ c.in_err-job.ensures.refused)
 
 pub returns-clause-played : goal.returns-clause-played
 returns-clause-played g c =
     let files = g.S.FileStore.facts c.args.store.now in
     let tables = subst (AreTables files (origin_of c.args.request.setup.chip)) (sym c.as_slice.ensures.value) c.in_ok-tables.ensures.tables in
-    let script = subst (files.gave c.args.request.script.now) (sym c.as_slice-2.ensures.value) c.in_ok-script.ensures.gave in
+    let script = is_ahead_in files c.args.request.script.now _ _ c.in_ok-script.ensures.opened in
     let family : c.args.request.setup.part ≡ c.setup_inputs-inputs.result.part = sym (ap (λ (t : Task). t.part) c.setup_inputs-inputs.ensures) in
-    let same = expected_so c.setup_inputs-inputs.result c.args.request.setup.part c.in_ok-job.job.start c.known_tables.result.now c.args.request.trust family c.in_ok-job.ensures.start c.known_tables.ensures.tables in
-    was_played files c.args.request _ _ _ _ _ c.setup_inputs-inputs.ensures tables script c.in_ok-content.ensures.opened _ c.in_ok-job.job.meaning
-    c.in_ok-job.job.steps.items c.in_ok-job.job.content.items c.in_ok-job.ensures.ready _ same c.play_job.result c.play_job.ensures
+    let same = expected_so c.setup_inputs-inputs.result c.args.request.setup.part c.in_ok-job.job.start c.known_tables.result.now c.args.request.trust family c.in_ok-job.ensures.ready.0 c.known_tables.ensures.tables in
+    was_played files c.args.request _ _ _ _ _ c.setup_inputs-inputs.ensures tables script c.in_ok-content.ensures.opened _ _ c.in_ok-job.job.meaning
+    c.in_ok-job.job.steps.items c.in_ok-job.job.content.items c.in_ok-job.ensures.ready.1 _ same c.play_job.result c.play_job.ensures
 
 pub returns-clause-refused : goal.returns-clause-refused
 returns-clause-refused g c =
     let files = g.S.FileStore.facts c.args.store.now in
     let tables = subst (AreTables files (origin_of c.args.request.setup.chip)) (sym c.as_slice.ensures.value) c.in_ok-tables.ensures.tables in
-    let script = subst (files.gave c.args.request.script.now) (sym c.as_slice-2.ensures.value) c.in_ok-script.ensures.gave in
+    let script = is_ahead_in files c.args.request.script.now _ _ c.in_ok-script.ensures.opened in
     let family : c.args.request.setup.part ≡ c.setup_inputs-inputs.result.part = sym (ap (λ (t : Task). t.part) c.setup_inputs-inputs.ensures) in
-    let same = expected_so c.setup_inputs-inputs.result c.args.request.setup.part c.in_ok-job.job.start c.known_tables.result.now c.args.request.trust family c.in_ok-job.ensures.start c.known_tables.ensures.tables in
-    was_stopped files c.args.request _ _ _ _ _ c.setup_inputs-inputs.ensures tables script c.in_ok-content.ensures.opened _ c.in_ok-job.job.meaning
-    c.in_ok-job.job.steps.items c.in_ok-job.job.content.items c.in_ok-job.ensures.ready _ same c.play_job.result c.play_job.ensures
+    let same = expected_so c.setup_inputs-inputs.result c.args.request.setup.part c.in_ok-job.job.start c.known_tables.result.now c.args.request.trust family c.in_ok-job.ensures.ready.0 c.known_tables.ensures.tables in
+    was_stopped files c.args.request _ _ _ _ _ c.setup_inputs-inputs.ensures tables script c.in_ok-content.ensures.opened _ _ c.in_ok-job.job.meaning
+    c.in_ok-job.job.steps.items c.in_ok-job.job.content.items c.in_ok-job.ensures.ready.1 _ same c.play_job.result c.play_job.ensures
 
 pub returns-in_err-tables-clause-refused : goal.returns-in_err-tables-clause-refused
 returns-in_err-tables-clause-refused g c =

@@ -21,7 +21,7 @@ returns-in-Err-follow_steps-clause-ends g c =
     let before = moment c.args.port.now.chip (g.W.Write.contents c.args.port.now.to.inner) (g.R.Read.remaining c.args.port.now.from.inner) in
     let between = moment c.begin.new.port.chip (g.W.Write.contents c.begin.new.port.to.inner) (g.R.Read.remaining c.begin.new.port.from.inner) in
     let after = moment c.follow_steps.new.port.chip (g.W.Write.contents c.follow_steps.new.port.to.inner) (g.R.Read.remaining c.follow_steps.new.port.from.inner) in
-    stops c.args.port.now.limits c.args.port.now.turns (expectation_of c.args.expected) c.args.meaning.now c.args.mode4 (IsMarked c.args.cells.now) (MarkedSince c.args.cells.now) before between after c.args.steps.now
+    stops c.args.port.now.limits c.args.port.now.turns (expectation_of c.args.expected) c.args.meaning.now c.args.access (IsMarked c.args.cells.now) (MarkedSince c.args.cells.now) before between after c.args.steps.now
     c.in-Err-follow_steps.halt.step c.in-Err-follow_steps.halt.why c.requires.may c.in_default.ensures.begins
     (same_bounds c.args.meaning.now c.args.port.now.limits c.begin.new.port.limits c.args.port.now.turns c.begin.new.port.turns between after c.args.steps.now
     c.in-Err-follow_steps.halt.step c.in-Err-follow_steps.halt.why c.in_default.ensures.limits c.in_default.ensures.turns c.in-Err-follow_steps.ensures.done)
@@ -63,7 +63,7 @@ returns-in-Err-compare_unless_trusted-clause-ends g c =
     let kept = all_keep c.begin.new.port.limits c.begin.new.port.turns between reached c.args.steps.now c.in_default-follow_steps.ensures.done in
     let cells : length c.follow_steps.new.port.chip.chip.array ≡ 256 * length c.args.cells.now =
     kept ∙ ap (λ (s : Shown). length s.chip.array) c.in_default.ensures.chip ∙ c.requires.marked in
-    stops_after c.args.port.now.limits c.args.port.now.turns (expectation_of c.args.expected) c.args.meaning.now c.args.mode4 (IsMarked c.args.cells.now) (MarkedSince c.args.cells.now) before after c.args.steps.now _
+    stops_after c.args.port.now.limits c.args.port.now.turns (expectation_of c.args.expected) c.args.meaning.now c.args.access (IsMarked c.args.cells.now) (MarkedSince c.args.cells.now) before after c.args.steps.now _
     c.in-Err-compare_unless_trusted.why c.failure_by.result c.failure_by.ensures (record {
       may = c.requires.may;
       all = refl;
@@ -77,7 +77,7 @@ returns-in-Err-compare_unless_trusted-clause-ends g c =
       ends = same_end c.args.port.now.chip.setting c.args.port.now.chip.chip c.requires.may.well.0 c.follow_steps.new.port.chip.chip c.args.steps.now c.requires.may.well.1 ends;
       wary = c.in-Err-compare_unless_trusted.ensures.compared.0;
       why = c.in-Err-compare_unless_trusted.why;
-      unlike = unlike_since c.args.mode4 c.content.result.now c.args.cells.now c.mark_wraps.new.marks reached after c.in-Err-compare_unless_trusted.why c.mark_wraps.ensures
+      unlike = unlike_since c.args.access c.content.result.now c.args.cells.now c.mark_wraps.new.marks reached after c.in-Err-compare_unless_trusted.why c.mark_wraps.ensures
           c.content.ensures cells c.in-Err-compare_unless_trusted.ensures.compared.1;
       failure = c.failure_by.ensures;
     })
@@ -104,7 +104,7 @@ returns-in-Ok-clause-ends g c =
         does = done_bounds c.args.port.now.limits c.begin.new.port.limits c.args.port.now.turns c.begin.new.port.turns between reached c.args.steps.now
             c.in_default.ensures.limits c.in_default.ensures.turns c.in_default-follow_steps.ensures.done;
       };
-      back = compares_since c.args.expected.trusted c.args.mode4 c.content.result.now c.args.cells.now c.mark_wraps.new.marks reached after c.mark_wraps.ensures c.content.ensures cells
+      back = compares_since c.args.expected.trusted c.args.access c.content.result.now c.args.cells.now c.mark_wraps.new.marks reached after c.mark_wraps.ensures c.content.ensures cells
           c.in-Ok.ensures.compared;
       says = c.requires.blank;
     }

@@ -2,6 +2,7 @@
 use Rattle.std.proofs.Common.{ℕ, List, ◌/◌, length, subst}
 use Rattle.nor_base.specs.Chip.{begins4}
 use Rattle.nor_cells.specs.Compared.{IsAsked}
+use Rattle.norprog_play.specs.Access.{access_of}
 use Rattle.norprog_play.specs.Expected.{expectation_of}
 use Rattle.nor_cells.specs.Marks.{AreMarks}
 use Rattle.norprog_play.specs.Moment.{moment}
@@ -19,5 +20,5 @@ returns-clause-ends g c =
     let are : AreMarks (Wanted c.args.port.now.chip.chip.array) (m.size / 256) c.in_ok-cells.cells.items =
     subst (λ (content : List ℕ). AreMarks (Wanted content) (m.size / 256) c.in_ok-cells.cells.items) c.content.ensures c.in_ok-cells.ensures in
     let cells = as_cells (Wanted c.args.port.now.chip.chip.array) c.in_ok-cells.cells.items (length c.args.port.now.chip.chip.array) m.size are c.requires.size c.acceptance.ensures.size_whole in
-    ends_told c.args.port.now.limits c.args.port.now.turns (expectation_of c.args.expected) m mode4 c.begins4-mode4.result (Wanted c.args.port.now.chip.chip.array) (m.size / 256)
-    c.in_ok-cells.cells.items c.as_mut_slice.result.now before c.args.steps.now c.begins4-mode4.ensures c.as_mut_slice.ensures.value are cells c.play_compared.result after c.play_compared.ensures.ends
+    ends_told c.args.port.now.limits c.args.port.now.turns (expectation_of c.args.expected) m (access_of m c.args.expected.start) c.access_of-access.result (Wanted c.args.port.now.chip.chip.array) (m.size / 256)
+    c.in_ok-cells.cells.items c.as_mut_slice.result.now before c.args.steps.now c.access_of-access.ensures c.as_mut_slice.ensures.value are cells c.play_compared.result after c.play_compared.ensures.ends

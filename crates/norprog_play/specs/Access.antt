@@ -1,0 +1,67 @@
+-- By which instructions a chip is read (W25Q256JV datasheet: Read Data 03h, Read Data with 4-Byte Address 13h, Enter and Exit 4-Byte
+-- Address Mode B7h and E9h).
+use Rattle.std.specs.Prelude.{ℕ, Bool, false, ◌/◌, ◌%◌, ◌^◌, ◌&&◌, nat_lt, if◌then◌else◌, List, [], ◌∷◌, ◌++◌, length}
+use Rattle.nor_base.specs.declared.meaning.Start.{Start}
+use Rattle.nor_base.specs.declared.meaning.Switch.{Switch}
+use Rattle.nor_base.specs.declared.meaning.Switch.TheVariants.{Absent, Plain, Latched}
+use Rattle.nor_base.specs.Chip.{begins4}
+use Rattle.nor_base.specs.Instructions.{is_there}
+use Rattle.nor_base.specs.Parameters.{Parameters}
+use Rattle.nor_serprog.specs.Protocol.{request, answer}
+use Rattle.norprog_play.specs.declared.access.Access.{Access}
+use Rattle.norprog_play.specs.declared.access.Access.TheVariants.{Four, Dedicated, Entered, Near}
+
+-- past 2^24 by 13h where the tables offer it, else in four-byte mode where that can be entered and left
+abbrev pub access_of : Parameters → Start → Access
+access_of m start =
+    if begins4 m start then Four
+    else (if m.read4 then Dedicated else (if is_there m.enter && is_there m.leave then Entered m.enter m.leave else Near))
+
+-- one operation of a device: the bytes that it sends to its chip, and those that the chip gives
+pub record Operation : Type 0 where
+  pub sent : List ℕ
+  pub got : List ℕ
+
+-- its request, and the device's answer to it
+abbrev pub asked : Operation → List ℕ
+asked o = request o.sent (length o.got)
+
+abbrev pub given : Operation → List ℕ
+given o = answer o.got
+
+-- an opcode without more
+abbrev pub bare : ℕ → Operation
+bare op = record { sent = op ∷ []; got = [] }
+
+-- how four-byte mode is entered or left: where the chip asks for a write enable one is sent before, and the latch is cleared after it
+abbrev pub switch_ops : Switch → ℕ → List Operation
+switch_ops Absent op = []
+switch_ops Plain op = bare op ∷ []
+switch_ops Latched op = bare 0x06 ∷ bare op ∷ bare 0x04 ∷ []
+
+-- an opcode and an address in three bytes, and in four
+abbrev pub three_bytes : ℕ → ℕ → List ℕ
+three_bytes opcode address = opcode ∷ address / 65536 % 256 ∷ address / 256 % 256 ∷ address % 256 ∷ []
+
+abbrev pub four_bytes : ℕ → ℕ → List ℕ
+four_bytes opcode address = opcode ∷ address / 16777216 % 256 ∷ address / 65536 % 256 ∷ address / 256 % 256 ∷ address % 256 ∷ []
+
+-- such a read of bytes
+abbrev pub reading : List ℕ → List ℕ → Operation
+reading sent got = record { sent = sent; got = got }
+
+-- what reads these bytes from an address on that three address bytes don't reach
+abbrev pub far_ops : Access → ℕ → List ℕ → List Operation
+far_ops Four address got = reading (four_bytes 0x03 address) got ∷ []
+far_ops Dedicated address got = reading (four_bytes 0x13 address) got ∷ []
+far_ops (Entered enter leave) address got = switch_ops enter 0xB7 ++ (reading (four_bytes 0x03 address) got ∷ switch_ops leave 0xE9)
+far_ops Near address got = []
+
+-- the address is read by 03h with three address bytes, so that a chip in four-byte mode gives other bytes
+abbrev pub is_near : Access → ℕ → Bool
+is_near Four address = false
+is_near access address = nat_lt address (2 ^ 24)
+
+-- what reads these bytes from an address on
+abbrev pub read_ops : Access → ℕ → List ℕ → List Operation
+read_ops access address got = if is_near access address then reading (three_bytes 0x03 address) got ∷ [] else far_ops access address got
