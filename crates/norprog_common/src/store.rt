@@ -94,6 +94,8 @@ pub trait FileStore {
     ///
     /// Where it isn't one, can't be opened or asked, `File` of `Device`; `Memory` where the system says that it lacks that.
     fn open_device(&self, path: &str) -> Result<(Self::FromDevice, Self::ToDevice), Refusal>
+        ensures opened { IfOk result (λ device. (facts self.now).device path.now (Self.FromDevice.remaining device.0)
+            (Self.ToDevice.contents device.1)) }
         ensures refused { IfErr result (RefusesFile Device) }
         ensures lacked { IfErr result (TellsFile (facts self.now).lacked) };
 }

@@ -1,7 +1,9 @@
 -- Where memory is refused after the handshake.
-use Rattle.std.proofs.Common.{◌≡◌, ℕ, List, Option, Ok, Err, Result, sym, subst}
+use Rattle.std.proofs.Common.{◌≡◌, ◌∙◌, ap, ℕ, List, Option, Ok, Err, Result, sym, subst}
 use Rattle.std.specs.Prelude.{MatchResult, IsErrAnd}
+use Rattle.nor_base.specs.declared.meaning.Start.{Start}
 use Rattle.nor_base.specs.declared.step.Step.{Step}
+use Rattle.nor_base.specs.Port.{Shown}
 use Rattle.nor_base.specs.Device.{Ahead}
 use Rattle.nor_base.specs.Parameters.{Parameters}
 use Rattle.nor_serprog.specs.Greeting.{Greeted}
@@ -18,9 +20,9 @@ use Rattle.norprog_play.specs.declared.unplayed.Unplayed.TheVariants.{Refused, D
 use Rattle.norprog_play.specs.Early.{MayPlay, chip_with}
 use Rattle.norprog_play.specs.Ending.{EndsSo}
 use Rattle.norprog_play.specs.Expected.{Expectation}
-use Rattle.norprog_play.specs.Moment.{Moment}
+use Rattle.norprog_play.specs.Moment.{Moment, moment}
 use Rattle.norprog_play.specs.Opened.{FailsTest, GreetsSo, HasPlayed, Opens, Releases, StopsBefore}
-use Rattle.norprog_play.specs.Played.{EndsOnDevice, StopsPlay}
+use Rattle.norprog_play.specs.Played.{EndsOnDevice, Stands, StopsPlay}
 
 pub for_memory : {T : Type 0} (P : T → Type 0) (limits : Limits) (before after : Moment) (r : Result T Unplayed) → IsErrAnd r (λ why. why ≡ Refused (Build Memory))
     → GreetsSo before after (Ok limits) → MatchResult r P (StopsBefore before after)
@@ -48,22 +50,33 @@ has_played limits limits' turns turns' x m before between after steps ending sam
       (subst (λ n. EndsSo limits n x m between steps ending after) as_many ends);
 }
 
--- a play on some device of steps that may be played
-pub known_ends : (Lacked : FileName → Type 0) (limit turns : ℕ) (limits : Limits) (x : Expectation) (m : Parameters) (content : List ℕ) (steps : List Step) (before reached after : Moment)
-    → MayPlay (chip_with m x.start content) steps → before.shown ≡ chip_with m x.start content → turns ≡ limit → Releases limits.pins reached after → (r : Result Ending Unplayed)
+-- a play on that device of steps that may be played
+pub known_ends : (Lacked : FileName → Type 0) (Opened : Option (List ℕ) → Option (List ℕ) → Type 0) (limit turns : ℕ) (limits : Limits) (x : Expectation) (m : Parameters) (content : List ℕ) (steps : List Step) (before reached after : Moment)
+    → MayPlay (chip_with m x.start content) steps → Stands Opened m x.start content before → turns ≡ limit → Releases limits.pins reached after → (r : Result Ending Unplayed)
     → MatchResult r (λ ending. HasPlayed limits turns x m before steps ending reached) (StopsBefore before reached)
-    → MatchResult r (EndsOnDevice limit x m content steps) (StopsPlay Lacked m x.start content steps)
-known_ends Lacked limit turns limits x m content steps before reached after may shown same released (Ok ending) is = record {
+    → MatchResult r (EndsOnDevice Opened limit x m content steps) (StopsPlay Lacked Opened m x.start content steps)
+known_ends Lacked Opened limit turns limits x m content steps before reached after may stands same released (Ok ending) is = record {
   may = may;
   before = before;
   reached = reached;
   after = after;
   limits = limits;
-  shown = shown;
+  stands = stands;
   played = subst (λ n. HasPlayed limits n x m before steps ending reached) same is;
   released = released;
 }
-known_ends Lacked limit turns limits x m content steps before reached after may shown same released (Err (Device why)) is =
-    record { may = may; before = before; reached = reached; after = after; shown = shown; greeted = is; pins = limits.pins; released = released }
-known_ends Lacked limit turns limits x m content steps before reached after may shown same released (Err (Refused (Build Memory))) is = tt
-known_ends Lacked limit turns limits x m content steps before reached after may shown same released (Err (Refused other)) is = absurd is
+known_ends Lacked Opened limit turns limits x m content steps before reached after may stands same released (Err (Device why)) is =
+    record { may = may; before = before; reached = reached; after = after; stands = stands; greeted = is; pins = limits.pins; released = released }
+known_ends Lacked Opened limit turns limits x m content steps before reached after may stands same released (Err (Refused (Build Memory))) is = tt
+known_ends Lacked Opened limit turns limits x m content steps before reached after may stands same released (Err (Refused other)) is = absurd is
+
+-- a chip in memory beside a reader and a writer as they were opened
+pub stands_so : (Opened : Option (List ℕ) → Option (List ℕ) → Type 0) (m : Parameters) (start : Start) (content : List ℕ) (shown : Shown) (contents remaining contents' remaining' : Option (List ℕ))
+    → Opened remaining contents → shown ≡ chip_with m start content → contents' ≡ contents → remaining' ≡ remaining → Stands Opened m start content (moment shown contents' remaining')
+stands_so Opened m start content shown contents remaining contents' remaining' opened is taken given = record {
+  remaining = remaining;
+  contents = contents;
+  opened = opened;
+  is = ap (λ (s : Shown). moment s contents' remaining') is ∙ ap (λ o. moment (chip_with m start content) o remaining') taken
+      ∙ ap (λ o. moment (chip_with m start content) contents o) given;
+}

@@ -1,5 +1,5 @@
 -- The play that a request has is the one that its texts ask for.
-use Rattle.std.proofs.Common.{◌≡◌, option_map, ◌∙◌, ap, Bool, refl, sym, subst, List, ℕ, true, Result, Ok, Err, IfOk, IfErr}
+use Rattle.std.proofs.Common.{◌≡◌, option_map, Some, ◌∙◌, ap, Bool, refl, sym, subst, List, ℕ, true, Result, Ok, Err, IfOk, IfErr}
 use Rattle.std.specs.Prelude.{MatchResult}
 use Rattle.nor_base.specs.declared.meaning.Part.{Part}
 use Rattle.nor_base.specs.declared.meaning.Start.{Start}
@@ -34,23 +34,24 @@ serves files given request asks t of = record {
   chip = record { setup = request.setup; asks = asks.setup; task = of.chip };
   script = subst (λ s. Named (λ name. IsAheadIn files name t.script) (option_map (λ t. t.now) s)) (sym asks.script) of.script;
   content = subst (λ s. Named (λ name. files.opened name t.content t.len) (option_map (λ t. t.now) s)) (sym asks.content) of.content;
+  device = ap (λ s. option_map (λ t. t.now) s) asks.device ∙ ap Some (sym of.device);
   limit = rw of.limit asks.limit;
   trusted = rw of.trusted asks.trust;
 }
 
 ending_asked : (files : FileFacts) (given : PlayArgs) (request : PlayRequest) (ending : Ending) → AsksFor given request
-    → IsEnding (IsTaskOf files request) ending → IsEnding (Serves files given) ending
+    → IsEnding files (IsTaskOf files request) ending → IsEnding files (Serves files given) ending
 ending_asked files given request ending asks of =
-    asked_wider PlayTask (IsTaskOf files request) (Serves files given) (IsEndingOf ending) (serves files given request asks) of
+    asked_wider PlayTask (IsTaskOf files request) (Serves files given) (IsEndingOf files ending) (serves files given request asks) of
 
 pub endings_asked : (files : FileFacts) (given : PlayArgs) (request : PlayRequest) (r : Result Ending Unplayed) → AsksFor given request
-    → IfOk r (IsEnding (IsTaskOf files request)) → IfOk r (IsEnding (Serves files given))
+    → IfOk r (IsEnding files (IsTaskOf files request)) → IfOk r (IsEnding files (Serves files given))
 endings_asked files given request (Ok ending) asks of = ending_asked files given request ending asks of
 endings_asked files given request (Err why) asks of = tt
 
 -- and why it isn't played
 pub refusals_asked : (files : FileFacts) (given : PlayArgs) (request : PlayRequest) (r : Result Ending Unplayed) → AsksFor given request
-    → is_well_formed given ≡ true → IfErr r (IsUnplayed files.lacked (IsTaskOf files request))
+    → is_well_formed given ≡ true → IfErr r (IsUnplayed files (IsTaskOf files request))
     → IfErr r (RefusesToPlay files given)
 refusals_asked files given request (Ok ending) asks formed of = tt
 refusals_asked files given request (Err (Refused why)) asks formed of = or_usage _ _ _ formed (
@@ -60,7 +61,7 @@ refusals_asked files given request (Err (Refused why)) asks formed of = or_usage
     (λ none. none) why of
     )
 refusals_asked files given request (Err (Device why)) asks formed of =
-    (formed, asked_wider PlayTask (IsTaskOf files request) (Serves files given) (IsGreetingOf why) (serves files given request asks) of)
+    (formed, asked_wider PlayTask (IsTaskOf files request) (Serves files given) (IsGreetingOf files why) (serves files given request asks) of)
 
 -- a file that couldn't be used
 pub lacked_refused : (Lacked : FileName → Type 0) (Asked : PlayTask → Type 0) (why : Refusal) → TellsFile Lacked why → RefusesPlay Lacked Asked why
@@ -86,10 +87,10 @@ module _ (files : FileFacts) (request : PlayRequest) (tables : List ℕ) (t : Ta
     (tables_gave : AreTables files (origin_of request.setup.chip) tables) (script_opened : IsAheadIn files request.script.now script)
     (opened : files.opened request.content.now before len) where
   abbrev task : PlayTask
-  task = record { chip = t; script = script; content = before; len = len; limit = request.limit; trusted = request.trust }
+  task = record { chip = t; script = script; content = before; len = len; device = request.device.now; limit = request.limit; trusted = request.trust }
 
   asked : IsTaskOf files request task
-  asked = record { chip = record { tables = tables; gave = tables_gave; task = same }; script = script_opened; content = opened; limit = refl; trusted = refl }
+  asked = record { chip = record { tables = tables; gave = tables_gave; task = same }; script = script_opened; content = opened; device = refl; limit = refl; trusted = refl }
 
   pub no_job : (rest after : Ahead) (why : Refusal) → RefusesJob t script rest len before after why → RefusesPlay files.lacked (IsTaskOf files request) why
   no_job rest after why refused = by_fault files.lacked (IsPlayFault (IsTaskOf files request)) _ why (record {
@@ -100,21 +101,21 @@ module _ (files : FileFacts) (request : PlayRequest) (tables : List ℕ) (t : Ta
 
   module _ (rest after : Ahead) (m : Parameters) (steps : List Step) (content : List ℕ) (ready : IsReady t script rest len before after m steps content)
       (x : Expectation) (is_so : x ≡ expectation task) where
-    pub was_played : (r : Result Ending Unplayed) → MatchResult r (Ends request.limit x m content steps) (StopsPlay files.lacked m x.start content steps)
-        → IfOk r (IsEnding (IsTaskOf files request))
+    pub was_played : (r : Result Ending Unplayed) → MatchResult r (Ends (files.device request.device.now) request.limit x m content steps) (StopsPlay files.lacked (files.device request.device.now) m x.start content steps)
+        → IfOk r (IsEnding files (IsTaskOf files request))
     was_played (Ok ending) is = record {
       it = task;
       asked = asked;
-      has = record { rest = rest; after = after; m = m; steps = steps; content = content; ready = ready; ends = subst (λ (y : Expectation). Ends request.limit y m content steps ending) is_so is };
+      has = record { rest = rest; after = after; m = m; steps = steps; content = content; ready = ready; ends = subst (λ (y : Expectation). Ends (files.device request.device.now) request.limit y m content steps ending) is_so is };
     }
     was_played (Err why) is = tt
 
-    pub was_stopped : (r : Result Ending Unplayed) → MatchResult r (Ends request.limit x m content steps) (StopsPlay files.lacked m x.start content steps)
-        → IfErr r (IsUnplayed files.lacked (IsTaskOf files request))
+    pub was_stopped : (r : Result Ending Unplayed) → MatchResult r (Ends (files.device request.device.now) request.limit x m content steps) (StopsPlay files.lacked (files.device request.device.now) m x.start content steps)
+        → IfErr r (IsUnplayed files (IsTaskOf files request))
     was_stopped (Ok ending) is = tt
     was_stopped (Err (Refused why)) is = by_files files.lacked files.lacked (IsPlayFault (IsTaskOf files request)) _ why (λ name lacks. lacks) is
     was_stopped (Err (Device why)) is = record {
       it = task;
       asked = asked;
-      has = record { rest = rest; after = after; m = m; steps = steps; content = content; ready = ready; stops = subst (λ (y : Expectation). EndsGreeting m y.start content steps why) is_so is };
+      has = record { rest = rest; after = after; m = m; steps = steps; content = content; ready = ready; stops = subst (λ (y : Expectation). EndsGreeting (files.device request.device.now) m y.start content steps why) is_so is };
     }

@@ -1,5 +1,5 @@
 -- The play that a command line of `play` asks for (this project's). `files` is what is known of files by their names.
-use Rattle.std.specs.Prelude.{◌≡◌, ℕ, Bool, Some, option_map}
+use Rattle.std.specs.Prelude.{◌≡◌, ℕ, Bool, List, Some, option_map}
 use Rattle.nor_base.specs.Device.{Ahead}
 use Rattle.nor_job.specs.Status.{start_of}
 use Rattle.nor_job.specs.Task.{Task}
@@ -13,12 +13,13 @@ use Rattle.norprog_play.specs.declared.request.PlayRequest.{PlayRequest}
 use Rattle.norprog_play.specs.Request.{asked_limit}
 
 -- what is asked of a play: the chip, in a task that has neither image nor layout; what is ahead of the script's reader and of the
--- content's, and its length in bytes; the most status reads of a poll; and whether the chip behind the device is trusted
+-- content's, and its length in bytes; the device's name; the most status reads of a poll; and whether the chip behind it is trusted
 pub record PlayTask : Type 0 where
   pub chip : Task
   pub script : Ahead
   pub content : Ahead
   pub len : ℕ
+  pub device : List ℕ
   pub limit : ℕ
   pub trusted : Bool
 
@@ -31,6 +32,7 @@ pub record IsTaskOf (files : FileFacts) (request : PlayRequest) (t : PlayTask) :
   pub chip : IsSetupTask files request.setup t.chip
   pub script : IsAheadIn files request.script.now t.script
   pub content : files.opened request.content.now t.content t.len
+  pub device : t.device ≡ request.device.now
   pub limit : t.limit ≡ request.limit
   pub trusted : t.trusted ≡ request.trust
 
@@ -39,5 +41,6 @@ pub record Serves (files : FileFacts) (given : PlayArgs) (t : PlayTask) : Type 0
   pub chip : ServesSetup files given.setup t.chip
   pub script : Named (λ name. IsAheadIn files name t.script) (option_map (λ t. t.now) given.script)
   pub content : Named (λ name. files.opened name t.content t.len) (option_map (λ t. t.now) given.content)
+  pub device : option_map (λ t. t.now) given.device ≡ Some t.device
   pub limit : limit_of (asked_limit given) ≡ Some t.limit
   pub trusted : t.trusted ≡ given.trust

@@ -1,6 +1,7 @@
 //! `play`: from the texts of the command line to the line of an ending.
 
 ghost use Rattle.std.specs.Prelude.{◌≡◌, ◌<◌, ◌≤◌, ◌-◌, ◌^◌, true, length, IfOk, IfErr, MatchResult};
+ghost use Rattle.std.specs.Io.Buffered.{reader_remaining};
 ghost use Rattle.nor_base.specs.Chip.{IsPossible};
 ghost use Rattle.nor_base.specs.Run.{trail};
 ghost use Rattle.norprog_common.specs.Files.{TellsFile};
@@ -33,7 +34,7 @@ use std::io::BufReader;
 /// done, 1 not so or refused, 2 usage.
 ///
 /// Where steps are sent to the device, how many are done is written to `progress` after each hundred and at the end, in a line that
-/// is written over; where that fails nothing changes. What is said of the device is so of some device, from its handshake on.
+/// is written over; where that fails nothing changes.
 ///
 /// Usage is told where the texts ask for no play.
 pub fn play<S: FileStore, O: ByteOut, E: ByteOut, P: ByteOut>(
@@ -67,7 +68,7 @@ fn ending_of<S: FileStore, P: ByteOut>(
     progress: &mut P,
 ) -> Result<Ending, Unplayed>
     requires { P.count progress.old < 2 ^ 64 - 1 }
-    ensures played { IfOk result (IsEnding (Serves (S.facts store.now) given.entry)) }
+    ensures played { IfOk result (IsEnding (S.facts store.now) (Serves (S.facts store.now) given.entry)) }
     ensures asked { IfOk result (λ _. is_well_formed given.entry ≡ true) }
     ensures first { IfErr result (RefusesToPlay (S.facts store.now) given.entry) }
 {
@@ -83,8 +84,8 @@ fn play_request<S: FileStore, P: ByteOut>(
     progress: &mut P,
 ) -> Result<Ending, Unplayed>
     requires { P.count progress.old < 2 ^ 64 - 1 }
-    ensures played { IfOk result (IsEnding (IsTaskOf (S.facts store.now) request.entry)) }
-    ensures refused { IfErr result (IsUnplayed (S.facts store.now).lacked (IsTaskOf (S.facts store.now) request.entry)) }
+    ensures played { IfOk result (IsEnding (S.facts store.now) (IsTaskOf (S.facts store.now) request.entry)) }
+    ensures refused { IfErr result (IsUnplayed (S.facts store.now) (IsTaskOf (S.facts store.now) request.entry)) }
 {
     let tables = tables_of(alloc, store, request.setup.chip)?;
     let (mut content, _place, len) = store.open(request.content, FileName::Content)?;
@@ -121,8 +122,9 @@ fn play_job<S: FileStore, P: ByteOut>(
     requires size { length job.content.items ≡ job.meaning.size }
     requires mode { IsPossible job.meaning expected.start }
     requires progress { P.count progress.old < 2 ^ 64 - 1 }
-    ensures { MatchResult result (Ends limit (expectation_of expected.entry) job.meaning job.content.items job.steps.items)
-        (StopsPlay (S.facts store.now).lacked job.meaning expected.entry.start job.content.items job.steps.items) }
+    ensures { MatchResult result
+        (Ends ((S.facts store.now).device device.now) limit (expectation_of expected.entry) job.meaning job.content.items job.steps.items)
+        (StopsPlay (S.facts store.now).lacked ((S.facts store.now).device device.now) job.meaning expected.entry.start job.content.items job.steps.items) }
 {
     let Job {
         meaning,
@@ -167,8 +169,9 @@ fn play_known<S: FileStore, P: ByteOut>(
     requires counted { transactions ≡ length (trail (chip_with meaning.now expected.start content.items).setting
         (chip_with meaning.now expected.start content.items).chip steps.now) }
     requires progress { P.count progress.old < 2 ^ 64 - 1 }
-    ensures { MatchResult result (EndsOnDevice limit (expectation_of expected.entry) meaning.now content.items steps.now)
-        (StopsPlay (S.facts store.now).lacked meaning.now expected.entry.start content.items steps.now) }
+    ensures { MatchResult result
+        (EndsOnDevice ((S.facts store.now).device device.now) limit (expectation_of expected.entry) meaning.now content.items steps.now)
+        (StopsPlay (S.facts store.now).lacked ((S.facts store.now).device device.now) meaning.now expected.entry.start content.items steps.now) }
 {
     let (from, to) = open_port(alloc, store, device)?;
     let chip = Chip::new(meaning, expected.start, content, Vec::new(alloc), false);
@@ -192,7 +195,9 @@ fn open_port<S: FileStore>(
     store: &S,
     device: &str,
 ) -> Result<(BufReader<S::FromDevice>, S::ToDevice), Refusal>
-    ensures { IfErr result (TellsFile (S.facts store.now).lacked) }
+    ensures opened { IfOk result (λ port. (S.facts store.now).device device.now (reader_remaining S.FromDevice.remaining port.0)
+        (S.ToDevice.contents port.1)) }
+    ensures lacked { IfErr result (TellsFile (S.facts store.now).lacked) }
 {
     let (from, to) = store.open_device(device)?;
     match BufReader::new(alloc, from) {

@@ -41,17 +41,17 @@ returns-clause-refused g c =
 pub returns-in_err-tables-clause-refused : goal.returns-in_err-tables-clause-refused
 returns-in_err-tables-clause-refused g c =
     let files = g.S.FileStore.facts c.args.store.now in
-    handed_on (IsUnplayed files.lacked (IsTaskOf files c.args.request)) _ (Refused c.in_err-tables.field-0.0) c.from_residual.ensures.1
+    handed_on (IsUnplayed files (IsTaskOf files c.args.request)) _ (Refused c.in_err-tables.field-0.0) c.from_residual.ensures.1
     (lacked_refused files.lacked (IsTaskOf files c.args.request) c.in_err-tables.field-0.0 c.in_err-tables.ensures.lacked)
 
 pub returns-in_err-content-clause-refused : goal.returns-in_err-content-clause-refused
 returns-in_err-content-clause-refused g c =
     let files = g.S.FileStore.facts c.args.store.now in
-    handed_on (IsUnplayed files.lacked (IsTaskOf files c.args.request)) _ (Refused c.in_err-content.field-0.0) c.from_residual-in_err-content.ensures.1
+    handed_on (IsUnplayed files (IsTaskOf files c.args.request)) _ (Refused c.in_err-content.field-0.0) c.from_residual-in_err-content.ensures.1
     (lacked_refused files.lacked (IsTaskOf files c.args.request) c.in_err-content.field-0.0 c.in_err-content.ensures.lacked)
 
 pub returns-in_err-script-clause-refused : goal.returns-in_err-script-clause-refused
 returns-in_err-script-clause-refused g c =
     let files = g.S.FileStore.facts c.args.store.now in
-    handed_on (IsUnplayed files.lacked (IsTaskOf files c.args.request)) _ (Refused c.in_err-script.field-0.0) c.from_residual-in_err-script.ensures.1
+    handed_on (IsUnplayed files (IsTaskOf files c.args.request)) _ (Refused c.in_err-script.field-0.0) c.from_residual-in_err-script.ensures.1
     (lacked_refused files.lacked (IsTaskOf files c.args.request) c.in_err-script.field-0.0 c.in_err-script.ensures.lacked)
