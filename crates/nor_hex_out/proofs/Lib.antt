@@ -1,0 +1,9 @@
+mod SegmentLemmas
+mod RowLemmas
+mod DigitLemmas
+mod LineLemmas
+mod RecordLemmas
+mod GiveLemmas
+mod GoodLemmas
+mod ReadLemmas
+mod WriteLemmas

@@ -1,0 +1,3 @@
+pub mod Records
+pub mod Segments
+pub mod Laws
