@@ -13,6 +13,7 @@ use Rattle.norprog_sfdp.specs.Answer.{AnswersChip}
 use Rattle.norprog_draw.specs.Answer.{AnswersDraw}
 use Rattle.norprog_explain.specs.Explained.{explained, AnswersExplain}
 use Rattle.norprog_explain.specs.Topics.{topics}
+use Rattle.norprog_hex.specs.Answer.{AnswersHex}
 use Rattle.norprog_list.specs.Answer.{AnswersList}
 use Rattle.norprog_play.specs.Answer.{AnswersPlay}
 use Rattle.norprog_run.specs.Answer.{AnswersRun}
@@ -35,6 +36,8 @@ AnswersTo files (Ok (command.Play given)) before after Quiet Works told_before t
     AnswersPlay files given before after Quiet Works told_before told_after status
 AnswersTo files (Ok (command.Sfdp given)) before after Quiet Works told_before told_after status =
     AnswersChip files given before after Quiet Works told_before told_after status
+AnswersTo files (Ok (command.Hex given)) before after Quiet Works told_before told_after status =
+    (after ≡ before) × AnswersHex files given Quiet Works told_before told_after status
 AnswersTo files (Ok (command.Explain words)) before after Quiet Works told_before told_after status =
     AnswersExplain (explained topics words.items) before after Quiet Works told_before told_after status
 AnswersTo files (Err why) before after Quiet Works told_before told_after status =

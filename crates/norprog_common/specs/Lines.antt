@@ -19,7 +19,7 @@ use Rattle.norprog_common.specs.declared.faults.Behind.TheVariants.{Nothing, Num
 use Rattle.norprog_common.specs.declared.faults.FileName.{FileName}
 use Rattle.norprog_common.specs.declared.faults.FileName.TheVariants as file
 use Rattle.norprog_common.specs.declared.faults.Refusal.{Refusal}
-use Rattle.norprog_common.specs.declared.faults.Refusal.TheVariants.{Text, Usage, File, Build, Page, Script}
+use Rattle.norprog_common.specs.declared.faults.Refusal.TheVariants.{Text, Usage, File, Build, Page, Script, BinSize}
 
 -- words, and what stands behind them: a number in decimal, or an address in eight hexadecimal digits
 abbrev pub spelled : List ℕ → Behind → List ℕ
@@ -105,6 +105,7 @@ file_text file.Script = codes "file script"
 file_text file.Out = codes "file out"
 file_text file.Map = codes "file map"
 file_text file.Device = codes "file device"
+file_text file.Bin = codes "file bin"
 
 -- `norprog: `, a text, LF
 abbrev pub program_line : List ℕ → List ℕ
@@ -118,6 +119,7 @@ printed (File name) = program_line (file_text name)
 printed (Build fault) = program_line (fault_text fault)
 printed Page = program_line (codes "page")
 printed (Script fault) = program_line (script_text fault)
+printed BinSize = program_line (codes "bin size")
 
 -- 2 where the command line is at fault or asks for help, else 1
 abbrev pub status_after : Refusal → ℕ
@@ -127,6 +129,7 @@ status_after (File name) = 1
 status_after (Build fault) = 1
 status_after Page = 1
 status_after (Script fault) = 1
+status_after BinSize = 1
 
 -- a script's fault as a refusal: want of memory is the program's own
 abbrev pub script_refusal : ScriptFault → Refusal

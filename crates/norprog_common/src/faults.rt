@@ -28,6 +28,7 @@ pub enum FileName {
     Out,
     Map,
     Device,
+    Bin,
 }
 
 /// What stands behind the words of a refusal.
@@ -55,6 +56,8 @@ pub enum Refusal {
     Page,
     /// The script's text is none. It is never the reader's `Memory`.
     Script(ScriptFault),
+    /// A raw image reaches past the last address.
+    BinSize,
 }
 
 impl Refusal {
@@ -123,7 +126,11 @@ fn exit_status(refusal: &Refusal) -> u8
 {
     match refusal {
         Refusal::Text(_) | Refusal::Usage => 2,
-        Refusal::File(_) | Refusal::Build(_) | Refusal::Page | Refusal::Script(_) => 1,
+        Refusal::File(_)
+        | Refusal::Build(_)
+        | Refusal::Page
+        | Refusal::Script(_)
+        | Refusal::BinSize => 1,
     }
 }
 
@@ -146,6 +153,7 @@ fn write_refusal<E: ByteOut>(refusal: &Refusal, err: &mut E) -> Result<(), Faile
             let (words, behind) = script_words(*fault);
             put_line(err, words, behind)
         }
+        Refusal::BinSize => put_line(err, b"bin size", Behind::Nothing),
     }
 }
 
@@ -184,6 +192,7 @@ fn file_words(name: FileName) -> &'static [u8]
         FileName::Out => b"file out",
         FileName::Map => b"file map",
         FileName::Device => b"file device",
+        FileName::Bin => b"file bin",
     }
 }
 

@@ -78,6 +78,14 @@ pub struct DrawArgs<'a> {
     pub out: Option<&'a str>,
 }
 
+/// Of `hex`.
+#[derive(Clone, Copy)]
+pub struct HexArgs<'a> {
+    pub bin: Option<&'a str>,
+    pub at: Option<&'a str>,
+    pub out: Option<&'a str>,
+}
+
 /// Of `run`.
 #[derive(Clone, Copy)]
 pub struct RunArgs<'a> {

@@ -8,6 +8,7 @@ use Rattle.norprog_common.specs.declared.given.BuildArgs.{BuildArgs}
 use Rattle.norprog_common.specs.declared.given.CheckArgs.{CheckArgs}
 use Rattle.norprog_common.specs.declared.given.ChipArgs.{ChipArgs}
 use Rattle.norprog_common.specs.declared.given.DrawArgs.{DrawArgs}
+use Rattle.norprog_common.specs.declared.given.HexArgs.{HexArgs}
 use Rattle.norprog_common.specs.declared.given.ListArgs.{ListArgs}
 use Rattle.norprog_common.specs.declared.given.PlanArgs.{PlanArgs}
 use Rattle.norprog_common.specs.declared.given.PlayArgs.{PlayArgs}
@@ -79,6 +80,11 @@ pub record IsDrawIn (found : Found) (given : DrawArgs) : Type 0 where
   pub steps : Has found (codes "steps") (option_map (λ t. t.now) given.steps)
   pub out : Has found (codes "out") (option_map (λ t. t.now) given.out)
 
+pub record IsHexIn (found : Found) (given : HexArgs) : Type 0 where
+  pub bin : Has found (codes "bin") (option_map (λ t. t.now) given.bin)
+  pub at : Has found (codes "at") (option_map (λ t. t.now) given.at)
+  pub out : Has found (codes "out") (option_map (λ t. t.now) given.out)
+
 pub record IsPlayIn (found : Found) (given : PlayArgs) : Type 0 where
   pub setup : IsSetupIn found given.setup
   pub content : Has found (codes "content") (option_map (λ t. t.now) given.content)
@@ -117,6 +123,7 @@ IsAsked matches (command.List given) = IsUsed matches (codes "list") (λ found. 
 IsAsked matches (command.Draw given) = IsUsed matches (codes "draw") (λ found. IsDrawIn found given)
 IsAsked matches (command.Play given) = IsUsed matches (codes "play") (λ found. IsPlayIn found given)
 IsAsked matches (command.Sfdp given) = IsUsed matches (codes "sfdp") (λ found. IsChipIn found given)
+IsAsked matches (command.Hex given) = IsUsed matches (codes "hex") (λ found. IsHexIn found given)
 IsAsked matches (command.Explain words) = IsUsed matches (codes "explain") (λ found. words.items ≡ texts_of found (codes "words"))
 
 abbrev pub IsAskedBySome : Asked → Type 0

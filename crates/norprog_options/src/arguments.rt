@@ -212,6 +212,27 @@ const WAVEFORM_OUT: Choice = Choice {
     help: "The waveform; what the file held is replaced. It can't be the script",
 };
 
+const BIN: Choice = Choice {
+    name: "bin",
+    takes: Takes::File,
+    required: true,
+    help: "The raw image: bytes at one address after another",
+};
+
+const AT: Choice = Choice {
+    name: "at",
+    takes: Takes::Value("H"),
+    required: true,
+    help: "The address of its first byte: 1 to 8 hexadecimal digits",
+};
+
+const HEX_OUT: Choice = Choice {
+    name: "out",
+    takes: Takes::File,
+    required: true,
+    help: "Intel HEX; what the file held is replaced. It can't be the raw image",
+};
+
 const TIMES: Choice = Choice {
     name: "times",
     takes: Takes::Nothing,
@@ -276,7 +297,7 @@ const VERIFY: &[Choice] = &[READ_BACK];
 const SCRIPT: &[Choice] = &[SCRIPT_FILE];
 
 /// The commands, in the order of the help.
-static FORMS: [Form; 9] = [
+static FORMS: [Form; 10] = [
     Form {
         name: "build",
         about: "Writes the script that programs the chip, and prints a report of it",
@@ -356,6 +377,13 @@ static FORMS: [Form; 9] = [
         example: "Example: norprog sfdp --sfdp /sys/bus/spi/devices/spi0.0/spi-nor/sfdp",
         groups: &[Group::Chip],
         choices: &[],
+    },
+    Form {
+        name: "hex",
+        about: "Writes a raw image as Intel HEX, which build reads",
+        example: "Example: norprog hex --bin app.bin --at 8000000 --out app.hex",
+        groups: &[],
+        choices: &[BIN, AT, HEX_OUT],
     },
     Form {
         name: "explain",

@@ -2,15 +2,15 @@
 
 ghost use Rattle.std.specs.Prelude.{◌≡◌, map, IfOk};
 ghost use Rattle.clap.specs.Words.{found_of};
-ghost use Rattle.norprog_options.specs.Options.{texts_of, IsBuildIn, IsCheckIn, IsJobIn, IsChipIn, IsDrawIn, IsListIn, IsPlanIn, IsPlayIn, IsRunIn, IsSetupIn, IsAsked, IsAskedBySome};
+ghost use Rattle.norprog_options.specs.Options.{texts_of, IsBuildIn, IsCheckIn, IsJobIn, IsChipIn, IsDrawIn, IsHexIn, IsListIn, IsPlanIn, IsPlayIn, IsRunIn, IsSetupIn, IsAsked, IsAskedBySome};
 
 use crate::arguments::norprog;
 use clap::error::ErrorKind;
 use clap::{ArgMatches, Error};
 use nor_base::Bytes;
 use norprog_common::{
-    BuildArgs, CheckArgs, ChipArgs, DrawArgs, Given, ListArgs, PlanArgs, PlayArgs, Refusal,
-    RunArgs, SetupArgs,
+    BuildArgs, CheckArgs, ChipArgs, DrawArgs, Given, HexArgs, ListArgs, PlanArgs, PlayArgs,
+    Refusal, RunArgs, SetupArgs,
 };
 use std::alloc::Global;
 
@@ -25,6 +25,7 @@ pub enum Asked<'a> {
     Draw(DrawArgs<'a>),
     Play(PlayArgs<'a>),
     Sfdp(ChipArgs<'a>),
+    Hex(HexArgs<'a>),
     /// The words that are asked about.
     Explain(Vec<Bytes>),
 }
@@ -85,6 +86,9 @@ fn meaning_asked<'a>(alloc: Global, matches: &ArgMatches<'a>) -> Result<Asked<'a
 {
     if let Some(chip) = matches.subcommand_matches("sfdp") {
         return Ok(Asked::Sfdp(chip_in(chip)));
+    }
+    if let Some(hex) = matches.subcommand_matches("hex") {
+        return Ok(Asked::Hex(hex_in(hex)));
     }
     match matches.subcommand_matches("explain") {
         Some(explain) => Ok(Asked::Explain(texts_in(alloc, explain, "words")?)),
@@ -216,6 +220,17 @@ fn draw_in<'a>(draw: &ArgMatches<'a>) -> DrawArgs<'a>
         from: draw.get_str("from"),
         steps: draw.get_str("steps"),
         out: draw.get_str("out"),
+    }
+}
+
+/// The raw image.
+fn hex_in<'a>(hex: &ArgMatches<'a>) -> HexArgs<'a>
+    ensures { IsHexIn (found_of hex.now) result }
+{
+    HexArgs {
+        bin: hex.get_str("bin"),
+        at: hex.get_str("at"),
+        out: hex.get_str("out"),
     }
 }
 

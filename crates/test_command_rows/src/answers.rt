@@ -6,6 +6,7 @@ use norprog_check::check;
 use norprog_common::{Refusal, SystemFiles, refuse};
 use norprog_draw::draw;
 use norprog_explain::explain;
+use norprog_hex::hex;
 use norprog_list::list;
 use norprog_options::Asked;
 use norprog_plan::plan;
@@ -43,6 +44,7 @@ fn status_into(rt: &HostRuntime, asked: Result<Asked<'_>, Refusal>, out: File, e
         Ok(Asked::Draw(given)) => draw(alloc, &files, given, &mut err),
         Ok(Asked::Play(given)) => play(alloc, &files, given, &mut out, &mut err, &mut Nowhere),
         Ok(Asked::Sfdp(given)) => sfdp(alloc, &files, given, &mut out, &mut err),
+        Ok(Asked::Hex(given)) => hex(alloc, &files, given, &mut err),
         Ok(Asked::Explain(words)) => explain(words.as_slice(), &mut out, &mut err),
         Err(refusal) => refuse(&refusal, &mut err),
     }

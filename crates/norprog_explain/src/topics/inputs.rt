@@ -55,10 +55,16 @@ pub(crate) const TOPICS: &[Topic] = &[
          as a tty is. Look at its name and rights. Nothing was sent to it.",
     ),
     (
+        "file bin",
+        "The raw image isn't there, may not be read, or is a folder; reading it failed,\n\
+         or it hasn't the length that it had when it was opened, as a pipe hasn't.\n\
+         What stands in the output has no end record.",
+    ),
+    (
         "file",
         "A file of the command line can't be used; the word behind it says which one:\n\
-         hex, layout, sfdp, content, script, out, map or device. Ask for these two\n\
-         words.",
+         hex, layout, sfdp, content, script, out, map, device or bin. Ask for these\n\
+         two words.",
     ),
     (
         "contradiction 1",
@@ -116,6 +122,11 @@ pub(crate) const TOPICS: &[Topic] = &[
         "content size",
         "The length of the content file isn't the size of the chip. Read the whole\n\
          chip again, from its first byte to its last one, or correct the size.",
+    ),
+    (
+        "bin size",
+        "The raw image's last byte would lie past address FFFFFFFF. Correct --at, or\n\
+         give a shorter image. The output wasn't touched.",
     ),
     (
         "content short",

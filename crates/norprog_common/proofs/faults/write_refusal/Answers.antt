@@ -14,3 +14,8 @@ pub returns-in-Page-clause-bytes : goal.returns-in-Page-clause-bytes
 returns-in-Page-clause-bytes g c =
     subst (λ (refusal : Refusal). Writes (g.E.ByteOut.held c.args.err.now) (g.E.ByteOut.held c.put_line-in-Page.new.err) c.put_line-in-Page.result (printed refusal))
     (sym c.in-Page.is) c.put_line-in-Page.ensures.bytes
+
+pub returns-in-BinSize-clause-bytes : goal.returns-in-BinSize-clause-bytes
+returns-in-BinSize-clause-bytes g c =
+    subst (λ (refusal : Refusal). Writes (g.E.ByteOut.held c.args.err.now) (g.E.ByteOut.held c.put_line-in-BinSize.new.err) c.put_line-in-BinSize.result (printed refusal))
+    (sym c.in-BinSize.is) c.put_line-in-BinSize.ensures.bytes

@@ -11,10 +11,18 @@ returns-in-Some c = record {
   so = c.chip_in.ensures;
 }
 
-pub returns-in_ok-texts_in-in-Some-subcommand_matches : goal.returns-in_ok-texts_in-in-Some-subcommand_matches
-returns-in_ok-texts_in-in-Some-subcommand_matches c = record {
+pub returns-in-Some-subcommand_matches : goal.returns-in-Some-subcommand_matches
+returns-in-Some-subcommand_matches c = record {
   named = c.in-Some-subcommand_matches.ensures.found.0 refl;
-  found = found_of c.in-Some-subcommand_matches.explain.now;
+  found = found_of c.in-Some-subcommand_matches.hex.now;
   behind = c.in-Some-subcommand_matches.ensures.rows;
-  so = c.in_ok-texts_in-in-Some-subcommand_matches.ensures;
+  so = c.hex_in.ensures;
+}
+
+pub returns-in_ok-texts_in-in-Some-subcommand_matches-2 : goal.returns-in_ok-texts_in-in-Some-subcommand_matches-2
+returns-in_ok-texts_in-in-Some-subcommand_matches-2 c = record {
+  named = c.in-Some-subcommand_matches-2.ensures.found.0 refl;
+  found = found_of c.in-Some-subcommand_matches-2.explain.now;
+  behind = c.in-Some-subcommand_matches-2.ensures.rows;
+  so = c.in_ok-texts_in-in-Some-subcommand_matches-2.ensures;
 }

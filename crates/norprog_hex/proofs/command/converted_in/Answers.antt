@@ -1,0 +1,16 @@
+-- What was written, or the refusal, is of what the texts ask for.
+use Rattle.std.proofs.Common.{rules, ◌≡◌, true}
+use Rattle.norprog_hex.specs.Request.{is_well_formed, AsksFor}
+use Rattle.norprog_hex.proofs.ServedLemmas.{written_asked, refusals_asked}
+use Rattle.norprog_hex.proofs.command.converted_in.Goals as goal
+
+pub returns-clause-written : goal.returns-clause-written
+returns-clause-written g c =
+    let asks : AsksFor c.args.given c.in_ok-request.request = search rules in
+    written_asked (g.S.FileStore.facts c.args.store.now) c.args.given c.in_ok-request.request _ asks c.run_hex.ensures.written
+
+pub returns-clause-first : goal.returns-clause-first
+returns-clause-first g c =
+    let asks : AsksFor c.args.given c.in_ok-request.request = search rules in
+    let formed : is_well_formed c.args.given ≡ true = search rules in
+    refusals_asked (g.S.FileStore.facts c.args.store.now) c.args.given c.in_ok-request.request _ asks formed c.run_hex.ensures.refused

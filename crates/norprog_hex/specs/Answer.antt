@@ -1,0 +1,62 @@
+-- What `hex` answers (this project's).
+use Rattle.std.specs.Prelude.{◌≡◌, ◌⊎◌, ⊤, ℕ, ◌+◌, ◌≤◌, ◌<◌, ◌^◌, List, Option, Result, Ok, Err}
+use Rattle.nor_base.specs.Device.{Ahead}
+use Rattle.nor_job.specs.declared.fault.BuildFault.TheVariants as fault
+use Rattle.norprog_common.specs.declared.faults.FileName.TheVariants as file
+use Rattle.norprog_common.specs.declared.faults.Refusal.{Refusal}
+use Rattle.norprog_common.specs.declared.faults.Refusal.TheVariants.{File, Build, BinSize}
+use Rattle.norprog_common.specs.declared.given.HexArgs.{HexArgs}
+use Rattle.norprog_common.specs.FileStore.{FileFacts}
+use Rattle.norprog_common.specs.Told.{ForAsked, Answers}
+use Rattle.norprog_hex.specs.Converted.{WasConverted, WasBegun, WasCut}
+use Rattle.norprog_hex.specs.Request.{is_well_formed}
+use Rattle.norprog_hex.specs.Served.{BinTask, HexTask, ServesBin, Serves}
+
+-- the last byte is at FFFFFFFFh or below, or one is past it
+abbrev pub Fits : BinTask → Type 0
+Fits t = t.at + t.len ≤ 2 ^ 32
+
+abbrev pub IsTooLong : BinTask → Type 0
+IsTooLong t = 2 ^ 32 < t.at + t.len
+
+-- the whole file was written as HEX, from that address on, and the output is so of what it had taken
+pub record IsWritten (Sent : Option (List ℕ) → Type 0) (t : HexTask) : Type 0 where
+  pub fits : Fits t.bin
+  pub rest : Ahead
+  pub after : Option (List ℕ)
+  pub converted : WasConverted t.bin.at t.bin.len t.bin.ahead rest t.begun after
+  pub sent : Sent after
+
+-- the output failed in the work
+pub record IsCut (t : HexTask) : Type 0 where
+  pub after : Option (List ℕ)
+  pub cut : WasCut t.bin.at t.bin.ahead t.begun after
+
+-- the file couldn't be read as said: the output has no end record
+pub record IsBegun (t : HexTask) : Type 0 where
+  pub after : Option (List ℕ)
+  pub begun : WasBegun t.bin.at t.bin.ahead t.begun after
+
+-- why what was asked for isn't written. That the file fits is known before an output is made
+abbrev pub RefusesHex : FileFacts → (BinTask → Type 0) → (HexTask → Type 0) → Refusal → Type 0
+RefusesHex files Opened Asked (File file.Bin) = files.lacked file.Bin ⊎ ForAsked HexTask Asked IsBegun
+RefusesHex files Opened Asked (File file.Out) = files.lacked file.Out × ForAsked BinTask Opened Fits
+RefusesHex files Opened Asked BinSize = ForAsked BinTask Opened IsTooLong
+RefusesHex files Opened Asked (Build fault.Memory) = ⊤
+RefusesHex files Opened Asked (Build fault.Write) = ForAsked HexTask Asked IsCut ⊎ ForAsked HexTask Asked (IsWritten (λ held. ⊤))
+RefusesHex files Opened Asked other = ⊥
+
+-- what `hex` answers to the texts of a command line: status 0 where it was written and has gone out, or a refusal. It prints nothing else
+abbrev pub AnswersHex : FileFacts → HexArgs → Type 0 → Type 0 → Option (List ℕ) → Option (List ℕ) → ℕ → Type 0
+AnswersHex files given Quiet Works told_before told_after status =
+    Answers (is_well_formed given)
+    ((status ≡ 0) × ForAsked HexTask (Serves files given) (IsWritten files.flushed) × Quiet)
+    (Unit {0})
+    (RefusesHex files (ServesBin files given) (Serves files given))
+    Works told_before told_after status
+
+-- status 0 where the text is whole and the file was flushed as well
+abbrev pub done : {T U E : Type 0} → Result T Refusal → Result U E → Result ℕ Refusal
+done (Err why) flushed = Err why
+done (Ok written) (Err e) = Err (Build fault.Write)
+done (Ok written) (Ok u) = Ok 0

@@ -1,0 +1,4 @@
+pub mod Request
+pub mod Served
+pub mod Converted
+pub mod Answer

@@ -1,0 +1,37 @@
+-- The work that a command line of `hex` asks for (this project's). `files` is what is known of files by their names.
+use Rattle.std.specs.Prelude.{◌≡◌, ℕ, List, [], ◌∷◌, Option, Some, option_map, option_to_list}
+use Rattle.nor_base.specs.Device.{Ahead}
+use Rattle.norprog_common.specs.FileStore.{FileFacts, IsMadeApart, Named}
+use Rattle.norprog_common.specs.declared.given.HexArgs.{HexArgs}
+use Rattle.norprog_hex.specs.declared.request.HexRequest.{HexRequest}
+use Rattle.norprog_hex.specs.Request.{asked_at}
+
+-- what the raw image's file has ahead, its length, and the address of its first byte
+pub record BinTask : Type 0 where
+  pub ahead : Ahead
+  pub len : ℕ
+  pub at : ℕ
+
+-- with what the output held when it was made
+pub record HexTask : Type 0 where
+  pub bin : BinTask
+  pub begun : Option (List ℕ)
+
+-- those of a request: the file was opened; the output was made, as another file
+pub record IsBinOf (files : FileFacts) (request : HexRequest) (t : BinTask) : Type 0 where
+  pub opened : files.opened request.bin.now t.ahead t.len
+  pub at : t.at ≡ request.at
+
+pub record IsTaskOf (files : FileFacts) (request : HexRequest) (t : HexTask) : Type 0 where
+  pub bin : IsBinOf files request t.bin
+  pub made : IsMadeApart files (request.bin.now ∷ []) request.out.now t.begun
+
+-- those that the texts ask for, each by the value that its text spells, each file by its name
+pub record ServesBin (files : FileFacts) (given : HexArgs) (t : BinTask) : Type 0 where
+  pub opened : Named (λ name. files.opened name t.ahead t.len) (option_map (λ t. t.now) given.bin)
+  pub at : asked_at given ≡ Some t.at
+
+-- the output was made as another file than the raw image's
+pub record Serves (files : FileFacts) (given : HexArgs) (t : HexTask) : Type 0 where
+  pub bin : ServesBin files given t.bin
+  pub made : Named (λ name. IsMadeApart files (option_to_list (option_map (λ t. t.now) given.bin)) name t.begun) (option_map (λ t. t.now) given.out)

@@ -1,0 +1,74 @@
+//! `hex`: from the texts of the command line to a HEX text in its file.
+
+ghost use Rattle.std.specs.Prelude.{◌≡◌, ◌+◌, ◌<◌, ◌≤◌, ◌-◌, ◌^◌, true, IfOk, IfErr};
+ghost use Rattle.norprog_common.specs.Told.{ForAsked, OrUsage};
+ghost use Rattle.norprog_hex.specs.Answer.{IsWritten, RefusesHex, AnswersHex, done};
+ghost use Rattle.norprog_hex.specs.Request.{is_well_formed};
+ghost use Rattle.norprog_hex.specs.Served.{HexTask, IsBinOf, IsTaskOf, ServesBin, Serves};
+
+use crate::convert::write_bin;
+use crate::request::{HexRequest, request_of};
+use nor_base::{ByteOut, Failed};
+use norprog_common::{FileName, FileStore, HexArgs, Refusal, answered};
+use std::alloc::Global;
+
+/// Past the last address.
+const PAST: u64 = 1 << 32;
+
+/// Writes the raw image on a command line as Intel HEX into the file that it names, or a refusal to `err` (docs/FORMATS.md,
+/// section 9), and returns the status: 0 done, 1 refused, 2 usage. Nothing is printed where it is done. That file is made as
+/// another one than the image's, and only once the image is known to fit.
+pub fn hex<S: FileStore, E: ByteOut>(
+    alloc: Global,
+    store: &S,
+    given: HexArgs<'_>,
+    err: &mut E,
+) -> u8
+    requires { E.count err.old < 2 ^ 64 - 1 }
+    ensures status { result ≤ 2 }
+    ensures quiet { result ≡ 0 → err.new ≡ err.old }
+    ensures answer { AnswersHex (S.facts store.now) given.entry (err.new ≡ err.old)
+        (E.count err.new ≡ E.count err.old) (E.held err.old) (E.held err.new) result }
+{
+    answered(converted_in(alloc, store, given), err)
+}
+
+/// Writes what is asked for.
+fn converted_in<S: FileStore>(alloc: Global, store: &S, given: HexArgs<'_>) -> Result<u8, Refusal>
+    ensures status { IfOk result (λ status. status ≡ 0) }
+    ensures written { IfOk result (λ _. ForAsked HexTask (Serves (S.facts store.now) given.entry) (IsWritten (S.facts store.now).flushed)) }
+    ensures asked { IfOk result (λ _. is_well_formed given.entry ≡ true) }
+    ensures first { IfErr result (OrUsage (is_well_formed given.entry)
+        (RefusesHex (S.facts store.now) (ServesBin (S.facts store.now) given.entry) (Serves (S.facts store.now) given.entry))) }
+{
+    let request = request_of(given).ok_or(Refusal::Usage)?;
+    run_hex(alloc, store, request)
+}
+
+/// Opens the raw image of a request, and has it written where it fits.
+fn run_hex<S: FileStore>(alloc: Global, store: &S, request: HexRequest<'_>) -> Result<u8, Refusal>
+    ensures status { IfOk result (λ status. status ≡ 0) }
+    ensures written { IfOk result (λ _. ForAsked HexTask (IsTaskOf (S.facts store.now) request.entry) (IsWritten (S.facts store.now).flushed)) }
+    ensures refused { IfErr result (RefusesHex (S.facts store.now) (IsBinOf (S.facts store.now) request.entry)
+        (IsTaskOf (S.facts store.now) request.entry)) }
+{
+    let (mut bin, place, len) = store.open(request.bin, FileName::Bin)?;
+    if len > PAST - u64::from(request.at) {
+        return Err(Refusal::BinSize);
+    }
+    let mut out = store.create(alloc, request.out, FileName::Out, &[place])?;
+    let answer = write_bin(alloc, &mut bin, len, request.at, &mut out);
+    let flushed = store.flush(&mut out);
+    done(answer, flushed)
+}
+
+/// The status of a text whose file was flushed: 0 only where both are done.
+fn done(answer: Result<(), Refusal>, flushed: Result<(), Failed>) -> Result<u8, Refusal>
+    ensures { result ≡ done answer flushed }
+{
+    match (answer, flushed) {
+        (Err(refusal), _) => Err(refusal),
+        (Ok(()), Err(_)) => Err(Refusal::WRITE),
+        (Ok(()), Ok(())) => Ok(0),
+    }
+}
