@@ -83,7 +83,7 @@ const REGIONS: Choice = Choice {
     name: "regions",
     takes: Takes::Words("REGIONS"),
     required: false,
-    help: "The layout's regions to program, by name [default: the whole chip]",
+    help: "The names of the layout's regions to program [default: the whole chip]",
 };
 
 const SFDP: Choice = Choice {
@@ -146,7 +146,7 @@ const ERASED_ONLY: Choice = Choice {
     name: "erased-only",
     takes: Takes::Nothing,
     required: false,
-    help: "Program erased bytes alone, as some chips ask for it [default: no]",
+    help: "Only program erased bytes (some chips require it) [default: no]",
 };
 
 const BUSY: Choice = Choice {
@@ -160,28 +160,28 @@ const KEEP: Choice = Choice {
     name: "keep",
     takes: Takes::Nothing,
     required: false,
-    help: "A change of mode leaves the write enable latch set [default: it clears it]",
+    help: "The chip keeps its write enable latch over a change of mode [default: it clears it]",
 };
 
 const LIMIT: Choice = Choice {
     name: "limit",
     takes: Takes::Value("N"),
     required: false,
-    help: "How often a poll is tried at most: a decimal number from 1 [default: 1000000]",
+    help: "The most status reads of one poll, and of play before the first step: a decimal number from 1 [default: 1000000]",
 };
 
 const PAGE: Choice = Choice {
     name: "page",
     takes: Takes::Value("N"),
     required: false,
-    help: "Bytes of a page: a decimal number [default: what the chip says]",
+    help: "The number of bytes of the chip's page, decimal [default: what the chip's tables say]",
 };
 
 const READ_BACK: Choice = Choice {
     name: "verify",
     takes: Takes::Nothing,
     required: false,
-    help: "Read back each byte that is written [default: no]",
+    help: "The script reads back each byte that it erases or programs [default: no]",
 };
 
 const SCRIPT_FILE: Choice = Choice {
@@ -195,21 +195,21 @@ const SCRIPT_OUT: Choice = Choice {
     name: "out",
     takes: Takes::File,
     required: true,
-    help: "The script; what the file held is replaced. It can't be one of the inputs",
+    help: "The script's file; norprog replaces what it held. It can't be one of the inputs",
 };
 
 const CONTENT_OUT: Choice = Choice {
     name: "out",
     takes: Takes::File,
     required: false,
-    help: "What the chip holds afterwards [default: not written]",
+    help: "A file for what the chip holds afterwards [default: none]",
 };
 
 const WAVEFORM_OUT: Choice = Choice {
     name: "out",
     takes: Takes::File,
     required: true,
-    help: "The waveform; what the file held is replaced. It can't be the script",
+    help: "The waveform's file; norprog replaces what it held. It can't be the script",
 };
 
 const BIN: Choice = Choice {
@@ -237,49 +237,49 @@ const TIMES: Choice = Choice {
     name: "times",
     takes: Takes::Nothing,
     required: false,
-    help: "Print behind the report how long the chip is busy, and the clocks on the bus [default: no]",
+    help: "Print after the report how long the chip is busy, and the clocks on the bus [default: no]",
 };
 
 const MAP: Choice = Choice {
     name: "map",
     takes: Takes::File,
     required: false,
-    help: "A picture of the chip, SVG; what the file held is replaced. It can't be an input [default: not drawn]",
+    help: "A file for a picture of the chip, SVG; norprog replaces what it held. It can't be an input [default: none]",
 };
 
 const FROM: Choice = Choice {
     name: "from",
     takes: Takes::Value("K"),
     required: false,
-    help: "The first step that is drawn, counted from 0: a decimal number [default: 0]",
+    help: "The first step to draw, counted from 0: a decimal number [default: 0]",
 };
 
 const STEPS: Choice = Choice {
     name: "steps",
     takes: Takes::Value("N"),
     required: false,
-    help: "How many steps are drawn at most: a decimal number [default: all]",
+    help: "The most steps to draw: a decimal number [default: all]",
 };
 
 const DEVICE: Choice = Choice {
     name: "device",
     takes: Takes::File,
     required: true,
-    help: "The device that speaks serprog, a tty; set before: stty -F DEVICE raw -echo min 0 time 20",
+    help: "The device that speaks serprog, a tty; first set it by: stty -F DEVICE 115200 raw -echo min 0 time 20",
 };
 
 const TRUST: Choice = Choice {
     name: "trust",
     takes: Takes::Nothing,
     required: false,
-    help: "Leave out comparing what the chip holds with the content [default: it is compared]",
+    help: "Don't check the chip's status, tables and content before the steps, nor read it back after them [default: play does]",
 };
 
 const WORDS: Choice = Choice {
     name: "words",
     takes: Takes::Words("WORDS"),
     required: false,
-    help: "What norprog printed, or the beginning of it [default: all that can be asked]",
+    help: "What norprog printed, or the beginning of it [default: list all that you can ask]",
 };
 
 const IMAGE: &[Choice] = &[HEX, LAYOUT, BASE, REGIONS];
@@ -313,7 +313,7 @@ static FORMS: [Form; 10] = [
     },
     Form {
         name: "plan",
-        about: "Prints what build would erase, why, and program, and then its report",
+        about: "Prints what build would erase and why, what it would program, and its report",
         example: "Example: norprog plan --hex app.hex --base 8000000 --uniform 8192 --content now.bin",
         groups: &[
             Group::Image,
@@ -326,7 +326,7 @@ static FORMS: [Form; 10] = [
     },
     Form {
         name: "check",
-        about: "Says whether a script, from anybody, does the job on every such chip",
+        about: "Says whether a script, from anybody, does the job on every chip that the options describe",
         example: "Example: norprog check --hex app.hex --base 8000000 --uniform 8192 --content now.bin --script app.script",
         groups: &[
             Group::Image,
@@ -339,7 +339,7 @@ static FORMS: [Form; 10] = [
     },
     Form {
         name: "run",
-        about: "Plays a script on such a chip in memory, and says how it ends",
+        about: "Plays a script on a chip in memory, and says how it ends",
         example: "Example: norprog run --uniform 8192 --content now.bin --script app.script --busy 1,2 --out after.bin",
         groups: &[
             Group::Chip,
@@ -352,7 +352,7 @@ static FORMS: [Form; 10] = [
     },
     Form {
         name: "list",
-        about: "Tells what each step of a script is, for such a chip",
+        about: "Prints what each step of a script does on the chip",
         example: "Example: norprog list --uniform 8192 --script app.script",
         groups: &[Group::Chip, Group::Start, Group::Script],
         choices: &[],
@@ -366,7 +366,7 @@ static FORMS: [Form; 10] = [
     },
     Form {
         name: "play",
-        about: "Plays a script on such a chip behind a serprog device, and says how it ends",
+        about: "Plays a script on a chip through a serprog device, and says how it ends",
         example: "Example: norprog play --uniform 8388608 --content now.bin --script app.script --device /dev/ttyACM0",
         groups: &[Group::Chip, Group::Content, Group::Start, Group::Script],
         choices: &[DEVICE, LIMIT, TRUST],

@@ -8,51 +8,57 @@ use super::Topic;
 pub(crate) const TOPICS: &[Topic] = &[
     (
         "usage",
-        "A value isn't of its form, or options don't go together: give exactly one of\n\
-         --sfdp and --uniform, no --bits beside --uniform, numbers as digits alone,\n\
-         and six hexadecimal digits as --status. Of draw also: the script lacks the\n\
-         step of --from. Look at the command's --help. Of explain: it has nothing on\n\
-         these words; without words it lists what can be asked.",
+        "A value isn't of its form, or options don't go together. Give exactly one of\n\
+         --sfdp and --uniform, and no --bits with --uniform. Write numbers only in\n\
+         digits, and --status as six hexadecimal digits. The command's --help has each\n\
+         form. Of draw: the script may lack the step of --from. Of explain: it has\n\
+         nothing on these words; without words it lists what you can ask.",
     ),
     (
         "file hex",
-        "The HEX file isn't there, may not be read, is a folder, or has more than 2^36\n\
-         bytes. Look at its name and rights. The output wasn't touched.",
+        "norprog can't read the HEX file: it isn't there, you may not read it, it is a\n\
+         folder, reading it failed, or it has more than 2^36 bytes. Check its name and\n\
+         its rights. The output is as it was.",
     ),
     (
         "file layout",
-        "The layout file isn't there, may not be read, is a folder, or has more than\n\
-         2^36 bytes. Look at its name and rights. The output wasn't touched.",
+        "norprog can't read the layout file: it isn't there, you may not read it, it is\n\
+         a folder, reading it failed, or it has more than 2^36 bytes. Check its name and\n\
+         its rights. The output is as it was.",
     ),
     (
         "file sfdp",
-        "The file of SFDP bytes isn't there, may not be read, is a folder, or has more\n\
-         than 2^36 bytes. Look at its name and rights. The output wasn't touched.",
+        "norprog can't read the file of SFDP bytes: it isn't there, you may not read it,\n\
+         it is a folder, reading it failed, or it has more than 2^36 bytes. Check its\n\
+         name and its rights. The output is as it was.",
     ),
     (
         "file content",
-        "The file of what the chip holds isn't there, may not be read, or is a folder.\n\
-         Look at its name and rights. The output wasn't touched.",
+        "norprog can't open the file of what the chip holds: it isn't there, you may not\n\
+         read it, or it is a folder. Check its name and its rights. The output is as it\n\
+         was.",
     ),
     (
         "file script",
-        "The script file isn't there, may not be read, is a folder, or has more than\n\
-         2^36 bytes. Look at its name and rights. The output wasn't touched.",
+        "norprog can't read the script file: it isn't there, you may not read it, it is\n\
+         a folder, reading it failed, or it has more than 2^36 bytes. Check its name and\n\
+         its rights. The output is as it was.",
     ),
     (
         "file out",
-        "The output can't be made or written, is a folder, or is one of the inputs, by\n\
-         whatever name (a link counts). Name another file. No input was touched.",
+        "norprog can't make or write the output, or the output is a folder or one of the\n\
+         inputs, by whatever name (a link counts). Name another file. The inputs are as\n\
+         they were.",
     ),
     (
         "file map",
-        "The picture of the plan can't be made or written, is a folder, or is one of the\n\
-         inputs, by whatever name (a link counts). Name another file.",
+        "norprog can't make or write the picture of the plan, or that file is a folder\n\
+         or one of the inputs, by whatever name (a link counts). Name another file.",
     ),
     (
         "file device",
-        "The device isn't there, may not be read and written, or is no character device,\n\
-         as a tty is. Look at its name and rights. Nothing was sent to it.",
+        "The device isn't there, you may not read and write it, or it is no character\n\
+         device, as a tty is. Check its name and its rights. norprog sent nothing to it.",
     ),
     (
         "file bin",
@@ -62,39 +68,40 @@ pub(crate) const TOPICS: &[Topic] = &[
     ),
     (
         "file",
-        "A file of the command line can't be used; the word behind it says which one:\n\
-         hex, layout, sfdp, content, script, out, map, device or bin. Ask for these\n\
+        "norprog can't use a file of the command line; the word after `file` says which\n\
+         one: hex, layout, sfdp, content, script, out, map, device or bin. Ask for the\n\
          two words.",
     ),
     (
         "contradiction 1",
-        "Regions are named, but there is no layout that has them. Give it with\n\
-         --layout, or name no region to take the whole chip.",
+        "The command names regions, but no layout. Give the layout with --layout, or\n\
+         name no region to take the whole chip.",
     ),
     (
         "contradiction 2",
-        "A status is given, and the part is generic, whose status bits aren't known.\n\
-         Leave --status out; or, where that is the chip, name it: --part w25q256jv.",
+        "The command gives a status, but norprog doesn't know the status bits of a\n\
+         generic part. Leave --status out. If the chip is a W25Q256JV, name it:\n\
+         --part w25q256jv.",
     ),
     (
         "contradiction 3",
-        "A status is given together with --mode4 or --quad. The status says both\n\
-         already: leave the flags out.",
+        "The command gives a status together with --mode4 or --quad. The status already\n\
+         says both: leave the flags out.",
     ),
     (
         "contradiction 4",
-        "A chip of a bare size (--uniform) is given with --part w25q256jv. Give the\n\
-         chip's SFDP bytes with --sfdp, or leave --part out.",
+        "The command gives a chip of a bare size (--uniform) and --part w25q256jv. Give\n\
+         the chip's SFDP bytes with --sfdp, or leave --part out.",
     ),
     (
         "contradiction",
-        "Two things that were asked for exclude each other; the number says which.\n\
-         Ask for the word with its number, 1 to 4.",
+        "Two parts of the command line exclude each other; the number says which. Ask\n\
+         for the word with its number, 1 to 4.",
     ),
     (
         "status 1",
-        "The status says that the chip is busy (bit 0): an erase or a program is under\n\
-         way. Wait until it is done, read the status again, and give the new one.",
+        "The status says that the chip is busy (bit 0) with an erase or a program. Wait\n\
+         until it is done, read the status again, and give the new one.",
     ),
     (
         "status 2",
@@ -114,9 +121,9 @@ pub(crate) const TOPICS: &[Topic] = &[
     ),
     (
         "mode",
-        "Four-byte address mode was asked for, by --mode4 or by the status, but the\n\
-         chip has three address bytes alone, as each chip of a bare size has. Leave\n\
-         --mode4 out, or give the SFDP bytes of the chip.",
+        "--mode4 or the status asks for four-byte address mode, but the chip takes only\n\
+         three address bytes, as each chip of a bare size does. Leave --mode4 out, or\n\
+         give the chip's SFDP bytes.",
     ),
     (
         "content size",
@@ -130,31 +137,31 @@ pub(crate) const TOPICS: &[Topic] = &[
     ),
     (
         "content short",
-        "The content file ended before the length that it had when it was opened. See\n\
-         that nothing else writes it, and run the command again. What stands in the\n\
-         output is no script.",
+        "The content file ended before the length that it had when norprog opened it.\n\
+         Make sure that nothing else writes it, and run the command again. The output\n\
+         holds no script.",
     ),
     (
         "page",
-        "As a refusal: no chip of this meaning has the page that --page names; leave\n\
-         the option out. As a line of a chip's meaning: the bytes of its page; with\n\
-         `up` behind it the chip may have a larger one, a power of two up to 4096.",
+        "As a refusal: no chip with these tables has the page of --page. Leave the\n\
+         option out. As a line of sfdp: the number of bytes of the chip's page. With\n\
+         `up` after it the chip may have a larger page, a power of two up to 4096.",
     ),
     (
         "read",
-        "As a refusal: reading the content failed; look at the disk, and run the\n\
-         command again. As a line of a listing: opcode, address and number of bytes\n\
-         that a transaction reads and drops.",
+        "As a refusal: reading the content failed. Check the disk, and run the command\n\
+         again. As a line of a listing: a read whose bytes are dropped; opcode, address\n\
+         and number of bytes.",
     ),
     (
         "write",
-        "Writing a file, its last flush, or standard output failed. Make room on the\n\
-         disk and delete what the output holds: it may be cut, or be whole.",
+        "Writing a file or standard output failed, or its last flush did. Make room on\n\
+         the disk, and delete the output: it may be cut, or whole.",
     ),
     (
         "memory",
-        "Memory ran out. Give the program more of it, or smaller files. What stands in\n\
-         the output is no script.",
+        "norprog ran out of memory. Give it more memory, or smaller files. The output\n\
+         holds no script.",
     ),
 ];
 

@@ -8,22 +8,22 @@ use super::Topic;
 pub(crate) const TOPICS: &[Topic] = &[
     (
         "size",
-        "The bytes of the chip, by its tables or by --uniform.\n\
+        "The number of bytes of the chip, according to its tables or to --uniform.\n\
          The content file must be as long.",
     ),
     (
         "address three",
-        "The chip takes three address bytes alone, so it reaches 16 MiB.\n\
+        "The chip takes only three address bytes, so it reaches 16 MiB.\n\
          It has no four-byte mode.",
     ),
     (
         "address both",
-        "The chip takes three or four address bytes. By default norprog takes it to be\n\
-         in three-byte mode; --mode4 or the status says otherwise.",
+        "The chip takes three or four address bytes. norprog takes it to be in\n\
+         three-byte mode, unless --mode4 or the status says otherwise.",
     ),
     (
         "address four",
-        "The chip takes four address bytes alone.\n\
+        "The chip takes only four address bytes.\n\
          It is always in four-byte mode.",
     ),
     (
@@ -33,70 +33,70 @@ pub(crate) const TOPICS: &[Topic] = &[
     ),
     (
         "erase 1",
-        "In a chip's meaning: kind 1 of its erases, the bytes of a block, the opcode,\n\
-         and the opcode with four address bytes, or -- where the chip has none.",
+        "As a line of sfdp: kind 1 of the chip's erases; the bytes of a block, the\n\
+         opcode, and the opcode with four address bytes, or -- where the chip has none.",
     ),
     (
         "erase 2",
-        "In a chip's meaning: kind 2 of its erases, the bytes of a block, the opcode,\n\
-         and the opcode with four address bytes, or -- where the chip has none.",
+        "As a line of sfdp: kind 2 of the chip's erases; the bytes of a block, the\n\
+         opcode, and the opcode with four address bytes, or -- where the chip has none.",
     ),
     (
         "erase 3",
-        "In a chip's meaning: kind 3 of its erases, the bytes of a block, the opcode,\n\
-         and the opcode with four address bytes, or -- where the chip has none.",
+        "As a line of sfdp: kind 3 of the chip's erases; the bytes of a block, the\n\
+         opcode, and the opcode with four address bytes, or -- where the chip has none.",
     ),
     (
         "erase 4",
-        "In a chip's meaning: kind 4 of its erases, the bytes of a block, the opcode,\n\
-         and the opcode with four address bytes, or -- where the chip has none.",
+        "As a line of sfdp: kind 4 of the chip's erases; the bytes of a block, the\n\
+         opcode, and the opcode with four address bytes, or -- where the chip has none.",
     ),
     (
         "enter absent",
-        "The chip tells no way to enter four-byte address mode that norprog uses.\n\
-         It is then driven without it.",
+        "The chip offers no way to enter four-byte address mode that norprog uses.\n\
+         So a script never enters it.",
     ),
     (
         "enter plain",
-        "Four-byte address mode is entered by B7 alone.\n\
-         Only strategy S4 does so.",
+        "B7, with no 06 before it, enters four-byte address mode.\n\
+         Only scripts of strategy S4 enter it.",
     ),
     (
         "enter latched",
-        "Four-byte address mode is entered by B7 with the write enable latch set: 06,\n\
-         B7, and then 04 to clear a latch that the chip may keep.",
+        "B7 enters four-byte address mode while the write enable latch is set. A script\n\
+         sends 06, B7, and then 04 to clear a latch that the chip may keep.",
     ),
     (
         "leave absent",
-        "The chip tells no way to leave four-byte address mode that norprog uses. So it\n\
-         is never entered.",
+        "The chip offers no way to leave four-byte address mode that norprog uses. So a\n\
+         script never enters it.",
     ),
     (
         "leave plain",
-        "Four-byte address mode is left by E9 alone.\n\
-         Only strategy S4 does so.",
+        "E9, with no 06 before it, leaves four-byte address mode.\n\
+         Only scripts of strategy S4 leave it.",
     ),
     (
         "leave latched",
-        "Four-byte address mode is left by E9 with the write enable latch set: 06, E9,\n\
-         and then 04 to clear a latch that the chip may keep.",
+        "E9 leaves four-byte address mode while the write enable latch is set. A script\n\
+         sends 06, E9, and then 04 to clear a latch that the chip may keep.",
     ),
     (
         "quadread none",
-        "The chip tells no read that answers on four lanes.\n\
-         With --verify one lane is read.",
+        "The chip offers no read on four lanes that norprog uses.\n\
+         With --verify a script reads on one lane.",
     ),
     (
         "quadread",
-        "In a chip's meaning: the opcode of the read on four lanes, and its dummy\n\
-         clocks. In a listing: opcode, address and number of bytes that are read so and\n\
-         dropped.",
+        "As a line of sfdp: the opcode of the read on four lanes, and its dummy clocks.\n\
+         In a listing: a read on four lanes whose bytes are dropped; opcode, address and\n\
+         number of bytes.",
     ),
     (
         "dedicated",
-        "The opcodes with four address bytes that the chip offers: 13 reads, 6c reads\n\
-         on four lanes, 12 programs, 34 programs on four lanes. None behind the word:\n\
-         it offers none of them.",
+        "The opcodes with four address bytes that the chip offers: 13 reads, 6c reads on\n\
+         four lanes, 12 programs, 34 programs on four lanes. With nothing after the word\n\
+         the chip offers none of them.",
     ),
     (
         "region",

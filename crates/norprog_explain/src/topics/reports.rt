@@ -8,86 +8,87 @@ use super::Topic;
 pub(crate) const TOPICS: &[Topic] = &[
     (
         "strategy S1",
-        "The chip begins in four-byte address mode, and is driven by its usual opcodes\n\
+        "The chip begins in four-byte address mode. The script uses its usual opcodes\n\
          with four address bytes.",
     ),
     (
         "strategy S2",
-        "The chip has at most 16 MiB, and is driven by its usual opcodes with three\n\
+        "The chip has at most 16 MiB. The script uses its usual opcodes with three\n\
          address bytes.",
     ),
     (
         "strategy S3",
-        "Below 16 MiB the usual opcodes with three address bytes are used, and from\n\
-         there on dedicated opcodes with four. The mode is never changed.",
+        "Below 16 MiB the script uses the usual opcodes with three address bytes, and\n\
+         from there on dedicated opcodes with four. It never changes the mode.",
     ),
     (
         "strategy S4",
-        "Four-byte address mode is entered before the first operation and left after\n\
-         the last; between them all addresses have four bytes. If such a script is\n\
-         stopped midway, the chip may stay in that mode: power it up anew.",
+        "The script enters four-byte address mode before the first operation and leaves\n\
+         it after the last; between them all addresses have four bytes. If such a script\n\
+         stops midway, the chip may stay in that mode: power it off and on.",
     ),
     (
         "strategy S5",
-        "The chip is larger than 16 MiB, but only its first 16 MiB can be reached, by\n\
-         three address bytes. A change past them is refused (plan 2).",
+        "The chip has more than 16 MiB, but norprog can reach only the first 16 MiB, by\n\
+         three address bytes. It refuses a change past them (plan 2).",
     ),
     (
         "strategy",
-        "How addresses are sent to the chip; there are five ways. Ask for the word with\n\
-         S1, S2, S3, S4 or S5.",
+        "How the script sends addresses to the chip; there are five ways. Ask for the\n\
+         word with S1, S2, S3, S4 or S5.",
     ),
     (
         "steps",
-        "The number of steps of the script, which stands on its end line too. A poll is\n\
-         one step, however long the chip is busy.",
+        "The number of steps of the script, which its end line has too. A poll is one\n\
+         step, however long the chip is busy.",
     ),
     (
         "erases",
-        "The number of blocks that are erased.\n\
-         What of them isn't chosen is written back with what the chip held.",
+        "The number of blocks that the script erases.\n\
+         It writes back what the job doesn't change in them.",
     ),
     (
         "erased",
-        "The number of bytes in the blocks that are erased. No script that does this\n\
-         job erases less.",
+        "The number of bytes in the blocks that the script erases. No script that does\n\
+         this job erases less.",
     ),
     (
         "programs",
-        "The number of program instructions; none crosses the end of a page, and bytes\n\
-         that are right already are mostly left out.",
+        "The number of program instructions. None crosses the end of a page, and they\n\
+         mostly leave out bytes that are right already.",
     ),
     (
         "ignored",
         "The number of bytes of the image that go nowhere: outside the chosen regions,\n\
-         or below the base address, or past the chip's end. If you expected 0, look at\n\
-         --base and at the regions.",
+         below the base address, or past the chip's end. If you expected 0, check --base\n\
+         and the regions.",
     ),
     (
         "busy unknown",
-        "How long the chip is busy isn't known: a chip of a bare size tells no times, nor\n\
-         do tables of fewer than eleven DWORDs. Look into its data sheet.",
+        "norprog doesn't know how long the chip is busy: a chip of a bare size has no\n\
+         tables, and tables of fewer than eleven DWORDs have no times. Look into its\n\
+         data sheet.",
     ),
     (
         "busy",
-        "How long the chip itself is busy with these erases and programs, by its tables:\n\
-         as a rule, and at worst. The time on the wires comes on top (bus).",
+        "How long the chip itself is busy with these erases and programs, according to\n\
+         its tables: as a rule, and at worst. The time on the wires comes on top (bus).",
     ),
     (
         "bus",
-        "The clocks of all steps of the script, each poll once. Divided by the clock's\n\
-         speed it is the least time on the wires; a slow adapter takes longer.",
+        "The clocks of all steps of the script, each poll once. Divide them by the\n\
+         clock's frequency for the least time on the wires; a slow adapter takes longer.",
     ),
     (
         "because",
-        "Why the block above is erased: the start of a smallest block inside it, and\n\
-         the lowest address there that has to be erased: its byte must get a 1 where\n\
-         the chip holds a 0 or, with --erased-only, another value while it isn't FF.",
+        "Why the plan erases the block above: the start of a smallest block inside it,\n\
+         and the lowest address there that needs an erase. Its byte must get a 1 where\n\
+         the chip holds a 0 or, with --erased-only, must change while it isn't FF.",
     ),
     (
         "program",
-        "In a plan: start and number of bytes of one program. In a listing: opcode,\n\
-         address, number of bytes and the bytes that a transaction programs.",
+        "In a plan: one program; its start and its number of bytes. In a listing:\n\
+         opcode, address, number of bytes and the bytes that a transaction programs.",
     ),
 ];
 

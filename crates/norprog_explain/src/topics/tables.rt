@@ -9,23 +9,23 @@ pub(crate) const TOPICS: &[Topic] = &[
     (
         "sfdp 1",
         "The SFDP bytes don't begin with their signature, 53 46 44 50. It is another\n\
-         file, or the dump began elsewhere. Read them again, from address 0.",
+         file, or the dump began at another address. Read them again, from address 0.",
     ),
     (
         "sfdp 2",
-        "The SFDP bytes end too early: inside the headers, or inside a table that they\n\
-         name. Read more of them; 256 bytes mostly suffice.",
+        "The SFDP bytes end too early: inside the headers, or inside a table that the\n\
+         headers name. Read more of them; mostly 256 bytes are enough.",
     ),
     (
         "sfdp 3",
         "The SFDP bytes have no basic table (ID FF00h) of major revision 1. Read them\n\
-         again; if they are right, this chip's tables can't be used: give its size\n\
+         again. If they are right, norprog can't use this chip's tables: give its size\n\
          with --uniform, if it is at most 16 MiB and erases 4 KiB by 20.",
     ),
     (
         "sfdp 4",
-        "The major revision of the SFDP header (byte 5) isn't 1. Read the bytes again;\n\
-         a chip of another revision isn't served by its tables.",
+        "The major revision of the SFDP header (byte 5) isn't 1. Read the bytes again.\n\
+         norprog can't use tables of another revision.",
     ),
     (
         "sfdp 5",
@@ -34,19 +34,20 @@ pub(crate) const TOPICS: &[Topic] = &[
     ),
     (
         "sfdp 6",
-        "The size that was given or read isn't a multiple of 4096 from 4096 on: up to\n\
-         16777216 with --uniform, which takes bytes, and up to 256 MiB in SFDP bytes.\n\
+        "The size that was given or read isn't a multiple of 4096, or is out of range:\n\
+         --uniform takes 4096 to 16777216 bytes, and SFDP bytes say at most 256 MiB.\n\
          Past 16 MiB give --sfdp. Else correct the size, or read the bytes again.",
     ),
     (
         "sfdp 7",
-        "The tables tell an unknown number of address bytes (DWORD 1, bits 18 and 17\n\
-         both set). Read the bytes again.",
+        "The tables have the reserved value for the number of address bytes (DWORD 1,\n\
+         bits 18 and 17 both set). Read the bytes again.",
     ),
     (
         "sfdp 8",
-        "The tables tell no page from 16 to 4096 bytes, or they are too old to tell one\n\
-         and don't say that 64 bytes can be written at once. Read the bytes again.",
+        "The tables name a page that isn't of 16 to 4096 bytes. Or they have fewer than\n\
+         16 DWORDs, so they name none, and don't say that the chip can program 64 bytes\n\
+         at once (DWORD 1, bit 2). Read the bytes again.",
     ),
     (
         "sfdp 9",
@@ -60,14 +61,14 @@ pub(crate) const TOPICS: &[Topic] = &[
     ),
     (
         "sfdp 11",
-        "The configuration bits (--bits) aren't one 0 or 1 for each detection command\n\
-         of the sector map, the first command's bit first; without a map there are\n\
-         none. Read them from the chip as its tables say.",
+        "The configuration bits (--bits) must be one 0 or 1 for each detection command\n\
+         of the sector map, the first command's bit first, and none without a map. Read\n\
+         them from the chip as its tables say.",
     ),
     (
         "sfdp 12",
-        "No map of the tables has the ID that the configuration bits say. Check the\n\
-         bits of --bits and their order, or read the bytes again.",
+        "No map of the tables has the ID that the configuration bits give. Check --bits\n\
+         and the order of its bits, or read the bytes again.",
     ),
     (
         "sfdp 13",
@@ -76,29 +77,33 @@ pub(crate) const TOPICS: &[Topic] = &[
     ),
     (
         "sfdp 14",
-        "Two kinds of erase have one opcode, or one of them has an opcode with another\n\
-         meaning here, as 02 or 06. Read the bytes again; such tables aren't used.",
+        "Two kinds of erase have one opcode, or a kind has an opcode with another\n\
+         meaning here, as 02 or 06. Read the bytes again. norprog doesn't use such\n\
+         tables.",
     ),
     (
         "sfdp",
-        "The SFDP bytes are at fault; the number says why. Ask for the word with its\n\
-         number, 1 to 14.",
+        "norprog can't use the SFDP bytes, or the size of --uniform; the number says\n\
+         why. Ask for the word with its number, 1 to 14.",
     ),
     (
         "plan 1",
-        "The byte at this address must get a 1 where the chip holds a 0, so it must be\n\
-         erased, but no block that may be erased holds it. Choose other regions, or an\n\
-         image that leaves the byte. What the output holds is no script.",
+        "The byte at this address needs an erase: it must get a 1 where the chip holds a\n\
+         0, or, with --erased-only, it must change and isn't FF. But no block that may\n\
+         be erased holds it. Choose other regions, or an image that leaves the byte. The\n\
+         output holds no script.",
     ),
     (
         "plan 2",
-        "The byte at this address must change, but the chip can't be driven past its\n\
-         first 16 MiB: it tells neither four-byte opcodes nor how to enter four-byte\n\
-         mode. Choose regions below. What the output holds is no script.",
+        "The byte at this address must change, but norprog can't reach past the chip's\n\
+         first 16 MiB: the tables name neither four-byte opcodes nor a way to enter and\n\
+         leave four-byte mode. If the chip is in that mode already, give --mode4: so\n\
+         norprog serves an MX25L25635F that flashrom left in four-byte mode. Else choose\n\
+         regions below 16 MiB. The output holds no script.",
     ),
     (
         "plan",
-        "The work can't be done; the number says why, and the digits are the lowest\n\
+        "norprog can't plan the work; the number says why, and the digits are the lowest\n\
          address at fault. Ask for the word with its number, 1 or 2.",
     ),
 ];

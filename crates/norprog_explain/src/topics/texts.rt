@@ -13,14 +13,15 @@ pub(crate) const TOPICS: &[Topic] = &[
     ),
     (
         "hex 2",
-        "This line of the HEX file has a byte behind its colon that is no hexadecimal\n\
-         digit. Only blanks, tabs and CR at its end are passed over. Make it anew.",
+        "After its colon this line of the HEX file has a byte that is no hexadecimal\n\
+         digit. norprog skips only blanks, tabs and CR at a line's end. Make the file\n\
+         anew.",
     ),
     (
         "hex 3",
-        "This line of the HEX file hasn't the length that it tells: it has fewer than\n\
-         ten digits, or not two a byte for its bytes, or its type wants another length.\n\
-         Often the file was edited or cut. Make it anew.",
+        "This line of the HEX file has a wrong length: fewer than ten digits, or another\n\
+         number of digits than its length byte says, or another length byte than its\n\
+         type has. Often the file was edited or cut. Make it anew.",
     ),
     (
         "hex 4",
@@ -29,39 +30,39 @@ pub(crate) const TOPICS: &[Topic] = &[
     ),
     (
         "hex 5",
-        "The record on this line of the HEX file has a type over 05. Only types 00 to\n\
-         05 are known. Make the file anew, as Intel HEX.",
+        "The record on this line of the HEX file has a type over 05, but Intel HEX has\n\
+         only the types 00 to 05. Make the file anew, as Intel HEX.",
     ),
     (
         "hex 6",
-        "This line of the HEX file gives a byte for an address that was given another\n\
-         byte above. Two images were joined, or they overlap. Link them anew.",
+        "This line of the HEX file gives a byte to an address that already has another\n\
+         byte. Two images were joined, or they overlap. Link them anew.",
     ),
     (
         "hex 7",
-        "The HEX file has no end record (:00000001FF); the line told is the one after\n\
-         its last. The file is cut, or it is another file: make it anew.",
+        "The HEX file has no end record (:00000001FF); the line in the refusal is the\n\
+         one after its last. The file is cut, or it is another file: make it anew.",
     ),
     (
         "hex 8",
-        "This line of the HEX file stands behind the end record. Two files were joined,\n\
-         or text was added. Make one image of them, with one end record.",
+        "This line of the HEX file comes after the end record. Two files were joined, or\n\
+         text was added. Make one image of them, with one end record.",
     ),
     (
         "hex",
-        "A line of the HEX file is at fault; the first number says why. Ask for the\n\
-         word with its number, 1 to 8.",
+        "A line of the HEX file is wrong; the first number says why. Ask for the word\n\
+         with its number, 1 to 8.",
     ),
     (
         "layout 1",
-        "This line of the layout isn't `start:end name`: it hasn't two fields with\n\
-         blanks or tabs between them, or the first hasn't one colon. Correct it; names\n\
-         hold no blanks.",
+        "This line of the layout isn't `start:end name`: it must have two fields with\n\
+         blanks or tabs between them, and one colon in the first. Correct it. A name has\n\
+         no blanks.",
     ),
     (
         "layout 2",
-        "A number of this line of the layout isn't 1 to 8 hexadecimal digits, with 0x\n\
-         before them or without. Correct it.",
+        "A number on this line of the layout isn't 1 to 8 hexadecimal digits, with or\n\
+         without 0x before them. Correct it.",
     ),
     (
         "layout 3",
@@ -70,22 +71,22 @@ pub(crate) const TOPICS: &[Topic] = &[
     ),
     (
         "layout 4",
-        "The name on this line of the layout stands on a line above too. Names are\n\
-         compared byte by byte. Rename one of the two regions.",
+        "A line above has the same name as this line of the layout. norprog compares\n\
+         names byte by byte. Rename one of the two regions.",
     ),
     (
         "layout 5",
-        "This line of the layout has the 256th region; 255 is the most. Take out\n\
-         regions that aren't chosen.",
+        "This line of the layout has the 256th region; a layout has at most 255. Take\n\
+         out regions that you don't choose.",
     ),
     (
         "layout 6",
-        "No region of the layout has this chosen name; names count from 0, in the\n\
-         order of the command line. Spell it as the layout does.",
+        "The layout has no region of this chosen name; names count from 0, in the order\n\
+         of the command line. Spell it as the layout does.",
     ),
     (
         "layout",
-        "The layout is at fault; the first number says why. Ask for the word with its\n\
+        "The layout is wrong; the first number says why. Ask for the word with its\n\
          number, 1 to 6.",
     ),
     (
@@ -95,34 +96,34 @@ pub(crate) const TOPICS: &[Topic] = &[
     ),
     (
         "script 2",
-        "This line of the script begins with none of `x `, `p `, `v ` and `end `, or\n\
-         its parts aren't those of its form; expected bytes are lower-case digits, two\n\
-         a byte. Write the script again.",
+        "This line of the script doesn't begin with `x `, `p `, `v ` or `end `, or its\n\
+         parts aren't those of its form. Expected bytes are lower-case digits, two a\n\
+         byte. Write the script again.",
     ),
     (
         "script 3",
-        "This line of the script has a byte among its clocks that is no symbol. Symbols\n\
-         are 0 1, a to p, and the three of sampling and idle clocks. Write it again.",
+        "This line of the script has a byte among its clocks that is no symbol. The\n\
+         symbols are 0, 1, a to p, the dot, = and -. Write the script again.",
     ),
     (
         "script 4",
-        "The number on the end line of the script isn't the number of its steps, or it\n\
+        "The end line of the script doesn't have the number of its steps, or that number\n\
          has leading zeros. A step was lost or added. Write the script again.",
     ),
     (
         "script 5",
-        "The script ends before an end line that is closed by LF: it was cut, or a\n\
-         build was refused after its first steps. Never play it. Write it again.",
+        "The script ends before an end line that is closed by LF. It was cut, or build\n\
+         was refused after its first steps. Never play it. Write it again.",
     ),
     (
         "script 6",
-        "Something stands behind the end line of the script. Two scripts were joined,\n\
-         or text was added. Write the script again.",
+        "The script goes on after its end line. Two scripts were joined, or text was\n\
+         added. Write the script again.",
     ),
     (
         "script",
-        "The script file is at fault; the first number says why, the second one is the\n\
-         line. Ask for the word with its number, 1 to 6.",
+        "The script file is wrong; the first number says why, the second is the line.\n\
+         Ask for the word with its number, 1 to 6.",
     ),
 ];
 
