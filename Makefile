@@ -1,6 +1,6 @@
 # README.md says what try, build and install are for, CONTRIBUTING.md the others.
 
-.PHONY: build try demo check test hooks edits refusals peers docs-check install uninstall
+.PHONY: build try demo check test hooks edits refusals peers docs-check dist install uninstall
 
 # the sample job of one byte, for the program in crates/norprog_cli
 job = build --hex data/one.hex --uniform 8192 --content data/chip.bin --out
@@ -26,6 +26,7 @@ test:
 	@tools/definitions
 	@tools/links
 	@tools/said-twice
+	@tools/version
 	rt ci
 
 # has git run tools/hooks/pre-commit before each commit in this clone
@@ -58,6 +59,10 @@ demo: try
 # runs each command of README.md and docs/GUIDE.md by the program that was built, and compares what it prints
 docs-check:
 	@tools/docs-check
+
+# packs the program that was built, with its man page, completion, NOTICE and guide; the same bytes each time on one commit
+dist:
+	@tools/dist
 
 PREFIX = /usr/local
 man = $(DESTDIR)$(PREFIX)/share/man/man1/norprog.1
