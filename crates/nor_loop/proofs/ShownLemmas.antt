@@ -53,7 +53,7 @@ near_does has s c mode4 at piece mode idle some within fits there =
     })
     (record { op = omega arith; address = fits; carried = some })) there
 
-far_does : HasSpelling → (s : Setting) (c : Chip) (at : ℕ) (piece : List ℕ) → s.meaning.read4 ≡ true → c.left ≡ 0 → 0 < length piece
+pub far_does : HasSpelling → (s : Setting) (c : Chip) (at : ℕ) (piece : List ℕ) → s.meaning.read4 ≡ true → c.left ≡ 0 → 0 < length piece
     → at + length piece ≤ s.meaning.size → at < 2 ^ 32 → slice_range c.array at (at + length piece) ≡ piece
     → Does s c (record { sent = 0x13 ∷ address_bytes 4 at; got = piece }) c
 far_does has s c at piece offered idle some within fits there =
@@ -89,7 +89,7 @@ one_does has s c false at piece mode idle some within fits reach there =
     either_does has s c at piece (nat_lt (2 ^ 24) (at + length piece)) mode idle some within fits reach there refl
 
 -- so it does all reads of what it holds
-slice_there : (array : List ℕ) (at : ℕ) (piece rest : List ℕ) → drop at array ≡ piece ++ rest → slice_range array at (at + length piece) ≡ piece
+pub slice_there : (array : List ℕ) (at : ℕ) (piece rest : List ℕ) → drop at array ≡ piece ++ rest → slice_range array at (at + length piece) ≡ piece
 slice_there array at piece rest h =
     let count : (at + length piece) - at ≡ length piece = omega arith in
     ap (λ n. take n (drop at array)) count ∙ ap (take (length piece)) h ∙ take-append_seam piece rest

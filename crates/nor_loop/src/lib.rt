@@ -7,6 +7,7 @@
 pub mod worked;
 
 ghost use Rattle.nor_loop.specs.Flash.{FlashIsMet};
+ghost use Rattle.nor_loop.specs.Four.{FourReadsRead, BothRead};
 ghost use Rattle.nor_loop.specs.Single.{SingleIsOperation, PlannedIsSingle, DoneInParts, StoppedInParts, QuadUnseen, WhateverQuad};
 ghost use Rattle.nor_loop.specs.Laws.{ReadsTell, ReadsKeep, LoopCloses, LoopResumes, LoopMends, LoopBreaks, LoopIsExplained, DoneIsLogged, StoppedIsLogged, DeviceCloses, DeviceBreaks, OneLog, EnteredReadsTell, ReadsRead, EnteredReadsRead, ToldLoopCloses};
 
@@ -22,6 +23,15 @@ pub fn reads()
     ensures entered { EnteredReadsTell }
     ensures reading { ReadsRead }
     ensures entered_reading { EnteredReadsRead }
+{
+    spelling();
+}
+
+/// Reads of the whole chip by 13h, which has four address bytes in either mode, read its content too, where it has that opcode. Two
+/// readings of a content one after the other are one reading of it.
+pub fn four_reads()
+    ensures four { FourReadsRead }
+    ensures both { BothRead }
 {
     spelling();
 }

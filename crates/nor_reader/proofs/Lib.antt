@@ -1,0 +1,4 @@
+mod SentLemmas
+mod PassLemmas
+mod AgainLemmas
+mod TwiceLemmas

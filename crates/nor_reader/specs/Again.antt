@@ -1,0 +1,53 @@
+-- Bytes that were read are read again and compared (this project's).
+use Rattle.std.specs.Prelude.{◌≡◌, ◌<◌, ◌≤◌, ℕ, ◌+◌, List, [], ◌∷◌, ◌++◌, length, slice_index, take, Option, Result, Ok, Err}
+use Rattle.std.specs.List.{slice_range}
+use Rattle.std.specs.Io.KnownBytes.{Appends}
+use Rattle.nor_base.specs.Device.{Ahead}
+use Rattle.nor_probe.specs.declared.difference.Difference.{Difference}
+use Rattle.nor_probe.specs.declared.difference.Mismatch.{Mismatch}
+use Rattle.nor_probe.specs.declared.difference.Mismatch.TheVariants.{Exchange, Differs}
+use Rattle.nor_serprog.specs.Exchange.{GivesOther}
+use Rattle.nor_serprog.specs.Protocol.{request}
+use Rattle.nor_loop.specs.Log.{HasLogged}
+use Rattle.nor_reader.specs.declared.by.ReadBy.{ReadBy}
+use Rattle.nor_reader.specs.Reads.{sent_by, read_op, HasReadOn, StopsPiece}
+
+-- the answer of a read from an address on came whole, and this is the first byte of it that is another than the one that was wanted
+pub record FindsOther (held_before held_after : Option (List ℕ)) (ahead_before ahead_after : Ahead) (by : ReadBy) (at : ℕ) (want : List ℕ)
+    (d : Difference) : Type 0 where
+  pub out : Appends held_before held_after (request (sent_by by at (length want)) (length want))
+  pub place : ℕ
+  pub other : GivesOther ahead_before ahead_after want place d.chip
+  pub address : d.address ≡ at + place
+  pub wanted : d.want ≡ slice_index want place
+
+-- such a read ended so
+abbrev pub MissesPiece : Option (List ℕ) → Option (List ℕ) → Ahead → Ahead → ReadBy → ℕ → List ℕ → Mismatch → Type 0
+MissesPiece held_before held_after ahead_before ahead_after by at want (Exchange why) =
+    (got : List ℕ) × (length got ≡ length want) × StopsPiece held_before held_after ahead_before ahead_after by at got why
+MissesPiece held_before held_after ahead_before ahead_after by at want (Differs d) =
+    FindsOther held_before held_after ahead_before ahead_after by at want d
+
+-- what such a read says
+abbrev pub ReadsPiece : Option (List ℕ) → Option (List ℕ) → Ahead → Ahead → Result (Unit {0}) Mismatch → ReadBy → ℕ → List ℕ → Type 0
+ReadsPiece held_before held_after ahead_before ahead_after (Ok u) by at want =
+    HasLogged held_before held_after ahead_before ahead_after (read_op by at want ∷ [])
+ReadsPiece held_before held_after ahead_before ahead_after (Err why) by at want =
+    MissesPiece held_before held_after ahead_before ahead_after by at want why
+
+-- the bytes before an address came again, and the next read ended so
+pub record MissesOn (held_before held_after : Option (List ℕ)) (ahead_before ahead_after : Ahead) (by : ReadBy) (bytes : List ℕ) (why : Mismatch)
+    : Type 0 where
+  pub at : ℕ
+  pub len : ℕ
+  pub some : 0 < len
+  pub within : at + len ≤ length bytes
+  pub held : Option (List ℕ)
+  pub ahead : Ahead
+  pub alike : HasReadOn held_before held ahead_before ahead by [] (take at bytes)
+  pub stop : MissesPiece held held_after ahead ahead_after by at (slice_range bytes at (at + len)) why
+
+-- what reading bytes again from address 0 on says
+abbrev pub ReadsAgain : Option (List ℕ) → Option (List ℕ) → Ahead → Ahead → Result (Unit {0}) Mismatch → ReadBy → List ℕ → Type 0
+ReadsAgain held_before held_after ahead_before ahead_after (Ok u) by bytes = HasReadOn held_before held_after ahead_before ahead_after by [] bytes
+ReadsAgain held_before held_after ahead_before ahead_after (Err why) by bytes = MissesOn held_before held_after ahead_before ahead_after by bytes why

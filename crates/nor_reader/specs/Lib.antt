@@ -1,0 +1,6 @@
+pub mod Reads
+pub mod Again
+pub mod Twice
+pub mod Id
+pub mod Tables
+pub mod Laws

@@ -1,0 +1,103 @@
+//! The chip behind a device, read piece by piece.
+
+ghost use Rattle.std.specs.Prelude.{◌≡◌, ◌≤◌, ◌<◌, ◌-◌, ◌^◌, [], length, take, MatchResult};
+ghost use Rattle.nor_probe.specs.Compared.{CountsMismatch};
+ghost use Rattle.nor_serprog.specs.declared.fault.Fault.TheVariants.{Read, Write};
+ghost use Rattle.nor_serprog.specs.Exchange.{CountsReads, CountsWrites};
+ghost use Rattle.nor_reader.specs.Again.{ReadsAgain};
+ghost use Rattle.nor_reader.specs.Reads.{HasReadOn, StopsOn};
+ghost use Rattle.nor_reader.specs.Twice.{ReadTwice, StopsTwice};
+
+use crate::by::ReadBy;
+use crate::piece::{compare_piece, read_piece};
+use nor_base::{ByteIn, ByteOut};
+use nor_probe::Mismatch;
+use nor_serprog::{Fault, Limits};
+
+/// Has the device read as many bytes of its chip as there is room for, from address 0 on, as many at once as it can give; and then
+/// again, by an instruction that may be another, and compares them with the first. No memory is taken.
+///
+/// On Ok just these two readings went out, and both gave the bytes. `Differs` names the lowest address whose byte came otherwise the
+/// second time; no more was read. `Exchange` where the exchange of a read ended early.
+pub fn read_content<R: ByteIn, W: ByteOut>(
+    from: &mut R,
+    to: &mut W,
+    limits: &Limits,
+    by: ReadBy,
+    again: ReadBy,
+    content: &mut [u8],
+) -> Result<(), Mismatch>
+    requires size { length content.old ≤ 2 ^ 32 }
+    requires reader { R.count from.old < 2 ^ 64 - 1 }
+    requires writer { W.count to.old < 2 ^ 64 - 1 }
+    ensures twice { MatchResult result
+        (λ _. ReadTwice (W.held to.old) (W.held to.new) (R.ahead from.old) (R.ahead from.new) by again content.new)
+        (StopsTwice (W.held to.old) (W.held to.new) (R.ahead from.old) (R.ahead from.new) by again content.new) }
+    ensures reads { CountsMismatch Read (R.count from.old) (R.count from.new) result }
+    ensures writes { CountsMismatch Write (W.count to.old) (W.count to.new) result }
+{
+    if let Err(why) = read_on(from, to, limits, by, content, 0) {
+        return Err(Mismatch::Exchange(why));
+    }
+    compare_all(from, to, limits, again, content)
+}
+
+/// Has the device read its chip from an address on, as far as there is room. The bytes before that address stay.
+pub(crate) fn read_on<R: ByteIn, W: ByteOut>(
+    from: &mut R,
+    to: &mut W,
+    limits: &Limits,
+    by: ReadBy,
+    bytes: &mut [u8],
+    start: usize,
+) -> Result<(), Fault>
+    requires start { start ≤ length bytes.old }
+    requires size { length bytes.old ≤ 2 ^ 32 }
+    requires reader { R.count from.old < 2 ^ 64 - 1 }
+    requires writer { W.count to.old < 2 ^ 64 - 1 }
+    ensures read { MatchResult result
+        (λ _. HasReadOn (W.held to.old) (W.held to.new) (R.ahead from.old) (R.ahead from.new) by (take start bytes.old) bytes.new)
+        (StopsOn (W.held to.old) (W.held to.new) (R.ahead from.old) (R.ahead from.new) by (take start bytes.old)) }
+    ensures size { length bytes.new ≡ length bytes.old }
+    ensures reads { CountsReads (R.count from.old) (R.count from.new) result }
+    ensures writes { CountsWrites (W.count to.old) (W.count to.new) result }
+{
+    let size = bytes.len();
+    let most = limits.asked as usize;
+    let mut done = start;
+    while done < size {
+        let len = (size - done).min(most);
+        if let Err(why) = read_piece(from, to, by, done as u32, &mut bytes[done..done + len]) {
+            return Err(why);
+        }
+        done += len;
+    }
+    Ok(())
+}
+
+/// Has the device read its chip from address 0 on, and compares what comes with bytes.
+pub(crate) fn compare_all<R: ByteIn, W: ByteOut>(
+    from: &mut R,
+    to: &mut W,
+    limits: &Limits,
+    by: ReadBy,
+    bytes: &[u8],
+) -> Result<(), Mismatch>
+    requires size { length bytes.now ≤ 2 ^ 32 }
+    requires reader { R.count from.old < 2 ^ 64 - 1 }
+    requires writer { W.count to.old < 2 ^ 64 - 1 }
+    ensures again { ReadsAgain (W.held to.old) (W.held to.new) (R.ahead from.old) (R.ahead from.new) result by bytes.now }
+    ensures reads { CountsMismatch Read (R.count from.old) (R.count from.new) result }
+    ensures writes { CountsMismatch Write (W.count to.old) (W.count to.new) result }
+{
+    let most = limits.asked as usize;
+    let mut done = 0;
+    while done < bytes.len() {
+        let len = (bytes.len() - done).min(most);
+        if let Err(why) = compare_piece(from, to, by, done as u32, &bytes[done..done + len]) {
+            return Err(why);
+        }
+        done += len;
+    }
+    Ok(())
+}

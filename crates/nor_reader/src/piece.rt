@@ -1,0 +1,129 @@
+//! One read of the chip behind a device.
+
+ghost use Rattle.std.specs.Prelude.{◌≡◌, ◌<◌, ◌+◌, ◌-◌, ◌^◌, [], ◌∷◌, length, MatchResult};
+ghost use Rattle.nor_loop.specs.Log.{HasLogged};
+ghost use Rattle.nor_probe.specs.Compared.{CountsMismatch};
+ghost use Rattle.nor_serprog.specs.declared.fault.Fault.TheVariants.{Read, Write};
+ghost use Rattle.nor_serprog.specs.Exchange.{Answers, Asks, CountsReads, CountsWrites, Knows};
+ghost use Rattle.nor_serprog.specs.Follow.{CountsReason};
+ghost use Rattle.nor_serprog.specs.Protocol.{request};
+ghost use Rattle.nor_reader.specs.Again.{ReadsPiece};
+ghost use Rattle.nor_reader.specs.Reads.{sent_by, read_op, StopsPiece};
+
+use crate::by::ReadBy;
+use nor_base::{ByteIn, ByteOut};
+use nor_probe::{Difference, Mismatch};
+use nor_serprog::{Fault, Limits, Reason, operate, operate_with};
+
+/// Has the device read as many bytes as a piece has room for, from an address on.
+pub(crate) fn read_piece<R: ByteIn, W: ByteOut>(
+    from: &mut R,
+    to: &mut W,
+    by: ReadBy,
+    address: u32,
+    piece: &mut [u8],
+) -> Result<(), Fault>
+    requires size { length piece.old < 2 ^ 24 }
+    requires reader { R.count from.old < 2 ^ 64 - 1 }
+    requires writer { W.count to.old < 2 ^ 64 - 1 }
+    ensures read { MatchResult result
+        (λ _. HasLogged (W.held to.old) (W.held to.new) (R.ahead from.old) (R.ahead from.new) (read_op by address piece.new ∷ []))
+        (StopsPiece (W.held to.old) (W.held to.new) (R.ahead from.old) (R.ahead from.new) by address piece.new) }
+    ensures reads { CountsReads (R.count from.old) (R.count from.new) result }
+    ensures writes { CountsWrites (W.count to.old) (W.count to.new) result }
+{
+    ask_piece(from, to, by, address, piece)
+}
+
+/// The same, as the exchange.
+#[tactic(auto, using(crate::proofs::SentLemmas::sent_written))]
+fn ask_piece<R: ByteIn, W: ByteOut>(
+    from: &mut R,
+    to: &mut W,
+    by: ReadBy,
+    address: u32,
+    piece: &mut [u8],
+) -> Result<(), Fault>
+    requires size { length piece.old < 2 ^ 24 }
+    requires reader { R.count from.old < 2 ^ 64 - 1 }
+    requires writer { W.count to.old < 2 ^ 64 - 1 }
+    ensures asked { Asks (W.held to.old) (W.held to.new) (R.ahead from.old) (R.ahead from.new) result
+        (request (sent_by by address (length piece.new)) (length piece.new)) (Answers (R.ahead from.old) (R.ahead from.new) result piece.new) }
+    ensures reads { CountsReads (R.count from.old) (R.count from.new) result }
+    ensures writes { CountsWrites (W.count to.old) (W.count to.new) result }
+{
+    let [highest, high, low, lowest] = address.to_be_bytes();
+    match by {
+        ReadBy::Tables => operate(from, to, &[0x5A, high, low, lowest, 0x00], piece),
+        ReadBy::FourBytes => operate(from, to, &[0x13, highest, high, low, lowest], piece),
+        ReadBy::Content { mode4 } => {
+            if mode4 {
+                operate(from, to, &[0x03, highest, high, low, lowest], piece)
+            } else if address as usize + piece.len() > 1 << 24 {
+                operate(from, to, &[0x13, highest, high, low, lowest], piece)
+            } else {
+                operate(from, to, &[0x03, high, low, lowest], piece)
+            }
+        }
+    }
+}
+
+/// Has the device read as many bytes as a piece has, from an address on, and compares them with it.
+pub(crate) fn compare_piece<R: ByteIn, W: ByteOut>(
+    from: &mut R,
+    to: &mut W,
+    by: ReadBy,
+    address: u32,
+    piece: &[u8],
+) -> Result<(), Mismatch>
+    requires size { length piece.now < 2 ^ 24 }
+    requires end { address + length piece.now < 2 ^ 32 + 1 }
+    requires reader { R.count from.old < 2 ^ 64 - 1 }
+    requires writer { W.count to.old < 2 ^ 64 - 1 }
+    ensures read { ReadsPiece (W.held to.old) (W.held to.new) (R.ahead from.old) (R.ahead from.new) result by address piece.now }
+    ensures reads { CountsMismatch Read (R.count from.old) (R.count from.new) result }
+    ensures writes { CountsMismatch Write (W.count to.old) (W.count to.new) result }
+{
+    match expect_piece(from, to, by, address, piece) {
+        Ok(()) => Ok(()),
+        Err(Reason::Exchange(why)) => Err(Mismatch::Exchange(why)),
+        Err(Reason::Differs { place, byte }) => Err(Mismatch::Differs(Difference {
+            address: address + place,
+            chip: byte,
+            want: piece[place as usize],
+        })),
+        Err(Reason::Busy) | Err(Reason::Carried) => unreachable!("nothing is waited for"),
+    }
+}
+
+/// The same, as the exchange.
+fn expect_piece<R: ByteIn, W: ByteOut>(
+    from: &mut R,
+    to: &mut W,
+    by: ReadBy,
+    address: u32,
+    piece: &[u8],
+) -> Result<(), Reason>
+    requires size { length piece.now < 2 ^ 24 }
+    requires reader { R.count from.old < 2 ^ 64 - 1 }
+    requires writer { W.count to.old < 2 ^ 64 - 1 }
+    ensures known { Knows (W.held to.old) (W.held to.new) (R.ahead from.old) (R.ahead from.new) result
+        (request (sent_by by address (length piece.now)) (length piece.now)) piece.now }
+    ensures reads { CountsReason Read (R.count from.old) (R.count from.new) result }
+    ensures writes { CountsReason Write (W.count to.old) (W.count to.new) result }
+{
+    let [highest, high, low, lowest] = address.to_be_bytes();
+    match by {
+        ReadBy::Tables => operate_with(from, to, &[0x5A, high, low, lowest, 0x00], piece),
+        ReadBy::FourBytes => operate_with(from, to, &[0x13, highest, high, low, lowest], piece),
+        ReadBy::Content { mode4 } => {
+            if mode4 {
+                operate_with(from, to, &[0x03, highest, high, low, lowest], piece)
+            } else if address as usize + piece.len() > 1 << 24 {
+                operate_with(from, to, &[0x13, highest, high, low, lowest], piece)
+            } else {
+                operate_with(from, to, &[0x03, high, low, lowest], piece)
+            }
+        }
+    }
+}
