@@ -1,5 +1,5 @@
 mod DifferenceLemmas
 mod StatusBits
 mod StatusLemmas
-mod TablesLemmas
+pub mod TablesLemmas
 mod PieceLemmas

@@ -40,9 +40,9 @@ pub fn tables_reach(tables: &[u8]) -> usize
     reach.min(tables.len())
 }
 
-/// Where the table of the parameter header with an index ends.
+/// Where the table of the parameter header with an index, from 0 on, ends: an address of the SFDP.
 #[tactic(auto, unfolding(nor_sfdp::specs::Headers::header_at))]
-fn table_end(tables: &[u8], i: usize) -> usize
+pub fn table_end(tables: &[u8], i: usize) -> usize
     requires { 16 + 8 * i ≤ length tables.now }
     ensures { result ≡ table_end tables.now i }
 {

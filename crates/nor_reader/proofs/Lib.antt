@@ -1,4 +1,5 @@
-mod SentLemmas
 mod PassLemmas
 mod AgainLemmas
 mod TwiceLemmas
+mod LawLemmas
+mod TablesLemmas

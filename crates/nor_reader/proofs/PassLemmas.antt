@@ -1,13 +1,13 @@
 -- Pieces are reads one after the other.
-use Rattle.std.proofs.Common.{◌≡◌, ℕ, ◌+◌, ◌-◌, ◌^◌, ◌<◌, ◌≤◌, List, [], ◌∷◌, ◌++◌, length, take, drop, length-drop, Option, Err, refl, sym, ◌∙◌, ap, subst, arith, append-nil, append_assoc, length-append}
+use Rattle.std.proofs.Common.{◌≡◌, ℕ, ◌+◌, ◌-◌, ◌<◌, ◌≤◌, List, [], ◌∷◌, ◌++◌, length, take, drop, length-drop, Option, refl, sym, ◌∙◌, ap, subst, arith, append-nil, append_assoc, length-append}
 use Rattle.std.proofs.lemmas.List.{length-take-le, take_all}
 use Rattle.std.proofs.lemmas.Slice.{take-put_mid}
 use borrow.Rule.Slice.PartMut.{put_mid, post_of}
-use Rattle.std.specs.List.{AllByRecursion, concat}
+use Rattle.std.specs.List.{concat}
 use Rattle.nor_base.specs.Device.{Ahead}
 use Rattle.nor_base.proofs.ListLaws.{all_append}
 use Rattle.nor_serprog.specs.declared.fault.Fault.{Fault}
-use Rattle.nor_loop.specs.Log.{Operation, HasLogged}
+use Rattle.nor_loop.specs.Log.{HasLogged}
 use Rattle.nor_loop.proofs.DeviceLemmas.{logged_none, logged_both}
 use Rattle.nor_reader.specs.declared.by.ReadBy.{ReadBy}
 use Rattle.nor_reader.specs.Reads.{read_op, ops_from, HasReadOn, StopsPiece, StopsOn}

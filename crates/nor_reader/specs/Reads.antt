@@ -1,6 +1,6 @@
 -- Reads of a chip, one after the other (W25Q256JV datasheet: Read Data 03h, Read Data with 4-Byte Address 13h; JESD216B: Read SFDP
 -- 5Ah; the exchanges are the Serial Flasher Protocol's).
-use Rattle.std.specs.Prelude.{◌≡◌, ◌<◌, ◌≤◌, ℕ, ◌+◌, List, [], ◌∷◌, ◌++◌, length, Option, Err}
+use Rattle.std.specs.Prelude.{◌≡◌, ◌<◌, ℕ, ◌+◌, List, [], ◌∷◌, ◌++◌, length, Option, Err}
 use Rattle.std.specs.List.{AllByRecursion, concat}
 use Rattle.nor_base.specs.Device.{Ahead}
 use Rattle.nor_serprog.specs.declared.fault.Fault.{Fault}

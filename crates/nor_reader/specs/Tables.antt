@@ -1,11 +1,14 @@
 -- A chip's SFDP tables (JESD216B: the header with its signature, the parameter headers).
-use Rattle.std.specs.Prelude.{◌≡◌, ◌⊎◌, ℕ, ◌+◌, ◌*◌, ◌^◌, min, take, List, [], length, codes, Option, Result, Ok, Err}
+use Rattle.std.specs.Prelude.{◌≡◌, ℕ, ◌+◌, ◌*◌, ◌^◌, min, take, List, [], length, codes, Option, Result, Ok, Err}
 use Rattle.nor_base.specs.Device.{Ahead}
 use Rattle.nor_probe.specs.Tables.{header_count, greatest, ends}
 use Rattle.nor_reader.specs.declared.by.ReadBy.TheVariants.{Tables}
 use Rattle.nor_reader.specs.declared.tables.TablesFault.{TablesFault}
 use Rattle.nor_reader.specs.declared.tables.TablesFault.TheVariants.{Memory, NoSignature, Unread}
-use Rattle.nor_reader.specs.Reads.{HasReadOn}
+use Rattle.nor_serprog.specs.declared.fault.Fault.{Fault}
+use Rattle.nor_serprog.specs.declared.fault.Fault.TheVariants as fault
+use Rattle.nor_probe.specs.declared.difference.Mismatch.TheVariants.{Exchange}
+use Rattle.nor_reader.specs.Reads.{HasReadOn, StopsOn}
 use Rattle.nor_reader.specs.Twice.{ReadTwice, StopsTwice}
 
 -- the header begins with the signature
@@ -25,14 +28,33 @@ pub record AreTables (bytes : List ℕ) : Type 0 where
   pub signed : HasSignature bytes
   pub far : length bytes ≡ tables_size (take (headers_end bytes) bytes)
 
--- what reading a chip's tables says: they came twice alike; or there is no signature, which was read once; or they didn't come alike; or
--- memory ran out after a part of them
-abbrev pub ReadsTables : Option (List ℕ) → Option (List ℕ) → Ahead → Ahead → Result (List ℕ) TablesFault → Type 0
-ReadsTables held_before held_after ahead_before ahead_after (Ok bytes) =
-    AreTables bytes × ReadTwice held_before held_after ahead_before ahead_after Tables Tables bytes
-ReadsTables held_before held_after ahead_before ahead_after (Err NoSignature) =
+-- they came twice alike, as far as their own headers reach
+pub record HasReadTables (held_before held_after : Option (List ℕ)) (ahead_before ahead_after : Ahead) (bytes : List ℕ) : Type 0 where
+  pub are : AreTables bytes
+  pub twice : ReadTwice held_before held_after ahead_before ahead_after Tables Tables bytes
+
+-- why they aren't read: there is no signature in the header, which was read once; or they didn't come twice alike; or memory ran out
+-- after a part of them
+abbrev pub StopsTables : Option (List ℕ) → Option (List ℕ) → Ahead → Ahead → TablesFault → Type 0
+StopsTables held_before held_after ahead_before ahead_after NoSignature =
     (bytes : List ℕ) × (length bytes ≡ 8) × (HasSignature bytes → ⊥) × HasReadOn held_before held_after ahead_before ahead_after Tables [] bytes
-ReadsTables held_before held_after ahead_before ahead_after (Err (Unread why)) =
+StopsTables held_before held_after ahead_before ahead_after (Unread why) =
     (bytes : List ℕ) × StopsTwice held_before held_after ahead_before ahead_after Tables Tables bytes why
-ReadsTables held_before held_after ahead_before ahead_after (Err Memory) =
+StopsTables held_before held_after ahead_before ahead_after Memory =
     (bytes : List ℕ) × HasReadOn held_before held_after ahead_before ahead_after Tables [] bytes
+
+-- what reading on says, until there are so many bytes
+abbrev pub Grows : Option (List ℕ) → Option (List ℕ) → Ahead → Ahead → Result (Unit {0}) TablesFault → List ℕ → List ℕ → ℕ → Type 0
+Grows held_before held_after ahead_before ahead_after (Ok u) old new end =
+    (length new ≡ end) × HasReadOn held_before held_after ahead_before ahead_after Tables old new
+Grows held_before held_after ahead_before ahead_after (Err Memory) old new end = (held_after ≡ held_before) × (ahead_after ≡ ahead_before)
+Grows held_before held_after ahead_before ahead_after (Err (Unread (Exchange why))) old new end =
+    StopsOn held_before held_after ahead_before ahead_after Tables old why
+Grows held_before held_after ahead_before ahead_after (Err other) old new end = ⊥
+
+-- the reader's count of failures rises by one exactly where the exchange ended in Read, the writer's where it ended in Write
+abbrev pub CountsTables : {T : Type 0} → Fault → ℕ → ℕ → Result T TablesFault → Type 0
+CountsTables device before after (Ok x) = after ≡ before
+CountsTables fault.Read before after (Err (Unread (Exchange fault.Read))) = after ≡ before + 1
+CountsTables fault.Write before after (Err (Unread (Exchange fault.Write))) = after ≡ before + 1
+CountsTables device before after (Err other) = after ≡ before

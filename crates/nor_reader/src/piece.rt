@@ -36,7 +36,6 @@ pub(crate) fn read_piece<R: ByteIn, W: ByteOut>(
 }
 
 /// The same, as the exchange.
-#[tactic(auto, using(crate::proofs::SentLemmas::sent_written))]
 fn ask_piece<R: ByteIn, W: ByteOut>(
     from: &mut R,
     to: &mut W,

@@ -1,8 +1,8 @@
 -- Piece by piece.
-use Rattle.std.proofs.Common.{◌≡◌, ◌≤◌, ◌<◌, ◌+◌, ◌-◌, length, take, drop, refl, ◌∙◌, ap, subst, arith, length-take, length-drop}
+use Rattle.std.proofs.Common.{◌≡◌, ◌≤◌, ◌+◌, ◌-◌, length, take, drop, refl, ◌∙◌, ap, subst, arith, length-take, length-drop}
 use borrow.Rule.Slice.PartMut.{put_mid}
 use Rattle.nor_reader.specs.Reads.{HasReadOn}
-use Rattle.nor_reader.proofs.PassLemmas.{nothing_read, piece_more, piece_stops, put_piece, all_read}
+use Rattle.nor_reader.proofs.PassLemmas.{nothing_read, piece_more, put_piece}
 use Rattle.nor_reader.proofs.pass.read_on.Goals as goal
 
 pub loop-done-init : goal.loop-done-init

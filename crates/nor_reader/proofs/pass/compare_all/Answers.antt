@@ -1,0 +1,35 @@
+-- Piece by piece.
+use Rattle.std.proofs.Common.{◌≤◌, ◌<◌, ◌+◌, [], length, refl, ◌∙◌, arith}
+use Rattle.nor_reader.proofs.PassLemmas.{nothing_read}
+use Rattle.nor_reader.proofs.AgainLemmas.{again_more, again_not}
+use Rattle.nor_reader.proofs.pass.compare_all.Goals as goal
+
+pub loop-done-init : goal.loop-done-init
+loop-done-init g c = record {
+  within = omega arith;
+  alike = nothing_read (g.W.ByteOut.held c.args.to.now) (g.R.ByteIn.ahead c.args.from.now) c.args.by [];
+  reads = refl;
+  writes = refl;
+}
+
+pub loop-done-preserved : goal.loop-done-preserved
+loop-done-preserved g c =
+    let within : c.loop-done.done + c.min-len.result ≤ length c.args.bytes.now = omega arith in
+    let some : 0 < c.min-len.result = omega (arith, c.args.limits.now.some_asked) in
+    let ok = c.in_default.ensures in
+    record {
+      within = within;
+      alike = again_more (g.W.ByteOut.held c.args.to.now) (g.W.ByteOut.held c.loop-done.to) (g.W.ByteOut.held c.compare_piece.new.to) (g.R.ByteIn.ahead c.args.from.now)
+          (g.R.ByteIn.ahead c.loop-done.from) (g.R.ByteIn.ahead c.compare_piece.new.from) c.args.by c.args.bytes.now c.loop-done.done c.min-len.result within some
+          c.loop-done.invariant.alike ok.read;
+      reads = ok.reads ∙ c.loop-done.invariant.reads;
+      writes = ok.writes ∙ c.loop-done.invariant.writes;
+    }
+
+pub returns-in-Err-clause-again : goal.returns-in-Err-clause-again
+returns-in-Err-clause-again g c =
+    let within : c.loop-done.done + c.min-len.result ≤ length c.args.bytes.now = omega arith in
+    let some : 0 < c.min-len.result = omega (arith, c.args.limits.now.some_asked) in
+    again_not (g.W.ByteOut.held c.args.to.now) (g.W.ByteOut.held c.loop-done.to) (g.W.ByteOut.held c.compare_piece.new.to) (g.R.ByteIn.ahead c.args.from.now)
+    (g.R.ByteIn.ahead c.loop-done.from) (g.R.ByteIn.ahead c.compare_piece.new.from) c.args.by c.args.bytes.now c.loop-done.done c.min-len.result c.in-Err.why within some
+    c.loop-done.invariant.alike c.in-Err.ensures.read
