@@ -10,14 +10,16 @@ use Rattle.norprog_common.specs.declared.files.ScriptFile.TheVariants.{Twice, He
 
 -- what is known of files, each by its name. `gave`: the file gave these bytes, read whole. `opened`: it was opened, this is ahead
 -- of its reader, and this is its length in bytes. `stood`: it was opened, and stood at this place. `made`: it was made, or emptied,
--- at none of these places, and held this then. `flushed`: some file that was made had taken this, and all of it has gone out.
--- `lacked`: of a file that is told so some couldn't be used. `device`: the device of this name was opened to be read and written; it had
--- this yet to give, and had taken this, where that is known
+-- at none of these places, and held this then. `fresh`: no file of this name was there, and the one that was made held this.
+-- `flushed`: some file that was made had taken this, and all of it has gone out. `lacked`: of a file that is told so some couldn't be
+-- used. `device`: the device of this name was opened to be read and written; it had this yet to give, and had taken this, where that is
+-- known
 pub record FileFacts : Type 1 where
   pub gave : List ℕ → List ℕ → Type 0
   pub opened : List ℕ → Ahead → ℕ → Type 0
   pub stood : List ℕ → FileId → Type 0
   pub made : List ℕ → List FileId → Option (List ℕ) → Type 0
+  pub fresh : List ℕ → Option (List ℕ) → Type 0
   pub flushed : Option (List ℕ) → Type 0
   pub lacked : FileName → Type 0
   pub device : List ℕ → Option (List ℕ) → Option (List ℕ) → Type 0
@@ -29,6 +31,7 @@ nothing_known = record {
   opened = λ name ahead len. ⊤;
   stood = λ name place. ⊤;
   made = λ name places held. ⊤;
+  fresh = λ name held. ⊤;
   flushed = λ held. ⊤;
   lacked = λ told. ⊤;
   device = λ name remaining contents. ⊤;

@@ -106,6 +106,7 @@ file_text file.Out = codes "file out"
 file_text file.Map = codes "file map"
 file_text file.Device = codes "file device"
 file_text file.Bin = codes "file bin"
+file_text file.Tables = codes "file tables"
 
 -- `norprog: `, a text, LF
 abbrev pub program_line : List ℕ → List ℕ

@@ -29,6 +29,7 @@ pub enum FileName {
     Map,
     Device,
     Bin,
+    Tables,
 }
 
 /// What stands behind the words of a refusal.
@@ -193,6 +194,7 @@ fn file_words(name: FileName) -> &'static [u8]
         FileName::Map => b"file map",
         FileName::Device => b"file device",
         FileName::Bin => b"file bin",
+        FileName::Tables => b"file tables",
     }
 }
 

@@ -164,6 +164,23 @@ pub(crate) fn create_output<R: Files>(
     }
 }
 
+/// Makes an output file where no file of that name is there, not even a link to none.
+///
+/// Where there is one, and where it can't be made, `File` of `name`; `Memory` where the system says that it lacks that.
+pub(crate) fn create_fresh<R: Files>(
+    rt: &R,
+    path: &str,
+    name: FileName,
+) -> Result<R::File, Refusal>
+    ensures refused { IfErr result (RefusesFile name) }
+    ensures files { IfErr result IsOfFiles }
+{
+    match OpenOptions::new().write(true).create_new(true).open(rt, path) {
+        Ok(file) => Ok(file),
+        Err(error) => Err(refusal_of(&error, name)),
+    }
+}
+
 /// Opens a character device twice, to read from it and to write to it. Nothing else is opened to write, nor changed.
 ///
 /// Where it isn't one, can't be opened or asked, `File` of `Device`; `Memory` where the system says that it lacks that.

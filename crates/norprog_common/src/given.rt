@@ -109,3 +109,14 @@ pub struct PlayArgs<'a> {
     pub limit: Option<&'a str>,
     pub trust: bool,
 }
+
+/// Of `read`.
+#[derive(Clone, Copy)]
+pub struct ReadArgs<'a> {
+    pub chip: ChipArgs<'a>,
+    pub mode4: bool,
+    pub device: Option<&'a str>,
+    pub limit: Option<&'a str>,
+    pub tables: Option<&'a str>,
+    pub out: Option<&'a str>,
+}

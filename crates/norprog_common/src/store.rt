@@ -85,6 +85,21 @@ pub trait FileStore {
         ensures refused { IfErr result (RefusesFile name) }
         ensures lacked { IfErr result (TellsFile (facts self.now).lacked) };
 
+    /// Makes an output file where no file of that name is there; none is emptied or written over. What is written to it goes out
+    /// where it is flushed, if not before.
+    ///
+    /// Where there is one, and where it can't be made, `File` of `name`; `Memory` where a growth is refused.
+    fn create_new(
+        &self,
+        alloc: Global,
+        path: &str,
+        name: FileName,
+    ) -> Result<Self::Output, Refusal>
+        ensures fresh { IfOk result (λ file. (facts self.now).fresh path.now (Self.Output.held file)) }
+        ensures count { IfOk result (λ file. Self.Output.count file ≡ 0) }
+        ensures refused { IfErr result (RefusesFile name) }
+        ensures lacked { IfErr result (TellsFile (facts self.now).lacked) };
+
     /// Has all go out that a file took. `Failed` where some of it may not have.
     fn flush(&self, file: &mut Self::Output) -> Result<(), Failed>
         ensures flushed { IfOk result (λ _. (facts self.now).flushed (Self.Output.held file.old)) }

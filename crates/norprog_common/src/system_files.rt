@@ -4,7 +4,7 @@ ghost use Rattle.norprog_common.specs.FileStore.{DoNotFail};
 
 use crate::faults::{FileName, Refusal};
 use crate::files::{
-    FileId, ScriptFile, create_output, open_device, open_input, open_script, read_whole,
+    FileId, ScriptFile, create_fresh, create_output, open_device, open_input, open_script, read_whole,
 };
 use crate::store::FileStore;
 use nor_base::{Failed, FromRead, IntoWrite};
@@ -76,6 +76,19 @@ impl<'a, R: Files> FileStore for SystemFiles<'a, R> {
         inputs: &[FileId],
     ) -> Result<IntoWrite<BufWriter<R::File>>, Refusal> {
         let file = create_output(self.files, path, name, inputs)?;
+        match BufWriter::with_capacity(alloc, BUFFER, file) {
+            Ok(writer) => Ok(IntoWrite::new(writer)),
+            Err(_) => Err(Refusal::MEMORY),
+        }
+    }
+
+    fn create_new(
+        &self,
+        alloc: Global,
+        path: &str,
+        name: FileName,
+    ) -> Result<IntoWrite<BufWriter<R::File>>, Refusal> {
+        let file = create_fresh(self.files, path, name)?;
         match BufWriter::with_capacity(alloc, BUFFER, file) {
             Ok(writer) => Ok(IntoWrite::new(writer)),
             Err(_) => Err(Refusal::MEMORY),

@@ -112,6 +112,15 @@ impl<'a> FileStore for Memory<'a> {
         Ok(IntoWrite::new(Vec::new(alloc)))
     }
 
+    fn create_new(
+        &self,
+        alloc: Global,
+        _path: &str,
+        _name: FileName,
+    ) -> Result<IntoWrite<Vec<u8>>, Refusal> {
+        Ok(IntoWrite::new(Vec::new(alloc)))
+    }
+
     fn flush(&self, file: &mut IntoWrite<Vec<u8>>) -> Result<(), Failed> {
         match file.inner.clone() {
             Ok(taken) => {
