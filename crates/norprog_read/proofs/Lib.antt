@@ -1,0 +1,2 @@
+mod RoomLemmas
+mod ReadLemmas

@@ -1,0 +1,70 @@
+-- What the chip behind a device said and gave (this project's).
+use Rattle.std.specs.Prelude.{◌≡◌, ℕ, Bool, true, false, List, [], Option, None, Ok}
+use Rattle.nor_base.specs.declared.meaning.Start.{Start}
+use Rattle.nor_base.specs.Device.{Ahead}
+use Rattle.nor_base.specs.Parameters.{Parameters}
+use Rattle.nor_job.specs.Chip.{HasChip}
+use Rattle.nor_job.specs.Status.{start_of}
+use Rattle.nor_job.specs.Task.{Task, Origin, Sfdp, Uniform as of_size}
+use Rattle.nor_probe.specs.Status.{ReadsStatus}
+use Rattle.nor_reader.specs.Id.{Identifies}
+use Rattle.nor_reader.specs.Tables.{HasReadTables}
+use Rattle.norprog_read.specs.declared.asked.Ask.{Ask}
+use Rattle.norprog_read.specs.declared.asked.Known.{Known}
+use Rattle.norprog_read.specs.declared.asked.Known.TheVariants.{Own, Tables, Uniform}
+use Rattle.norprog_read.specs.declared.asked.Reading.{Reading}
+use Rattle.norprog_read.specs.Content.{HoldsWhole}
+
+-- where its meaning comes from: the tables that came, or its size
+abbrev pub task_chip : Known → List ℕ → List ℕ → Origin
+task_chip (Uniform size) bits tables = of_size size
+task_chip other bits tables = Sfdp tables bits
+
+-- a task of that chip, with nothing to be done
+abbrev pub chip_task : Ask → List ℕ → Task
+chip_task ask tables = record {
+  hex = [];
+  layout = None;
+  regions = [];
+  chip = task_chip ask.known ask.bits.now tables;
+  part = ask.part;
+  status = None;
+  mode4 = ask.mode4;
+  quad = false;
+  base = 0;
+  verify = false;
+  erased_only = false;
+}
+
+-- its tables came twice alike; a chip of a size was asked for none
+abbrev pub GivesTables : Option (List ℕ) → Option (List ℕ) → Ahead → Ahead → Known → List ℕ → Type 0
+GivesTables held_before held_after ahead_before ahead_after (Uniform size) tables =
+    (tables ≡ []) × (held_after ≡ held_before) × (ahead_after ≡ ahead_before)
+GivesTables held_before held_after ahead_before ahead_after other tables = HasReadTables held_before held_after ahead_before ahead_after tables
+
+-- its content came twice alike, where it was wanted
+abbrev pub GivesContent : Option (List ℕ) → Option (List ℕ) → Ahead → Ahead → Parameters → Start → Bool → List ℕ → Type 0
+GivesContent held_before held_after ahead_before ahead_after m start true content =
+    HoldsWhole held_before held_after ahead_before ahead_after m start content
+GivesContent held_before held_after ahead_before ahead_after m start false content =
+    (content ≡ []) × (held_after ≡ held_before) × (ahead_after ≡ ahead_before)
+
+-- in this order, and nothing else was sent: its identification, its status until it was idle, its tables, its content, and its
+-- identification again, which was the same; its meaning is that of the tables that came, or of its size
+pub record HasReadChip (h0 h5 : Option (List ℕ)) (a0 a5 : Ahead) (ask : Ask) (r : Reading) : Type 0 where
+  pub part : r.part ≡ ask.part
+  pub wanted : r.whole ≡ ask.content
+  pub h1 : Option (List ℕ)
+  pub h2 : Option (List ℕ)
+  pub h3 : Option (List ℕ)
+  pub h4 : Option (List ℕ)
+  pub a1 : Ahead
+  pub a2 : Ahead
+  pub a3 : Ahead
+  pub a4 : Ahead
+  pub id : Identifies h0 h1 a0 a1 (Ok r.id)
+  pub status : ReadsStatus ask.part h1 h2 a1 a2 (Ok r.status) ask.turns
+  pub tables : GivesTables h2 h3 a2 a3 ask.known r.tables.items
+  pub means : HasChip (chip_task ask r.tables.items) r.meaning
+  pub content : GivesContent h3 h4 a3 a4 r.meaning (start_of (chip_task ask r.tables.items)) ask.content r.content.items
+  pub again : Identifies h4 h5 a4 a5 (Ok r.id)

@@ -1,0 +1,4 @@
+pub mod Content
+pub mod Chip
+pub mod Saved
+pub mod Opened

@@ -1,0 +1,12 @@
+-- An output that was made anew (this project's).
+use Rattle.std.specs.Prelude.{◌≡◌, ℕ, List, Option}
+use Rattle.std.specs.Io.KnownBytes.{Appends}
+use Rattle.norprog_common.specs.FileStore.{FileFacts}
+
+-- no file of the name was there; the one that was made took these bytes, and all of them have gone out
+pub record IsSaved (files : FileFacts) (name bytes : List ℕ) : Type 0 where
+  pub before : Option (List ℕ)
+  pub after : Option (List ℕ)
+  pub fresh : files.fresh name before
+  pub took : Appends before after bytes
+  pub flushed : files.flushed after

@@ -1,0 +1,50 @@
+//! What is asked of a chip, and what it gave.
+
+use nor_base::{Meaning, Part};
+
+/// What is known of a chip's meaning.
+#[derive(Clone, Copy)]
+pub enum Known<'a> {
+    /// Its own tables have it.
+    Own,
+    /// Its own tables have it, and are to be as these bytes of a file, as far as their headers reach.
+    Tables(&'a [u8]),
+    /// Its size in bytes; it has no tables.
+    Uniform(u32),
+}
+
+/// What is asked of a chip.
+#[derive(Clone, Copy)]
+pub struct Ask<'a> {
+    /// What is known of its meaning.
+    pub known: Known<'a>,
+    /// The configuration bits of its sector map.
+    pub bits: &'a str,
+    /// Its family, which says what its status registers mean.
+    pub part: Part,
+    /// Whether it is in four-byte address mode, where it has both.
+    pub mode4: bool,
+    /// Most status reads until it is idle, 1 or more.
+    pub turns: u64,
+    /// Whether its content is read.
+    pub content: bool,
+}
+
+/// What a chip gave.
+#[derive(Drop)]
+pub struct Reading {
+    /// Its family, as it was said.
+    pub part: Part,
+    /// Whether its content was read.
+    pub whole: bool,
+    /// Its identification (9Fh).
+    pub id: [u8; 3],
+    /// S7 to S0; of a W25Q256JV S23 to S0.
+    pub status: u32,
+    /// Its SFDP bytes; none of a chip of a size.
+    pub tables: Vec<u8>,
+    /// What they, or its size, mean.
+    pub meaning: Meaning,
+    /// The byte of each address, from 0 on; none where it isn't read.
+    pub content: Vec<u8>,
+}

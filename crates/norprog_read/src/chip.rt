@@ -1,0 +1,250 @@
+//! What the chip behind a device says and holds.
+
+ghost use Rattle.std.specs.Prelude.{◌≡◌, ◌<◌, ◌≤◌, ◌+◌, ◌-◌, ◌^◌, true, Ok, length, min, take, IfOk};
+ghost use Rattle.nor_job.specs.Chip.{HasChip};
+ghost use Rattle.nor_job.specs.Status.{start_of};
+ghost use Rattle.nor_probe.specs.Status.{ReadsStatus};
+ghost use Rattle.nor_reader.specs.Id.{Identifies};
+ghost use Rattle.nor_reader.specs.Tables.{HasReadTables};
+ghost use Rattle.norprog_read.specs.Chip.{GivesContent, GivesTables, HasReadChip, chip_task};
+
+use crate::content::read_whole;
+use crate::fault::{Unlike, Unread};
+use crate::asked::{Ask, Known, Reading};
+use nor_base::{ByteIn, ByteOut, Meaning, Part, Start};
+use nor_job::{BuildFault, Inputs, Source};
+use nor_probe::{Difference, Mismatch, chip_status, first_difference, tables_reach};
+use nor_reader::{TablesFault, read_id, read_tables};
+use nor_serprog::{Limits, Reason};
+use nor_sfdp::SfdpFault;
+use norprog_common::{Refusal, known_chip};
+use std::alloc::Global;
+
+/// Has the chip behind a device say what it is, wait until it is idle, and give its tables and its content, each byte twice; at the end
+/// it has to say again what it is. Memory is taken for what is read.
+///
+/// `Unlike` where it doesn't say or give what it has to, `Refused` where its tables or its size have no meaning, and for `Memory` where a
+/// growth is refused.
+pub fn read_chip<R: ByteIn, W: ByteOut>(
+    alloc: Global,
+    from: &mut R,
+    to: &mut W,
+    limits: &Limits,
+    ask: &Ask<'_>,
+) -> Result<Reading, Unread>
+    requires reader { R.count from.old < 2 ^ 64 - 1 }
+    requires writer { W.count to.old < 2 ^ 64 - 1 }
+    ensures read { IfOk result (λ reading. HasReadChip (W.held to.old) (W.held to.new) (R.ahead from.old) (R.ahead from.new)
+        ask.now reading) }
+    ensures reads_room { R.count from.new ≤ R.count from.old + 1 }
+    ensures writes_room { W.count to.new ≤ W.count to.old + 1 }
+{
+    let id = ask_id(from, to)?;
+    let status = ask_status(from, to, ask)?;
+    let tables = ask_tables(alloc, from, to, limits, ask)?;
+    let (meaning, start) = meaning_of(ask, tables.as_slice())?;
+    let content = ask_content(alloc, from, to, limits, &meaning, start, ask.content)?;
+    let again = ask_id(from, to)?;
+    if !is_same(again, id) {
+        return Err(Unread::Unlike(Unlike::Id(again)));
+    }
+    Ok(Reading {
+        part: ask.part,
+        whole: ask.content,
+        id,
+        status,
+        tables,
+        meaning,
+        content,
+    })
+}
+
+/// Whether two identifications are the same.
+fn is_same(one: [u8; 3], other: [u8; 3]) -> bool
+    ensures { result ≡ true → one ≡ other }
+{
+    one == other
+}
+
+/// What the chip says that it is.
+#[tactic(auto, using(crate::proofs::RoomLemmas::reads_room, crate::proofs::RoomLemmas::writes_room))]
+fn ask_id<R: ByteIn, W: ByteOut>(from: &mut R, to: &mut W) -> Result<[u8; 3], Unread>
+    requires reader { R.count from.old < 2 ^ 64 - 1 }
+    requires writer { W.count to.old < 2 ^ 64 - 1 }
+    ensures id { IfOk result (λ id. Identifies (W.held to.old) (W.held to.new) (R.ahead from.old) (R.ahead from.new) (Ok id)) }
+    ensures reads { IfOk result (λ _. R.count from.new ≡ R.count from.old) }
+    ensures writes { IfOk result (λ _. W.count to.new ≡ W.count to.old) }
+    ensures reads_room { R.count from.new ≤ R.count from.old + 1 }
+    ensures writes_room { W.count to.new ≤ W.count to.old + 1 }
+{
+    match read_id(from, to) {
+        Ok(id) => Ok(id),
+        Err(why) => Err(Unread::Unlike(Unlike::Asking(why))),
+    }
+}
+
+/// Its status, once it is idle. Of a part whose registers are known it has to be in the address mode that was said.
+#[tactic(auto, using(crate::proofs::RoomLemmas::reason_read, crate::proofs::RoomLemmas::reason_write))]
+fn ask_status<R: ByteIn, W: ByteOut>(
+    from: &mut R,
+    to: &mut W,
+    ask: &Ask<'_>,
+) -> Result<u32, Unread>
+    requires reader { R.count from.old < 2 ^ 64 - 1 }
+    requires writer { W.count to.old < 2 ^ 64 - 1 }
+    ensures status { IfOk result (λ status. ReadsStatus ask.now.part (W.held to.old) (W.held to.new) (R.ahead from.old) (R.ahead from.new)
+        (Ok status) ask.now.turns) }
+    ensures reads { IfOk result (λ _. R.count from.new ≡ R.count from.old) }
+    ensures writes { IfOk result (λ _. W.count to.new ≡ W.count to.old) }
+    ensures reads_room { R.count from.new ≤ R.count from.old + 1 }
+    ensures writes_room { W.count to.new ≤ W.count to.old + 1 }
+{
+    match chip_status(from, to, ask.part, ask.turns) {
+        Ok(status) if is_otherwise(ask.part, ask.mode4, status) => {
+            Err(Unread::Unlike(Unlike::Mode(status)))
+        }
+        Ok(status) => Ok(status),
+        Err(Reason::Exchange(why)) => Err(Unread::Unlike(Unlike::Asking(why))),
+        Err(_) => Err(Unread::Unlike(Unlike::Busy)),
+    }
+}
+
+/// Whether S16 (ADS) of a part that is known to have it says another address mode.
+fn is_otherwise(part: Part, mode4: bool, status: u32) -> bool {
+    match part {
+        Part::Generic => false,
+        Part::W25q256jv => (status / 65536 % 2 == 1) != mode4,
+    }
+}
+
+/// Its tables, which came twice alike and, as far as a file's are given, are the same; none of a chip of a size.
+fn ask_tables<R: ByteIn, W: ByteOut>(
+    alloc: Global,
+    from: &mut R,
+    to: &mut W,
+    limits: &Limits,
+    ask: &Ask<'_>,
+) -> Result<Vec<u8>, Unread>
+    requires reader { R.count from.old < 2 ^ 64 - 1 }
+    requires writer { W.count to.old < 2 ^ 64 - 1 }
+    ensures tables { IfOk result (λ tables. GivesTables (W.held to.old) (W.held to.new) (R.ahead from.old) (R.ahead from.new)
+        ask.now.known tables.items) }
+    ensures reads { IfOk result (λ _. R.count from.new ≡ R.count from.old) }
+    ensures writes { IfOk result (λ _. W.count to.new ≡ W.count to.old) }
+    ensures reads_room { R.count from.new ≤ R.count from.old + 1 }
+    ensures writes_room { W.count to.new ≤ W.count to.old + 1 }
+{
+    match ask.known {
+        Known::Uniform(_) => Ok(Vec::new(alloc)),
+        Known::Own => own_tables(alloc, from, to, limits),
+        Known::Tables(file) => {
+            let tables = own_tables(alloc, from, to, limits)?;
+            compare_file(tables.as_slice(), &file[..tables_reach(file)])?;
+            Ok(tables)
+        }
+    }
+}
+
+/// Its tables, which came twice alike.
+#[tactic(auto, using(crate::proofs::RoomLemmas::tables_read, crate::proofs::RoomLemmas::tables_write))]
+fn own_tables<R: ByteIn, W: ByteOut>(
+    alloc: Global,
+    from: &mut R,
+    to: &mut W,
+    limits: &Limits,
+) -> Result<Vec<u8>, Unread>
+    requires reader { R.count from.old < 2 ^ 64 - 1 }
+    requires writer { W.count to.old < 2 ^ 64 - 1 }
+    ensures tables { IfOk result (λ tables. HasReadTables (W.held to.old) (W.held to.new) (R.ahead from.old) (R.ahead from.new) tables.items) }
+    ensures reads { IfOk result (λ _. R.count from.new ≡ R.count from.old) }
+    ensures writes { IfOk result (λ _. W.count to.new ≡ W.count to.old) }
+    ensures reads_room { R.count from.new ≤ R.count from.old + 1 }
+    ensures writes_room { W.count to.new ≤ W.count to.old + 1 }
+{
+    match read_tables(alloc, from, to, limits) {
+        Ok(tables) => Ok(tables),
+        Err(TablesFault::Memory) => Err(Unread::Refused(Refusal::MEMORY)),
+        Err(TablesFault::NoSignature) => Err(Unread::Refused(Refusal::Build(BuildFault::Sfdp(
+            SfdpFault::Signature,
+        )))),
+        Err(TablesFault::Unread(Mismatch::Exchange(why))) => {
+            Err(Unread::Unlike(Unlike::Asking(why)))
+        }
+        Err(TablesFault::Unread(Mismatch::Differs(d))) => {
+            Err(Unread::Unlike(Unlike::At(d.address)))
+        }
+    }
+}
+
+/// Compares the bytes of the chip's tables with those of a file's, as far as both go.
+fn compare_file(chip: &[u8], file: &[u8]) -> Result<(), Unread>
+    requires { length chip.now ≤ 2 ^ 24 }
+    ensures { IfOk result (λ _. take (min (length chip.now) (length file.now)) chip.now ≡ take (min (length chip.now) (length file.now)) file.now) }
+{
+    let len = chip.len().min(file.len());
+    match first_difference(&chip[..len], &file[..len]) {
+        None => Ok(()),
+        Some(place) => Err(Unread::Unlike(Unlike::Tables(Difference {
+            address: place as u32,
+            chip: chip[place],
+            want: file[place],
+        }))),
+    }
+}
+
+/// What the tables or the size mean, and how the chip begins.
+fn meaning_of(ask: &Ask<'_>, tables: &[u8]) -> Result<(Meaning, Start), Unread>
+    ensures means { IfOk result (λ chip. HasChip (chip_task ask.now tables.now) chip.0) }
+    ensures start { IfOk result (λ chip. chip.1 ≡ start_of (chip_task ask.now tables.now)) }
+{
+    let chip = match ask.known {
+        Known::Uniform(size) => Source::Uniform(size),
+        Known::Own | Known::Tables(_) => Source::Sfdp {
+            bytes: tables,
+            bits: ask.bits,
+        },
+    };
+    let inputs = Inputs {
+        hex: &[],
+        layout: None,
+        regions: &[],
+        chip,
+        part: ask.part,
+        status: None,
+        mode4: ask.mode4,
+        quad: false,
+        base: 0,
+        verify: false,
+        erased_only: false,
+    };
+    match known_chip(&inputs) {
+        Ok(known) => Ok(known),
+        Err(refusal) => Err(Unread::Refused(refusal)),
+    }
+}
+
+/// Its content, where it is wanted; else none.
+fn ask_content<R: ByteIn, W: ByteOut>(
+    alloc: Global,
+    from: &mut R,
+    to: &mut W,
+    limits: &Limits,
+    meaning: &Meaning,
+    start: Start,
+    wanted: bool,
+) -> Result<Vec<u8>, Unread>
+    requires reader { R.count from.old < 2 ^ 64 - 1 }
+    requires writer { W.count to.old < 2 ^ 64 - 1 }
+    ensures content { IfOk result (λ content. GivesContent (W.held to.old) (W.held to.new) (R.ahead from.old) (R.ahead from.new)
+        meaning.now start wanted content.items) }
+    ensures reads { IfOk result (λ _. R.count from.new ≡ R.count from.old) }
+    ensures writes { IfOk result (λ _. W.count to.new ≡ W.count to.old) }
+    ensures reads_room { R.count from.new ≤ R.count from.old + 1 }
+    ensures writes_room { W.count to.new ≤ W.count to.old + 1 }
+{
+    if wanted {
+        read_whole(alloc, from, to, limits, meaning, start)
+    } else {
+        Ok(Vec::new(alloc))
+    }
+}

@@ -1,0 +1,66 @@
+//! Why a chip isn't read.
+
+ghost use Rattle.std.specs.Prelude.{◌≡◌};
+ghost use Rattle.nor_job.specs.declared.fault.BuildFault.TheVariants.{Memory};
+ghost use Rattle.norprog_common.specs.declared.faults.Refusal.TheVariants.{Build};
+ghost use Rattle.norprog_read.specs.declared.fault.Unread.TheVariants as unread;
+
+use nor_probe::Difference;
+use nor_serprog::{Fault, GreetFault};
+use norprog_common::Refusal;
+use std::alloc::AllocError;
+
+/// Why a chip isn't read.
+#[derive(Drop)]
+pub enum Unread {
+    /// As other commands are refused.
+    Refused(Refusal),
+    /// The device can't be used.
+    Device(DeviceFault),
+    /// The chip didn't say or give what it has to.
+    Unlike(Unlike),
+}
+
+/// Why a device can't be used.
+#[derive(Clone, Copy, Drop)]
+pub enum DeviceFault {
+    /// The handshake with it ended early.
+    Greet(GreetFault),
+    /// The test of the line to it did.
+    Line(Fault),
+}
+
+/// What the chip didn't say or give.
+#[derive(Clone, Copy, Drop)]
+pub enum Unlike {
+    /// Each status said busy.
+    Busy,
+    /// An exchange ended early.
+    Asking(Fault),
+    /// The status says another address mode: S23 to S0.
+    Mode(u32),
+    /// The byte of this address came otherwise the second time.
+    At(u32),
+    /// Its SFDP bytes and those of the file differ.
+    Tables(Difference),
+    /// At the end it gave another identification.
+    Id([u8; 3]),
+    /// It can't be read whole in the mode that it is in.
+    Unreadable,
+}
+
+impl From<Refusal> for Unread {
+    ghost from_gives = { λ refusal why. why ≡ unread.Refused refusal };
+
+    fn from(refusal: Refusal) -> Unread {
+        Unread::Refused(refusal)
+    }
+}
+
+impl From<AllocError> for Unread {
+    ghost from_gives = { λ _ why. why ≡ unread.Refused (Build Memory) };
+
+    fn from(_error: AllocError) -> Unread {
+        Unread::Refused(Refusal::MEMORY)
+    }
+}

@@ -1,0 +1,58 @@
+//! A chip behind a device, from the handshake on.
+
+ghost use Rattle.std.specs.Prelude.{◌≡◌, ◌≤◌, ◌<◌, ◌+◌, ◌-◌, ◌^◌, Ok, IfOk};
+ghost use Rattle.norprog_read.specs.Opened.{HasReadOpened, HasReadTested};
+
+use crate::chip::read_chip;
+use crate::fault::{DeviceFault, Unread};
+use crate::asked::{Ask, Reading};
+use nor_base::{ByteIn, ByteOut};
+use nor_serprog::{Limits, greet, release, test_line};
+use std::alloc::Global;
+
+/// Begins with a device, tests the line to it, and has its chip read, as [`read_chip`] does, by the limits that the device reports. At
+/// last it lets the chip's pins go, where it drives them, whatever happened; what it answers to that changes nothing.
+///
+/// `Device` where the handshake or the test of the line ended early.
+pub fn read_opened<R: ByteIn, W: ByteOut>(
+    alloc: Global,
+    from: &mut R,
+    to: &mut W,
+    ask: &Ask<'_>,
+) -> Result<Reading, Unread>
+    requires reader { R.count from.old < 2 ^ 64 - 2 }
+    requires writer { W.count to.old < 2 ^ 64 - 2 }
+    ensures read { IfOk result (λ reading. HasReadOpened (W.held to.old) (W.held to.new) (R.ahead from.old) (R.ahead from.new)
+        ask.now reading) }
+{
+    let limits = match greet(from, to) {
+        Ok(limits) => limits,
+        Err(why) => return Err(Unread::Device(DeviceFault::Greet(why))),
+    };
+    let read = read_tested(alloc, from, to, &limits, ask);
+    if limits.pins {
+        let _ = release(from, to);
+    }
+    read
+}
+
+/// Tests the line to a device, and has its chip read.
+fn read_tested<R: ByteIn, W: ByteOut>(
+    alloc: Global,
+    from: &mut R,
+    to: &mut W,
+    limits: &Limits,
+    ask: &Ask<'_>,
+) -> Result<Reading, Unread>
+    requires reader { R.count from.old < 2 ^ 64 - 2 }
+    requires writer { W.count to.old < 2 ^ 64 - 2 }
+    ensures read { IfOk result (λ reading. HasReadTested (W.held to.old) (W.held to.new) (R.ahead from.old) (R.ahead from.new)
+        limits.now ask.now reading) }
+    ensures reads { R.count from.new ≤ R.count from.old + 1 }
+    ensures writes { W.count to.new ≤ W.count to.old + 1 }
+{
+    match test_line(from, to, limits) {
+        Ok(()) => read_chip(alloc, from, to, limits, ask),
+        Err(why) => Err(Unread::Device(DeviceFault::Line(why))),
+    }
+}

@@ -1,0 +1,31 @@
+//! An output that is made anew.
+
+ghost use Rattle.std.specs.Prelude.{IfOk};
+ghost use Rattle.norprog_read.specs.Saved.{IsSaved};
+
+use nor_base::put_all;
+use norprog_common::{FileName, FileStore, Refusal};
+use std::alloc::Global;
+
+/// Makes a file where none of that name is there, and writes bytes to it and has them go out.
+///
+/// `File` of `name` where there is one, or where it can't be made; `WRITE` where some of the bytes may not have gone out; `Memory` where
+/// a growth is refused.
+pub fn save<S: FileStore>(
+    alloc: Global,
+    store: &S,
+    path: &str,
+    name: FileName,
+    bytes: &[u8],
+) -> Result<(), Refusal>
+    ensures { IfOk result (λ _. IsSaved (S.facts store.now) path.now bytes.now) }
+{
+    let mut file = store.create_new(alloc, path, name)?;
+    if put_all(&mut file, bytes).is_err() {
+        return Err(Refusal::WRITE);
+    }
+    match store.flush(&mut file) {
+        Ok(()) => Ok(()),
+        Err(_) => Err(Refusal::WRITE),
+    }
+}
