@@ -167,15 +167,15 @@ pub(crate) fn create_output<R: Files>(
 /// Makes an output file where no file of that name is there, not even a link to none.
 ///
 /// Where there is one, and where it can't be made, `File` of `name`; `Memory` where the system says that it lacks that.
-pub(crate) fn create_fresh<R: Files>(
-    rt: &R,
-    path: &str,
-    name: FileName,
-) -> Result<R::File, Refusal>
+pub(crate) fn create_fresh<R: Files>(rt: &R, path: &str, name: FileName) -> Result<R::File, Refusal>
     ensures refused { IfErr result (RefusesFile name) }
     ensures files { IfErr result IsOfFiles }
 {
-    match OpenOptions::new().write(true).create_new(true).open(rt, path) {
+    match OpenOptions::new()
+        .write(true)
+        .create_new(true)
+        .open(rt, path)
+    {
         Ok(file) => Ok(file),
         Err(error) => Err(refusal_of(&error, name)),
     }

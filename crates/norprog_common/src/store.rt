@@ -89,12 +89,7 @@ pub trait FileStore {
     /// where it is flushed, if not before.
     ///
     /// Where there is one, and where it can't be made, `File` of `name`; `Memory` where a growth is refused.
-    fn create_new(
-        &self,
-        alloc: Global,
-        path: &str,
-        name: FileName,
-    ) -> Result<Self::Output, Refusal>
+    fn create_new(&self, alloc: Global, path: &str, name: FileName) -> Result<Self::Output, Refusal>
         ensures fresh { IfOk result (λ file. (facts self.now).fresh path.now (Self.Output.held file)) }
         ensures count { IfOk result (λ file. Self.Output.count file ≡ 0) }
         ensures refused { IfErr result (RefusesFile name) }

@@ -4,7 +4,8 @@ ghost use Rattle.norprog_common.specs.FileStore.{DoNotFail};
 
 use crate::faults::{FileName, Refusal};
 use crate::files::{
-    FileId, ScriptFile, create_fresh, create_output, open_device, open_input, open_script, read_whole,
+    FileId, ScriptFile, create_fresh, create_output, open_device, open_input, open_script,
+    read_whole,
 };
 use crate::store::FileStore;
 use nor_base::{Failed, FromRead, IntoWrite};

@@ -8,9 +8,9 @@ ghost use Rattle.nor_reader.specs.Id.{Identifies};
 ghost use Rattle.nor_reader.specs.Tables.{HasReadTables};
 ghost use Rattle.norprog_read.specs.Chip.{GivesContent, GivesTables, HasReadChip, chip_task};
 
+use crate::asked::{Ask, Known, Reading};
 use crate::content::read_whole;
 use crate::fault::{Unlike, Unread};
-use crate::asked::{Ask, Known, Reading};
 use nor_base::{ByteIn, ByteOut, Meaning, Part, Start};
 use nor_job::{BuildFault, Inputs, Source};
 use nor_probe::{Difference, Mismatch, chip_status, first_difference, tables_reach};
@@ -85,11 +85,7 @@ fn ask_id<R: ByteIn, W: ByteOut>(from: &mut R, to: &mut W) -> Result<[u8; 3], Un
 
 /// Its status, once it is idle. Of a part whose registers are known it has to be in the address mode that was said.
 #[tactic(auto, using(crate::proofs::RoomLemmas::reason_read, crate::proofs::RoomLemmas::reason_write))]
-fn ask_status<R: ByteIn, W: ByteOut>(
-    from: &mut R,
-    to: &mut W,
-    ask: &Ask<'_>,
-) -> Result<u32, Unread>
+fn ask_status<R: ByteIn, W: ByteOut>(from: &mut R, to: &mut W, ask: &Ask<'_>) -> Result<u32, Unread>
     requires reader { R.count from.old < 2 ^ 64 - 1 }
     requires writer { W.count to.old < 2 ^ 64 - 1 }
     ensures status { IfOk result (λ status. ReadsStatus ask.now.part (W.held to.old) (W.held to.new) (R.ahead from.old) (R.ahead from.new)

@@ -11,8 +11,8 @@ mod fault;
 mod opened;
 mod saved;
 
+pub use asked::{Ask, Known, Reading};
 pub use chip::read_chip;
 pub use fault::{DeviceFault, Unlike, Unread};
 pub use opened::read_opened;
-pub use asked::{Ask, Known, Reading};
 pub use saved::save;

@@ -3,9 +3,9 @@
 ghost use Rattle.std.specs.Prelude.{◌≡◌, ◌≤◌, ◌<◌, ◌+◌, ◌-◌, ◌^◌, Ok, IfOk};
 ghost use Rattle.norprog_read.specs.Opened.{HasReadOpened, HasReadTested};
 
+use crate::asked::{Ask, Reading};
 use crate::chip::read_chip;
 use crate::fault::{DeviceFault, Unread};
-use crate::asked::{Ask, Reading};
 use nor_base::{ByteIn, ByteOut};
 use nor_serprog::{Limits, greet, release, test_line};
 use std::alloc::Global;

@@ -9,6 +9,8 @@ mod checks;
 #[cfg(test)]
 mod devices;
 #[cfg(test)]
+mod hexes;
+#[cfg(test)]
 mod lines;
 #[cfg(test)]
 mod plans;
