@@ -49,7 +49,7 @@ GivesContent held_before held_after ahead_before ahead_after m start true conten
 GivesContent held_before held_after ahead_before ahead_after m start false content =
     (content ≡ []) × (held_after ≡ held_before) × (ahead_after ≡ ahead_before)
 
--- in this order, and nothing else was sent: its identification, its status until it was idle, its tables, its content, and its
+-- in this order, and nothing else was sent: its status until it was idle, its identification, its tables, its content, and its
 -- identification again, which was the same; its meaning is that of the tables that came, or of its size
 pub record HasReadChip (h0 h5 : Option (List ℕ)) (a0 a5 : Ahead) (ask : Ask) (r : Reading) : Type 0 where
   pub part : r.part ≡ ask.part
@@ -62,8 +62,8 @@ pub record HasReadChip (h0 h5 : Option (List ℕ)) (a0 a5 : Ahead) (ask : Ask) (
   pub a2 : Ahead
   pub a3 : Ahead
   pub a4 : Ahead
-  pub id : Identifies h0 h1 a0 a1 (Ok r.id)
-  pub status : ReadsStatus ask.part h1 h2 a1 a2 (Ok r.status) ask.turns
+  pub status : ReadsStatus ask.part h0 h1 a0 a1 (Ok r.status) ask.turns
+  pub id : Identifies h1 h2 a1 a2 (Ok r.id)
   pub tables : GivesTables h2 h3 a2 a3 ask.known r.tables.items
   pub means : HasChip (chip_task ask r.tables.items) r.meaning
   pub content : GivesContent h3 h4 a3 a4 r.meaning (start_of (chip_task ask r.tables.items)) ask.content r.content.items

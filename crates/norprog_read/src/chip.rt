@@ -39,8 +39,8 @@ pub fn read_chip<R: ByteIn, W: ByteOut>(
     ensures reads_room { R.count from.new ≤ R.count from.old + 1 }
     ensures writes_room { W.count to.new ≤ W.count to.old + 1 }
 {
-    let id = ask_id(from, to)?;
     let status = ask_status(from, to, ask)?;
+    let id = ask_id(from, to)?;
     let tables = ask_tables(alloc, from, to, limits, ask)?;
     let (meaning, start) = meaning_of(ask, tables.as_slice())?;
     let content = ask_content(alloc, from, to, limits, &meaning, start, ask.content)?;

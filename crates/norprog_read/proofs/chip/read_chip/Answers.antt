@@ -11,12 +11,12 @@ pub returns-clause-read : goal.returns-clause-read
 returns-clause-read g c = record {
   part = refl;
   wanted = refl;
-  h1 = g.W.ByteOut.held c.ask_id.new.to;
-  h2 = g.W.ByteOut.held c.ask_status.new.to;
+  h1 = g.W.ByteOut.held c.ask_status.new.to;
+  h2 = g.W.ByteOut.held c.ask_id.new.to;
   h3 = g.W.ByteOut.held c.ask_tables.new.to;
   h4 = g.W.ByteOut.held c.ask_content.new.to;
-  a1 = g.R.ByteIn.ahead c.ask_id.new.from;
-  a2 = g.R.ByteIn.ahead c.ask_status.new.from;
+  a1 = g.R.ByteIn.ahead c.ask_status.new.from;
+  a2 = g.R.ByteIn.ahead c.ask_id.new.from;
   a3 = g.R.ByteIn.ahead c.ask_tables.new.from;
   a4 = g.R.ByteIn.ahead c.ask_content.new.from;
   id = c.in_ok-id.ensures.id;
