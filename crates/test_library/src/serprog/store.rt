@@ -149,6 +149,15 @@ impl<'a> FileStore for Store<'a> {
         Err(Refusal::File(name))
     }
 
+    fn create_new(
+        &self,
+        _alloc: Global,
+        _path: &str,
+        name: FileName,
+    ) -> Result<IntoWrite<Vec<u8>>, Refusal> {
+        Err(Refusal::File(name))
+    }
+
     fn flush(&self, _file: &mut IntoWrite<Vec<u8>>) -> Result<(), Failed> {
         Err(Failed)
     }
