@@ -75,6 +75,7 @@ module _ (Asked : ListTask → Type 0) (t : ListTask) (asked : Asked t) (rest : 
   cut text of (File file.Map) h = inl h.1
   cut text of (File file.Device) h = inl h.1
   cut text of (File file.Bin) h = inl h.1
+  cut text of (File file.Tables) h = inl h.1
   cut text of Page h = inl h.1
   cut text of BinSize h = inl h.1
 
@@ -120,6 +121,7 @@ module _ (t : Task) (same : Option (List ℕ)) where
   chip_refused text (File file.Map) h = (h, refl)
   chip_refused text (File file.Device) h = (h, refl)
   chip_refused text (File file.Bin) h = (h, refl)
+  chip_refused text (File file.Tables) h = (h, refl)
   chip_refused text (File file.Script) h = absurd h
   chip_refused text (Text words) h = (h, refl)
   chip_refused text Usage h = (h, refl)
