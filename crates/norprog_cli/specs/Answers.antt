@@ -16,6 +16,7 @@ use Rattle.norprog_explain.specs.Topics.{topics}
 use Rattle.norprog_hex.specs.Answer.{AnswersHex}
 use Rattle.norprog_list.specs.Answer.{AnswersList}
 use Rattle.norprog_play.specs.Answer.{AnswersPlay}
+use Rattle.norprog_read.specs.Answer.{PrintsReading}
 use Rattle.norprog_run.specs.Answer.{AnswersRun}
 
 -- to what is asked for, each command its answer, by what is known of files by their names; to words that couldn't be read, why
@@ -34,6 +35,8 @@ AnswersTo files (Ok (command.Draw given)) before after Quiet Works told_before t
     (after ≡ before) × AnswersDraw files given Quiet Works told_before told_after status
 AnswersTo files (Ok (command.Play given)) before after Quiet Works told_before told_after status =
     AnswersPlay files given before after Quiet Works told_before told_after status
+AnswersTo files (Ok (command.Read given)) before after Quiet Works told_before told_after status =
+    status ≡ 0 → PrintsReading files given before after
 AnswersTo files (Ok (command.Sfdp given)) before after Quiet Works told_before told_after status =
     AnswersChip files given before after Quiet Works told_before told_after status
 AnswersTo files (Ok (command.Hex given)) before after Quiet Works told_before told_after status =

@@ -1,10 +1,11 @@
 //! The command line of norprog: `norprog build` writes the script that programs a chip, `norprog plan` prints what that
 //! would erase and program, `norprog check` says whether a script does a job, `norprog run` plays one on a chip in memory,
 //! `norprog list` tells what each step of one is, `norprog draw` draws one as a waveform, `norprog play` plays one on a chip behind
-//! a serprog device, `norprog sfdp` prints what a chip's tables mean, `norprog hex` writes a raw image as Intel HEX, `norprog explain` says what a printed text means.
+//! a serprog device, `norprog read` reads such a chip, `norprog sfdp` prints what a chip's tables mean, `norprog hex` writes a raw
+//! image as Intel HEX, `norprog explain` says what a printed text means.
 //!
-//! The crate `norprog_options` reads the options; `norprog_build`, `norprog_plan`, `norprog_check`, `norprog_sfdp`, `norprog_run`, `norprog_list`, `norprog_draw`, `norprog_play`, `norprog_hex`
-//! and `norprog_explain` do the work behind them.
+//! The crate `norprog_options` reads the options; `norprog_build`, `norprog_plan`, `norprog_check`, `norprog_sfdp`, `norprog_run`,
+//! `norprog_list`, `norprog_draw`, `norprog_play`, `norprog_read`, `norprog_hex` and `norprog_explain` do the work behind them.
 #![tactic(auto)]
 
 ghost use Rattle.std.specs.Prelude.{◌≡◌, ◌≢◌, ◌<◌, ◌≤◌, ◌-◌, ◌^◌, IfOk, IfErr};
@@ -24,6 +25,7 @@ use norprog_list::list;
 use norprog_options::{Asked, asked_by};
 use norprog_plan::plan;
 use norprog_play::play;
+use norprog_read::read;
 use norprog_run::run;
 use norprog_sfdp::sfdp;
 use std::alloc::Global;
@@ -138,6 +140,7 @@ fn answer_to<S: FileStore, O: ByteOut, E: ByteOut, P: ByteOut>(
         Ok(Asked::List(given)) => list(alloc, store, given, out, err),
         Ok(Asked::Draw(given)) => draw(alloc, store, given, err),
         Ok(Asked::Play(given)) => play(alloc, store, given, out, err, progress),
+        Ok(Asked::Read(given)) => read(alloc, store, given, out, err),
         Ok(Asked::Sfdp(given)) => sfdp(alloc, store, given, out, err),
         Ok(Asked::Hex(given)) => hex(alloc, store, given, err),
         Ok(Asked::Explain(words)) => explain(words.as_slice(), out, err),

@@ -12,6 +12,7 @@ use Rattle.norprog_common.specs.declared.given.HexArgs.{HexArgs}
 use Rattle.norprog_common.specs.declared.given.ListArgs.{ListArgs}
 use Rattle.norprog_common.specs.declared.given.PlanArgs.{PlanArgs}
 use Rattle.norprog_common.specs.declared.given.PlayArgs.{PlayArgs}
+use Rattle.norprog_common.specs.declared.given.ReadArgs.{ReadArgs}
 use Rattle.norprog_common.specs.declared.given.RunArgs.{RunArgs}
 use Rattle.norprog_common.specs.declared.given.SetupArgs.{SetupArgs}
 use Rattle.norprog_options.specs.declared.options.Asked.{Asked}
@@ -93,6 +94,14 @@ pub record IsPlayIn (found : Found) (given : PlayArgs) : Type 0 where
   pub limit : Has found (codes "limit") (option_map (λ t. t.now) given.limit)
   pub trust : Sets found (codes "trust") given.trust
 
+pub record IsReadIn (found : Found) (given : ReadArgs) : Type 0 where
+  pub chip : IsChipIn found given.chip
+  pub mode4 : Sets found (codes "mode4") given.mode4
+  pub device : Has found (codes "device") (option_map (λ t. t.now) given.device)
+  pub limit : Has found (codes "limit") (option_map (λ t. t.now) given.limit)
+  pub tables : Has found (codes "tables") (option_map (λ t. t.now) given.tables)
+  pub out : Has found (codes "out") (option_map (λ t. t.now) given.out)
+
 pub record IsBuildIn (found : Found) (given : BuildArgs) : Type 0 where
   pub job : IsJobIn found given.job
   pub out : Has found (codes "out") (option_map (λ t. t.now) given.out)
@@ -122,6 +131,7 @@ IsAsked matches (command.Run given) = IsUsed matches (codes "run") (λ found. Is
 IsAsked matches (command.List given) = IsUsed matches (codes "list") (λ found. IsListIn found given)
 IsAsked matches (command.Draw given) = IsUsed matches (codes "draw") (λ found. IsDrawIn found given)
 IsAsked matches (command.Play given) = IsUsed matches (codes "play") (λ found. IsPlayIn found given)
+IsAsked matches (command.Read given) = IsUsed matches (codes "read") (λ found. IsReadIn found given)
 IsAsked matches (command.Sfdp given) = IsUsed matches (codes "sfdp") (λ found. IsChipIn found given)
 IsAsked matches (command.Hex given) = IsUsed matches (codes "hex") (λ found. IsHexIn found given)
 IsAsked matches (command.Explain words) = IsUsed matches (codes "explain") (λ found. words.items ≡ texts_of found (codes "words"))

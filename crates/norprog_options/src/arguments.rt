@@ -205,6 +205,20 @@ const CONTENT_OUT: Choice = Choice {
     help: "A file for what the chip holds afterwards [default: none]",
 };
 
+const TABLES_OUT: Choice = Choice {
+    name: "tables",
+    takes: Takes::File,
+    required: false,
+    help: "The chip's SFDP bytes, in a new file [default: not written]",
+};
+
+const READ_OUT: Choice = Choice {
+    name: "out",
+    takes: Takes::File,
+    required: false,
+    help: "What the chip holds, in a new file [default: not read]",
+};
+
 const WAVEFORM_OUT: Choice = Choice {
     name: "out",
     takes: Takes::File,
@@ -297,7 +311,7 @@ const VERIFY: &[Choice] = &[READ_BACK];
 const SCRIPT: &[Choice] = &[SCRIPT_FILE];
 
 /// The commands, in the order of the help.
-static FORMS: [Form; 10] = [
+static FORMS: [Form; 11] = [
     Form {
         name: "build",
         about: "Writes the script that programs the chip, and prints a report of it",
@@ -370,6 +384,13 @@ static FORMS: [Form; 10] = [
         example: "Example: norprog play --uniform 8388608 --content now.bin --script app.script --device /dev/ttyACM0",
         groups: &[Group::Chip, Group::Content, Group::Start, Group::Script],
         choices: &[DEVICE, LIMIT, TRUST],
+    },
+    Form {
+        name: "read",
+        about: "Reads the chip behind a serprog device twice: its tables and its content",
+        example: "Example: norprog read --device /dev/ttyACM0 --tables now.sfdp --out now.bin",
+        groups: &[Group::Chip],
+        choices: &[MODE4, DEVICE, LIMIT, TABLES_OUT, READ_OUT],
     },
     Form {
         name: "sfdp",

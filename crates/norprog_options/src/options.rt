@@ -2,7 +2,7 @@
 
 ghost use Rattle.std.specs.Prelude.{◌≡◌, map, IfOk};
 ghost use Rattle.clap.specs.Words.{found_of};
-ghost use Rattle.norprog_options.specs.Options.{texts_of, IsBuildIn, IsCheckIn, IsJobIn, IsChipIn, IsDrawIn, IsHexIn, IsListIn, IsPlanIn, IsPlayIn, IsRunIn, IsSetupIn, IsAsked, IsAskedBySome};
+ghost use Rattle.norprog_options.specs.Options.{texts_of, IsBuildIn, IsCheckIn, IsJobIn, IsChipIn, IsDrawIn, IsHexIn, IsListIn, IsPlanIn, IsPlayIn, IsReadIn, IsRunIn, IsSetupIn, IsAsked, IsAskedBySome};
 
 use crate::arguments::norprog;
 use clap::error::ErrorKind;
@@ -10,7 +10,7 @@ use clap::{ArgMatches, Error};
 use nor_base::Bytes;
 use norprog_common::{
     BuildArgs, CheckArgs, ChipArgs, DrawArgs, Given, HexArgs, ListArgs, PlanArgs, PlayArgs,
-    Refusal, RunArgs, SetupArgs,
+    ReadArgs, Refusal, RunArgs, SetupArgs,
 };
 use std::alloc::Global;
 
@@ -24,6 +24,7 @@ pub enum Asked<'a> {
     List(ListArgs<'a>),
     Draw(DrawArgs<'a>),
     Play(PlayArgs<'a>),
+    Read(ReadArgs<'a>),
     Sfdp(ChipArgs<'a>),
     Hex(HexArgs<'a>),
     /// The words that are asked about.
@@ -84,6 +85,9 @@ fn script_asked<'a>(alloc: Global, matches: &ArgMatches<'a>) -> Result<Asked<'a>
 fn meaning_asked<'a>(alloc: Global, matches: &ArgMatches<'a>) -> Result<Asked<'a>, Refusal>
     ensures { IfOk result (IsAsked matches.now) }
 {
+    if let Some(read) = matches.subcommand_matches("read") {
+        return Ok(Asked::Read(read_in(read)));
+    }
     if let Some(chip) = matches.subcommand_matches("sfdp") {
         return Ok(Asked::Sfdp(chip_in(chip)));
     }
@@ -231,6 +235,20 @@ fn hex_in<'a>(hex: &ArgMatches<'a>) -> HexArgs<'a>
         bin: hex.get_str("bin"),
         at: hex.get_str("at"),
         out: hex.get_str("out"),
+    }
+}
+
+/// The reading of a chip.
+fn read_in<'a>(read: &ArgMatches<'a>) -> ReadArgs<'a>
+    ensures { IsReadIn (found_of read.now) result }
+{
+    ReadArgs {
+        chip: chip_in(read),
+        mode4: read.get_flag("mode4"),
+        device: read.get_str("device"),
+        limit: read.get_str("limit"),
+        tables: read.get_str("tables"),
+        out: read.get_str("out"),
     }
 }
 

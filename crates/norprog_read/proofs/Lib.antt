@@ -1,2 +1,3 @@
 mod RoomLemmas
 mod ReadLemmas
+mod LineLemmas

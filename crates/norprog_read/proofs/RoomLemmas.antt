@@ -1,5 +1,5 @@
 -- A count of failures rises by one at most.
-use Rattle.std.proofs.Common.{◌≡◌, ◌≤◌, ℕ, ◌+◌, Result, Ok, Err, arith}
+use Rattle.std.proofs.Common.{◌≤◌, ℕ, ◌+◌, Result, Ok, Err, arith}
 use Rattle.nor_probe.specs.declared.difference.Mismatch.{Mismatch}
 use Rattle.nor_probe.specs.declared.difference.Mismatch.TheVariants.{Exchange, Differs}
 use Rattle.nor_probe.specs.Compared.{CountsMismatch}

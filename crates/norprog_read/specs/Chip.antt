@@ -11,7 +11,7 @@ use Rattle.nor_reader.specs.Id.{Identifies}
 use Rattle.nor_reader.specs.Tables.{HasReadTables}
 use Rattle.norprog_read.specs.declared.asked.Ask.{Ask}
 use Rattle.norprog_read.specs.declared.asked.Known.{Known}
-use Rattle.norprog_read.specs.declared.asked.Known.TheVariants.{Own, Tables, Uniform}
+use Rattle.norprog_read.specs.declared.asked.Known.TheVariants.{Uniform}
 use Rattle.norprog_read.specs.declared.asked.Reading.{Reading}
 use Rattle.norprog_read.specs.Content.{HoldsWhole}
 

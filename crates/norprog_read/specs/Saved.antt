@@ -1,5 +1,5 @@
 -- An output that was made anew (this project's).
-use Rattle.std.specs.Prelude.{◌≡◌, ℕ, List, Option}
+use Rattle.std.specs.Prelude.{ℕ, List, Option}
 use Rattle.std.specs.Io.KnownBytes.{Appends}
 use Rattle.norprog_common.specs.FileStore.{FileFacts}
 

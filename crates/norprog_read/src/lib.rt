@@ -6,13 +6,20 @@
 
 mod asked;
 mod chip;
+mod command;
 mod content;
 mod fault;
+mod line;
 mod opened;
+mod request;
 mod saved;
 
 pub use asked::{Ask, Known, Reading};
 pub use chip::read_chip;
+pub use command::read;
 pub use fault::{DeviceFault, Unlike, Unread};
+pub use line::{write_reading, write_unlike};
+pub use norprog_common::ReadArgs;
 pub use opened::read_opened;
+pub use request::{ReadRequest, request_of};
 pub use saved::save;

@@ -11,6 +11,7 @@ use norprog_list::list;
 use norprog_options::Asked;
 use norprog_plan::plan;
 use norprog_play::play;
+use norprog_read::read;
 use norprog_run::run;
 use norprog_sfdp::sfdp;
 use std::fs::{self, File};
@@ -43,6 +44,7 @@ fn status_into(rt: &HostRuntime, asked: Result<Asked<'_>, Refusal>, out: File, e
         Ok(Asked::List(given)) => list(alloc, &files, given, &mut out, &mut err),
         Ok(Asked::Draw(given)) => draw(alloc, &files, given, &mut err),
         Ok(Asked::Play(given)) => play(alloc, &files, given, &mut out, &mut err, &mut Nowhere),
+        Ok(Asked::Read(given)) => read(alloc, &files, given, &mut out, &mut err),
         Ok(Asked::Sfdp(given)) => sfdp(alloc, &files, given, &mut out, &mut err),
         Ok(Asked::Hex(given)) => hex(alloc, &files, given, &mut err),
         Ok(Asked::Explain(words)) => explain(words.as_slice(), &mut out, &mut err),

@@ -80,6 +80,24 @@ pub(crate) const TOPICS: &[Topic] = &[
          itself again, and build anew from them.",
     ),
     (
+        "unlike at",
+        "The byte of this address, of the tables or of the content, came otherwise the\n\
+         second time. The clip sits badly, the wires are too long, or the clock is too\n\
+         fast. No file was made. Seat the clip anew, and read again.",
+    ),
+    (
+        "unlike id",
+        "At the end the chip gave another identification, in hexadecimal after the word,\n\
+         than at first: its clip moved, or it lost its power. No file was made. Seat the\n\
+         clip anew, and read again.",
+    ),
+    (
+        "unreadable",
+        "The chip is larger than three address bytes reach, isn't in four-byte address\n\
+         mode, and its tables offer no read with four. No file was made. Switch it into\n\
+         that mode, and say --mode4.",
+    ),
+    (
         "unlike differs",
         "At this address the chip holds another byte than the dump, the content file;\n\
          without an address the device answered by a byte that serprog hasn't there. It\n\

@@ -67,10 +67,15 @@ pub(crate) const TOPICS: &[Topic] = &[
          What stands in the output has no end record.",
     ),
     (
+        "file tables",
+        "A file of the name that --tables says is there, or can't be made or written.\n\
+         None is written over. Name another file, or move that one away.",
+    ),
+    (
         "file",
         "norprog can't use a file of the command line; the word after `file` says which\n\
-         one: hex, layout, sfdp, content, script, out, map, device or bin. Ask for the\n\
-         two words.",
+         one: hex, layout, sfdp, content, script, out, map, device, bin or tables. Ask\n\
+         for the two words.",
     ),
     (
         "contradiction 1",

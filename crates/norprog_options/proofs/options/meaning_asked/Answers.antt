@@ -6,23 +6,31 @@ use Rattle.norprog_options.proofs.options.meaning_asked.Goals as goal
 pub returns-in-Some : goal.returns-in-Some
 returns-in-Some c = record {
   named = c.in-Some.ensures.found.0 refl;
-  found = found_of c.in-Some.chip.now;
+  found = found_of c.in-Some.read.now;
   behind = c.in-Some.ensures.rows;
-  so = c.chip_in.ensures;
+  so = c.read_in.ensures;
 }
 
 pub returns-in-Some-subcommand_matches : goal.returns-in-Some-subcommand_matches
 returns-in-Some-subcommand_matches c = record {
   named = c.in-Some-subcommand_matches.ensures.found.0 refl;
-  found = found_of c.in-Some-subcommand_matches.hex.now;
+  found = found_of c.in-Some-subcommand_matches.chip.now;
   behind = c.in-Some-subcommand_matches.ensures.rows;
+  so = c.chip_in.ensures;
+}
+
+pub returns-in-Some-subcommand_matches-2 : goal.returns-in-Some-subcommand_matches-2
+returns-in-Some-subcommand_matches-2 c = record {
+  named = c.in-Some-subcommand_matches-2.ensures.found.0 refl;
+  found = found_of c.in-Some-subcommand_matches-2.hex.now;
+  behind = c.in-Some-subcommand_matches-2.ensures.rows;
   so = c.hex_in.ensures;
 }
 
-pub returns-in_ok-texts_in-in-Some-subcommand_matches-2 : goal.returns-in_ok-texts_in-in-Some-subcommand_matches-2
-returns-in_ok-texts_in-in-Some-subcommand_matches-2 c = record {
-  named = c.in-Some-subcommand_matches-2.ensures.found.0 refl;
-  found = found_of c.in-Some-subcommand_matches-2.explain.now;
-  behind = c.in-Some-subcommand_matches-2.ensures.rows;
-  so = c.in_ok-texts_in-in-Some-subcommand_matches-2.ensures;
+pub returns-in_ok-texts_in-in-Some-subcommand_matches-3 : goal.returns-in_ok-texts_in-in-Some-subcommand_matches-3
+returns-in_ok-texts_in-in-Some-subcommand_matches-3 c = record {
+  named = c.in-Some-subcommand_matches-3.ensures.found.0 refl;
+  found = found_of c.in-Some-subcommand_matches-3.explain.now;
+  behind = c.in-Some-subcommand_matches-3.ensures.rows;
+  so = c.in_ok-texts_in-in-Some-subcommand_matches-3.ensures;
 }

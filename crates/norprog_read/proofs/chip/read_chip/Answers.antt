@@ -2,7 +2,6 @@
 use Rattle.std.proofs.Common.{ℕ, List, Ok, refl, subst}
 use Rattle.nor_base.specs.declared.meaning.Start.{Start}
 use Rattle.nor_job.specs.Chip.{HasChip}
-use Rattle.nor_job.specs.Status.{start_of}
 use Rattle.nor_reader.specs.Id.{Identifies}
 use Rattle.norprog_read.specs.Chip.{GivesContent, chip_task}
 use Rattle.norprog_read.proofs.chip.read_chip.Goals as goal

@@ -1,5 +1,5 @@
 -- The content that came twice is known.
-use Rattle.std.proofs.Common.{◌≡◌, ◌≤◌, ◌^◌, length, sym, subst, arith}
+use Rattle.std.proofs.Common.{◌≡◌, length, sym, subst, arith}
 use Rattle.nor_reader.specs.declared.by.ReadBy.TheVariants.{Content}
 use Rattle.norprog_read.specs.Content.{HoldsWhole}
 use Rattle.norprog_read.proofs.ReadLemmas.{written}

@@ -1,0 +1,20 @@
+-- What each cause is reported by.
+use Rattle.std.proofs.Common.{ℕ, List, subst}
+use Rattle.std.specs.Prelude.{codes}
+use Rattle.nor_base.specs.Device.{Writes}
+use Rattle.norprog_read.specs.Line.{digits_line}
+use Rattle.norprog_read.proofs.line.write_unlike.Goals as goal
+
+pub returns-in-Busy-clause-bytes : goal.returns-in-Busy-clause-bytes
+returns-in-Busy-clause-bytes g c = rw c.in-Busy.is c.put_all.ensures.bytes
+
+pub returns-in-Mode-clause-bytes : goal.returns-in-Mode-clause-bytes
+returns-in-Mode-clause-bytes g c =
+    rw c.in-Mode.is (subst (λ (l : List ℕ). Writes (g.W.ByteOut.held c.args.writer.now) (g.W.ByteOut.held c.write_digits.new.writer) c.write_digits.result
+    (digits_line (codes "unlike status ") l)) c.registers.ensures c.write_digits.ensures.bytes)
+
+pub returns-in-Tables-clause-bytes : goal.returns-in-Tables-clause-bytes
+returns-in-Tables-clause-bytes g c = rw c.in-Tables.is c.write_tables.ensures.bytes
+
+pub returns-in-Unreadable-clause-bytes : goal.returns-in-Unreadable-clause-bytes
+returns-in-Unreadable-clause-bytes g c = rw c.in-Unreadable.is c.put_all-in-Unreadable.ensures.bytes

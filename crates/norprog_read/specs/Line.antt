@@ -1,0 +1,76 @@
+-- The lines of a chip that was read, and of one that wasn't (this project's).
+use Rattle.std.specs.Prelude.{ℕ, Bool, true, false, List, [], ◌∷◌, ◌++◌, length, codes, decimal, ◌/◌, ◌%◌}
+use Rattle.nor_base.specs.declared.meaning.Part.{Part}
+use Rattle.nor_base.specs.declared.meaning.Part.TheVariants.{Generic, W25q256jv}
+use Rattle.nor_base.specs.Script.{hex_pair}
+use Rattle.nor_probe.specs.declared.difference.Difference.{Difference}
+use Rattle.nor_script.specs.Hexadecimal.{hex_number}
+use Rattle.nor_serprog.specs.declared.fault.Fault.{Fault}
+use Rattle.nor_serprog.specs.declared.fault.Fault.TheVariants as fault
+use Rattle.nor_serprog.specs.declared.fault.GreetFault.TheVariants as greeting
+use Rattle.norprog.specs.ChipText.{meaning_text}
+use Rattle.norprog_read.specs.declared.fault.DeviceFault.{DeviceFault}
+use Rattle.norprog_read.specs.declared.fault.DeviceFault.TheVariants.{Greet, Line}
+use Rattle.norprog_read.specs.declared.fault.Unlike.{Unlike}
+use Rattle.norprog_read.specs.declared.fault.Unlike.TheVariants.{Busy, Asking, Mode, At, Tables, Id, Unreadable}
+use Rattle.norprog_read.specs.declared.asked.Reading.{Reading}
+
+-- a text, three bytes in six digits, and LF
+abbrev pub digits_line : List ℕ → List ℕ → List ℕ
+digits_line front (a ∷ b ∷ c ∷ []) = front ++ (hex_pair a ++ (hex_pair b ++ (hex_pair c ++ codes "\n")))
+digits_line front other = []
+
+-- S23 to S16, S15 to S8 and S7 to S0
+abbrev pub registers : ℕ → List ℕ
+registers status = status / 65536 % 256 ∷ status / 256 % 256 ∷ status % 256 ∷ []
+
+-- S7 to S0, or of a part whose registers are known S23 to S0
+abbrev pub status_line : Part → ℕ → List ℕ
+status_line Generic status = codes "status " ++ (hex_pair (status % 256) ++ codes "\n")
+status_line W25q256jv status = digits_line (codes "status ") (registers status)
+
+-- how many bytes came twice alike, where they were wanted
+abbrev pub content_line : Bool → List ℕ → List ℕ
+content_line true content = codes "read " ++ (decimal (length content) ++ codes " twice alike\n")
+content_line false content = []
+
+-- the lines of a chip that was read
+abbrev pub reading_text : Reading → List ℕ
+reading_text r =
+    digits_line (codes "id ") r.id
+    ++ (status_line r.part r.status ++ (meaning_text r.meaning ++ content_line r.whole r.content.items))
+
+abbrev pub fault_word : Fault → List ℕ
+fault_word fault.Read = codes "read"
+fault_word fault.Write = codes "write"
+fault_word fault.Silent = codes "silent"
+fault_word fault.Nak = codes "nak"
+fault_word fault.Differs = codes "differs"
+
+-- the first byte that is another than the file's
+abbrev pub tables_line : Difference → List ℕ
+tables_line d =
+    codes "unlike tables at "
+    ++ (hex_number d.address ++ (codes " chip " ++ (hex_pair d.chip ++ (codes " file " ++ (hex_pair d.want ++ codes "\n")))))
+
+-- why the chip isn't read
+abbrev pub unlike_line : Unlike → List ℕ
+unlike_line Busy = codes "unlike busy\n"
+unlike_line (Asking why) = codes "unlike " ++ (fault_word why ++ codes "\n")
+unlike_line (Mode status) = digits_line (codes "unlike status ") (registers status)
+unlike_line (At address) = codes "unlike at " ++ (hex_number address ++ codes "\n")
+unlike_line (Tables d) = tables_line d
+unlike_line (Id id) = digits_line (codes "unlike id ") id
+unlike_line Unreadable = codes "unreadable\n"
+
+-- the word of a device that can't be used
+abbrev pub device_word : DeviceFault → List ℕ
+device_word (Greet (greeting.Command at why)) = fault_word why
+device_word (Greet greeting.Version) = codes "version"
+device_word (Greet greeting.NoOperation) = codes "operation"
+device_word (Line fault.Read) = codes "read"
+device_word (Line fault.Write) = codes "write"
+device_word (Line other) = codes "line"
+
+abbrev pub device_line : DeviceFault → List ℕ
+device_line why = codes "norprog: device " ++ (device_word why ++ codes "\n")
