@@ -1,5 +1,5 @@
 -- What the chip behind a device said and gave (this project's).
-use Rattle.std.specs.Prelude.{◌≡◌, ℕ, Bool, true, false, List, [], Option, None, Ok}
+use Rattle.std.specs.Prelude.{◌≡◌, ◌≢◌, ◌∷◌, ℕ, Bool, true, false, List, [], Option, None, Ok}
 use Rattle.nor_base.specs.declared.meaning.Start.{Start}
 use Rattle.nor_base.specs.Device.{Ahead}
 use Rattle.nor_base.specs.Parameters.{Parameters}
@@ -49,8 +49,13 @@ GivesContent held_before held_after ahead_before ahead_after m start true conten
 GivesContent held_before held_after ahead_before ahead_after m start false content =
     (content ≡ []) × (held_after ≡ held_before) × (ahead_after ≡ ahead_before)
 
+-- an identification isn't what a line gives that no chip drives: only clear bits, or only set ones
+pub record IsDriven (id : List ℕ) : Type 0 where
+  pub low : id ≢ 0x00 ∷ 0x00 ∷ 0x00 ∷ []
+  pub high : id ≢ 0xFF ∷ 0xFF ∷ 0xFF ∷ []
+
 -- in this order, and nothing else was sent: its status until it was idle, its identification, its tables, its content, and its
--- identification again, which was the same; its meaning is that of the tables that came, or of its size
+-- identification again, which was the same and that of a chip; its meaning is that of the tables that came, or of its size
 pub record HasReadChip (h0 h5 : Option (List ℕ)) (a0 a5 : Ahead) (ask : Ask) (r : Reading) : Type 0 where
   pub part : r.part ≡ ask.part
   pub wanted : r.whole ≡ ask.content
@@ -64,6 +69,7 @@ pub record HasReadChip (h0 h5 : Option (List ℕ)) (a0 a5 : Ahead) (ask : Ask) (
   pub a4 : Ahead
   pub status : ReadsStatus ask.part h0 h1 a0 a1 (Ok r.status) ask.turns
   pub id : Identifies h1 h2 a1 a2 (Ok r.id)
+  pub driven : IsDriven r.id
   pub tables : GivesTables h2 h3 a2 a3 ask.known r.tables.items
   pub means : HasChip (chip_task ask r.tables.items) r.meaning
   pub content : GivesContent h3 h4 a3 a4 r.meaning (start_of (chip_task ask r.tables.items)) ask.content r.content.items

@@ -1,12 +1,12 @@
 //! What the chip behind a device says and holds.
 
-ghost use Rattle.std.specs.Prelude.{◌≡◌, ◌<◌, ◌≤◌, ◌+◌, ◌-◌, ◌^◌, true, Ok, length, min, take, IfOk};
+ghost use Rattle.std.specs.Prelude.{◌≡◌, ◌≢◌, ◌<◌, ◌≤◌, ◌+◌, ◌-◌, ◌^◌, ◌∷◌, [], true, false, Ok, length, min, take, IfOk};
 ghost use Rattle.nor_job.specs.Chip.{HasChip};
 ghost use Rattle.nor_job.specs.Status.{start_of};
 ghost use Rattle.nor_probe.specs.Status.{ReadsStatus};
 ghost use Rattle.nor_reader.specs.Id.{Identifies};
 ghost use Rattle.nor_reader.specs.Tables.{HasReadTables};
-ghost use Rattle.norprog_read.specs.Chip.{GivesContent, GivesTables, HasReadChip, chip_task};
+ghost use Rattle.norprog_read.specs.Chip.{GivesContent, GivesTables, HasReadChip, IsDriven, chip_task};
 
 use crate::asked::{Ask, Known, Reading};
 use crate::content::read_whole;
@@ -66,18 +66,28 @@ fn is_same(one: [u8; 3], other: [u8; 3]) -> bool
     one == other
 }
 
-/// What the chip says that it is.
+/// Whether an identification is what a line gives that no chip drives: only clear bits, or only set ones.
+fn is_undriven(id: [u8; 3]) -> bool
+    ensures low { result ≡ false → id ≢ 0x00 ∷ 0x00 ∷ 0x00 ∷ [] }
+    ensures high { result ≡ false → id ≢ 0xFF ∷ 0xFF ∷ 0xFF ∷ [] }
+{
+    id == [0x00, 0x00, 0x00] || id == [0xFF, 0xFF, 0xFF]
+}
+
+/// What the chip says that it is, where it says something.
 #[tactic(auto, using(crate::proofs::RoomLemmas::reads_room, crate::proofs::RoomLemmas::writes_room))]
 fn ask_id<R: ByteIn, W: ByteOut>(from: &mut R, to: &mut W) -> Result<[u8; 3], Unread>
     requires reader { R.count from.old < 2 ^ 64 - 1 }
     requires writer { W.count to.old < 2 ^ 64 - 1 }
     ensures id { IfOk result (λ id. Identifies (W.held to.old) (W.held to.new) (R.ahead from.old) (R.ahead from.new) (Ok id)) }
+    ensures driven { IfOk result IsDriven }
     ensures reads { IfOk result (λ _. R.count from.new ≡ R.count from.old) }
     ensures writes { IfOk result (λ _. W.count to.new ≡ W.count to.old) }
     ensures reads_room { R.count from.new ≤ R.count from.old + 1 }
     ensures writes_room { W.count to.new ≤ W.count to.old + 1 }
 {
     match read_id(from, to) {
+        Ok(id) if is_undriven(id) => Err(Unread::Unlike(Unlike::Id(id))),
         Ok(id) => Ok(id),
         Err(why) => Err(Unread::Unlike(Unlike::Asking(why))),
     }
@@ -151,7 +161,8 @@ fn own_tables<R: ByteIn, W: ByteOut>(
 ) -> Result<Vec<u8>, Unread>
     requires reader { R.count from.old < 2 ^ 64 - 1 }
     requires writer { W.count to.old < 2 ^ 64 - 1 }
-    ensures tables { IfOk result (λ tables. HasReadTables (W.held to.old) (W.held to.new) (R.ahead from.old) (R.ahead from.new) tables.items) }
+    ensures tables { IfOk result (λ tables. HasReadTables (W.held to.old) (W.held to.new) (R.ahead from.old) (R.ahead from.new)
+        tables.items) }
     ensures reads { IfOk result (λ _. R.count from.new ≡ R.count from.old) }
     ensures writes { IfOk result (λ _. W.count to.new ≡ W.count to.old) }
     ensures reads_room { R.count from.new ≤ R.count from.old + 1 }

@@ -100,8 +100,10 @@ fn save_all<S: FileStore>(
     request: ReadRequest<'_>,
     reading: &Reading,
 ) -> Result<(), Refusal>
-    ensures tables { IfOk result (λ _. AreSavedIf (S.facts store.now) (option_map (λ t. t.now) request.entry.tables) reading.now.tables.items) }
-    ensures content { IfOk result (λ _. AreSavedIf (S.facts store.now) (option_map (λ t. t.now) request.entry.out) reading.now.content.items) }
+    ensures tables { IfOk result (λ _. AreSavedIf (S.facts store.now) (option_map (λ t. t.now) request.entry.tables)
+        reading.now.tables.items) }
+    ensures content { IfOk result (λ _. AreSavedIf (S.facts store.now) (option_map (λ t. t.now) request.entry.out)
+        reading.now.content.items) }
 {
     if let Some(path) = request.tables {
         save(

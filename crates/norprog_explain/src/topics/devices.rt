@@ -87,9 +87,9 @@ pub(crate) const TOPICS: &[Topic] = &[
     ),
     (
         "unlike id",
-        "At the end the chip gave another identification, in hexadecimal after the word,\n\
-         than at first: its clip moved, or it lost its power. No file was made. Seat the\n\
-         clip anew, and read again.",
+        "After the word comes the identification that the chip gave. ffffff and 000000 come\n\
+         from a line without a chip; any other came only at the end: the clip moved, or\n\
+         the chip lost its power. No file was made. Seat the clip anew, and read again.",
     ),
     (
         "unreadable",

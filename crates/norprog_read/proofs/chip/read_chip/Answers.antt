@@ -19,6 +19,7 @@ returns-clause-read g c = record {
   a3 = g.R.ByteIn.ahead c.ask_tables.new.from;
   a4 = g.R.ByteIn.ahead c.ask_content.new.from;
   id = c.in_ok-id.ensures.id;
+  driven = c.in_ok-id.ensures.driven;
   status = c.in_ok-status.ensures.status;
   tables = c.in_ok-tables.ensures.tables;
   means = subst (λ bytes. HasChip (chip_task c.args.ask.now bytes) c.in_ok-meaning.meaning) c.as_slice.ensures.value c.in_ok-meaning.ensures.means;
