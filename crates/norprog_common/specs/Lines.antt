@@ -107,6 +107,8 @@ file_text file.Map = codes "file map"
 file_text file.Device = codes "file device"
 file_text file.Bin = codes "file bin"
 file_text file.Tables = codes "file tables"
+file_text file.Before = codes "file before"
+file_text file.Resume = codes "file resume"
 
 -- `norprog: `, a text, LF
 abbrev pub program_line : List ℕ → List ℕ

@@ -30,6 +30,8 @@ pub enum FileName {
     Device,
     Bin,
     Tables,
+    Before,
+    Resume,
 }
 
 /// What stands behind the words of a refusal.
@@ -195,6 +197,8 @@ fn file_words(name: FileName) -> &'static [u8]
         FileName::Device => b"file device",
         FileName::Bin => b"file bin",
         FileName::Tables => b"file tables",
+        FileName::Before => b"file before",
+        FileName::Resume => b"file resume",
     }
 }
 

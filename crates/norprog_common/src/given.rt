@@ -120,3 +120,20 @@ pub struct ReadArgs<'a> {
     pub tables: Option<&'a str>,
     pub out: Option<&'a str>,
 }
+
+/// Of `flash`.
+#[derive(Drop)]
+pub struct FlashArgs<'a> {
+    pub chip: ChipArgs<'a>,
+    pub mode4: bool,
+    pub device: Option<&'a str>,
+    pub limit: Option<&'a str>,
+    pub hex: Option<&'a str>,
+    pub layout: Option<&'a str>,
+    pub base: Option<&'a str>,
+    pub before: Option<&'a str>,
+    pub resume: Option<&'a str>,
+    pub erased_only: bool,
+    pub dry_run: bool,
+    pub regions: Vec<Bytes>,
+}

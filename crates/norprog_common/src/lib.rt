@@ -21,8 +21,8 @@ pub use content::read_content;
 pub use faults::{FileName, Refusal, answered, refuse};
 pub use files::{FileId, ScriptFile};
 pub use given::{
-    BuildArgs, CheckArgs, ChipArgs, DrawArgs, Given, HexArgs, ListArgs, PlanArgs, PlayArgs,
-    ReadArgs, RunArgs, SetupArgs,
+    BuildArgs, CheckArgs, ChipArgs, DrawArgs, FlashArgs, Given, HexArgs, ListArgs, PlanArgs,
+    PlayArgs, ReadArgs, RunArgs, SetupArgs,
 };
 pub use inputs::{Texts, inputs_of};
 pub use opened::open_job;

@@ -76,6 +76,8 @@ module _ (Asked : ListTask → Type 0) (t : ListTask) (asked : Asked t) (rest : 
   cut text of (File file.Device) h = inl h.1
   cut text of (File file.Bin) h = inl h.1
   cut text of (File file.Tables) h = inl h.1
+  cut text of (File file.Before) h = inl h.1
+  cut text of (File file.Resume) h = inl h.1
   cut text of Page h = inl h.1
   cut text of BinSize h = inl h.1
 
@@ -122,6 +124,8 @@ module _ (t : Task) (same : Option (List ℕ)) where
   chip_refused text (File file.Device) h = (h, refl)
   chip_refused text (File file.Bin) h = (h, refl)
   chip_refused text (File file.Tables) h = (h, refl)
+  chip_refused text (File file.Before) h = (h, refl)
+  chip_refused text (File file.Resume) h = (h, refl)
   chip_refused text (File file.Script) h = absurd h
   chip_refused text (Text words) h = (h, refl)
   chip_refused text Usage h = (h, refl)
