@@ -19,7 +19,7 @@ use Rattle.nor_plan_laws.specs.Laws.{PlannedDoesTask}
 use Rattle.nor_serprog.specs.Follow.{HasOperated, status_request}
 use Rattle.nor_serprog.specs.Follow as follow
 use Rattle.nor_serprog.specs.Protocol.{request, answer}
-use Rattle.nor_loop.specs.Device.{HasDone, HasStopped, HasDoneAll, HasStoppedAmong}
+use Rattle.nor_serprog.specs.Done.{HasDone, HasStopped, HasDoneAll, HasStoppedAmong}
 use Rattle.nor_loop.specs.Laws.{DoneIsLogged, StoppedIsLogged, ToldLoopCloses, LoopBreaks, LoopIsExplained, DeviceCloses, DeviceBreaks}
 use Rattle.nor_loop.specs.Log.{Operation, IsShort, HasLogged}
 use Rattle.nor_loop.specs.Steps.{status_read, IsOne, IsWaiting, IsLogOf, IsBegun, AreLogOf, AreBegun}

@@ -14,7 +14,7 @@ use Rattle.nor_job.specs.Task.{Task}
 use Rattle.nor_job.specs.Wanted.{wanted}
 use Rattle.nor_serprog.specs.declared.limits.Limits.{Limits}
 use Rattle.nor_serprog.specs.Greeting.{Greets}
-use Rattle.nor_loop.specs.Device.{HasDoneAll}
+use Rattle.nor_serprog.specs.Done.{HasDoneAll}
 use Rattle.nor_loop.specs.Laws.{ReadTwice}
 use Rattle.nor_loop.specs.Log.{Operation, HasLogged}
 use Rattle.nor_loop.specs.Loop.{MayBe, EveryChipEnds}

@@ -11,7 +11,8 @@ use Rattle.nor_base.specs.Run.{DoesTaskOnEvery}
 use Rattle.nor_base.specs.Device.{Ahead, Finite}
 use Rattle.nor_serprog.specs.declared.fault.Reason.{Reason}
 use Rattle.nor_serprog.specs.declared.limits.Limits.{Limits}
-use Rattle.nor_loop.specs.Device.{HasDoneAll, HasStoppedAmong, ClosesLoop, BreaksLoop}
+use Rattle.nor_serprog.specs.Done.{HasDoneAll, HasStoppedAmong}
+use Rattle.nor_loop.specs.Device.{ClosesLoop, BreaksLoop}
 use Rattle.nor_loop.specs.Log.{Operation, Explains, HasLogged}
 use Rattle.nor_loop.specs.Reads.{ReadsAll, EntersAndReads, reads_from}
 use Rattle.nor_loop.specs.Steps.{AreLogOf, AreBegun}

@@ -13,7 +13,7 @@ use Rattle.nor_serprog.specs.declared.fault.Reason.{Reason}
 use Rattle.nor_serprog.specs.declared.limits.Limits.{Limits}
 use Rattle.nor_serprog.specs.Carried.{operation_clocks}
 use Rattle.nor_base.specs.Chip.{Setting, Chip}
-use Rattle.nor_loop.specs.Device.{HasDoneAll, HasStoppedAmong}
+use Rattle.nor_serprog.specs.Done.{HasDoneAll, HasStoppedAmong}
 use Rattle.nor_loop.specs.Log.{Operation, Explains}
 use Rattle.nor_loop.specs.Loop.{EveryChipEnds}
 

@@ -1,7 +1,7 @@
 -- By what fits.
 use Rattle.std.proofs.Common.{◌∙◌, sym}
 use Rattle.nor_serprog.proofs.CarriedLemmas.{carried_by, none_by}
-use Rattle.nor_serprog.proofs.carried.bits_sent.Goals as goal
+use Rattle.nor_serprog.proofs.clocks.bits_sent.Goals as goal
 
 pub returns-then-fits-clause-carried : goal.returns-then-fits-clause-carried
 returns-then-fits-clause-carried c = carried_by c.args.limits.now c.args.clocks.now c.split.result.0.now c.split.result.1.now c.split.ensures.parts (sym c.fits.ensures ∙ c.if-fits.true)

@@ -3,7 +3,7 @@ use Rattle.std.proofs.Common.{◌≡◌, length, rules}
 use Rattle.std.specs.Prelude.{unwrap_or}
 use Rattle.nor_serprog.specs.Carried.{is_sample}
 use Rattle.nor_serprog.proofs.CarriedLemmas.{place_found}
-use Rattle.nor_serprog.proofs.carried.split.Goals as goal
+use Rattle.nor_serprog.proofs.clocks.split.Goals as goal
 
 pub returns-clause-first : goal.returns-clause-first
 returns-clause-first c =
