@@ -13,6 +13,7 @@ pub record SpansDifference (have want text : List ℕ) : Type 0 where
   pub high : ℕ
   pub order : low ≤ high
   pub within : high ≤ length want
+  pub bytes : (a : ℕ) → slice_index want a < 256
   pub text_is : text ≡ hex_text low (slice_range want low high)
   pub before : (a : ℕ) → a < low → slice_index have a ≡ slice_index want a
   pub after : (a : ℕ) → high ≤ a → slice_index have a ≡ slice_index want a

@@ -1,5 +1,5 @@
 -- The planned work from what a chip holds to what it must hold (this project's).
-use Rattle.std.specs.Prelude.{◌≡◌, ℕ, List, ◌++◌, length, count_by, Option}
+use Rattle.std.specs.Prelude.{◌≡◌, ◌<◌, ◌^◌, ℕ, List, ◌++◌, length, count_by, Option}
 use Rattle.std.specs.Io.KnownBytes.{Appends}
 use Rattle.nor_base.specs.declared.step.Step.{Step}
 use Rattle.nor_base.specs.Parameters.{Parameters}
@@ -16,16 +16,17 @@ use Rattle.norprog.specs.Build.{report_of}
 use Rattle.norprog.specs.PlanWindows.{plan_text}
 use Rattle.norprog.specs.Report.{report_text}
 use Rattle.norprog.specs.declared.report.Report.{Report}
-use Rattle.norprog_work.specs.declared.goal.Goal.{Goal}
 
 -- the target of these bytes, and how many addresses of the image go nowhere
-pub record IsGoal (t : Task) (old : List ℕ) (goal : Goal) : Type 0 where
+pub record IsGoal (t : Task) (old goal : List ℕ) (nowhere : ℕ) : Type 0 where
   pub image : Pairs
   pub regions : List Region
   pub m : Parameters
   pub accepted : AreAccepted t (length old) image regions m
-  pub bytes : goal.bytes.items ≡ wanted t image regions old
-  pub ignored : goal.ignored ≡ count_by (λ pair. is_ignored t.base (is_chosen regions t.regions) m.size pair.0) image
+  pub bytes : goal ≡ wanted t image regions old
+  pub size : length goal ≡ length old
+  pub few : length old < 2 ^ 32
+  pub ignored : nowhere ≡ count_by (λ pair. is_ignored t.base (is_chosen regions t.regions) m.size pair.0) image
 
 -- the lines of the plan of a content, which can be worked on, were written
 pub record PlansLines (t : Task) (content : List ℕ) (before after : Option (List ℕ)) : Type 0 where

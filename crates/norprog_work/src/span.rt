@@ -3,7 +3,7 @@
 ghost use Rattle.std.specs.Prelude.{◌≡◌, ◌<◌, ◌≤◌, ℕ, length, slice_index};
 
 /// The place of the first byte that differs and that after the last one; 0 twice where none does.
-pub(crate) fn span(one: &[u8], other: &[u8]) -> (usize, usize)
+pub(crate) fn differing(one: &[u8], other: &[u8]) -> (usize, usize)
     requires { length one.now ≡ length other.now }
     ensures order { result.0 ≤ result.1 }
     ensures within { result.1 ≤ length one.now }

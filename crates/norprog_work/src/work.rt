@@ -9,6 +9,7 @@ use crate::steps::build_steps;
 use nor_base::{ByteOut, FromRead, Step};
 use nor_hex_out::written_images;
 use nor_job::{BuildFault, Inputs};
+use nor_laws::targets;
 use norprog::{Report, plan, write_report};
 use std::alloc::Global;
 
@@ -40,6 +41,7 @@ pub fn work_for<W: ByteOut>(
 {
     let goal = goal_of(alloc, inputs, old)?;
     let hex = difference(alloc, content, goal.bytes.as_slice())?;
+    targets();
     written_images();
     let narrow = narrowed(inputs, hex.as_slice());
     plan_lines(alloc, &narrow, content, out)?;
