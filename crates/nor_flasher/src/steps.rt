@@ -10,7 +10,7 @@ use nor_progress::Progress;
 use nor_serprog::{Limits, Reason, do_step};
 
 /// At which step a device stopped, and why.
-#[derive(Clone, Copy, Debug, PartialEq, Eq, Drop)]
+#[derive(Clone, Copy, Debug, PartialEq, Eq)]
 pub struct Halt {
     /// The step, counted from 0. Those before it were done.
     pub step: u64,

@@ -1,0 +1,3 @@
+mod HaltedLemmas
+mod ApartLemmas
+mod DoableLemmas
