@@ -1,3 +1,4 @@
 mod HaltedLemmas
 mod ApartLemmas
 mod DoableLemmas
+mod LengthLemmas

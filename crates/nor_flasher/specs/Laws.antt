@@ -1,12 +1,15 @@
 -- Laws of work on a device (this project's).
-use Rattle.std.specs.Prelude.{ℕ, Bool, List, All, Option}
+use Rattle.std.specs.Prelude.{◌≡◌, ◌⊎◌, ◌<◌, ℕ, Bool, false, List, All, length, Option}
 use Rattle.nor_base.specs.declared.meaning.Start.{Start}
 use Rattle.nor_base.specs.declared.step.Step.{Step}
 use Rattle.nor_base.specs.Device.{Ahead}
 use Rattle.nor_base.specs.Parameters.{Parameters}
 use Rattle.nor_base.specs.Planned.{ArePlanned, IsWorkable}
+use Rattle.nor_base.specs.Step.{step_clocks}
 use Rattle.nor_serprog.specs.declared.limits.Limits.{Limits}
 use Rattle.nor_serprog.specs.Done.{IsDoable, HasDoneAll, HasStoppedAmong}
+use Rattle.nor_serprog.specs.Carried.{operation_clocks}
+use Rattle.nor_serprog.specs.Steps.{IsFirstNotCarried}
 use Rattle.nor_loop.specs.Laws.{ReadTwice}
 use Rattle.nor_flasher.specs.declared.steps.Halt.{Halt}
 use Rattle.nor_flasher.specs.Halted.{HasHalted}
@@ -38,3 +41,16 @@ HaltedAmong = (held_before held_after : Option (List ℕ)) (ahead_before ahead_a
 abbrev pub PlannedIsDoable : Type 0
 PlannedIsDoable = (m : Parameters) (start : Start) (verify : Bool) (have want : List ℕ) (steps : List Step)
     → ArePlanned m start verify have want steps → All IsDoable steps
+
+-- the clocks of a step are one operation of a device, but of more bytes than this one can send or take
+pub record IsTooLong (limits : Limits) (x : Step) : Type 0 where
+  pub sent : List ℕ
+  pub asked : ℕ
+  pub spelled : step_clocks x ≡ operation_clocks sent asked
+  pub much : (limits.sent < length sent) ⊎ (limits.asked < asked)
+
+-- where work is planned without the quad setting, a device can't do a step only where the step is too long for it
+abbrev pub RefusedForLength : Type 0
+RefusedForLength = (limits : Limits) (m : Parameters) (start : Start) (verify : Bool) (have want : List ℕ) (steps : List Step) (at : ℕ)
+    → IsWorkable m start have want → start.quad ≡ false → ArePlanned m start verify have want steps
+    → (refused : IsFirstNotCarried limits steps at) → IsTooLong limits refused.first

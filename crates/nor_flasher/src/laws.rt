@@ -1,10 +1,10 @@
 //! What a device's work says of its chip.
 
-ghost use Rattle.nor_flasher.specs.Laws.{Closes, Breaks, HaltedAmong, PlannedIsDoable};
+ghost use Rattle.nor_flasher.specs.Laws.{Closes, Breaks, HaltedAmong, PlannedIsDoable, RefusedForLength};
 
-use nor_laws::effects;
+use nor_laws::{effects, spelling};
 use nor_loop::{device, loop_breaks, loop_closes, loop_is_explained, single};
-use nor_plan_laws::planned_work;
+use nor_plan_laws::{planned_work, there_is_planned_work};
 
 /// A content was read twice, and later planned work on it was done. Every ready chip that explains both ends with the goal of what it
 /// held, and some chip explains them. Of what went over the wire between the two nothing is said.
@@ -35,9 +35,14 @@ pub fn halts()
     single();
 }
 
-/// Each step of planned work is one that [`do_steps`](crate::do_steps) takes: what it sends and what it samples fit its kind.
+/// Each step of planned work is one that [`do_steps`](crate::do_steps) takes: what it sends and what it samples fit its kind. Where the
+/// work is planned without the quad setting, a device can't do a step only where the step is too long for its limits.
 pub fn doable()
-    ensures { PlannedIsDoable }
+    ensures doable { PlannedIsDoable }
+    ensures refused { RefusedForLength }
 {
     effects();
+    spelling();
+    there_is_planned_work();
+    single();
 }
