@@ -1,12 +1,12 @@
 //! Laws of logs. A log has each operation that went over the wire of a device that speaks serprog, and the bytes that came back. A chip
 //! explains it where it does each operation and gives these bytes. What is promised speaks of every chip that explains a log.
 //!
-//! The functions do nothing: their contracts are the laws, and the gate proves them. No command rests on them yet.
+//! The functions do nothing: their contracts are the laws, and the gate proves them. `nor_flasher` has what follows for
+//! a command that reads and programs a chip.
 #![tactic(auto)]
 
 pub mod worked;
 
-ghost use Rattle.nor_loop.specs.Flash.{FlashIsMet};
 ghost use Rattle.nor_loop.specs.Four.{FourReadsRead, BothRead};
 ghost use Rattle.nor_loop.specs.Single.{SingleIsOperation, PlannedIsSingle, DoneInParts, StoppedInParts, QuadUnseen, WhateverQuad};
 ghost use Rattle.nor_loop.specs.Laws.{ReadsTell, ReadsKeep, LoopCloses, LoopResumes, LoopMends, LoopBreaks, LoopIsExplained, DoneIsLogged, StoppedIsLogged, DeviceCloses, DeviceBreaks, OneLog, EnteredReadsTell, ReadsRead, EnteredReadsRead, ToldLoopCloses};
@@ -97,12 +97,3 @@ pub fn single()
 pub fn wire()
     ensures { OneLog }
 {}
-
-/// What a command would promise that reads a chip, plans for what it read, and programs (`Flashed`). It is met where the device greeted,
-/// read the tables, read the content twice, and did planned work on it.
-pub fn flash()
-    ensures { FlashIsMet }
-{
-    device();
-    single();
-}

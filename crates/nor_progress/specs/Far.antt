@@ -1,9 +1,8 @@
 -- How far work has come, and what is written of it (this project's).
-use Rattle.std.specs.Prelude.{◌≡◌, ◌<◌, ◌+◌, ◌-◌, ◌^◌, ◌/◌, ◌%◌, ◌==◌, ◌&&◌, ◌||◌, ℕ, min, Bool, true, false, MatchBool, List, [], length, sum_by, Option, Result}
-use Rattle.std.specs.Io.KnownBytes.{Appends}
+use Rattle.std.specs.Prelude.{◌≡◌, ◌<◌, ◌+◌, ◌-◌, ◌^◌, ◌/◌, ◌%◌, ◌==◌, ◌&&◌, ◌||◌, ℕ, min, Bool, true, false, MatchBool, List, length, sum_by, codes, is_ok, Option, Result}
 use Rattle.nor_base.specs.declared.device.Failed.{Failed}
 use Rattle.nor_base.specs.declared.step.Step.{Step}
-use Rattle.nor_base.specs.Device.{Cuts, Counts, Writes}
+use Rattle.nor_base.specs.Device.{Counts, Writes}
 use Rattle.nor_base.specs.Step.{step_clocks}
 use Rattle.nor_progress.specs.declared.progress.Progress.{Progress}
 use Rattle.nor_progress.specs.Line.{progress_line}
@@ -53,3 +52,16 @@ pub record Tries (held_before held_after : Option (List ℕ)) (count_before coun
     (text : List ℕ) : Type 0 where
   pub bytes : Writes held_before held_after result text
   pub count : Counts count_before count_after result
+
+-- one more step is done. Where the line is due it was written, and the writer works on where all of it was taken
+abbrev pub StepTold : Progress → Progress → Step → Option (List ℕ) → Option (List ℕ) → ℕ → ℕ → Type 0
+StepTold before after x held_before held_after count_before count_after = MatchBool (is_due (one_more before x))
+    ((r : Result (Unit {0}) Failed) × (after ≡ record (one_more before x) { shown = true; works = is_ok r })
+    × Tries held_before held_after count_before count_after r (line_of (one_more before x)))
+    ((after ≡ one_more before x) × IsSilent held_before held_after count_before count_after)
+
+-- the line is closed, where some was written and none failed
+abbrev pub Ended : Progress → Option (List ℕ) → Option (List ℕ) → ℕ → ℕ → Type 0
+Ended far held_before held_after count_before count_after = MatchBool (far.works && far.shown)
+    ((r : Result (Unit {0}) Failed) × Tries held_before held_after count_before count_after r (codes "\n"))
+    (IsSilent held_before held_after count_before count_after)

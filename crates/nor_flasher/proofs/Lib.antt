@@ -1,0 +1,4 @@
+mod HaltedLemmas
+mod ApartLemmas
+mod DoableLemmas
+mod LengthLemmas
