@@ -2,7 +2,7 @@
 use Rattle.std.proofs.Common.{◌≡◌, ◌≤◌, ℕ, Bool, ◌+◌, ◌^◌, List, [], ◌∷◌, ◌++◌, length, refl, ap, ◌∙◌, subst}
 use Rattle.nor_base.specs.declared.meaning.Start.{Start}
 use Rattle.nor_base.specs.Parameters.{Parameters}
-use Rattle.nor_loop.specs.Four.{fours_from, FourReadsRead, BothRead}
+use Rattle.nor_loop.specs.Four.{fours_from, FourReadsRead}
 use Rattle.nor_loop.specs.Laws.{IsReading, ReadsRead}
 use Rattle.nor_loop.specs.Log.{Operation}
 use Rattle.nor_loop.specs.Reads.{reads_from, ReadsAll}
@@ -30,10 +30,11 @@ reading_by read four m start FourBytes content log fits whole gives reads =
     four m start content log fits gives whole
     (record { pieces = reads.pieces; filled = reads.filled; whole = reads.whole; those = reads.those ∙ as_fours 0 reads.pieces })
 
-pub twice_knows : ReadsRead → FourReadsRead → BothRead → TwiceKnows
-twice_knows read four both h i a b m start by again content fits whole gives gives_again twice = record {
-  log = twice.first ++ twice.second;
+pub twice_knows : ReadsRead → FourReadsRead → TwiceKnows
+twice_knows read four h i a b m start by again content fits whole gives gives_again twice = record {
+  first = twice.first;
+  again = twice.second;
+  reads = reading_by read four m start by content twice.first fits whole gives twice.reads;
+  rereads = reading_by read four m start again content twice.second fits whole gives_again twice.rereads;
   wire = twice.wire;
-  reading = both m start content twice.first twice.second (reading_by read four m start by content twice.first fits whole gives twice.reads)
-      (reading_by read four m start again content twice.second fits whole gives_again twice.rereads);
 }
