@@ -16,5 +16,5 @@ mod tables;
 pub use by::ReadBy;
 pub use id::read_id;
 pub use laws::twice_knows;
-pub use pass::read_content;
+pub use pass::{read_again, read_content};
 pub use tables::{TablesFault, read_tables};

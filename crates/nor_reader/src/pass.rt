@@ -70,8 +70,12 @@ fn read_first<R: ByteIn, W: ByteOut>(
     switch_mode(from, to, leave_of(by), LEAVE)
 }
 
-/// Has the device read its chip from address 0 on, in four-byte mode where that is the way, and compares what comes with bytes.
-fn read_again<R: ByteIn, W: ByteOut>(
+/// Has the device read its chip from address 0 on, in four-byte mode where that is the way, and compares what comes with bytes, as many
+/// at once as it can give. No memory is taken.
+///
+/// `Differs` names the lowest address whose byte is another; no more was read, and four-byte mode was left where it was entered.
+/// `Exchange` where an exchange ended early, after which nothing was sent.
+pub fn read_again<R: ByteIn, W: ByteOut>(
     from: &mut R,
     to: &mut W,
     limits: &Limits,

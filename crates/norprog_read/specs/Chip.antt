@@ -33,7 +33,7 @@ chip_task ask tables = record {
   quad = false;
   base = 0;
   verify = false;
-  erased_only = false;
+  erased_only = ask.erased_only;
 }
 
 -- its tables came twice alike; a chip of a size was asked for none

@@ -222,7 +222,7 @@ fn meaning_of(ask: &Ask<'_>, tables: &[u8]) -> Result<(Meaning, Start), Unread>
         quad: false,
         base: 0,
         verify: false,
-        erased_only: false,
+        erased_only: ask.erased_only,
     };
     match known_chip(&inputs) {
         Ok(known) => Ok(known),

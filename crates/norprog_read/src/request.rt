@@ -79,5 +79,6 @@ pub(crate) fn ask_of<'a>(request: ReadRequest<'a>, file: &'a [u8]) -> Ask<'a>
         mode4: request.mode4,
         turns: request.limit,
         content: request.out.is_some(),
+        erased_only: false,
     }
 }

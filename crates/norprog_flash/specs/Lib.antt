@@ -1,0 +1,4 @@
+pub mod Task
+pub mod Begun
+pub mod Worked
+pub mod Ended
