@@ -6,9 +6,8 @@ ghost use Rattle.norprog_common.specs.declared.faults.Refusal.TheVariants.{Build
 ghost use Rattle.norprog_flash.specs.declared.ending.Unflashed.TheVariants as unflashed;
 
 use norprog_common::Refusal;
-use norprog_device::DeviceFault;
 use norprog_failure::Failure;
-use norprog_read::{Unlike, Unread};
+use norprog_read::{DeviceFault, Unlike, Unread};
 
 /// How work on a chip ends.
 #[derive(Clone, Copy, PartialEq, Eq, Drop)]

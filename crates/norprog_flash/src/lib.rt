@@ -5,17 +5,14 @@
 //! known. [`write_ending`] writes how it ended.
 #![tactic(auto)]
 
+mod back;
 mod begun;
 mod device;
 mod ending;
 mod job;
-mod line;
-mod opened;
 mod work;
 
 pub use device::flash_chip;
 pub use ending::{Ending, Unflashed};
 pub use job::Job;
-pub use line::write_ending;
 pub use norprog_common::FlashArgs;
-pub use opened::flash_opened;
