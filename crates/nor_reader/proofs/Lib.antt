@@ -4,4 +4,4 @@ mod AgainLemmas
 mod TwiceLemmas
 mod LawLemmas
 mod TablesLemmas
-mod HarmlessLemmas
+pub mod HarmlessLemmas
