@@ -264,6 +264,13 @@ impl<'a> Port for Chip<'a> {
         }
     }
 
+    fn wait_busy(&mut self, most: u64) -> u64 {
+        let _ = &self.meaning;
+        let done = u64::from(self.left).min(most);
+        self.left -= done as u32;
+        done
+    }
+
     #[tactic(auto, unfolding(nor_base::specs::Chip::is_settled))]
     fn settled(&self) -> bool {
         let meaning = self.meaning;
