@@ -170,6 +170,15 @@ begins_shown m start content target steps step cause own page reads n ends quiet
     subst (λ j. Witnesses m start content target steps j cause n (j == length steps) page) same
     (on_page m start content target steps h.0 cause ends quiet n (record { page = page; may = shows.0; so = shows.1 }) few)
 
+-- the number of status reads is that of those right before
+pub begins_counted : (target : List ℕ) (ts : List Together) (steps : List Step) (step : ℕ) (cause : Why) (own page reads : ℕ)
+    → IsShown (record { target = target; number = 0; chips = ts; stopped = None; page = own; reads = 0 }) steps step cause page reads
+    → reads ≡ reads_before step steps
+unfolding IsShown
+begins_counted target ts steps step cause own page reads h =
+    let same : h.0 ≡ step = omega (arith, h.1) in
+    subst (λ j. reads ≡ reads_before j steps) same (sym h.3)
+
 -- one step more
 later_of : (v : Verdict) (i : ℕ) (cause : Why) → v ≡ No i cause → later v ≡ No (suc i) cause
 later_of v i cause h = let one : i + 1 ≡ suc i = omega arith in ap later h ∙ ap (λ n. No n cause) one

@@ -9,7 +9,7 @@ ghost use Rattle.nor_check.specs.declared.verdict.Verdict.TheVariants.{Yes, No};
 ghost use Rattle.nor_check.specs.declared.verdict.Why.{Why};
 ghost use Rattle.nor_check.specs.Fed.{IsShown, reads_after, to_come, verdict_at};
 ghost use Rattle.nor_check.specs.View.{step_of};
-ghost use Rattle.nor_check.specs.Witness.{Witnesses};
+ghost use Rattle.nor_check.specs.Witness.{Witnesses, reads_before};
 ghost use Rattle.nor_check.specs.Worst.{IsWorst};
 
 use crate::pages::AllPages;
@@ -66,6 +66,8 @@ impl<'a> StepChecker<'a> {
         ensures yes { (steps : List Step) → (to_come result steps ≡ Yes) ↔ DoesTaskOnEvery meaning.now start have.items want.now steps }
         ensures shown { (steps : List Step) (step : ℕ) (why : Why) (page reads : ℕ) → IsShown result steps step why page reads
             → (n : ℕ) → reads < n → Witnesses meaning.now start have.items want.now steps step why n (step == length steps) page }
+        ensures counted { (steps : List Step) (step : ℕ) (why : Why) (page reads : ℕ) → IsShown result steps step why page reads
+            → reads ≡ reads_before step steps }
         ensures number { result.number ≡ 0 }
     {
         effects();

@@ -3,3 +3,4 @@ mod KernelLemmas
 pub mod RangeLemmas
 pub mod TakeLemmas
 mod EraseLemmas
+pub mod BusyLemmas

@@ -7,9 +7,11 @@ ghost use Rattle.nor_base.specs.Blocks.{is_legal as is_legal_block};
 ghost use Rattle.nor_base.specs.Parameters.{block_size};
 ghost use Rattle.nor_base.specs.Effect.{effect_of, wrong_of, is_program, programmed, erased, accepting, switching, status};
 ghost use Rattle.nor_base.specs.Port.{Shown, Transacts, CountsTransact};
+ghost use Rattle.nor_chip.specs.Busy.{times_of};
 ghost use Rattle.nor_chip.specs.Ready.{paged, ready_chip};
 ghost use Rattle.nor_chip.specs.Sent.{instruction_of, sent};
 
+use crate::busy::BusyTimes;
 use crate::erase::fill_block;
 use crate::port::Port;
 use crate::program::program;
@@ -28,7 +30,7 @@ pub struct Chip<'a> {
     meaning: &'a Meaning,
     start: Start,
     page: u32,
-    busy: Vec<u32>,
+    busy: BusyTimes,
     keeps: bool,
     array: Vec<u8>,
     latch: bool,
@@ -44,13 +46,14 @@ impl<'a> Model for Chip<'a> {
 
     ghost use Rattle.std.specs.Prelude.{◌≡◌, ◌≤◌, true, length, drop};
     ghost use Rattle.nor_base.specs.Chip.{may_page};
+    ghost use Rattle.nor_chip.specs.Busy.{times_of};
 
     ghost view = { λ c. record {
-      setting = record { meaning = c.meaning.now; start = c.start; page = c.page; busy = c.busy.items; keeps = c.keeps };
-      chip = record { array = c.array.items; latch = c.latch; mode4 = c.mode4; left = c.left; to_come = drop c.next c.busy.items };
+      setting = record { meaning = c.meaning.now; start = c.start; page = c.page; busy = times_of c.busy; keeps = c.keeps };
+      chip = record { array = c.array.items; latch = c.latch; mode4 = c.mode4; left = c.left; to_come = drop c.next (times_of c.busy) };
     } };
 
-    ghost invariant = { λ c. (length c.array.items ≡ c.meaning.now.size) × ((c.next ≤ length c.busy.items) × (may_page c.meaning.now c.page ≡ true)) };
+    ghost invariant = { λ c. (length c.array.items ≡ c.meaning.now.size) × ((c.next ≤ length (times_of c.busy)) × (may_page c.meaning.now c.page ≡ true)) };
 }
 
 impl<'a> Chip<'a> {
@@ -72,6 +75,7 @@ impl<'a> Chip<'a> {
         ensures { result ≡ ready_chip (chip_of meaning.now start busy.items keeps) content.items }
     {
         let page = meaning.page;
+        let busy = BusyTimes::Listed(busy);
         Chip::with_page(meaning, start, content, busy, keeps, page)
     }
 
@@ -81,14 +85,14 @@ impl<'a> Chip<'a> {
         meaning: &'a Meaning,
         start: Start,
         content: Vec<u8>,
-        busy: Vec<u32>,
+        busy: BusyTimes,
         keeps: bool,
         page: u32,
     ) -> Chip<'a>
         requires size { length content.items ≡ meaning.now.size }
         requires mode { IsPossible meaning.now start }
         requires page { may_page meaning.now page ≡ true }
-        ensures { result ≡ ready_chip (paged (chip_of meaning.now start busy.items keeps) page) content.items }
+        ensures { result ≡ ready_chip (paged (chip_of meaning.now start (times_of busy) keeps) page) content.items }
     {
         Chip {
             meaning,
@@ -225,8 +229,8 @@ impl<'a> Chip<'a> {
     {
         self.latch = false;
         self.left = 0;
-        if self.next < self.busy.len() {
-            self.left = self.busy[self.next];
+        if self.next < self.busy.count() {
+            self.left = self.busy.at(self.next);
             self.next += 1;
         }
     }
@@ -258,6 +262,13 @@ impl<'a> Port for Chip<'a> {
                 Ok(())
             }
         }
+    }
+
+    fn wait_busy(&mut self, most: u64) -> u64 {
+        let _ = &self.meaning;
+        let done = u64::from(self.left).min(most);
+        self.left -= done as u32;
+        done
     }
 
     #[tactic(auto, unfolding(nor_base::specs::Chip::is_settled))]

@@ -5,12 +5,14 @@
 //! JESD216B).
 #![tactic(auto)]
 
+mod busy;
 mod chip;
 pub mod erase;
 mod port;
 pub mod program;
 pub mod rules;
 
+pub use busy::BusyTimes;
 pub use chip::Chip;
 pub use nor_base::{PortFault, Wrong};
 pub use port::Port;

@@ -5,6 +5,7 @@ ghost use Rattle.nor_base.specs.Sample.{sampled_count};
 ghost use Rattle.nor_base.specs.Chip.{is_settled};
 ghost use Rattle.nor_base.specs.Port.{Shown, Transacts, CountsTransact};
 ghost use Rattle.nor_chip.specs.Asked.{AsksMore};
+ghost use Rattle.nor_chip.specs.Waits.{WaitsBusy};
 
 use nor_base::PortFault;
 
@@ -31,6 +32,19 @@ pub trait Port {
         ensures effect { Transacts (shown self.old) (shown self.new) result clocks.now out.new }
         ensures count { CountsTransact (count self.old) (count self.new) result }
         ensures asked { AsksMore (asked self.old) (asked self.new) 1 };
+
+    /// Reads the status while the chip says busy, at most `most` times, and returns how often: each of these reads said busy.
+    ///
+    /// It may stop before the chip is idle. A device that doesn't say how does none, so that a poll goes turn by turn; a chip in
+    /// memory does all at once.
+    fn wait_busy(&mut self, most: u64) -> u64
+        ensures waited { WaitsBusy (shown self.old) (shown self.new) most result }
+        ensures count { count self.new ≡ count self.old }
+        ensures asked { AsksMore (asked self.old) (asked self.new) result }
+    {
+        let _ = most;
+        0
+    }
 
     /// Whether the chip is idle, with the latch clear, in its first address mode.
     fn settled(&self) -> bool

@@ -1,5 +1,5 @@
 -- How often the port is asked.
-use Rattle.std.proofs.Common.{◌≡◌, ℕ, suc, ◌+◌, ◌-◌, ◌<◌, Bool, true, false, if◌then◌else◌, List, [], ◌∷◌, ◌++◌, take, drop, length, get_or, Result, Ok, Err, refl, sym, ◌∙◌, ap, subst, arith}
+use Rattle.std.proofs.Common.{◌≡◌, ℕ, zero, suc, ◌+◌, ◌-◌, ◌<◌, ◌≤◌, Bool, true, false, if◌then◌else◌, List, [], ◌∷◌, ◌++◌, take, drop, length, get_or, Result, Ok, Err, refl, sym, ◌∙◌, ap, subst, arith}
 use Rattle.std.specs.Prelude.{MatchResult}
 use Rattle.std.specs.Str.{bytes_eq}
 use Rattle.nor_base.specs.declared.step.Step.{Step}
@@ -13,6 +13,8 @@ use Rattle.nor_base.specs.Port.{Shown, Transacts}
 use Rattle.nor_base.specs.Run.{Stop, Halt, poll_clocks, says_busy, is_verify, step_for, play_on, played}
 use Rattle.nor_base.proofs.OutcomeLaws.{later_ok}
 use Rattle.nor_chip.specs.Asked.{AsksMore}
+use Rattle.nor_chip.specs.Waits.{WaitsBusy}
+use Rattle.nor_laws.proofs.PollLaws.{left_with, read_busy}
 use Rattle.nor_play.specs.declared.fault.Halt.{Halt as Stopped}
 use Rattle.nor_play.specs.declared.fault.Halt.TheVariants as halt
 use Rattle.nor_play.specs.declared.fault.PlayFault.{PlayFault}
@@ -69,16 +71,44 @@ pub record IsAsking (before now : Shown) (P Q : ℕ → Type 0) (limit turn : �
   pub asked : AsksMore P Q turn
   pub turns : turns_for before.setting limit before.chip ≡ turn + turns_for before.setting (limit - turn) now.chip
 
-pub begins_asking : (before : Shown) (P : ℕ → Type 0) (limit : ℕ) → IsAsking before before P P limit 0
-begins_asking before P limit =
-    let all : limit ≡ limit - 0 = omega arith in
-    let more : turns_for before.setting limit before.chip ≡ turns_for before.setting (limit - 0) before.chip = ap (λ n. turns_for before.setting n before.chip) all in
-    record { asked = never_asked P; turns = omega (arith, more) }
-
 one_turn : (s : Setting) (turns : ℕ) (c : Chip) (r : Result (Chip × List ℕ) Wrong) → effect s c poll_clocks ≡ r
     → turns_for s (suc turns) c ≡ suc (turns_on r (turns_for s turns))
 unfolding turns_for
 one_turn s turns c r e = ap (λ r. suc (turns_on r (turns_for s turns))) e
+
+-- turns of a chip that is busy for as many and more
+turns_past : (s : Setting) (c : Chip) (limit turns rest : ℕ) → turns ≤ limit
+    → turns_for s limit (left_with c (rest + turns)) ≡ turns + turns_for s (limit - turns) (left_with c rest)
+turns_past s c limit zero rest few =
+    let none : rest + 0 ≡ rest = omega arith in
+    let all : limit ≡ limit - 0 = omega arith in
+    let same : turns_for s limit (left_with c (rest + 0)) ≡ turns_for s (limit - 0) (left_with c rest) =
+    ap (λ n. turns_for s limit (left_with c n)) none ∙ ap (λ n. turns_for s n (left_with c rest)) all in
+    omega (arith, same)
+turns_past s c zero (suc turns) rest few = absurd (omega arith)
+turns_past s c (suc limit) (suc turns) rest few =
+    let one : rest + suc turns ≡ suc (rest + turns) = omega arith in
+    let less : limit - turns ≡ suc limit - suc turns = omega arith in
+    let here : turns_for s (suc limit) (left_with c (rest + suc turns)) ≡ suc (turns_for s limit (left_with c (rest + turns))) =
+    ap (λ n. turns_for s (suc limit) (left_with c n)) one ∙ one_turn s limit (left_with c (suc (rest + turns))) _ (read_busy s c (rest + turns)) in
+    let more : turns_for s limit (left_with c (rest + turns)) ≡ turns + turns_for s (suc limit - suc turns) (left_with c rest) =
+    turns_past s c limit turns rest (omega arith) ∙ ap (λ n. turns + turns_for s n (left_with c rest)) less in
+    omega (arith, here, more)
+
+-- as many turns as were waited for were asked for
+pub waits_asking : (before now : Shown) (P Q : ℕ → Type 0) (limit turns : ℕ) → WaitsBusy before now limit turns → AsksMore P Q turns
+    → IsAsking before now P Q limit turns
+waits_asking before now P Q limit turns waited asked =
+    let c = before.chip in
+    let rest = c.left - turns in
+    let few = waited.few in
+    let busy = waited.busy in
+    let whole : c.left ≡ rest + turns = omega arith in
+    record {
+      asked = asked;
+      turns = ap (λ n. turns_for before.setting limit (left_with c n)) whole ∙ turns_past before.setting c limit turns rest few
+          ∙ ap (λ (d : Chip). turns + turns_for before.setting (limit - turns) d) (sym waited.chip);
+    }
 
 module _ (before now after : Shown) (P Q R : ℕ → Type 0) (limit turn : ℕ) (polling : IsPolling before now limit turn) (asking : IsAsking before now P Q limit turn) (within : turn < limit)
   where

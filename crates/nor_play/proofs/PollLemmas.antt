@@ -1,5 +1,5 @@
 -- The turns of a poll.
-use Rattle.std.proofs.Common.{◌≡◌, ◌≢◌, get_or, ℕ, zero, suc, ◌+◌, ◌-◌, ◌%◌, ◌<◌, Bool, true, false, if◌then◌else◌, List, [], length, Result, Ok, Err, refl, sym, ◌∙◌, ap, subst, arith}
+use Rattle.std.proofs.Common.{◌≡◌, ◌≢◌, get_or, ℕ, zero, suc, ◌+◌, ◌-◌, ◌%◌, ◌<◌, ◌≤◌, ◌∷◌, Bool, true, false, if◌then◌else◌, List, [], length, Result, Ok, Err, refl, sym, ◌∙◌, ap, subst, arith}
 use Rattle.std.proofs.lemmas.Bool.Decides.{nat_tests}
 use Rattle.std.specs.Str.{bytes_eq}
 use Rattle.nor_base.specs.declared.step.Step.TheVariants.{Poll}
@@ -10,6 +10,7 @@ use Rattle.nor_base.specs.declared.wrong.PortFault.TheVariants as port
 use Rattle.nor_base.specs.Chip.{Setting, Chip}
 use Rattle.nor_base.specs.Effect.{effect}
 use Rattle.nor_base.specs.Port.{Shown, Transacts}
+use Rattle.nor_chip.specs.Waits.{WaitsBusy}
 use Rattle.nor_base.specs.Run.{poll_clocks, says_busy, polled, poll_or_halt, polled_for, step, step_for, polled_trail, step_trail}
 use Rattle.nor_base.proofs.OutcomeLaws.{ok_is}
 use Rattle.nor_laws.proofs.PollLaws.{left_with, says_idle, read_busy, read_idle, poll_ends, poll_count}
@@ -46,15 +47,41 @@ pub record IsPolling (before now : Shown) (limit turn : ℕ) : Type 0 where
   pub turns : rest + turn ≡ before.chip.left
   pub goes : polled_for before.setting limit before.chip ≡ polled_for before.setting (limit - turn) now.chip
 
-pub begins : (before : Shown) (limit : ℕ) → IsPolling before before limit 0
-begins before limit =
-    let all : limit ≡ limit - 0 = omega arith in
-    record { setting = refl; rest = before.chip.left; chip = refl; turns = omega arith; goes = ap (λ n. polled_for before.setting n before.chip) all }
-
 one_turn : (s : Setting) (turns : ℕ) (c d : Chip) (out : List ℕ) (b : Bool) → effect s c poll_clocks ≡ Ok (d, out) → says_busy out ≡ b
     → polled_for s (suc turns) c ≡ (if b then polled_for s turns d else Ok d)
 unfolding polled_for
 one_turn s turns c d out b e is = ap (λ r. poll_or_halt c r (polled_for s turns)) e ∙ ap (λ b. if b then polled_for s turns d else Ok d) is
+
+-- turns of a chip that is busy for as many and more
+polled_past : (s : Setting) (c : Chip) (limit turns rest : ℕ) → turns ≤ limit → polled_for s limit (left_with c (rest + turns)) ≡ polled_for s (limit - turns) (left_with c rest)
+polled_past s c limit zero rest few =
+    let none : rest + 0 ≡ rest = omega arith in
+    let all : limit ≡ limit - 0 = omega arith in
+    ap (λ n. polled_for s limit (left_with c n)) none ∙ ap (λ n. polled_for s n (left_with c rest)) all
+polled_past s c zero (suc turns) rest few = absurd (omega arith)
+polled_past s c (suc limit) (suc turns) rest few =
+    let one : rest + suc turns ≡ suc (rest + turns) = omega arith in
+    let less : limit - turns ≡ suc limit - suc turns = omega arith in
+    ap (λ n. polled_for s (suc limit) (left_with c n)) one
+    ∙ one_turn s limit (left_with c (suc (rest + turns))) (left_with c (rest + turns)) (3 ∷ []) true (read_busy s c (rest + turns)) refl
+    ∙ polled_past s c limit turns rest (omega arith) ∙ ap (λ n. polled_for s n (left_with c rest)) less
+
+-- as many turns as were waited for said busy
+pub waits : (before now : Shown) (limit turns : ℕ) → WaitsBusy before now limit turns → IsPolling before now limit turns
+waits before now limit turns waited =
+    let c = before.chip in
+    let rest = c.left - turns in
+    let few = waited.few in
+    let busy = waited.busy in
+    let whole : c.left ≡ rest + turns = omega arith in
+    record {
+      setting = waited.setting;
+      rest = rest;
+      chip = waited.chip;
+      turns = sym whole;
+      goes = ap (λ n. polled_for before.setting limit (left_with c n)) whole ∙ polled_past before.setting c limit turns rest few
+          ∙ ap (λ (d : Chip). polled_for before.setting (limit - turns) d) (sym waited.chip);
+    }
 
 module _ (before now after : Shown) (limit turn : ℕ) (polling : IsPolling before now limit turn) (within : turn < limit) where
   further : polled_for before.setting limit before.chip ≡ polled_for before.setting (suc (limit - (turn + 1))) now.chip

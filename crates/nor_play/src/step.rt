@@ -68,8 +68,9 @@ pub(crate) fn poll<P: Port>(clocks: &[u8], port: &mut P, limit: u64) -> Result<u
     if clocks != POLL.as_slice() {
         return Err(Halt::Wrong(Wrong::Unknown));
     }
+    let waited = port.wait_busy(limit);
     let mut out = [0];
-    for turn in 0..limit {
+    for turn in waited..limit {
         port.transact(POLL, &mut out)?;
         if out[0] % 2 == 0 {
             return Ok(turn + 1);

@@ -1,12 +1,12 @@
 -- What was judged, and why nothing was, of a job that is asked for.
 use Rattle.std.proofs.Common.{◌≡◌, ℕ, ◌⊎◌, inl, inr, refl, List, Result, Ok, Err, IfOk, IfErr}
 use Rattle.nor_base.specs.Device.{Ahead}
-use Rattle.nor_check.specs.declared.verdict.Verdict.{Verdict}
 use Rattle.nor_script.specs.declared.fault.ScriptFault.TheVariants as script
 use Rattle.norprog_check.specs.declared.fault.CheckStop.{CheckStop}
 use Rattle.norprog_check.specs.declared.fault.CheckStop.TheVariants as stop
 use Rattle.norprog_check.specs.declared.fault.StreamStop.{StreamStop}
 use Rattle.norprog_check.specs.declared.fault.StreamStop.TheVariants as stream
+use Rattle.norprog_check.specs.declared.finding.Finding.{Finding}
 use Rattle.norprog_check.specs.Checked.{RefusesTexts, StopsCheck}
 use Rattle.norprog_check.specs.Streams.{RefusesTask, StopsReading, StopsAtContent, StopsFeeding}
 use Rattle.norprog_check.proofs.StopLaws.{some_text}
@@ -16,7 +16,7 @@ use Rattle.norprog_common.specs.declared.faults.Refusal.{Refusal}
 use Rattle.norprog_common.specs.declared.faults.Refusal.TheVariants.{Text, Usage, File, Build, Page, Script, BinSize}
 use Rattle.norprog_common.proofs.ToldLemmas.{asked_wider, by_fault, refuses_wider}
 use Rattle.norprog_common.specs.Served.{Job, Is}
-use Rattle.norprog_check.specs.Answer.{IsCheckVerdict, IsStopOf, IsCheckFault, RefusesCheck, stop_refusal, stream_refusal}
+use Rattle.norprog_check.specs.Answer.{IsCheckFinding, IsStopOf, IsCheckFault, RefusesCheck, stop_refusal, stream_refusal}
 
 pub stop_of : (Lacked : FileName → Type 0) (Asked : Job → Type 0) (IsText : List ℕ → Type 0) (j : Job) (text : List ℕ) (after : Ahead) (why : CheckStop) → Asked j
     → RefusesTexts j.task j.len text why ⊎ StopsCheck j.task j.len text j.content after why → RefusesCheck Lacked Asked IsText (stop_refusal why)
@@ -85,9 +85,9 @@ check_fault_wider A B wider (File name) of = absurd of
 check_fault_wider A B wider Page of = absurd of
 check_fault_wider A B wider BinSize of = absurd of
 
-pub verdict_wider : (A B : Job → Type 0) (P Q : List ℕ → Type 0) → ((j : Job) → A j → B j) → ((text : List ℕ) → P text → Q text) → (verdict : Verdict)
-    → IsCheckVerdict A P verdict → IsCheckVerdict B Q verdict
-verdict_wider A B P Q wider more verdict of = record {
+pub verdict_wider : (A B : Job → Type 0) (P Q : List ℕ → Type 0) → ((j : Job) → A j → B j) → ((text : List ℕ) → P text → Q text) → (found : Finding)
+    → IsCheckFinding A P found → IsCheckFinding B Q found
+verdict_wider A B P Q wider more found of = record {
   it = of.it;
   asked = wider of.it of.asked;
   has = record { text = of.has.text; script = more of.has.text of.has.script; after = of.has.after; checked = of.has.checked };
@@ -96,16 +96,16 @@ verdict_wider A B P Q wider more verdict of = record {
 pub check_wider : (L M : FileName → Type 0) (A B : Job → Type 0) (P Q : List ℕ → Type 0) → ((name : FileName) → L name → M name) → ((j : Job) → A j → B j) → ((text : List ℕ) → P text → Q text) → (why : Refusal)
     → RefusesCheck L A P why → RefusesCheck M B Q why
 check_wider L M A B P Q files wider more =
-    refuses_wider L M (IsCheckFault A) (IsCheckFault B) ((verdict : Verdict) × IsCheckVerdict A P verdict) ((verdict : Verdict) × IsCheckVerdict B Q verdict)
+    refuses_wider L M (IsCheckFault A) (IsCheckFault B) ((found : Finding) × IsCheckFinding A P found) ((found : Finding) × IsCheckFinding B Q found)
     files (check_fault_wider A B wider) (λ late. (late.0, verdict_wider A B P Q wider more late.0 late.1))
 
 -- the same of an answer
-pub verdicts_wider : (A B : Job → Type 0) (P Q : List ℕ → Type 0) → ((j : Job) → A j → B j) → ((text : List ℕ) → P text → Q text) → (r : Result Verdict Refusal)
-    → IfOk r (IsCheckVerdict A P) → IfOk r (IsCheckVerdict B Q)
-verdicts_wider A B P Q wider more (Ok verdict) of = verdict_wider A B P Q wider more verdict of
+pub verdicts_wider : (A B : Job → Type 0) (P Q : List ℕ → Type 0) → ((j : Job) → A j → B j) → ((text : List ℕ) → P text → Q text) → (r : Result Finding Refusal)
+    → IfOk r (IsCheckFinding A P) → IfOk r (IsCheckFinding B Q)
+verdicts_wider A B P Q wider more (Ok found) of = verdict_wider A B P Q wider more found of
 verdicts_wider A B P Q wider more (Err why) of = tt
 
-pub refusals_wider : (L M : FileName → Type 0) (A B : Job → Type 0) (P Q : List ℕ → Type 0) → ((name : FileName) → L name → M name) → ((j : Job) → A j → B j) → ((text : List ℕ) → P text → Q text) → (r : Result Verdict Refusal)
+pub refusals_wider : (L M : FileName → Type 0) (A B : Job → Type 0) (P Q : List ℕ → Type 0) → ((name : FileName) → L name → M name) → ((j : Job) → A j → B j) → ((text : List ℕ) → P text → Q text) → (r : Result Finding Refusal)
     → IfErr r (RefusesCheck L A P) → IfErr r (RefusesCheck M B Q)
-refusals_wider L M A B P Q files wider more (Ok verdict) of = tt
+refusals_wider L M A B P Q files wider more (Ok found) of = tt
 refusals_wider L M A B P Q files wider more (Err why) of = check_wider L M A B P Q files wider more why of

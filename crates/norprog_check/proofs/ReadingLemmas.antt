@@ -1,12 +1,14 @@
 -- What is known of the text of a script where the steps came, and of a checker that was fed with them.
-use Rattle.std.proofs.Common.{◌≡◌, ℕ, List, [], ◌∷◌, ◌++◌, length, Ok, false, sym, ◌∙◌, ap, append_assoc, append-nil}
+use Rattle.std.proofs.Common.{◌≡◌, ℕ, List, [], ◌∷◌, ◌++◌, length, Ok, false, sym, ◌∙◌, ap, subst, append_assoc, append-nil}
 use Rattle.nor_base.specs.declared.step.Step.{Step}
 use Rattle.nor_base.specs.Device.{Ahead}
-use Rattle.nor_check.specs.declared.verdict.Verdict.{Verdict}
-use Rattle.nor_check.specs.Fed.{Fed, to_come}
+use Rattle.nor_check.specs.declared.verdict.Verdict.TheVariants.{No}
+use Rattle.nor_check.specs.declared.verdict.Why.{Why}
+use Rattle.nor_check.specs.Fed.{Fed, IsShown, to_come}
 use Rattle.nor_script.specs.Stream.{Reading, reading, HasRead, Advances, HadText}
 use Rattle.nor_script.proofs.TextLaws.{script_of}
-use Rattle.norprog_check.specs.Readings.{IsVerdictOf}
+use Rattle.norprog_check.specs.declared.readings.Said.{Said}
+use Rattle.norprog_check.specs.Readings.{IsSaidOf}
 
 -- a checker that was fed with these steps says of more what the one before them says of all
 abbrev pub IsFedWith : Fed → Fed → List Step → Type 0
@@ -17,11 +19,38 @@ pub fed_more : (before now after : Fed) (above : List Step) (step shown : Step) 
 fed_more before now after above step shown fed is next more =
     next more ∙ ap (λ s. to_come now (s ∷ more)) is ∙ fed (step ∷ more) ∙ ap (to_come before) (sym (append_assoc above (step ∷ []) more))
 
+-- and what shows a no of more shows that of all
+abbrev pub ShowsWith : Fed → Fed → List Step → Type 0
+ShowsWith before now above =
+    (more : List Step) (at : ℕ) (why : Why) (page reads : ℕ) → IsShown now more at why page reads → IsShown before (above ++ more) at why page reads
+
+pub shown_more : (before now after : Fed) (above : List Step) (step given : Step) → ShowsWith before now above → given ≡ step
+    → ((more : List Step) (at : ℕ) (why : Why) (page reads : ℕ) → IsShown after more at why page reads → IsShown now (given ∷ more) at why page reads)
+    → ShowsWith before after (above ++ step ∷ [])
+shown_more before now after above step given shows is next more at why page reads h =
+    subst (λ s. IsShown before s at why page reads) (sym (append_assoc above (step ∷ []) more))
+    (shows (step ∷ more) at why page reads (subst (λ s. IsShown now (s ∷ more) at why page reads) is (next more at why page reads h)))
+
 module _ (before : Ahead) where
   -- the end
-  pub feeds_all : (fed now : Fed) (b c : Reading) (above : List Step) (steps : ℕ) (step : Step) (verdict : Verdict) → HasRead (reading before []) b above
-      → steps ≡ length above → Advances b c steps step (Ok false) → IsFedWith fed now above → verdict ≡ to_come now []
-      → HadText before c.ahead (IsVerdictOf fed verdict)
-  feeds_all fed now b c above steps step verdict p number q with_these told =
-      let of = script_of before b c above steps step p number q in
-      (of.0, of.1, record { steps = above; script = of.2; told = told ∙ with_these [] ∙ ap (to_come fed) (append-nil above) })
+  pub feeds_all : (fed now : Fed) (b c : Reading) (above : List Step) (steps : ℕ) (step : Step) (said : Said) → HasRead (reading before []) b above
+      → steps ≡ length above → Advances b c steps step (Ok false) → IsFedWith fed now above → ShowsWith fed now above
+      → said.steps ≡ length above → said.verdict ≡ to_come now []
+      → ((at : ℕ) (why : Why) → to_come now [] ≡ No at why → IsShown now [] at why said.witness.page said.witness.reads)
+      → HadText before c.ahead (IsSaidOf fed said)
+  feeds_all fed now b c above steps step said p number q with_these shows counted told witnessed =
+      let of = script_of before b c above steps step p number q in (
+        of.0,
+        of.1,
+        record {
+          steps = above;
+          script = of.2;
+          says = record {
+            number = counted;
+            told = told ∙ with_these [] ∙ ap (to_come fed) (append-nil above);
+            shown = λ at why no.
+                subst (λ s. IsShown fed s at why said.witness.page said.witness.reads) (append-nil above)
+                (shows [] at why said.witness.page said.witness.reads (witnessed at why (sym told ∙ no)));
+          };
+        },
+      )

@@ -1,5 +1,5 @@
 -- What is told of a check, and the status that it ends with (this project's).
-use Rattle.std.specs.Prelude.{◌≡◌, ◌⊎◌, ℕ, List, Option}
+use Rattle.std.specs.Prelude.{◌≡◌, ◌⊎◌, ℕ, Bool, List, Option}
 use Rattle.std.specs.Io.KnownBytes.{Appends}
 use Rattle.nor_base.specs.Device.{Ahead, Cuts}
 use Rattle.nor_check.specs.declared.verdict.Verdict.{Verdict}
@@ -8,8 +8,9 @@ use Rattle.norprog_check.specs.declared.fault.CheckStop.{CheckStop}
 use Rattle.norprog_check.specs.declared.fault.CheckStop.TheVariants as stop
 use Rattle.norprog_check.specs.declared.fault.StreamStop.{StreamStop}
 use Rattle.norprog_check.specs.declared.fault.StreamStop.TheVariants as stream
+use Rattle.norprog_check.specs.declared.finding.Finding.{Finding}
 use Rattle.norprog_check.specs.Checked.{IsChecked, RefusesTexts, StopsCheck}
-use Rattle.norprog_check.specs.Line.{verdict_text}
+use Rattle.norprog_check.specs.Line.{finding_text}
 use Rattle.norprog_common.specs.declared.faults.FileName.{FileName}
 use Rattle.norprog_common.specs.declared.faults.Refusal.{Refusal}
 use Rattle.norprog_common.specs.declared.faults.FileName.TheVariants as file
@@ -26,15 +27,15 @@ abbrev pub verdict_status : Verdict → ℕ
 verdict_status Yes = 0
 verdict_status (No step why) = 1
 
--- a text that is so was checked for the job, and this is the verdict
-pub record IsVerdictOf (IsText : List ℕ → Type 0) (verdict : Verdict) (j : Job) : Type 0 where
+-- a text that is so was checked for the job, and this was found
+pub record IsFindingOf (IsText : List ℕ → Type 0) (found : Finding) (j : Job) : Type 0 where
   pub text : List ℕ
   pub script : IsText text
   pub after : Ahead
-  pub checked : IsChecked j.task j.len text j.content after verdict
+  pub checked : IsChecked j.task j.len text j.content after found
 
-abbrev pub IsCheckVerdict : (Job → Type 0) → (List ℕ → Type 0) → Verdict → Type 0
-IsCheckVerdict Asked IsText verdict = ForAsked Job Asked (IsVerdictOf IsText verdict)
+abbrev pub IsCheckFinding : (Job → Type 0) → (List ℕ → Type 0) → Finding → Type 0
+IsCheckFinding Asked IsText found = ForAsked Job Asked (IsFindingOf IsText found)
 
 -- the check of some text for the job stopped so
 pub record IsStopOf (why : CheckStop) (j : Job) : Type 0 where
@@ -49,7 +50,7 @@ IsCheckFault Asked other = ⊥
 
 -- why a check that was asked for has no verdict
 abbrev pub RefusesCheck : (FileName → Type 0) → (Job → Type 0) → (List ℕ → Type 0) → Refusal → Type 0
-RefusesCheck Lacked Asked IsText = RefusesFor Lacked (IsCheckFault Asked) ((verdict : Verdict) × IsCheckVerdict Asked IsText verdict)
+RefusesCheck Lacked Asked IsText = RefusesFor Lacked (IsCheckFault Asked) ((found : Finding) × IsCheckFinding Asked IsText found)
 
 -- a check's stop as a refusal: want of memory is the program's own
 abbrev pub stop_refusal : CheckStop → Refusal
@@ -62,21 +63,22 @@ stream_refusal (stream.Check why) = stop_refusal why
 stream_refusal (stream.First failed) = File file.Script
 stream_refusal (stream.Again failed) = File file.Script
 
--- the line of the verdict of a check that was asked for was printed, whose status it is
-abbrev pub PrintsJudgement : (Job → Type 0) → (List ℕ → Type 0) → Option (List ℕ) → Option (List ℕ) → ℕ → Type 0
-PrintsJudgement Asked IsText before after status =
-    (verdict : Verdict) × (status ≡ verdict_status verdict) × IsCheckVerdict Asked IsText verdict × Appends before after (verdict_text verdict)
+-- the lines of what a check found that was asked for were printed, and it is the verdict's status; `witness`: whether a chip is asked
+-- for that shows a no
+abbrev pub PrintsJudgement : Bool → (Job → Type 0) → (List ℕ → Type 0) → Option (List ℕ) → Option (List ℕ) → ℕ → Type 0
+PrintsJudgement witness Asked IsText before after status =
+    (found : Finding) × (status ≡ verdict_status found.verdict) × IsCheckFinding Asked IsText found × Appends before after (finding_text witness found)
 
--- nothing was printed, or a proper prefix of such a line
-abbrev pub CutsVerdict : (Job → Type 0) → (List ℕ → Type 0) → Option (List ℕ) → Option (List ℕ) → Type 0
-CutsVerdict Asked IsText before after =
-    (after ≡ before) ⊎ ((verdict : Verdict) × IsCheckVerdict Asked IsText verdict × Cuts before after (verdict_text verdict))
+-- nothing was printed, or a proper prefix of such lines
+abbrev pub CutsVerdict : Bool → (Job → Type 0) → (List ℕ → Type 0) → Option (List ℕ) → Option (List ℕ) → Type 0
+CutsVerdict witness Asked IsText before after =
+    (after ≡ before) ⊎ ((found : Finding) × IsCheckFinding Asked IsText found × Cuts before after (finding_text witness found))
 
--- what `check` answers to the texts of a command line: the line of the verdict, whose status it is, or a refusal
+-- what `check` answers to the texts of a command line: the lines of what it found, with the verdict's status, or a refusal
 abbrev pub AnswersCheck : FileFacts → CheckArgs → Option (List ℕ) → Option (List ℕ) → Type 0 → Type 0 → Option (List ℕ) → Option (List ℕ) → ℕ → Type 0
 AnswersCheck files given before after Quiet Works told_before told_after status =
     Answers (asks_check given)
-    (PrintsJudgement (ServesCheck files given) (ServesScript files given) before after status × Quiet)
-    (CutsVerdict (ServesCheck files given) (ServesScript files given) before after)
+    (PrintsJudgement given.witness (ServesCheck files given) (ServesScript files given) before after status × Quiet)
+    (CutsVerdict given.witness (ServesCheck files given) (ServesScript files given) before after)
     (RefusesCheck (OrScript files.lacked) (ServesCheck files given) (ServesScript files given))
     Works told_before told_after status

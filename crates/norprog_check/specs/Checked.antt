@@ -1,12 +1,15 @@
 -- What a check of a script's text promises (this project's).
-use Rattle.std.specs.Prelude.{◌≡◌, ◌↔◌, ◌+◌, ℕ, ⊤, List, length, Result, Ok, Err}
+use Rattle.std.specs.Prelude.{◌≡◌, ◌≢◌, ◌↔◌, ◌+◌, ◌^◌, ◌≤◌, ◌==◌, ℕ, ⊤, List, length, Option, Some, None, unwrap_or, Result, Ok, Err}
+use Rattle.nor_base.specs.declared.meaning.Start.{Start}
 use Rattle.nor_base.specs.declared.step.Step.{Step}
 use Rattle.nor_base.specs.Device.{Ahead, Gives}
 use Rattle.nor_base.specs.Parameters.{Parameters}
 use Rattle.nor_base.specs.Run.{DoesTaskOnEvery}
 use Rattle.nor_base.specs.Script.{IsScript}
 use Rattle.nor_check.specs.declared.verdict.Verdict.{Verdict}
-use Rattle.nor_check.specs.declared.verdict.Verdict.TheVariants.{Yes}
+use Rattle.nor_check.specs.declared.verdict.Verdict.TheVariants.{Yes, No}
+use Rattle.nor_check.specs.declared.verdict.Why.{Why}
+use Rattle.nor_check.specs.Witness.{Witnesses, reads_before}
 use Rattle.nor_check.specs.Worst.{IsWorst}
 use Rattle.nor_hex.specs.Image.{Pairs}
 use Rattle.nor_job.specs.declared.fault.BuildFault.{BuildFault}
@@ -20,11 +23,29 @@ use Rattle.nor_job.specs.Wanted.{wanted}
 use Rattle.nor_job.specs.Written.{of_reader}
 use Rattle.norprog_check.specs.declared.fault.CheckStop.{CheckStop}
 use Rattle.norprog_check.specs.declared.fault.CheckStop.TheVariants as stop
+use Rattle.norprog_check.specs.declared.finding.Finding.{Finding}
+use Rattle.norprog_check.specs.declared.finding.ShowingChip.{ShowingChip}
 use Rattle.norprog_check.specs.Content.{StopsRead}
 
+-- a run of the steps on this chip goes wrong at this step, so: each program and erase keeps it busy for one status read more than are
+-- sent in a row right before the step, it keeps a set latch just where the step is the number of steps, and a page is said just where
+-- it isn't the meaning's own
+pub record ShowsNo (m : Parameters) (start : Start) (have want : List ℕ) (steps : List Step) (step : ℕ) (why : Why) (chip : ShowingChip) : Type 0 where
+  pub busy : chip.each_busy ≡ reads_before step steps + 1
+  pub keep : chip.keep ≡ (step == length steps)
+  pub page : chip.page ≢ Some m.page
+  pub shows : Witnesses m start have want steps step why chip.each_busy chip.keep (unwrap_or chip.page m.page)
+
+-- a no has such a chip where its number of status reads has 32 bits
+abbrev pub IsShownOn : Parameters → Start → List ℕ → List ℕ → List Step → Verdict → Option ShowingChip → Type 0
+IsShownOn m start have want steps Yes chip = chip ≡ None
+IsShownOn m start have want steps (No step why) None = 2 ^ 32 ≤ reads_before step steps + 1
+IsShownOn m start have want steps (No step why) (Some chip) = ShowsNo m start have want steps step why chip
+
 -- the inputs are accepted, the text is the script of some steps, the reader gave the whole content; of all chips of the
--- inputs with that content none comes out earlier than the verdict says, and it is Yes just where the steps do the job on each
-pub record IsChecked (t : Task) (len : ℕ) (text : List ℕ) (before after : Ahead) (verdict : Verdict) : Type 0 where
+-- inputs with that content none comes out earlier than the verdict says, and it is Yes just where the steps do the job on each; a no
+-- is shown on the chip that is found
+pub record IsChecked (t : Task) (len : ℕ) (text : List ℕ) (before after : Ahead) (found : Finding) : Type 0 where
   pub image : Pairs
   pub regions : List Region
   pub m : Parameters
@@ -34,8 +55,9 @@ pub record IsChecked (t : Task) (len : ℕ) (text : List ℕ) (before after : Ah
   pub content : List ℕ
   pub whole : length content ≡ len
   pub given : Gives before content after
-  pub worst : IsWorst m (start_of t) content (wanted t image regions content) steps verdict
-  pub yes : (verdict ≡ Yes) ↔ DoesTaskOnEvery m (start_of t) content (wanted t image regions content) steps
+  pub worst : IsWorst m (start_of t) content (wanted t image regions content) steps found.verdict
+  pub yes : (found.verdict ≡ Yes) ↔ DoesTaskOnEvery m (start_of t) content (wanted t image regions content) steps
+  pub shown : IsShownOn m (start_of t) content (wanted t image regions content) steps found.verdict found.chip
 
 -- some image, regions and meaning are those of the inputs
 pub record AreTaken (t : Task) (len : ℕ) : Type 0 where

@@ -1,24 +1,24 @@
 -- What a check of a script promises that two devices tell, one for each of its two readings (this project's).
 use Rattle.std.specs.Prelude.{◌≡◌, ℕ, ◌+◌, ⊤, List, length, Result, Ok, Err}
 use Rattle.nor_base.specs.Device.{Ahead, Gives}
-use Rattle.nor_check.specs.declared.verdict.Verdict.{Verdict}
 use Rattle.nor_job.specs.declared.fault.BuildFault.TheVariants as fault
 use Rattle.nor_job.specs.Causes.{RefusesInputs}
 use Rattle.nor_job.specs.Task.{Task}
 use Rattle.nor_script.specs.Faults.{IsFault}
 use Rattle.nor_script.specs.Stream.{IsTextOf, HadText, IsSpelled}
 use Rattle.norprog_check.specs.declared.fault.CheckStop.TheVariants.{Build, Script}
+use Rattle.norprog_check.specs.declared.finding.Finding.{Finding}
 use Rattle.norprog_check.specs.declared.fault.StreamStop.{StreamStop}
 use Rattle.norprog_check.specs.declared.fault.StreamStop.TheVariants as stop
 use Rattle.norprog_check.specs.Checked.{AreTaken, IsChecked, IsLate, IsOfContent, failures_of}
 use Rattle.norprog_check.specs.Content.{StopsRead}
 
--- a text that the first device had ahead is a script; and of a text that the second had ahead this is the verdict
-pub record ChecksText (t : Task) (len : ℕ) (first over again rest before after : Ahead) (verdict : Verdict) : Type 0 where
+-- a text that the first device had ahead is a script; and of a text that the second had ahead this is what was found
+pub record ChecksText (t : Task) (len : ℕ) (first over again rest before after : Ahead) (found : Finding) : Type 0 where
   pub readable : HadText first over IsSpelled
   pub text : List ℕ
   pub of : IsTextOf again rest text
-  pub checked : IsChecked t len text before after verdict
+  pub checked : IsChecked t len text before after found
 
 -- why there is no verdict before anything is read: the inputs are refused
 abbrev pub RefusesTask : Task → ℕ → StreamStop → Type 0

@@ -11,9 +11,9 @@ ghost use Rattle.nor_job.specs.Wanted.{ReadsWithin};
 ghost use Rattle.norprog_check.specs.Checked.{IsChecked, RefusesTexts, StopsCheck, IsLate, IsOfContent, CountsReader};
 
 use crate::fault::{CheckStop, StreamStop};
+use crate::finding::Finding;
 use crate::streams::check_streams;
 use nor_base::ByteIn;
-use nor_check::Verdict;
 use nor_job::Inputs;
 use nor_script::{TextIn, faultless_scripts};
 use std::alloc::Global;
@@ -25,7 +25,7 @@ use std::alloc::Global;
 /// script's steps on each such chip, of each page that may be, with any busy times that end and both answers on keeping the
 /// latch, has nothing wrong, gives every chosen address the image's byte where it has one, leaves every other byte as before,
 /// and ends idle in the first address mode. Else `No` with the first step at which some chip goes wrong, and why
-/// ([`nor_check::check`]). Memory is taken as [`check_streams`] takes it: the script's steps aren't held, and it is read twice.
+/// ([`nor_check::check`]), and with a chip that shows it. Memory is taken as [`check_streams`] takes it: the script's steps aren't held, and it is read twice.
 ///
 /// The first of these is told: `Build` of a refusal of the inputs, as [`nor_job::job_of`] orders them, from `Contradiction`
 /// to `ContentSize`; `Script` with the first fault of the text; and only then the content is read: `Build` of `ContentShort`
@@ -38,7 +38,7 @@ pub fn check_script<R: ByteIn>(
     script: &[u8],
     content: &mut R,
     len: u64,
-) -> Result<Verdict, CheckStop>
+) -> Result<Finding, CheckStop>
     requires { R.count content.old < 2 ^ 64 - 1 }
     ensures checked { IfOk result (IsChecked inputs.now len script.now (R.ahead content.old) (R.ahead content.new)) }
     ensures refused { IfErr result (λ why. (RefusesTexts inputs.now len script.now why × (content.new ≡ content.old))
@@ -54,7 +54,7 @@ pub fn check_script<R: ByteIn>(
     let mut first = TextIn::new(script);
     let mut again = TextIn::new(script);
     match check_streams(alloc, inputs, &mut first, &mut again, content, len) {
-        Ok(verdict) => Ok(verdict),
+        Ok(found) => Ok(found),
         Err(StreamStop::Check(stop)) => Err(stop),
         Err(StreamStop::First(_)) => unreachable!("a text in memory never fails"),
         Err(StreamStop::Again(_)) => unreachable!("a text in memory never fails"),

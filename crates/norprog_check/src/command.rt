@@ -1,18 +1,19 @@
-//! `check`: from the texts of the command line to the verdict on a script.
+//! `check`: from the texts of the command line to what is found of a script.
 
 ghost use Rattle.std.specs.Prelude.{◌≡◌, ◌<◌, ◌≤◌, ◌-◌, ◌^◌, None, true, IfOk, IfErr};
 ghost use Rattle.std.specs.Io.KnownBytes.{Appends};
-ghost use Rattle.norprog_check.specs.Line.{verdict_text};
+ghost use Rattle.norprog_check.specs.Line.{finding_text};
 ghost use Rattle.norprog_common.specs.FileStore.{DoNotFail, IsTextIn, IsTextOfFile};
 ghost use Rattle.norprog_common.specs.declared.faults.FileName.TheVariants.{Script};
 ghost use Rattle.norprog_common.specs.Told.{OrScript, OrUsage};
 ghost use Rattle.norprog_check.specs.Served.{asks_check, ServesCheck, ServesScript};
 ghost use Rattle.norprog_common.specs.Served.{job_with, Is, IsJobOf};
-ghost use Rattle.norprog_check.specs.Answer.{verdict_status, stop_refusal, stream_refusal, IsCheckVerdict, RefusesCheck, CutsVerdict, AnswersCheck};
+ghost use Rattle.norprog_check.specs.Answer.{verdict_status, stop_refusal, stream_refusal, IsCheckFinding, RefusesCheck, CutsVerdict, AnswersCheck};
 
 use crate::checker::check_script;
 use crate::fault::{CheckStop, StreamStop};
-use crate::line::write_verdict;
+use crate::finding::Finding;
+use crate::line::write_finding;
 use crate::streams::check_streams;
 use nor_base::{ByteIn, ByteOut};
 use nor_check::Verdict;
@@ -23,7 +24,7 @@ use norprog_common::{
 };
 use std::alloc::Global;
 
-/// Writes to `out` whether a script does the job on a command line, or a refusal to `err` (docs/FORMATS.md, section 9), and
+/// Writes to `out` whether a script does the job on a command line and, where it is asked for, a chip that shows a no; or a refusal to `err` (docs/FORMATS.md, section 9), and
 /// answers the status: 0 it does, 1 it doesn't or is refused, 2 usage.
 ///
 /// Usage is told where the texts ask for no check.
@@ -42,7 +43,7 @@ pub fn check<S: FileStore, O: ByteOut, E: ByteOut>(
         (E.count err.new ≡ E.count err.old) (E.held err.old) (E.held err.new) result }
 {
     match report_check(alloc, store, given, out) {
-        Ok(verdict) => exit_status(verdict),
+        Ok(found) => exit_status(found.verdict),
         Err(refusal) => refuse(&refusal, err),
     }
 }
@@ -57,17 +58,17 @@ fn exit_status(verdict: Verdict) -> u8
     }
 }
 
-/// Checks what is asked for, and writes the verdict.
+/// Checks what is asked for, and writes what it finds.
 fn report_check<S: FileStore, O: ByteOut>(
     alloc: Global,
     store: &S,
     given: CheckArgs<'_>,
     out: &mut O,
-) -> Result<Verdict, Refusal>
+) -> Result<Finding, Refusal>
     requires { O.count out.old < 2 ^ 64 - 1 }
-    ensures checked { IfOk result (IsCheckVerdict (ServesCheck (S.facts store.now) given.entry) (ServesScript (S.facts store.now) given.entry)) }
-    ensures printed { IfOk result (λ verdict. Appends (O.held out.old) (O.held out.new) (verdict_text verdict)) }
-    ensures unprinted { IfErr result (λ _. CutsVerdict (ServesCheck (S.facts store.now) given.entry) (ServesScript (S.facts store.now) given.entry)
+    ensures checked { IfOk result (IsCheckFinding (ServesCheck (S.facts store.now) given.entry) (ServesScript (S.facts store.now) given.entry)) }
+    ensures printed { IfOk result (λ found. Appends (O.held out.old) (O.held out.new) (finding_text given.entry.witness found)) }
+    ensures unprinted { IfErr result (λ _. CutsVerdict given.entry.witness (ServesCheck (S.facts store.now) given.entry) (ServesScript (S.facts store.now) given.entry)
         (O.held out.old) (O.held out.new)) }
     ensures asked { IfOk result (λ _. asks_check given.entry ≡ true) }
     ensures first { IfErr result (OrUsage (asks_check given.entry) (RefusesCheck (OrScript (S.facts store.now).lacked)
@@ -75,9 +76,9 @@ fn report_check<S: FileStore, O: ByteOut>(
 {
     let request = request_of(given.job).ok_or(Refusal::Usage)?;
     let path = given.script.ok_or(Refusal::Usage)?;
-    let verdict = run_check(alloc, store, &request, path)?;
-    match write_verdict(&verdict, out) {
-        Ok(()) => Ok(verdict),
+    let found = run_check(alloc, store, &request, path)?;
+    match write_finding(&found, given.witness, out) {
+        Ok(()) => Ok(found),
         Err(_) => Err(Refusal::WRITE),
     }
 }
@@ -88,8 +89,8 @@ fn run_check<S: FileStore>(
     store: &S,
     request: &Request<'_>,
     path: &str,
-) -> Result<Verdict, Refusal>
-    ensures checked { IfOk result (IsCheckVerdict (IsJobOf (S.facts store.now) request.now None) (IsTextIn (S.facts store.now) path.now)) }
+) -> Result<Finding, Refusal>
+    ensures checked { IfOk result (IsCheckFinding (IsJobOf (S.facts store.now) request.now None) (IsTextIn (S.facts store.now) path.now)) }
     ensures refused { IfErr result (RefusesCheck (OrScript (S.facts store.now).lacked)
         (IsJobOf (S.facts store.now) request.now None) (IsTextIn (S.facts store.now) path.now)) }
 {
@@ -107,23 +108,23 @@ fn check_file<F: ByteIn + Drop, R: ByteIn>(
     script: ScriptFile<F>,
     content: &mut R,
     len: u64,
-) -> Result<Verdict, Refusal>
+) -> Result<Finding, Refusal>
     requires script { DoNotFail F.count script }
     requires count { R.count content.old < 2 ^ 64 - 1 }
-    ensures checked { IfOk result (IsCheckVerdict (Is (job_with inputs.now (R.ahead content.old) len None)) (IsTextOfFile F.ahead script)) }
+    ensures checked { IfOk result (IsCheckFinding (Is (job_with inputs.now (R.ahead content.old) len None)) (IsTextOfFile F.ahead script)) }
     ensures refused { IfErr result (RefusesCheck (λ told. told ≡ Script)
         (Is (job_with inputs.now (R.ahead content.old) len None)) (IsTextOfFile F.ahead script)) }
 {
     match script {
         ScriptFile::Twice(mut first, mut again) => {
             match check_streams(alloc, inputs, &mut first, &mut again, content, len) {
-                Ok(verdict) => Ok(verdict),
+                Ok(found) => Ok(found),
                 Err(stop) => Err(refused_reading(stop)),
             }
         }
         ScriptFile::Held(text) => {
             match check_script(alloc, inputs, text.as_slice(), content, len) {
-                Ok(verdict) => Ok(verdict),
+                Ok(found) => Ok(found),
                 Err(stop) => Err(refused(stop)),
             }
         }

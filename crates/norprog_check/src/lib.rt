@@ -2,13 +2,14 @@
 //!
 //! [`check`] does what the texts of a command line ask for; whoever reads one hands them over as [`CheckArgs`].
 //! [`check_script`] answers it from the bytes of inputs, script and content; [`check_streams`] of a script that two devices tell,
-//! which is never held; [`write_verdict`] writes the answer's line.
+//! which is never held; [`write_finding`] writes the lines of what they return.
 #![tactic(auto)]
 
 mod checker;
 mod command;
 mod content;
 mod fault;
+mod finding;
 mod line;
 mod readings;
 mod streams;
@@ -16,7 +17,8 @@ mod streams;
 pub use checker::check_script;
 pub use command::check;
 pub use fault::{CheckStop, StreamStop};
-pub use line::write_verdict;
+pub use finding::{Finding, ShowingChip};
+pub use line::{write_finding, write_verdict};
 pub use nor_base::{ByteIn, ByteOut, Failed, Wrong};
 pub use nor_check::{Verdict, Why};
 pub use nor_job::{BuildFault, Inputs};

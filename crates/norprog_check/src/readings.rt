@@ -1,20 +1,31 @@
 //! The reading of a script for its steps, with which a checker is fed as they come.
 
-ghost use Rattle.std.specs.Prelude.{◌≡◌, ◌<◌, ◌+◌, ◌-◌, ◌^◌, ◌∷◌, List, IfOk, IfErr};
+ghost use Rattle.std.specs.Prelude.{◌≡◌, ◌<◌, ◌+◌, ◌-◌, ◌^◌, ◌∷◌, ℕ, List, IfOk, IfErr};
 ghost use Rattle.nor_base.specs.declared.step.Step.{Step};
-ghost use Rattle.nor_check.specs.Fed.{to_come};
+ghost use Rattle.nor_check.specs.Fed.{IsShown, to_come};
+ghost use Rattle.nor_check.specs.declared.verdict.Why.{Why};
 ghost use Rattle.nor_script.specs.Stream.{CountsRead, HadText, StopsReader};
 ghost use Rattle.nor_script.specs.View.{step_of};
 ghost use Rattle.nor_script.specs.declared.fault.ReadFault.TheVariants.{Script};
 ghost use Rattle.nor_script.specs.declared.fault.ScriptFault.TheVariants.{Memory};
-ghost use Rattle.norprog_check.specs.Readings.{IsVerdictOf};
+ghost use Rattle.norprog_check.specs.Readings.{IsSaidOf};
 
 use nor_base::ByteIn;
-use nor_check::{CheckFault, StepChecker, Verdict};
+use nor_check::{CheckFault, StepChecker, Verdict, Witness};
 use nor_script::{ReadFault, ScriptFault, StepReader, StepView};
 use std::alloc::Global;
 
-/// The verdict of a checker that is fed with the steps of a script, each as it comes.
+/// What a checker says after its last step.
+#[derive(Clone, Copy)]
+pub(crate) struct Said {
+    pub(crate) verdict: Verdict,
+    /// How many steps there were.
+    pub(crate) steps: u64,
+    /// Of a no, a chip that shows it.
+    pub(crate) witness: Witness,
+}
+
+/// What a checker says that is fed with the steps of a script, each as it comes.
 ///
 /// A fault of the text, or of its device, is told as [`StepReader::advance`] tells it; `Memory` also where the checker is
 /// refused a growth.
@@ -22,10 +33,10 @@ pub(crate) fn feed_script<A: ByteIn>(
     alloc: Global,
     checker: StepChecker<'_>,
     script: &mut A,
-) -> Result<Verdict, ReadFault>
+) -> Result<Said, ReadFault>
     requires begins { checker.number ≡ 0 }
     requires count { A.count script.old < 2 ^ 64 - 1 }
-    ensures told { IfOk result (λ verdict. HadText (A.ahead script.old) (A.ahead script.new) (IsVerdictOf checker.entry verdict)) }
+    ensures told { IfOk result (λ said. HadText (A.ahead script.old) (A.ahead script.new) (IsSaidOf checker.entry said)) }
     ensures stopped { IfErr result (StopsReader (A.ahead script.old) (A.ahead script.new)) }
     ensures count { CountsRead (A.count script.old) (A.count script.new) result }
 {
@@ -34,13 +45,19 @@ pub(crate) fn feed_script<A: ByteIn>(
     while reader.advance(script)? {
         feed(alloc, &mut checker, reader.view())?;
     }
-    Ok(checker.verdict())
+    Ok(Said {
+        verdict: checker.verdict(),
+        steps: checker.number(),
+        witness: checker.witness(),
+    })
 }
 
 /// Gives a checker the next step; `Memory` where a growth is refused.
 fn feed(alloc: Global, checker: &mut StepChecker<'_>, step: StepView<'_>) -> Result<(), ReadFault>
     requires { checker.old.number < 2 ^ 64 - 1 }
     ensures fed { IfOk result (λ _. (more : List Step) → to_come checker.new more ≡ to_come checker.old (step_of step.entry ∷ more)) }
+    ensures shown { IfOk result (λ _. (more : List Step) (at : ℕ) (why : Why) (page reads : ℕ) → IsShown checker.new more at why page reads
+        → IsShown checker.old (step_of step.entry ∷ more) at why page reads) }
     ensures number { IfOk result (λ _. checker.new.number ≡ checker.old.number + 1) }
     ensures refused { IfErr result (λ fault. fault ≡ Script Memory) }
 {

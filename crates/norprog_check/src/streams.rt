@@ -8,14 +8,15 @@ ghost use Rattle.nor_job.specs.Causes.{AreAccepted};
 ghost use Rattle.nor_job.specs.Wanted.{ReadsWithin};
 ghost use Rattle.nor_layout.specs.Region.{Region};
 ghost use Rattle.nor_script.specs.Stream.{HadText, IsSpelled};
-ghost use Rattle.norprog_check.specs.Readings.{IsVerdictOf, first_stop as told_first, again_stop as told_again};
+ghost use Rattle.norprog_check.specs.Readings.{IsSaidOf, first_stop as told_first, again_stop as told_again};
 ghost use Rattle.norprog_check.specs.Streams.{ChecksText, ReadingCause, FeedingCause, RefusesTask, StopsReading, StopsAtContent, StopsFeeding, IsLateStop, IsOfDevices, CountsStop, of_first, of_again, of_content};
 
 use crate::content::read_content;
 use crate::fault::{CheckStop, StreamStop};
-use crate::readings::feed_script;
+use crate::finding::{Finding, finding_of};
+use crate::readings::{Said, feed_script};
 use nor_base::ByteIn;
-use nor_check::{StepChecker, Verdict};
+use nor_check::StepChecker;
 use nor_job::{Inputs, job_of};
 use nor_script::{ReadFault, count_steps, faultless_scripts};
 use std::alloc::Global;
@@ -24,7 +25,7 @@ use std::alloc::Global;
 /// the reader gives: [`crate::check_script`] of a script that is read twice and never held. `first` and `again` tell it, the
 /// one for its faults, before any content is read, the other for its steps.
 ///
-/// The verdict is on the text that `again` had. Memory is taken for the inputs as [`nor_job::job_of`] takes it, for one reader
+/// The finding is of the text that `again` had. Memory is taken for the inputs as [`nor_job::job_of`] takes it, for one reader
 /// of steps at a time ([`nor_script::StepReader`]: 256 KiB, more for a longer line), and for twice the chip's size; where a
 /// script tells chips of different pages apart, more ([`StepChecker`]).
 ///
@@ -41,7 +42,7 @@ pub fn check_streams<F: ByteIn, A: ByteIn, R: ByteIn>(
     again: &mut A,
     content: &mut R,
     len: u64,
-) -> Result<Verdict, StreamStop>
+) -> Result<Finding, StreamStop>
     requires first { F.count first.old < 2 ^ 64 - 1 }
     requires again { A.count again.old < 2 ^ 64 - 1 }
     requires content { R.count content.old < 2 ^ 64 - 1 }
@@ -69,8 +70,8 @@ pub fn check_streams<F: ByteIn, A: ByteIn, R: ByteIn>(
     read_first(alloc, first)?;
     let (have, want) = read_content(alloc, &job, content)?;
     let checker = StepChecker::new(alloc, &job.meaning, job.start, have, want.as_slice());
-    let verdict = read_again(alloc, checker, again)?;
-    Ok(verdict)
+    let said = read_again(alloc, checker, again)?;
+    Ok(finding_of(&said, &job.meaning))
 }
 
 /// Reads a script for its faults.
@@ -88,22 +89,22 @@ fn read_first<F: ByteIn>(alloc: Global, first: &mut F) -> Result<(), StreamStop>
     }
 }
 
-/// Reads a script for its steps, with which it feeds a checker, and answers that one's verdict.
+/// Reads a script for its steps, with which it feeds a checker, and returns what that one says.
 ///
 /// `Script` with the first fault of its text; `Again` where its device fails; `Build` of `Memory` where a growth is refused.
 fn read_again<A: ByteIn>(
     alloc: Global,
     checker: StepChecker<'_>,
     again: &mut A,
-) -> Result<Verdict, StreamStop>
+) -> Result<Said, StreamStop>
     requires begins { checker.number ≡ 0 }
     requires count { A.count again.old < 2 ^ 64 - 1 }
-    ensures told { IfOk result (λ verdict. HadText (A.ahead again.old) (A.ahead again.new) (IsVerdictOf checker.entry verdict)) }
+    ensures told { IfOk result (λ said. HadText (A.ahead again.old) (A.ahead again.new) (IsSaidOf checker.entry said)) }
     ensures stopped { IfErr result (FeedingCause (A.ahead again.old) (A.ahead again.new)) }
     ensures count { CountsStop of_again (A.count again.old) (A.count again.new) result }
 {
     match feed_script(alloc, checker, again) {
-        Ok(verdict) => Ok(verdict),
+        Ok(said) => Ok(said),
         Err(fault) => Err(again_stop(fault)),
     }
 }

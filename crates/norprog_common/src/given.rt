@@ -36,11 +36,12 @@ pub struct PlanArgs<'a> {
     pub map: Option<&'a str>,
 }
 
-/// Of `check`: the job, and the name of the script's file.
+/// Of `check`: the job, the name of the script's file, and whether a chip is told that shows a no.
 #[derive(Drop)]
 pub struct CheckArgs<'a> {
     pub job: Given<'a>,
     pub script: Option<&'a str>,
+    pub witness: bool,
 }
 
 /// Of `sfdp`.
@@ -93,6 +94,7 @@ pub struct RunArgs<'a> {
     pub content: Option<&'a str>,
     pub script: Option<&'a str>,
     pub busy: Option<&'a str>,
+    pub each_busy: Option<&'a str>,
     pub keep: bool,
     pub limit: Option<&'a str>,
     pub page: Option<&'a str>,

@@ -115,7 +115,7 @@ given_same (Endless byte_at) Unknown rest xs ys tells p q sizes = absurd p
 given_same (Endless byte_at) (Finite a) rest xs ys tells p q sizes = absurd p
 
 pub built_is_checked : OneList → BuiltIsChecked
-built_is_checked one t len before after rest x y v wrote tells checked =
+built_is_checked one t len before after rest x y found wrote tells checked =
     let start = start_of t in
     let named = checked.accepted.named in
     let own = wrote.accepted.named in
@@ -126,7 +126,7 @@ built_is_checked one t len before after rest x y v wrote tells checked =
     wanted_same t checked.image wrote.image checked.regions wrote.regions wrote.content
     (image_same t.hex checked.image wrote.image named.imaged.spelled own.imaged.spelled)
     (regions_same t.layout checked.regions wrote.regions named.layout own.layout) in
-    built_is_right one t len before after x y wrote checked.steps v checked.script
-    (subst (λ (wish : List ℕ). IsWorst wrote.m start wrote.content wish checked.steps v) goal
-    (subst (λ (holds : List ℕ). IsWorst wrote.m start holds (wanted t checked.image checked.regions holds) checked.steps v) content
-    (subst (λ (n : Parameters). IsWorst n start checked.content (wanted t checked.image checked.regions checked.content) checked.steps v) m checked.worst)))
+    built_is_right one t len before after x y wrote checked.steps found.verdict checked.script
+    (subst (λ (wish : List ℕ). IsWorst wrote.m start wrote.content wish checked.steps found.verdict) goal
+    (subst (λ (holds : List ℕ). IsWorst wrote.m start holds (wanted t checked.image checked.regions holds) checked.steps found.verdict) content
+    (subst (λ (n : Parameters). IsWorst n start checked.content (wanted t checked.image checked.regions checked.content) checked.steps found.verdict) m checked.worst)))

@@ -8,6 +8,7 @@ use Rattle.norprog_common.specs.declared.given.BuildArgs.{BuildArgs}
 use Rattle.norprog_common.specs.declared.given.CheckArgs.{CheckArgs}
 use Rattle.norprog_common.specs.declared.given.ChipArgs.{ChipArgs}
 use Rattle.norprog_common.specs.declared.given.DrawArgs.{DrawArgs}
+use Rattle.norprog_common.specs.declared.given.FlashArgs.{FlashArgs}
 use Rattle.norprog_common.specs.declared.given.HexArgs.{HexArgs}
 use Rattle.norprog_common.specs.declared.given.ListArgs.{ListArgs}
 use Rattle.norprog_common.specs.declared.given.PlanArgs.{PlanArgs}
@@ -66,6 +67,7 @@ pub record IsRunIn (found : Found) (given : RunArgs) : Type 0 where
   pub content : Has found (codes "content") (option_map (λ t. t.now) given.content)
   pub script : Has found (codes "script") (option_map (λ t. t.now) given.script)
   pub busy : Has found (codes "busy") (option_map (λ t. t.now) given.busy)
+  pub each_busy : Has found (codes "each-busy") (option_map (λ t. t.now) given.each_busy)
   pub limit : Has found (codes "limit") (option_map (λ t. t.now) given.limit)
   pub page : Has found (codes "page") (option_map (λ t. t.now) given.page)
   pub out : Has found (codes "out") (option_map (λ t. t.now) given.out)
@@ -102,6 +104,20 @@ pub record IsReadIn (found : Found) (given : ReadArgs) : Type 0 where
   pub tables : Has found (codes "tables") (option_map (λ t. t.now) given.tables)
   pub out : Has found (codes "out") (option_map (λ t. t.now) given.out)
 
+pub record IsFlashIn (found : Found) (given : FlashArgs) : Type 0 where
+  pub chip : IsChipIn found given.chip
+  pub mode4 : Sets found (codes "mode4") given.mode4
+  pub device : Has found (codes "device") (option_map (λ t. t.now) given.device)
+  pub limit : Has found (codes "limit") (option_map (λ t. t.now) given.limit)
+  pub hex : Has found (codes "hex") (option_map (λ t. t.now) given.hex)
+  pub layout : Has found (codes "layout") (option_map (λ t. t.now) given.layout)
+  pub base : Has found (codes "base") (option_map (λ t. t.now) given.base)
+  pub before : Has found (codes "before") (option_map (λ t. t.now) given.before)
+  pub resume : Has found (codes "resume") (option_map (λ t. t.now) given.resume)
+  pub erased_only : Sets found (codes "erased-only") given.erased_only
+  pub dry_run : Sets found (codes "dry-run") given.dry_run
+  pub regions : given.regions.items ≡ texts_of found (codes "regions")
+
 pub record IsBuildIn (found : Found) (given : BuildArgs) : Type 0 where
   pub job : IsJobIn found given.job
   pub out : Has found (codes "out") (option_map (λ t. t.now) given.out)
@@ -114,6 +130,7 @@ pub record IsPlanIn (found : Found) (given : PlanArgs) : Type 0 where
 pub record IsCheckIn (found : Found) (given : CheckArgs) : Type 0 where
   pub job : IsJobIn found given.job
   pub script : Has found (codes "script") (option_map (λ t. t.now) given.script)
+  pub witness : Sets found (codes "witness") given.witness
 
 -- the command of that name was used, and this holds of its options
 pub record IsUsed (matches : ArgMatches) (name : List ℕ) (In : Found → Type 0) : Type 0 where
@@ -132,6 +149,7 @@ IsAsked matches (command.List given) = IsUsed matches (codes "list") (λ found. 
 IsAsked matches (command.Draw given) = IsUsed matches (codes "draw") (λ found. IsDrawIn found given)
 IsAsked matches (command.Play given) = IsUsed matches (codes "play") (λ found. IsPlayIn found given)
 IsAsked matches (command.Read given) = IsUsed matches (codes "read") (λ found. IsReadIn found given)
+IsAsked matches (command.Flash given) = IsUsed matches (codes "flash") (λ found. IsFlashIn found given)
 IsAsked matches (command.Sfdp given) = IsUsed matches (codes "sfdp") (λ found. IsChipIn found given)
 IsAsked matches (command.Hex given) = IsUsed matches (codes "hex") (λ found. IsHexIn found given)
 IsAsked matches (command.Explain words) = IsUsed matches (codes "explain") (λ found. words.items ≡ texts_of found (codes "words"))

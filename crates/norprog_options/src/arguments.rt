@@ -156,6 +156,13 @@ const BUSY: Choice = Choice {
     help: "For how many status reads each program or erase is busy, in turn: decimal numbers joined by commas [default: none]",
 };
 
+const EACH_BUSY: Choice = Choice {
+    name: "each-busy",
+    takes: Takes::Value("N"),
+    required: false,
+    help: "For how many status reads each program and each erase is busy, a decimal number; not with --busy [default: none]",
+};
+
 const KEEP: Choice = Choice {
     name: "keep",
     takes: Takes::Nothing,
@@ -167,7 +174,7 @@ const LIMIT: Choice = Choice {
     name: "limit",
     takes: Takes::Value("N"),
     required: false,
-    help: "The most status reads of one poll, and of play before the first step: a decimal number from 1 [default: 1000000]",
+    help: "The most status reads of one poll, and of play and flash before the first step: a decimal number from 1 [default: 1000000]",
 };
 
 const PAGE: Choice = Choice {
@@ -247,6 +254,13 @@ const HEX_OUT: Choice = Choice {
     help: "Intel HEX; what the file held is replaced. It can't be the raw image",
 };
 
+const WITNESS: Choice = Choice {
+    name: "witness",
+    takes: Takes::Nothing,
+    required: false,
+    help: "After a no print a second line: the options of run for a chip that goes wrong so [default: no]",
+};
+
 const TIMES: Choice = Choice {
     name: "times",
     takes: Takes::Nothing,
@@ -282,6 +296,27 @@ const DEVICE: Choice = Choice {
     help: "The device that speaks serprog, a tty; first set it by: stty -F DEVICE 115200 raw -echo min 0 time 20",
 };
 
+const BEFORE: Choice = Choice {
+    name: "before",
+    takes: Takes::File,
+    required: true,
+    help: "What the chip holds before it is programmed, in a new file",
+};
+
+const RESUME: Choice = Choice {
+    name: "resume",
+    takes: Takes::File,
+    required: false,
+    help: "To go on after a stop: the --before file of the first try. What the image doesn't give comes from it [default: none]",
+};
+
+const DRY_RUN: Choice = Choice {
+    name: "dry-run",
+    takes: Takes::Nothing,
+    required: false,
+    help: "Stop after the plan: the chip isn't changed [default: no]",
+};
+
 const TRUST: Choice = Choice {
     name: "trust",
     takes: Takes::Nothing,
@@ -304,14 +339,14 @@ const CONTENT: &[Choice] = &[CONTENT_FILE];
 
 const START: &[Choice] = &[STATUS, MODE4, QUAD, ERASED_ONLY];
 
-const BENCH: &[Choice] = &[BUSY, KEEP, LIMIT, PAGE];
+const BENCH: &[Choice] = &[BUSY, EACH_BUSY, KEEP, LIMIT, PAGE];
 
 const VERIFY: &[Choice] = &[READ_BACK];
 
 const SCRIPT: &[Choice] = &[SCRIPT_FILE];
 
 /// The commands, in the order of the help.
-static FORMS: [Form; 11] = [
+static FORMS: [Form; 12] = [
     Form {
         name: "build",
         about: "Writes the script that programs the chip, and prints a report of it",
@@ -349,7 +384,7 @@ static FORMS: [Form; 11] = [
             Group::Start,
             Group::Script,
         ],
-        choices: &[],
+        choices: &[WITNESS],
     },
     Form {
         name: "run",
@@ -391,6 +426,13 @@ static FORMS: [Form; 11] = [
         example: "Example: norprog read --device /dev/ttyACM0 --tables now.sfdp --out now.bin",
         groups: &[Group::Chip],
         choices: &[MODE4, DEVICE, LIMIT, TABLES_OUT, READ_OUT],
+    },
+    Form {
+        name: "flash",
+        about: "Programs the chip behind a serprog device: reads it twice, keeps what it holds, prints the plan, programs it and reads it back",
+        example: "Example: norprog flash --device /dev/ttyACM0 --hex app.hex --base 8000000 --before before.bin",
+        groups: &[Group::Image, Group::Chip],
+        choices: &[MODE4, ERASED_ONLY, DEVICE, LIMIT, BEFORE, RESUME, DRY_RUN],
     },
     Form {
         name: "sfdp",

@@ -2,15 +2,15 @@
 
 ghost use Rattle.std.specs.Prelude.{◌≡◌, map, IfOk};
 ghost use Rattle.clap.specs.Words.{found_of};
-ghost use Rattle.norprog_options.specs.Options.{texts_of, IsBuildIn, IsCheckIn, IsJobIn, IsChipIn, IsDrawIn, IsHexIn, IsListIn, IsPlanIn, IsPlayIn, IsReadIn, IsRunIn, IsSetupIn, IsAsked, IsAskedBySome};
+ghost use Rattle.norprog_options.specs.Options.{texts_of, IsBuildIn, IsCheckIn, IsJobIn, IsChipIn, IsDrawIn, IsFlashIn, IsHexIn, IsListIn, IsPlanIn, IsPlayIn, IsReadIn, IsRunIn, IsSetupIn, IsAsked, IsAskedBySome};
 
 use crate::arguments::norprog;
 use clap::error::ErrorKind;
 use clap::{ArgMatches, Error};
 use nor_base::Bytes;
 use norprog_common::{
-    BuildArgs, CheckArgs, ChipArgs, DrawArgs, Given, HexArgs, ListArgs, PlanArgs, PlayArgs,
-    ReadArgs, Refusal, RunArgs, SetupArgs,
+    BuildArgs, CheckArgs, ChipArgs, DrawArgs, FlashArgs, Given, HexArgs, ListArgs, PlanArgs,
+    PlayArgs, ReadArgs, Refusal, RunArgs, SetupArgs,
 };
 use std::alloc::Global;
 
@@ -25,6 +25,7 @@ pub enum Asked<'a> {
     Draw(DrawArgs<'a>),
     Play(PlayArgs<'a>),
     Read(ReadArgs<'a>),
+    Flash(FlashArgs<'a>),
     Sfdp(ChipArgs<'a>),
     Hex(HexArgs<'a>),
     /// The words that are asked about.
@@ -94,6 +95,9 @@ fn meaning_asked<'a>(alloc: Global, matches: &ArgMatches<'a>) -> Result<Asked<'a
     if let Some(hex) = matches.subcommand_matches("hex") {
         return Ok(Asked::Hex(hex_in(hex)));
     }
+    if let Some(flash) = matches.subcommand_matches("flash") {
+        return Ok(Asked::Flash(flash_in(alloc, flash)?));
+    }
     match matches.subcommand_matches("explain") {
         Some(explain) => Ok(Asked::Explain(texts_in(alloc, explain, "words")?)),
         None => Err(Refusal::Usage),
@@ -150,6 +154,7 @@ fn check_in<'a>(alloc: Global, check: &ArgMatches<'a>) -> Result<CheckArgs<'a>, 
     Ok(CheckArgs {
         job: given_in(alloc, check)?,
         script: check.get_str("script"),
+        witness: check.get_flag("witness"),
     })
 }
 
@@ -198,6 +203,7 @@ fn run_in<'a>(run: &ArgMatches<'a>) -> RunArgs<'a>
         content: run.get_str("content"),
         script: run.get_str("script"),
         busy: run.get_str("busy"),
+        each_busy: run.get_str("each-busy"),
         keep: run.get_flag("keep"),
         limit: run.get_str("limit"),
         page: run.get_str("page"),
@@ -250,6 +256,26 @@ fn read_in<'a>(read: &ArgMatches<'a>) -> ReadArgs<'a>
         tables: read.get_str("tables"),
         out: read.get_str("out"),
     }
+}
+
+/// The programming of a chip.
+fn flash_in<'a>(alloc: Global, flash: &ArgMatches<'a>) -> Result<FlashArgs<'a>, Refusal>
+    ensures { IfOk result (IsFlashIn (found_of flash.now)) }
+{
+    Ok(FlashArgs {
+        chip: chip_in(flash),
+        mode4: flash.get_flag("mode4"),
+        device: flash.get_str("device"),
+        limit: flash.get_str("limit"),
+        hex: flash.get_str("hex"),
+        layout: flash.get_str("layout"),
+        base: flash.get_str("base"),
+        before: flash.get_str("before"),
+        resume: flash.get_str("resume"),
+        erased_only: flash.get_flag("erased-only"),
+        dry_run: flash.get_flag("dry-run"),
+        regions: texts_in(alloc, flash, "regions")?,
+    })
 }
 
 /// The play on a device.

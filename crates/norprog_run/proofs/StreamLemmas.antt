@@ -7,8 +7,11 @@ use Rattle.nor_base.specs.Device.{Ahead, Finite, Gives}
 use Rattle.nor_job.specs.declared.fault.BuildFault.TheVariants as fault
 use Rattle.nor_job.specs.Status.{start_of}
 use Rattle.nor_job.specs.Task.{Task}
+use Rattle.nor_script.specs.declared.fault.ReadFault.{ReadFault}
+use Rattle.nor_script.specs.declared.fault.ReadFault.TheVariants as read
+use Rattle.nor_script.specs.declared.fault.ScriptFault.TheVariants as script
 use Rattle.nor_script.specs.Laws.{ScriptsAreFaultless}
-use Rattle.nor_script.specs.Stream.{HadText, IsSpelled}
+use Rattle.nor_script.specs.Stream.{HadText, IsSpelled, StopsReader}
 use Rattle.norprog_common.specs.declared.faults.FileName.TheVariants as file
 use Rattle.norprog_common.specs.declared.faults.Refusal.{Refusal}
 use Rattle.norprog_common.specs.declared.faults.Refusal.TheVariants.{File, Build, Script}
@@ -19,7 +22,7 @@ use Rattle.norprog_run.specs.Kind.{kind_setting}
 use Rattle.norprog_run.specs.Play.{page_of, IsSized, setting_of}
 use Rattle.norprog_common.specs.Content.{StopsReading}
 use Rattle.norprog_run.specs.Refusals.{RefusesPaged, RefusesPlay, IsEarly}
-use Rattle.norprog_run.specs.Streams.{PlaysText, RefusesScript, StopsText, PlaysStreams, RefusesStreams, IsOfChip, CountsScript}
+use Rattle.norprog_run.specs.Streams.{PlaysText, RefusesScript, StopsText, PlaysStreams, RefusesStreams, IsOfChip, CountsScript, refusal_of}
 
 -- a text that has this has that
 pub text_wider : (before after : Ahead) (P Q : List ℕ → Type 0) → ((text : List ℕ) → P text → Q text) → HadText before after P → HadText before after Q
@@ -166,3 +169,15 @@ content_not_chip A len before after (Build fault.ContentShort) p is = absurd is
 content_not_chip A len before after (Build fault.Read) p is = absurd is
 content_not_chip A len before after (Build fault.Memory) p is = absurd is
 content_not_chip A len before after other p is = absurd p
+
+-- the fault of a reading is told of the text
+pub fault_told : (before after : Ahead) (s : Setting) (c : Chip) (limit : ℕ) (held held' : Option (List ℕ)) (fault : ReadFault) → StopsReader before after fault
+    → StopsText before after s c limit held held' (refusal_of fault)
+fault_told before after s c limit held held' (read.Script script.Memory) p = tt
+fault_told before after s c limit held held' (read.Script (script.Header line)) p = p
+fault_told before after s c limit held held' (read.Script (script.BadLine line)) p = p
+fault_told before after s c limit held held' (read.Script (script.BadSymbol line)) p = p
+fault_told before after s c limit held held' (read.Script (script.BadCount line)) p = p
+fault_told before after s c limit held held' (read.Script (script.NoEnd line)) p = p
+fault_told before after s c limit held held' (read.Script (script.AfterEnd line)) p = p
+fault_told before after s c limit held held' (read.Device failed) p = tt

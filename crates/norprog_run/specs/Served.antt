@@ -1,6 +1,7 @@
 -- The play that a command line of `run` asks for (this project's). `files` is what is known of files by their names.
 use Rattle.std.specs.Prelude.{◌≡◌, ℕ, List, ◌++◌, Option, Some, option_map, option_to_list}
 use Rattle.nor_base.specs.Device.{Ahead}
+use Rattle.nor_chip.specs.Busy.{times_of}
 use Rattle.nor_job.specs.Task.{Task}
 use Rattle.norprog_common.specs.declared.files.FileId.{FileId}
 use Rattle.norprog_common.specs.Chip.{Origin, origin_of}
@@ -61,7 +62,7 @@ pub record Serves (files : FileFacts) (given : RunArgs) (t : PlayTask) : Type 0 
   pub content : Named (λ name. files.opened name t.content t.len) (option_map (λ t. t.now) given.content)
   pub made : WhereNamed (IsMadeApart files (input_files_asked given (origin_of chip.setup.chip))) (option_map (λ t. t.now) given.out) t.begun
   pub page : said_number (option_map (λ t. t.now) given.page) ≡ Some t.bench.page
-  pub busy : asked_busy given ≡ Some t.bench.busy.items
+  pub busy : asked_busy given ≡ Some (times_of t.bench.busy)
   pub keep : t.bench.keep ≡ given.keep
   pub limit : limit_of (asked_limit given) ≡ Some t.bench.limit
 

@@ -4,7 +4,7 @@ use crate::bench::Bench;
 use crate::samples::meaning_of;
 use crate::words::bytes_of;
 use nor_base::{Meaning, Start, Width};
-use nor_chip::Chip;
+use nor_chip::{BusyTimes, Chip};
 use std::alloc::{AllocError, Global};
 use std::io;
 use test_samples::words::{ODD, hexadecimal, number};
@@ -92,7 +92,8 @@ impl<'a, 'w> Setup<'a, 'w> {
         if !whole || start.mode4 && meaning.width == Width::Three || !meaning.may_page(page) {
             return Err(ODD.into());
         }
-        Ok(Chip::with_page(meaning, start, self.have, self.busy, self.keeps, page))
+        let busy = BusyTimes::Listed(self.busy);
+        Ok(Chip::with_page(meaning, start, self.have, busy, self.keeps, page))
     }
 }
 

@@ -196,6 +196,9 @@ pub(crate) fn run_check<'d>(
     len: u64,
 ) -> Done<'d, Result<Verdict, CheckStop>> {
     let mut reader = FromRead::new(reader);
-    let answer = check_script(alloc, inputs, script.as_bytes(), &mut reader, len);
+    let answer = match check_script(alloc, inputs, script.as_bytes(), &mut reader, len) {
+        Ok(found) => Ok(found.verdict),
+        Err(stop) => Err(stop),
+    };
     with_devices(answer, reader, IntoWrite::new(writer(alloc, 0)))
 }

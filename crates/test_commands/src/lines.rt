@@ -7,7 +7,7 @@ use crate::same::{holds, same};
 use nor_base::{ByteOut, IntoWrite, Strategy};
 use nor_geometry::PlanFault;
 use norprog::{BuildFault, HexFault, LayoutFault, Report, write_report};
-use norprog_check::{Verdict, Why, Wrong};
+use norprog_check::{Finding, ShowingChip, Verdict, Why, Wrong};
 use norprog_common::{Refusal, refuse};
 use std::alloc::Global;
 use std::process::Abort;
@@ -30,6 +30,24 @@ static DIFFERS: [(u64, u32, &str); 3] = [
     (3, 0x0ABC_DEF1, "no at 3 differs 0abcdef1\n"),
     (10, 4096, "no at 10 differs 00001000\n"),
     (7, u32::MAX, "no at 7 differs ffffffff\n"),
+];
+
+/// Chips that show a no at 3, and what is printed behind the line of the verdict.
+static SHOWN: [(u32, bool, Option<u32>, &str); 4] = [
+    (1, false, None, "shown by norprog run --each-busy 1\n"),
+    (999_999, true, None, "shown by norprog run --each-busy 999999 --keep\n"),
+    (
+        1_000_000,
+        false,
+        Some(16),
+        "shown by norprog run --each-busy 1000000 --page 16 --limit 1000001\n",
+    ),
+    (
+        u32::MAX,
+        true,
+        Some(4096),
+        "shown by norprog run --each-busy 4294967295 --keep --page 4096 --limit 4294967296\n",
+    ),
 ];
 
 /// Faults, and what is printed of them.
@@ -86,6 +104,29 @@ fn each_verdict_has_its_line(rt: HostRuntime) -> Result<(), Fail> {
     }
     for (why, number) in &WRONGS {
         has_lines(&rt, rt.alloc(), *why, *number)?;
+    }
+    Ok(())
+}
+
+#[test]
+fn each_chip_has_its_line(rt: HostRuntime) -> Result<(), Fail> {
+    for (each_busy, keep, page, want) in &SHOWN {
+        let chip = ShowingChip {
+            each_busy: *each_busy,
+            keep: *keep,
+            page: *page,
+        };
+        let found = Finding {
+            verdict: no(3, Why::Differs(16)),
+            chip: Some(chip),
+        };
+        let mut lines = IntoWrite::new(Vec::new(rt.alloc()));
+        norprog_check::write_finding(&found, true, &mut lines)?;
+        let text = format!(in rt.alloc(); "no at 3 differs 00000010\n{want}")?;
+        holds(&rt, want, lines.inner.as_slice() == text.as_bytes());
+        let mut line = IntoWrite::new(Vec::new(rt.alloc()));
+        norprog_check::write_finding(&found, false, &mut line)?;
+        holds(&rt, want, line.inner.as_slice() == b"no at 3 differs 00000010\n".as_slice());
     }
     Ok(())
 }

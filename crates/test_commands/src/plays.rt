@@ -5,7 +5,7 @@ use crate::same::{holds, same};
 use nor_base::{ByteIn, ByteOut, FromRead, IntoWrite};
 use norprog::BuildFault;
 use norprog_common::Refusal;
-use norprog_run::{ChipBehaviour, Verdict, play_script};
+use norprog_run::{BusyTimes, ChipBehaviour, Verdict, play_script};
 use std::alloc::{AllocError, Global};
 use std::process::Abort;
 use std::test::Fail;
@@ -24,7 +24,7 @@ fn play(
 ) -> Result<Played<'static>, AllocError> {
     let bench = ChipBehaviour {
         page: None,
-        busy: Vec::from_slice(alloc, &[1])?,
+        busy: BusyTimes::Listed(Vec::from_slice(alloc, &[1])?),
         keep: false,
         limit: 10,
     };

@@ -177,6 +177,7 @@ fn one_play<'a>() -> RunArgs<'a> {
         content: Some("content"),
         script: Some("script"),
         busy: None,
+        each_busy: None,
         keep: false,
         limit: None,
         page: None,
@@ -218,6 +219,7 @@ fn checks(rt: &impl Abort, alloc: Global, store: &Memory<'_>) {
     let given = CheckArgs {
         job: one_byte(alloc),
         script: Some("script"),
+        witness: false,
     };
     let mut out = IntoWrite::new(Vec::new(alloc));
     let mut err = IntoWrite::new(Vec::new(alloc));

@@ -72,10 +72,21 @@ pub(crate) const TOPICS: &[Topic] = &[
          None is written over. Name another file, or move that one away.",
     ),
     (
+        "file before",
+        "A file of the name that --before says is there, or can't be made or written.\n\
+         None is written over, since it may be the only copy of what a chip held. The\n\
+         chip isn't changed. Name another file.",
+    ),
+    (
+        "file resume",
+        "norprog can't use the file of --resume: it isn't there, you may not read it, or\n\
+         reading it failed. It must be what --before kept at the first try.",
+    ),
+    (
         "file",
         "norprog can't use a file of the command line; the word after `file` says which\n\
-         one: hex, layout, sfdp, content, script, out, map, device, bin or tables. Ask\n\
-         for the two words.",
+         one: hex, layout, sfdp, content, script, out, map, device, bin, tables, before\n\
+         or resume. Ask for the two words.",
     ),
     (
         "contradiction 1",

@@ -23,6 +23,13 @@ pub(crate) const TOPICS: &[Topic] = &[
          the chip in memory, and play sent no step.",
     ),
     (
+        "shown by",
+        "After a no of check: on the chip of these options a run of the script goes\n\
+         wrong at that step, for that cause. Give run the script, the content and the\n\
+         chip's options of the check too. After a no that says `differs` run says ok;\n\
+         in the file of --out the byte at the address isn't its target.",
+    ),
+    (
         "ok",
         "The script ran to its end, and nothing went wrong. The number counts the\n\
          transactions, each turn of a poll too. The file of --out has what the chip\n\

@@ -5,18 +5,24 @@ use Rattle.nor_base.specs.declared.step.Step.TheVariants.{Poll}
 use Rattle.nor_base.specs.Run.{poll_clocks}
 use Rattle.nor_play.specs.Halt.{halt_of}
 use Rattle.nor_play.specs.Turns.{PlaysStep}
-use Rattle.nor_play.proofs.PollLemmas.{IsPolling, begins, goes_on, ends, halts, never, idle_says, busy_says}
+use Rattle.nor_play.proofs.PollLemmas.{IsPolling, waits, goes_on, ends, halts, never, idle_says, busy_says}
 use Rattle.nor_base.proofs.FaultLaws.{answered}
 use Rattle.nor_play.proofs.StepLemmas.{poll_unknown}
 use Rattle.nor_play.specs.Asks.{AsksStep}
-use Rattle.nor_play.proofs.AskLemmas.{IsAsking, begins_asking, asks_on, asks_enough, asks_halts, asks_all, poll_none, as_many, never_asked}
+use Rattle.nor_play.proofs.AskLemmas.{IsAsking, waits_asking, asks_on, asks_enough, asks_halts, asks_all, poll_none, as_many, never_asked}
 use Rattle.nor_play.proofs.step.poll.Goals as goal
 
 pub returns-then-ne-clause-played : goal.returns-then-ne-clause-played
 returns-then-ne-clause-played g c = poll_unknown _ c.args.limit c.args.clocks.now (search rules)
 
 pub loop-turn-init : goal.loop-turn-init
-loop-turn-init g c = record { polling = begins (g.P.Port.shown c.args.port.now) c.args.limit; asking = begins_asking (g.P.Port.shown c.args.port.now) (g.P.Port.asked c.args.port.now) c.args.limit; count = refl; room = refl }
+loop-turn-init g c = record {
+  polling = waits (g.P.Port.shown c.args.port.now) (g.P.Port.shown c.wait_busy-waited.new.self) c.args.limit c.wait_busy-waited.result c.wait_busy-waited.ensures.waited;
+  asking = waits_asking (g.P.Port.shown c.args.port.now) (g.P.Port.shown c.wait_busy-waited.new.self) (g.P.Port.asked c.args.port.now)
+      (g.P.Port.asked c.wait_busy-waited.new.self) c.args.limit c.wait_busy-waited.result c.wait_busy-waited.ensures.waited c.wait_busy-waited.ensures.asked;
+  count = c.wait_busy-waited.ensures.count;
+  room = refl;
+}
 
 pub returns-in_err-transact-clause-played : goal.returns-in_err-transact-clause-played
 returns-in_err-transact-clause-played g c =
@@ -48,7 +54,7 @@ loop-turn-preserved g c =
 pub returns-clause-played : goal.returns-clause-played
 returns-clause-played g c =
     let is : bytes_eq c.args.clocks.now poll_clocks ≡ true = search rules in
-    let all : c.loop-turn.turn ≡ c.args.limit = omega (arith, c.loop-turn-test.false) in
+    let all : c.loop-turn.turn ≡ c.args.limit = omega (arith, c.loop-turn-test.false, c.loop-turn.auto.turn-end c.wait_busy-waited.ensures.waited.few) in
     never _ _ c.args.limit c.args.clocks.now (subst (IsPolling (g.P.Port.shown c.args.port.now) (g.P.Port.shown c.loop-turn.port) c.args.limit) all c.loop-turn.invariant.polling) is
 
 pub returns-then-ne-clause-asked : goal.returns-then-ne-clause-asked
@@ -74,7 +80,7 @@ returns-then-out-eq0-clause-asked g c =
 pub returns-clause-asked : goal.returns-clause-asked
 returns-clause-asked g c =
     let is : bytes_eq c.args.clocks.now poll_clocks ≡ true = search rules in
-    let all : c.loop-turn.turn ≡ c.args.limit = omega (arith, c.loop-turn-test.false) in
+    let all : c.loop-turn.turn ≡ c.args.limit = omega (arith, c.loop-turn-test.false, c.loop-turn.auto.turn-end c.wait_busy-waited.ensures.waited.few) in
     asks_all (g.P.Port.shown c.args.port.now) (g.P.Port.shown c.loop-turn.port) (g.P.Port.asked c.args.port.now) (g.P.Port.asked c.loop-turn.port) c.args.limit c.args.clocks.now
     (subst (IsAsking (g.P.Port.shown c.args.port.now) (g.P.Port.shown c.loop-turn.port) (g.P.Port.asked c.args.port.now) (g.P.Port.asked c.loop-turn.port) c.args.limit) all
     c.loop-turn.invariant.asking) is

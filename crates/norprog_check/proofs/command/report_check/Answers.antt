@@ -18,10 +18,10 @@ returns-in-Ok-clause-checked g c =
     let wider = check_serves files c.args.given c.request_of.result c.in_ok-request.request
     c.in_ok-request.ensures.ok_part c.request_of.ensures.values in
     let more = script_serves files c.args.given c.in_ok-path.path.now script in
-    verdict_wider (IsJobOf files c.in_ok-request.request None) (ServesCheck files c.args.given) (IsTextIn files c.in_ok-path.path.now) (ServesScript files c.args.given) wider more c.in_ok-verdict.verdict c.in_ok-verdict.ensures.checked
+    verdict_wider (IsJobOf files c.in_ok-request.request None) (ServesCheck files c.args.given) (IsTextIn files c.in_ok-path.path.now) (ServesScript files c.args.given) wider more c.in_ok-found.found c.in_ok-found.ensures.checked
 
-pub returns-in_err-verdict-clause-first : goal.returns-in_err-verdict-clause-first
-returns-in_err-verdict-clause-first g c =
+pub returns-in_err-found-clause-first : goal.returns-in_err-found-clause-first
+returns-in_err-found-clause-first g c =
     let files = g.S.FileStore.facts c.args.store.now in
     let script = ap (option_map (λ t. t.now)) c.in_ok-path.ensures.ok_part in
     let wider = check_serves files c.args.given c.request_of.result c.in_ok-request.request
@@ -29,8 +29,8 @@ returns-in_err-verdict-clause-first g c =
     let more = script_serves files c.args.given c.in_ok-path.path.now script in
     let formed = check_asked c.args.given c.request_of.result c.in_ok-request.request c.in_ok-path.path.now
     c.in_ok-request.ensures.ok_part c.request_of.ensures.forms script in
-    handed_on _ _ _ c.from_residual-in_err-verdict.ensures.1
-    (or_usage _ _ _ formed (check_wider (OrScript files.lacked) (OrScript files.lacked) (IsJobOf files c.in_ok-request.request None) (ServesCheck files c.args.given) (IsTextIn files c.in_ok-path.path.now) (ServesScript files c.args.given) (λ name lacks. lacks) wider more _ c.in_err-verdict.ensures.refused))
+    handed_on _ _ _ c.from_residual-in_err-found.ensures.1
+    (or_usage _ _ _ formed (check_wider (OrScript files.lacked) (OrScript files.lacked) (IsJobOf files c.in_ok-request.request None) (ServesCheck files c.args.given) (IsTextIn files c.in_ok-path.path.now) (ServesScript files c.args.given) (λ name lacks. lacks) wider more _ c.in_err-found.ensures.refused))
 
 pub returns-clause-unprinted : goal.returns-clause-unprinted
 returns-clause-unprinted g c =
@@ -40,8 +40,8 @@ returns-clause-unprinted g c =
     c.in_ok-request.ensures.ok_part c.request_of.ensures.values in
     let more = script_serves files c.args.given c.in_ok-path.path.now script in
     inr (
-      c.in_ok-verdict.verdict,
-      verdict_wider (IsJobOf files c.in_ok-request.request None) (ServesCheck files c.args.given) (IsTextIn files c.in_ok-path.path.now) (ServesScript files c.args.given) wider more c.in_ok-verdict.verdict c.in_ok-verdict.ensures.checked,
+      c.in_ok-found.found,
+      verdict_wider (IsJobOf files c.in_ok-request.request None) (ServesCheck files c.args.given) (IsTextIn files c.in_ok-path.path.now) (ServesScript files c.args.given) wider more c.in_ok-found.found c.in_ok-found.ensures.checked,
       c.in-Err.ensures.bytes,
     )
 
@@ -55,8 +55,8 @@ returns-clause-first g c =
     let formed = check_asked c.args.given c.request_of.result c.in_ok-request.request c.in_ok-path.path.now
     c.in_ok-request.ensures.ok_part c.request_of.ensures.forms script in
     or_usage _ _ _ formed (inr (
-      c.in_ok-verdict.verdict,
-      verdict_wider (IsJobOf files c.in_ok-request.request None) (ServesCheck files c.args.given) (IsTextIn files c.in_ok-path.path.now) (ServesScript files c.args.given) wider more c.in_ok-verdict.verdict c.in_ok-verdict.ensures.checked,
+      c.in_ok-found.found,
+      verdict_wider (IsJobOf files c.in_ok-request.request None) (ServesCheck files c.args.given) (IsTextIn files c.in_ok-path.path.now) (ServesScript files c.args.given) wider more c.in_ok-found.found c.in_ok-found.ensures.checked,
     ))
 
 pub returns-in_err-request-clause-first : goal.returns-in_err-request-clause-first

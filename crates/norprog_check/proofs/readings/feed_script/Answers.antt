@@ -4,7 +4,7 @@ use Rattle.nor_script.specs.Stream.{reading, Advances, CountsStep, StopsReader}
 use Rattle.nor_script.proofs.StreamLaws.{has_begun, has_more}
 use Rattle.nor_script.proofs.TextLaws.{stops_header, stops_step, stops_memory}
 use Rattle.nor_base.proofs.FaultLaws.{handed_on}
-use Rattle.norprog_check.proofs.ReadingLemmas.{fed_more, feeds_all}
+use Rattle.norprog_check.proofs.ReadingLemmas.{fed_more, shown_more, feeds_all}
 use Rattle.norprog_check.proofs.readings.feed_script.Goals as goal
 
 pub returns-in_err-reader-clause-stopped : goal.returns-in_err-reader-clause-stopped
@@ -19,6 +19,7 @@ loop-reader-init g c = record {
   number = c.in_ok-reader.ensures.begun.1;
   fed = c.requires.begins;
   told = λ more. refl;
+  shown = λ more at why page reads h. h;
   count = c.in_ok-reader.ensures.count;
 }
 
@@ -49,6 +50,7 @@ loop-reader-preserved g c =
       number = omega (arith, more, v.number, length-append v.above (c.advance.new.self.step ∷ []));
       fed = omega (arith, c.in_ok-feed.ensures.number, v.fed, length-append v.above (c.advance.new.self.step ∷ []));
       told = fed_more _ _ _ v.above c.advance.new.self.step _ v.told c.view.ensures c.in_ok-feed.ensures.fed;
+      shown = shown_more _ _ _ v.above c.advance.new.self.step _ v.shown c.view.ensures c.in_ok-feed.ensures.shown;
       count = c.in_ok-advance.ensures.count ∙ v.count;
     }
 
@@ -57,5 +59,5 @@ returns-clause-told g c =
     let v = c.loop-reader.invariant in
     let read : Advances (reading (g.A.ByteIn.ahead c.loop-reader.script) c.loop-reader.reader.held) (reading (g.A.ByteIn.ahead c.advance.new.source) c.advance.new.self.held) c.loop-reader.reader.steps c.advance.new.self.step (Ok false) =
     subst (λ b. Advances (reading (g.A.ByteIn.ahead c.loop-reader.script) c.loop-reader.reader.held) (reading (g.A.ByteIn.ahead c.advance.new.source) c.advance.new.self.held) c.loop-reader.reader.steps c.advance.new.self.step (Ok b)) c.if-branch.false c.in_ok-advance.ensures.step in
-    feeds_all _ c.args.checker c.loop-reader.checker (reading (g.A.ByteIn.ahead c.loop-reader.script) c.loop-reader.reader.held) (reading (g.A.ByteIn.ahead c.advance.new.source) c.advance.new.self.held) v.above c.loop-reader.reader.steps c.advance.new.self.step _ v.read v.number read v.told
-    c.verdict.ensures
+    feeds_all _ c.args.checker c.loop-reader.checker (reading (g.A.ByteIn.ahead c.loop-reader.script) c.loop-reader.reader.held) (reading (g.A.ByteIn.ahead c.advance.new.source) c.advance.new.self.held) v.above c.loop-reader.reader.steps c.advance.new.self.step _ v.read v.number read v.told v.shown
+    (c.number.ensures ∙ v.fed) c.verdict.ensures c.witness.ensures

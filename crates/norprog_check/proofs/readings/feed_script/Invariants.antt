@@ -2,7 +2,7 @@
 use Rattle.std.proofs.Common.{◌≡◌, ◌-◌, ◌^◌, [], List, length}
 use Rattle.nor_base.specs.declared.step.Step.{Step}
 use Rattle.nor_script.specs.Stream.{reading, HasRead}
-use Rattle.norprog_check.proofs.ReadingLemmas.{IsFedWith}
+use Rattle.norprog_check.proofs.ReadingLemmas.{IsFedWith, ShowsWith}
 use Rattle.norprog_check.proofs.readings.feed_script.Given as goal
 
 abbrev pub invariant-loop-reader : goal.invariant-loop-reader
@@ -12,6 +12,7 @@ invariant-loop-reader g l = record {
   number : l.reader.steps ≡ length above;
   fed : l.checker.number ≡ length above;
   told : IsFedWith l.fn.checker l.checker above;
+  shown : ShowsWith l.fn.checker l.checker above;
   count : g.A.ByteIn.count l.script ≡ g.A.ByteIn.count l.fn.script;
 }
 

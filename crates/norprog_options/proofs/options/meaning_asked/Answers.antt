@@ -27,10 +27,18 @@ returns-in-Some-subcommand_matches-2 c = record {
   so = c.hex_in.ensures;
 }
 
-pub returns-in_ok-texts_in-in-Some-subcommand_matches-3 : goal.returns-in_ok-texts_in-in-Some-subcommand_matches-3
-returns-in_ok-texts_in-in-Some-subcommand_matches-3 c = record {
+pub returns-in-Some-subcommand_matches-3 : goal.returns-in-Some-subcommand_matches-3
+returns-in-Some-subcommand_matches-3 c = record {
   named = c.in-Some-subcommand_matches-3.ensures.found.0 refl;
-  found = found_of c.in-Some-subcommand_matches-3.explain.now;
+  found = found_of c.in-Some-subcommand_matches-3.flash.now;
   behind = c.in-Some-subcommand_matches-3.ensures.rows;
-  so = c.in_ok-texts_in-in-Some-subcommand_matches-3.ensures;
+  so = c.in_ok-flash_in.ensures;
+}
+
+pub returns-in_ok-texts_in-in-Some-subcommand_matches-4 : goal.returns-in_ok-texts_in-in-Some-subcommand_matches-4
+returns-in_ok-texts_in-in-Some-subcommand_matches-4 c = record {
+  named = c.in-Some-subcommand_matches-4.ensures.found.0 refl;
+  found = found_of c.in-Some-subcommand_matches-4.explain.now;
+  behind = c.in-Some-subcommand_matches-4.ensures.rows;
+  so = c.in_ok-texts_in-in-Some-subcommand_matches-4.ensures;
 }

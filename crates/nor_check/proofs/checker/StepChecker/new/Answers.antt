@@ -6,7 +6,7 @@ use Rattle.nor_check.specs.Worst.{IsWorst}
 use Rattle.nor_check.proofs.Ends.{yes_exactly}
 use Rattle.nor_check.proofs.Feeding.{before_any}
 use Rattle.nor_check.proofs.Spread.{size_each}
-use Rattle.nor_check.proofs.Witnessed.{begins_shown}
+use Rattle.nor_check.proofs.Witnessed.{begins_counted, begins_shown}
 use Rattle.nor_check.proofs.WorstPages.{worst_of_each}
 use Rattle.nor_check.proofs.checker.StepChecker.new.Goals as goal
 
@@ -36,3 +36,7 @@ pub returns-clause-shown : goal.returns-clause-shown
 returns-clause-shown c = λ steps step why page reads h n low.
     begins_shown c.args.meaning.now c.args.start c.args.have.items c.args.want.now steps step why _ page reads n c.polls.ensures.ends c.verifying_reads.ensures
     c.new.result c.new.ensures h low
+
+pub returns-clause-counted : goal.returns-clause-counted
+returns-clause-counted c = λ steps step why page reads h.
+    begins_counted c.args.want.now c.new.result steps step why _ page reads h
