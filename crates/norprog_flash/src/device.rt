@@ -6,11 +6,11 @@ ghost use Rattle.norprog_flash.specs.Ended.{EndsFlash};
 ghost use Rattle.norprog_flash.specs.Worked.{GoesOn};
 
 use crate::back::way_of;
-use crate::begun::{Begun, begin};
+use crate::begun::{Begun, begin, said_start};
 use crate::ending::{Ending, Unflashed};
 use crate::job::Job;
 use crate::work::{Bench, do_work};
-use nor_base::{ByteIn, ByteOut, Start};
+use nor_base::{ByteIn, ByteOut};
 use nor_flasher::{breaks, closes, doable};
 use nor_serprog::{Limits, carried};
 use norprog_common::FileStore;
@@ -34,14 +34,14 @@ pub fn flash_chip<S: FileStore, R: ByteIn, W: ByteOut, O: ByteOut, P: ByteOut>(
     progress: &mut P,
 ) -> Result<Ending, Unflashed>
     requires whole { job.now.ask.content ≡ true }
-    requires reader { R.count from.old < 2 ^ 64 - 1 }
-    requires writer { W.count to.old < 2 ^ 64 - 1 }
+    requires reader { R.count from.old < 2 ^ 64 - 2 }
+    requires writer { W.count to.old < 2 ^ 64 - 2 }
     requires out { O.count out.old < 2 ^ 64 - 1 }
     requires told { P.count progress.old < 2 ^ 64 - 1 }
     ensures ends { IfOk result (EndsFlash (S.facts store.now) job.now limits.now (W.held to.old) (W.held to.new) (R.ahead from.old)
         (R.ahead from.new) (O.held out.old) (O.held out.new)) }
-    ensures reads_room { R.count from.new ≤ R.count from.old + 1 }
-    ensures writes_room { W.count to.new ≤ W.count to.old + 1 }
+    ensures reads_room { R.count from.new ≤ R.count from.old + 2 }
+    ensures writes_room { W.count to.new ≤ W.count to.old + 2 }
     ensures out_count { IfOk result (λ _. O.count out.new ≡ O.count out.old) }
     ensures out_room { O.count out.new ≤ O.count out.old + 1 }
 {
@@ -76,11 +76,7 @@ fn flash_planned<S: FileStore, R: ByteIn, W: ByteOut, P: ByteOut>(
 {
     let Begun { reading, work } = begun;
     let steps = work.steps.as_slice();
-    let start = Start {
-        mode4: job.ask.mode4,
-        quad: false,
-    };
-    let by = match way_of(&reading.meaning, start) {
+    let by = match way_of(&reading.meaning, said_start(job)) {
         Some(by) => by,
         None => return Err(Unflashed::Unlike(Unlike::Unreadable)),
     };

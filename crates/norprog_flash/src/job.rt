@@ -1,6 +1,6 @@
 //! What is to be done on which chip.
 
-ghost use Rattle.std.specs.Prelude.{◌≡◌, length, option_map, unwrap_or};
+ghost use Rattle.std.specs.Prelude.{◌≡◌};
 ghost use Rattle.norprog_flash.specs.Task.{flash_task};
 ghost use Rattle.norprog_read.specs.Chip.{task_chip};
 ghost use Rattle.nor_job.specs.Task.{origin_of};
@@ -59,15 +59,5 @@ fn source_for<'a>(job: &'a Job<'_>, tables: &'a [u8]) -> Source<'a>
             bytes: tables,
             bits: job.ask.bits,
         },
-    }
-}
-
-/// What the chip had before the first try: what it holds, where work isn't resumed.
-pub(crate) fn old_of<'a>(job: &Job<'a>, content: &'a [u8]) -> &'a [u8]
-    ensures { result.now ≡ unwrap_or (option_map (λ bytes. bytes.now) job.now.old) content.now }
-{
-    match job.old {
-        Some(old) => old,
-        None => content,
     }
 }

@@ -92,7 +92,9 @@ fn read_texts<S: FileStore>(
 }
 
 /// What the file of the tables of a chip holds, where one is named; else nothing.
-fn file_of<S: FileStore>(
+///
+/// `File` of `Sfdp` and `Memory`, as [`tables_of`] returns them.
+pub fn file_of<S: FileStore>(
     alloc: Global,
     store: &S,
     chip: Option<Chip<'_>>,

@@ -74,7 +74,7 @@ fn are_same(one: Option<&str>, other: Option<&str>) -> bool
 }
 
 /// What is asked of the chip of a request, whose file has these bytes where it names one.
-pub(crate) fn ask_of<'a>(request: ReadRequest<'a>, file: &'a [u8]) -> Ask<'a>
+pub fn ask_of<'a>(request: ReadRequest<'a>, file: &'a [u8]) -> Ask<'a>
     ensures { IsAskOf request.entry file.entry.now result }
 {
     Ask {

@@ -1,6 +1,6 @@
 //! The work from what a chip holds to what it must hold.
 
-ghost use Rattle.std.specs.Prelude.{◌≡◌, ◌<◌, ◌-◌, ◌^◌, length, IfOk, IfErr};
+ghost use Rattle.std.specs.Prelude.{◌≡◌, ◌≤◌, ◌<◌, ◌+◌, ◌-◌, ◌^◌, length, IfOk, IfErr};
 ghost use Rattle.norprog_work.specs.Work.{IsWork, PlansLines};
 
 use crate::goal::goal_of;
@@ -38,6 +38,8 @@ pub fn work_for<W: ByteOut>(
     requires writer { W.count out.old < 2 ^ 64 - 1 }
     ensures work { IfOk result (λ work. IsWork inputs.now content.now old.now work.goal.items work.steps.items
         (W.held out.old) (W.held out.new)) }
+    ensures count { IfOk result (λ _. W.count out.new ≡ W.count out.old) }
+    ensures room { W.count out.new ≤ W.count out.old + 1 }
 {
     let goal = goal_of(alloc, inputs, old)?;
     let hex = difference(alloc, content, goal.bytes.as_slice())?;
@@ -67,6 +69,7 @@ fn plan_lines<W: ByteOut>(
     requires writer { W.count out.old < 2 ^ 64 - 1 }
     ensures lines { IfOk result (λ _. PlansLines inputs.now content.now (W.held out.old) (W.held out.new)) }
     ensures count { IfOk result (λ _. W.count out.new ≡ W.count out.old) }
+    ensures room { W.count out.new ≤ W.count out.old + 1 }
 {
     let mut reader = FromRead::new(content);
     plan(alloc, inputs, &mut reader, content.len() as u64, out)?;
