@@ -3,7 +3,7 @@
 ghost use Rattle.nor_flasher.specs.Laws.{Closes, Breaks, HaltedAmong, PlannedIsDoable, RefusedForLength};
 
 use nor_laws::{effects, spelling};
-use nor_loop::{device, loop_breaks, loop_closes, loop_is_explained, single};
+use nor_loop::{device, loop_breaks, loop_closes, loop_is_explained, single, wire};
 use nor_plan_laws::{planned_work, there_is_planned_work};
 
 /// A content was read twice, and later planned work on it was done. Every ready chip that explains both ends with the goal of what it
@@ -23,8 +23,8 @@ pub fn closes()
 pub fn breaks()
     ensures { Breaks }
 {
-    halts();
     device();
+    wire();
     loop_breaks();
 }
 

@@ -9,7 +9,7 @@ pub mod worked;
 
 ghost use Rattle.nor_loop.specs.Four.{FourReadsRead, BothRead};
 ghost use Rattle.nor_loop.specs.Single.{SingleIsOperation, PlannedIsSingle, DoneInParts, StoppedInParts, QuadUnseen, WhateverQuad};
-ghost use Rattle.nor_loop.specs.Laws.{ReadsTell, ReadsKeep, LoopCloses, LoopResumes, LoopMends, LoopBreaks, LoopIsExplained, DoneIsLogged, StoppedIsLogged, DeviceCloses, DeviceBreaks, OneLog, EnteredReadsTell, ReadsRead, EnteredReadsRead, ToldLoopCloses};
+ghost use Rattle.nor_loop.specs.Laws.{ReadsTell, ReadsKeep, LoopCloses, LoopResumes, LoopMends, LoopBreaks, LoopIsExplained, DoneIsLogged, StopIsLogged, StoppedIsLogged, DeviceCloses, DeviceBreaks, OneLog, LogsJoin, EnteredReadsTell, ReadsRead, EnteredReadsRead, ToldLoopCloses};
 
 use nor_laws::spelling;
 use nor_plan_laws::planned_work;
@@ -72,6 +72,7 @@ pub fn loop_is_explained()
 pub fn device()
     ensures logged { DoneIsLogged }
     ensures stopped { StoppedIsLogged }
+    ensures begun { StopIsLogged }
     ensures closes { DeviceCloses }
     ensures breaks { DeviceBreaks }
 {
@@ -93,7 +94,9 @@ pub fn single()
     ensures whatever { WhateverQuad }
 {}
 
-/// Where writer and reader tell their bytes, a wire has just one log, so nobody can choose one that suits.
+/// Where writer and reader report their bytes, a wire has just one log, so nobody can choose one that suits. Logs of two stretches, one
+/// after the other, are one log.
 pub fn wire()
-    ensures { OneLog }
+    ensures one { OneLog }
+    ensures joined { LogsJoin }
 {}
