@@ -5,10 +5,11 @@ use Rattle.nor_base.specs.Step.{step_clocks}
 use Rattle.nor_plan_laws.specs.Laws.{PlannedDoesTask}
 use Rattle.nor_loop.specs.Laws.{ToldLoopCloses, LoopIsExplained, LoopBreaks, DoneIsLogged, StopIsLogged, LogsJoin}
 use Rattle.nor_loop.specs.Log.{Operation}
-use Rattle.nor_loop.specs.Single.{WhateverQuad}
+use Rattle.nor_loop.specs.Single.{WhateverQuad, WhateverQuadPart}
 use Rattle.nor_loop.specs.Steps.{IsBegun, AreLogOf, AreBegun}
 use Rattle.nor_flasher.specs.Laws.{Closes, Breaks}
 use Rattle.nor_flasher.proofs.HaltedLemmas.{cut_at}
+use Rattle.nor_flasher.proofs.LengthLemmas.{PlannedIsOne}
 
 pub closes : PlannedDoesTask → DoneIsLogged → ToldLoopCloses → LoopIsExplained → WhateverQuad → Closes
 closes does logged told shown whatever h0 h1 h2 h3 a0 a1 a2 a3 limits turns m start verify content goal steps able planned twice did =
@@ -36,8 +37,8 @@ begun_after [] rest x done begun none last =
 begun_after (y ∷ ys) rest x done begun (first, more, joined, its, those) last =
     inr (first, more ++ begun, ap (λ (l : List Operation). l ++ begun) joined ∙ append_assoc first more begun, its, begun_after ys rest x more begun those last)
 
-pub breaks : DoneIsLogged → StopIsLogged → LogsJoin → LoopBreaks → Breaks
-breaks logged stop join broken h0 h1 h2 h3 a0 a1 a2 a3 limits turns m start verify content goal steps halt able planned twice halted =
+pub breaks : PlannedIsOne → DoneIsLogged → StopIsLogged → LogsJoin → LoopBreaks → WhateverQuadPart → Breaks
+breaks ones logged stop join broken whatever h0 h1 h2 h3 a0 a1 a2 a3 limits turns m start verify content goal steps halt off able planned twice halted =
     let done = logged h2 halted.held a2 halted.ahead limits turns (take halt.step steps) halted.before in
     let last = stop halted.held h3 halted.ahead a3 limits turns halt.why halted.at halted.stopped in
     let work = done.0 ++ last.2 in
@@ -45,7 +46,9 @@ breaks logged stop join broken h0 h1 h2 h3 a0 a1 a2 a3 limits turns m start veri
     let rest = drop (halt.step + 1) steps in
     let cut : take halt.step steps ++ (halted.at ∷ rest) ≡ steps = cut_at steps halt.step halted.at halted.within halted.is in
     let begun : AreBegun steps work next =
-    subst (λ (l : List Step). AreBegun l work next) cut (begun_after (take halt.step steps) rest halted.at done.0 last.2 done.2 last.4) in record {
+    subst (λ (l : List Step). AreBegun l work next) cut (begun_after (take halt.step steps) rest halted.at done.0 last.2 done.2 last.4) in
+    let one = ones m start verify content goal steps halt.step halted.at able off planned halted.within halted.is in
+    let every = broken m start verify content goal steps twice.first twice.again work next able planned twice.reads twice.rereads begun in record {
       first = twice.first;
       again = twice.again;
       work = work;
@@ -55,5 +58,5 @@ breaks logged stop join broken h0 h1 h2 h3 a0 a1 a2 a3 limits turns m start veri
       read = twice.wire;
       worked = join h2 halted.held last.0 a2 halted.ahead last.1 done.0 last.2 done.1 last.3;
       begun = record { done = done.0; begun = last.2; joined = refl; those = done.2; step = halted.at; is = halted.is; last = last.4; clocks = refl };
-      every = broken m start verify content goal steps twice.first twice.again work next able planned twice.reads twice.rereads begun;
+      every = λ quad. whatever m start content goal (twice.first ++ (twice.again ++ work)) next one.sent one.asked start.quad quad one.spelled every;
     }

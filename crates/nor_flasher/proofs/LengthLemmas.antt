@@ -1,5 +1,5 @@
 -- Steps of planned work are operations, which only a device's limits refuse.
-use Rattle.std.proofs.Common.{◌≡◌, inl, inr, ℕ, zero, suc, ◌<◌, Bool, true, List, [], ◌∷◌, ◌++◌, length, refl, sym, ◌∙◌, ap, subst, arith}
+use Rattle.std.proofs.Common.{◌≡◌, inl, inr, ℕ, zero, suc, ◌<◌, Bool, true, false, get_or, List, [], ◌∷◌, ◌++◌, length, refl, sym, ◌∙◌, ap, subst, arith}
 use Rattle.std.specs.Prelude.{All, nat_lt}
 use Rattle.std.specs.List.{list_all}
 use Rattle.std.proofs.lemmas.Bool.{and_parts, cases_lt, lt-ltb}
@@ -7,13 +7,14 @@ use Rattle.std.proofs.lemmas.List.Elements.{All-nil, All-cons, All-get_or}
 use Rattle.std.proofs.lemmas.List.Folds.{list_all-append}
 use Rattle.nor_base.specs.declared.instruction.What.{What}
 use Rattle.nor_base.specs.declared.instruction.What.TheVariants as what
+use Rattle.nor_base.specs.declared.meaning.Start.{Start}
 use Rattle.nor_base.specs.declared.step.Step.{Step}
 use Rattle.nor_base.specs.Array.{are_bytes}
 use Rattle.nor_base.specs.Chip.{begins4}
 use Rattle.nor_base.specs.Clocks.{bits, address_bytes, head_bytes, CanCarry, CanBeSpelled, CanAllBeSpelled}
 use Rattle.nor_base.specs.Instructions.{Form, nothing, sends, sends4, samples, samples4, form_of}
 use Rattle.nor_base.specs.Parameters.{Parameters}
-use Rattle.nor_base.specs.Planned.{planned}
+use Rattle.nor_base.specs.Planned.{planned, ArePlanned, IsWorkable}
 use Rattle.nor_base.specs.Run.{poll_clocks}
 use Rattle.nor_base.specs.Spelling.{Instr, Spells, bytes_to_send, count_to_read, IsStepBy, AreStepsOf, mode_after}
 use Rattle.nor_base.specs.Step.{step_clocks}
@@ -26,12 +27,12 @@ use Rattle.nor_loop.specs.Single.{is_single, SingleIsOperation, PlannedIsSingle}
 use Rattle.nor_flasher.specs.Laws.{IsTooLong, RefusedForLength}
 
 -- the clocks of a step are one operation
-record IsOne (x : Step) : Type 0 where
-  sent : List ℕ
-  asked : ℕ
-  spelled : step_clocks x ≡ operation_clocks sent asked
-  bytes : are_bytes sent ≡ true
-  some : 0 < length sent
+pub record IsOne (x : Step) : Type 0 where
+  pub sent : List ℕ
+  pub asked : ℕ
+  pub spelled : step_clocks x ≡ operation_clocks sent asked
+  pub bytes : are_bytes sent ≡ true
+  pub some : 0 < length sent
 
 is_byte : (n : ℕ) (rest : List ℕ) → n < 256 → are_bytes rest ≡ true → are_bytes (n ∷ rest) ≡ true
 is_byte n rest small others = rw (lt-ltb n 256 small, others) refl
@@ -87,6 +88,17 @@ steps_are_one one operation m mode4 (i ∷ more) (x ∷ xs) single can those =
     All-cons IsOne x xs (step_is_one one operation m mode4 i i.what x parts.0 can.0 those.0)
     (steps_are_one one operation m (mode_after i.what mode4) more xs parts.1 can.1 those.1)
 
+-- each step of planned work is one
+abbrev pub PlannedIsOne : Type 0
+PlannedIsOne = (m : Parameters) (start : Start) (verify : Bool) (have want : List ℕ) (steps : List Step) (at : ℕ) (x : Step)
+    → IsWorkable m start have want → start.quad ≡ false → ArePlanned m start verify have want steps → at < length steps → x ≡ get_or steps at x → IsOne x
+
+pub one_at : OneSpelling → PlannedCanBeSpelled → SingleIsOperation → PlannedIsSingle → PlannedIsOne
+one_at one can operation single m start verify have want steps at x able off those within is =
+    let all = steps_are_one one operation m (begins4 m start) (planned m start verify have want) steps (single m start verify have want off)
+    (can m start verify have want able) those in
+    subst IsOne (sym is) (All-get_or IsOne steps at x within all)
+
 -- an operation that a device can't do is too long for it
 too_long : (limits : Limits) (x : Step) → IsOne x → (IsCarried limits x → ⊥) → IsTooLong limits x
 too_long limits x one none =
@@ -104,6 +116,4 @@ too_long limits x one none =
 
 pub refused_for_length : OneSpelling → PlannedCanBeSpelled → SingleIsOperation → PlannedIsSingle → RefusedForLength
 refused_for_length one can operation single limits m start verify have want steps at able off those refused =
-    let all = steps_are_one one operation m (begins4 m start) (planned m start verify have want) steps (single m start verify have want off)
-    (can m start verify have want able) those in
-    too_long limits refused.first (subst IsOne (sym refused.is) (All-get_or IsOne steps at refused.first refused.within all)) refused.none
+    too_long limits refused.first (one_at one can operation single m start verify have want steps at refused.first able off those refused.within refused.is) refused.none
