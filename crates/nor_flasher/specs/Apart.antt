@@ -38,7 +38,7 @@ pub record IsBegunAt (steps : List Step) (at : ℕ) (log : List Operation) (next
 
 -- what went over the first stretch is a log, and what went over the second one before the operation that stopped at a step; next come
 -- that operation's clocks. Every ready chip that explains both, whatever its quad setting, held just the content, and has at most one unit
--- in the making
+-- in the making; and some chip with the content explains them
 pub record BreaksApart (read_before read_after : Option (List ℕ)) (read_ahead read_left : Ahead) (held_before : Option (List ℕ))
     (ahead_before : Ahead) (m : Parameters) (start : Start) (content goal : List ℕ) (steps : List Step) (at : ℕ) : Type 0 where
   pub first : List Operation
@@ -51,3 +51,4 @@ pub record BreaksApart (read_before read_after : Option (List ℕ)) (read_ahead 
   pub worked : HasLogged held_before held ahead_before ahead work
   pub begun : IsBegunAt steps at work next
   pub every : (quad : Bool) → EveryChipHoldsPart m (record start { quad = quad }) content goal (first ++ (again ++ work)) next
+  pub some : (s : Setting) × (after : Chip) × MayBe m start (first ++ (again ++ work)) s content after

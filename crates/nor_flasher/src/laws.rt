@@ -19,13 +19,15 @@ pub fn closes()
 }
 
 /// A content was read twice, and later work on it that was planned for one lane halted. Every ready chip that explains both, whatever its
-/// quad setting, held just the content, and at most one unit of the work is in the making. The same holds where the chip did the operation that came next.
+/// quad setting, held just the content, and at most one unit of the work is in the making. The same holds where the chip did the operation that
+/// came next. Some chip explains both.
 pub fn breaks()
     ensures { Breaks }
 {
     device();
     wire();
     loop_breaks();
+    loop_is_explained();
     quad();
     spelling();
     there_is_planned_work();
