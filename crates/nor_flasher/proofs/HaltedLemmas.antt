@@ -23,12 +23,14 @@ pub done_next : (h i j : Option (List ℕ)) (a b c : Ahead) (limits : Limits) (t
 done_next h i j a b c limits turns steps at x within is all one =
     subst (λ (l : List Step). HasDoneAll h j a c limits turns l) (sym (one_taken steps at x within is)) (done_more h i j a b c limits turns (take at steps) x all one)
 
+-- the steps before one, that one, and those after it
+pub cut_at : (steps : List Step) (at : ℕ) (x : Step) → at < length steps → x ≡ get_or steps at x → take at steps ++ (x ∷ drop (at + 1) steps) ≡ steps
+cut_at steps at x within is = ap (λ (l : List Step). take at steps ++ l) (sym (first_left steps at x is within)) ∙ take-append-drop at steps
+
 -- a halt is a stop among the steps
 pub halted_among : StoppedInParts → HaltedAmong
 halted_among parts h j a c limits turns steps halt stops =
     let rest = drop (halt.step + 1) steps in
     let front = take halt.step steps in
-    let cut : front ++ (stops.at ∷ [] ++ rest) ≡ steps =
-    ap (λ (l : List Step). front ++ l) (sym (first_left steps halt.step stops.at stops.is stops.within)) ∙ take-append-drop halt.step steps in
-    subst (λ (l : List Step). HasStoppedAmong h j a c limits turns halt.why l) cut
+    subst (λ (l : List Step). HasStoppedAmong h j a c limits turns halt.why l) (cut_at steps halt.step stops.at stops.within stops.is)
     (parts h stops.held j a stops.ahead c limits turns halt.why front (stops.at ∷ []) rest stops.before (inl stops.stopped))

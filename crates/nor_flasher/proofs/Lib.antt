@@ -2,3 +2,4 @@ mod HaltedLemmas
 mod ApartLemmas
 mod DoableLemmas
 mod LengthLemmas
+mod BegunLemmas

@@ -21,15 +21,15 @@ Closes = (h0 h1 h2 h3 : Option (List ℕ)) (a0 a1 a2 a3 : Ahead) (limits : Limit
     (content : List ℕ) (goal : List ℕ → List ℕ) (steps : List Step)
     → IsWorkable m start content (goal content) → ArePlanned m start verify content (goal content) steps
     → ReadTwice h0 h1 a0 a1 m start content → HasDoneAll h2 h3 a2 a3 limits turns steps
-    → ClosesApart h0 h1 a0 a1 h2 h3 a2 a3 m start content goal
+    → ClosesApart h0 h1 a0 a1 h2 h3 a2 a3 m start content goal steps
 
--- or it halted in that work
+-- or it halted in that work, which was planned for one lane
 abbrev pub Breaks : Type 0
 Breaks = (h0 h1 h2 h3 : Option (List ℕ)) (a0 a1 a2 a3 : Ahead) (limits : Limits) (turns : ℕ) (m : Parameters) (start : Start) (verify : Bool)
     (content goal : List ℕ) (steps : List Step) (halt : Halt)
-    → IsWorkable m start content goal → ArePlanned m start verify content goal steps
+    → start.quad ≡ false → IsWorkable m start content goal → ArePlanned m start verify content goal steps
     → ReadTwice h0 h1 a0 a1 m start content → HasHalted h2 h3 a2 a3 limits turns steps halt
-    → BreaksApart h0 h1 a0 a1 h2 a2 m start content goal
+    → BreaksApart h0 h1 a0 a1 h2 a2 m start content goal steps halt.step
 
 -- a device that halted stopped among the steps, for the same reason
 abbrev pub HaltedAmong : Type 0

@@ -3,11 +3,11 @@
 ghost use Rattle.nor_flasher.specs.Laws.{Closes, Breaks, HaltedAmong, PlannedIsDoable, RefusedForLength};
 
 use nor_laws::{effects, spelling};
-use nor_loop::{device, loop_breaks, loop_closes, loop_is_explained, single};
+use nor_loop::{device, loop_breaks, loop_closes, loop_is_explained, quad, single, wire};
 use nor_plan_laws::{planned_work, there_is_planned_work};
 
-/// A content was read twice, and later planned work on it was done. Every ready chip that explains both ends with the goal of what it
-/// held, and some chip explains them. Of what went over the wire between the two nothing is said.
+/// A content was read twice, and later planned work on it was done. Every ready chip that explains both, whatever its quad setting, ends
+/// with the goal of what it held, and some chip explains them. Of what went over the wire between the two nothing is said.
 pub fn closes()
     ensures { Closes }
 {
@@ -15,17 +15,23 @@ pub fn closes()
     device();
     loop_closes();
     loop_is_explained();
-    single();
+    quad();
 }
 
-/// A content was read twice, and later planned work on it halted. Every ready chip that explains both held just the content, and at most
-/// one unit of the work is in the making. The same holds where the chip did the operation that came next.
+/// A content was read twice, and later work on it that was planned for one lane halted. Every ready chip that explains both, whatever its
+/// quad setting, held just the content, and at most one unit of the work is in the making. The same holds where the chip did the operation that
+/// came next. Some chip explains both.
 pub fn breaks()
     ensures { Breaks }
 {
-    halts();
     device();
+    wire();
     loop_breaks();
+    loop_is_explained();
+    quad();
+    spelling();
+    there_is_planned_work();
+    single();
 }
 
 /// A device that did the steps before one, and stopped at that one, stopped among the steps.

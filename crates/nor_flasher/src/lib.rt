@@ -8,4 +8,4 @@ mod laws;
 mod steps;
 
 pub use laws::{breaks, closes, doable, halts};
-pub use steps::{Halt, do_steps};
+pub use steps::{Halt, are_doable, do_steps};

@@ -1,13 +1,13 @@
 //! Steps done by a device.
 
-ghost use Rattle.std.specs.Prelude.{◌≡◌, ◌≤◌, ◌<◌, ◌+◌, ◌-◌, ◌^◌, All, MatchResult};
+ghost use Rattle.std.specs.Prelude.{◌≡◌, ◌≤◌, ◌<◌, ◌+◌, ◌-◌, ◌^◌, ◌↔◌, All, IsTrue, MatchResult};
 ghost use Rattle.nor_serprog.specs.declared.fault.Fault.TheVariants.{Read, Write};
 ghost use Rattle.nor_serprog.specs.Done.{IsDoable, HasDoneAll};
 ghost use Rattle.nor_flasher.specs.Halted.{HasHalted, CountsHalt};
 
 use nor_base::{ByteIn, ByteOut, Step};
 use nor_progress::Progress;
-use nor_serprog::{Limits, Reason, do_step};
+use nor_serprog::{Limits, Reason, do_step, is_doable};
 
 /// At which step a device stopped, and why.
 #[derive(Clone, Copy, Debug, PartialEq, Eq)]
@@ -16,6 +16,13 @@ pub struct Halt {
     pub step: u64,
     /// Why it stopped at it.
     pub why: Reason,
+}
+
+/// Whether [`do_steps`] takes these steps: each is one that [`do_step`](nor_serprog::do_step) takes.
+pub fn are_doable(steps: &[Step]) -> bool
+    ensures { IsTrue result ↔ All IsDoable steps.now }
+{
+    steps.iter().all(|step| is_doable(step))
 }
 
 /// Has the device do steps, one after the other, each as [`do_step`](nor_serprog::do_step). A poll reads the status

@@ -1,6 +1,6 @@
 //! The steps of a script, done by a device.
 
-ghost use Rattle.std.specs.Prelude.{◌≡◌, ◌<◌, ◌-◌, ◌^◌, MatchResult};
+ghost use Rattle.std.specs.Prelude.{◌≡◌, ◌<◌, ◌-◌, ◌^◌, ◌↔◌, IsTrue, MatchResult};
 ghost use Rattle.nor_serprog.specs.declared.fault.Fault.TheVariants.{Read, Write};
 ghost use Rattle.nor_serprog.specs.Done.{IsDoable, HasDone, HasStopped};
 ghost use Rattle.nor_serprog.specs.Follow.{CountsReason};
@@ -10,7 +10,8 @@ use crate::clocks::is_carried;
 use crate::fault::Reason;
 use crate::follow::{operate_once, wait};
 use crate::limits::Limits;
-use nor_base::{ByteIn, ByteOut, Step};
+use nor_base::{ByteIn, ByteOut, Step, sampled};
+use nor_decode::POLL;
 
 /// Has the device do a step: a [`Step::Send`] is one operation that gives nothing, a [`Step::Poll`] reads the status
 /// until it says idle, `turns` times at most, a [`Step::Verify`] is one operation that gives what is expected.
@@ -40,6 +41,18 @@ pub fn do_step<R: ByteIn, W: ByteOut>(
         Step::Verify { clocks, expect } => {
             operate_once(from, to, limits, clocks.as_slice(), expect.as_slice())
         }
+    }
+}
+
+/// Whether [`do_step`] takes a step: a [`Step::Send`] samples nothing, a [`Step::Poll`] has the clocks of a status read,
+/// and a [`Step::Verify`] expects as many bytes as its clocks sample.
+pub fn is_doable(step: &Step) -> bool
+    ensures { IsTrue result ↔ IsDoable step.now }
+{
+    match step {
+        Step::Send { clocks } => sampled(clocks.as_slice()) == 0,
+        Step::Poll { clocks } => clocks.as_slice() == POLL.as_slice(),
+        Step::Verify { clocks, expect } => expect.as_slice().len() == sampled(clocks.as_slice()),
     }
 }
 

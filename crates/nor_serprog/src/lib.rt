@@ -22,7 +22,7 @@ mod shadowed;
 mod word;
 
 pub use clocks::is_carried;
-pub use done::{carried, do_step};
+pub use done::{carried, do_step, is_doable};
 pub use fault::{Command, Fault, GreetFault, Reason};
 pub use handshake::greet;
 pub use limits::Limits;
