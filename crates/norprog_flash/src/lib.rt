@@ -10,9 +10,13 @@ mod begun;
 mod device;
 mod ending;
 mod job;
+mod line;
+mod opened;
 mod work;
 
 pub use device::flash_chip;
 pub use ending::{Ending, Unflashed};
 pub use job::Job;
+pub use line::write_ending;
 pub use norprog_common::FlashArgs;
+pub use opened::flash_opened;

@@ -23,10 +23,10 @@ returns-in-Ok-clause-work g c =
     let hex = c.in_ok-hex.hex.items in
     let task = c.narrowed-narrow.ensures ∙ ap (narrowed t) c.as_slice-2.ensures.value in
     work_is c.targets.ensures.keeps c.targets.ensures.gives c.written_images.ensures t content c.args.old.now hex
-          c.in_ok-goal.goal c.in_ok-goal.ensures.goal c.requires.sizes
-          (subst (λ (w : List ℕ). SpansDifference content w hex) c.as_slice.ensures.value c.in_ok-hex.ensures.spans)
-          c.in_ok-report.report c.in_ok-report.steps.items
-          (subst (λ (x : Task). BuildsSteps x content c.in_ok-report.report c.in_ok-report.steps.items) task c.in_ok-report.ensures.built)
-          _ (g.W.ByteOut.held c.plan_lines.new.out) _ _ refl
-          (subst (λ (x : Task). PlansLines x content (g.W.ByteOut.held c.args.out.now) (g.W.ByteOut.held c.plan_lines.new.out)) task c.in_ok-plan_lines.ensures.lines)
-          c.in-Ok.ensures.bytes
+    c.in_ok-goal.goal c.in_ok-goal.ensures.goal c.requires.sizes
+    (subst (λ (w : List ℕ). SpansDifference content w hex) c.as_slice.ensures.value c.in_ok-hex.ensures.spans)
+    c.in_ok-report.report c.in_ok-report.steps.items
+    (subst (λ (x : Task). BuildsSteps x content c.in_ok-report.report c.in_ok-report.steps.items) task c.in_ok-report.ensures.built)
+    _ (g.W.ByteOut.held c.plan_lines.new.out) _ _ refl
+    (subst (λ (x : Task). PlansLines x content (g.W.ByteOut.held c.args.out.now) (g.W.ByteOut.held c.plan_lines.new.out)) task c.in_ok-plan_lines.ensures.lines)
+    c.in-Ok.ensures.bytes
