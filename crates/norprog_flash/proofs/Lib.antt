@@ -1,2 +1,5 @@
 mod PlannedLemmas
 mod EndedLemmas
+mod LineLemmas
+mod OpenedLemmas
+mod ServedLemmas

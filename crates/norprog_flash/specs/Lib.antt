@@ -4,3 +4,6 @@ pub mod Worked
 pub mod Ended
 pub mod Line
 pub mod Opened
+pub mod Request
+pub mod Served
+pub mod Answer

@@ -3,7 +3,6 @@ use Rattle.std.specs.Prelude.{ℕ, ◌/◌, ◌%◌, Bool, true, false, List, []
 use Rattle.nor_base.specs.declared.meaning.Part.{Part}
 use Rattle.nor_base.specs.declared.meaning.Part.TheVariants.{Generic, W25q256jv}
 use Rattle.nor_base.specs.Script.{hex_pair}
-use Rattle.norprog_common.specs.Lines.{program_line}
 use Rattle.norprog_failure.specs.declared.failure.Failure.{Failure}
 use Rattle.norprog_failure.specs.declared.failure.Failure.TheVariants.{Carried}
 use Rattle.norprog_failure.specs.Line.{failure_line}
@@ -41,5 +40,5 @@ is_partial other = false
 -- what is written then: the file that has what the chip held before the first try
 abbrev pub state_line : List ℕ → List ℕ
 state_line before =
-    program_line (codes "the chip is half done, and what it held is in " ++ (before
-    ++ codes ". Switch its power off and on, and go on with the same command, this file as --resume and a new one as --before. See: norprog explain the chip may hold"))
+    codes "norprog: the chip is half done, and what it held is in " ++ (before
+    ++ codes ". Switch its power off and on, and go on with the same command, this file as --resume and a new one as --before. See: norprog explain the chip may hold\n")

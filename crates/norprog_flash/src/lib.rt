@@ -7,16 +7,22 @@
 
 mod back;
 mod begun;
+mod command;
 mod device;
 mod ending;
+mod files;
 mod job;
 mod line;
 mod opened;
+mod report;
+mod request;
 mod work;
 
+pub use command::flash;
 pub use device::flash_chip;
 pub use ending::{Ending, Unflashed};
 pub use job::Job;
 pub use line::write_ending;
 pub use norprog_common::FlashArgs;
 pub use opened::flash_opened;
+pub use request::{FlashRequest, request_of};

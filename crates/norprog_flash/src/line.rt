@@ -2,6 +2,7 @@
 
 ghost use Rattle.std.specs.Prelude.{◌≡◌, ◌<◌, ◌-◌, ◌^◌};
 ghost use Rattle.nor_base.specs.Device.{Counts, Writes};
+ghost use Rattle.nor_base.specs.declared.meaning.Part.TheVariants.{Generic, W25q256jv};
 ghost use Rattle.norprog_flash.specs.Line.{closed_line, ending_line};
 
 use crate::ending::Ending;
@@ -42,18 +43,39 @@ pub(crate) fn write_closed<W: ByteOut>(
     ensures bytes { Writes (W.held writer.old) (W.held writer.new) result (closed_line part status) }
     ensures count { Counts (W.count writer.old) (W.count writer.new) result }
 {
-    let low = (status % 256) as u8;
     match part {
-        Part::Generic => put_parts(writer, &[b"unlike status ", &hex_pair(low), b"\n"]),
-        Part::W25q256jv => put_parts(
-            writer,
-            &[
-                b"unlike status ",
-                &hex_pair((status / 65536 % 256) as u8),
-                &hex_pair((status / 256 % 256) as u8),
-                &hex_pair(low),
-                b"\n",
-            ],
-        ),
+        Part::Generic => write_status(status, writer),
+        Part::W25q256jv => write_registers(status, writer),
     }
+}
+
+/// Writes `unlike status` and S7 to S0.
+fn write_status<W: ByteOut>(status: u32, writer: &mut W) -> Result<(), Failed>
+    requires { W.count writer.old < 2 ^ 64 - 1 }
+    ensures bytes { Writes (W.held writer.old) (W.held writer.new) result (closed_line Generic status) }
+    ensures count { Counts (W.count writer.old) (W.count writer.new) result }
+{
+    let low = (status % 256) as u8;
+    put_parts(writer, &[b"unlike status ", &hex_pair(low), b"\n"])
+}
+
+/// Writes `unlike status` and S23 to S0.
+fn write_registers<W: ByteOut>(status: u32, writer: &mut W) -> Result<(), Failed>
+    requires { W.count writer.old < 2 ^ 64 - 1 }
+    ensures bytes { Writes (W.held writer.old) (W.held writer.new) result (closed_line W25q256jv status) }
+    ensures count { Counts (W.count writer.old) (W.count writer.new) result }
+{
+    let high = (status / 65536 % 256) as u8;
+    let middle = (status / 256 % 256) as u8;
+    let low = (status % 256) as u8;
+    put_parts(
+        writer,
+        &[
+            b"unlike status ",
+            &hex_pair(high),
+            &hex_pair(middle),
+            &hex_pair(low),
+            b"\n",
+        ],
+    )
 }

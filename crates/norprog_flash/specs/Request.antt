@@ -1,0 +1,39 @@
+-- What the values of a command line of `flash` ask for (this project's).
+use Rattle.std.specs.Prelude.{◌≡◌, ℕ, Bool, ◌&&◌, Option, Some, None, option_map, unwrap_or, is_some, List, codes}
+use Rattle.norprog_common.specs.Values.{base_of}
+use Rattle.norprog_common.specs.declared.given.FlashArgs.{FlashArgs}
+use Rattle.norprog_common.specs.declared.given.ReadArgs.{ReadArgs}
+use Rattle.norprog_flash.specs.declared.request.FlashRequest.{FlashRequest}
+use Rattle.norprog_read.specs.Request as read
+
+-- the chip is read as by a command line of `read`, and what it holds is saved
+abbrev pub read_args : FlashArgs → ReadArgs
+read_args given = record {
+  chip = given.chip;
+  mode4 = given.mode4;
+  device = given.device;
+  limit = given.limit;
+  tables = None;
+  out = given.before;
+}
+
+-- the base's digits, `0` where none are given
+abbrev pub asked_base : FlashArgs → List ℕ
+asked_base given = unwrap_or (option_map (λ t. t.now) given.base) (codes "0")
+
+-- the files that have to be named are, and each value is of its form
+abbrev pub is_well_formed : FlashArgs → Bool
+is_well_formed given =
+    read.is_well_formed (read_args given) && is_some given.hex && is_some (base_of (asked_base given)) && is_some given.before
+
+-- each value is the one that its text spells
+pub record AsksFor (given : FlashArgs) (request : FlashRequest) : Type 0 where
+  pub read : read.AsksFor (read_args given) request.read
+  pub hex : given.hex ≡ Some request.hex
+  pub layout : request.layout ≡ given.layout
+  pub base : base_of (asked_base given) ≡ Some request.base
+  pub before : given.before ≡ Some request.before
+  pub resume : request.resume ≡ given.resume
+  pub erased_only : request.erased_only ≡ given.erased_only
+  pub dry_run : request.dry_run ≡ given.dry_run
+  pub regions : request.regions ≡ given.regions

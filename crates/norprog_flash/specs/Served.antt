@@ -1,0 +1,33 @@
+-- The job that a command line of `flash` asks for (this project's). `files` is what is known of files by their names.
+use Rattle.std.specs.Prelude.{◌≡◌, ℕ, true, List, Option, Some, option_map}
+use Rattle.norprog_common.specs.Chip.{origin_of}
+use Rattle.norprog_common.specs.FileStore.{FileFacts, Named, WhereNamed}
+use Rattle.norprog_common.specs.Values.{base_of}
+use Rattle.norprog_common.specs.declared.given.FlashArgs.{FlashArgs}
+use Rattle.norprog_flash.specs.declared.files.Files.{Files}
+use Rattle.norprog_flash.specs.declared.job.Job.{Job}
+use Rattle.norprog_flash.specs.declared.request.FlashRequest.{FlashRequest}
+use Rattle.norprog_flash.specs.Request.{asked_base, read_args}
+use Rattle.norprog_read.specs.Request.{IsAskOf}
+use Rattle.norprog_read.specs.Served.{AreTablesIf}
+
+-- each is what the file of its name gave
+pub record AreGiven (facts : FileFacts) (request : FlashRequest) (held : Files) : Type 0 where
+  pub hex : facts.gave request.hex.now held.hex.items
+  pub layout : WhereNamed facts.gave (option_map (λ t. t.now) request.layout) (option_map (λ bytes. bytes.items) held.layout)
+  pub sfdp : AreTablesIf facts (option_map origin_of request.read.chip) held.sfdp.items
+  pub old : WhereNamed facts.gave (option_map (λ t. t.now) request.resume) (option_map (λ bytes. bytes.items) held.old)
+
+-- the job of a request, whose files gave what it has
+pub record IsJobOf (facts : FileFacts) (request : FlashRequest) (job : Job) : Type 0 where
+  pub held : Files
+  pub given : AreGiven facts request held
+  pub ask : IsAskOf request.read held.sfdp.items job.ask
+  pub erased_only : job.ask.erased_only ≡ request.erased_only
+  pub hex : job.hex.now ≡ held.hex.items
+  pub layout : option_map (λ t. t.now) job.layout ≡ option_map (λ bytes. bytes.items) held.layout
+  pub regions : job.regions.now ≡ request.regions.items
+  pub base : job.base ≡ request.base
+  pub old : option_map (λ t. t.now) job.old ≡ option_map (λ bytes. bytes.items) held.old
+  pub before : job.before.now ≡ request.before.now
+  pub dry : job.dry ≡ request.dry_run

@@ -1,0 +1,64 @@
+//! The files that a command line of `flash` names.
+
+ghost use Rattle.std.specs.Prelude.{◌≡◌, option_map, IfOk, IfErr};
+ghost use Rattle.norprog_common.specs.Chip.{origin_of};
+ghost use Rattle.norprog_common.specs.Files.{TellsFile};
+ghost use Rattle.norprog_common.specs.FileStore.{WhereNamed};
+ghost use Rattle.norprog_flash.specs.Served.{AreGiven};
+
+use crate::request::FlashRequest;
+use norprog_common::{FileName, FileStore, Refusal};
+use norprog_read::file_of;
+use std::alloc::Global;
+
+/// What the files hold.
+#[derive(Drop)]
+pub(crate) struct Files {
+    pub(crate) hex: Vec<u8>,
+    pub(crate) layout: Option<Vec<u8>>,
+    /// The tables; nothing where no file of them is named.
+    pub(crate) sfdp: Vec<u8>,
+    /// The content before the first try, where work is resumed.
+    pub(crate) old: Option<Vec<u8>>,
+}
+
+/// Reads the files of a request whole, in the order image, layout, tables, older content.
+pub(crate) fn read_files<S: FileStore>(
+    alloc: Global,
+    store: &S,
+    request: &FlashRequest<'_>,
+) -> Result<Files, Refusal>
+    ensures given { IfOk result (AreGiven (S.facts store.now) request.now) }
+    ensures lacked { IfErr result (TellsFile (S.facts store.now).lacked) }
+{
+    let (hex, _place) = store.read(alloc, request.hex, FileName::Hex)?;
+    let layout = read_if(alloc, store, request.layout, FileName::Layout)?;
+    let sfdp = file_of(alloc, store, request.read.chip)?;
+    let old = read_if(alloc, store, request.resume, FileName::Resume)?;
+    Ok(Files {
+        hex,
+        layout,
+        sfdp,
+        old,
+    })
+}
+
+/// Reads a file whole, where one is named.
+fn read_if<S: FileStore>(
+    alloc: Global,
+    store: &S,
+    path: Option<&str>,
+    name: FileName,
+) -> Result<Option<Vec<u8>>, Refusal>
+    ensures given { IfOk result (λ held. WhereNamed (S.facts store.now).gave (option_map (λ t. t.now) path.entry)
+        (option_map (λ bytes. bytes.items) held)) }
+    ensures lacked { IfErr result (TellsFile (S.facts store.now).lacked) }
+{
+    match path {
+        Some(path) => {
+            let (bytes, _place) = store.read(alloc, path, name)?;
+            Ok(Some(bytes))
+        }
+        None => Ok(None),
+    }
+}

@@ -1,0 +1,57 @@
+//! What the values of a command line of `flash` ask for.
+
+ghost use Rattle.std.specs.Prelude.{◌≡◌, is_some, IfSome};
+ghost use Rattle.norprog_flash.specs.Request.{is_well_formed, read_args, AsksFor};
+
+use nor_base::Bytes;
+use norprog_common::{FlashArgs, ReadArgs, base};
+use norprog_read::ReadRequest;
+
+/// What `flash` is asked for: each value is of its form.
+#[derive(Drop)]
+pub struct FlashRequest<'a> {
+    /// How the chip is read.
+    pub read: ReadRequest<'a>,
+    pub hex: &'a str,
+    pub layout: Option<&'a str>,
+    pub base: u32,
+    /// The name of the file that the content is saved in.
+    pub before: &'a str,
+    /// The name of the file that has the content before the first try, where work is resumed.
+    pub resume: Option<&'a str>,
+    pub erased_only: bool,
+    pub dry_run: bool,
+    pub regions: Vec<Bytes>,
+}
+
+/// The request that the values spell. None where one isn't of its form, or one that has to be there isn't.
+pub fn request_of<'a>(given: FlashArgs<'a>) -> Option<FlashRequest<'a>>
+    ensures forms { is_some result ≡ is_well_formed given.entry }
+    ensures values { IfSome result (λ request. AsksFor given.entry request) }
+{
+    Some(FlashRequest {
+        read: norprog_read::request_of(read_args(&given))?,
+        hex: given.hex?,
+        layout: given.layout,
+        base: base(given.base.unwrap_or("0"))?,
+        before: given.before?,
+        resume: given.resume,
+        erased_only: given.erased_only,
+        dry_run: given.dry_run,
+        regions: given.regions,
+    })
+}
+
+/// What a command line of `read` would have that reads the chip so, and saves what it holds.
+fn read_args<'a>(given: &FlashArgs<'a>) -> ReadArgs<'a>
+    ensures { result ≡ read_args given.now }
+{
+    ReadArgs {
+        chip: given.chip,
+        mode4: given.mode4,
+        device: given.device,
+        limit: given.limit,
+        tables: None,
+        out: given.before,
+    }
+}
