@@ -1,5 +1,5 @@
 -- Operations that change nothing of what a chip holds.
-use Rattle.std.proofs.Common.{◌≡◌, ◌<◌, inl, inr, ℕ, ◌+◌, ◌^◌, Bool, true, false, List, [], ◌∷◌, ◌++◌, length, map, take, Option, Result, Ok, Err, refl, sym, ◌∙◌, ap, subst, arith, append-nil}
+use Rattle.std.proofs.Common.{◌≡◌, ◌<◌, inl, inr, ℕ, ◌+◌, ◌^◌, Bool, true, false, List, [], ◌∷◌, ◌++◌, length, map, take, Option, Ok, Err, refl, sym, ap, subst, arith, append-nil}
 use Rattle.std.specs.Prelude.{flat_map, if◌then◌else◌, nat_lt}
 use Rattle.std.specs.Io.KnownBytes.{Appends}
 use Rattle.std.specs.List.{AllByRecursion, slice_range}
@@ -22,9 +22,9 @@ use Rattle.nor_serprog.specs.Protocol.{request}
 use Rattle.nor_probe.specs.declared.difference.Difference.{Difference}
 use Rattle.nor_probe.specs.declared.difference.Mismatch.{Mismatch}
 use Rattle.nor_probe.specs.declared.difference.Mismatch.TheVariants.{Exchange, Differs}
-use Rattle.nor_probe.specs.Status.{HasReadRegister, HasSettled, ReadsStatus, Settles, StopsRegister}
+use Rattle.nor_probe.specs.Status.{HasReadRegister, HasSettled, ReadsStatus, StopsRegister}
 use Rattle.nor_loop.specs.Log.{Operation, IsShort, HasLogged}
-use Rattle.nor_loop.specs.Reads.{bare, switch_ops}
+use Rattle.nor_loop.specs.Reads.{switch_ops}
 use Rattle.nor_loop.specs.Steps.{status_read}
 use Rattle.nor_reader.specs.declared.by.ReadBy.{ReadBy}
 use Rattle.nor_reader.specs.declared.by.ReadBy.TheVariants.{Tables, Content, FourBytes, Entered}

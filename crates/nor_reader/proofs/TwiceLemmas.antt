@@ -11,7 +11,7 @@ use Rattle.nor_loop.specs.Reads.{switch_ops}
 use Rattle.nor_loop.proofs.DeviceLemmas.{logged_none, logged_both}
 use Rattle.nor_reader.specs.declared.by.ReadBy.{ReadBy}
 use Rattle.nor_reader.specs.declared.by.ReadBy.TheVariants.{Tables}
-use Rattle.nor_reader.specs.Switched.{enter_ops, leave_ops, Operates, StopsAmong}
+use Rattle.nor_reader.specs.Switched.{enter_ops, leave_ops, Operates}
 use Rattle.nor_reader.specs.Reads.{ops_from, ReadsBy, HasReadOn, StopsOn}
 use Rattle.nor_reader.specs.Again.{MissesOn, ReadsAgain}
 use Rattle.nor_reader.specs.Twice.{HasReadWhole, MissesWhole, ReadTwice, ReadsWhole, StopsFirst, StopsTwice}

@@ -13,15 +13,16 @@ use Rattle.nor_serprog.specs.declared.limits.Limits.{Limits}
 use Rattle.norprog_common.specs.declared.faults.FileName.{FileName}
 use Rattle.norprog_common.specs.declared.faults.Refusal.TheVariants.{Build}
 use Rattle.norprog_play.specs.declared.ending.Ending.{Ending}
-use Rattle.norprog_play.specs.declared.unplayed.DeviceFault.{DeviceFault}
-use Rattle.norprog_play.specs.declared.unplayed.DeviceFault.TheVariants.{Greet, Line}
+use Rattle.norprog_device.specs.declared.fault.DeviceFault.{DeviceFault}
+use Rattle.norprog_device.specs.declared.fault.DeviceFault.TheVariants.{Greet, Line}
 use Rattle.norprog_play.specs.declared.unplayed.Unplayed.{Unplayed}
 use Rattle.norprog_play.specs.declared.unplayed.Unplayed.TheVariants.{Refused, Device}
 use Rattle.norprog_play.specs.Early.{MayPlay, chip_with}
 use Rattle.norprog_play.specs.Ending.{EndsSo}
 use Rattle.norprog_play.specs.Expected.{Expectation}
 use Rattle.norprog_play.specs.Moment.{Moment, moment}
-use Rattle.norprog_play.specs.Opened.{FailsTest, GreetsSo, HasPlayed, Opens, Releases, StopsBefore}
+use Rattle.norprog_device.specs.Opened.{Opens}
+use Rattle.norprog_play.specs.Opened.{FailsTest, GreetsSo, HasPlayed, Releases, StopsBefore}
 use Rattle.norprog_play.specs.Played.{EndsOnDevice, Stands, StopsPlay}
 
 pub for_memory : {T : Type 0} (P : T → Type 0) (limits : Limits) (before after : Moment) (r : Result T Unplayed) → IsErrAnd r (λ why. why ≡ Refused (Build Memory))

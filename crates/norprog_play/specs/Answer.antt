@@ -5,7 +5,8 @@ use Rattle.nor_base.specs.declared.step.Step.{Step}
 use Rattle.nor_base.specs.Device.{Ahead}
 use Rattle.nor_base.specs.Parameters.{Parameters}
 use Rattle.nor_job.specs.Status.{start_of}
-use Rattle.norprog_play.specs.declared.unplayed.DeviceFault.{DeviceFault}
+use Rattle.norprog_device.specs.declared.fault.DeviceFault.{DeviceFault}
+use Rattle.norprog_device.specs.Line.{device_line}
 use Rattle.norprog_common.specs.declared.faults.FileName.{FileName}
 use Rattle.norprog_common.specs.declared.faults.Refusal.{Refusal}
 use Rattle.norprog_common.specs.declared.given.PlayArgs.{PlayArgs}
@@ -18,7 +19,7 @@ use Rattle.norprog_play.specs.Job.{IsReady, RefusesJob}
 use Rattle.norprog_play.specs.Played.{Ends, EndsGreeting}
 use Rattle.norprog_play.specs.Request.{is_well_formed}
 use Rattle.norprog_play.specs.Served.{PlayTask, Serves, expectation}
-use Rattle.norprog_play.specs.State.{device_line, ReportsEnding}
+use Rattle.norprog_play.specs.State.{ReportsEnding}
 
 -- the script's steps, on that chip with that content, ended so
 pub record IsEndingOf (files : FileFacts) (ending : Ending) (t : PlayTask) : Type 0 where

@@ -3,7 +3,6 @@ use Rattle.std.specs.Prelude.{ℕ, ◌/◌, ◌%◌, Bool, true, false, List, �
 use Rattle.nor_base.specs.declared.wrong.Wrong.TheVariants.{PollNever}
 use Rattle.nor_base.specs.Script.{closed}
 use Rattle.nor_serprog.specs.declared.fault.Fault.{Fault}
-use Rattle.nor_serprog.specs.declared.fault.Fault.TheVariants as fault
 use Rattle.nor_base.specs.Script.{hex_pair}
 use Rattle.nor_probe.specs.declared.difference.Difference.{Difference}
 use Rattle.nor_probe.specs.declared.difference.Mismatch.{Mismatch}
@@ -16,15 +15,9 @@ use Rattle.norprog_play.specs.declared.ending.Unlike.TheVariants as unlike
 use Rattle.nor_check.specs.declared.verdict.Verdict.TheVariants.{No as Says}
 use Rattle.norprog_check.specs.Line.{verdict_text}
 use Rattle.norprog_common.specs.Wrongs.{wrong_number}
+use Rattle.norprog_device.specs.Line.{fault_word}
 use Rattle.norprog_play.specs.declared.ending.Ending.{Ending}
 use Rattle.norprog_play.specs.declared.ending.Ending.TheVariants.{Done, Wrong, No, Unlike, Failed}
-
-abbrev pub fault_word : Fault → List ℕ
-fault_word fault.Read = codes "read"
-fault_word fault.Write = codes "write"
-fault_word fault.Silent = codes "silent"
-fault_word fault.Nak = codes "nak"
-fault_word fault.Differs = codes "differs"
 
 -- `wrong N at K`, and LF
 abbrev pub wrong_line : ℕ → ℕ → List ℕ

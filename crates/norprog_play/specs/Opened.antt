@@ -7,32 +7,18 @@ use Rattle.nor_job.specs.declared.fault.BuildFault.TheVariants.{Memory}
 use Rattle.nor_serprog.specs.declared.fault.Fault.{Fault}
 use Rattle.nor_serprog.specs.declared.limits.Limits.{Limits}
 use Rattle.nor_serprog.specs.Exchange.{Answers, Asks}
-use Rattle.nor_serprog.specs.Greeting.{Greeted, release_bytes}
+use Rattle.nor_serprog.specs.Greeting.{release_bytes}
 use Rattle.nor_serprog.specs.Line.{TestsLine}
 use Rattle.norprog_common.specs.declared.faults.Refusal.TheVariants.{Build}
 use Rattle.norprog_play.specs.declared.ending.Ending.{Ending}
-use Rattle.norprog_play.specs.declared.unplayed.DeviceFault.{DeviceFault}
-use Rattle.norprog_play.specs.declared.unplayed.DeviceFault.TheVariants.{Greet, Line}
+use Rattle.norprog_device.specs.declared.fault.DeviceFault.{DeviceFault}
+use Rattle.norprog_device.specs.declared.fault.DeviceFault.TheVariants.{Greet, Line}
+use Rattle.norprog_device.specs.Opened.{Opens}
 use Rattle.norprog_play.specs.declared.unplayed.Unplayed.{Unplayed}
 use Rattle.norprog_play.specs.declared.unplayed.Unplayed.TheVariants.{Refused, Device}
 use Rattle.norprog_play.specs.Ending.{EndsSo}
 use Rattle.norprog_play.specs.Expected.{Expectation}
 use Rattle.norprog_play.specs.Moment.{Moment}
-
--- the device reported these limits, and then the test of the line to it ended so
-pub record HasOpened (held_before held_after : Option (List ℕ)) (ahead_before ahead_after : Ahead) (limits : Limits)
-    (result : Result (Unit {0}) Fault) : Type 0 where
-  pub held : Option (List ℕ)
-  pub ahead : Ahead
-  pub greeted : Greeted held_before held ahead_before ahead (Ok limits)
-  pub tested : TestsLine held held_after ahead ahead_after result limits
-
--- the handshake and the test of the line ended so
-abbrev pub Opens : Option (List ℕ) → Option (List ℕ) → Ahead → Ahead → Result Limits DeviceFault → Type 0
-Opens held_before held_after ahead_before ahead_after (Ok limits) = HasOpened held_before held_after ahead_before ahead_after limits (Ok tt)
-Opens held_before held_after ahead_before ahead_after (Err (Greet why)) = Greeted held_before held_after ahead_before ahead_after (Err why)
-Opens held_before held_after ahead_before ahead_after (Err (Line why)) =
-    (limits : Limits) × HasOpened held_before held_after ahead_before ahead_after limits (Err why)
 
 -- the test of the line ended early, and so it is reported
 abbrev pub FailsTest : Option (List ℕ) → Option (List ℕ) → Ahead → Ahead → Limits → DeviceFault → Type 0

@@ -4,7 +4,7 @@ use Rattle.std.specs.Prelude.{◌≡◌, ◌⊎◌, ℕ, Bool, List, Option, Err
 use Rattle.nor_base.specs.declared.meaning.Start.{Start}
 use Rattle.nor_base.specs.declared.step.Step.{Step}
 use Rattle.nor_base.specs.Parameters.{Parameters}
-use Rattle.norprog_play.specs.declared.unplayed.DeviceFault.{DeviceFault}
+use Rattle.norprog_device.specs.declared.fault.DeviceFault.{DeviceFault}
 use Rattle.nor_serprog.specs.declared.limits.Limits.{Limits}
 use Rattle.norprog_common.specs.declared.faults.FileName.{FileName}
 use Rattle.norprog_common.specs.Files.{TellsFile}

@@ -1,21 +1,15 @@
--- What is told beside an ending, its status, and what is told of a handshake that ended early (this project's).
+-- What is told beside an ending, and its status (this project's).
 use Rattle.std.specs.Prelude.{◌≡◌, ◌⊎◌, ℕ, Bool, true, false, if◌then◌else◌, List, [], ◌++◌, codes, Option}
 use Rattle.std.specs.Io.KnownBytes.{Appends}
 use Rattle.nor_base.specs.Device.{Cuts}
 use Rattle.nor_job.specs.declared.fault.BuildFault.TheVariants.{Write}
-use Rattle.nor_serprog.specs.declared.fault.Fault.{Fault}
-use Rattle.nor_serprog.specs.declared.fault.Fault.TheVariants as fault
-use Rattle.nor_serprog.specs.declared.fault.GreetFault.{GreetFault}
-use Rattle.nor_serprog.specs.declared.fault.GreetFault.TheVariants.{Command, Version, NoOperation}
 use Rattle.norprog_play.specs.declared.ending.Failure.{Failure}
 use Rattle.norprog_play.specs.declared.ending.Failure.TheVariants.{Carried}
 use Rattle.norprog_common.specs.Lines.{program_line, printed}
 use Rattle.norprog_common.specs.declared.faults.Refusal.TheVariants.{Build}
 use Rattle.norprog_play.specs.declared.ending.Ending.{Ending}
 use Rattle.norprog_play.specs.declared.ending.Ending.TheVariants.{Done, Wrong as GoesWrong, No, Unlike, Failed}
-use Rattle.norprog_play.specs.declared.unplayed.DeviceFault.{DeviceFault}
-use Rattle.norprog_play.specs.declared.unplayed.DeviceFault.TheVariants.{Greet, Line}
-use Rattle.norprog_play.specs.Line.{fault_word, ending_line}
+use Rattle.norprog_play.specs.Line.{ending_line}
 
 -- a step that failed so was sent
 abbrev pub is_sent : Failure → Bool
@@ -44,25 +38,6 @@ status_of (GoesWrong step why) = 1
 status_of (No step why) = 1
 status_of (Unlike why) = 1
 status_of (Failed step why) = 1
-
-abbrev pub greet_word : GreetFault → List ℕ
-greet_word (Command at why) = fault_word why
-greet_word Version = codes "version"
-greet_word NoOperation = codes "operation"
-
--- a line that changes what goes out, unless the reader or the writer failed
-abbrev pub line_word : Fault → List ℕ
-line_word fault.Read = codes "read"
-line_word fault.Write = codes "write"
-line_word other = codes "line"
-
-abbrev pub device_word : DeviceFault → List ℕ
-device_word (Greet why) = greet_word why
-device_word (Line why) = line_word why
-
--- `norprog: device WHY`, and LF
-abbrev pub device_line : DeviceFault → List ℕ
-device_line why = program_line (codes "device " ++ device_word why)
 
 -- where the chip may hold a part of the work that was written, if the writer works; else nothing was
 abbrev pub TellsState : Bool → Type 0 → Type 0 → Option (List ℕ) → Option (List ℕ) → Type 0

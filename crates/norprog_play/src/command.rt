@@ -1,10 +1,8 @@
 //! `play`: from the texts of the command line to the line of an ending.
 
 ghost use Rattle.std.specs.Prelude.{◌≡◌, ◌<◌, ◌≤◌, ◌-◌, ◌^◌, true, length, IfOk, IfErr, MatchResult};
-ghost use Rattle.std.specs.Io.Buffered.{reader_remaining};
 ghost use Rattle.nor_base.specs.Chip.{IsPossible};
 ghost use Rattle.nor_base.specs.Run.{trail};
-ghost use Rattle.norprog_common.specs.Files.{TellsFile};
 ghost use Rattle.norprog_play.specs.Answer.{IsEnding, IsUnplayed, RefusesToPlay, AnswersPlay};
 ghost use Rattle.norprog_play.specs.Early.{MayPlay, chip_with};
 ghost use Rattle.norprog_play.specs.Expected.{expectation_of};
@@ -18,14 +16,14 @@ use crate::expected::{Expected, known_tables};
 use crate::greeted::{greet_and_play, release_pins};
 use crate::job::{Job, job_of};
 use crate::request::{PlayRequest, request_of};
-use crate::state::{refuse_device, report_ending};
+use crate::state::report_ending;
 use crate::unplayed::Unplayed;
 use nor_base::{ByteOut, Meaning, Step};
 use nor_chip::Chip;
 use nor_serprog::Shadowed;
 use norprog_common::{FileName, FileStore, PlayArgs, Refusal, refuse, setup_inputs, tables_of};
+use norprog_device::{open_port, refuse_device};
 use std::alloc::Global;
-use std::io::BufReader;
 
 /// Does what the texts of a command line of `play` ask for. It opens the files that they name, plays the script on the chip in
 /// memory, and then, where nothing goes wrong there and every chip that they describe does the same, on the chip behind the device
@@ -187,21 +185,4 @@ fn play_known<S: FileStore, P: ByteOut>(
     );
     release_pins(&mut port);
     ended
-}
-
-/// The device of this name, opened.
-fn open_port<S: FileStore>(
-    alloc: Global,
-    store: &S,
-    device: &str,
-) -> Result<(BufReader<S::FromDevice>, S::ToDevice), Refusal>
-    ensures opened { IfOk result (λ port. (S.facts store.now).device device.now (reader_remaining S.FromDevice.remaining port.0)
-        (S.ToDevice.contents port.1)) }
-    ensures lacked { IfErr result (TellsFile (S.facts store.now).lacked) }
-{
-    let (from, to) = store.open_device(device)?;
-    match BufReader::new(alloc, from) {
-        Ok(from) => Ok((from, to)),
-        Err(_) => Err(Refusal::MEMORY),
-    }
 }

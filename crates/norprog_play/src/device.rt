@@ -36,8 +36,9 @@ use std::io::{Read, Write};
 /// chip behind the device is trusted, it is asked for its status until it is idle, at most as often as the port has turns, and its
 /// SFDP bytes are compared with those that it has to have: `Unlike` where it stays busy, where its status shows that it can't take
 /// the steps, or where a byte is another. Then the device reads the cells that [`compared_cells`] marks: `Unlike` where a byte is
-/// another, or where the reading stops. It reads by 03h with the address bytes of the chip's first mode, so a chip in the other mode gives other bytes, and past
-/// 2^24 in three-byte mode by 13h. Then the device is asked for one step after the other: `Failed` with the first that it didn't do
+/// another, or where the reading stops. It reads by 03h with the address bytes of the chip's first mode, so a chip in the other mode gives other bytes; past
+/// 2^24 in three-byte mode it reads by 13h where the tables offer it, else in four-byte mode, which is entered before each read and
+/// left after it. Then the device is asked for one step after the other: `Failed` with the first that it didn't do
 /// as the chip in memory did, and why. Last, unless the chip is trusted, the same cells are read again, and those
 /// that [`mark_wraps`] marks for what the chip in memory holds then, and compared with that: `Failed` with the number of steps where a byte is another, or where the reading stops. `Done` where
 /// all that went well.

@@ -10,14 +10,16 @@ ghost use Rattle.nor_serprog.specs.Line.{TestsLine};
 ghost use Rattle.norprog_play.specs.Early.{GoesWellInMemory};
 ghost use Rattle.norprog_play.specs.Expected.{expectation_of};
 ghost use Rattle.norprog_play.specs.Moment.{moment};
-ghost use Rattle.norprog_play.specs.Opened.{FailsTest, HasPlayed, Opens, Releases, StopsBefore};
+ghost use Rattle.norprog_device.specs.Opened.{Opens};
+ghost use Rattle.norprog_play.specs.Opened.{FailsTest, HasPlayed, Releases, StopsBefore};
 
 use crate::device::play_on_device;
 use crate::ending::Ending;
 use crate::expected::Expected;
-use crate::unplayed::{DeviceFault, Unplayed};
+use crate::unplayed::Unplayed;
 use nor_base::{ByteOut, Meaning, Step};
 use nor_serprog::{Shadowed, greet, release, test_line};
+use norprog_device::DeviceFault;
 use std::alloc::Global;
 use std::io::{Read, Write};
 

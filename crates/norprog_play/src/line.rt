@@ -3,7 +3,7 @@
 ghost use Rattle.std.specs.Prelude.{◌≡◌, ◌<◌, ◌-◌, ◌^◌};
 ghost use Rattle.nor_base.specs.Device.{Writes, Counts};
 ghost use Rattle.norprog_play.specs.declared.ending.Failure.TheVariants.{Differs, Gives};
-ghost use Rattle.norprog_play.specs.Line.{done_line, ending_line, failed_line, failure_line, fault_word, exchange_line, mismatch_line, other_line, registers_line, status_line, unlike_line, wrong_line};
+ghost use Rattle.norprog_play.specs.Line.{done_line, ending_line, failed_line, failure_line, exchange_line, mismatch_line, other_line, registers_line, status_line, unlike_line, wrong_line};
 
 use crate::ending::{Ending, Failure, Unlike};
 use itoa::Buffer;
@@ -14,6 +14,7 @@ use nor_script::{hex_number, hex_pair};
 use nor_serprog::Fault;
 use norprog_check::write_verdict;
 use norprog_common::wrong_number;
+use norprog_device::word;
 
 /// Writes the line of an ending, closed by LF, with counts in decimal, addresses in eight and bytes in two lower-case hexadecimal
 /// digits: `ok N` with the number of transactions; `wrong N at K` with the wrong's number and the step; a check's line, `no at K` and
@@ -248,17 +249,4 @@ fn write_failed<W: ByteOut>(step: u64, why: &[u8], writer: &mut W) -> Result<(),
             b"\n",
         ],
     )
-}
-
-/// The word of an exchange that ended early.
-pub(crate) fn word(fault: Fault) -> &'static [u8]
-    ensures { result.now ≡ fault_word fault }
-{
-    match fault {
-        Fault::Read => b"read",
-        Fault::Write => b"write",
-        Fault::Silent => b"silent",
-        Fault::Nak => b"nak",
-        Fault::Differs => b"differs",
-    }
 }

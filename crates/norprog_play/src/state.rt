@@ -1,4 +1,4 @@
-//! What is told beside an ending, its status, and what is told of a handshake that ended early.
+//! What is told beside an ending, and its status.
 
 ghost use Rattle.std.specs.Prelude.{◌≡◌, ◌≤◌, ◌<◌, ◌-◌, ◌^◌, false, IfOk, IfErr};
 ghost use Rattle.std.specs.Io.KnownBytes.{Appends};
@@ -6,13 +6,11 @@ ghost use Rattle.nor_base.specs.Device.{Writes, Counts};
 ghost use Rattle.nor_job.specs.declared.fault.BuildFault.TheVariants.{Write};
 ghost use Rattle.norprog_common.specs.declared.faults.Refusal.TheVariants.{Build};
 ghost use Rattle.norprog_common.specs.Lines.{printed};
-ghost use Rattle.norprog_play.specs.State.{is_partial, is_sent, state_told, status_of, device_word, device_line, ReportsEnding};
+ghost use Rattle.norprog_play.specs.State.{is_partial, is_sent, state_told, status_of, ReportsEnding};
 
 use crate::ending::{Ending, Failure};
-use crate::line::{word, write_ending};
-use crate::unplayed::DeviceFault;
-use nor_base::{ByteOut, Failed, put_all, put_parts};
-use nor_serprog::{Fault, GreetFault};
+use crate::line::write_ending;
+use nor_base::{ByteOut, Failed, put_all};
 use norprog_common::{Refusal, refuse};
 
 /// What is written where the chip may hold a part of what the steps do.
@@ -95,39 +93,5 @@ fn status_of(ending: &Ending) -> u8
         Ending::Done { .. } => 0,
         Ending::Wrong { .. } | Ending::No { .. } => 1,
         Ending::Unlike { .. } | Ending::Failed { .. } => 1,
-    }
-}
-
-/// Writes why a device can't be used, and returns the status, 1. Where `err` fails a part of the text is lost, and nothing more is
-/// written.
-pub(crate) fn refuse_device<E: ByteOut>(fault: DeviceFault, err: &mut E) -> u8
-    requires { E.count err.old < 2 ^ 64 - 1 }
-    ensures status { result ≡ 1 }
-    ensures told { E.count err.new ≡ E.count err.old → Appends (E.held err.old) (E.held err.new) (device_line fault) }
-{
-    let _ = write_device(fault, err);
-    1
-}
-
-/// Writes `norprog: device WHY`, where WHY is `read`, `write`, `silent`, `nak`, `differs`, `version`, `operation` or `line`.
-fn write_device<E: ByteOut>(fault: DeviceFault, err: &mut E) -> Result<(), Failed>
-    requires { E.count err.old < 2 ^ 64 - 1 }
-    ensures bytes { Writes (E.held err.old) (E.held err.new) result (device_line fault) }
-    ensures count { Counts (E.count err.old) (E.count err.new) result }
-{
-    put_parts(err, &[b"norprog: device ", device_word(fault), b"\n"])
-}
-
-/// The word of a device that can't be used.
-fn device_word(fault: DeviceFault) -> &'static [u8]
-    ensures { result.now ≡ device_word fault }
-{
-    match fault {
-        DeviceFault::Greet(GreetFault::Command { why, at: _ }) => word(why),
-        DeviceFault::Greet(GreetFault::Version) => b"version",
-        DeviceFault::Greet(GreetFault::NoOperation) => b"operation",
-        DeviceFault::Line(Fault::Read) => b"read",
-        DeviceFault::Line(Fault::Write) => b"write",
-        DeviceFault::Line(_) => b"line",
     }
 }

@@ -5,8 +5,8 @@ ghost use Rattle.nor_job.specs.declared.fault.BuildFault.TheVariants.{Memory};
 ghost use Rattle.norprog_common.specs.declared.faults.Refusal.TheVariants.{Build};
 ghost use Rattle.norprog_play.specs.declared.unplayed.Unplayed.TheVariants as unplayed;
 
-use nor_serprog::{Fault, GreetFault};
 use norprog_common::Refusal;
+use norprog_device::DeviceFault;
 use std::alloc::AllocError;
 
 /// Why a script isn't played.
@@ -16,15 +16,6 @@ pub enum Unplayed {
     Refused(Refusal),
     /// The device can't be used.
     Device(DeviceFault),
-}
-
-/// Why a device can't be used.
-#[derive(Clone, Copy, PartialEq, Eq, Drop)]
-pub enum DeviceFault {
-    /// The handshake with it ended early.
-    Greet(GreetFault),
-    /// The test of the line to it did.
-    Line(Fault),
 }
 
 impl From<Refusal> for Unplayed {

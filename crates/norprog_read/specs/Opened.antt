@@ -7,7 +7,7 @@ use Rattle.nor_serprog.specs.Line.{TestsLine}
 use Rattle.norprog_common.specs.declared.faults.FileName.{FileName}
 use Rattle.norprog_common.specs.Files.{TellsFile}
 use Rattle.norprog_device.specs.declared.fault.DeviceFault.TheVariants.{Greet, Line}
-use Rattle.norprog_device.specs.Opened.{HasOpened, LetsGo}
+use Rattle.norprog_device.specs.Opened.{LetsGo}
 use Rattle.norprog_read.specs.declared.asked.Ask.{Ask}
 use Rattle.norprog_read.specs.declared.asked.Reading.{Reading}
 use Rattle.norprog_read.specs.declared.fault.Unread.{Unread}

@@ -1,5 +1,5 @@
 -- An output that was made anew (this project's).
-use Rattle.std.specs.Prelude.{◌≡◌, ⊤, ℕ, List, Option}
+use Rattle.std.specs.Prelude.{⊤, ℕ, List, Option}
 use Rattle.std.specs.Io.KnownBytes.{Appends}
 use Rattle.nor_job.specs.declared.fault.BuildFault.TheVariants.{Memory, Write}
 use Rattle.norprog_common.specs.declared.faults.FileName.{FileName}

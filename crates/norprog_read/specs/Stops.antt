@@ -1,5 +1,5 @@
 -- Why a chip isn't read (this project's).
-use Rattle.std.specs.Prelude.{◌≡◌, ◌≢◌, ◌⊎◌, ◌<◌, ℕ, Bool, true, false, List, length, take, slice_index, Option, Ok, Err}
+use Rattle.std.specs.Prelude.{◌≡◌, ◌≢◌, ◌⊎◌, ◌<◌, ℕ, true, false, List, take, slice_index, Option, Ok, Err}
 use Rattle.nor_base.specs.declared.meaning.Start.{Start}
 use Rattle.nor_base.specs.Device.{Ahead}
 use Rattle.nor_base.specs.Parameters.{Parameters}
@@ -21,11 +21,10 @@ use Rattle.norprog_common.specs.declared.faults.Refusal.TheVariants.{Build}
 use Rattle.norprog_read.specs.declared.asked.Ask.{Ask}
 use Rattle.norprog_read.specs.declared.asked.Known.{Known}
 use Rattle.norprog_read.specs.declared.asked.Known.TheVariants.{Own, Tables as OfFile}
-use Rattle.norprog_read.specs.declared.fault.Unlike.{Unlike as Unlikeness}
 use Rattle.norprog_read.specs.declared.fault.Unlike.TheVariants.{Busy, Asking, Mode, At, Tables, Id, Unreadable}
 use Rattle.norprog_read.specs.declared.fault.Unread.{Unread}
 use Rattle.norprog_read.specs.declared.fault.Unread.TheVariants.{Refused, Unlike}
-use Rattle.norprog_read.specs.Chip.{both_go, chip_task, is_otherwise, AreAlike, GivesContent, GivesTables, HasMeaning, IsDriven, IsUndriven}
+use Rattle.norprog_read.specs.Chip.{both_go, chip_task, is_otherwise, AreAlike, GivesContent, GivesTables, IsDriven, IsUndriven}
 use Rattle.norprog_read.specs.Way.{first_by, is_readable, second_by}
 
 -- the inputs give the chip no meaning

@@ -1,5 +1,5 @@
 -- How a chip's content is read, the first time and again (this project's).
-use Rattle.std.specs.Prelude.{ℕ, ◌^◌, nat_le, not, ◌&&◌, ◌||◌, Bool, true, false, if◌then◌else◌}
+use Rattle.std.specs.Prelude.{◌^◌, nat_le, not, ◌&&◌, ◌||◌, Bool, true, false, if◌then◌else◌}
 use Rattle.nor_base.specs.declared.meaning.Start.{Start}
 use Rattle.nor_base.specs.declared.meaning.Width.{Width}
 use Rattle.nor_base.specs.declared.meaning.Width.TheVariants.{Both}

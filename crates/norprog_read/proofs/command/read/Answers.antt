@@ -1,6 +1,5 @@
 -- The lines of what was read are reported.
-use Rattle.std.proofs.Common.{◌≡◌, inl, inr, ℕ, sym, ◌∙◌}
-use Rattle.norprog_read.specs.Answer.{PrintsReading}
+use Rattle.std.proofs.Common.{◌≡◌, inl, inr}
 use Rattle.norprog_read.proofs.command.read.Goals as goal
 
 pub returns-in-Ok-clause-done : goal.returns-in-Ok-clause-done
