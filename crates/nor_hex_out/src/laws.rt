@@ -4,7 +4,7 @@ ghost use Rattle.std.specs.Prelude.{◌≡◌, ◌≤◌, ◌+◌, ◌^◌, ℕ,
 ghost use Rattle.nor_base.specs.Array.{are_bytes};
 ghost use Rattle.nor_hex.specs.declared.fault.HexFault.TheVariants.{Memory};
 ghost use Rattle.nor_hex_out.specs.Segments.{hex_text};
-ghost use Rattle.nor_hex_out.specs.Laws.{GivesJust, PartsJoin, NoneHaveNone};
+ghost use Rattle.nor_hex_out.specs.Laws.{GivesJust, PartsJoin, NoneHaveNone, WrittenGives};
 
 use nor_hex::{HexFault, Image, read, records};
 use std::alloc::Global;
@@ -25,4 +25,11 @@ pub fn read_back(alloc: Global, text: &[u8]) -> Result<Image, HexFault>
 {
     let _records = records(text);
     read(alloc, text)
+}
+
+/// The image of a written text gives just its bytes, at their addresses.
+pub fn written_images()
+    ensures { WrittenGives }
+{
+    let _records = records(&[]);
 }

@@ -10,5 +10,5 @@ mod laws;
 mod record;
 mod writer;
 
-pub use laws::{parts_join, read_back};
+pub use laws::{parts_join, read_back, written_images};
 pub use writer::{write_data, write_end, write_hex};

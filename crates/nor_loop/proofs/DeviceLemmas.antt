@@ -19,8 +19,8 @@ use Rattle.nor_plan_laws.specs.Laws.{PlannedDoesTask}
 use Rattle.nor_serprog.specs.Follow.{HasOperated, status_request}
 use Rattle.nor_serprog.specs.Follow as follow
 use Rattle.nor_serprog.specs.Protocol.{request, answer}
-use Rattle.nor_loop.specs.Device.{HasDone, HasStopped, HasDoneAll, HasStoppedAmong}
-use Rattle.nor_loop.specs.Laws.{DoneIsLogged, StoppedIsLogged, ToldLoopCloses, LoopBreaks, LoopIsExplained, DeviceCloses, DeviceBreaks}
+use Rattle.nor_serprog.specs.Done.{HasDone, HasStopped, HasDoneAll, HasStoppedAmong}
+use Rattle.nor_loop.specs.Laws.{DoneIsLogged, StopIsLogged, StoppedIsLogged, ToldLoopCloses, LoopBreaks, LoopIsExplained, DeviceCloses, DeviceBreaks}
 use Rattle.nor_loop.specs.Log.{Operation, IsShort, HasLogged}
 use Rattle.nor_loop.specs.Steps.{status_read, IsOne, IsWaiting, IsLogOf, IsBegun, AreLogOf, AreBegun}
 
@@ -156,6 +156,10 @@ stopped_logged h i a b limits turns why (Poll symbols) (same, stops) =
       upto = record { log = w.upto.log; wire = w.upto.wire; is = (same, w.upto.is) };
     }
 stopped_logged h i a b limits turns why (Verify symbols expect) did = at_once h a (IsBegun (Verify symbols expect)) refl
+
+pub stop_is_logged : StopIsLogged
+stop_is_logged h i a b limits turns why x did =
+    let at = stopped_logged h i a b limits turns why x did in (at.held, at.ahead, at.upto.log, at.upto.wire, at.upto.is)
 
 record StoppedAmong (h : Option (List ℕ)) (a : Ahead) (steps : List Step) : Type 0 where
   next : List ℕ

@@ -3,14 +3,11 @@ use Rattle.std.proofs.Common.{◌≡◌, ℕ, ◌+◌, ◌^◌, ◌<◌, ◌≤�
 use Rattle.std.specs.List.{AllByRecursion, concat, slice_range}
 use Rattle.std.proofs.lemmas.List.{nil_from_length, drop_at, drop-drop}
 use Rattle.std.proofs.lemmas.List.Folds.{drop_split}
-use Rattle.nor_base.specs.declared.meaning.Start.{Start}
 use Rattle.nor_base.specs.Parameters.{Parameters}
 use Rattle.nor_base.specs.Chip.{Setting, Chip, ready}
 use Rattle.nor_laws.specs.Spelling.{HasSpelling}
-use Rattle.nor_loop.specs.Log.{Operation, Does, Explains}
-use Rattle.nor_loop.specs.Laws.{IsReading}
-use Rattle.nor_loop.specs.Loop.{MayBe}
-use Rattle.nor_loop.specs.Four.{fours_from, ReadsAllByFour, FourReadsRead, BothRead}
+use Rattle.nor_loop.specs.Log.{Operation, Explains}
+use Rattle.nor_loop.specs.Four.{fours_from, FourReadsRead, BothRead}
 use Rattle.nor_loop.proofs.ReadLemmas.{TellAll, Tells, tells, by_13}
 use Rattle.nor_loop.proofs.ShownLemmas.{far_does, slice_there}
 use Rattle.nor_loop.proofs.SomeLemmas.{explains_both}

@@ -9,6 +9,5 @@ pub mod ShownLemmas
 pub mod SingleLemmas
 pub mod WireLemmas
 pub mod QuadLemmas
-pub mod FlashLemmas
 pub mod EnterLemmas
 pub mod FourLemmas

@@ -11,10 +11,11 @@ use Rattle.nor_base.specs.Run.{DoesTaskOnEvery}
 use Rattle.nor_base.specs.Device.{Ahead, Finite}
 use Rattle.nor_serprog.specs.declared.fault.Reason.{Reason}
 use Rattle.nor_serprog.specs.declared.limits.Limits.{Limits}
-use Rattle.nor_loop.specs.Device.{HasDoneAll, HasStoppedAmong, ClosesLoop, BreaksLoop}
+use Rattle.nor_serprog.specs.Done.{HasStopped, HasDoneAll, HasStoppedAmong}
+use Rattle.nor_loop.specs.Device.{ClosesLoop, BreaksLoop}
 use Rattle.nor_loop.specs.Log.{Operation, Explains, HasLogged}
 use Rattle.nor_loop.specs.Reads.{ReadsAll, EntersAndReads, reads_from}
-use Rattle.nor_loop.specs.Steps.{AreLogOf, AreBegun}
+use Rattle.nor_loop.specs.Steps.{IsBegun, AreLogOf, AreBegun}
 use Rattle.nor_loop.specs.Loop.{MayBe, EndsAs, EveryChipEnds, EveryChipHoldsPart}
 
 -- a chip can be read whole from the mode that it begins in: its addresses fit three bytes, or that mode has four, or it has 13h
@@ -112,6 +113,12 @@ OneLog = (held_before held_after ahead_before ahead_after : List ℕ) (xs ys : L
     → HasLogged (Some held_before) (Some held_after) (Finite ahead_before) (Finite ahead_after) xs
     → HasLogged (Some held_before) (Some held_after) (Finite ahead_before) (Finite ahead_after) ys → xs ≡ ys
 
+-- logs of two stretches, one after the other, are one log
+abbrev pub LogsJoin : Type 0
+LogsJoin = (held_before held held_after : Option (List ℕ)) (ahead_before ahead ahead_after : Ahead) (xs ys : List Operation)
+    → HasLogged held_before held ahead_before ahead xs → HasLogged held held_after ahead ahead_after ys
+    → HasLogged held_before held_after ahead_before ahead_after (xs ++ ys)
+
 -- what a device did for steps is a log of them, over its wire; where it stopped, a log of those before, and the next clocks
 abbrev pub DoneIsLogged : Type 0
 DoneIsLogged = (held_before held_after : Option (List ℕ)) (ahead_before ahead_after : Ahead) (limits : Limits) (turns : ℕ) (steps : List Step)
@@ -123,6 +130,12 @@ StoppedIsLogged = (held_before held_after : Option (List ℕ)) (ahead_before ahe
     (steps : List Step) → HasStoppedAmong held_before held_after ahead_before ahead_after limits turns why steps
     → (held : Option (List ℕ)) × (ahead : Ahead) × (log : List Operation) × (next : List ℕ) × HasLogged held_before held ahead_before ahead log
     × AreBegun steps log next
+
+-- where it stopped at one step, a log of the reads of a poll that were done; the exchange that stopped is no part of it
+abbrev pub StopIsLogged : Type 0
+StopIsLogged = (held_before held_after : Option (List ℕ)) (ahead_before ahead_after : Ahead) (limits : Limits) (turns : ℕ) (why : Reason)
+    (x : Step) → HasStopped held_before held_after ahead_before ahead_after limits turns why x
+    → (held : Option (List ℕ)) × (ahead : Ahead) × (log : List Operation) × HasLogged held_before held ahead_before ahead log × IsBegun x log
 
 -- a device read a content twice
 pub record ReadTwice (held_before held_after : Option (List ℕ)) (ahead_before ahead_after : Ahead) (m : Parameters) (start : Start) (content : List ℕ)

@@ -13,9 +13,9 @@ use Rattle.nor_serprog.specs.declared.fault.Reason.{Reason}
 use Rattle.nor_serprog.specs.declared.limits.Limits.{Limits}
 use Rattle.nor_serprog.specs.Carried.{operation_clocks}
 use Rattle.nor_base.specs.Chip.{Setting, Chip}
-use Rattle.nor_loop.specs.Device.{HasDoneAll, HasStoppedAmong}
+use Rattle.nor_serprog.specs.Done.{HasDoneAll, HasStoppedAmong}
 use Rattle.nor_loop.specs.Log.{Operation, Explains}
-use Rattle.nor_loop.specs.Loop.{EveryChipEnds}
+use Rattle.nor_loop.specs.Loop.{EveryChipEnds, EveryChipHoldsPart}
 
 -- data clocks of this form use at most one lane
 abbrev pub is_one_lane : Form → Bool
@@ -61,3 +61,9 @@ QuadUnseen = (s : Setting) (c d : Chip) (q : Bool) (log : List Operation) → Ex
 abbrev pub WhateverQuad : Type 0
 WhateverQuad = (m : Parameters) (start : Start) (goal : List ℕ → List ℕ) (log : List Operation) (p q : Bool)
     → EveryChipEnds m (record start { quad = p }) goal log → EveryChipEnds m (record start { quad = q }) goal log
+
+-- so too where work was broken off at an operation
+abbrev pub WhateverQuadPart : Type 0
+WhateverQuadPart = (m : Parameters) (start : Start) (content goal : List ℕ) (log : List Operation) (next sent : List ℕ) (asked : ℕ) (p q : Bool)
+    → next ≡ operation_clocks sent asked → EveryChipHoldsPart m (record start { quad = p }) content goal log next
+    → EveryChipHoldsPart m (record start { quad = q }) content goal log next

@@ -1,15 +1,15 @@
 //! Laws of logs. A log has each operation that went over the wire of a device that speaks serprog, and the bytes that came back. A chip
 //! explains it where it does each operation and gives these bytes. What is promised speaks of every chip that explains a log.
 //!
-//! The functions do nothing: their contracts are the laws, and the gate proves them. No command rests on them yet.
+//! The functions do nothing: their contracts are the laws, and the gate proves them. `nor_flasher` has what follows for
+//! a command that reads and programs a chip.
 #![tactic(auto)]
 
 pub mod worked;
 
-ghost use Rattle.nor_loop.specs.Flash.{FlashIsMet};
 ghost use Rattle.nor_loop.specs.Four.{FourReadsRead, BothRead};
-ghost use Rattle.nor_loop.specs.Single.{SingleIsOperation, PlannedIsSingle, DoneInParts, StoppedInParts, QuadUnseen, WhateverQuad};
-ghost use Rattle.nor_loop.specs.Laws.{ReadsTell, ReadsKeep, LoopCloses, LoopResumes, LoopMends, LoopBreaks, LoopIsExplained, DoneIsLogged, StoppedIsLogged, DeviceCloses, DeviceBreaks, OneLog, EnteredReadsTell, ReadsRead, EnteredReadsRead, ToldLoopCloses};
+ghost use Rattle.nor_loop.specs.Single.{SingleIsOperation, PlannedIsSingle, DoneInParts, StoppedInParts, QuadUnseen, WhateverQuad, WhateverQuadPart};
+ghost use Rattle.nor_loop.specs.Laws.{ReadsTell, ReadsKeep, LoopCloses, LoopResumes, LoopMends, LoopBreaks, LoopIsExplained, DoneIsLogged, StopIsLogged, StoppedIsLogged, DeviceCloses, DeviceBreaks, OneLog, LogsJoin, EnteredReadsTell, ReadsRead, EnteredReadsRead, ToldLoopCloses};
 
 use nor_laws::spelling;
 use nor_plan_laws::planned_work;
@@ -72,6 +72,7 @@ pub fn loop_is_explained()
 pub fn device()
     ensures logged { DoneIsLogged }
     ensures stopped { StoppedIsLogged }
+    ensures begun { StopIsLogged }
     ensures closes { DeviceCloses }
     ensures breaks { DeviceBreaks }
 {
@@ -82,27 +83,25 @@ pub fn device()
 }
 
 /// An instruction on one lane without dummy clocks is one operation of a device; without the quad setting planned work has no other
-/// instruction. What a device did in two parts it did as a whole, and so where it stopped in the second. A log doesn't show the chip's
-/// quad setting, so what is promised for one setting is promised for the other.
+/// instruction. What a device did in two parts it did as a whole, and so where it stopped in the second.
 pub fn single()
     ensures operation { SingleIsOperation }
     ensures planned { PlannedIsSingle }
     ensures parts { DoneInParts }
     ensures stops { StoppedInParts }
-    ensures quad { QuadUnseen }
+{}
+
+/// A log doesn't show the chip's quad setting, so what is promised for one setting is promised for the other. This holds of work that
+/// was done, and of work that was broken off.
+pub fn quad()
+    ensures unseen { QuadUnseen }
     ensures whatever { WhateverQuad }
+    ensures part { WhateverQuadPart }
 {}
 
-/// Where writer and reader tell their bytes, a wire has just one log, so nobody can choose one that suits.
+/// Where writer and reader report their bytes, a wire has just one log, so nobody can choose one that suits. Logs of two stretches, one
+/// after the other, are one log.
 pub fn wire()
-    ensures { OneLog }
+    ensures one { OneLog }
+    ensures joined { LogsJoin }
 {}
-
-/// What a command would promise that reads a chip, plans for what it read, and programs (`Flashed`). It is met where the device greeted,
-/// read the tables, read the content twice, and did planned work on it.
-pub fn flash()
-    ensures { FlashIsMet }
-{
-    device();
-    single();
-}

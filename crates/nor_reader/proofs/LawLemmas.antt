@@ -1,13 +1,14 @@
 -- Reads are those of which the laws of logs speak.
-use Rattle.std.proofs.Common.{◌≡◌, ◌≤◌, ℕ, Bool, ◌+◌, ◌^◌, List, [], ◌∷◌, ◌++◌, length, refl, ap, ◌∙◌, subst}
+use Rattle.std.proofs.Common.{◌≡◌, ◌≤◌, ℕ, Bool, true, ◌+◌, ◌^◌, List, [], ◌∷◌, ◌++◌, length, refl, ap, ◌∙◌, subst, append-nil}
 use Rattle.nor_base.specs.declared.meaning.Start.{Start}
+use Rattle.nor_base.specs.declared.meaning.Switch.{Switch}
 use Rattle.nor_base.specs.Parameters.{Parameters}
-use Rattle.nor_loop.specs.Four.{fours_from, FourReadsRead, BothRead}
-use Rattle.nor_loop.specs.Laws.{IsReading, ReadsRead}
+use Rattle.nor_loop.specs.Four.{fours_from, FourReadsRead}
+use Rattle.nor_loop.specs.Laws.{IsReading, ReadsRead, EnteredReadsRead}
 use Rattle.nor_loop.specs.Log.{Operation}
-use Rattle.nor_loop.specs.Reads.{reads_from, ReadsAll}
+use Rattle.nor_loop.specs.Reads.{reads_from, switch_ops, ReadsAll}
 use Rattle.nor_reader.specs.declared.by.ReadBy.{ReadBy}
-use Rattle.nor_reader.specs.declared.by.ReadBy.TheVariants.{Tables, Content, FourBytes}
+use Rattle.nor_reader.specs.declared.by.ReadBy.TheVariants.{Tables, Content, FourBytes, Entered}
 use Rattle.nor_reader.specs.Laws.{GivesBy, TwiceKnows}
 use Rattle.nor_reader.specs.Reads.{read_op, ops_from, ReadsBy}
 
@@ -19,21 +20,45 @@ as_fours : (at : ℕ) (pieces : List (List ℕ)) → ops_from FourBytes at piece
 as_fours at [] = refl
 as_fours at (piece ∷ pieces) = ap (λ log. read_op FourBytes at piece ∷ log) (as_fours (at + length piece) pieces)
 
-reading_by : ReadsRead → FourReadsRead → (m : Parameters) (start : Start) (by : ReadBy) (content : List ℕ) (log : List Operation) → m.size ≤ 2 ^ 32
-    → length content ≡ m.size → GivesBy m start by → ReadsBy by content log → IsReading m start content log
-reading_by read four m start Tables content log fits whole gives reads = absurd gives
-reading_by read four m start (Content mode4) content log fits whole gives reads =
-    read m start content log fits gives.1 whole
-    (subst (λ mode. ReadsAll mode content log) gives.0
-    (record { pieces = reads.pieces; filled = reads.filled; whole = reads.whole; those = reads.those ∙ as_reads mode4 0 reads.pieces }))
-reading_by read four m start FourBytes content log fits whole gives reads =
-    four m start content log fits gives whole
-    (record { pieces = reads.pieces; filled = reads.filled; whole = reads.whole; those = reads.those ∙ as_fours 0 reads.pieces })
+as_entered : (enter leave : Switch) (at : ℕ) (pieces : List (List ℕ)) → ops_from (Entered enter leave) at pieces ≡ reads_from true at pieces
+as_entered enter leave at [] = refl
+as_entered enter leave at (piece ∷ pieces) =
+    ap (λ log. read_op (Entered enter leave) at piece ∷ log) (as_entered enter leave (at + length piece) pieces)
 
-pub twice_knows : ReadsRead → FourReadsRead → BothRead → TwiceKnows
-twice_knows read four both h i a b m start by again content fits whole gives gives_again twice = record {
-  log = twice.first ++ twice.second;
+reading_by : ReadsRead → FourReadsRead → EnteredReadsRead → (m : Parameters) (start : Start) (by : ReadBy) (content : List ℕ) (log : List Operation)
+    → m.size ≤ 2 ^ 32 → length content ≡ m.size → GivesBy m start by → ReadsBy by content log → IsReading m start content log
+reading_by read four entered m start Tables content log fits whole gives reads = absurd gives
+reading_by read four entered m start (Content mode4) content log fits whole gives reads =
+    read m start content log fits gives.1 whole
+    (subst (λ mode. ReadsAll mode content log) gives.0 (record {
+      pieces = reads.pieces;
+      filled = reads.filled;
+      whole = reads.whole;
+      those = reads.those ∙ append-nil (ops_from (Content mode4) 0 reads.pieces) ∙ as_reads mode4 0 reads.pieces;
+    }))
+reading_by read four entered m start FourBytes content log fits whole gives reads =
+    four m start content log fits gives whole (record {
+      pieces = reads.pieces;
+      filled = reads.filled;
+      whole = reads.whole;
+      those = reads.those ∙ append-nil (ops_from FourBytes 0 reads.pieces) ∙ as_fours 0 reads.pieces;
+    })
+reading_by read four entered m start (Entered enter leave) content log fits whole gives reads =
+    entered m start content log fits gives.2 gives.3 gives.4 whole (record {
+      pieces = reads.pieces;
+      filled = reads.filled;
+      whole = reads.whole;
+      those = reads.those
+          ∙ ap (λ ops. switch_ops enter 0xB7 ++ (ops ++ switch_ops leave 0xE9)) (as_entered enter leave 0 reads.pieces)
+          ∙ ap (λ (w : Switch). switch_ops w 0xB7 ++ (reads_from true 0 reads.pieces ++ switch_ops leave 0xE9)) gives.0
+          ∙ ap (λ (w : Switch). switch_ops m.enter 0xB7 ++ (reads_from true 0 reads.pieces ++ switch_ops w 0xE9)) gives.1;
+    })
+
+pub twice_knows : ReadsRead → FourReadsRead → EnteredReadsRead → TwiceKnows
+twice_knows read four entered h i a b m start by again content fits whole gives gives_again twice = record {
+  first = twice.first;
+  again = twice.second;
+  reads = reading_by read four entered m start by content twice.first fits whole gives twice.reads;
+  rereads = reading_by read four entered m start again content twice.second fits whole gives_again twice.rereads;
   wire = twice.wire;
-  reading = both m start content twice.first twice.second (reading_by read four m start by content twice.first fits whole gives twice.reads)
-      (reading_by read four m start again content twice.second fits whole gives_again twice.rereads);
 }

@@ -12,6 +12,7 @@ use Rattle.nor_reader.specs.declared.tables.TablesFault.TheVariants.{Memory, NoS
 use Rattle.nor_reader.specs.Reads.{HasReadOn}
 use Rattle.nor_reader.specs.Tables.{HasSignature, headers_end, tables_size, AreTables, StopsTables, Grows}
 use Rattle.nor_reader.proofs.PassLemmas.{stops_after}
+use Rattle.nor_reader.proofs.TwiceLemmas.{tables_stop}
 
 -- reading on after a part of them stopped
 pub grow_stops : (h i j : Option (List ℕ)) (a b c : Ahead) (old new : List ℕ) (end : ℕ) (why : TablesFault) → HasReadOn h i a b Tables [] old
@@ -19,7 +20,7 @@ pub grow_stops : (h i j : Option (List ℕ)) (a b c : Ahead) (old new : List ℕ
 grow_stops h i j a b c old new end Memory read stop =
     (old, subst (λ held. HasReadOn h held a c Tables [] old) (sym stop.0) (subst (λ ahead. HasReadOn h i a ahead Tables [] old) (sym stop.1) read))
 grow_stops h i j a b c old new end NoSignature read stop = absurd stop
-grow_stops h i j a b c old new end (Unread (Exchange why)) read stop = (old, inl (stops_after h i j a b c Tables [] old why read stop))
+grow_stops h i j a b c old new end (Unread (Exchange why)) read stop = (old, inl (tables_stop h j a c old why (stops_after h i j a b c Tables [] old why read stop)))
 grow_stops h i j a b c old new end (Unread (Differs d)) read stop = absurd stop
 
 -- a part comes first

@@ -1,34 +1,85 @@
 -- A reading, and then another.
-use Rattle.std.proofs.Common.{inr, ℕ, List, [], Option, Result, Ok, Err, refl}
+use Rattle.std.proofs.Common.{◌≡◌, inl, inr, ℕ, List, [], ◌++◌, Option, Result, Ok, Err, refl, subst}
 use Rattle.std.specs.Prelude.{MatchResult}
+use Rattle.nor_base.specs.declared.meaning.Switch.{Switch}
 use Rattle.nor_base.specs.Device.{Ahead}
 use Rattle.nor_probe.specs.declared.difference.Mismatch.{Mismatch}
 use Rattle.nor_probe.specs.declared.difference.Mismatch.TheVariants.{Exchange, Differs}
-use Rattle.nor_loop.proofs.DeviceLemmas.{logged_both}
+use Rattle.nor_serprog.specs.declared.fault.Fault.{Fault}
+use Rattle.nor_loop.specs.Log.{HasLogged}
+use Rattle.nor_loop.specs.Reads.{switch_ops}
+use Rattle.nor_loop.proofs.DeviceLemmas.{logged_none, logged_both}
 use Rattle.nor_reader.specs.declared.by.ReadBy.{ReadBy}
-use Rattle.nor_reader.specs.Reads.{ops_from, ReadsBy, HasReadOn}
-use Rattle.nor_reader.specs.Again.{ReadsAgain}
-use Rattle.nor_reader.specs.Twice.{ReadTwice, StopsTwice}
+use Rattle.nor_reader.specs.declared.by.ReadBy.TheVariants.{Tables}
+use Rattle.nor_reader.specs.Switched.{enter_ops, leave_ops, Operates, StopsAmong}
+use Rattle.nor_reader.specs.Reads.{ops_from, ReadsBy, HasReadOn, StopsOn}
+use Rattle.nor_reader.specs.Again.{MissesOn, ReadsAgain}
+use Rattle.nor_reader.specs.Twice.{HasReadWhole, MissesWhole, ReadTwice, ReadsWhole, StopsFirst, StopsTwice}
 
-reading_of : (h i : Option (List ℕ)) (a b : Ahead) (by : ReadBy) (bytes : List ℕ) → (read : HasReadOn h i a b by [] bytes) → ReadsBy by bytes (ops_from by 0 read.pieces)
-reading_of h i a b by bytes read = record { pieces = read.pieces; filled = read.filled; whole = read.whole; those = refl }
+-- what is said of operations is said of those of the switch that was found
+pub switched_by : (h i : Option (List ℕ)) (a b : Ahead) (r : Result (Unit {0}) Fault) (op : ℕ) (found is : Switch) → found ≡ is
+    → Operates h i a b r (switch_ops found op) → Operates h i a b r (switch_ops is op)
+switched_by h i a b r op found is same p = subst (λ (w : Switch). Operates h i a b r (switch_ops w op)) same p
 
-pub read_twice : (h i j : Option (List ℕ)) (a b c : Ahead) (by again : ReadBy) (bytes : List ℕ) → HasReadOn h i a b by [] bytes → HasReadOn i j b c again [] bytes
+-- a reading is a log
+whole_logged : (h i : Option (List ℕ)) (a b : Ahead) (by : ReadBy) (bytes : List ℕ) → (read : HasReadWhole h i a b by bytes)
+    → HasLogged h i a b (enter_ops by ++ (ops_from by 0 read.rest.first.pieces ++ leave_ops by))
+whole_logged h i a b by bytes read =
+    let rest = read.rest in
+    logged_both h read.held i a read.ahead b (enter_ops by) (ops_from by 0 rest.first.pieces ++ leave_ops by) read.entered
+    (logged_both read.held rest.held i read.ahead rest.ahead b (ops_from by 0 rest.first.pieces) (leave_ops by) rest.first.wire rest.rest)
+
+whole_reads : (h i : Option (List ℕ)) (a b : Ahead) (by : ReadBy) (bytes : List ℕ) → (read : HasReadWhole h i a b by bytes)
+    → ReadsBy by bytes (enter_ops by ++ (ops_from by 0 read.rest.first.pieces ++ leave_ops by))
+whole_reads h i a b by bytes read =
+    let first = read.rest.first in
+    record { pieces = first.pieces; filled = first.filled; whole = first.whole; those = refl }
+
+pub read_twice : (h i j : Option (List ℕ)) (a b c : Ahead) (by again : ReadBy) (bytes : List ℕ) → HasReadWhole h i a b by bytes → HasReadWhole i j b c again bytes
     → ReadTwice h j a c by again bytes
 read_twice h i j a b c by again bytes one two = record {
-  first = ops_from by 0 one.pieces;
-  second = ops_from again 0 two.pieces;
-  reads = reading_of h i a b by bytes one;
-  rereads = reading_of i j b c again bytes two;
-  wire = logged_both h i j a b c _ _ one.wire two.wire;
+  first = enter_ops by ++ (ops_from by 0 one.rest.first.pieces ++ leave_ops by);
+  second = enter_ops again ++ (ops_from again 0 two.rest.first.pieces ++ leave_ops again);
+  reads = whole_reads h i a b by bytes one;
+  rereads = whole_reads i j b c again bytes two;
+  wire = logged_both h i j a b c _ _ (whole_logged h i a b by bytes one) (whole_logged i j b c again bytes two);
 }
 
-pub missed_again : (h i j : Option (List ℕ)) (a b c : Ahead) (by again : ReadBy) (bytes : List ℕ) (why : Mismatch) → HasReadOn h i a b by [] bytes
-    → ReadsAgain i j b c (Err why) again bytes → StopsTwice h j a c by again bytes why
-missed_again h i j a b c by again bytes (Exchange why) one two = inr (record { held = i; ahead = b; read = one; missed = two })
-missed_again h i j a b c by again bytes (Differs d) one two = record { held = i; ahead = b; read = one; missed = two }
-
-pub twice_by : (h i j : Option (List ℕ)) (a b c : Ahead) (by again : ReadBy) (bytes : List ℕ) (r : Result (Unit {0}) Mismatch) → HasReadOn h i a b by [] bytes
-    → ReadsAgain i j b c r again bytes → MatchResult r (λ u. ReadTwice h j a c by again bytes) (StopsTwice h j a c by again bytes)
+pub twice_by : (h i j : Option (List ℕ)) (a b c : Ahead) (by again : ReadBy) (bytes : List ℕ) (r : Result (Unit {0}) Mismatch) → HasReadWhole h i a b by bytes
+    → ReadsWhole i j b c r again bytes → MatchResult r (λ u. ReadTwice h j a c by again bytes) (StopsTwice h j a c by again bytes)
 twice_by h i j a b c by again bytes (Ok u) one two = read_twice h i j a b c by again bytes one two
-twice_by h i j a b c by again bytes (Err why) one two = missed_again h i j a b c by again bytes why one two
+twice_by h i j a b c by again bytes (Err (Exchange why)) one two = inr (record { held = i; ahead = b; read = one; missed = two })
+twice_by h i j a b c by again bytes (Err (Differs d)) one two = record { held = i; ahead = b; read = one; missed = two }
+
+-- the tables are read without another mode
+tables_whole : (h i : Option (List ℕ)) (a b : Ahead) (bytes : List ℕ) → HasReadOn h i a b Tables [] bytes → HasReadWhole h i a b Tables bytes
+tables_whole h i a b bytes read = record {
+  held = h;
+  ahead = a;
+  entered = logged_none h a;
+  rest = record { held = i; ahead = b; first = read; rest = logged_none i b };
+}
+
+pub tables_stop : (h i : Option (List ℕ)) (a b : Ahead) (bytes : List ℕ) (why : Fault) → StopsOn h i a b Tables [] why → StopsFirst h i a b Tables bytes why
+tables_stop h i a b bytes why stop = inr (inl (record { held = h; ahead = a; entered = logged_none h a; rest = stop }))
+
+tables_miss : (h i : Option (List ℕ)) (a b : Ahead) (bytes : List ℕ) (why : Mismatch) → MissesOn h i a b Tables bytes why → MissesWhole h i a b Tables bytes why
+tables_miss h i a b bytes (Exchange why) missed = inr (inl (record { held = h; ahead = a; entered = logged_none h a; rest = missed }))
+tables_miss h i a b bytes (Differs d) missed = record {
+  held = h;
+  ahead = a;
+  entered = logged_none h a;
+  rest = record { held = i; ahead = b; first = missed; rest = logged_none i b };
+}
+
+pub tables_twice : (h i j : Option (List ℕ)) (a b c : Ahead) (bytes : List ℕ) → HasReadOn h i a b Tables [] bytes → HasReadOn i j b c Tables [] bytes
+    → ReadTwice h j a c Tables Tables bytes
+tables_twice h i j a b c bytes one two =
+    read_twice h i j a b c Tables Tables bytes (tables_whole h i a b bytes one) (tables_whole i j b c bytes two)
+
+pub tables_missed : (h i j : Option (List ℕ)) (a b c : Ahead) (bytes : List ℕ) (why : Mismatch) → HasReadOn h i a b Tables [] bytes
+    → ReadsAgain i j b c (Err why) Tables bytes → StopsTwice h j a c Tables Tables bytes why
+tables_missed h i j a b c bytes (Exchange why) one two =
+    inr (record { held = i; ahead = b; read = tables_whole h i a b bytes one; missed = tables_miss i j b c bytes (Exchange why) two })
+tables_missed h i j a b c bytes (Differs d) one two =
+    record { held = i; ahead = b; read = tables_whole h i a b bytes one; missed = tables_miss i j b c bytes (Differs d) two }

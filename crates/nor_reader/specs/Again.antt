@@ -1,5 +1,5 @@
 -- Bytes that were read are read again and compared (this project's).
-use Rattle.std.specs.Prelude.{◌≡◌, ◌<◌, ◌≤◌, ℕ, ◌+◌, List, [], ◌∷◌, length, slice_index, take, Option, Result, Ok, Err}
+use Rattle.std.specs.Prelude.{◌≡◌, ◌<◌, ◌≤◌, ℕ, ◌+◌, ◌^◌, List, [], ◌∷◌, length, slice_index, take, Option, Result, Ok, Err}
 use Rattle.std.specs.List.{slice_range}
 use Rattle.std.specs.Io.KnownBytes.{Appends}
 use Rattle.nor_base.specs.Device.{Ahead}
@@ -15,6 +15,7 @@ use Rattle.nor_reader.specs.Reads.{sent_by, read_op, HasReadOn, StopsPiece}
 -- the answer of a read from an address on came whole, and this is the first byte of it that is another than the one that was wanted
 pub record FindsOther (held_before held_after : Option (List ℕ)) (ahead_before ahead_after : Ahead) (by : ReadBy) (at : ℕ) (want : List ℕ)
     (d : Difference) : Type 0 where
+  pub short : length want < 2 ^ 24
   pub out : Appends held_before held_after (request (sent_by by at (length want)) (length want))
   pub place : ℕ
   pub other : GivesOther ahead_before ahead_after want place d.chip

@@ -1,13 +1,13 @@
 -- What two readings say of the chip (this project's).
-use Rattle.std.specs.Prelude.{◌≡◌, ◌≤◌, ℕ, ◌^◌, true, List, length, Option}
+use Rattle.std.specs.Prelude.{◌≡◌, ◌≤◌, ℕ, ◌^◌, true, false, List, length, Option}
 use Rattle.nor_base.specs.declared.meaning.Start.{Start}
 use Rattle.nor_base.specs.Chip.{begins4}
 use Rattle.nor_base.specs.Device.{Ahead}
 use Rattle.nor_base.specs.Parameters.{Parameters}
-use Rattle.nor_loop.specs.Laws.{IsReadable, IsReading}
-use Rattle.nor_loop.specs.Log.{Operation, HasLogged}
+use Rattle.nor_loop.specs.Laws.{IsReadable, ReadTwice as KnowsTwice}
 use Rattle.nor_reader.specs.declared.by.ReadBy.{ReadBy}
-use Rattle.nor_reader.specs.declared.by.ReadBy.TheVariants.{Tables, Content, FourBytes}
+use Rattle.nor_reader.specs.declared.by.ReadBy.TheVariants.{Tables, Content, FourBytes, Entered}
+use Rattle.nor_base.specs.Instructions.{is_there}
 use Rattle.nor_reader.specs.Twice.{ReadTwice}
 
 -- a chip of the meaning and the start gives its content by these reads
@@ -15,14 +15,14 @@ abbrev pub GivesBy : Parameters → Start → ReadBy → Type 0
 GivesBy m start Tables = ⊥
 GivesBy m start (Content mode4) = (mode4 ≡ begins4 m start) × IsReadable m start
 GivesBy m start FourBytes = m.read4 ≡ true
+GivesBy m start (Entered enter leave) =
+    (enter ≡ m.enter) × (leave ≡ m.leave) × (is_there m.enter ≡ true) × (is_there m.leave ≡ true) × (begins4 m start ≡ false)
 
--- what went over the wire is a log that reads the content: every ready chip of the meaning and the start that explains it held just
--- these bytes, and each that has them explains it
-pub record KnowsContent (held_before held_after : Option (List ℕ)) (ahead_before ahead_after : Ahead) (m : Parameters) (start : Start)
-    (content : List ℕ) : Type 0 where
-  pub log : List Operation
-  pub wire : HasLogged held_before held_after ahead_before ahead_after log
-  pub reading : IsReading m start content log
+-- what went over the wire is two logs, each of which reads the content: every ready chip of the meaning and the start that explains one
+-- held just these bytes, and each that has them explains it
+abbrev pub KnowsContent : Option (List ℕ) → Option (List ℕ) → Ahead → Ahead → Parameters → Start → List ℕ → Type 0
+KnowsContent held_before held_after ahead_before ahead_after m start content =
+    KnowsTwice held_before held_after ahead_before ahead_after m start content
 
 -- so it is where they came twice alike
 abbrev pub TwiceKnows : Type 0

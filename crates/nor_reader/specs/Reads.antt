@@ -1,6 +1,6 @@
 -- Reads of a chip, one after the other (W25Q256JV datasheet: Read Data 03h, Read Data with 4-Byte Address 13h; JESD216B: Read SFDP
 -- 5Ah; the exchanges are the Serial Flasher Protocol's).
-use Rattle.std.specs.Prelude.{◌≡◌, ◌<◌, ℕ, ◌+◌, List, [], ◌∷◌, ◌++◌, length, Option, Err}
+use Rattle.std.specs.Prelude.{◌≡◌, ◌<◌, ℕ, ◌+◌, ◌^◌, true, List, [], ◌∷◌, ◌++◌, length, Option, Err}
 use Rattle.std.specs.List.{AllByRecursion, concat}
 use Rattle.nor_base.specs.Device.{Ahead}
 use Rattle.nor_serprog.specs.declared.fault.Fault.{Fault}
@@ -11,13 +11,15 @@ use Rattle.nor_loop.specs.Log.{Operation, HasLogged}
 use Rattle.nor_loop.specs.Reads.{read_bytes}
 use Rattle.nor_loop.specs.Tables.{table_bytes}
 use Rattle.nor_reader.specs.declared.by.ReadBy.{ReadBy}
-use Rattle.nor_reader.specs.declared.by.ReadBy.TheVariants.{Tables, Content, FourBytes}
+use Rattle.nor_reader.specs.declared.by.ReadBy.TheVariants.{Tables, Content, FourBytes, Entered}
+use Rattle.nor_reader.specs.Switched.{enter_ops, leave_ops}
 
 -- the bytes that are sent for a read of so many bytes from an address on
 abbrev pub sent_by : ReadBy → ℕ → ℕ → List ℕ
 sent_by Tables at len = table_bytes at
 sent_by (Content mode4) at len = read_bytes mode4 at len
 sent_by FourBytes at len = four_bytes at
+sent_by (Entered enter leave) at len = read_bytes true at len
 
 -- one read, and what it gave
 abbrev pub read_op : ReadBy → ℕ → List ℕ → Operation
@@ -28,12 +30,12 @@ abbrev pub ops_from : ReadBy → ℕ → List (List ℕ) → List Operation
 ops_from by at [] = []
 ops_from by at (piece ∷ pieces) = read_op by at piece ∷ ops_from by (at + length piece) pieces
 
--- the log reads each address once, from 0 on, and this is what came back
+-- the log reads each address once, from 0 on, in four-byte mode where that is the way, and this is what came back
 pub record ReadsBy (by : ReadBy) (bytes : List ℕ) (log : List Operation) : Type 0 where
   pub pieces : List (List ℕ)
   pub filled : AllByRecursion (λ piece. 0 < length piece) pieces
   pub whole : concat pieces ≡ bytes
-  pub those : log ≡ ops_from by 0 pieces
+  pub those : log ≡ enter_ops by ++ (ops_from by 0 pieces ++ leave_ops by)
 
 -- bytes were read that follow those in front: just these reads went out, and just these bytes came
 pub record HasReadOn (held_before held_after : Option (List ℕ)) (ahead_before ahead_after : Ahead) (by : ReadBy) (front bytes : List ℕ)
@@ -46,7 +48,8 @@ pub record HasReadOn (held_before held_after : Option (List ℕ)) (ahead_before 
 -- the exchange of a read from an address on ended so
 abbrev pub StopsPiece : Option (List ℕ) → Option (List ℕ) → Ahead → Ahead → ReadBy → ℕ → List ℕ → Fault → Type 0
 StopsPiece held_before held_after ahead_before ahead_after by at got why =
-    Asks held_before held_after ahead_before ahead_after (Err why) (request (sent_by by at (length got)) (length got))
+    (length got < 2 ^ 24)
+    × Asks held_before held_after ahead_before ahead_after (Err why) (request (sent_by by at (length got)) (length got))
     (Answers ahead_before ahead_after (Err why) got)
 
 -- some of the bytes that follow those in front were read, and the exchange of the next read ended so

@@ -1,10 +1,13 @@
 -- Bytes of a chip that came twice alike (this project's).
-use Rattle.std.specs.Prelude.{◌⊎◌, ℕ, List, [], ◌++◌, Option}
+use Rattle.std.specs.Prelude.{◌⊎◌, ℕ, List, [], ◌++◌, Option, Result, Ok, Err}
 use Rattle.nor_base.specs.Device.{Ahead}
+use Rattle.nor_probe.specs.declared.difference.Difference.{Difference}
 use Rattle.nor_probe.specs.declared.difference.Mismatch.{Mismatch}
 use Rattle.nor_probe.specs.declared.difference.Mismatch.TheVariants.{Exchange, Differs}
+use Rattle.nor_serprog.specs.declared.fault.Fault.{Fault}
 use Rattle.nor_loop.specs.Log.{Operation, HasLogged}
 use Rattle.nor_reader.specs.declared.by.ReadBy.{ReadBy}
+use Rattle.nor_reader.specs.Switched.{enter_ops, leave_ops, StopsAmong}
 use Rattle.nor_reader.specs.Reads.{ReadsBy, HasReadOn, StopsOn}
 use Rattle.nor_reader.specs.Again.{MissesOn}
 
@@ -17,18 +20,84 @@ pub record ReadTwice (held_before held_after : Option (List ℕ)) (ahead_before 
   pub rereads : ReadsBy again bytes second
   pub wire : HasLogged held_before held_after ahead_before ahead_after (first ++ second)
 
+-- what happens between two moments of a device
+abbrev pub Passage : Type 1
+Passage = Option (List ℕ) → Option (List ℕ) → Ahead → Ahead → Type 0
+
+-- four-byte mode was entered where that is the way, and then this happened
+pub record IsEntered (by : ReadBy) (Then : Passage) (held_before held_after : Option (List ℕ)) (ahead_before ahead_after : Ahead)
+    : Type 0 where
+  pub held : Option (List ℕ)
+  pub ahead : Ahead
+  pub entered : HasLogged held_before held ahead_before ahead (enter_ops by)
+  pub rest : Then held held_after ahead ahead_after
+
+-- one thing happened, and then another
+pub record IsFollowed (First Then : Passage) (held_before held_after : Option (List ℕ)) (ahead_before ahead_after : Ahead) : Type 0 where
+  pub held : Option (List ℕ)
+  pub ahead : Ahead
+  pub first : First held_before held ahead_before ahead
+  pub rest : Then held held_after ahead ahead_after
+
+-- the mode was left again where it was entered; or the exchange of an operation that does so ended so
+abbrev pub IsLeft : ReadBy → Passage
+IsLeft by held_before held_after ahead_before ahead_after = HasLogged held_before held_after ahead_before ahead_after (leave_ops by)
+
+abbrev pub StopsLeaving : ReadBy → Fault → Passage
+StopsLeaving by why held_before held_after ahead_before ahead_after =
+    StopsAmong held_before held_after ahead_before ahead_after (leave_ops by) why
+
+-- all bytes came; a byte came otherwise
+abbrev pub AllCame : ReadBy → List ℕ → Passage
+AllCame by bytes held_before held_after ahead_before ahead_after = HasReadOn held_before held_after ahead_before ahead_after by [] bytes
+
+abbrev pub OtherCame : ReadBy → List ℕ → Difference → Passage
+OtherCame by bytes d held_before held_after ahead_before ahead_after =
+    MissesOn held_before held_after ahead_before ahead_after by bytes (Differs d)
+
+-- bytes were read whole
+abbrev pub HasReadWhole : Option (List ℕ) → Option (List ℕ) → Ahead → Ahead → ReadBy → List ℕ → Type 0
+HasReadWhole held_before held_after ahead_before ahead_after by bytes =
+    IsEntered by (IsFollowed (AllCame by bytes) (IsLeft by)) held_before held_after ahead_before ahead_after
+
+-- a first reading ended early: as the mode was entered, in a read, or as the mode was left
+abbrev pub StopsFirst : Option (List ℕ) → Option (List ℕ) → Ahead → Ahead → ReadBy → List ℕ → Fault → Type 0
+StopsFirst held_before held_after ahead_before ahead_after by bytes why =
+    StopsAmong held_before held_after ahead_before ahead_after (enter_ops by) why
+    ⊎ (IsEntered by (λ h i a b. StopsOn h i a b by [] why) held_before held_after ahead_before ahead_after
+    ⊎ IsEntered by (IsFollowed (AllCame by bytes) (StopsLeaving by why)) held_before held_after ahead_before ahead_after)
+
+-- bytes didn't come again: an exchange ended early, as the mode was entered, in a read, or as the mode was left; or a byte came
+-- otherwise, and the mode was left
+abbrev pub MissesWhole : Option (List ℕ) → Option (List ℕ) → Ahead → Ahead → ReadBy → List ℕ → Mismatch → Type 0
+MissesWhole held_before held_after ahead_before ahead_after by bytes (Exchange why) =
+    StopsAmong held_before held_after ahead_before ahead_after (enter_ops by) why
+    ⊎ (IsEntered by (λ h i a b. MissesOn h i a b by bytes (Exchange why)) held_before held_after ahead_before ahead_after
+    ⊎ (IsEntered by (IsFollowed (AllCame by bytes) (StopsLeaving by why)) held_before held_after ahead_before ahead_after
+    ⊎ ((d : Difference)
+    × IsEntered by (IsFollowed (OtherCame by bytes d) (StopsLeaving by why)) held_before held_after ahead_before ahead_after)))
+MissesWhole held_before held_after ahead_before ahead_after by bytes (Differs d) =
+    IsEntered by (IsFollowed (OtherCame by bytes d) (IsLeft by)) held_before held_after ahead_before ahead_after
+
+-- what a second reading says
+abbrev pub ReadsWhole : Option (List ℕ) → Option (List ℕ) → Ahead → Ahead → Result (Unit {0}) Mismatch → ReadBy → List ℕ → Type 0
+ReadsWhole held_before held_after ahead_before ahead_after (Ok u) by bytes =
+    HasReadWhole held_before held_after ahead_before ahead_after by bytes
+ReadsWhole held_before held_after ahead_before ahead_after (Err why) by bytes =
+    MissesWhole held_before held_after ahead_before ahead_after by bytes why
+
 -- bytes were read whole, and then not found so again
 pub record MissesAgain (held_before held_after : Option (List ℕ)) (ahead_before ahead_after : Ahead) (by again : ReadBy) (bytes : List ℕ)
     (why : Mismatch) : Type 0 where
   pub held : Option (List ℕ)
   pub ahead : Ahead
-  pub read : HasReadOn held_before held ahead_before ahead by [] bytes
-  pub missed : MissesOn held held_after ahead ahead_after again bytes why
+  pub read : HasReadWhole held_before held ahead_before ahead by bytes
+  pub missed : MissesWhole held held_after ahead ahead_after again bytes why
 
 -- why they didn't come twice alike: an exchange of the first reading ended early, or the second reading ended so
 abbrev pub StopsTwice : Option (List ℕ) → Option (List ℕ) → Ahead → Ahead → ReadBy → ReadBy → List ℕ → Mismatch → Type 0
 StopsTwice held_before held_after ahead_before ahead_after by again bytes (Exchange why) =
-    StopsOn held_before held_after ahead_before ahead_after by [] why
+    StopsFirst held_before held_after ahead_before ahead_after by bytes why
     ⊎ MissesAgain held_before held_after ahead_before ahead_after by again bytes (Exchange why)
 StopsTwice held_before held_after ahead_before ahead_after by again bytes (Differs d) =
     MissesAgain held_before held_after ahead_before ahead_after by again bytes (Differs d)

@@ -6,10 +6,11 @@ ghost use Rattle.nor_serprog.specs.declared.fault.Fault.TheVariants.{Read, Write
 ghost use Rattle.nor_serprog.specs.Exchange.{CountsReads, CountsWrites};
 ghost use Rattle.nor_reader.specs.Again.{ReadsAgain};
 ghost use Rattle.nor_reader.specs.Reads.{HasReadOn, StopsOn};
-ghost use Rattle.nor_reader.specs.Twice.{ReadTwice, StopsTwice};
+ghost use Rattle.nor_reader.specs.Twice.{HasReadWhole, ReadTwice, ReadsWhole, StopsFirst, StopsTwice};
 
-use crate::by::ReadBy;
+use crate::by::{ReadBy, enter_of, leave_of};
 use crate::piece::{compare_piece, read_piece};
+use crate::switch::{ENTER, LEAVE, switch_mode};
 use nor_base::{ByteIn, ByteOut};
 use nor_probe::Mismatch;
 use nor_serprog::{Fault, Limits};
@@ -18,7 +19,8 @@ use nor_serprog::{Fault, Limits};
 /// again, by an instruction that may be another, and compares them with the first. No memory is taken.
 ///
 /// On Ok just these two readings went out, and both gave the bytes. `Differs` names the lowest address whose byte came otherwise the
-/// second time; no more was read. `Exchange` where the exchange of a read ended early.
+/// second time; no more was read, and four-byte mode was left where it was entered. `Exchange` where an exchange ended early, after
+/// which nothing was sent.
 pub fn read_content<R: ByteIn, W: ByteOut>(
     from: &mut R,
     to: &mut W,
@@ -36,10 +38,71 @@ pub fn read_content<R: ByteIn, W: ByteOut>(
     ensures reads { CountsMismatch Read (R.count from.old) (R.count from.new) result }
     ensures writes { CountsMismatch Write (W.count to.old) (W.count to.new) result }
 {
-    if let Err(why) = read_on(from, to, limits, by, content, 0) {
+    if let Err(why) = read_first(from, to, limits, by, content) {
         return Err(Mismatch::Exchange(why));
     }
-    compare_all(from, to, limits, again, content)
+    read_again(from, to, limits, again, content)
+}
+
+/// Has the device read its chip from address 0 on, as far as there is room, in four-byte mode where that is the way.
+fn read_first<R: ByteIn, W: ByteOut>(
+    from: &mut R,
+    to: &mut W,
+    limits: &Limits,
+    by: ReadBy,
+    bytes: &mut [u8],
+) -> Result<(), Fault>
+    requires size { length bytes.old ≤ 2 ^ 32 }
+    requires reader { R.count from.old < 2 ^ 64 - 1 }
+    requires writer { W.count to.old < 2 ^ 64 - 1 }
+    ensures read { MatchResult result
+        (λ _. HasReadWhole (W.held to.old) (W.held to.new) (R.ahead from.old) (R.ahead from.new) by bytes.new)
+        (StopsFirst (W.held to.old) (W.held to.new) (R.ahead from.old) (R.ahead from.new) by bytes.new) }
+    ensures reads { CountsReads (R.count from.old) (R.count from.new) result }
+    ensures writes { CountsWrites (W.count to.old) (W.count to.new) result }
+{
+    if let Err(why) = switch_mode(from, to, enter_of(by), ENTER) {
+        return Err(why);
+    }
+    if let Err(why) = read_on(from, to, limits, by, bytes, 0) {
+        return Err(why);
+    }
+    switch_mode(from, to, leave_of(by), LEAVE)
+}
+
+/// Has the device read its chip from address 0 on, in four-byte mode where that is the way, and compares what comes with bytes, as many
+/// at once as it can give. No memory is taken.
+///
+/// `Differs` names the lowest address whose byte is another; no more was read, and four-byte mode was left where it was entered.
+/// `Exchange` where an exchange ended early, after which nothing was sent.
+pub fn read_again<R: ByteIn, W: ByteOut>(
+    from: &mut R,
+    to: &mut W,
+    limits: &Limits,
+    by: ReadBy,
+    bytes: &[u8],
+) -> Result<(), Mismatch>
+    requires size { length bytes.now ≤ 2 ^ 32 }
+    requires reader { R.count from.old < 2 ^ 64 - 1 }
+    requires writer { W.count to.old < 2 ^ 64 - 1 }
+    ensures again { ReadsWhole (W.held to.old) (W.held to.new) (R.ahead from.old) (R.ahead from.new) result by bytes.now }
+    ensures reads { CountsMismatch Read (R.count from.old) (R.count from.new) result }
+    ensures writes { CountsMismatch Write (W.count to.old) (W.count to.new) result }
+{
+    if let Err(why) = switch_mode(from, to, enter_of(by), ENTER) {
+        return Err(Mismatch::Exchange(why));
+    }
+    match compare_all(from, to, limits, by, bytes) {
+        Ok(()) => match switch_mode(from, to, leave_of(by), LEAVE) {
+            Ok(()) => Ok(()),
+            Err(why) => Err(Mismatch::Exchange(why)),
+        },
+        Err(Mismatch::Exchange(why)) => Err(Mismatch::Exchange(why)),
+        Err(Mismatch::Differs(d)) => match switch_mode(from, to, leave_of(by), LEAVE) {
+            Ok(()) => Err(Mismatch::Differs(d)),
+            Err(why) => Err(Mismatch::Exchange(why)),
+        },
+    }
 }
 
 /// Has the device read its chip from an address on, as far as there is room. The bytes before that address stay.

@@ -55,6 +55,7 @@ fn ask_piece<R: ByteIn, W: ByteOut>(
     match by {
         ReadBy::Tables => operate(from, to, &[0x5A, high, low, lowest, 0x00], piece),
         ReadBy::FourBytes => operate(from, to, &[0x13, highest, high, low, lowest], piece),
+        ReadBy::Entered { .. } => operate(from, to, &[0x03, highest, high, low, lowest], piece),
         ReadBy::Content { mode4 } => {
             if mode4 {
                 operate(from, to, &[0x03, highest, high, low, lowest], piece)
@@ -115,6 +116,12 @@ fn expect_piece<R: ByteIn, W: ByteOut>(
     match by {
         ReadBy::Tables => operate_with(from, to, &[0x5A, high, low, lowest, 0x00], piece),
         ReadBy::FourBytes => operate_with(from, to, &[0x13, highest, high, low, lowest], piece),
+        ReadBy::Entered { .. } => operate_with(
+            from,
+            to,
+            &[0x03, highest, high, low, lowest],
+            piece,
+        ),
         ReadBy::Content { mode4 } => {
             if mode4 {
                 operate_with(from, to, &[0x03, highest, high, low, lowest], piece)

@@ -5,7 +5,6 @@ use Rattle.std.specs.Io.KnownBytes.{Appends}
 use Rattle.std.proofs.lemmas.Grind.{flat_map-append}
 use Rattle.std.proofs.lemmas.List.Folds.{list_all-append}
 use Rattle.nor_base.specs.Device.{Ahead, Gives}
-use Rattle.nor_base.specs.Run.{poll_clocks}
 use Rattle.nor_base.specs.Sample.{sampled_count}
 use Rattle.nor_base.proofs.DeviceLaws.{Appends-append, Appends-none, Gives-append}
 use Rattle.nor_serprog.specs.declared.fault.Fault.{Fault}
@@ -14,7 +13,7 @@ use Rattle.nor_serprog.specs.declared.fault.Reason.TheVariants as reason
 use Rattle.nor_serprog.specs.declared.limits.Limits.{Limits}
 use Rattle.nor_serprog.specs.Protocol.{request, answer}
 use Rattle.nor_serprog.specs.Exchange.{Talked, Answers, Asks, Knows}
-use Rattle.nor_serprog.specs.Follow.{HasRead, are_busy, HasWaited, StaysBusy, StopsWaiting, Operates, Follows, status_request}
+use Rattle.nor_serprog.specs.Follow.{HasRead, are_busy, HasWaited, StaysBusy, StopsWaiting, Operates, status_request}
 use Rattle.nor_serprog.specs.Carried.{IsOperation}
 use Rattle.nor_serprog.proofs.CarriedLemmas.{asked_is}
 use Rattle.nor_serprog.proofs.ExchangeLemmas.{single, gives_nothing}
@@ -98,17 +97,10 @@ pub of_want : (limits : Limits) (clocks sent want : List ℕ) (asked : ℕ) → 
 of_want limits clocks sent want asked op long = subst (IsOperation limits clocks sent) (sym (asked_is limits clocks sent asked op) ∙ sym long) op
 
 -- an operation by what is known of its answer
-operates_as : (h h' : Option (List ℕ)) (a a' : Ahead) (limits : Limits) (clocks sent want : List ℕ) (r : Result (Unit {0}) Reason)
+pub operates_as : (h h' : Option (List ℕ)) (a a' : Ahead) (limits : Limits) (clocks sent want : List ℕ) (r : Result (Unit {0}) Reason)
     → IsOperation limits clocks sent (length want) → Knows h h' a a' r (request sent (length want)) want → Operates h h' a a' r limits clocks want
 operates_as h h' a a' limits clocks sent want (Ok u) op p = record { sent = sent; spelled = op; talked = record { out = p.0; back = p.1 } }
 operates_as h h' a a' limits clocks sent want (Err (reason.Differs place byte)) op p = record { sent = sent; spelled = op; put = p.0; gives = p.1 }
 operates_as h h' a a' limits clocks sent want (Err (reason.Exchange why)) op p = record { sent = sent; spelled = op; got = p.0; as_many = p.1; stop = p.2 }
 operates_as h h' a a' limits clocks sent want (Err reason.Busy) op p = absurd p
 operates_as h h' a a' limits clocks sent want (Err reason.Carried) op p = absurd p
-
-pub operates_by : (h h' : Option (List ℕ)) (a a' : Ahead) (limits : Limits) (turns : ℕ) (clocks sent want : List ℕ) (r : Result (Unit {0}) Reason) → clocks ≢ poll_clocks
-    → IsOperation limits clocks sent (length want) → Knows h h' a a' r (request sent (length want)) want → Follows h h' a a' r limits turns clocks want
-operates_by h h' a a' limits turns clocks sent want r other op p = record {
-  poll = (λ (is : clocks ≡ poll_clocks). absurd (other is));
-  other = (λ (is : clocks ≢ poll_clocks). operates_as h h' a a' limits clocks sent want r op p);
-}

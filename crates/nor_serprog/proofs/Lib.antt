@@ -5,3 +5,4 @@ mod GreetLemmas
 mod FollowLemmas
 mod PieceLemmas
 mod LineLemmas
+mod StepLemmas

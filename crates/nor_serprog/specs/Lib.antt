@@ -4,3 +4,5 @@ pub mod Carried
 pub mod Greeting
 pub mod Line
 pub mod Follow
+pub mod Done
+pub mod Steps

@@ -6,10 +6,10 @@ ghost use Rattle.nor_base.specs.Device.{Counts, Writes};
 ghost use Rattle.nor_base.specs.Sample.{sampled_count};
 ghost use Rattle.nor_serprog.specs.declared.fault.Fault.TheVariants.{Read, Write};
 ghost use Rattle.nor_serprog.specs.Exchange.{Knows};
-ghost use Rattle.nor_serprog.specs.Follow.{Follows, Waits, CountsReason};
+ghost use Rattle.nor_serprog.specs.Follow.{Follows, Operates, Waits, CountsReason};
 ghost use Rattle.nor_serprog.specs.Protocol.{request};
 
-use crate::carried::bits_sent;
+use crate::clocks::bits_sent;
 use crate::exchange::answered;
 use crate::fault::{Fault, Reason};
 use crate::limits::Limits;
@@ -41,6 +41,25 @@ pub(crate) fn follow<R: ByteIn, W: ByteOut>(
     if clocks == POLL.as_slice() {
         return wait(from, to, turns);
     }
+    operate_once(from, to, limits, clocks, want)
+}
+
+/// Has the device do the one operation of these clocks, which is to give these bytes.
+pub(crate) fn operate_once<R: ByteIn, W: ByteOut>(
+    from: &mut R,
+    to: &mut W,
+    limits: &Limits,
+    clocks: &[u8],
+    want: &[u8],
+) -> Result<(), Reason>
+    requires want { length want.now ≡ sampled_count clocks.now }
+    requires reader { R.count from.old < 2 ^ 64 - 1 }
+    requires writer { W.count to.old < 2 ^ 64 - 1 }
+    ensures operates { Operates (W.held to.old) (W.held to.new) (R.ahead from.old) (R.ahead from.new) result limits.now
+        clocks.now want.now }
+    ensures reads { CountsReason Read (R.count from.old) (R.count from.new) result }
+    ensures writes { CountsReason Write (W.count to.old) (W.count to.new) result }
+{
     match bits_sent(clocks, limits) {
         Some(bits) => operate_as(from, to, bits, want),
         None => Err(Reason::Carried),
@@ -48,7 +67,11 @@ pub(crate) fn follow<R: ByteIn, W: ByteOut>(
 }
 
 /// Reads the status of the chip behind the device until it says idle, so many times at most.
-fn wait<R: ByteIn, W: ByteOut>(from: &mut R, to: &mut W, turns: u64) -> Result<(), Reason>
+pub(crate) fn wait<R: ByteIn, W: ByteOut>(
+    from: &mut R,
+    to: &mut W,
+    turns: u64,
+) -> Result<(), Reason>
     requires reader { R.count from.old < 2 ^ 64 - 1 }
     requires writer { W.count to.old < 2 ^ 64 - 1 }
     ensures waits { Waits (W.held to.old) (W.held to.new) (R.ahead from.old) (R.ahead from.new) result turns }

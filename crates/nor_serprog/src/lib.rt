@@ -3,11 +3,13 @@
 //!
 //! [`greet`] begins, [`test_line`] shows that each byte reaches the device as it was sent,
 //! [`operate`] does one SPI operation, [`operate_with`] one whose answer is known, [`is_carried`]
-//! tells which clocks are one. [`release`] ends. [`Shadowed`] is a [`nor_chip::Port`]: a chip in
-//! memory that the chip behind the device is to go along with.
+//! reports which clocks are one. [`do_step`] does a step of a script, [`carried`] finds a step that
+//! can't be done. [`release`] ends. [`Shadowed`] is a [`nor_chip::Port`]: a chip in memory that the
+//! chip behind the device is to go along with.
 #![tactic(auto)]
 
-mod carried;
+mod clocks;
+mod done;
 mod exchange;
 mod fault;
 mod follow;
@@ -19,7 +21,8 @@ mod pins;
 mod shadowed;
 mod word;
 
-pub use carried::is_carried;
+pub use clocks::is_carried;
+pub use done::{carried, do_step, is_doable};
 pub use fault::{Command, Fault, GreetFault, Reason};
 pub use handshake::greet;
 pub use limits::Limits;

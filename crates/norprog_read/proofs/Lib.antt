@@ -1,3 +1,6 @@
 mod RoomLemmas
+mod WayLemmas
 mod ReadLemmas
+mod HarmlessLemmas
+mod ServedLemmas
 mod LineLemmas

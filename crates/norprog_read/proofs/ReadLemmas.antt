@@ -1,13 +1,24 @@
 -- What was read, and from which reading it follows.
-use Rattle.std.proofs.Common.{◌≡◌, ℕ, List, ◌++◌, length, take, drop, Option, Result, Ok, Err, IfOk, ◌∙◌, ap}
+use Rattle.std.proofs.Common.{◌≡◌, inl, inr, ℕ, List, ◌++◌, length, take, drop, Option, Result, Ok, Err, IfOk, IfErr, ◌∙◌, ap}
 use Rattle.std.proofs.Math.Seq.{take-append_seam}
 use Rattle.nor_base.specs.Device.{Ahead}
 use Rattle.nor_serprog.specs.declared.limits.Limits.{Limits}
 use Rattle.nor_serprog.specs.Greeting.{Greeted}
+use Rattle.nor_serprog.specs.Line.{TestsLine}
 use Rattle.norprog_read.specs.declared.asked.Ask.{Ask}
+use Rattle.norprog_read.specs.declared.asked.Known.{Known}
+use Rattle.norprog_read.specs.declared.asked.Known.TheVariants as known
 use Rattle.norprog_read.specs.declared.asked.Reading.{Reading}
 use Rattle.norprog_read.specs.declared.fault.Unread.{Unread}
-use Rattle.norprog_read.specs.Opened.{HasReadOpened, HasReadTested, LetsGo}
+use Rattle.norprog_read.specs.declared.fault.Unread.TheVariants.{Refused, Device, Unlike}
+use Rattle.nor_job.specs.declared.fault.BuildFault.TheVariants.{Write}
+use Rattle.norprog_common.specs.declared.faults.FileName.{FileName}
+use Rattle.norprog_common.specs.declared.faults.Refusal.TheVariants.{File, Build}
+use Rattle.norprog_device.specs.declared.fault.DeviceFault.{DeviceFault}
+use Rattle.norprog_device.specs.declared.fault.DeviceFault.TheVariants.{Greet, Line}
+use Rattle.norprog_device.specs.Opened.{LetsGo}
+use Rattle.norprog_read.specs.Stops.{RefusesFile, StopsAsked, StopsChip}
+use Rattle.norprog_read.specs.Opened.{HasReadOpened, HasReadTested, StopsGreeted, StopsOpened, StopsTested}
 
 -- a vector whose slice was written whole
 pub written : (new old : List ℕ) (n : ℕ) → n ≡ length new → take n (new ++ drop (length new) old) ≡ new
@@ -27,3 +38,98 @@ opened_by h i j k a b c d limits ask (Ok reading) greeted read released = record
   released = released;
 }
 opened_by h i j k a b c d limits ask (Err why) greeted read released = tt
+
+-- or it stopped
+greeted_stops : (h i j k : Option (List ℕ)) (a b c d : Ahead) (limits : Limits) (ask : Ask) (why : Unread) → Greeted h i a b (Ok limits)
+    → StopsTested i j b c limits ask why → LetsGo j k c d limits.pins → StopsGreeted h k a d ask why
+greeted_stops h i j k a b c d limits ask why greeted stops released = record {
+  held = i;
+  ahead = b;
+  limits = limits;
+  greeted = greeted;
+  held_late = j;
+  ahead_late = c;
+  stops = stops;
+  released = released;
+}
+
+pub stops_by : (h i j k : Option (List ℕ)) (a b c d : Ahead) (limits : Limits) (ask : Ask) (r : Result Reading Unread) → Greeted h i a b (Ok limits)
+    → IfErr r (StopsTested i j b c limits ask) → LetsGo j k c d limits.pins → IfErr r (StopsOpened h k a d ask)
+stops_by h i j k a b c d limits ask (Ok reading) greeted stops released = tt
+stops_by h i j k a b c d limits ask (Err (Device (Greet why))) greeted stops released = absurd stops
+stops_by h i j k a b c d limits ask (Err (Device (Line why))) greeted stops released =
+    greeted_stops h i j k a b c d limits ask (Device (Line why)) greeted stops released
+stops_by h i j k a b c d limits ask (Err (Refused why)) greeted stops released =
+    greeted_stops h i j k a b c d limits ask (Refused why) greeted stops released
+stops_by h i j k a b c d limits ask (Err (Unlike why)) greeted stops released =
+    greeted_stops h i j k a b c d limits ask (Unlike why) greeted stops released
+
+-- a chip that is asked never stops at the device
+no_file : (ask : Ask) (by : Known) (why : DeviceFault) → RefusesFile ask by (Device why) → ⊥
+no_file ask known.Own why p = p
+no_file ask (known.Tables file) why p = p
+no_file ask (known.Uniform size) why p = p
+
+no_tables : (h i : Option (List ℕ)) (a b : Ahead) (by : Known) (why : DeviceFault) → StopsAsked h i a b by (Device why) → ⊥
+no_tables h i a b known.Own why p = p
+no_tables h i a b (known.Tables file) why (inl p) = p
+no_tables h i a b (known.Tables file) why (inr p) = p.2
+no_tables h i a b (known.Uniform size) why p = p
+
+no_device : (h i : Option (List ℕ)) (a b : Ahead) (ask : Ask) (why : DeviceFault) → StopsChip h i a b ask (Device why) → ⊥
+no_device h i a b ask why (inl (inl p)) = no_file ask ask.known why p.2
+no_device h i a b ask why (inl (inr p)) = p
+no_device h i a b ask why (inr (inl p)) = p.stop
+no_device h i a b ask why (inr (inr (inl p))) = no_tables p.held i p.ahead b ask.known why p.stop
+no_device h i a b ask why (inr (inr (inr (inl p)))) = p.refused
+no_device h i a b ask why (inr (inr (inr (inr (inl p))))) = p.stop
+no_device h i a b ask why (inr (inr (inr (inr (inr p))))) = elim p.stop [ inl stop ↦ stop | inr other ↦ other ]
+
+-- the line was tested, and then that stopped
+pub tested_stops : (h i j : Option (List ℕ)) (a b c : Ahead) (limits : Limits) (ask : Ask) (r : Result Reading Unread) → TestsLine h i a b (Ok tt) limits
+    → IfErr r (StopsChip i j b c ask) → IfErr r (StopsTested h j a c limits ask)
+tested_stops h i j a b c limits ask (Ok reading) tested stops = tt
+tested_stops h i j a b c limits ask (Err (Device why)) tested stops = absurd (no_device i j b c ask why stops)
+tested_stops h i j a b c limits ask (Err (Refused why)) tested stops = record { held = i; ahead = b; tested = tested; stops = stops }
+tested_stops h i j a b c limits ask (Err (Unlike why)) tested stops = record { held = i; ahead = b; tested = tested; stops = stops }
+
+-- nor by a file of the command line, nor by an output
+no_refusal_of_file : (ask : Ask) (by : Known) (name : FileName) → RefusesFile ask by (Refused (File name)) → ⊥
+no_refusal_of_file ask known.Own name p = p
+no_refusal_of_file ask (known.Tables file) name p = p
+no_refusal_of_file ask (known.Uniform size) name p = p
+
+no_tables_of_file : (h i : Option (List ℕ)) (a b : Ahead) (by : Known) (name : FileName) → StopsAsked h i a b by (Refused (File name)) → ⊥
+no_tables_of_file h i a b known.Own name p = p
+no_tables_of_file h i a b (known.Tables file) name (inl p) = p
+no_tables_of_file h i a b (known.Tables file) name (inr p) = p.2
+no_tables_of_file h i a b (known.Uniform size) name p = p
+
+pub never_file : (h i : Option (List ℕ)) (a b : Ahead) (ask : Ask) (name : FileName) → StopsChip h i a b ask (Refused (File name)) → ⊥
+never_file h i a b ask name (inl (inl p)) = no_refusal_of_file ask ask.known name p.2
+never_file h i a b ask name (inl (inr p)) = p
+never_file h i a b ask name (inr (inl p)) = p.stop
+never_file h i a b ask name (inr (inr (inl p))) = no_tables_of_file p.held i p.ahead b ask.known name p.stop
+never_file h i a b ask name (inr (inr (inr (inl p)))) = p.refused
+never_file h i a b ask name (inr (inr (inr (inr (inl p))))) = p.stop
+never_file h i a b ask name (inr (inr (inr (inr (inr p))))) = elim p.stop [ inl stop ↦ stop | inr other ↦ other ]
+
+no_refusal_of_write : (ask : Ask) (by : Known) → RefusesFile ask by (Refused (Build Write)) → ⊥
+no_refusal_of_write ask known.Own p = p
+no_refusal_of_write ask (known.Tables file) p = p
+no_refusal_of_write ask (known.Uniform size) p = p
+
+no_tables_of_write : (h i : Option (List ℕ)) (a b : Ahead) (by : Known) → StopsAsked h i a b by (Refused (Build Write)) → ⊥
+no_tables_of_write h i a b known.Own p = p
+no_tables_of_write h i a b (known.Tables file) (inl p) = p
+no_tables_of_write h i a b (known.Tables file) (inr p) = p.2
+no_tables_of_write h i a b (known.Uniform size) p = p
+
+pub never_write : (h i : Option (List ℕ)) (a b : Ahead) (ask : Ask) → StopsChip h i a b ask (Refused (Build Write)) → ⊥
+never_write h i a b ask (inl (inl p)) = no_refusal_of_write ask ask.known p.2
+never_write h i a b ask (inl (inr p)) = p
+never_write h i a b ask (inr (inl p)) = p.stop
+never_write h i a b ask (inr (inr (inl p))) = no_tables_of_write p.held i p.ahead b ask.known p.stop
+never_write h i a b ask (inr (inr (inr (inl p)))) = p.refused
+never_write h i a b ask (inr (inr (inr (inr (inl p))))) = p.stop
+never_write h i a b ask (inr (inr (inr (inr (inr p))))) = elim p.stop [ inl stop ↦ stop | inr other ↦ other ]

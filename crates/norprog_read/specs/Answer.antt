@@ -1,40 +1,104 @@
--- What is printed and kept of a chip that was read (this project's).
-use Rattle.std.specs.Prelude.{◌≡◌, ⊤, ℕ, List, Option, Some, None, option_map, is_some}
+-- What is printed and kept of a chip that was read, and what is written of one that wasn't (this project's).
+use Rattle.std.specs.Prelude.{◌≡◌, ◌⊎◌, ⊤, ℕ, true, List, Option, Some, None, option_map}
 use Rattle.std.specs.Io.KnownBytes.{Appends}
-use Rattle.nor_base.specs.Device.{Ahead}
+use Rattle.nor_base.specs.Device.{Cuts}
+use Rattle.nor_job.specs.declared.fault.BuildFault.TheVariants.{Memory, Write}
+use Rattle.norprog_common.specs.declared.faults.Refusal.{Refusal}
+use Rattle.norprog_common.specs.declared.faults.Refusal.TheVariants.{File, Build}
 use Rattle.norprog_common.specs.declared.given.ReadArgs.{ReadArgs}
 use Rattle.norprog_common.specs.FileStore.{FileFacts}
+use Rattle.norprog_common.specs.Lines.{printed}
+use Rattle.norprog_common.specs.Told.{OrUsage, TellsOf}
+use Rattle.norprog_device.specs.declared.fault.DeviceFault.{DeviceFault}
+use Rattle.norprog_device.specs.Line.{device_line}
 use Rattle.norprog_read.specs.declared.asked.Ask.{Ask}
 use Rattle.norprog_read.specs.declared.asked.Reading.{Reading}
-use Rattle.norprog_read.specs.Line.{reading_text}
-use Rattle.norprog_read.specs.Opened.{HasReadOpened}
+use Rattle.norprog_read.specs.declared.fault.Unlike.{Unlike as Unlikeness}
+use Rattle.norprog_read.specs.declared.fault.Unread.{Unread}
+use Rattle.norprog_read.specs.declared.fault.Unread.TheVariants.{Refused, Device, Unlike}
+use Rattle.norprog_read.specs.Line.{reading_text, unlike_line}
+use Rattle.norprog_read.specs.Opened.{IsReadOn, StopsOnDevice}
+use Rattle.norprog_read.specs.Request.{is_well_formed}
 use Rattle.norprog_read.specs.Saved.{IsSaved}
+use Rattle.norprog_read.specs.Served.{Serves}
 
--- the chip behind some device was read so, from its handshake on
-pub record IsReadOfSome (ask : Ask) (r : Reading) : Type 0 where
-  pub held_before : Option (List ℕ)
-  pub held_after : Option (List ℕ)
-  pub ahead_before : Ahead
-  pub ahead_after : Ahead
-  pub read : HasReadOpened held_before held_after ahead_before ahead_after ask r
+-- the chip behind the device that is named was read so, by what was asked for
+pub record IsReadOf (files : FileFacts) (given : ReadArgs) (r : Reading) : Type 0 where
+  pub ask : Ask
+  pub serves : Serves files given ask
+  pub device : List ℕ
+  pub named : option_map (λ t. t.now) given.device ≡ Some device
+  pub read : IsReadOn (files.device device) ask r
+
+-- or that stopped so
+pub record IsStopOf (files : FileFacts) (given : ReadArgs) (why : Unread) : Type 0 where
+  pub ask : Ask
+  pub serves : Serves files given ask
+  pub device : List ℕ
+  pub named : option_map (λ t. t.now) given.device ≡ Some device
+  pub stops : StopsOnDevice (files.device device) ask why
 
 -- where an output is named these bytes are saved
 abbrev pub AreSavedIf : FileFacts → Option (List ℕ) → List ℕ → Type 0
 AreSavedIf files (Some name) bytes = IsSaved files name bytes
 AreSavedIf files None bytes = ⊤
 
--- a chip was read, in the address mode that was said, with its content just where that is to be saved, and what it gave is in the
--- outputs that are named
+-- that chip was read so, and what it gave is in the outputs that are named
 pub record IsKept (files : FileFacts) (given : ReadArgs) (reading : Reading) : Type 0 where
-  pub ask : Ask
-  pub is : IsReadOfSome ask reading
-  pub mode : ask.mode4 ≡ given.mode4
-  pub content : ask.content ≡ is_some given.out
+  pub is : IsReadOf files given reading
   pub tables_saved : AreSavedIf files (option_map (λ t. t.now) given.tables) reading.tables.items
   pub content_saved : AreSavedIf files (option_map (λ t. t.now) given.out) reading.content.items
+
+-- a refusal of work that is asked for: a file couldn't be used, or memory ran out; the chip was read, and an output failed; else why it
+-- wasn't read
+abbrev pub RefusesReading : FileFacts → ReadArgs → Refusal → Type 0
+RefusesReading files given (File name) = files.lacked name
+RefusesReading files given (Build Memory) = ⊤
+RefusesReading files given (Build Write) = (reading : Reading) × IsReadOf files given reading
+RefusesReading files given why = IsStopOf files given (Refused why)
+
+-- why nothing is printed of a reading: usage where the texts ask for none
+abbrev pub IsUnread : FileFacts → ReadArgs → Unread → Type 0
+IsUnread files given (Refused why) = OrUsage (is_well_formed given) (RefusesReading files given) why
+IsUnread files given why = (is_well_formed given ≡ true) × IsStopOf files given why
 
 -- so it was, and its lines were printed
 pub record PrintsReading (files : FileFacts) (given : ReadArgs) (before after : Option (List ℕ)) : Type 0 where
   pub reading : Reading
   pub kept : IsKept files given reading
   pub printed : Appends before after (reading_text reading)
+
+-- a text was printed, and this is the status; or a proper prefix of it was, and that it can't be printed is told
+abbrev pub Reports : List ℕ → ℕ → Option (List ℕ) → Option (List ℕ) → Type 0 → Type 0 → Option (List ℕ) → Option (List ℕ) → ℕ → Type 0
+Reports text ends before after Quiet Works told_before told_after status =
+    ((status ≡ ends) × Appends before after text × Quiet)
+    ⊎ ((status ≡ 1) × Cuts before after text × (Works → Appends told_before told_after (printed (Build Write))))
+
+-- the lines of a reading that was kept are reported; or why the chip isn't read
+abbrev pub ReportsReading : FileFacts → ReadArgs → Option (List ℕ) → Option (List ℕ) → Type 0 → Type 0 → Option (List ℕ) → Option (List ℕ) → ℕ → Type 0
+ReportsReading files given before after Quiet Works told_before told_after status =
+    (reading : Reading) × IsKept files given reading
+    × Reports (reading_text reading) 0 before after Quiet Works told_before told_after status
+
+abbrev pub ReportsUnlike : FileFacts → ReadArgs → Option (List ℕ) → Option (List ℕ) → Type 0 → Type 0 → Option (List ℕ) → Option (List ℕ) → ℕ → Type 0
+ReportsUnlike files given before after Quiet Works told_before told_after status =
+    (why : Unlikeness) × IsStopOf files given (Unlike why)
+    × Reports (unlike_line why) 1 before after Quiet Works told_before told_after status
+
+-- nothing was printed, and why the device can't be used was told
+pub record TellsDevice (files : FileFacts) (given : ReadArgs) (before after : Option (List ℕ)) (Works : Type 0)
+    (told_before told_after : Option (List ℕ)) (status : ℕ) : Type 0 where
+  pub why : DeviceFault
+  pub is : IsStopOf files given (Device why)
+  pub one : status ≡ 1
+  pub unprinted : after ≡ before
+  pub told : Works → Appends told_before told_after (device_line why)
+
+-- what `read` answers to the texts of a command line: one of these; or a refusal, with nothing printed
+abbrev pub AnswersRead : FileFacts → ReadArgs → Option (List ℕ) → Option (List ℕ) → Type 0 → Type 0 → Option (List ℕ) → Option (List ℕ) → ℕ → Type 0
+AnswersRead files given before after Quiet Works told_before told_after status =
+    ((is_well_formed given ≡ true) × ReportsReading files given before after Quiet Works told_before told_after status)
+    ⊎ (((is_well_formed given ≡ true) × ReportsUnlike files given before after Quiet Works told_before told_after status)
+    ⊎ (((is_well_formed given ≡ true) × TellsDevice files given before after Works told_before told_after status)
+    ⊎ ((after ≡ before)
+    × TellsOf (OrUsage (is_well_formed given) (RefusesReading files given)) Works told_before told_after status)))

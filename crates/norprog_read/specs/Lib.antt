@@ -1,6 +1,10 @@
+pub mod Way
 pub mod Content
 pub mod Chip
+pub mod Stops
 pub mod Saved
 pub mod Opened
 pub mod Line
+pub mod Request
+pub mod Served
 pub mod Answer

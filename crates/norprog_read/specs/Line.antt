@@ -5,12 +5,8 @@ use Rattle.nor_base.specs.declared.meaning.Part.TheVariants.{Generic, W25q256jv}
 use Rattle.nor_base.specs.Script.{hex_pair}
 use Rattle.nor_probe.specs.declared.difference.Difference.{Difference}
 use Rattle.nor_script.specs.Hexadecimal.{hex_number}
-use Rattle.nor_serprog.specs.declared.fault.Fault.{Fault}
-use Rattle.nor_serprog.specs.declared.fault.Fault.TheVariants as fault
-use Rattle.nor_serprog.specs.declared.fault.GreetFault.TheVariants as greeting
 use Rattle.norprog.specs.ChipText.{meaning_text}
-use Rattle.norprog_read.specs.declared.fault.DeviceFault.{DeviceFault}
-use Rattle.norprog_read.specs.declared.fault.DeviceFault.TheVariants.{Greet, Line}
+use Rattle.norprog_device.specs.Line.{fault_word}
 use Rattle.norprog_read.specs.declared.fault.Unlike.{Unlike}
 use Rattle.norprog_read.specs.declared.fault.Unlike.TheVariants.{Busy, Asking, Mode, At, Tables, Id, Unreadable}
 use Rattle.norprog_read.specs.declared.asked.Reading.{Reading}
@@ -40,13 +36,6 @@ reading_text r =
     digits_line (codes "id ") r.id
     ++ (status_line r.part r.status ++ (meaning_text r.meaning ++ content_line r.whole r.content.items))
 
-abbrev pub fault_word : Fault → List ℕ
-fault_word fault.Read = codes "read"
-fault_word fault.Write = codes "write"
-fault_word fault.Silent = codes "silent"
-fault_word fault.Nak = codes "nak"
-fault_word fault.Differs = codes "differs"
-
 -- the first byte that is another than the file's
 abbrev pub tables_line : Difference → List ℕ
 tables_line d =
@@ -62,15 +51,3 @@ unlike_line (At address) = codes "unlike at " ++ (hex_number address ++ codes "\
 unlike_line (Tables d) = tables_line d
 unlike_line (Id id) = digits_line (codes "unlike id ") id
 unlike_line Unreadable = codes "unreadable\n"
-
--- the word of a device that can't be used
-abbrev pub device_word : DeviceFault → List ℕ
-device_word (Greet (greeting.Command at why)) = fault_word why
-device_word (Greet greeting.Version) = codes "version"
-device_word (Greet greeting.NoOperation) = codes "operation"
-device_word (Line fault.Read) = codes "read"
-device_word (Line fault.Write) = codes "write"
-device_word (Line other) = codes "line"
-
-abbrev pub device_line : DeviceFault → List ℕ
-device_line why = codes "norprog: device " ++ (device_word why ++ codes "\n")

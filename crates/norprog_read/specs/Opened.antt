@@ -1,14 +1,19 @@
--- A chip that was read, from the handshake on (this project's).
-use Rattle.std.specs.Prelude.{◌≡◌, ℕ, Bool, true, false, List, [], Option, Result, Ok}
-use Rattle.nor_base.specs.Device.{Ahead}
-use Rattle.nor_serprog.specs.declared.fault.Fault.{Fault}
+-- A chip that was read, or wasn't, from the handshake on (this project's).
+use Rattle.std.specs.Prelude.{◌⊎◌, ℕ, List, Option, Ok, Err}
+use Rattle.nor_base.specs.Device.{Ahead, ahead_of}
 use Rattle.nor_serprog.specs.declared.limits.Limits.{Limits}
-use Rattle.nor_serprog.specs.Exchange.{Answers, Asks}
-use Rattle.nor_serprog.specs.Greeting.{Greeted, release_bytes}
+use Rattle.nor_serprog.specs.Greeting.{Greeted}
 use Rattle.nor_serprog.specs.Line.{TestsLine}
+use Rattle.norprog_common.specs.declared.faults.FileName.{FileName}
+use Rattle.norprog_common.specs.Files.{TellsFile}
+use Rattle.norprog_device.specs.declared.fault.DeviceFault.TheVariants.{Greet, Line}
+use Rattle.norprog_device.specs.Opened.{HasOpened, LetsGo}
 use Rattle.norprog_read.specs.declared.asked.Ask.{Ask}
 use Rattle.norprog_read.specs.declared.asked.Reading.{Reading}
+use Rattle.norprog_read.specs.declared.fault.Unread.{Unread}
+use Rattle.norprog_read.specs.declared.fault.Unread.TheVariants.{Refused, Device}
 use Rattle.norprog_read.specs.Chip.{HasReadChip}
+use Rattle.norprog_read.specs.Stops.{StopsChip}
 
 -- the line was tested, and the chip read
 pub record HasReadTested (held_before held_after : Option (List ℕ)) (ahead_before ahead_after : Ahead) (limits : Limits) (ask : Ask)
@@ -18,12 +23,21 @@ pub record HasReadTested (held_before held_after : Option (List ℕ)) (ahead_bef
   pub tested : TestsLine held_before held ahead_before ahead (Ok tt) limits
   pub read : HasReadChip held held_after ahead ahead_after ask r
 
--- the pins were let go where the device drives them; else nothing was sent
-abbrev pub LetsGo : Option (List ℕ) → Option (List ℕ) → Ahead → Ahead → Bool → Type 0
-LetsGo held_before held_after ahead_before ahead_after true =
-    (result : Result (Unit {0}) Fault) × Asks held_before held_after ahead_before ahead_after result release_bytes
-    (Answers ahead_before ahead_after result [])
-LetsGo held_before held_after ahead_before ahead_after false = (held_after ≡ held_before) × (ahead_after ≡ ahead_before)
+-- it was tested, and the reading of the chip stopped so
+pub record StopsReading (held_before held_after : Option (List ℕ)) (ahead_before ahead_after : Ahead) (limits : Limits) (ask : Ask)
+    (why : Unread) : Type 0 where
+  pub held : Option (List ℕ)
+  pub ahead : Ahead
+  pub tested : TestsLine held_before held ahead_before ahead (Ok tt) limits
+  pub stops : StopsChip held held_after ahead ahead_after ask why
+
+-- the test of the line stopped so, or what came after it
+abbrev pub StopsTested : Option (List ℕ) → Option (List ℕ) → Ahead → Ahead → Limits → Ask → Unread → Type 0
+StopsTested held_before held_after ahead_before ahead_after limits ask (Device (Greet why)) = ⊥
+StopsTested held_before held_after ahead_before ahead_after limits ask (Device (Line why)) =
+    TestsLine held_before held_after ahead_before ahead_after (Err why) limits
+StopsTested held_before held_after ahead_before ahead_after limits ask why =
+    StopsReading held_before held_after ahead_before ahead_after limits ask why
 
 -- the handshake, the test of the line, the chip, the pins: nothing else was sent
 pub record HasReadOpened (held_before held_after : Option (List ℕ)) (ahead_before ahead_after : Ahead) (ask : Ask) (r : Reading) : Type 0 where
@@ -35,3 +49,45 @@ pub record HasReadOpened (held_before held_after : Option (List ℕ)) (ahead_bef
   pub ahead_late : Ahead
   pub read : HasReadTested held held_late ahead ahead_late limits ask r
   pub released : LetsGo held_late held_after ahead_late ahead_after limits.pins
+
+-- the handshake was done, what came after it stopped so, and the pins were let go
+pub record StopsGreeted (held_before held_after : Option (List ℕ)) (ahead_before ahead_after : Ahead) (ask : Ask) (why : Unread)
+    : Type 0 where
+  pub held : Option (List ℕ)
+  pub ahead : Ahead
+  pub limits : Limits
+  pub greeted : Greeted held_before held ahead_before ahead (Ok limits)
+  pub held_late : Option (List ℕ)
+  pub ahead_late : Ahead
+  pub stops : StopsTested held held_late ahead ahead_late limits ask why
+  pub released : LetsGo held_late held_after ahead_late ahead_after limits.pins
+
+-- the handshake stopped so, or what came after it
+abbrev pub StopsOpened : Option (List ℕ) → Option (List ℕ) → Ahead → Ahead → Ask → Unread → Type 0
+StopsOpened held_before held_after ahead_before ahead_after ask (Device (Greet why)) =
+    Greeted held_before held_after ahead_before ahead_after (Err why)
+StopsOpened held_before held_after ahead_before ahead_after ask why =
+    StopsGreeted held_before held_after ahead_before ahead_after ask why
+
+-- the device that was named was opened, had this yet to give, and had taken that; and the chip behind it was read so
+pub record IsReadOn (Opened : Option (List ℕ) → Option (List ℕ) → Type 0) (ask : Ask) (r : Reading) : Type 0 where
+  pub remaining : Option (List ℕ)
+  pub contents : Option (List ℕ)
+  pub opened : Opened remaining contents
+  pub held : Option (List ℕ)
+  pub ahead : Ahead
+  pub read : HasReadOpened contents held (ahead_of remaining) ahead ask r
+
+-- or that stopped so
+pub record StopsOnDevice (Opened : Option (List ℕ) → Option (List ℕ) → Type 0) (ask : Ask) (why : Unread) : Type 0 where
+  pub remaining : Option (List ℕ)
+  pub contents : Option (List ℕ)
+  pub opened : Opened remaining contents
+  pub held : Option (List ℕ)
+  pub ahead : Ahead
+  pub stops : StopsOpened contents held (ahead_of remaining) ahead ask why
+
+-- why the chip behind that device isn't read: it couldn't be opened, or that stopped so
+abbrev pub IsUnreadOn : (FileName → Type 0) → (Option (List ℕ) → Option (List ℕ) → Type 0) → Ask → Unread → Type 0
+IsUnreadOn Lacked Opened ask (Refused why) = TellsFile Lacked why ⊎ StopsOnDevice Opened ask (Refused why)
+IsUnreadOn Lacked Opened ask why = StopsOnDevice Opened ask why

@@ -28,6 +28,8 @@ pub struct Ask<'a> {
     pub turns: u64,
     /// Whether its content is read.
     pub content: bool,
+    /// Whether its meaning is that of the profile that programs only erased bytes.
+    pub erased_only: bool,
 }
 
 /// What a chip gave.

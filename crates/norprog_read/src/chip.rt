@@ -1,12 +1,14 @@
 //! What the chip behind a device says and holds.
 
-ghost use Rattle.std.specs.Prelude.{◌≡◌, ◌≢◌, ◌<◌, ◌≤◌, ◌+◌, ◌-◌, ◌^◌, ◌∷◌, [], true, false, Ok, length, min, take, IfOk};
+ghost use Rattle.std.specs.Prelude.{◌≡◌, ◌≢◌, ◌<◌, ◌≤◌, ◌+◌, ◌-◌, ◌^◌, ◌∷◌, [], true, false, Ok, length, take, IfOk, IfErr, MatchResult};
 ghost use Rattle.nor_job.specs.Chip.{HasChip};
 ghost use Rattle.nor_job.specs.Status.{start_of};
 ghost use Rattle.nor_probe.specs.Status.{ReadsStatus};
+ghost use Rattle.nor_reader.specs.Harmless.{HasSentHarmless, SendsHarmless};
 ghost use Rattle.nor_reader.specs.Id.{Identifies};
 ghost use Rattle.nor_reader.specs.Tables.{HasReadTables};
-ghost use Rattle.norprog_read.specs.Chip.{GivesContent, GivesTables, HasReadChip, IsDriven, chip_task};
+ghost use Rattle.norprog_read.specs.Chip.{is_otherwise, AreAlike, GivesContent, GivesTables, HasMeaning, HasReadChip, IsDriven, IsUndriven, both_go, chip_task};
+ghost use Rattle.norprog_read.specs.Stops.{DiffersFrom, RefusesFile, RefusesMeaning, StopsAsked, StopsChip, StopsContent, StopsId, StopsOwn, StopsStatus};
 
 use crate::asked::{Ask, Known, Reading};
 use crate::content::read_whole;
@@ -23,8 +25,8 @@ use std::alloc::Global;
 /// Has the chip behind a device say what it is, wait until it is idle, and give its tables and its content, each byte twice; at the end
 /// it has to say again what it is. Memory is taken for what is read.
 ///
-/// `Unlike` where it doesn't say or give what it has to, `Refused` where its tables or its size have no meaning, and for `Memory` where a
-/// growth is refused.
+/// `Unlike` where it doesn't say or give what it has to, `Refused` where its tables, those of a file, or its size have no meaning, and for
+/// `Memory` where a growth is refused.
 pub fn read_chip<R: ByteIn, W: ByteOut>(
     alloc: Global,
     from: &mut R,
@@ -36,9 +38,32 @@ pub fn read_chip<R: ByteIn, W: ByteOut>(
     requires writer { W.count to.old < 2 ^ 64 - 1 }
     ensures read { IfOk result (λ reading. HasReadChip (W.held to.old) (W.held to.new) (R.ahead from.old) (R.ahead from.new)
         ask.now reading) }
+    ensures stops { IfErr result (StopsChip (W.held to.old) (W.held to.new) (R.ahead from.old) (R.ahead from.new) ask.now) }
+    ensures harmless { MatchResult result (λ _. HasSentHarmless (W.held to.old) (W.held to.new))
+        (λ _. SendsHarmless (W.held to.old) (W.held to.new)) }
     ensures reads_room { R.count from.new ≤ R.count from.old + 1 }
     ensures writes_room { W.count to.new ≤ W.count to.old + 1 }
 {
+    ask_chip(alloc, from, to, limits, ask)
+}
+
+/// The same, by what is asked.
+fn ask_chip<R: ByteIn, W: ByteOut>(
+    alloc: Global,
+    from: &mut R,
+    to: &mut W,
+    limits: &Limits,
+    ask: &Ask<'_>,
+) -> Result<Reading, Unread>
+    requires reader { R.count from.old < 2 ^ 64 - 1 }
+    requires writer { W.count to.old < 2 ^ 64 - 1 }
+    ensures read { IfOk result (λ reading. HasReadChip (W.held to.old) (W.held to.new) (R.ahead from.old) (R.ahead from.new)
+        ask.now reading) }
+    ensures stops { IfErr result (StopsChip (W.held to.old) (W.held to.new) (R.ahead from.old) (R.ahead from.new) ask.now) }
+    ensures reads_room { R.count from.new ≤ R.count from.old + 1 }
+    ensures writes_room { W.count to.new ≤ W.count to.old + 1 }
+{
+    check_file(ask)?;
     let status = ask_status(from, to, ask)?;
     let id = ask_id(from, to)?;
     let tables = ask_tables(alloc, from, to, limits, ask)?;
@@ -61,7 +86,8 @@ pub fn read_chip<R: ByteIn, W: ByteOut>(
 
 /// Whether two identifications are the same.
 fn is_same(one: [u8; 3], other: [u8; 3]) -> bool
-    ensures { result ≡ true → one ≡ other }
+    ensures same { result ≡ true → one ≡ other }
+    ensures other { result ≡ false → one ≢ other }
 {
     one == other
 }
@@ -70,6 +96,7 @@ fn is_same(one: [u8; 3], other: [u8; 3]) -> bool
 fn is_undriven(id: [u8; 3]) -> bool
     ensures low { result ≡ false → id ≢ 0x00 ∷ 0x00 ∷ 0x00 ∷ [] }
     ensures high { result ≡ false → id ≢ 0xFF ∷ 0xFF ∷ 0xFF ∷ [] }
+    ensures undriven { result ≡ true → IsUndriven id }
 {
     id == [0x00, 0x00, 0x00] || id == [0xFF, 0xFF, 0xFF]
 }
@@ -81,6 +108,7 @@ fn ask_id<R: ByteIn, W: ByteOut>(from: &mut R, to: &mut W) -> Result<[u8; 3], Un
     requires writer { W.count to.old < 2 ^ 64 - 1 }
     ensures id { IfOk result (λ id. Identifies (W.held to.old) (W.held to.new) (R.ahead from.old) (R.ahead from.new) (Ok id)) }
     ensures driven { IfOk result IsDriven }
+    ensures stops { IfErr result (StopsId (W.held to.old) (W.held to.new) (R.ahead from.old) (R.ahead from.new)) }
     ensures reads { IfOk result (λ _. R.count from.new ≡ R.count from.old) }
     ensures writes { IfOk result (λ _. W.count to.new ≡ W.count to.old) }
     ensures reads_room { R.count from.new ≤ R.count from.old + 1 }
@@ -100,6 +128,8 @@ fn ask_status<R: ByteIn, W: ByteOut>(from: &mut R, to: &mut W, ask: &Ask<'_>) ->
     requires writer { W.count to.old < 2 ^ 64 - 1 }
     ensures status { IfOk result (λ status. ReadsStatus ask.now.part (W.held to.old) (W.held to.new) (R.ahead from.old) (R.ahead from.new)
         (Ok status) ask.now.turns) }
+    ensures mode { IfOk result (λ status. is_otherwise ask.now.part ask.now.mode4 status ≡ false) }
+    ensures stops { IfErr result (StopsStatus (W.held to.old) (W.held to.new) (R.ahead from.old) (R.ahead from.new) ask.now) }
     ensures reads { IfOk result (λ _. R.count from.new ≡ R.count from.old) }
     ensures writes { IfOk result (λ _. W.count to.new ≡ W.count to.old) }
     ensures reads_room { R.count from.new ≤ R.count from.old + 1 }
@@ -111,12 +141,15 @@ fn ask_status<R: ByteIn, W: ByteOut>(from: &mut R, to: &mut W, ask: &Ask<'_>) ->
         }
         Ok(status) => Ok(status),
         Err(Reason::Exchange(why)) => Err(Unread::Unlike(Unlike::Asking(why))),
-        Err(_) => Err(Unread::Unlike(Unlike::Busy)),
+        Err(Reason::Busy) => Err(Unread::Unlike(Unlike::Busy)),
+        Err(Reason::Differs { .. } | Reason::Carried) => unreachable!("any byte is a status"),
     }
 }
 
 /// Whether S16 (ADS) of a part that is known to have it says another address mode.
-fn is_otherwise(part: Part, mode4: bool, status: u32) -> bool {
+fn is_otherwise(part: Part, mode4: bool, status: u32) -> bool
+    ensures { result ≡ is_otherwise part mode4 status }
+{
     match part {
         Part::Generic => false,
         Part::W25q256jv => (status / 65536 % 2 == 1) != mode4,
@@ -135,6 +168,8 @@ fn ask_tables<R: ByteIn, W: ByteOut>(
     requires writer { W.count to.old < 2 ^ 64 - 1 }
     ensures tables { IfOk result (λ tables. GivesTables (W.held to.old) (W.held to.new) (R.ahead from.old) (R.ahead from.new)
         ask.now.known tables.items) }
+    ensures alike { IfOk result (λ tables. AreAlike ask.now.known tables.items) }
+    ensures stops { IfErr result (StopsAsked (W.held to.old) (W.held to.new) (R.ahead from.old) (R.ahead from.new) ask.now.known) }
     ensures reads { IfOk result (λ _. R.count from.new ≡ R.count from.old) }
     ensures writes { IfOk result (λ _. W.count to.new ≡ W.count to.old) }
     ensures reads_room { R.count from.new ≤ R.count from.old + 1 }
@@ -145,7 +180,7 @@ fn ask_tables<R: ByteIn, W: ByteOut>(
         Known::Own => own_tables(alloc, from, to, limits),
         Known::Tables(file) => {
             let tables = own_tables(alloc, from, to, limits)?;
-            compare_file(tables.as_slice(), &file[..tables_reach(file)])?;
+            compare_file(tables.as_slice(), file)?;
             Ok(tables)
         }
     }
@@ -163,6 +198,7 @@ fn own_tables<R: ByteIn, W: ByteOut>(
     requires writer { W.count to.old < 2 ^ 64 - 1 }
     ensures tables { IfOk result (λ tables. HasReadTables (W.held to.old) (W.held to.new) (R.ahead from.old) (R.ahead from.new)
         tables.items) }
+    ensures stops { IfErr result (StopsOwn (W.held to.old) (W.held to.new) (R.ahead from.old) (R.ahead from.new)) }
     ensures reads { IfOk result (λ _. R.count from.new ≡ R.count from.old) }
     ensures writes { IfOk result (λ _. W.count to.new ≡ W.count to.old) }
     ensures reads_room { R.count from.new ≤ R.count from.old + 1 }
@@ -186,9 +222,10 @@ fn own_tables<R: ByteIn, W: ByteOut>(
 /// Compares the bytes of the chip's tables with those of a file's, as far as both go.
 fn compare_file(chip: &[u8], file: &[u8]) -> Result<(), Unread>
     requires { length chip.now ≤ 2 ^ 24 }
-    ensures { IfOk result (λ _. take (min (length chip.now) (length file.now)) chip.now ≡ take (min (length chip.now) (length file.now)) file.now) }
+    ensures alike { IfOk result (λ _. take (both_go chip.now file.now) chip.now ≡ take (both_go chip.now file.now) file.now) }
+    ensures stops { IfErr result (DiffersFrom chip.now file.now) }
 {
-    let len = chip.len().min(file.len());
+    let len = chip.len().min(tables_reach(file));
     match first_difference(&chip[..len], &file[..len]) {
         None => Ok(()),
         Some(place) => Err(Unread::Unlike(Unlike::Tables(Difference {
@@ -199,10 +236,25 @@ fn compare_file(chip: &[u8], file: &[u8]) -> Result<(), Unread>
     }
 }
 
+/// Sees that a file of tables, where one is given, has a meaning.
+fn check_file(ask: &Ask<'_>) -> Result<(), Unread>
+    ensures file { IfOk result (λ _. HasMeaning ask.now ask.now.known) }
+    ensures stops { IfErr result (RefusesFile ask.now ask.now.known) }
+{
+    match ask.known {
+        Known::Own | Known::Uniform(_) => Ok(()),
+        Known::Tables(file) => match meaning_of(ask, file) {
+            Ok(_) => Ok(()),
+            Err(why) => Err(why),
+        },
+    }
+}
+
 /// What the tables or the size mean, and how the chip begins.
 fn meaning_of(ask: &Ask<'_>, tables: &[u8]) -> Result<(Meaning, Start), Unread>
     ensures means { IfOk result (λ chip. HasChip (chip_task ask.now tables.now) chip.0) }
     ensures start { IfOk result (λ chip. chip.1 ≡ start_of (chip_task ask.now tables.now)) }
+    ensures refused { IfErr result (RefusesMeaning (chip_task ask.now tables.now)) }
 {
     let chip = match ask.known {
         Known::Uniform(size) => Source::Uniform(size),
@@ -222,7 +274,7 @@ fn meaning_of(ask: &Ask<'_>, tables: &[u8]) -> Result<(Meaning, Start), Unread>
         quad: false,
         base: 0,
         verify: false,
-        erased_only: false,
+        erased_only: ask.erased_only,
     };
     match known_chip(&inputs) {
         Ok(known) => Ok(known),
@@ -244,6 +296,8 @@ fn ask_content<R: ByteIn, W: ByteOut>(
     requires writer { W.count to.old < 2 ^ 64 - 1 }
     ensures content { IfOk result (λ content. GivesContent (W.held to.old) (W.held to.new) (R.ahead from.old) (R.ahead from.new)
         meaning.now start wanted content.items) }
+    ensures stops { IfErr result (StopsContent (W.held to.old) (W.held to.new) (R.ahead from.old) (R.ahead from.new) meaning.now start) }
+    ensures wanted { IfErr result (λ _. wanted ≡ true) }
     ensures reads { IfOk result (λ _. R.count from.new ≡ R.count from.old) }
     ensures writes { IfOk result (λ _. W.count to.new ≡ W.count to.old) }
     ensures reads_room { R.count from.new ≤ R.count from.old + 1 }

@@ -1,18 +1,25 @@
 //! `read`: from the texts of the command line to the lines of a chip that was read.
 
-ghost use Rattle.std.specs.Prelude.{◌≡◌, ◌≤◌, ◌<◌, ◌-◌, ◌^◌, option_map, IfOk};
-ghost use Rattle.norprog_read.specs.Answer.{AreSavedIf, IsKept, IsReadOfSome, PrintsReading};
+ghost use Rattle.std.specs.Prelude.{◌≡◌, ◌≤◌, ◌<◌, ◌-◌, ◌^◌, true, option_map, IfOk, IfErr};
+ghost use Rattle.norprog_common.specs.Chip.{origin_of};
+ghost use Rattle.norprog_common.specs.Files.{TellsFile};
+ghost use Rattle.norprog_read.specs.Answer.{AnswersRead, AreSavedIf, IsKept, IsUnread, PrintsReading, Reports};
+ghost use Rattle.norprog_read.specs.Line.{reading_text, unlike_line};
+ghost use Rattle.norprog_read.specs.Opened.{IsReadOn, IsUnreadOn};
+ghost use Rattle.norprog_read.specs.Request.{is_well_formed};
+ghost use Rattle.norprog_read.specs.Saved.{FailsToSave};
+ghost use Rattle.norprog_read.specs.Served.{AreTablesIf};
 
 use crate::asked::{Ask, Reading};
-use crate::fault::{DeviceFault, Unlike, Unread};
-use crate::line::{write_device, write_reading, write_unlike};
+use crate::fault::{Unlike, Unread};
+use crate::line::{write_reading, write_unlike};
 use crate::opened::read_opened;
 use crate::request::{ReadRequest, ask_of, request_of};
 use crate::saved::save;
 use nor_base::{ByteOut, FromRead, IntoWrite};
 use norprog_common::{Chip, FileName, FileStore, ReadArgs, Refusal, refuse, tables_of};
+use norprog_device::{open_port, refuse_device};
 use std::alloc::Global;
-use std::io::BufReader;
 
 /// Does what the texts of a command line of `read` ask for: reads the chip behind the device that they name, makes the outputs that they
 /// name, where no files of these names are there, and writes its lines to `out`, or a refusal to `err` (docs/FORMATS.md, sections 9 and
@@ -29,18 +36,27 @@ pub fn read<S: FileStore, O: ByteOut, E: ByteOut>(
     ensures status { result ≤ 2 }
     ensures quiet { result ≡ 0 → err.new ≡ err.old }
     ensures done { result ≡ 0 → PrintsReading (S.facts store.now) given.entry (O.held out.old) (O.held out.new) }
+    ensures answer { AnswersRead (S.facts store.now) given.entry (O.held out.old) (O.held out.new) (err.new ≡ err.old)
+        (E.count err.new ≡ E.count err.old) (E.held err.old) (E.held err.new) result }
 {
     match read_texts(alloc, store, given) {
-        Ok(reading) => match write_reading(&reading, out) {
-            Ok(()) => 0,
-            Err(_) => refuse(&Refusal::WRITE, err),
-        },
+        Ok(reading) => report_reading(&reading, out, err),
         Err(Unread::Unlike(why)) => report_unlike(why, out, err),
-        Err(Unread::Device(fault)) => {
-            let _ = write_device(fault, err);
-            1
-        }
+        Err(Unread::Device(fault)) => refuse_device(fault, err),
         Err(Unread::Refused(refusal)) => refuse(&refusal, err),
+    }
+}
+
+/// Writes the lines of a chip that was read, or that they can't be written, and returns the status: 0, or 1.
+fn report_reading<O: ByteOut, E: ByteOut>(reading: &Reading, out: &mut O, err: &mut E) -> u8
+    requires out { O.count out.old < 2 ^ 64 - 1 }
+    requires err { E.count err.old < 2 ^ 64 - 1 }
+    ensures { Reports (reading_text reading.now) 0 (O.held out.old) (O.held out.new) (err.new ≡ err.old)
+        (E.count err.new ≡ E.count err.old) (E.held err.old) (E.held err.new) result }
+{
+    match write_reading(reading, out) {
+        Ok(()) => 0,
+        Err(_) => refuse(&Refusal::WRITE, err),
     }
 }
 
@@ -48,7 +64,8 @@ pub fn read<S: FileStore, O: ByteOut, E: ByteOut>(
 fn report_unlike<O: ByteOut, E: ByteOut>(why: Unlike, out: &mut O, err: &mut E) -> u8
     requires out { O.count out.old < 2 ^ 64 - 1 }
     requires err { E.count err.old < 2 ^ 64 - 1 }
-    ensures { result ≡ 1 }
+    ensures { Reports (unlike_line why) 1 (O.held out.old) (O.held out.new) (err.new ≡ err.old)
+        (E.count err.new ≡ E.count err.old) (E.held err.old) (E.held err.new) result }
 {
     match write_unlike(why, out) {
         Ok(()) => 1,
@@ -62,17 +79,33 @@ fn read_texts<S: FileStore>(
     store: &S,
     given: ReadArgs<'_>,
 ) -> Result<Reading, Unread>
-    ensures { IfOk result (IsKept (S.facts store.now) given.entry) }
+    ensures kept { IfOk result (IsKept (S.facts store.now) given.entry) }
+    ensures asked { IfOk result (λ _. is_well_formed given.entry ≡ true) }
+    ensures unread { IfErr result (IsUnread (S.facts store.now) given.entry) }
 {
     let request = request_of(given).ok_or(Refusal::Usage)?;
-    let file = match request.chip {
-        Some(chip) => tables_of(alloc, store, chip)?,
-        None => Vec::new(alloc),
-    };
+    let file = file_of(alloc, store, request.chip)?;
     let ask = ask_of(request, file.as_slice());
     let reading = read_device(alloc, store, request.device, &ask)?;
     save_all(alloc, store, request, &reading)?;
     Ok(reading)
+}
+
+/// What the file of the tables of a chip holds, where one is named; else nothing.
+///
+/// `File` of `Sfdp` and `Memory`, as [`tables_of`] returns them.
+pub fn file_of<S: FileStore>(
+    alloc: Global,
+    store: &S,
+    chip: Option<Chip<'_>>,
+) -> Result<Vec<u8>, Refusal>
+    ensures file { IfOk result (λ file. AreTablesIf (S.facts store.now) (option_map origin_of chip.entry) file.items) }
+    ensures lacked { IfErr result (TellsFile (S.facts store.now).lacked) }
+{
+    match chip {
+        Some(chip) => tables_of(alloc, store, chip),
+        None => Ok(Vec::new(alloc)),
+    }
 }
 
 /// Reads the chip behind the device of this name.
@@ -82,13 +115,11 @@ fn read_device<S: FileStore>(
     device: &str,
     ask: &Ask<'_>,
 ) -> Result<Reading, Unread>
-    ensures { IfOk result (IsReadOfSome ask.now) }
+    ensures read { IfOk result (IsReadOn ((S.facts store.now).device device.now) ask.now) }
+    ensures unread { IfErr result (IsUnreadOn (S.facts store.now).lacked ((S.facts store.now).device device.now) ask.now) }
 {
-    let (from, to) = store.open_device(device)?;
-    let mut from = match BufReader::new(alloc, from) {
-        Ok(from) => FromRead::new(from),
-        Err(_) => return Err(Unread::Refused(Refusal::MEMORY)),
-    };
+    let (from, to) = open_port(alloc, store, device)?;
+    let mut from = FromRead::new(from);
     let mut to = IntoWrite::new(to);
     read_opened(alloc, &mut from, &mut to, ask)
 }
@@ -104,6 +135,7 @@ fn save_all<S: FileStore>(
         reading.now.tables.items) }
     ensures content { IfOk result (λ _. AreSavedIf (S.facts store.now) (option_map (λ t. t.now) request.entry.out)
         reading.now.content.items) }
+    ensures fails { IfErr result (FailsToSave (S.facts store.now).lacked) }
 {
     if let Some(path) = request.tables {
         save(

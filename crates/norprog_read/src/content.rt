@@ -1,12 +1,14 @@
 //! The content of the chip behind a device.
 
-ghost use Rattle.std.specs.Prelude.{◌≡◌, ◌<◌, ◌≤◌, ◌+◌, ◌-◌, ◌^◌, true, IfOk};
-ghost use Rattle.nor_loop.specs.Laws.{IsReadable};
-ghost use Rattle.nor_reader.specs.Laws.{GivesBy};
+ghost use Rattle.std.specs.Prelude.{◌≡◌, ◌<◌, ◌≤◌, ◌+◌, ◌-◌, ◌^◌, IfOk, IfErr};
+ghost use Rattle.nor_base.specs.Instructions.{is_there};
+ghost use Rattle.nor_reader.specs.declared.by.ReadBy.TheVariants.{Entered};
 ghost use Rattle.norprog_read.specs.Content.{HoldsWhole};
+ghost use Rattle.norprog_read.specs.Stops.{StopsContent};
+ghost use Rattle.norprog_read.specs.Way.{first_by, has_both, is_near, is_readable, is_small, may_enter, second_by};
 
 use crate::fault::{Unlike, Unread};
-use nor_base::{ByteIn, ByteOut, Meaning, Start, Width};
+use nor_base::{ByteIn, ByteOut, Meaning, Start, Switch, Width};
 use nor_probe::Mismatch;
 use nor_reader::{ReadBy, read_content, twice_knows};
 use nor_serprog::Limits;
@@ -15,11 +17,12 @@ use std::alloc::Global;
 /// What three address bytes reach.
 const REACH: u32 = 1 << 24;
 
-/// Reads the content of the chip behind a device twice, and returns it: the second time by 13h where the chip has it, and is larger than
-/// three address bytes reach or could be in the other address mode. Memory is taken for it.
+/// Reads the content of the chip behind a device twice, and returns it: in the mode that the chip is in where it can be, else in four-byte
+/// mode, which is entered and left. A chip that is larger than three address bytes reach, or could be in the other address mode, is read the
+/// second time by four address bytes, where it has a way to. Memory is taken for it.
 ///
-/// `Unlike` for `Unreadable` where the chip can't be read whole in its mode; for `At` where a byte came otherwise the second time; for
-/// `Asking` where an exchange ended early. `Refused` for `Memory` where a growth is refused.
+/// `Unlike` for `Unreadable` where the chip can't be read whole; for `At` where a byte came otherwise the second time; for `Asking` where
+/// an exchange ended early. `Refused` for `Memory` where a growth is refused.
 #[tactic(auto, using(crate::proofs::RoomLemmas::mismatch_read, crate::proofs::RoomLemmas::mismatch_write))]
 pub(crate) fn read_whole<R: ByteIn, W: ByteOut>(
     alloc: Global,
@@ -33,6 +36,7 @@ pub(crate) fn read_whole<R: ByteIn, W: ByteOut>(
     requires writer { W.count to.old < 2 ^ 64 - 1 }
     ensures whole { IfOk result (λ content. HoldsWhole (W.held to.old) (W.held to.new) (R.ahead from.old) (R.ahead from.new)
         meaning.now start content.items) }
+    ensures stops { IfErr result (StopsContent (W.held to.old) (W.held to.new) (R.ahead from.old) (R.ahead from.new) meaning.now start) }
     ensures reads { IfOk result (λ _. R.count from.new ≡ R.count from.old) }
     ensures writes { IfOk result (λ _. W.count to.new ≡ W.count to.old) }
     ensures reads_room { R.count from.new ≤ R.count from.old + 1 }
@@ -41,11 +45,10 @@ pub(crate) fn read_whole<R: ByteIn, W: ByteOut>(
     if !is_readable(meaning, start) {
         return Err(Unread::Unlike(Unlike::Unreadable));
     }
-    let mode4 = meaning.begins4(&start);
+    let by = first_by(meaning, start);
     let again = second_by(meaning, start);
     let mut content = vec![in alloc; 0; size_in(meaning)]?;
     twice_knows();
-    let by = ReadBy::Content { mode4 };
     match read_content(from, to, limits, by, again, content.as_mut_slice()) {
         Ok(()) => Ok(content),
         Err(Mismatch::Exchange(why)) => Err(Unread::Unlike(Unlike::Asking(why))),
@@ -61,28 +64,86 @@ fn size_in(meaning: &Meaning) -> usize
     meaning.size as usize
 }
 
-/// Whether a chip can be read whole from the mode that it begins in.
+/// Whether a chip can be read whole.
 fn is_readable(meaning: &Meaning, start: Start) -> bool
-    ensures { result ≡ true → IsReadable meaning.now start }
+    ensures { result ≡ is_readable meaning.now start }
 {
-    meaning.size <= REACH || meaning.begins4(&start) || meaning.read4
+    is_near(meaning, start) || may_enter(meaning, start)
+}
+
+/// Whether a chip can be read whole in the mode that it begins in.
+fn is_near(meaning: &Meaning, start: Start) -> bool
+    ensures { result ≡ is_near meaning.now start }
+{
+    is_small(meaning) || meaning.begins4(&start) || meaning.read4
+}
+
+/// Whether three address bytes reach all of a chip.
+fn is_small(meaning: &Meaning) -> bool
+    ensures { result ≡ is_small meaning.now }
+{
+    meaning.size <= REACH
+}
+
+/// Whether a chip begins in three-byte mode, and has a way to enter and leave the other.
+fn may_enter(meaning: &Meaning, start: Start) -> bool
+    ensures { result ≡ may_enter meaning.now start }
+{
+    !meaning.begins4(&start) && is_there(meaning.enter) && is_there(meaning.leave)
+}
+
+/// Whether a mode can be switched.
+fn is_there(switch: Switch) -> bool
+    ensures { result ≡ is_there switch }
+{
+    match switch {
+        Switch::Absent => false,
+        Switch::Plain | Switch::Latched => true,
+    }
+}
+
+/// How a chip is read the first time.
+fn first_by(meaning: &Meaning, start: Start) -> ReadBy
+    ensures { result ≡ first_by meaning.now start }
+{
+    if is_near(meaning, start) {
+        ReadBy::Content {
+            mode4: meaning.begins4(&start),
+        }
+    } else {
+        entered(meaning)
+    }
 }
 
 /// How it is read the second time.
 fn second_by(meaning: &Meaning, start: Start) -> ReadBy
-    ensures { IsReadable meaning.now start → GivesBy meaning.now start result }
+    ensures { result ≡ second_by meaning.now start }
 {
-    if meaning.read4 && (meaning.size > REACH || has_both(meaning.width)) {
+    if is_small(meaning) && !has_both(meaning.width) {
+        first_by(meaning, start)
+    } else if meaning.read4 {
         ReadBy::FourBytes
+    } else if may_enter(meaning, start) {
+        entered(meaning)
     } else {
-        ReadBy::Content {
-            mode4: meaning.begins4(&start),
-        }
+        first_by(meaning, start)
+    }
+}
+
+/// In four-byte mode, which is entered and left.
+fn entered(meaning: &Meaning) -> ReadBy
+    ensures { result ≡ Entered meaning.now.enter meaning.now.leave }
+{
+    ReadBy::Entered {
+        enter: meaning.enter,
+        leave: meaning.leave,
     }
 }
 
 /// Whether a chip of this width has both address modes.
-fn has_both(width: Width) -> bool {
+fn has_both(width: Width) -> bool
+    ensures { result ≡ has_both width }
+{
     match width {
         Width::Both => true,
         Width::Three | Width::Four => false,

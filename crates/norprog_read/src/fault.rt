@@ -6,8 +6,9 @@ ghost use Rattle.norprog_common.specs.declared.faults.Refusal.TheVariants.{Build
 ghost use Rattle.norprog_read.specs.declared.fault.Unread.TheVariants as unread;
 
 use nor_probe::Difference;
-use nor_serprog::{Fault, GreetFault};
+use nor_serprog::Fault;
 use norprog_common::Refusal;
+use norprog_device::DeviceFault;
 use std::alloc::AllocError;
 
 /// Why a chip isn't read.
@@ -19,15 +20,6 @@ pub enum Unread {
     Device(DeviceFault),
     /// The chip didn't say or give what it has to.
     Unlike(Unlike),
-}
-
-/// Why a device can't be used.
-#[derive(Clone, Copy, Drop)]
-pub enum DeviceFault {
-    /// The handshake with it ended early.
-    Greet(GreetFault),
-    /// The test of the line to it did.
-    Line(Fault),
 }
 
 /// What the chip didn't say or give.

@@ -16,10 +16,11 @@ mod saved;
 
 pub use asked::{Ask, Known, Reading};
 pub use chip::read_chip;
-pub use command::read;
-pub use fault::{DeviceFault, Unlike, Unread};
+pub use command::{file_of, read};
+pub use fault::{Unlike, Unread};
 pub use line::{write_reading, write_unlike};
 pub use norprog_common::ReadArgs;
+pub use norprog_device::DeviceFault;
 pub use opened::read_opened;
-pub use request::{ReadRequest, request_of};
+pub use request::{ReadRequest, ask_of, request_of};
 pub use saved::save;

@@ -2,16 +2,16 @@
 
 ghost use Rattle.std.specs.Prelude.{◌≡◌, ◌<◌, ◌-◌, ◌^◌};
 ghost use Rattle.nor_base.specs.Device.{Counts, Writes};
-ghost use Rattle.norprog_read.specs.Line.{content_line, device_line, device_word, digits_line, fault_word, reading_text, registers, status_line, tables_line, unlike_line};
+ghost use Rattle.norprog_read.specs.Line.{content_line, digits_line, reading_text, registers, status_line, tables_line, unlike_line};
 
 use crate::asked::Reading;
-use crate::fault::{DeviceFault, Unlike};
+use crate::fault::Unlike;
 use itoa::Buffer;
 use nor_base::{ByteOut, Failed, Part, put_all, put_parts};
 use nor_probe::Difference;
 use nor_script::{hex_number, hex_pair};
-use nor_serprog::{Fault, GreetFault};
 use norprog::sfdp_text;
+use norprog_device::word;
 
 /// Writes `id HHHHHH`, `status HH` (six digits where the part's registers are known), the lines of the meaning as
 /// [`sfdp_text`] does and, where the content was read, `read N twice alike`, N its bytes in decimal. It takes no memory.
@@ -125,40 +125,4 @@ fn write_tables<W: ByteOut>(d: Difference, writer: &mut W) -> Result<(), Failed>
             b"\n",
         ],
     )
-}
-
-/// Writes `norprog: device WHY`, where WHY is `read`, `write`, `silent`, `nak`, `differs`, `version`, `operation` or `line`.
-pub(crate) fn write_device<W: ByteOut>(fault: DeviceFault, writer: &mut W) -> Result<(), Failed>
-    requires { W.count writer.old < 2 ^ 64 - 1 }
-    ensures bytes { Writes (W.held writer.old) (W.held writer.new) result (device_line fault) }
-    ensures count { Counts (W.count writer.old) (W.count writer.new) result }
-{
-    put_parts(writer, &[b"norprog: device ", device_word(fault), b"\n"])
-}
-
-/// The word of a device that can't be used.
-fn device_word(fault: DeviceFault) -> &'static [u8]
-    ensures { result.now ≡ device_word fault }
-{
-    match fault {
-        DeviceFault::Greet(GreetFault::Command { why, at: _ }) => word(why),
-        DeviceFault::Greet(GreetFault::Version) => b"version",
-        DeviceFault::Greet(GreetFault::NoOperation) => b"operation",
-        DeviceFault::Line(Fault::Read) => b"read",
-        DeviceFault::Line(Fault::Write) => b"write",
-        DeviceFault::Line(_) => b"line",
-    }
-}
-
-/// The word of an exchange that ended early.
-fn word(fault: Fault) -> &'static [u8]
-    ensures { result.now ≡ fault_word fault }
-{
-    match fault {
-        Fault::Read => b"read",
-        Fault::Write => b"write",
-        Fault::Silent => b"silent",
-        Fault::Nak => b"nak",
-        Fault::Differs => b"differs",
-    }
 }

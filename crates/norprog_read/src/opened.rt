@@ -1,13 +1,14 @@
 //! A chip behind a device, from the handshake on.
 
-ghost use Rattle.std.specs.Prelude.{◌≡◌, ◌≤◌, ◌<◌, ◌+◌, ◌-◌, ◌^◌, Ok, IfOk};
-ghost use Rattle.norprog_read.specs.Opened.{HasReadOpened, HasReadTested};
+ghost use Rattle.std.specs.Prelude.{◌≡◌, ◌≤◌, ◌<◌, ◌+◌, ◌-◌, ◌^◌, Ok, IfOk, IfErr};
+ghost use Rattle.norprog_read.specs.Opened.{HasReadOpened, HasReadTested, StopsOpened, StopsTested};
 
 use crate::asked::{Ask, Reading};
 use crate::chip::read_chip;
-use crate::fault::{DeviceFault, Unread};
+use crate::fault::Unread;
 use nor_base::{ByteIn, ByteOut};
-use nor_serprog::{Limits, greet, release, test_line};
+use nor_serprog::{Limits, greet, test_line};
+use norprog_device::{DeviceFault, let_go};
 use std::alloc::Global;
 
 /// Begins with a device, tests the line to it, and has its chip read, as [`read_chip`] does, by the limits that the device reports. At
@@ -24,15 +25,14 @@ pub fn read_opened<R: ByteIn, W: ByteOut>(
     requires writer { W.count to.old < 2 ^ 64 - 2 }
     ensures read { IfOk result (λ reading. HasReadOpened (W.held to.old) (W.held to.new) (R.ahead from.old) (R.ahead from.new)
         ask.now reading) }
+    ensures stops { IfErr result (StopsOpened (W.held to.old) (W.held to.new) (R.ahead from.old) (R.ahead from.new) ask.now) }
 {
     let limits = match greet(from, to) {
         Ok(limits) => limits,
         Err(why) => return Err(Unread::Device(DeviceFault::Greet(why))),
     };
     let read = read_tested(alloc, from, to, &limits, ask);
-    if limits.pins {
-        let _ = release(from, to);
-    }
+    let_go(from, to, limits.pins);
     read
 }
 
@@ -48,6 +48,7 @@ fn read_tested<R: ByteIn, W: ByteOut>(
     requires writer { W.count to.old < 2 ^ 64 - 2 }
     ensures read { IfOk result (λ reading. HasReadTested (W.held to.old) (W.held to.new) (R.ahead from.old) (R.ahead from.new)
         limits.now ask.now reading) }
+    ensures stops { IfErr result (StopsTested (W.held to.old) (W.held to.new) (R.ahead from.old) (R.ahead from.new) limits.now ask.now) }
     ensures reads { R.count from.new ≤ R.count from.old + 1 }
     ensures writes { W.count to.new ≤ W.count to.old + 1 }
 {

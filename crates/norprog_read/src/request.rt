@@ -1,10 +1,12 @@
 //! What the values of a command line of `read` ask for.
 
-ghost use Rattle.std.specs.Prelude.{◌≡◌, is_some, IfSome};
+ghost use Rattle.std.specs.Prelude.{◌≡◌, is_some, option_map, IfSome};
+ghost use Rattle.norprog_common.specs.Chip.{origin_of};
+ghost use Rattle.norprog_read.specs.Request.{are_apart, are_same, is_well_formed, named_chip, AsksFor, IsAskOf};
 
 use crate::asked::{Ask, Known};
 use nor_base::Part;
-use norprog_common::{Chip, ReadArgs, chip_of, limit, part};
+use norprog_common::{Chip, ChipArgs, ReadArgs, chip_of, limit, part};
 
 /// What `read` is asked for: each value is of its form.
 #[derive(Clone, Copy)]
@@ -26,17 +28,14 @@ pub struct ReadRequest<'a> {
 /// The request that the values spell. None where one isn't of its form, where no device is named, where tables are to be saved of a chip of
 /// a size, and where both outputs have one name.
 pub fn request_of<'a>(given: ReadArgs<'a>) -> Option<ReadRequest<'a>>
-    ensures mode { IfSome result (λ request. request.mode4 ≡ given.entry.mode4) }
-    ensures tables { IfSome result (λ request. request.tables ≡ given.entry.tables) }
-    ensures out { IfSome result (λ request. request.out ≡ given.entry.out) }
+    ensures forms { is_some result ≡ is_well_formed given.entry }
+    ensures values { IfSome result (λ request. AsksFor given.entry request) }
 {
-    if has_same(given.tables, given.out)
-        || (given.tables.is_some() && given.chip.uniform.is_some())
-    {
+    if !are_apart(given) {
         return None;
     }
     Some(ReadRequest {
-        chip: named_chip(given)?,
+        chip: named_chip(given.chip)?,
         bits: given.chip.bits.unwrap_or(""),
         part: part(given.chip.part.unwrap_or("generic"))?,
         mode4: given.mode4,
@@ -47,16 +46,27 @@ pub fn request_of<'a>(given: ReadArgs<'a>) -> Option<ReadRequest<'a>>
     })
 }
 
+/// Whether the outputs have different names, and no tables are saved of a chip of a size.
+fn are_apart(given: ReadArgs<'_>) -> bool
+    ensures { result ≡ are_apart given.entry }
+{
+    !are_same(given.tables, given.out) && !(given.tables.is_some() && given.chip.uniform.is_some())
+}
+
 /// The chip that is named, if one is. None where it isn't of its form.
-fn named_chip<'a>(given: ReadArgs<'a>) -> Option<Option<Chip<'a>>> {
-    match (given.chip.sfdp, given.chip.uniform) {
-        (None, None) => Some(None),
-        _ => Some(Some(chip_of(given.chip.sfdp, given.chip.uniform, given.chip.bits)?)),
+fn named_chip<'a>(given: ChipArgs<'a>) -> Option<Option<Chip<'a>>>
+    ensures { option_map (λ chip. option_map origin_of chip) result ≡ named_chip given.entry }
+{
+    if given.sfdp.is_none() && given.uniform.is_none() {
+        return Some(None);
     }
+    Some(Some(chip_of(given.sfdp, given.uniform, given.bits)?))
 }
 
 /// Whether both are given, and are the same.
-fn has_same(one: Option<&str>, other: Option<&str>) -> bool {
+fn are_same(one: Option<&str>, other: Option<&str>) -> bool
+    ensures { result ≡ are_same (option_map (λ t. t.now) one.entry) (option_map (λ t. t.now) other.entry) }
+{
     match (one, other) {
         (Some(one), Some(other)) => one == other,
         _ => false,
@@ -64,9 +74,8 @@ fn has_same(one: Option<&str>, other: Option<&str>) -> bool {
 }
 
 /// What is asked of the chip of a request, whose file has these bytes where it names one.
-pub(crate) fn ask_of<'a>(request: ReadRequest<'a>, file: &'a [u8]) -> Ask<'a>
-    ensures mode { result.mode4 ≡ request.entry.mode4 }
-    ensures content { result.content ≡ is_some request.entry.out }
+pub fn ask_of<'a>(request: ReadRequest<'a>, file: &'a [u8]) -> Ask<'a>
+    ensures { IsAskOf request.entry file.entry.now result }
 {
     Ask {
         known: match request.chip {
@@ -79,5 +88,6 @@ pub(crate) fn ask_of<'a>(request: ReadRequest<'a>, file: &'a [u8]) -> Ask<'a>
         mode4: request.mode4,
         turns: request.limit,
         content: request.out.is_some(),
+        erased_only: false,
     }
 }

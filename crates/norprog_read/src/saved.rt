@@ -1,7 +1,7 @@
 //! An output that is made anew.
 
-ghost use Rattle.std.specs.Prelude.{IfOk};
-ghost use Rattle.norprog_read.specs.Saved.{IsSaved};
+ghost use Rattle.std.specs.Prelude.{IfOk, IfErr};
+ghost use Rattle.norprog_read.specs.Saved.{FailsToSave, IsSaved};
 
 use nor_base::put_all;
 use norprog_common::{FileName, FileStore, Refusal};
@@ -18,7 +18,8 @@ pub fn save<S: FileStore>(
     name: FileName,
     bytes: &[u8],
 ) -> Result<(), Refusal>
-    ensures { IfOk result (λ _. IsSaved (S.facts store.now) path.now bytes.now) }
+    ensures saved { IfOk result (λ _. IsSaved (S.facts store.now) path.now bytes.now) }
+    ensures fails { IfErr result (FailsToSave (S.facts store.now).lacked) }
 {
     let mut file = store.create_new(alloc, path, name)?;
     if put_all(&mut file, bytes).is_err() {

@@ -1,13 +1,20 @@
 -- The header, the parameter headers, and the tables.
-use Rattle.std.proofs.Common.{[], Err, sym, ◌∙◌, subst}
+use Rattle.std.proofs.Common.{ℕ, List, [], Err, sym, ◌∙◌, subst}
 use Rattle.nor_reader.specs.declared.by.ReadBy.TheVariants.{Tables}
 use Rattle.nor_reader.specs.Again.{ReadsAgain}
 use Rattle.nor_reader.specs.Reads.{HasReadOn}
 use Rattle.nor_reader.specs.Tables.{HasSignature}
-use Rattle.nor_reader.proofs.PassLemmas.{read_both}
-use Rattle.nor_reader.proofs.TwiceLemmas.{read_twice, missed_again}
+use Rattle.nor_reader.proofs.PassLemmas.{nothing_read, read_both}
+use Rattle.nor_reader.proofs.TwiceLemmas.{tables_twice, tables_missed}
 use Rattle.nor_reader.proofs.TablesLemmas.{grow_stops, from_none, these_tables}
 use Rattle.nor_reader.proofs.tables.read_tables.Goals as goal
+
+pub returns-in-Err-clause-tables : goal.returns-in-Err-clause-tables
+returns-in-Err-clause-tables g c =
+    let h = g.W.ByteOut.held c.args.to.now in
+    let a = g.R.ByteIn.ahead c.args.from.now in
+    grow_stops h h (g.W.ByteOut.held c.grow.new.to) a a (g.R.ByteIn.ahead c.grow.new.from) c.new-bytes.result.items c.grow.new.bytes.items 8 c.in-Err.why
+    (subst (λ (old : List ℕ). HasReadOn h h a a Tables [] old) (sym c.new-bytes.ensures.items) (nothing_read h a Tables [])) c.in-Err.ensures.grows
 
 pub returns-in-Err-grow-clause-tables : goal.returns-in-Err-grow-clause-tables
 returns-in-Err-grow-clause-tables g c =
@@ -39,8 +46,8 @@ returns-in-Ok-clause-tables g c =
           (subst HasSignature (c.as_slice.ensures.value ∙ sym c.as_slice-2.ensures.value) (c.is_signed.ensures.0 c.if-not-is_signed.false))
           c.in_default-grow.ensures.grows.1 c.in_default-grow.ensures.grows.0 c.headers_end-headers.ensures.is
           c.as_slice-3.ensures.value c.in_default-grow-2.ensures.grows.1 c.in_default-grow-2.ensures.grows.0 c.tables_size-size.ensures.is;
-      twice = read_twice (g.W.ByteOut.held c.args.to.now) (g.W.ByteOut.held c.grow-3.new.to) (g.W.ByteOut.held c.compare_all.new.to) (g.R.ByteIn.ahead c.args.from.now)
-          (g.R.ByteIn.ahead c.grow-3.new.from) (g.R.ByteIn.ahead c.compare_all.new.from) Tables Tables c.grow-3.new.bytes.items three
+      twice = tables_twice (g.W.ByteOut.held c.args.to.now) (g.W.ByteOut.held c.grow-3.new.to) (g.W.ByteOut.held c.compare_all.new.to) (g.R.ByteIn.ahead c.args.from.now)
+          (g.R.ByteIn.ahead c.grow-3.new.from) (g.R.ByteIn.ahead c.compare_all.new.from) c.grow-3.new.bytes.items three
           (subst (λ bytes. HasReadOn (g.W.ByteOut.held c.grow-3.new.to) (g.W.ByteOut.held c.compare_all.new.to) (g.R.ByteIn.ahead c.grow-3.new.from)
           (g.R.ByteIn.ahead c.compare_all.new.from) Tables [] bytes) c.as_slice-4.ensures.value c.in-Ok.ensures.again);
     }
@@ -53,8 +60,8 @@ returns-in-Err-compare_all-clause-tables g c =
     let three = read_both (g.W.ByteOut.held c.args.to.now) (g.W.ByteOut.held c.grow-2.new.to) (g.W.ByteOut.held c.grow-3.new.to) (g.R.ByteIn.ahead c.args.from.now)
     (g.R.ByteIn.ahead c.grow-2.new.from) (g.R.ByteIn.ahead c.grow-3.new.from) Tables [] c.grow-2.new.bytes.items c.grow-3.new.bytes.items two c.in_default-grow-2.ensures.grows.1 in (
       c.grow-3.new.bytes.items,
-      missed_again (g.W.ByteOut.held c.args.to.now) (g.W.ByteOut.held c.grow-3.new.to) (g.W.ByteOut.held c.compare_all.new.to) (g.R.ByteIn.ahead c.args.from.now)
-          (g.R.ByteIn.ahead c.grow-3.new.from) (g.R.ByteIn.ahead c.compare_all.new.from) Tables Tables c.grow-3.new.bytes.items c.in-Err-compare_all.why three
+      tables_missed (g.W.ByteOut.held c.args.to.now) (g.W.ByteOut.held c.grow-3.new.to) (g.W.ByteOut.held c.compare_all.new.to) (g.R.ByteIn.ahead c.args.from.now)
+          (g.R.ByteIn.ahead c.grow-3.new.from) (g.R.ByteIn.ahead c.compare_all.new.from) c.grow-3.new.bytes.items c.in-Err-compare_all.why three
           (subst (λ bytes. ReadsAgain (g.W.ByteOut.held c.grow-3.new.to) (g.W.ByteOut.held c.compare_all.new.to) (g.R.ByteIn.ahead c.grow-3.new.from)
           (g.R.ByteIn.ahead c.compare_all.new.from) (Err c.in-Err-compare_all.why) Tables bytes) c.as_slice-4.ensures.value c.in-Err-compare_all.ensures.again),
     )

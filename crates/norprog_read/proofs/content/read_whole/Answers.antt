@@ -1,22 +1,34 @@
 -- The content that came twice is known.
-use Rattle.std.proofs.Common.{◌≡◌, length, sym, subst, arith}
-use Rattle.nor_reader.specs.declared.by.ReadBy.TheVariants.{Content}
+use Rattle.std.proofs.Common.{◌≡◌, ◌∙◌, true, length, sym, subst, arith}
+use Rattle.nor_reader.specs.declared.by.ReadBy.{ReadBy}
+use Rattle.nor_reader.specs.Twice.{ReadTwice}
 use Rattle.norprog_read.specs.Content.{HoldsWhole}
+use Rattle.norprog_read.specs.Way.{first_by, is_readable, second_by}
 use Rattle.norprog_read.proofs.ReadLemmas.{written}
+use Rattle.norprog_read.proofs.WayLemmas.{first_gives, second_gives}
 use Rattle.norprog_read.proofs.content.read_whole.Goals as goal
 
 pub returns-in-Ok-clause-whole : goal.returns-in-Ok-clause-whole
 returns-in-Ok-clause-whole g c =
     let new = c.read_content.new.content in
     let m = c.args.meaning.now in
+    let start = c.args.start in
+    let h = g.W.ByteOut.held c.args.to.now in
+    let i = g.W.ByteOut.held c.read_content.new.to in
+    let a = g.R.ByteIn.ahead c.args.from.now in
+    let b = g.R.ByteIn.ahead c.read_content.new.from in
     let long : c.in_ok-content.content.len ≡ length new = omega (arith, c.read_content.auto.content, c.as_mut_slice.ensures.len) in
     let whole : length new ≡ m.size = omega (arith, long, c.in_ok-content.ensures.len, c.size_in.ensures.is) in
-    let readable = c.is_readable.ensures c.if-not-is_readable.false in
-    subst (λ bytes. HoldsWhole (g.W.ByteOut.held c.args.to.now) (g.W.ByteOut.held c.read_content.new.to) (g.R.ByteIn.ahead c.args.from.now)
-    (g.R.ByteIn.ahead c.read_content.new.from) m c.args.start bytes) (sym (written new c.in_ok-content.content.items c.in_ok-content.content.len long))
+    let readable : is_readable m start ≡ true = sym c.is_readable.ensures ∙ c.if-not-is_readable.false in
+    let by = c.first_by-by.ensures in
+    let again = c.second_by-again.ensures in
+    let twice : ReadTwice h i a b (first_by m start) (second_by m start) new =
+    subst (λ (x : ReadBy). ReadTwice h i a b x (second_by m start) new) by
+    (subst (λ (x : ReadBy). ReadTwice h i a b c.first_by-by.result x new) again c.in-Ok.ensures.twice) in
+    subst (λ bytes. HoldsWhole h i a b m start bytes) (sym (written new c.in_ok-content.content.items c.in_ok-content.content.len long))
     (record {
       whole = whole;
-      known = c.twice_knows.ensures (g.W.ByteOut.held c.args.to.now) (g.W.ByteOut.held c.read_content.new.to) (g.R.ByteIn.ahead c.args.from.now)
-          (g.R.ByteIn.ahead c.read_content.new.from) m c.args.start (Content c.begins4-mode4.result) c.second_by-again.result new
-          (omega (arith, c.size_in.ensures.is, c.size_in.ensures.few)) whole (c.begins4-mode4.ensures, readable) (c.second_by-again.ensures readable) c.in-Ok.ensures.twice;
+      known = c.twice_knows.ensures h i a b m start (first_by m start) (second_by m start) new
+          (omega (arith, c.size_in.ensures.is, c.size_in.ensures.few)) whole (first_gives m start readable) (second_gives m start readable) twice;
+      twice = twice;
     })

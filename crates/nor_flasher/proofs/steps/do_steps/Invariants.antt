@@ -1,0 +1,15 @@
+-- The steps so far were done.
+use Rattle.std.proofs.Common.{◌≡◌, take}
+use Rattle.nor_progress.specs.Far.{HasRoom}
+use Rattle.nor_serprog.specs.Done.{HasDoneAll}
+use Rattle.nor_flasher.proofs.steps.do_steps.Given as goal
+
+abbrev pub invariant-loop-step : goal.invariant-loop-step
+invariant-loop-step g l = record {
+  does : HasDoneAll (g.W.ByteOut.held l.fn.to) (g.W.ByteOut.held l.to) (g.R.ByteIn.ahead l.fn.from) (g.R.ByteIn.ahead l.from) l.limits l.turns
+      (take l.step-index l.steps);
+  reads : g.R.ByteIn.count l.from ≡ g.R.ByteIn.count l.fn.from;
+  writes : g.W.ByteOut.count l.to ≡ g.W.ByteOut.count l.fn.to;
+  number : l.number ≡ l.step-index;
+  told : HasRoom l.far (g.P.ByteOut.count l.progress);
+}

@@ -1,0 +1,56 @@
+-- Laws of work on a device (this project's).
+use Rattle.std.specs.Prelude.{◌≡◌, ◌⊎◌, ◌<◌, ℕ, Bool, false, List, All, length, Option}
+use Rattle.nor_base.specs.declared.meaning.Start.{Start}
+use Rattle.nor_base.specs.declared.step.Step.{Step}
+use Rattle.nor_base.specs.Device.{Ahead}
+use Rattle.nor_base.specs.Parameters.{Parameters}
+use Rattle.nor_base.specs.Planned.{ArePlanned, IsWorkable}
+use Rattle.nor_base.specs.Step.{step_clocks}
+use Rattle.nor_serprog.specs.declared.limits.Limits.{Limits}
+use Rattle.nor_serprog.specs.Done.{IsDoable, HasDoneAll, HasStoppedAmong}
+use Rattle.nor_serprog.specs.Carried.{operation_clocks}
+use Rattle.nor_serprog.specs.Steps.{IsFirstNotCarried}
+use Rattle.nor_loop.specs.Laws.{ReadTwice}
+use Rattle.nor_flasher.specs.declared.steps.Halt.{Halt}
+use Rattle.nor_flasher.specs.Halted.{HasHalted}
+use Rattle.nor_flasher.specs.Apart.{ClosesApart, BreaksApart}
+
+-- a device read a content twice, and later did planned work on it
+abbrev pub Closes : Type 0
+Closes = (h0 h1 h2 h3 : Option (List ℕ)) (a0 a1 a2 a3 : Ahead) (limits : Limits) (turns : ℕ) (m : Parameters) (start : Start) (verify : Bool)
+    (content : List ℕ) (goal : List ℕ → List ℕ) (steps : List Step)
+    → IsWorkable m start content (goal content) → ArePlanned m start verify content (goal content) steps
+    → ReadTwice h0 h1 a0 a1 m start content → HasDoneAll h2 h3 a2 a3 limits turns steps
+    → ClosesApart h0 h1 a0 a1 h2 h3 a2 a3 m start content goal steps
+
+-- or it halted in that work, which was planned for one lane
+abbrev pub Breaks : Type 0
+Breaks = (h0 h1 h2 h3 : Option (List ℕ)) (a0 a1 a2 a3 : Ahead) (limits : Limits) (turns : ℕ) (m : Parameters) (start : Start) (verify : Bool)
+    (content goal : List ℕ) (steps : List Step) (halt : Halt)
+    → start.quad ≡ false → IsWorkable m start content goal → ArePlanned m start verify content goal steps
+    → ReadTwice h0 h1 a0 a1 m start content → HasHalted h2 h3 a2 a3 limits turns steps halt
+    → BreaksApart h0 h1 a0 a1 h2 a2 m start content goal steps halt.step
+
+-- a device that halted stopped among the steps, for the same reason
+abbrev pub HaltedAmong : Type 0
+HaltedAmong = (held_before held_after : Option (List ℕ)) (ahead_before ahead_after : Ahead) (limits : Limits) (turns : ℕ) (steps : List Step)
+    (halt : Halt) → HasHalted held_before held_after ahead_before ahead_after limits turns steps halt
+    → HasStoppedAmong held_before held_after ahead_before ahead_after limits turns halt.why steps
+
+-- each step of planned work can be handed to a device
+abbrev pub PlannedIsDoable : Type 0
+PlannedIsDoable = (m : Parameters) (start : Start) (verify : Bool) (have want : List ℕ) (steps : List Step)
+    → ArePlanned m start verify have want steps → All IsDoable steps
+
+-- the clocks of a step are one operation of a device, but of more bytes than this one can send or take
+pub record IsTooLong (limits : Limits) (x : Step) : Type 0 where
+  pub sent : List ℕ
+  pub asked : ℕ
+  pub spelled : step_clocks x ≡ operation_clocks sent asked
+  pub much : (limits.sent < length sent) ⊎ (limits.asked < asked)
+
+-- where work is planned without the quad setting, a device can't do a step only where the step is too long for it
+abbrev pub RefusedForLength : Type 0
+RefusedForLength = (limits : Limits) (m : Parameters) (start : Start) (verify : Bool) (have want : List ℕ) (steps : List Step) (at : ℕ)
+    → IsWorkable m start have want → start.quad ≡ false → ArePlanned m start verify have want steps
+    → (refused : IsFirstNotCarried limits steps at) → IsTooLong limits refused.first

@@ -1,0 +1,3 @@
+pub mod Halted
+pub mod Apart
+pub mod Laws

@@ -1,0 +1,54 @@
+//! What a device's work says of its chip.
+
+ghost use Rattle.nor_flasher.specs.Laws.{Closes, Breaks, HaltedAmong, PlannedIsDoable, RefusedForLength};
+
+use nor_laws::{effects, spelling};
+use nor_loop::{device, loop_breaks, loop_closes, loop_is_explained, quad, single, wire};
+use nor_plan_laws::{planned_work, there_is_planned_work};
+
+/// A content was read twice, and later planned work on it was done. Every ready chip that explains both, whatever its quad setting, ends
+/// with the goal of what it held, and some chip explains them. Of what went over the wire between the two nothing is said.
+pub fn closes()
+    ensures { Closes }
+{
+    planned_work();
+    device();
+    loop_closes();
+    loop_is_explained();
+    quad();
+}
+
+/// A content was read twice, and later work on it that was planned for one lane halted. Every ready chip that explains both, whatever its
+/// quad setting, held just the content, and at most one unit of the work is in the making. The same holds where the chip did the operation that
+/// came next. Some chip explains both.
+pub fn breaks()
+    ensures { Breaks }
+{
+    device();
+    wire();
+    loop_breaks();
+    loop_is_explained();
+    quad();
+    spelling();
+    there_is_planned_work();
+    single();
+}
+
+/// A device that did the steps before one, and stopped at that one, stopped among the steps.
+pub fn halts()
+    ensures { HaltedAmong }
+{
+    single();
+}
+
+/// Each step of planned work is one that [`do_steps`](crate::do_steps) takes: what it sends and what it samples fit its kind. Where the
+/// work is planned without the quad setting, a device can't do a step only where the step is too long for its limits.
+pub fn doable()
+    ensures doable { PlannedIsDoable }
+    ensures refused { RefusedForLength }
+{
+    effects();
+    spelling();
+    there_is_planned_work();
+    single();
+}

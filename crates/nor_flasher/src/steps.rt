@@ -1,0 +1,66 @@
+//! Steps done by a device.
+
+ghost use Rattle.std.specs.Prelude.{◌≡◌, ◌≤◌, ◌<◌, ◌+◌, ◌-◌, ◌^◌, ◌↔◌, All, IsTrue, MatchResult};
+ghost use Rattle.nor_serprog.specs.declared.fault.Fault.TheVariants.{Read, Write};
+ghost use Rattle.nor_serprog.specs.Done.{IsDoable, HasDoneAll};
+ghost use Rattle.nor_flasher.specs.Halted.{HasHalted, CountsHalt};
+
+use nor_base::{ByteIn, ByteOut, Step};
+use nor_progress::Progress;
+use nor_serprog::{Limits, Reason, do_step, is_doable};
+
+/// At which step a device stopped, and why.
+#[derive(Clone, Copy, Debug, PartialEq, Eq)]
+pub struct Halt {
+    /// The step, counted from 0. Those before it were done.
+    pub step: u64,
+    /// Why it stopped at it.
+    pub why: Reason,
+}
+
+/// Whether [`do_steps`] takes these steps: each is one that [`do_step`](nor_serprog::do_step) takes.
+pub fn are_doable(steps: &[Step]) -> bool
+    ensures { IsTrue result ↔ All IsDoable steps.now }
+{
+    steps.iter().all(|step| is_doable(step))
+}
+
+/// Has the device do steps, one after the other, each as [`do_step`](nor_serprog::do_step). A poll reads the status
+/// `turns` times at most.
+///
+/// How far it has come is written to `progress`; where that fails nothing changes. At the first step that can't be done
+/// it stops: the halt has its number, from 0, and the reason that `do_step` returned.
+pub fn do_steps<R: ByteIn, W: ByteOut, P: ByteOut>(
+    from: &mut R,
+    to: &mut W,
+    limits: &Limits,
+    turns: u64,
+    steps: &[Step],
+    progress: &mut P,
+) -> Result<(), Halt>
+    requires form { All IsDoable steps.now }
+    requires reader { R.count from.old < 2 ^ 64 - 1 }
+    requires writer { W.count to.old < 2 ^ 64 - 1 }
+    requires told { P.count progress.old < 2 ^ 64 - 1 }
+    ensures done { MatchResult result
+        (λ _. HasDoneAll (W.held to.old) (W.held to.new) (R.ahead from.old) (R.ahead from.new) limits.now turns steps.now)
+        (λ halt. HasHalted (W.held to.old) (W.held to.new) (R.ahead from.old) (R.ahead from.new) limits.now turns steps.now
+        halt) }
+    ensures reads { CountsHalt Read (R.count from.old) (R.count from.new) result }
+    ensures writes { CountsHalt Write (W.count to.old) (W.count to.new) result }
+    ensures reads_room { R.count from.new ≤ R.count from.old + 1 }
+    ensures writes_room { W.count to.new ≤ W.count to.old + 1 }
+{
+    let mut far = Progress::of(steps);
+    let mut number: u64 = 0;
+    for step in steps {
+        if let Err(why) = do_step(from, to, limits, turns, step) {
+            far.end(progress);
+            return Err(Halt { step: number, why });
+        }
+        number += 1;
+        far.step_done(step, progress);
+    }
+    far.end(progress);
+    Ok(())
+}

@@ -1,0 +1,109 @@
+//! How far work has come.
+
+ghost use Rattle.std.specs.Prelude.{◌≡◌, ◌<◌, ◌-◌, ◌^◌};
+ghost use Rattle.nor_base.specs.Device.{Writes, Counts};
+ghost use Rattle.nor_progress.specs.Far.{begun, bus_bytes, is_due, line_of, HasRoom, StepTold, Ended};
+
+use itoa::Buffer;
+use nor_base::{ByteOut, Failed, Step, put_all, put_parts};
+
+/// After how many steps it is reported again.
+const EVERY: u64 = 100;
+
+/// How many steps are done, and how many bytes of theirs went over the bus, of all. Numbers past 2^64 - 1 stay there.
+#[derive(Drop)]
+pub struct Progress {
+    steps: u64,
+    bytes: u64,
+    all_steps: u64,
+    all_bytes: u64,
+    /// Some line was written.
+    shown: bool,
+    /// No line failed.
+    works: bool,
+}
+
+impl Progress {
+    /// None of these steps is done.
+    pub fn of(steps: &[Step]) -> Progress
+        ensures { result ≡ begun steps.now }
+    {
+        let mut all_bytes: u64 = 0;
+        for step in steps {
+            all_bytes = all_bytes.saturating_add(bytes(step));
+        }
+        Progress {
+            steps: 0,
+            bytes: 0,
+            all_steps: steps.len() as u64,
+            all_bytes,
+            shown: false,
+            works: true,
+        }
+    }
+
+    /// One more step is done. A line is written after each hundred and at the end, until the writer fails.
+    pub fn step_done<P: ByteOut>(&mut self, step: &Step, out: &mut P)
+        requires { HasRoom self.old (P.count out.old) }
+        ensures done { StepTold self.old self.new step.now (P.held out.old) (P.held out.new) (P.count out.old)
+            (P.count out.new) }
+        ensures room { HasRoom self.new (P.count out.new) }
+    {
+        self.steps = self.steps.saturating_add(1);
+        self.bytes = self.bytes.saturating_add(bytes(step));
+        if self.is_due() {
+            self.works = self.write_line(out).is_ok();
+            self.shown = true;
+        }
+    }
+
+    /// Closes the line, where one was written and none failed.
+    pub fn end<P: ByteOut>(self, out: &mut P)
+        requires { HasRoom self (P.count out.old) }
+        ensures { Ended self (P.held out.old) (P.held out.new) (P.count out.old) (P.count out.new) }
+    {
+        if self.works && self.shown {
+            let _ = put_all(out, b"\n");
+        }
+    }
+
+    /// Whether a line is due.
+    fn is_due(&self) -> bool
+        ensures { result ≡ is_due self.now }
+    {
+        self.works && (self.steps % EVERY == 0 || self.steps == self.all_steps)
+    }
+
+    /// Writes over the line that reports it: `step N of M, B of C bytes`.
+    fn write_line<P: ByteOut>(&self, out: &mut P) -> Result<(), Failed>
+        requires { P.count out.old < 2 ^ 64 - 1 }
+        ensures bytes { Writes (P.held out.old) (P.held out.new) result (line_of self.now) }
+        ensures count { Counts (P.count out.old) (P.count out.new) result }
+    {
+        let mut steps = Buffer::new();
+        let mut all_steps = Buffer::new();
+        let mut bytes = Buffer::new();
+        let mut all_bytes = Buffer::new();
+        put_parts(
+            out,
+            &[
+                b"\rstep ",
+                steps.format(self.steps).as_bytes(),
+                b" of ",
+                all_steps.format(self.all_steps).as_bytes(),
+                b", ",
+                bytes.format(self.bytes).as_bytes(),
+                b" of ",
+                all_bytes.format(self.all_bytes).as_bytes(),
+                b" bytes",
+            ],
+        )
+    }
+}
+
+/// The bytes of a step on the bus: eight clocks for each.
+fn bytes(step: &Step) -> u64
+    ensures { result ≡ bus_bytes step.now }
+{
+    step.clocks().len() as u64 / 8
+}

@@ -1,0 +1,81 @@
+-- Operations of a device, one after the other.
+use Rattle.std.proofs.Common.{◌≡◌, ℕ, List, [], ◌∷◌, ◌++◌, length, Option, Result, Ok, Err, refl, sym, ◌∙◌, ap, subst, append_assoc, append-nil, arith}
+use Rattle.std.specs.Io.KnownBytes.{Appends}
+use Rattle.nor_base.specs.declared.meaning.Switch.{Switch}
+use Rattle.nor_base.specs.declared.meaning.Switch.TheVariants.{Latched}
+use Rattle.nor_base.specs.Device.{Ahead, Gives}
+use Rattle.nor_serprog.specs.declared.fault.Fault.{Fault}
+use Rattle.nor_serprog.specs.Exchange.{Answers, Asks}
+use Rattle.nor_serprog.specs.Protocol.{request, answer}
+use Rattle.nor_loop.specs.Log.{Operation, HasLogged}
+use Rattle.nor_loop.specs.Reads.{bare, switch_ops}
+use Rattle.nor_loop.proofs.DeviceLemmas.{logged_none, logged_both}
+use Rattle.nor_reader.specs.Switched.{Operates, StopsAmong}
+
+-- some were done, and others stopped
+stops_then : (h i j : Option (List ℕ)) (a b c : Ahead) (one two : List Operation) (why : Fault) → HasLogged h i a b one → StopsAmong i j b c two why
+    → StopsAmong h j a c (one ++ two) why
+stops_then h i j a b c one two why p q = record {
+  front = one ++ q.front;
+  last = q.last;
+  rest = q.rest;
+  those = ap (λ l. one ++ l) q.those ∙ sym (append_assoc one q.front (q.last ∷ q.rest));
+  held = q.held;
+  ahead = q.ahead;
+  done = logged_both h i q.held a b q.ahead one q.front p q.done;
+  stop = q.stop;
+}
+
+-- where others would follow
+stops_before : (h i : Option (List ℕ)) (a b : Ahead) (one two : List Operation) (why : Fault) → StopsAmong h i a b one why → StopsAmong h i a b (one ++ two) why
+stops_before h i a b one two why p = record {
+  front = p.front;
+  last = p.last;
+  rest = p.rest ++ two;
+  those = ap (λ l. l ++ two) p.those ∙ append_assoc p.front (p.last ∷ p.rest) two;
+  held = p.held;
+  ahead = p.ahead;
+  done = p.done;
+  stop = p.stop;
+}
+
+operates_then : (h i j : Option (List ℕ)) (a b c : Ahead) (r : Result (Unit {0}) Fault) (one two : List Operation) → HasLogged h i a b one
+    → Operates i j b c r two → Operates h j a c r (one ++ two)
+operates_then h i j a b c (Ok u) one two p q = logged_both h i j a b c one two p q
+operates_then h i j a b c (Err why) one two p q = stops_then h i j a b c one two why p q
+
+-- an opcode without more
+pub one_sent : (h i : Option (List ℕ)) (a b : Ahead) (r : Result (Unit {0}) Fault) (op : ℕ) (got : List ℕ) → length got ≡ 0
+    → Asks h i a b r (request (op ∷ []) 0) (Answers a b r got) → Operates h i a b r (bare op ∷ [])
+one_sent h i a b (Ok u) op [] none p = record {
+  short = ((omega arith, omega arith), tt);
+  talked = record {
+    out = subst (Appends h i) (sym (append-nil (request (op ∷ []) 0))) p.0;
+    back = subst (λ l. Gives a l b) (sym (append-nil (answer []))) p.1;
+  };
+}
+one_sent h i a b (Err why) op [] none p =
+    record { front = []; last = bare op; rest = []; those = refl; held = h; ahead = a; done = logged_none h a; stop = p }
+one_sent h i a b r op (x ∷ xs) none p = absurd (omega (arith, none))
+
+-- nothing to switch
+pub none_done : (h : Option (List ℕ)) (a : Ahead) → Operates h h a a (Ok tt) []
+none_done h a = logged_none h a
+
+-- how a mode is switched where the chip asks for a write enable
+module _ (h i : Option (List ℕ)) (a b : Ahead) (w : Switch) (op : ℕ) (is : w ≡ Latched) where
+  latched : (r : Result (Unit {0}) Fault) → Operates h i a b r (switch_ops Latched op) → Operates h i a b r (switch_ops w op)
+  latched r p = subst (λ (x : Switch). Operates h i a b r (switch_ops x op)) (sym is) p
+
+  pub enable_ends : (why : Fault) → StopsAmong h i a b (bare 0x06 ∷ []) why → Operates h i a b (Err why) (switch_ops w op)
+  enable_ends why p = latched (Err why) (stops_before h i a b (bare 0x06 ∷ []) (bare op ∷ bare 0x04 ∷ []) why p)
+
+  pub opcode_ends : (k : Option (List ℕ)) (c : Ahead) (why : Fault) → HasLogged h k a c (bare 0x06 ∷ []) → StopsAmong k i c b (bare op ∷ []) why
+      → Operates h i a b (Err why) (switch_ops w op)
+  opcode_ends k c why enabled p = latched (Err why) (stops_then h k i a c b (bare 0x06 ∷ []) (bare op ∷ bare 0x04 ∷ []) why enabled
+      (stops_before k i c b (bare op ∷ []) (bare 0x04 ∷ []) why p))
+
+  pub switched : (k l : Option (List ℕ)) (c d : Ahead) (r : Result (Unit {0}) Fault) → HasLogged h k a c (bare 0x06 ∷ []) → HasLogged k l c d (bare op ∷ [])
+      → Operates l i d b r (bare 0x04 ∷ []) → Operates h i a b r (switch_ops w op)
+  switched k l c d r enabled sent p = latched r (operates_then h k i a c b r (bare 0x06 ∷ []) (bare op ∷ bare 0x04 ∷ []) enabled
+      (operates_then k l i c d b r (bare op ∷ []) (bare 0x04 ∷ []) sent p))

@@ -1,0 +1,54 @@
+//! Four-byte address mode, entered and left.
+
+ghost use Rattle.std.specs.Prelude.{◌≡◌, ◌<◌, ◌-◌, ◌^◌, [], ◌∷◌};
+ghost use Rattle.nor_loop.specs.Reads.{bare, switch_ops};
+ghost use Rattle.nor_serprog.specs.Exchange.{CountsReads, CountsWrites};
+ghost use Rattle.nor_reader.specs.Switched.{Operates};
+
+use nor_base::{ByteIn, ByteOut, Switch};
+use nor_serprog::{Fault, operate};
+
+/// Enter and exit four-byte address mode.
+pub(crate) const ENTER: u8 = 0xB7;
+
+pub(crate) const LEAVE: u8 = 0xE9;
+
+/// Write enable and write disable.
+const ENABLE: u8 = 0x06;
+
+const DISABLE: u8 = 0x04;
+
+/// Has the device enter or leave four-byte mode.
+pub(crate) fn switch_mode<R: ByteIn, W: ByteOut>(
+    from: &mut R,
+    to: &mut W,
+    switch: Switch,
+    opcode: u8,
+) -> Result<(), Fault>
+    requires reader { R.count from.old < 2 ^ 64 - 1 }
+    requires writer { W.count to.old < 2 ^ 64 - 1 }
+    ensures switches { Operates (W.held to.old) (W.held to.new) (R.ahead from.old) (R.ahead from.new) result (switch_ops switch opcode) }
+    ensures reads { CountsReads (R.count from.old) (R.count from.new) result }
+    ensures writes { CountsWrites (W.count to.old) (W.count to.new) result }
+{
+    match switch {
+        Switch::Absent => Ok(()),
+        Switch::Plain => send(from, to, opcode),
+        Switch::Latched => {
+            send(from, to, ENABLE)?;
+            send(from, to, opcode)?;
+            send(from, to, DISABLE)
+        }
+    }
+}
+
+/// Has the device send an opcode and nothing else.
+fn send<R: ByteIn, W: ByteOut>(from: &mut R, to: &mut W, opcode: u8) -> Result<(), Fault>
+    requires reader { R.count from.old < 2 ^ 64 - 1 }
+    requires writer { W.count to.old < 2 ^ 64 - 1 }
+    ensures sends { Operates (W.held to.old) (W.held to.new) (R.ahead from.old) (R.ahead from.new) result (bare opcode ∷ []) }
+    ensures reads { CountsReads (R.count from.old) (R.count from.new) result }
+    ensures writes { CountsWrites (W.count to.old) (W.count to.new) result }
+{
+    operate(from, to, &[opcode], &mut [])
+}

@@ -1,0 +1,30 @@
+//! The device of a name.
+
+ghost use Rattle.std.specs.Prelude.{IfOk, IfErr};
+ghost use Rattle.std.specs.Io.Buffered.{reader_remaining};
+ghost use Rattle.norprog_common.specs.declared.faults.FileName.TheVariants.{Device};
+ghost use Rattle.norprog_common.specs.Files.{RefusesFile, TellsFile};
+
+use norprog_common::{FileStore, Refusal};
+use std::alloc::Global;
+use std::io::BufReader;
+
+/// The device of this name, opened, with a buffer before its reader. Memory is taken for the buffer.
+///
+/// `File` of `Device` and `Memory`, as [`FileStore::open_device`] returns them; `Memory` too where the buffer's growth is refused.
+pub fn open_port<S: FileStore>(
+    alloc: Global,
+    store: &S,
+    device: &str,
+) -> Result<(BufReader<S::FromDevice>, S::ToDevice), Refusal>
+    ensures opened { IfOk result (λ port. (S.facts store.now).device device.now (reader_remaining S.FromDevice.remaining port.0)
+        (S.ToDevice.contents port.1)) }
+    ensures refused { IfErr result (RefusesFile Device) }
+    ensures lacked { IfErr result (TellsFile (S.facts store.now).lacked) }
+{
+    let (from, to) = store.open_device(device)?;
+    match BufReader::new(alloc, from) {
+        Ok(from) => Ok((from, to)),
+        Err(_) => Err(Refusal::MEMORY),
+    }
+}

@@ -1,0 +1,13 @@
+//! Why a device didn't do a step of a script, and the line that reports it (docs/FORMATS.md, section 14).
+//!
+//! [`failure_of`] has the failure of a step from what the exchange with the device gave, [`failure_by`] that of a read after all steps.
+//! [`write_failure`] writes its line.
+#![tactic(auto)]
+
+mod failure;
+mod line;
+mod reported;
+
+pub use failure::Failure;
+pub use line::{word, write_failure};
+pub use reported::{failure_by, failure_of};

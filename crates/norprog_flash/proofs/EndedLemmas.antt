@@ -1,0 +1,75 @@
+-- How work that was planned ends.
+use Rattle.std.proofs.Common.{◌≡◌, ℕ, ◌⊎◌, inl, inr, true, false, List, Option, Result, Ok, Err, IfOk, refl, sym, subst}
+use Rattle.nor_base.specs.declared.step.Step.{Step}
+use Rattle.nor_base.specs.Device.{Ahead}
+use Rattle.nor_flasher.specs.Apart.{BreaksApart}
+use Rattle.nor_flasher.specs.Laws.{Closes, Breaks}
+use Rattle.nor_job.specs.Status.{start_of}
+use Rattle.nor_reader.specs.declared.by.ReadBy.{ReadBy}
+use Rattle.nor_reader.specs.Laws.{GivesBy}
+use Rattle.nor_serprog.specs.declared.limits.Limits.{Limits}
+use Rattle.norprog_common.specs.FileStore.{FileFacts}
+use Rattle.norprog_failure.specs.declared.failure.Failure.{Failure}
+use Rattle.norprog_failure.specs.declared.failure.Failure.TheVariants.{Carried}
+use Rattle.norprog_flash.specs.declared.ending.Ending.{Ending}
+use Rattle.norprog_flash.specs.declared.ending.Ending.TheVariants.{Planned, Done, Failed}
+use Rattle.norprog_flash.specs.declared.job.Job.{Job}
+use Rattle.norprog_flash.specs.Begun.{HasPlanned}
+use Rattle.norprog_flash.specs.Ended.{EndsFlash, IsToDo}
+use Rattle.norprog_flash.specs.Task.{flash_task}
+use Rattle.norprog_flash.specs.Worked.{GoesOn, WorksOut}
+use Rattle.norprog_flash.proofs.PlannedLemmas.{every_flashes, every_keeps}
+use Rattle.norprog_read.specs.declared.asked.Reading.{Reading}
+
+module _ (close : Closes) (break : Breaks) (files : FileFacts) (job : Job) (limits : Limits) (h0 h1 : Option (List ℕ)) (a0 a1 : Ahead)
+    (r : Reading) (goal : List ℕ) (steps : List Step) (o0 o1 : Option (List ℕ)) (whole : job.ask.content ≡ true) (wet : job.dry ≡ false)
+    (planned : HasPlanned files job h0 h1 a0 a1 r goal steps o0 o1) where
+  abbrev todo : IsToDo files job h0 h1 a0 a1 o0 o1
+  todo = record { reading = r; goal = goal; steps = steps; wet = wet; planned = planned }
+
+  worked_ends : (h2 : Option (List ℕ)) (a2 : Ahead) (by : ReadBy) (ending : Ending) → GivesBy r.meaning (start_of (flash_task job r.tables.items)) by
+      → WorksOut h1 h2 a1 a2 limits job.ask.turns r.meaning by steps goal ending → EndsFlash files job limits h0 h2 a0 a2 o0 o1 ending
+  worked_ends h2 a2 by Planned way out = absurd out
+  worked_ends h2 a2 by (Done transactions) way out = record {
+    held = h1;
+    ahead = a1;
+    todo = todo;
+    count = out.0;
+    by = by;
+    way = way;
+    worked = out.1;
+    every = every_flashes files job h0 h1 a0 a1 r goal steps o0 o1 planned whole close out.1.held out.1.ahead limits job.ask.turns out.1.done;
+  }
+  worked_ends h2 a2 by (Failed step why) way (inl failed) = inr (inl (record {
+    held = h1;
+    ahead = a1;
+    todo = todo;
+    failed = failed;
+    every = subst (λ (n : ℕ). BreaksApart planned.read.read.h3 planned.read.read.h4 planned.read.read.a3 planned.read.read.a4 h1 a1 r.meaning
+        (start_of (flash_task job r.tables.items)) r.content.items goal steps n) (sym failed.at)
+        (every_keeps files job h0 h1 a0 a1 r goal steps o0 o1 planned whole break h2 a2 limits job.ask.turns failed.halt failed.halted);
+  }))
+  worked_ends h2 a2 by (Failed step why) way (inr missed) = inr (inr (record {
+    held = h1;
+    ahead = a1;
+    todo = todo;
+    by = by;
+    missed = missed;
+    every = every_flashes files job h0 h1 a0 a1 r goal steps o0 o1 planned whole close missed.worked.held missed.worked.ahead limits job.ask.turns
+        missed.worked.done;
+  }))
+
+  refused_ends : (h2 : Option (List ℕ)) (a2 : Ahead) (ending : Ending) → GoesOn h1 h2 a1 a2 limits job r goal steps ending
+      → EndsFlash files job limits h0 h2 a0 a2 o0 o1 ending
+  refused_ends h2 a2 ending (inr out) = worked_ends h2 a2 out.0 ending out.1 out.2
+  refused_ends h2 a2 ending (inl cant) =
+      subst (λ (e : Ending). EndsFlash files job limits h0 h2 a0 a2 o0 o1 e) (sym cant.1)
+      (subst (λ (h : Option (List ℕ)). EndsFlash files job limits h0 h a0 a2 o0 o1 (Failed cant.0 Carried)) (sym cant.3)
+      (subst (λ (a : Ahead). EndsFlash files job limits h0 h1 a0 a o0 o1 (Failed cant.0 Carried)) (sym cant.4)
+      (inl (record { todo = todo; first = cant.2; carried = refl }))))
+
+  -- so where it is not refused meanwhile
+  pub ends_by : {E : Type 0} (h2 : Option (List ℕ)) (a2 : Ahead) (result : Result Ending E)
+      → IfOk result (GoesOn h1 h2 a1 a2 limits job r goal steps) → IfOk result (EndsFlash files job limits h0 h2 a0 a2 o0 o1)
+  ends_by h2 a2 (Ok ending) goes = refused_ends h2 a2 ending goes
+  ends_by h2 a2 (Err why) goes = tt

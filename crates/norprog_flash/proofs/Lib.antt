@@ -1,0 +1,2 @@
+mod PlannedLemmas
+mod EndedLemmas

@@ -1,0 +1,36 @@
+-- The work goes on so, by the steps and the goal that were planned.
+use Rattle.std.proofs.Common.{List, ℕ, inl, inr, refl, subst}
+use Rattle.nor_base.specs.declared.meaning.Start.{Start}
+use Rattle.nor_base.specs.declared.step.Step.{Step}
+use Rattle.nor_reader.specs.Laws.{GivesBy}
+use Rattle.nor_serprog.specs.Steps.{IsFirstNotCarried}
+use Rattle.norprog_flash.specs.Worked.{WorksOut}
+use Rattle.norprog_flash.proofs.device.flash_planned.Goals as goal
+
+pub returns-in-Err-clause-goes : goal.returns-in-Err-clause-goes
+returns-in-Err-clause-goes g c =
+    inl (
+      c.in-Err.step,
+      refl,
+      subst (λ (xs : List Step). IsFirstNotCarried c.args.limits.now xs c.in-Err.step) c.as_slice-steps.ensures.value c.in-Err.ensures,
+      refl,
+      refl,
+    )
+
+pub returns-clause-goes : goal.returns-clause-goes
+returns-clause-goes g c =
+    let limits = c.args.limits.now in
+    let m = c.args.begun.now.reading.meaning in
+    let job = c.args.job.now in
+    let h0 = g.W.ByteOut.held c.args.to.now in
+    let h1 = g.W.ByteOut.held c.do_work.new.to in
+    let a0 = g.R.ByteIn.ahead c.args.from.now in
+    let a1 = g.R.ByteIn.ahead c.do_work.new.from in
+    inr (
+      c.in-Some.by,
+      subst (λ (start : Start). GivesBy m start c.in-Some.by) c.said_start.ensures c.in-Some.ensures.gives,
+      subst (λ (xs : List Step). WorksOut h0 h1 a0 a1 limits job.ask.turns m c.in-Some.by xs c.args.begun.now.work.goal.items c.do_work.result)
+          c.as_slice-steps.ensures.value
+          (subst (λ (xs : List ℕ). WorksOut h0 h1 a0 a1 limits job.ask.turns m c.in-Some.by c.as_slice-steps.result.now xs c.do_work.result)
+          c.as_slice-2.ensures.value c.do_work.ensures.ends),
+    )

@@ -1,0 +1,45 @@
+-- A chip that was read, saved and planned for (this project's).
+use Rattle.std.specs.Prelude.{◌≡◌, ℕ, true, List, Option, unwrap_or}
+use Rattle.nor_base.specs.declared.meaning.Start.{Start}
+use Rattle.nor_base.specs.declared.step.Step.{Step}
+use Rattle.nor_base.specs.Device.{Ahead}
+use Rattle.nor_base.specs.Parameters.{Parameters}
+use Rattle.nor_job.specs.Status.{start_of}
+use Rattle.nor_probe.specs.Status.{suits}
+use Rattle.nor_sfdp.specs.Bits.{is_set}
+use Rattle.norprog_common.specs.FileStore.{FileFacts}
+use Rattle.norprog_flash.specs.declared.job.Job.{Job}
+use Rattle.norprog_flash.specs.Task.{dump_of, flash_task}
+use Rattle.norprog_read.specs.declared.asked.Reading.{Reading}
+use Rattle.norprog_read.specs.Chip.{HasReadChip}
+use Rattle.norprog_read.specs.Saved.{IsSaved}
+use Rattle.norprog_read.specs.Way.{has_both}
+use Rattle.norprog_work.specs.Work.{IsWork}
+
+-- the mode that was said, and the quad setting that a status has (QE, S9)
+abbrev pub start_at : Job → ℕ → Start
+start_at job status = record { mode4 = job.ask.mode4; quad = is_set status 9 }
+
+-- a chip isn't one of both address modes that is said to be in four-byte mode and has no read that is the same in either
+abbrev pub IsSureOfMode : Parameters → Start → Type 0
+IsSureOfMode m start = start.mode4 ≡ true → has_both m.width ≡ true → m.read4 ≡ true
+
+-- the chip was read, and its status shows that it can take work
+pub record HasRead (job : Job) (held_before held_after : Option (List ℕ)) (ahead_before ahead_after : Ahead) (r : Reading) : Type 0 where
+  pub read : HasReadChip held_before held_after ahead_before ahead_after job.ask r
+  pub suited : suits job.ask.part (start_at job r.status) r.status ≡ true
+  pub sure : IsSureOfMode r.meaning (start_of (flash_task job r.tables.items))
+
+-- it was read, and nothing else was sent; what it holds is saved; and the work from that to the target was planned and printed
+pub record HasPlanned (files : FileFacts) (job : Job) (held_before held_after : Option (List ℕ)) (ahead_before ahead_after : Ahead)
+    (r : Reading) (goal : List ℕ) (steps : List Step) (out_before out_after : Option (List ℕ)) : Type 0 where
+  pub read : HasRead job held_before held_after ahead_before ahead_after r
+  pub saved : IsSaved files job.before.now r.content.items
+  pub work : IsWork (flash_task job r.tables.items) r.content.items (unwrap_or (dump_of job) r.content.items) goal steps out_before out_after
+
+-- so, whatever went over the wire and was printed meanwhile
+abbrev pub IsPlannedOn : FileFacts → Job → Reading → List ℕ → List Step → Type 0
+IsPlannedOn files job r goal steps =
+    (held_before : Option (List ℕ)) × (held_after : Option (List ℕ)) × (ahead_before : Ahead) × (ahead_after : Ahead)
+    × (out_before : Option (List ℕ)) × (out_after : Option (List ℕ))
+    × HasPlanned files job held_before held_after ahead_before ahead_after r goal steps out_before out_after

@@ -1,0 +1,102 @@
+-- How work on the chip behind a device ends (this project's).
+use Rattle.std.specs.Prelude.{◌≡◌, ◌⊎◌, ℕ, true, false, List, length, Option, Ok}
+use Rattle.nor_base.specs.declared.step.Step.{Step}
+use Rattle.nor_base.specs.Device.{Ahead}
+use Rattle.nor_flasher.specs.Apart.{ClosesApart, BreaksApart}
+use Rattle.nor_job.specs.Status.{start_of}
+use Rattle.nor_reader.specs.declared.by.ReadBy.{ReadBy}
+use Rattle.nor_reader.specs.Laws.{GivesBy}
+use Rattle.nor_reader.specs.Twice.{ReadsWhole}
+use Rattle.nor_serprog.specs.declared.limits.Limits.{Limits}
+use Rattle.nor_serprog.specs.Steps.{IsFirstNotCarried}
+use Rattle.norprog_common.specs.FileStore.{FileFacts}
+use Rattle.norprog_failure.specs.declared.failure.Failure.{Failure}
+use Rattle.norprog_failure.specs.declared.failure.Failure.TheVariants.{Carried}
+use Rattle.norprog_flash.specs.declared.ending.Ending.{Ending}
+use Rattle.norprog_flash.specs.declared.ending.Ending.TheVariants.{Planned, Done, Failed}
+use Rattle.norprog_flash.specs.declared.job.Job.{Job}
+use Rattle.norprog_flash.specs.Begun.{HasPlanned}
+use Rattle.norprog_flash.specs.Task.{dump_of, flash_task, goal_of}
+use Rattle.norprog_flash.specs.Worked.{HasFailedAt, HasMissed, HasWorked}
+use Rattle.norprog_read.specs.declared.asked.Reading.{Reading}
+
+-- a chip was read, saved and planned for, and the plan is to be carried out, from these bytes of the wire on
+pub record IsToDo (files : FileFacts) (job : Job) (held_before held : Option (List ℕ)) (ahead_before ahead : Ahead)
+    (out_before out_after : Option (List ℕ)) : Type 0 where
+  pub reading : Reading
+  pub goal : List ℕ
+  pub steps : List Step
+  pub wet : job.dry ≡ false
+  pub planned : HasPlanned files job held_before held ahead_before ahead reading goal steps out_before out_after
+
+-- what went over the wire as the content was read, and then in the work, is explained only by chips that end with the target of what
+-- they held, and by some chip
+abbrev pub EveryChipFlashes : {files : FileFacts} {job : Job} {held_before held : Option (List ℕ)} {ahead_before ahead : Ahead}
+    {out_before out_after : Option (List ℕ)} → IsToDo files job held_before held ahead_before ahead out_before out_after
+    → Option (List ℕ) → Ahead → Type 0
+EveryChipFlashes {job = job} {held = held} {ahead = ahead} todo held_after ahead_after =
+    let t = flash_task job todo.reading.tables.items in
+    let read = todo.planned.read.read in
+    let work = todo.planned.work in
+    ClosesApart read.h3 read.h4 read.a3 read.a4 held held_after ahead ahead_after todo.reading.meaning (start_of t) todo.reading.content.items
+    (goal_of t work.image work.regions (dump_of job)) todo.steps
+
+-- or, as far as the work came to a step, only by chips that held what was read, of which at most one unit of the work is in the making
+abbrev pub EveryChipKeeps : {files : FileFacts} {job : Job} {held_before held : Option (List ℕ)} {ahead_before ahead : Ahead}
+    {out_before out_after : Option (List ℕ)} → IsToDo files job held_before held ahead_before ahead out_before out_after → ℕ → Type 0
+EveryChipKeeps {job = job} {held = held} {ahead = ahead} todo at =
+    let read = todo.planned.read.read in
+    BreaksApart read.h3 read.h4 read.a3 read.a4 held ahead todo.reading.meaning (start_of (flash_task job todo.reading.tables.items))
+    todo.reading.content.items todo.goal todo.steps at
+
+-- all was done: each step, and then the chip gave just what it must hold
+pub record HasFlashed (files : FileFacts) (job : Job) (limits : Limits) (held_before held_after : Option (List ℕ))
+    (ahead_before ahead_after : Ahead) (out_before out_after : Option (List ℕ)) (transactions : ℕ) : Type 0 where
+  pub held : Option (List ℕ)
+  pub ahead : Ahead
+  pub todo : IsToDo files job held_before held ahead_before ahead out_before out_after
+  pub count : transactions ≡ length todo.steps
+  pub by : ReadBy
+  pub way : GivesBy todo.reading.meaning (start_of (flash_task job todo.reading.tables.items)) by
+  pub worked : HasWorked held held_after ahead ahead_after limits job.ask.turns by todo.steps todo.goal
+      (λ h i a b. ReadsWhole h i a b (Ok tt) by todo.goal)
+  pub every : EveryChipFlashes todo worked.held worked.ahead
+
+-- a step can't be done by this device: nothing was sent after the chip was read
+pub record CantFlash (files : FileFacts) (job : Job) (limits : Limits) (held_before held_after : Option (List ℕ))
+    (ahead_before ahead_after : Ahead) (out_before out_after : Option (List ℕ)) (step : ℕ) (why : Failure) : Type 0 where
+  pub todo : IsToDo files job held_before held_after ahead_before ahead_after out_before out_after
+  pub first : IsFirstNotCarried limits todo.steps step
+  pub carried : why ≡ Carried
+
+-- the device halted at a step
+pub record HasHaltedFlash (files : FileFacts) (job : Job) (limits : Limits) (held_before held_after : Option (List ℕ))
+    (ahead_before ahead_after : Ahead) (out_before out_after : Option (List ℕ)) (step : ℕ) (why : Failure) : Type 0 where
+  pub held : Option (List ℕ)
+  pub ahead : Ahead
+  pub todo : IsToDo files job held_before held ahead_before ahead out_before out_after
+  pub failed : HasFailedAt held held_after ahead ahead_after limits job.ask.turns todo.reading.meaning todo.steps step why
+  pub every : EveryChipKeeps todo step
+
+-- each step was done, but then the chip didn't give what it must hold
+pub record HasMissedFlash (files : FileFacts) (job : Job) (limits : Limits) (held_before held_after : Option (List ℕ))
+    (ahead_before ahead_after : Ahead) (out_before out_after : Option (List ℕ)) (step : ℕ) (why : Failure) : Type 0 where
+  pub held : Option (List ℕ)
+  pub ahead : Ahead
+  pub todo : IsToDo files job held_before held ahead_before ahead out_before out_after
+  pub by : ReadBy
+  pub missed : HasMissed held held_after ahead ahead_after limits job.ask.turns by todo.steps todo.goal step why
+  pub every : EveryChipFlashes todo missed.worked.held missed.worked.ahead
+
+-- how it ends: planned, and nothing else was sent; all done; or why a step wasn't
+abbrev pub EndsFlash : FileFacts → Job → Limits → Option (List ℕ) → Option (List ℕ) → Ahead → Ahead → Option (List ℕ) → Option (List ℕ) → Ending
+    → Type 0
+EndsFlash files job limits held_before held_after ahead_before ahead_after out_before out_after Planned =
+    (job.dry ≡ true) × ((reading : Reading) × (goal : List ℕ) × (steps : List Step)
+    × HasPlanned files job held_before held_after ahead_before ahead_after reading goal steps out_before out_after)
+EndsFlash files job limits held_before held_after ahead_before ahead_after out_before out_after (Done transactions) =
+    HasFlashed files job limits held_before held_after ahead_before ahead_after out_before out_after transactions
+EndsFlash files job limits held_before held_after ahead_before ahead_after out_before out_after (Failed step why) =
+    CantFlash files job limits held_before held_after ahead_before ahead_after out_before out_after step why
+    ⊎ (HasHaltedFlash files job limits held_before held_after ahead_before ahead_after out_before out_after step why
+    ⊎ HasMissedFlash files job limits held_before held_after ahead_before ahead_after out_before out_after step why)

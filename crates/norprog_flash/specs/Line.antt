@@ -1,0 +1,45 @@
+-- What is written of how work on a chip ends (this project's).
+use Rattle.std.specs.Prelude.{ℕ, ◌/◌, ◌%◌, Bool, true, false, List, [], ◌++◌, codes, decimal}
+use Rattle.nor_base.specs.declared.meaning.Part.{Part}
+use Rattle.nor_base.specs.declared.meaning.Part.TheVariants.{Generic, W25q256jv}
+use Rattle.nor_base.specs.Script.{hex_pair}
+use Rattle.norprog_common.specs.Lines.{program_line}
+use Rattle.norprog_failure.specs.declared.failure.Failure.{Failure}
+use Rattle.norprog_failure.specs.declared.failure.Failure.TheVariants.{Carried}
+use Rattle.norprog_failure.specs.Line.{failure_line}
+use Rattle.norprog_flash.specs.declared.ending.Ending.{Ending}
+use Rattle.norprog_flash.specs.declared.ending.Ending.TheVariants.{Planned, Done, Failed}
+
+-- `ok N`, why a step wasn't done, or nothing of a plan
+abbrev pub ending_line : Ending → List ℕ
+ending_line Planned = []
+ending_line (Done transactions) = codes "ok " ++ (decimal transactions ++ codes "\n")
+ending_line (Failed step why) = failure_line step why
+
+-- a status by which a chip can't take the work
+abbrev pub closed_line : Part → ℕ → List ℕ
+closed_line Generic status = codes "unlike status " ++ (hex_pair (status % 256) ++ codes "\n")
+closed_line W25q256jv status =
+    codes "unlike status " ++ (hex_pair (status / 65536 % 256) ++ (hex_pair (status / 256 % 256) ++ (hex_pair (status % 256) ++ codes "\n")))
+
+-- 0 where all that was wanted was done, else 1
+abbrev pub status_of : Ending → ℕ
+status_of Planned = 0
+status_of (Done transactions) = 0
+status_of (Failed step why) = 1
+
+-- a step that failed so was sent
+abbrev pub is_sent : Failure → Bool
+is_sent Carried = false
+is_sent other = true
+
+-- steps were sent, and the chip isn't known to hold what they leave
+abbrev pub is_partial : Ending → Bool
+is_partial (Failed step why) = is_sent why
+is_partial other = false
+
+-- what is written then: the file that has what the chip held before the first try
+abbrev pub state_line : List ℕ → List ℕ
+state_line before =
+    program_line (codes "the chip is half done, and what it held is in " ++ (before
+    ++ codes ". Switch its power off and on, and go on with the same command, this file as --resume and a new one as --before. See: norprog explain the chip may hold"))

@@ -1,0 +1,72 @@
+-- How work on a chip went (this project's).
+use Rattle.std.specs.Prelude.{◌≡◌, ◌⊎◌, ℕ, List, length, get_or, Option, Ok, Err}
+use Rattle.nor_base.specs.declared.step.Step.{Step}
+use Rattle.nor_base.specs.Device.{Ahead}
+use Rattle.nor_base.specs.Parameters.{Parameters}
+use Rattle.nor_base.specs.Step.{expected, step_clocks}
+use Rattle.nor_flasher.specs.declared.steps.Halt.{Halt}
+use Rattle.nor_flasher.specs.Halted.{HasHalted}
+use Rattle.nor_probe.specs.declared.difference.Mismatch.{Mismatch}
+use Rattle.nor_reader.specs.declared.by.ReadBy.{ReadBy}
+use Rattle.nor_job.specs.Status.{start_of}
+use Rattle.nor_reader.specs.Laws.{GivesBy}
+use Rattle.nor_reader.specs.Twice.{ReadsWhole}
+use Rattle.nor_serprog.specs.declared.limits.Limits.{Limits}
+use Rattle.nor_serprog.specs.Done.{HasDoneAll}
+use Rattle.nor_serprog.specs.Steps.{IsFirstNotCarried}
+use Rattle.norprog_failure.specs.declared.failure.Failure.{Failure}
+use Rattle.norprog_failure.specs.declared.failure.Failure.TheVariants.{Carried}
+use Rattle.norprog_failure.specs.Reported.{FailsAs, failure_by}
+use Rattle.norprog_flash.specs.declared.ending.Ending.{Ending}
+use Rattle.norprog_flash.specs.declared.ending.Ending.TheVariants.{Planned, Done, Failed}
+use Rattle.norprog_flash.specs.declared.job.Job.{Job}
+use Rattle.norprog_flash.specs.Task.{flash_task}
+use Rattle.norprog_read.specs.declared.asked.Reading.{Reading}
+
+-- the failure of the step at which a device halted
+abbrev pub IsFailureAt : Parameters → List Step → Halt → Failure → Type 0
+IsFailureAt m steps halt why =
+    (at : Step) × (at ≡ get_or steps halt.step at) × FailsAs m (step_clocks at) (expected at) halt.why why
+
+-- all steps were done, and then the chip was read so
+pub record HasWorked (held_before held_after : Option (List ℕ)) (ahead_before ahead_after : Ahead) (limits : Limits) (turns : ℕ) (by : ReadBy)
+    (steps : List Step) (goal : List ℕ) (Back : Option (List ℕ) → Option (List ℕ) → Ahead → Ahead → Type 0) : Type 0 where
+  pub held : Option (List ℕ)
+  pub ahead : Ahead
+  pub done : HasDoneAll held_before held ahead_before ahead limits turns steps
+  pub back : Back held held_after ahead ahead_after
+
+-- the steps before one were done, and the device halted at that one, which failed so
+pub record HasFailedAt (held_before held_after : Option (List ℕ)) (ahead_before ahead_after : Ahead) (limits : Limits) (turns : ℕ) (m : Parameters)
+    (steps : List Step) (step : ℕ) (why : Failure) : Type 0 where
+  pub halt : Halt
+  pub halted : HasHalted held_before held_after ahead_before ahead_after limits turns steps halt
+  pub at : step ≡ halt.step
+  pub failed : IsFailureAt m steps halt why
+
+-- all steps were done, and the chip didn't give what it must hold
+pub record HasMissed (held_before held_after : Option (List ℕ)) (ahead_before ahead_after : Ahead) (limits : Limits) (turns : ℕ) (by : ReadBy)
+    (steps : List Step) (goal : List ℕ) (step : ℕ) (why : Failure) : Type 0 where
+  pub mismatch : Mismatch
+  pub worked : HasWorked held_before held_after ahead_before ahead_after limits turns by steps goal
+      (λ h i a b. ReadsWhole h i a b (Err mismatch) by goal)
+  pub at : step ≡ length steps
+  pub failed : why ≡ failure_by mismatch
+
+-- what work says
+abbrev pub WorksOut : Option (List ℕ) → Option (List ℕ) → Ahead → Ahead → Limits → ℕ → Parameters → ReadBy → List Step → List ℕ → Ending → Type 0
+WorksOut held_before held_after ahead_before ahead_after limits turns m by steps goal Planned = ⊥
+WorksOut held_before held_after ahead_before ahead_after limits turns m by steps goal (Done transactions) =
+    (transactions ≡ length steps)
+    × HasWorked held_before held_after ahead_before ahead_after limits turns by steps goal (λ h i a b. ReadsWhole h i a b (Ok tt) by goal)
+WorksOut held_before held_after ahead_before ahead_after limits turns m by steps goal (Failed step why) =
+    HasFailedAt held_before held_after ahead_before ahead_after limits turns m steps step why
+    ⊎ HasMissed held_before held_after ahead_before ahead_after limits turns by steps goal step why
+
+-- what work that was planned says: some step can't be done by the device, and nothing was sent; or it went so, in a way by which the chip
+-- is read back
+abbrev pub GoesOn : Option (List ℕ) → Option (List ℕ) → Ahead → Ahead → Limits → Job → Reading → List ℕ → List Step → Ending → Type 0
+GoesOn held_before held_after ahead_before ahead_after limits job r goal steps ending =
+    ((step : ℕ) × (ending ≡ Failed step Carried) × IsFirstNotCarried limits steps step × (held_after ≡ held_before) × (ahead_after ≡ ahead_before))
+    ⊎ ((by : ReadBy) × GivesBy r.meaning (start_of (flash_task job r.tables.items)) by
+    × WorksOut held_before held_after ahead_before ahead_after limits job.ask.turns r.meaning by steps goal ending)

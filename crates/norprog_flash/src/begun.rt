@@ -1,0 +1,127 @@
+//! A chip that is read, saved and planned for.
+
+ghost use Rattle.std.specs.Prelude.{◌≡◌, ◌<◌, ◌≤◌, ◌+◌, ◌-◌, ◌^◌, [], true, unwrap_or, IfOk};
+ghost use Rattle.nor_probe.specs.Status.{suits};
+ghost use Rattle.nor_job.specs.Status.{start_of};
+ghost use Rattle.norprog_flash.specs.Begun.{HasRead, HasPlanned, start_at};
+ghost use Rattle.norprog_flash.specs.Task.{dump_of, flash_task};
+ghost use Rattle.norprog_work.specs.Work.{IsWork};
+
+use crate::back::way_of;
+use crate::ending::Unflashed;
+use crate::job::{Job, inputs_for};
+use nor_base::{ByteIn, ByteOut, Start};
+use nor_job::BuildFault;
+use nor_probe::suits;
+use nor_serprog::Limits;
+use norprog_common::{FileName, FileStore, Refusal};
+use norprog_read::{Reading, Unlike, read_chip, save};
+use norprog_work::{Work, work_for};
+use std::alloc::Global;
+
+/// A chip that was read and planned for.
+#[derive(Drop)]
+pub(crate) struct Begun {
+    pub(crate) reading: Reading,
+    pub(crate) work: Work,
+}
+
+/// Reads the chip, saves what it holds in a new file, and plans; the lines of the plan are printed.
+pub(crate) fn begin<S: FileStore, R: ByteIn, W: ByteOut, O: ByteOut>(
+    alloc: Global,
+    store: &S,
+    from: &mut R,
+    to: &mut W,
+    limits: &Limits,
+    job: &Job<'_>,
+    out: &mut O,
+) -> Result<Begun, Unflashed>
+    requires reader { R.count from.old < 2 ^ 64 - 1 }
+    requires writer { W.count to.old < 2 ^ 64 - 1 }
+    requires out { O.count out.old < 2 ^ 64 - 1 }
+    ensures planned { IfOk result (λ begun. HasPlanned (S.facts store.now) job.now (W.held to.old) (W.held to.new) (R.ahead from.old)
+        (R.ahead from.new) begun.reading begun.work.goal.items begun.work.steps.items (O.held out.old) (O.held out.new)) }
+    ensures reads_room { R.count from.new ≤ R.count from.old + 1 }
+    ensures writes_room { W.count to.new ≤ W.count to.old + 1 }
+    ensures out_count { IfOk result (λ _. O.count out.new ≡ O.count out.old) }
+    ensures out_room { O.count out.new ≤ O.count out.old + 1 }
+{
+    let reading = read_suited(alloc, from, to, limits, job)?;
+    save(
+        alloc,
+        store,
+        job.before,
+        FileName::Before,
+        reading.content.as_slice(),
+    )?;
+    let work = plan_for(alloc, job, &reading, out)?;
+    Ok(Begun { reading, work })
+}
+
+/// Plans for a chip that was read, and prints the lines of the plan.
+fn plan_for<O: ByteOut>(
+    alloc: Global,
+    job: &Job<'_>,
+    reading: &Reading,
+    out: &mut O,
+) -> Result<Work, Refusal>
+    requires out { O.count out.old < 2 ^ 64 - 1 }
+    ensures work { IfOk result (λ work. IsWork (flash_task job.now reading.now.tables.items) reading.now.content.items
+        (unwrap_or (dump_of job.now) reading.now.content.items) work.goal.items work.steps.items (O.held out.old) (O.held out.new)) }
+    ensures out_count { IfOk result (λ _. O.count out.new ≡ O.count out.old) }
+    ensures out_room { O.count out.new ≤ O.count out.old + 1 }
+{
+    let inputs = inputs_for(job, reading.tables.as_slice());
+    let content = reading.content.as_slice();
+    let work = match job.old {
+        Some(old) if old.len() != content.len() => Err(BuildFault::ContentSize),
+        Some(old) => work_for(alloc, &inputs, content, old, out),
+        None => work_for(alloc, &inputs, content, content, out),
+    };
+    work.map_err(Refusal::Build)
+}
+
+/// Reads the chip, whose status has to show that it can take the work.
+fn read_suited<R: ByteIn, W: ByteOut>(
+    alloc: Global,
+    from: &mut R,
+    to: &mut W,
+    limits: &Limits,
+    job: &Job<'_>,
+) -> Result<Reading, Unflashed>
+    requires reader { R.count from.old < 2 ^ 64 - 1 }
+    requires writer { W.count to.old < 2 ^ 64 - 1 }
+    ensures read { IfOk result (HasRead job.now (W.held to.old) (W.held to.new) (R.ahead from.old) (R.ahead from.new)) }
+    ensures reads_room { R.count from.new ≤ R.count from.old + 1 }
+    ensures writes_room { W.count to.new ≤ W.count to.old + 1 }
+{
+    let reading = read_chip(alloc, from, to, limits, &job.ask)?;
+    let start = start_at(job, reading.status);
+    if !suits(job.ask.part, start, reading.status) {
+        return Err(Unflashed::Closed(reading.status));
+    }
+    match way_of(&reading.meaning, said_start(job)) {
+        Some(_) => Ok(reading),
+        None => Err(Unflashed::Unlike(Unlike::Unreadable)),
+    }
+}
+
+/// How the work is planned to begin: in the mode that was said, on one lane.
+pub(crate) fn said_start(job: &Job<'_>) -> Start
+    ensures { result ≡ start_of (flash_task job.now []) }
+{
+    Start {
+        mode4: job.ask.mode4,
+        quad: false,
+    }
+}
+
+/// How the chip begins: in the mode that was said, and with the quad setting that its status has.
+fn start_at(job: &Job<'_>, status: u32) -> Start
+    ensures { result ≡ start_at job.now status }
+{
+    Start {
+        mode4: job.ask.mode4,
+        quad: (status >> 9) % 2 == 1,
+    }
+}

@@ -1,0 +1,105 @@
+//! Work on the chip behind a device, after its handshake.
+
+ghost use Rattle.std.specs.Prelude.{◌≡◌, ◌<◌, ◌≤◌, ◌+◌, ◌-◌, ◌^◌, true, false, IfOk};
+ghost use Rattle.norprog_flash.specs.Begun.{IsPlannedOn};
+ghost use Rattle.norprog_flash.specs.Ended.{EndsFlash};
+ghost use Rattle.norprog_flash.specs.Worked.{GoesOn};
+
+use crate::back::way_of;
+use crate::begun::{Begun, begin, said_start};
+use crate::ending::{Ending, Unflashed};
+use crate::job::Job;
+use crate::work::{Bench, do_work};
+use nor_base::{ByteIn, ByteOut};
+use nor_flasher::{breaks, closes, doable};
+use nor_serprog::{Limits, carried};
+use norprog_common::FileStore;
+use norprog_failure::Failure;
+use norprog_read::Unlike;
+use std::alloc::Global;
+
+/// Reads the chip behind a device twice, saves what it holds in a new file, plans for that, and prints the lines of the plan. Then,
+/// unless only the plan is wanted, it has the device do the planned work and read the chip back. How many steps are done is written to
+/// `progress`; where that fails nothing changes.
+///
+/// At `Unflashed` and `Planned` nothing was sent that changes what the chip holds.
+pub fn flash_chip<S: FileStore, R: ByteIn, W: ByteOut, O: ByteOut, P: ByteOut>(
+    alloc: Global,
+    store: &S,
+    from: &mut R,
+    to: &mut W,
+    limits: &Limits,
+    job: &Job<'_>,
+    out: &mut O,
+    progress: &mut P,
+) -> Result<Ending, Unflashed>
+    requires whole { job.now.ask.content ≡ true }
+    requires reader { R.count from.old < 2 ^ 64 - 2 }
+    requires writer { W.count to.old < 2 ^ 64 - 2 }
+    requires out { O.count out.old < 2 ^ 64 - 1 }
+    requires told { P.count progress.old < 2 ^ 64 - 1 }
+    ensures ends { IfOk result (EndsFlash (S.facts store.now) job.now limits.now (W.held to.old) (W.held to.new) (R.ahead from.old)
+        (R.ahead from.new) (O.held out.old) (O.held out.new)) }
+    ensures reads_room { R.count from.new ≤ R.count from.old + 2 }
+    ensures writes_room { W.count to.new ≤ W.count to.old + 2 }
+    ensures out_count { IfOk result (λ _. O.count out.new ≡ O.count out.old) }
+    ensures out_room { O.count out.new ≤ O.count out.old + 1 }
+{
+    closes();
+    breaks();
+    let begun = begin(alloc, store, from, to, limits, job, out)?;
+    if job.dry {
+        return Ok(Ending::Planned);
+    }
+    flash_planned(store, from, to, limits, job, &begun, progress)
+}
+
+/// Has the device do work that was planned.
+fn flash_planned<S: FileStore, R: ByteIn, W: ByteOut, P: ByteOut>(
+    store: &S,
+    from: &mut R,
+    to: &mut W,
+    limits: &Limits,
+    job: &Job<'_>,
+    begun: &Begun,
+    progress: &mut P,
+) -> Result<Ending, Unflashed>
+    requires wet { job.now.dry ≡ false }
+    requires planned { IsPlannedOn (S.facts store.now) job.now begun.now.reading begun.now.work.goal.items begun.now.work.steps.items }
+    requires reader { R.count from.old < 2 ^ 64 - 1 }
+    requires writer { W.count to.old < 2 ^ 64 - 1 }
+    requires told { P.count progress.old < 2 ^ 64 - 1 }
+    ensures goes { IfOk result (GoesOn (W.held to.old) (W.held to.new) (R.ahead from.old) (R.ahead from.new) limits.now job.now begun.now.reading
+        begun.now.work.goal.items begun.now.work.steps.items) }
+    ensures reads_room { R.count from.new ≤ R.count from.old + 1 }
+    ensures writes_room { W.count to.new ≤ W.count to.old + 1 }
+{
+    let Begun { reading, work } = begun;
+    let steps = work.steps.as_slice();
+    let by = match way_of(&reading.meaning, said_start(job)) {
+        Some(by) => by,
+        None => return Err(Unflashed::Unlike(Unlike::Unreadable)),
+    };
+    if let Err(step) = carried(steps, limits) {
+        let why = Failure::Carried;
+        return Ok(Ending::Failed { step, why });
+    }
+    doable();
+    let bench = Bench {
+        store,
+        before: job.before,
+        content: reading.content.as_slice(),
+        meaning: &reading.meaning,
+        by,
+    };
+    Ok(do_work(
+        &bench,
+        from,
+        to,
+        limits,
+        job.ask.turns,
+        steps,
+        work.goal.as_slice(),
+        progress,
+    ))
+}

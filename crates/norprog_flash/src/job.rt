@@ -1,0 +1,63 @@
+//! What is to be done on which chip.
+
+ghost use Rattle.std.specs.Prelude.{◌≡◌};
+ghost use Rattle.norprog_flash.specs.Task.{flash_task};
+ghost use Rattle.norprog_read.specs.Chip.{task_chip};
+ghost use Rattle.nor_job.specs.Task.{origin_of};
+
+use nor_base::Bytes;
+use nor_job::{Inputs, Source};
+use norprog_read::{Ask, Known};
+
+/// What is to be done on which chip.
+#[derive(Clone, Copy)]
+pub struct Job<'a> {
+    /// What is asked of the chip; its content is.
+    pub ask: Ask<'a>,
+    /// The image, as Intel HEX text.
+    pub hex: &'a [u8],
+    /// The layout's text, if there is one.
+    pub layout: Option<&'a [u8]>,
+    /// The names of the chosen regions; with none the whole chip is chosen.
+    pub regions: &'a [Bytes],
+    /// Chip address 0 takes the image's byte at this address.
+    pub base: u32,
+    /// What the image doesn't give, where work is resumed: the content before the first try.
+    pub old: Option<&'a [u8]>,
+    /// The name of the file that the content is saved in.
+    pub before: &'a str,
+    /// Only the plan is wanted.
+    pub dry: bool,
+}
+
+/// The inputs of the job's build, of a chip that gave these tables.
+pub(crate) fn inputs_for<'a>(job: &'a Job<'_>, tables: &'a [u8]) -> Inputs<'a>
+    ensures { result ≡ flash_task job.now tables.now }
+{
+    Inputs {
+        hex: job.hex,
+        layout: job.layout,
+        regions: job.regions,
+        chip: source_for(job, tables),
+        part: job.ask.part,
+        status: None,
+        mode4: job.ask.mode4,
+        quad: false,
+        base: job.base,
+        verify: true,
+        erased_only: job.ask.erased_only,
+    }
+}
+
+/// Where the chip's meaning comes from.
+fn source_for<'a>(job: &'a Job<'_>, tables: &'a [u8]) -> Source<'a>
+    ensures { origin_of result ≡ task_chip job.now.ask.known job.now.ask.bits.now tables.now }
+{
+    match job.ask.known {
+        Known::Uniform(size) => Source::Uniform(size),
+        Known::Own | Known::Tables(_) => Source::Sfdp {
+            bytes: tables,
+            bits: job.ask.bits,
+        },
+    }
+}

@@ -1,0 +1,59 @@
+//! What is written of how work on a chip ends.
+
+ghost use Rattle.std.specs.Prelude.{◌≡◌, ◌<◌, ◌-◌, ◌^◌};
+ghost use Rattle.nor_base.specs.Device.{Counts, Writes};
+ghost use Rattle.norprog_flash.specs.Line.{closed_line, ending_line};
+
+use crate::ending::Ending;
+use itoa::Buffer;
+use nor_base::{ByteOut, Failed, Part, put_parts};
+use nor_script::hex_pair;
+use norprog_failure::write_failure;
+
+/// Writes the line of an ending, closed by LF: `ok N` with the number of steps, or why one wasn't done, as [`write_failure`] does; of a
+/// plan nothing. It takes no memory.
+///
+/// At `Failed` a proper prefix was taken; it comes only from the writer, whose count of failures rose by one.
+pub fn write_ending<W: ByteOut>(ending: Ending, writer: &mut W) -> Result<(), Failed>
+    requires { W.count writer.old < 2 ^ 64 - 1 }
+    ensures bytes { Writes (W.held writer.old) (W.held writer.new) result (ending_line ending) }
+    ensures count { Counts (W.count writer.old) (W.count writer.new) result }
+{
+    match ending {
+        Ending::Planned => Ok(()),
+        Ending::Done { transactions } => {
+            let mut count = Buffer::new();
+            put_parts(
+                writer,
+                &[b"ok ", count.format(transactions).as_bytes(), b"\n"],
+            )
+        }
+        Ending::Failed { step, why } => write_failure(step, why, writer),
+    }
+}
+
+/// Writes `unlike status` and the status: S7 to S0 in two digits, of a part whose registers are known S23 to S0 in six; and LF.
+pub(crate) fn write_closed<W: ByteOut>(
+    part: Part,
+    status: u32,
+    writer: &mut W,
+) -> Result<(), Failed>
+    requires { W.count writer.old < 2 ^ 64 - 1 }
+    ensures bytes { Writes (W.held writer.old) (W.held writer.new) result (closed_line part status) }
+    ensures count { Counts (W.count writer.old) (W.count writer.new) result }
+{
+    let low = (status % 256) as u8;
+    match part {
+        Part::Generic => put_parts(writer, &[b"unlike status ", &hex_pair(low), b"\n"]),
+        Part::W25q256jv => put_parts(
+            writer,
+            &[
+                b"unlike status ",
+                &hex_pair((status / 65536 % 256) as u8),
+                &hex_pair((status / 256 % 256) as u8),
+                &hex_pair(low),
+                b"\n",
+            ],
+        ),
+    }
+}

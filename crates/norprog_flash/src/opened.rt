@@ -1,0 +1,74 @@
+//! Work on the chip behind a device, from its handshake on.
+
+ghost use Rattle.std.specs.Prelude.{◌≡◌, ◌≤◌, ◌<◌, ◌+◌, ◌-◌, ◌^◌, true, IfOk};
+ghost use Rattle.norprog_flash.specs.Opened.{HasFlashedOpened, HasFlashedTested};
+
+use crate::device::flash_chip;
+use crate::ending::{Ending, Unflashed};
+use crate::job::Job;
+use nor_base::{ByteIn, ByteOut};
+use nor_serprog::{Limits, greet, test_line};
+use norprog_common::FileStore;
+use norprog_device::{DeviceFault, let_go};
+use std::alloc::Global;
+
+/// Begins with a device, tests the line to it, and does the job on its chip, as [`flash_chip`] does, by the limits that the device
+/// reports. At last it lets the chip's pins go, where it drives them, whatever happened; what it answers to that changes nothing.
+///
+/// `Device` where the handshake or the test of the line ended early.
+pub fn flash_opened<S: FileStore, R: ByteIn, W: ByteOut, O: ByteOut, P: ByteOut>(
+    alloc: Global,
+    store: &S,
+    from: &mut R,
+    to: &mut W,
+    job: &Job<'_>,
+    out: &mut O,
+    progress: &mut P,
+) -> Result<Ending, Unflashed>
+    requires whole { job.now.ask.content ≡ true }
+    requires reader { R.count from.old < 2 ^ 64 - 4 }
+    requires writer { W.count to.old < 2 ^ 64 - 4 }
+    requires out { O.count out.old < 2 ^ 64 - 1 }
+    requires told { P.count progress.old < 2 ^ 64 - 1 }
+    ensures ends { IfOk result (HasFlashedOpened (S.facts store.now) job.now (W.held to.old) (W.held to.new) (R.ahead from.old)
+        (R.ahead from.new) (O.held out.old) (O.held out.new)) }
+    ensures out_count { IfOk result (λ _. O.count out.new ≡ O.count out.old) }
+    ensures out_room { O.count out.new ≤ O.count out.old + 1 }
+{
+    let limits = match greet(from, to) {
+        Ok(limits) => limits,
+        Err(why) => return Err(Unflashed::Device(DeviceFault::Greet(why))),
+    };
+    let ended = flash_tested(alloc, store, from, to, &limits, job, out, progress);
+    let_go(from, to, limits.pins);
+    ended
+}
+
+/// Tests the line to a device, and does the job on its chip.
+fn flash_tested<S: FileStore, R: ByteIn, W: ByteOut, O: ByteOut, P: ByteOut>(
+    alloc: Global,
+    store: &S,
+    from: &mut R,
+    to: &mut W,
+    limits: &Limits,
+    job: &Job<'_>,
+    out: &mut O,
+    progress: &mut P,
+) -> Result<Ending, Unflashed>
+    requires whole { job.now.ask.content ≡ true }
+    requires reader { R.count from.old < 2 ^ 64 - 4 }
+    requires writer { W.count to.old < 2 ^ 64 - 4 }
+    requires out { O.count out.old < 2 ^ 64 - 1 }
+    requires told { P.count progress.old < 2 ^ 64 - 1 }
+    ensures ends { IfOk result (HasFlashedTested (S.facts store.now) job.now limits.now (W.held to.old) (W.held to.new) (R.ahead from.old)
+        (R.ahead from.new) (O.held out.old) (O.held out.new)) }
+    ensures reads { R.count from.new ≤ R.count from.old + 2 }
+    ensures writes { W.count to.new ≤ W.count to.old + 2 }
+    ensures out_count { IfOk result (λ _. O.count out.new ≡ O.count out.old) }
+    ensures out_room { O.count out.new ≤ O.count out.old + 1 }
+{
+    match test_line(from, to, limits) {
+        Ok(()) => flash_chip(alloc, store, from, to, limits, job, out, progress),
+        Err(why) => Err(Unflashed::Device(DeviceFault::Line(why))),
+    }
+}

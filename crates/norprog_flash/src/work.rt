@@ -1,0 +1,88 @@
+//! The work on a chip that was read, saved and planned for.
+
+ghost use Rattle.std.specs.Prelude.{◌≡◌, ◌<◌, ◌≤◌, ◌+◌, ◌-◌, ◌^◌, All, length};
+ghost use Rattle.nor_base.specs.Step.{expected};
+ghost use Rattle.nor_serprog.specs.Done.{IsDoable};
+ghost use Rattle.norprog_flash.specs.Worked.{IsFailureAt, WorksOut};
+ghost use Rattle.norprog_read.specs.Saved.{IsSaved};
+
+use crate::ending::Ending;
+use nor_base::{ByteIn, ByteOut, Meaning, Step};
+use nor_flasher::{Halt, do_steps};
+use nor_reader::{ReadBy, read_again};
+use nor_serprog::Limits;
+use norprog_common::FileStore;
+use norprog_failure::{Failure, failure_by, failure_of};
+
+/// A chip that can be worked on, and where what it holds is saved.
+#[derive(Drop)]
+pub(crate) struct Bench<'a, S: FileStore> {
+    /// The files.
+    pub(crate) store: &'a S,
+    /// The name of the file in which its content is.
+    pub(crate) before: &'a str,
+    /// Its content, from address 0 on.
+    pub(crate) content: &'a [u8],
+    /// What it means.
+    pub(crate) meaning: &'a Meaning,
+    /// How it is read back.
+    pub(crate) by: ReadBy,
+}
+
+/// Has the device do the steps, and then read the chip, which must give the goal's bytes. What it held must be saved first.
+pub(crate) fn do_work<S: FileStore, R: ByteIn, W: ByteOut, P: ByteOut>(
+    bench: &Bench<'_, S>,
+    from: &mut R,
+    to: &mut W,
+    limits: &Limits,
+    turns: u64,
+    steps: &[Step],
+    goal: &[u8],
+    progress: &mut P,
+) -> Ending
+    requires saved { IsSaved (S.facts bench.now.store.now) bench.now.before.now bench.now.content.now }
+    requires form { All IsDoable steps.now }
+    requires size { length goal.now ≤ 2 ^ 32 }
+    requires reader { R.count from.old < 2 ^ 64 - 1 }
+    requires writer { W.count to.old < 2 ^ 64 - 1 }
+    requires told { P.count progress.old < 2 ^ 64 - 1 }
+    ensures ends { WorksOut (W.held to.old) (W.held to.new) (R.ahead from.old) (R.ahead from.new) limits.now turns bench.now.meaning.now bench.now.by
+        steps.now goal.now result }
+    ensures reads_room { R.count from.new ≤ R.count from.old + 1 }
+    ensures writes_room { W.count to.new ≤ W.count to.old + 1 }
+{
+    if let Err(halt) = do_steps(from, to, limits, turns, steps, progress) {
+        let why = failure_at(bench.meaning, steps, halt);
+        return Ending::Failed {
+            step: halt.step,
+            why,
+        };
+    }
+    let transactions = steps.len() as u64;
+    match read_again(from, to, limits, bench.by, goal) {
+        Ok(()) => Ending::Done { transactions },
+        Err(why) => Ending::Failed {
+            step: transactions,
+            why: failure_by(why),
+        },
+    }
+}
+
+/// Why the step isn't done at which a device halted.
+fn failure_at(meaning: &Meaning, steps: &[Step], halt: Halt) -> Failure
+    requires { halt.step < length steps.now }
+    ensures { IsFailureAt meaning.now steps.now halt result }
+{
+    let step = &steps[halt.step as usize];
+    failure_of(meaning, step.clocks(), expected(step), halt.why)
+}
+
+/// The bytes that a step expects.
+fn expected(step: &Step) -> &[u8]
+    ensures { result.now ≡ expected step.now }
+{
+    match step {
+        Step::Send { .. } | Step::Poll { .. } => &[],
+        Step::Verify { clocks: _, expect } => expect.as_slice(),
+    }
+}

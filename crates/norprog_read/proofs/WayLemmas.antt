@@ -1,0 +1,60 @@
+-- How a chip is read is a way to read it.
+use Rattle.std.proofs.Common.{◌≡◌, ◌≤◌, ◌⊎◌, inl, inr, ℕ, ◌^◌, Bool, true, false, not, ◌&&◌, ◌||◌, refl, leb-true}
+use Rattle.std.specs.Prelude.{if◌then◌else◌, nat_le}
+use Rattle.nor_base.specs.declared.meaning.Start.{Start}
+use Rattle.nor_base.specs.Chip.{begins4}
+use Rattle.nor_base.specs.Instructions.{is_there}
+use Rattle.nor_base.specs.Parameters.{Parameters}
+use Rattle.nor_loop.specs.Laws.{IsReadable}
+use Rattle.nor_reader.specs.declared.by.ReadBy.{ReadBy}
+use Rattle.nor_reader.specs.declared.by.ReadBy.TheVariants.{Content, FourBytes, Entered}
+use Rattle.nor_reader.specs.Laws.{GivesBy}
+use Rattle.norprog_read.specs.Way.{first_by, has_both, is_near, is_readable, is_small, may_enter, second_by}
+
+choose : (P : ReadBy → Type 0) (b : Bool) (x y : ReadBy) → (b ≡ true → P x) → (b ≡ false → P y) → P (if b then x else y)
+choose P true x y p q = p refl
+choose P false x y p q = q refl
+
+or_cases : (a b : Bool) → a || b ≡ true → (a ≡ true) ⊎ (b ≡ true)
+or_cases true b is = inl refl
+or_cases false b is = inr is
+
+or_right : (a b : Bool) → a || b ≡ true → a ≡ false → b ≡ true
+or_right true b p q = cc
+or_right false b p q = p
+
+and_both : (a b : Bool) → a && b ≡ true → (a ≡ true) × (b ≡ true)
+and_both true b is = (refl, is)
+and_both false b is = cc
+
+not_so : (a : Bool) → not a ≡ true → a ≡ false
+not_so true is = cc
+not_so false is = refl
+
+small_fits : (size : ℕ) → nat_le size (2 ^ 24) ≡ true → size ≤ 2 ^ 24
+small_fits size is = leb-true size (2 ^ 24) is
+
+near_reads : (m : Parameters) (start : Start) → is_near m start ≡ true → IsReadable m start
+near_reads m start is = elim (or_cases (is_small m) (begins4 m start || m.read4) is) [
+  | inl small ↦ inl (small_fits m.size small)
+  | inr other ↦ inr (or_cases (begins4 m start) m.read4 other)
+]
+
+entered_gives : (m : Parameters) (start : Start) → may_enter m start ≡ true → GivesBy m start (Entered m.enter m.leave)
+entered_gives m start is =
+    let p = and_both (not (begins4 m start)) (is_there m.enter && is_there m.leave) is in
+    let q = and_both (is_there m.enter) (is_there m.leave) p.1 in
+    (refl, refl, q.0, q.1, not_so (begins4 m start) p.0)
+
+pub first_gives : (m : Parameters) (start : Start) → is_readable m start ≡ true → GivesBy m start (first_by m start)
+first_gives m start readable =
+    choose (GivesBy m start) (is_near m start) (Content (begins4 m start)) (Entered m.enter m.leave) (λ p. (refl, near_reads m start p))
+    (λ q. entered_gives m start (or_right (is_near m start) (may_enter m start) readable q))
+
+pub second_gives : (m : Parameters) (start : Start) → is_readable m start ≡ true → GivesBy m start (second_by m start)
+second_gives m start readable =
+    let first = first_gives m start readable in
+    let late = if may_enter m start then Entered m.enter m.leave else first_by m start in
+    choose (GivesBy m start) (is_small m && not (has_both m.width)) (first_by m start) (if m.read4 then FourBytes else late) (λ p. first)
+    (λ q. choose (GivesBy m start) m.read4 FourBytes late (λ p. p)
+    (λ q. choose (GivesBy m start) (may_enter m start) (Entered m.enter m.leave) (first_by m start) (λ p. entered_gives m start p) (λ q. first)))

@@ -1,0 +1,68 @@
+-- What the values of a command line of `read` ask for (this project's).
+use Rattle.std.specs.Prelude.{◌≡◌, ℕ, Bool, false, not, ◌&&◌, Option, Some, None, option_map, unwrap_or, is_some, is_none, if◌then◌else◌, List, [], codes}
+use Rattle.std.specs.Str.{bytes_eq}
+use Rattle.norprog_common.specs.Chip.{Origin, Sfdp, Uniform, origin_of}
+use Rattle.norprog_common.specs.Setup.{chip_asked, family_asked}
+use Rattle.norprog_common.specs.Values.{limit_of, part_of}
+use Rattle.norprog_common.specs.declared.given.ChipArgs.{ChipArgs}
+use Rattle.norprog_common.specs.declared.given.ReadArgs.{ReadArgs}
+use Rattle.norprog_read.specs.declared.asked.Ask.{Ask}
+use Rattle.norprog_read.specs.declared.asked.Known.{Known}
+use Rattle.norprog_read.specs.declared.asked.Known.TheVariants.{Own, Tables, Uniform as OfSize}
+use Rattle.norprog_read.specs.declared.request.ReadRequest.{ReadRequest}
+
+-- the chip that is named, or that none is; None where it isn't of its form
+abbrev pub named_chip : ChipArgs → Option (Option Origin)
+named_chip given =
+    if is_none given.sfdp && is_none given.uniform then Some None else option_map (λ (origin : Origin). Some origin) (chip_asked given)
+
+-- the configuration bits, and the limit's digits, `1000000` where none are given
+abbrev pub asked_bits : ChipArgs → List ℕ
+asked_bits given = unwrap_or (option_map (λ t. t.now) given.bits) []
+
+abbrev pub asked_limit : ReadArgs → List ℕ
+asked_limit given = unwrap_or (option_map (λ t. t.now) given.limit) (codes "1000000")
+
+-- two names are given, and are the same
+abbrev pub are_same : Option (List ℕ) → Option (List ℕ) → Bool
+are_same (Some one) (Some other) = bytes_eq one other
+are_same one other = false
+
+-- the outputs have different names, and no tables are saved of a chip of a size
+abbrev pub are_apart : ReadArgs → Bool
+are_apart given =
+    not (are_same (option_map (λ t. t.now) given.tables) (option_map (λ t. t.now) given.out))
+    && not (is_some given.tables && is_some given.chip.uniform)
+
+-- so it is, a device is named, and each value is of its form
+abbrev pub is_well_formed : ReadArgs → Bool
+is_well_formed given =
+    are_apart given && is_some (named_chip given.chip) && is_some (part_of (family_asked given.chip)) && is_some given.device
+    && is_some (limit_of (asked_limit given))
+
+-- each value is the one that its text spells
+pub record AsksFor (given : ReadArgs) (request : ReadRequest) : Type 0 where
+  pub chip : named_chip given.chip ≡ Some (option_map origin_of request.chip)
+  pub bits : request.bits.now ≡ asked_bits given.chip
+  pub part : part_of (family_asked given.chip) ≡ Some request.part
+  pub mode4 : request.mode4 ≡ given.mode4
+  pub device : given.device ≡ Some request.device
+  pub limit : limit_of (asked_limit given) ≡ Some request.limit
+  pub tables : request.tables ≡ given.tables
+  pub out : request.out ≡ given.out
+
+-- the chip is known by its own tables, by those of a file, which are these bytes, or by its size
+abbrev pub IsKnownBy : Option Origin → List ℕ → Known → Type 0
+IsKnownBy None file known = known ≡ Own
+IsKnownBy (Some (Sfdp name bits)) file (Tables bytes) = bytes.now ≡ file
+IsKnownBy (Some (Sfdp name bits)) file other = ⊥
+IsKnownBy (Some (Uniform size)) file known = known ≡ OfSize size
+
+-- what is asked of a chip, each by the value of the request
+pub record IsAskOf (request : ReadRequest) (file : List ℕ) (ask : Ask) : Type 0 where
+  pub known : IsKnownBy (option_map origin_of request.chip) file ask.known
+  pub bits : ask.bits.now ≡ request.bits.now
+  pub part : ask.part ≡ request.part
+  pub mode4 : ask.mode4 ≡ request.mode4
+  pub turns : ask.turns ≡ request.limit
+  pub content : ask.content ≡ is_some request.out

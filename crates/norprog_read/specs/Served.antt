@@ -1,0 +1,27 @@
+-- What a command line of `read` asks of a chip (this project's). `files` is what is known of files by their names.
+use Rattle.std.specs.Prelude.{◌≡◌, ⊤, ℕ, List, Option, Some, None, is_some}
+use Rattle.norprog_common.specs.Chip.{Origin}
+use Rattle.norprog_common.specs.FileStore.{FileFacts, AreTables}
+use Rattle.norprog_common.specs.Setup.{family_asked}
+use Rattle.norprog_common.specs.Values.{limit_of, part_of}
+use Rattle.norprog_common.specs.declared.given.ReadArgs.{ReadArgs}
+use Rattle.norprog_read.specs.declared.asked.Ask.{Ask}
+use Rattle.norprog_read.specs.Request.{asked_bits, asked_limit, named_chip, IsKnownBy}
+
+-- the tables of a chip that is named are what the file of its name gave
+abbrev pub AreTablesIf : FileFacts → Option Origin → List ℕ → Type 0
+AreTablesIf files (Some origin) file = AreTables files origin file
+AreTablesIf files None file = ⊤
+
+-- each by the value that its text spells, the tables by the file of their name
+pub record Serves (files : FileFacts) (given : ReadArgs) (ask : Ask) : Type 0 where
+  pub chip : Option Origin
+  pub named : named_chip given.chip ≡ Some chip
+  pub file : List ℕ
+  pub gave : AreTablesIf files chip file
+  pub known : IsKnownBy chip file ask.known
+  pub bits : ask.bits.now ≡ asked_bits given.chip
+  pub part : part_of (family_asked given.chip) ≡ Some ask.part
+  pub mode4 : ask.mode4 ≡ given.mode4
+  pub turns : limit_of (asked_limit given) ≡ Some ask.turns
+  pub content : ask.content ≡ is_some given.out

@@ -1,0 +1,43 @@
+-- How a chip's content is read, the first time and again (this project's).
+use Rattle.std.specs.Prelude.{ℕ, ◌^◌, nat_le, not, ◌&&◌, ◌||◌, Bool, true, false, if◌then◌else◌}
+use Rattle.nor_base.specs.declared.meaning.Start.{Start}
+use Rattle.nor_base.specs.declared.meaning.Width.{Width}
+use Rattle.nor_base.specs.declared.meaning.Width.TheVariants.{Both}
+use Rattle.nor_base.specs.Chip.{begins4}
+use Rattle.nor_base.specs.Instructions.{is_there}
+use Rattle.nor_base.specs.Parameters.{Parameters}
+use Rattle.nor_reader.specs.declared.by.ReadBy.{ReadBy}
+use Rattle.nor_reader.specs.declared.by.ReadBy.TheVariants.{Content, FourBytes, Entered}
+
+-- a chip of this width has both address modes
+abbrev pub has_both : Width → Bool
+has_both Both = true
+has_both other = false
+
+-- three address bytes reach all of it
+abbrev pub is_small : Parameters → Bool
+is_small m = nat_le m.size (2 ^ 24)
+
+-- it can be read whole in the mode that it begins in
+abbrev pub is_near : Parameters → Start → Bool
+is_near m start = is_small m || (begins4 m start || m.read4)
+
+-- it begins in three-byte mode, and its tables say how the other is entered and left
+abbrev pub may_enter : Parameters → Start → Bool
+may_enter m start = not (begins4 m start) && (is_there m.enter && is_there m.leave)
+
+-- it can be read whole
+abbrev pub is_readable : Parameters → Start → Bool
+is_readable m start = is_near m start || may_enter m start
+
+-- in the mode that it begins in; else in four-byte mode, which is entered and left
+abbrev pub first_by : Parameters → Start → ReadBy
+first_by m start = if is_near m start then Content (begins4 m start) else Entered m.enter m.leave
+
+-- by four address bytes, where a chip that is in the other mode than was said could give the same bytes twice, or three address bytes
+-- don't reach all of it: by 13h where it has that, else in four-byte mode, which is entered and left; else as the first time
+abbrev pub second_by : Parameters → Start → ReadBy
+second_by m start =
+    if is_small m && not (has_both m.width) then first_by m start
+    else if m.read4 then FourBytes
+    else if may_enter m start then Entered m.enter m.leave else first_by m start

@@ -1,0 +1,54 @@
+-- What a build wrote into memory, read back.
+use Rattle.std.proofs.Common.{◌≡◌, ℕ, List, [], ◌++◌, length, take, Option, Some, refl, sym, ap, subst, ◌∙◌, arith}
+use Rattle.std.proofs.Math.Seq.{take-append_seam, take-length}
+use Rattle.nor_base.specs.declared.step.Step.{Step}
+use Rattle.nor_base.specs.Device.{Ahead, Unknown, Finite, Endless, Gives}
+use Rattle.nor_base.specs.Planned.{ArePlanned, IsWorkable, planned_units}
+use Rattle.nor_base.specs.Script.{IsScript}
+use Rattle.nor_job.specs.Causes.{AreAccepted}
+use Rattle.nor_job.specs.Status.{start_of}
+use Rattle.nor_job.specs.Task.{Task}
+use Rattle.nor_job.specs.Wanted.{wanted}
+use Rattle.nor_laws.specs.Laws.{OneList}
+use Rattle.norprog.specs.Build.{IsBuilt, report_of}
+use Rattle.norprog.specs.declared.report.Report.{Report}
+use Rattle.norprog_work.specs.Work.{BuildsSteps}
+
+-- a reader that has just these bytes ahead, and gives as many, gives these
+pub given_all : (bytes xs : List ℕ) (after : Ahead) → Gives (Finite bytes) xs after → length xs ≡ length bytes → xs ≡ bytes
+given_all bytes xs (Finite rest) g long =
+    sym (take-append_seam xs rest) ∙ (ap (take (length xs)) (sym g) ∙ (ap (λ n. take n bytes) long ∙ take-length bytes))
+given_all bytes xs Unknown g long = absurd g
+given_all bytes xs (Endless f) g long = absurd g
+
+built_steps : OneList → (t : Task) (content held : List ℕ) (rest : Ahead) (report : Report) (steps : List Step)
+    → IsBuilt t (length content) (Finite content) rest (Some []) (Some held) report → IsScript held steps → BuildsSteps t content report steps
+built_steps one t content held rest report steps built script =
+    let wrote = built.wrote in
+    let same : wrote.content ≡ content = given_all content wrote.content rest wrote.given wrote.whole in
+    let text : held ≡ wrote.text = wrote.put in
+    let these : wrote.steps ≡ steps = one held wrote.steps steps (subst (λ (u : List ℕ). IsScript u wrote.steps) (sym text) wrote.script) script in
+    let start = start_of t in
+    let goal = wanted t wrote.image wrote.regions in
+    record {
+      image = wrote.image;
+      regions = wrote.regions;
+      m = wrote.m;
+      accepted = wrote.accepted;
+      workable = subst (λ (x : List ℕ). IsWorkable wrote.m start x (goal x)) same built.work.workable;
+      planned = subst (λ (x : List ℕ). ArePlanned wrote.m start t.verify x (goal x) steps) same
+          (subst (λ (xs : List Step). ArePlanned wrote.m start t.verify wrote.content (goal wrote.content) xs) these built.work.planned);
+      told = subst (λ (x : List ℕ). report ≡ report_of t wrote.image wrote.regions wrote.m (planned_units wrote.m start x (goal x)) steps) same
+          (subst (λ (xs : List Step). report ≡ report_of t wrote.image wrote.regions wrote.m (planned_units wrote.m start wrote.content (goal wrote.content)) xs)
+          these built.work.told);
+    }
+
+-- so where the reader had just the content and the writer nothing
+pub builds : OneList → (t : Task) (content ahead begun held text : List ℕ) (rest : Ahead) (report : Report) (steps : List Step)
+    → ahead ≡ content → begun ≡ [] → text ≡ held
+    → IsBuilt t (length content) (Finite ahead) rest (Some begun) (Some held) report → IsScript text steps → BuildsSteps t content report steps
+builds one t content ahead begun held text rest report steps all none these built script =
+    built_steps one t content held rest report steps
+    (subst (λ (xs : List ℕ). IsBuilt t (length content) (Finite xs) rest (Some []) (Some held) report) all
+    (subst (λ (xs : List ℕ). IsBuilt t (length content) (Finite ahead) rest (Some xs) (Some held) report) none built))
+    (subst (λ (xs : List ℕ). IsScript xs steps) these script)

@@ -1,0 +1,5 @@
+mod SpanLemmas
+mod NarrowedLemmas
+mod GoalLemmas
+mod BuiltLemmas
+mod WorkLemmas

@@ -1,0 +1,60 @@
+-- The planned work from what a chip holds to what it must hold (this project's).
+use Rattle.std.specs.Prelude.{◌≡◌, ◌<◌, ◌^◌, ℕ, List, ◌++◌, length, count_by, Option}
+use Rattle.std.specs.Io.KnownBytes.{Appends}
+use Rattle.nor_base.specs.declared.step.Step.{Step}
+use Rattle.nor_base.specs.Parameters.{Parameters}
+use Rattle.nor_base.specs.Planned.{ArePlanned, IsWorkable, planned_units}
+use Rattle.nor_base.specs.Target.{is_ignored}
+use Rattle.nor_hex.specs.Image.{Pairs}
+use Rattle.nor_job.specs.Causes.{AreAccepted}
+use Rattle.nor_job.specs.Status.{start_of}
+use Rattle.nor_job.specs.Task.{Task}
+use Rattle.nor_job.specs.Wanted.{wanted}
+use Rattle.nor_layout.specs.Chosen.{is_chosen}
+use Rattle.nor_layout.specs.Region.{Region}
+use Rattle.norprog.specs.Build.{report_of}
+use Rattle.norprog.specs.PlanWindows.{plan_text}
+use Rattle.norprog.specs.Report.{report_text}
+use Rattle.norprog.specs.declared.report.Report.{Report}
+
+-- the target of these bytes, and how many addresses of the image go nowhere
+pub record IsGoal (t : Task) (old goal : List ℕ) (nowhere : ℕ) : Type 0 where
+  pub image : Pairs
+  pub regions : List Region
+  pub m : Parameters
+  pub accepted : AreAccepted t (length old) image regions m
+  pub bytes : goal ≡ wanted t image regions old
+  pub size : length goal ≡ length old
+  pub few : length old < 2 ^ 32
+  pub ignored : nowhere ≡ count_by (λ pair. is_ignored t.base (is_chosen regions t.regions) m.size pair.0) image
+
+-- the lines of the plan of a content, which can be worked on, were written
+pub record PlansLines (t : Task) (content : List ℕ) (before after : Option (List ℕ)) : Type 0 where
+  pub image : Pairs
+  pub regions : List Region
+  pub m : Parameters
+  pub accepted : AreAccepted t (length content) image regions m
+  pub put : Appends before after (plan_text m (start_of t) content (wanted t image regions content))
+
+-- planned work on a content, and the report of a build of it
+pub record BuildsSteps (t : Task) (content : List ℕ) (report : Report) (steps : List Step) : Type 0 where
+  pub image : Pairs
+  pub regions : List Region
+  pub m : Parameters
+  pub accepted : AreAccepted t (length content) image regions m
+  pub workable : IsWorkable m (start_of t) content (wanted t image regions content)
+  pub planned : ArePlanned m (start_of t) t.verify content (wanted t image regions content) steps
+  pub told : report ≡ report_of t image regions m (planned_units m (start_of t) content (wanted t image regions content)) steps
+
+-- the goal is the target of the old bytes; the steps are the planned work from the content to it; and the lines of just that work were
+-- written, and then its report
+pub record IsWork (t : Task) (content old goal : List ℕ) (steps : List Step) (before after : Option (List ℕ)) : Type 0 where
+  pub image : Pairs
+  pub regions : List Region
+  pub m : Parameters
+  pub accepted : AreAccepted t (length content) image regions m
+  pub goal_is : goal ≡ wanted t image regions old
+  pub workable : IsWorkable m (start_of t) content goal
+  pub planned : ArePlanned m (start_of t) t.verify content goal steps
+  pub printed : Appends before after (plan_text m (start_of t) content goal
+      ++ report_text (report_of t image regions m (planned_units m (start_of t) content goal) steps))

@@ -1,0 +1,66 @@
+//! A build of just the bytes that are to change.
+
+ghost use Rattle.std.specs.Prelude.{◌≡◌, ◌+◌, ◌<◌, ◌≤◌, ◌^◌, length, slice_range, IfOk, IfErr};
+ghost use Rattle.nor_hex_out.specs.Segments.{hex_text};
+ghost use Rattle.nor_job.specs.declared.fault.BuildFault.TheVariants.{Memory};
+ghost use Rattle.nor_job.specs.Task.{origin_of};
+ghost use Rattle.norprog_work.specs.Narrowed.{narrowed, SpansDifference};
+
+use crate::span::differing;
+use nor_base::IntoWrite;
+use nor_hex_out::write_hex;
+use nor_job::{BuildFault, Inputs, Source};
+use std::alloc::Global;
+
+/// The HEX text of the wanted bytes, from the first to the last that is another than the chip's.
+pub(crate) fn difference(alloc: Global, have: &[u8], want: &[u8]) -> Result<Vec<u8>, BuildFault>
+    requires lengths { length have.now ≡ length want.now }
+    requires few { length have.now < 2 ^ 32 }
+    ensures spans { IfOk result (λ text. SpansDifference have.now want.now text.items) }
+    ensures memory { IfErr result (λ why. why ≡ Memory) }
+{
+    let (low, high) = differing(have, want);
+    hex_of(alloc, low as u32, &want[low..high])
+}
+
+/// The HEX text of bytes from an address on.
+fn hex_of(alloc: Global, at: u32, bytes: &[u8]) -> Result<Vec<u8>, BuildFault>
+    requires { at + length bytes.now ≤ 2 ^ 32 }
+    ensures text { IfOk result (λ text. text.items ≡ hex_text at bytes.now) }
+    ensures memory { IfErr result (λ why. why ≡ Memory) }
+{
+    let mut text = IntoWrite::new(Vec::new(alloc));
+    match write_hex(at, bytes, &mut text) {
+        Ok(()) => Ok(text.into_inner()),
+        Err(_) => Err(BuildFault::Memory),
+    }
+}
+
+/// The same job with this image and no other choice of addresses.
+pub(crate) fn narrowed<'a>(inputs: &'a Inputs<'_>, hex: &'a [u8]) -> Inputs<'a>
+    ensures { result ≡ narrowed inputs.now hex.now }
+{
+    Inputs {
+        hex,
+        layout: None,
+        regions: &[],
+        chip: chip_in(inputs),
+        part: inputs.part,
+        status: inputs.status,
+        mode4: inputs.mode4,
+        quad: inputs.quad,
+        base: 0,
+        verify: inputs.verify,
+        erased_only: inputs.erased_only,
+    }
+}
+
+/// Where the meaning of the job's chip comes from.
+fn chip_in<'a>(inputs: &'a Inputs<'_>) -> Source<'a>
+    ensures { origin_of result ≡ inputs.now.chip }
+{
+    match inputs.chip {
+        Source::Sfdp { bytes, bits } => Source::Sfdp { bytes, bits },
+        Source::Uniform(size) => Source::Uniform(size),
+    }
+}

@@ -1,0 +1,33 @@
+//! The steps of a build.
+
+ghost use Rattle.std.specs.Prelude.{◌≡◌, length, IfOk};
+ghost use Rattle.norprog_work.specs.Work.{BuildsSteps};
+
+use nor_base::{FromRead, IntoWrite, Step};
+use nor_job::{BuildFault, Inputs};
+use nor_laws::script_texts;
+use nor_script::read;
+use norprog::{Report, build};
+use std::alloc::Global;
+
+/// The steps of the script that a build of this content writes, and its report. Memory is taken for the script too.
+pub(crate) fn build_steps(
+    alloc: Global,
+    inputs: &Inputs<'_>,
+    content: &[u8],
+) -> Result<(Report, Vec<Step>), BuildFault>
+    ensures built { IfOk result (λ built. BuildsSteps inputs.now content.now built.0 built.1.items) }
+{
+    let mut text = IntoWrite::new(Vec::new(alloc));
+    let mut reader = FromRead::new(content);
+    let report = match build(alloc, inputs, &mut reader, content.len() as u64, &mut text) {
+        Ok(report) => report,
+        Err(BuildFault::Write) => return Err(BuildFault::Memory),
+        Err(why) => return Err(why),
+    };
+    script_texts();
+    match read(alloc, text.inner.as_slice()) {
+        Ok(steps) => Ok((report, steps)),
+        Err(_) => Err(BuildFault::Memory),
+    }
+}
