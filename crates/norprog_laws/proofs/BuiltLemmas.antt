@@ -99,7 +99,7 @@ wanted_same t a b p q content bytes regions =
     ∙ ap (λ (these : List Region). target (byte_at b) t.base (is_chosen these t.regions) content) regions
 
 -- so many bytes that a reader gives which tells them are one list
-given_same : (before after rest : Ahead) (xs ys : List ℕ) → Tells before → Gives before xs after → Gives before ys rest → length xs ≡ length ys → xs ≡ ys
+pub given_same : (before after rest : Ahead) (xs ys : List ℕ) → Tells before → Gives before xs after → Gives before ys rest → length xs ≡ length ys → xs ≡ ys
 given_same Unknown after rest xs ys tells p q sizes = absurd tells
 given_same (Finite bytes) (Finite a) (Finite b) xs ys tells p q sizes =
     sym (take-append_seam xs a) ∙ ap (take (length xs)) (sym p ∙ q) ∙ ap (λ n. take n (ys ++ b)) sizes ∙ take-append_seam ys b

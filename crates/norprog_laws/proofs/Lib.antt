@@ -1,2 +1,3 @@
 pub mod BuiltLemmas
 pub mod PlayLemmas
+mod ShownLemmas

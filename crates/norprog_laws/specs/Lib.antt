@@ -1,3 +1,4 @@
 pub mod Checked
 pub mod Played
 pub mod Read
+pub mod Shown

@@ -6,8 +6,10 @@ pub mod worked;
 
 ghost use Rattle.norprog_laws.specs.Checked.{BuiltIsRight, BuiltIsChecked};
 ghost use Rattle.norprog_laws.specs.Played.{BuiltPlays};
+ghost use Rattle.norprog_laws.specs.Shown.{NoIsRun};
 
 use nor_laws::script_texts;
+use nor_replay::replay;
 
 /// Of what a build wrote, a check says yes: whatever steps the text that it appended spells, the worst verdict on them, on the
 /// chips, content and target of the build, is Yes; and Yes is what a check says of that text, for the same inputs, on a reader
@@ -26,4 +28,13 @@ pub fn built_plays()
     ensures { BuiltPlays }
 {
     script_texts();
+}
+
+/// What a check finds with a no, a run shows: on that chip, with the same text, meaning, start and content and a limit above its number
+/// of status reads, it goes wrong at that step for that cause; or it ends well, and the chip has another byte at that address.
+pub fn noes_run()
+    ensures { NoIsRun }
+{
+    script_texts();
+    replay();
 }

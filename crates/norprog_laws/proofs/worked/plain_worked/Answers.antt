@@ -1,5 +1,5 @@
 -- By computation.
-use Rattle.std.proofs.Common.{◌≡◌, refl, ℕ, zero, suc, None, [], ◌∷◌}
+use Rattle.std.proofs.Common.{◌≡◌, refl, ℕ, zero, suc, None}
 use Rattle.bstr.specs.Text.{lines_from, line_len}
 use Rattle.std.specs.Fmt.{digits}
 use Rattle.nor_base.specs.Script.{step_line, header, end_line, step_lines, script_text}
