@@ -13,6 +13,7 @@ use Rattle.norprog_sfdp.specs.Answer.{AnswersChip}
 use Rattle.norprog_draw.specs.Answer.{AnswersDraw}
 use Rattle.norprog_explain.specs.Explained.{explained, AnswersExplain}
 use Rattle.norprog_explain.specs.Topics.{topics}
+use Rattle.norprog_flash.specs.Answer.{AnswersFlash}
 use Rattle.norprog_hex.specs.Answer.{AnswersHex}
 use Rattle.norprog_list.specs.Answer.{AnswersList}
 use Rattle.norprog_play.specs.Answer.{AnswersPlay}
@@ -37,6 +38,8 @@ AnswersTo files (Ok (command.Play given)) before after Quiet Works told_before t
     AnswersPlay files given before after Quiet Works told_before told_after status
 AnswersTo files (Ok (command.Read given)) before after Quiet Works told_before told_after status =
     status ≡ 0 → PrintsReading files given before after
+AnswersTo files (Ok (command.Flash given)) before after Quiet Works told_before told_after status =
+    AnswersFlash files given before after Quiet Works told_before told_after status
 AnswersTo files (Ok (command.Sfdp given)) before after Quiet Works told_before told_after status =
     AnswersChip files given before after Quiet Works told_before told_after status
 AnswersTo files (Ok (command.Hex given)) before after Quiet Works told_before told_after status =

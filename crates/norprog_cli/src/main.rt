@@ -1,11 +1,11 @@
 //! The command line of norprog: `norprog build` writes the script that programs a chip, `norprog plan` prints what that
 //! would erase and program, `norprog check` says whether a script does a job, `norprog run` plays one on a chip in memory,
 //! `norprog list` tells what each step of one is, `norprog draw` draws one as a waveform, `norprog play` plays one on a chip behind
-//! a serprog device, `norprog read` reads such a chip, `norprog sfdp` prints what a chip's tables mean, `norprog hex` writes a raw
+//! a serprog device, `norprog read` reads such a chip, `norprog flash` programs it, `norprog sfdp` prints what a chip's tables mean, `norprog hex` writes a raw
 //! image as Intel HEX, `norprog explain` says what a printed text means.
 //!
 //! The crate `norprog_options` reads the options; `norprog_build`, `norprog_plan`, `norprog_check`, `norprog_sfdp`, `norprog_run`,
-//! `norprog_list`, `norprog_draw`, `norprog_play`, `norprog_read`, `norprog_hex` and `norprog_explain` do the work behind them.
+//! `norprog_list`, `norprog_draw`, `norprog_play`, `norprog_read`, `norprog_flash`, `norprog_hex` and `norprog_explain` do the work behind them.
 #![tactic(auto)]
 
 ghost use Rattle.std.specs.Prelude.{◌≡◌, ◌≢◌, ◌<◌, ◌≤◌, ◌-◌, ◌^◌, IfOk, IfErr};
@@ -20,6 +20,7 @@ use norprog_check::check;
 use norprog_common::{FileStore, Refusal, SystemFiles, refuse};
 use norprog_draw::draw;
 use norprog_explain::explain;
+use norprog_flash::flash;
 use norprog_hex::hex;
 use norprog_list::list;
 use norprog_options::{Asked, asked_by};
@@ -103,7 +104,7 @@ fn command<S: FileStore, O: ByteOut, E: ByteOut, P: ByteOut>(
     err: &mut E,
     progress: &mut P,
 ) -> u8
-    requires out { O.count out.old < 2 ^ 64 - 1 }
+    requires out { O.count out.old < 2 ^ 64 - 2 }
     requires err { E.count err.old < 2 ^ 64 - 1 }
     requires progress { P.count progress.old < 2 ^ 64 - 1 }
     ensures status { result ≤ 2 }
@@ -124,7 +125,7 @@ fn answer_to<S: FileStore, O: ByteOut, E: ByteOut, P: ByteOut>(
     err: &mut E,
     progress: &mut P,
 ) -> u8
-    requires out { O.count out.old < 2 ^ 64 - 1 }
+    requires out { O.count out.old < 2 ^ 64 - 2 }
     requires err { E.count err.old < 2 ^ 64 - 1 }
     requires progress { P.count progress.old < 2 ^ 64 - 1 }
     ensures status { result ≤ 2 }
@@ -141,6 +142,7 @@ fn answer_to<S: FileStore, O: ByteOut, E: ByteOut, P: ByteOut>(
         Ok(Asked::Draw(given)) => draw(alloc, store, given, err),
         Ok(Asked::Play(given)) => play(alloc, store, given, out, err, progress),
         Ok(Asked::Read(given)) => read(alloc, store, given, out, err),
+        Ok(Asked::Flash(given)) => flash(alloc, store, given, out, err, progress),
         Ok(Asked::Sfdp(given)) => sfdp(alloc, store, given, out, err),
         Ok(Asked::Hex(given)) => hex(alloc, store, given, err),
         Ok(Asked::Explain(words)) => explain(words.as_slice(), out, err),

@@ -6,6 +6,7 @@ use norprog_check::check;
 use norprog_common::{Refusal, SystemFiles, refuse};
 use norprog_draw::draw;
 use norprog_explain::explain;
+use norprog_flash::flash;
 use norprog_hex::hex;
 use norprog_list::list;
 use norprog_options::Asked;
@@ -45,6 +46,7 @@ fn status_into(rt: &HostRuntime, asked: Result<Asked<'_>, Refusal>, out: File, e
         Ok(Asked::Draw(given)) => draw(alloc, &files, given, &mut err),
         Ok(Asked::Play(given)) => play(alloc, &files, given, &mut out, &mut err, &mut Nowhere),
         Ok(Asked::Read(given)) => read(alloc, &files, given, &mut out, &mut err),
+        Ok(Asked::Flash(given)) => flash(alloc, &files, given, &mut out, &mut err, &mut Nowhere),
         Ok(Asked::Sfdp(given)) => sfdp(alloc, &files, given, &mut out, &mut err),
         Ok(Asked::Hex(given)) => hex(alloc, &files, given, &mut err),
         Ok(Asked::Explain(words)) => explain(words.as_slice(), &mut out, &mut err),
