@@ -1,12 +1,11 @@
 -- The job is the one that the texts ask for.
-use Rattle.std.proofs.Common.{◌≡◌, ℕ, true, List, Option, Some, Result, Ok, Err, IfOk, is_some, ap, ◌∙◌, refl}
-use Rattle.nor_base.specs.Device.{Ahead}
+use Rattle.std.proofs.Common.{◌≡◌, ℕ, true, List, Option, Result, Ok, Err, IfOk, is_some, ap, ◌∙◌}
 use Rattle.norprog_common.specs.FileStore.{FileFacts}
 use Rattle.norprog_common.specs.declared.given.FlashArgs.{FlashArgs}
 use Rattle.norprog_flash.specs.declared.ending.Ending.{Ending}
 use Rattle.norprog_flash.specs.declared.job.Job.{Job}
 use Rattle.norprog_flash.specs.declared.request.FlashRequest.{FlashRequest}
-use Rattle.norprog_flash.specs.Answer.{EndsRequest, IsEndingOf}
+use Rattle.norprog_flash.specs.Answer.{IsEndingOf}
 use Rattle.norprog_flash.specs.Opened.{IsFlashedOn}
 use Rattle.norprog_flash.specs.Request.{is_well_formed, AsksFor}
 use Rattle.norprog_flash.specs.Served.{IsJobOf}

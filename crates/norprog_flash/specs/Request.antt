@@ -1,5 +1,5 @@
 -- What the values of a command line of `flash` ask for (this project's).
-use Rattle.std.specs.Prelude.{◌≡◌, ℕ, Bool, ◌&&◌, Option, Some, None, option_map, unwrap_or, is_some, List, codes}
+use Rattle.std.specs.Prelude.{◌≡◌, ℕ, Bool, ◌&&◌, Some, None, option_map, unwrap_or, is_some, List, codes}
 use Rattle.norprog_common.specs.Values.{base_of}
 use Rattle.norprog_common.specs.declared.given.FlashArgs.{FlashArgs}
 use Rattle.norprog_common.specs.declared.given.ReadArgs.{ReadArgs}

@@ -1,13 +1,10 @@
 -- The job that a command line of `flash` asks for (this project's). `files` is what is known of files by their names.
-use Rattle.std.specs.Prelude.{◌≡◌, ℕ, true, List, Option, Some, option_map}
+use Rattle.std.specs.Prelude.{◌≡◌, option_map}
 use Rattle.norprog_common.specs.Chip.{origin_of}
-use Rattle.norprog_common.specs.FileStore.{FileFacts, Named, WhereNamed}
-use Rattle.norprog_common.specs.Values.{base_of}
-use Rattle.norprog_common.specs.declared.given.FlashArgs.{FlashArgs}
+use Rattle.norprog_common.specs.FileStore.{FileFacts, WhereNamed}
 use Rattle.norprog_flash.specs.declared.files.Files.{Files}
 use Rattle.norprog_flash.specs.declared.job.Job.{Job}
 use Rattle.norprog_flash.specs.declared.request.FlashRequest.{FlashRequest}
-use Rattle.norprog_flash.specs.Request.{asked_base, read_args}
 use Rattle.norprog_read.specs.Request.{IsAskOf}
 use Rattle.norprog_read.specs.Served.{AreTablesIf}
 

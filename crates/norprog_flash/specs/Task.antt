@@ -1,6 +1,5 @@
 -- The task of a command that reads a chip itself (this project's).
 use Rattle.std.specs.Prelude.{true, false, List, ℕ, None, Option, option_map, unwrap_or}
-use Rattle.nor_base.specs.Parameters.{Parameters}
 use Rattle.nor_hex.specs.Image.{Pairs}
 use Rattle.nor_job.specs.Task.{Task}
 use Rattle.nor_job.specs.Wanted.{wanted}

@@ -1,11 +1,12 @@
 //! A chip that is read, saved and planned for.
 
-ghost use Rattle.std.specs.Prelude.{◌≡◌, ◌<◌, ◌≤◌, ◌+◌, ◌-◌, ◌^◌, [], true, unwrap_or, IfOk};
+ghost use Rattle.std.specs.Prelude.{◌≡◌, ◌<◌, ◌≤◌, ◌+◌, ◌-◌, ◌^◌, [], true, unwrap_or, IfOk, MatchResult};
 ghost use Rattle.nor_probe.specs.Status.{suits};
 ghost use Rattle.nor_job.specs.Status.{start_of};
 ghost use Rattle.norprog_flash.specs.Begun.{HasRead, HasPlanned, start_at};
 ghost use Rattle.norprog_flash.specs.Task.{dump_of, flash_task};
 ghost use Rattle.norprog_work.specs.Work.{IsWork};
+ghost use Rattle.nor_reader.specs.Harmless.{HasSentHarmless, SendsHarmless};
 
 use crate::back::way_of;
 use crate::ending::Unflashed;
@@ -41,6 +42,8 @@ pub(crate) fn begin<S: FileStore, R: ByteIn, W: ByteOut, O: ByteOut>(
     requires out { O.count out.old < 2 ^ 64 - 1 }
     ensures planned { IfOk result (λ begun. HasPlanned (S.facts store.now) job.now (W.held to.old) (W.held to.new) (R.ahead from.old)
         (R.ahead from.new) begun.reading begun.work.goal.items begun.work.steps.items (O.held out.old) (O.held out.new)) }
+    ensures harmless { MatchResult result (λ _. HasSentHarmless (W.held to.old) (W.held to.new))
+        (λ _. SendsHarmless (W.held to.old) (W.held to.new)) }
     ensures reads_room { R.count from.new ≤ R.count from.old + 1 }
     ensures writes_room { W.count to.new ≤ W.count to.old + 1 }
     ensures out_count { IfOk result (λ _. O.count out.new ≡ O.count out.old) }
@@ -92,6 +95,8 @@ fn read_suited<R: ByteIn, W: ByteOut>(
     requires reader { R.count from.old < 2 ^ 64 - 1 }
     requires writer { W.count to.old < 2 ^ 64 - 1 }
     ensures read { IfOk result (HasRead job.now (W.held to.old) (W.held to.new) (R.ahead from.old) (R.ahead from.new)) }
+    ensures harmless { MatchResult result (λ _. HasSentHarmless (W.held to.old) (W.held to.new))
+        (λ _. SendsHarmless (W.held to.old) (W.held to.new)) }
     ensures reads_room { R.count from.new ≤ R.count from.old + 1 }
     ensures writes_room { W.count to.new ≤ W.count to.old + 1 }
 {

@@ -1,6 +1,7 @@
 //! Work on the chip behind a device, after its handshake.
 
-ghost use Rattle.std.specs.Prelude.{◌≡◌, ◌<◌, ◌≤◌, ◌+◌, ◌-◌, ◌^◌, true, false, IfOk};
+ghost use Rattle.std.specs.Prelude.{◌≡◌, ◌<◌, ◌≤◌, ◌+◌, ◌-◌, ◌^◌, true, false, IfOk, IfErr};
+ghost use Rattle.nor_reader.specs.Harmless.{SendsHarmless};
 ghost use Rattle.norprog_flash.specs.Begun.{IsPlannedOn};
 ghost use Rattle.norprog_flash.specs.Ended.{EndsFlash};
 ghost use Rattle.norprog_flash.specs.Worked.{GoesOn};
@@ -40,6 +41,7 @@ pub fn flash_chip<S: FileStore, R: ByteIn, W: ByteOut, O: ByteOut, P: ByteOut>(
     requires told { P.count progress.old < 2 ^ 64 - 1 }
     ensures ends { IfOk result (EndsFlash (S.facts store.now) job.now limits.now (W.held to.old) (W.held to.new) (R.ahead from.old)
         (R.ahead from.new) (O.held out.old) (O.held out.new)) }
+    ensures harmless { IfErr result (λ _. SendsHarmless (W.held to.old) (W.held to.new)) }
     ensures reads_room { R.count from.new ≤ R.count from.old + 2 }
     ensures writes_room { W.count to.new ≤ W.count to.old + 2 }
     ensures out_count { IfOk result (λ _. O.count out.new ≡ O.count out.old) }
@@ -71,6 +73,7 @@ fn flash_planned<S: FileStore, R: ByteIn, W: ByteOut, P: ByteOut>(
     requires told { P.count progress.old < 2 ^ 64 - 1 }
     ensures goes { IfOk result (GoesOn (W.held to.old) (W.held to.new) (R.ahead from.old) (R.ahead from.new) limits.now job.now begun.now.reading
         begun.now.work.goal.items begun.now.work.steps.items) }
+    ensures untouched { IfErr result (λ _. W.held to.new ≡ W.held to.old) }
     ensures reads_room { R.count from.new ≤ R.count from.old + 1 }
     ensures writes_room { W.count to.new ≤ W.count to.old + 1 }
 {

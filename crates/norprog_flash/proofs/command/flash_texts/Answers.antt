@@ -1,5 +1,5 @@
 -- The job of the texts, and its ending.
-use Rattle.std.proofs.Common.{◌≡◌, ℕ, true, List, option_map, rules, sym, subst, refl}
+use Rattle.std.proofs.Common.{◌≡◌, ℕ, true, List, rules, subst, refl}
 use Rattle.norprog_flash.specs.Request.{is_well_formed, AsksFor}
 use Rattle.norprog_flash.proofs.ServedLemmas.{ending_by, wanted}
 use Rattle.norprog_read.specs.Request.{IsAskOf}

@@ -1,6 +1,5 @@
 -- What was written is what is to be written of the ending.
-use Rattle.std.proofs.Common.{Bool, ℕ, List, [], ◌++◌, if◌then◌else◌, subst}
-use Rattle.std.specs.Prelude.{codes}
+use Rattle.std.proofs.Common.{Bool, ℕ, List, [], if◌then◌else◌, subst}
 use Rattle.nor_base.specs.Device.{Writes}
 use Rattle.norprog_flash.specs.Line.{state_line}
 use Rattle.norprog_flash.proofs.report.write_state.Goals as goal
