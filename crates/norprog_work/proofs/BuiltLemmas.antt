@@ -1,11 +1,10 @@
 -- What a build wrote into memory, read back.
-use Rattle.std.proofs.Common.{◌≡◌, ℕ, List, [], ◌++◌, length, take, Option, Some, refl, sym, ap, subst, ◌∙◌, arith}
+use Rattle.std.proofs.Common.{◌≡◌, ℕ, List, [], length, take, Some, sym, ap, subst, ◌∙◌}
 use Rattle.std.proofs.Math.Seq.{take-append_seam, take-length}
 use Rattle.nor_base.specs.declared.step.Step.{Step}
 use Rattle.nor_base.specs.Device.{Ahead, Unknown, Finite, Endless, Gives}
 use Rattle.nor_base.specs.Planned.{ArePlanned, IsWorkable, planned_units}
 use Rattle.nor_base.specs.Script.{IsScript}
-use Rattle.nor_job.specs.Causes.{AreAccepted}
 use Rattle.nor_job.specs.Status.{start_of}
 use Rattle.nor_job.specs.Task.{Task}
 use Rattle.nor_job.specs.Wanted.{wanted}

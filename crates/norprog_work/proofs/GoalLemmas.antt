@@ -1,5 +1,5 @@
 -- What of the image goes nowhere, by the job and by its inputs.
-use Rattle.std.proofs.Common.{◌≡◌, ℕ, ◌+◌, ◌-◌, ◌<◌, ◌≤◌, ◌^◌, Bool, not, ◌&&◌, if◌then◌else◌, List, [], ◌∷◌, ◌++◌, length, take, drop, refl, ap, ◌∙◌, arith}
+use Rattle.std.proofs.Common.{◌≡◌, ℕ, ◌+◌, ◌-◌, ◌<◌, ◌^◌, Bool, not, ◌&&◌, if◌then◌else◌, List, [], ◌∷◌, ◌++◌, length, take, drop, refl, ap, ◌∙◌, arith}
 use Rattle.std.specs.Prelude.{count_by, nat_le, nat_lt}
 use Rattle.std.proofs.Math.Seq.{take-append_seam}
 use Rattle.nor_base.specs.Target.{is_ignored}

@@ -1,5 +1,5 @@
 -- The narrowed task has the same target.
-use Rattle.std.proofs.Common.{◌≡◌, ◌⊎◌, inl, inr, ℕ, zero, suc, ◌+◌, ◌-◌, ◌<◌, ◌≤◌, ◌^◌, Bool, true, ◌&&◌, nat_lt, List, [], ◌∷◌, length, take, drop, slice_get, slice_index, slice_range, Option, Some, None, Ok, refl, sym, ap, subst, ◌∙◌, arith, rules}
+use Rattle.std.proofs.Common.{◌≡◌, ◌⊎◌, inl, inr, ℕ, zero, suc, ◌+◌, ◌-◌, ◌<◌, ◌≤◌, ◌^◌, Bool, true, nat_lt, List, [], ◌∷◌, length, take, drop, slice_index, slice_range, Option, Some, None, refl, sym, ap, subst, ◌∙◌, arith}
 use Rattle.std.specs.List.{enumerate_from}
 use Rattle.std.proofs.lemmas.Bool.{and_parts, cases_lt, lt-ltb}
 use Rattle.std.proofs.lemmas.List.{get_or-drop, get_or-take, length-drop, length-map, length-take, length-take-le}
@@ -10,7 +10,6 @@ use Rattle.nor_base.specs.Target.{target}
 use Rattle.nor_hex.specs.Faults.{IsImage}
 use Rattle.nor_hex.specs.Image.{Pairs, byte_at}
 use Rattle.nor_hex_out.specs.Laws.{GivesJust, WrittenGives}
-use Rattle.nor_hex_out.specs.Segments.{hex_text}
 use Rattle.nor_laws.specs.Laws.{TargetGives, TargetKeeps}
 use Rattle.nor_layout.specs.Chosen.{is_chosen}
 use Rattle.nor_layout.specs.Region.{Region}

@@ -1,5 +1,5 @@
 -- The job's target is that of the inputs.
-use Rattle.std.proofs.Common.{◌≡◌, ℕ, length, sym, subst, arith}
+use Rattle.std.proofs.Common.{◌≡◌, length, sym, subst, arith}
 use Rattle.norprog_work.specs.Work.{IsGoal}
 use Rattle.norprog_work.proofs.GoalLemmas.{goal_is, written}
 use Rattle.norprog_work.proofs.goal.goal_of.Goals as goal

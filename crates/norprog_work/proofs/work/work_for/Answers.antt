@@ -1,6 +1,6 @@
 -- The work of the narrowed task.
 use Rattle.std.proofs.Common.{◌∙◌, ℕ, List, ap, length, sym, subst, arith, refl}
-use Rattle.nor_job.specs.Task.{Task, task_of}
+use Rattle.nor_job.specs.Task.{Task}
 use Rattle.norprog_work.specs.Narrowed.{narrowed, SpansDifference}
 use Rattle.norprog_work.specs.Work.{BuildsSteps, PlansLines}
 use Rattle.norprog_work.proofs.WorkLemmas.{work_is}
