@@ -7,4 +7,5 @@ mod line;
 mod operations;
 mod plays;
 mod scripts;
+mod steps_done;
 mod store;
