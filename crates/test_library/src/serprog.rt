@@ -2,6 +2,7 @@
 
 mod canned;
 mod endings;
+mod flashes;
 mod greets;
 mod line;
 mod operations;
