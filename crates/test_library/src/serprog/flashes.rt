@@ -143,9 +143,10 @@ struct Row {
     /// What goes out after that, except for the pins at the end; what the device answers to that.
     put: &'static [&'static [u8]],
     answers: &'static [&'static [u8]],
-    /// What goes out at the end, and what the device answers to that.
+    /// What goes out at the end, what the device answers to that, and how it ends.
     released: &'static [u8],
     released_so: &'static [u8],
+    end: End,
     /// The first bytes of the file that was made; FFh are those after them.
     saved: Option<&'static [u8]>,
     plan: &'static [u8],
@@ -168,6 +169,7 @@ const GOOD: Row = Row {
     answers: &[DONE, b"\x06\x00", b"\x06\x00", BUT_ONE, ACK, MANY],
     released: b"\x15\x00",
     released_so: ACK,
+    end: End::Silent,
     saved: Some(b""),
     plan: PLAN,
     far: FAR,
@@ -334,7 +336,7 @@ const UNLIKE: Row = Row {
     ..KEPT
 };
 
-static UNLIKES: [Row; 12] = [
+static UNLIKES: [Row; 13] = [
     // block protection
     Row {
         put: READ,
@@ -417,7 +419,16 @@ static UNLIKES: [Row; 12] = [
         line: b"unlike silent\n",
         ..UNLIKE
     },
-    // and at the status; a chip that stays busy
+    // the reader fails there
+    Row {
+        put: &[STATUS, ID, LOW],
+        answers: &[b"\x06\x00", IS, ACK, CELL],
+        released_so: b"",
+        end: End::Fails,
+        line: b"unlike read\n",
+        ..UNLIKE
+    },
+    // silence at the status; a chip that stays busy
     Row {
         put: &[STATUS],
         answers: &[],
@@ -466,7 +477,7 @@ static UNLIKES: [Row; 12] = [
 /// Work that stops after a step was sent.
 const HALF: Row = Row { far: b"", ..GOOD };
 
-static HALVES: [Row; 8] = [
+static HALVES: [Row; 9] = [
     // NAK at the write enable; silence at the program
     Row {
         put: &[ENABLE],
@@ -479,6 +490,15 @@ static HALVES: [Row; 8] = [
         answers: &[ACK],
         released_so: b"",
         line: b"failed at 1 silent\n",
+        ..HALF
+    },
+    // the reader fails there
+    Row {
+        put: &[ENABLE, PROGRAM],
+        answers: &[ACK],
+        released_so: b"",
+        end: End::Fails,
+        line: b"failed at 1 read\n",
         ..HALF
     },
     // a poll that never ends
@@ -592,7 +612,7 @@ fn flashes(rt: &impl Abort, alloc: Global, row: &Row) -> Result<(), AllocError> 
         script: "",
         tables: &[],
         answers: answers.as_slice(),
-        end: End::Silent,
+        end: row.end,
         put: &put,
         left: &left,
         saved: row.free.then_some(&saved),
