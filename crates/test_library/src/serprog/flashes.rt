@@ -24,7 +24,8 @@ const ONE: &str = ":0100000001FE\n:00000001FF\n";
 const LONG: &str = ":7E000000\
     000000000000000000000000000000000000000000000000000000000000000000000000000000000000\
     000000000000000000000000000000000000000000000000000000000000000000000000000000000000\
-    00000000000000000000000000000000000000000000000000000000000000000000000000000000000082\n:00000001FF\n";
+    000000000000000000000000000000000000000000000000000000000000000000000000000000000000\
+    82\n:00000001FF\n";
 
 /// The identification is read; what comes.
 const ID: &[u8] = b"\x13\x01\x00\x00\x03\x00\x00\x9f";
@@ -255,7 +256,8 @@ static DONES: [Row; 4] = [
         old: Some((OLD, 8186)),
         put: &[ENABLE, RESTORE, STATUS, READ_SIX, WHOLE],
         answers: &[DONE, ACK, NEW, ACK, NEW, BUT_SIX, ACK, MANY],
-        plan: b"program 00000000 6\nstrategy S2\nsteps 4\nerases 0\nerased 0\nprograms 1\nignored 0\n",
+        plan: b"program 00000000 6\nstrategy S2\nsteps 4\n\
+            erases 0\nerased 0\nprograms 1\nignored 0\n",
         far: b"\rstep 4 of 4, 23 of 23 bytes\n",
         ..GOOD
     },
@@ -307,7 +309,8 @@ static KEPTS: [Row; 4] = [
     // a program of more bytes than the device sends
     Row {
         hex: LONG,
-        plan: b"program 00000000 126\nstrategy S2\nsteps 4\nerases 0\nerased 0\nprograms 1\nignored 0\n",
+        plan: b"program 00000000 126\nstrategy S2\nsteps 4\n\
+            erases 0\nerased 0\nprograms 1\nignored 0\n",
         line: b"failed at 1 carried\n",
         ..KEPT
     },
@@ -584,6 +587,12 @@ fn dump(alloc: Global, front: &[u8], after: usize) -> Result<Vec<u8>, AllocError
     joined(alloc, &[front, BLANK.get(..after).unwrap_or(&BLANK)])
 }
 
+/// The older dump of a row, where there is one.
+fn old_in(alloc: Global, row: &Row) -> Result<Vec<u8>, AllocError> {
+    let (front, after) = row.old.unwrap_or((b"", 0));
+    dump(alloc, front, after)
+}
+
 /// The line of work that ended so: that of its ending, of its refusal, or of what was asked for and came otherwise.
 fn line_of(alloc: Global, ended: Result<Ending, Unflashed>) -> Vec<u8> {
     let mut line = IntoWrite::new(Held::new(alloc, 1000));
@@ -649,8 +658,7 @@ fn works(
     line: (FromLine<'_>, ToLine<'_>),
     row: &Row,
 ) -> Result<(), AllocError> {
-    let (front, after) = row.old.unwrap_or((b"", 0));
-    let old = dump(alloc, front, after)?;
+    let old = old_in(alloc, row)?;
     let mut from = FromRead::new(line.0);
     let mut to = IntoWrite::new(line.1);
     let mut out = IntoWrite::new(Held::new(alloc, 1000));
@@ -676,12 +684,10 @@ fn works(
     );
     let line = line_of(alloc, ended);
     holds(rt, "the line", line.as_slice() == row.line);
-    holds(rt, "the plan", out.inner.bytes.as_slice() == row.plan);
-    holds(
-        rt,
-        "how far it came",
-        progress.inner.bytes.as_slice() == row.far,
-    );
+    let plan = out.into_inner().bytes;
+    holds(rt, "the plan", plan.as_slice() == row.plan);
+    let far = progress.into_inner().bytes;
+    holds(rt, "how far it came", far.as_slice() == row.far);
     Ok(())
 }
 
