@@ -16,9 +16,9 @@ use test_samples::sfdp::SMALL;
 use test_samples::texts::ONE_BYTE;
 
 /// What goes out in a handshake; what a device answers to it that sends at most 129 bytes at once and gives at most 4096.
-const GREETED: &[u8] = b"\x10\x01\x02\x12\x08\x08\x11\x15\x01";
+pub(crate) const GREETED: &[u8] = b"\x10\x01\x02\x12\x08\x08\x11\x15\x01";
 
-const GREETING: &[u8] = b"\x15\x06\x06\x01\x00\x06\x06\x01\x2e\
+pub(crate) const GREETING: &[u8] = b"\x15\x06\x06\x01\x00\x06\x06\x01\x2e\
     \x00\x00\x00\x00\x00\x00\x00\x00\x00\x00\x00\x00\x00\x00\x00\
     \x00\x00\x00\x00\x00\x00\x00\x00\x00\x00\x00\x00\x00\x00\x06\
     \x06\x81\x00\x00\x06\x00\x10\x00\x06";
@@ -41,7 +41,7 @@ const PINLESS: &[u8] = b"\x15\x06\x06\x01\x00\x06\x06\x01\x0e\
 const TO_PINLESS: &[u8] = b"\x10\x01\x02\x12\x08\x08\x11";
 
 /// A status read.
-const STATUS: &[u8] = b"\x13\x01\x00\x00\x01\x00\x00\x05";
+pub(crate) const STATUS: &[u8] = b"\x13\x01\x00\x00\x01\x00\x00\x05";
 
 /// Three of them, each of its register.
 const REGISTERS: &[u8] = b"\x13\x01\x00\x00\x01\x00\x00\x05\
@@ -64,17 +64,17 @@ const BEFORE_IT: &[u8] = b"\x13\x04\x00\x00\x00\x01\x00\x03\x00\x0f\x00";
 const BOTH: &[u8] = b"\x13\x04\x00\x00\x00\x02\x00\x03\x00\x0f\x00";
 
 /// A write enable, the program of 00h at 0, and a status read.
-const STEPS: &[u8] = b"\x13\x01\x00\x00\x00\x00\x00\x06\
+pub(crate) const STEPS: &[u8] = b"\x13\x01\x00\x00\x00\x00\x00\x06\
     \x13\x05\x00\x00\x00\x00\x00\x02\x00\x00\x00\x00\
     \x13\x01\x00\x00\x01\x00\x00\x05";
 
 /// What the chip gives that has done them.
-const DONE: &[u8] = b"\x06\x06\x06\x00";
+pub(crate) const DONE: &[u8] = b"\x06\x06\x06\x00";
 
 /// ACK, and a cell of FFh; another with this as its first byte.
-const CELL: &[u8] = &[0xFF; 256];
+pub(crate) const CELL: &[u8] = &[0xFF; 256];
 
-const REST: &[u8] = &[0xFF; 255];
+pub(crate) const REST: &[u8] = &[0xFF; 255];
 
 /// A program of 00h at 0, and a read of the two bytes there; what goes out for that.
 const VERIFY: &str =
@@ -103,7 +103,7 @@ const TWO_STEPS: &[u8] = b"\x13\x01\x00\x00\x00\x00\x00\x06\
 const TWO_DONE: &[u8] = b"\x06\x06\x06\x00\x06\x06\x06\x00";
 
 /// 4095 bytes of FFh, 3840, and 254.
-const MANY: &[u8] = &[0xFF; 4096];
+pub(crate) const MANY: &[u8] = &[0xFF; 4096];
 
 const AFTER_TWO: &[u8] = &[0xFF; 3840];
 
@@ -657,6 +657,7 @@ fn tells<'a>(
         end: row.end,
         put,
         left,
+        saved: None,
     };
     let mut out = IntoWrite::new(Held::new(alloc, row.room));
     let mut err = IntoWrite::new(Held::new(alloc, 1000));

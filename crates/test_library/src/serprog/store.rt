@@ -14,7 +14,7 @@ use std::io;
 const MOST_BYTES: u64 = 1 << 36;
 
 /// The files `content`, `script` and `tables`, and a device that gives these answers. What it took, and how many bytes of its
-/// answers are left.
+/// answers are left. Where there is a place for it, what a file that is made anew had taken when it was flushed; else none is made.
 #[derive(Drop)]
 pub(crate) struct Store<'a> {
     pub(crate) alloc: Global,
@@ -25,6 +25,7 @@ pub(crate) struct Store<'a> {
     pub(crate) end: End,
     pub(crate) put: &'a Cell<Vec<u8>>,
     pub(crate) left: &'a Cell<usize>,
+    pub(crate) saved: Option<&'a Cell<Vec<u8>>>,
 }
 
 /// What comes from the device.
@@ -151,15 +152,27 @@ impl<'a> FileStore for Store<'a> {
 
     fn create_new(
         &self,
-        _alloc: Global,
+        alloc: Global,
         _path: &str,
         name: FileName,
     ) -> Result<IntoWrite<Vec<u8>>, Refusal> {
-        Err(Refusal::File(name))
+        match self.saved {
+            Some(_) => Ok(IntoWrite::new(Vec::new(alloc))),
+            None => Err(Refusal::File(name)),
+        }
     }
 
-    fn flush(&self, _file: &mut IntoWrite<Vec<u8>>) -> Result<(), Failed> {
-        Err(Failed)
+    fn flush(&self, file: &mut IntoWrite<Vec<u8>>) -> Result<(), Failed> {
+        let Some(saved) = self.saved else {
+            return Err(Failed);
+        };
+        match file.inner.clone() {
+            Ok(taken) => {
+                let _ = saved.replace(taken);
+                Ok(())
+            }
+            Err(_) => Err(Failed),
+        }
     }
 
     fn open_device(&self, _path: &str) -> Result<(FromLine<'a>, ToLine<'a>), Refusal> {
