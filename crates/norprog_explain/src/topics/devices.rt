@@ -93,9 +93,10 @@ pub(crate) const TOPICS: &[Topic] = &[
     ),
     (
         "unreadable",
-        "The chip is larger than three address bytes reach, isn't in four-byte address\n\
-         mode, and its tables offer no read with four. No file was made. Switch it into\n\
-         that mode, and say --mode4.",
+        "The chip can't be read whole: it is larger than three address bytes reach, and\n\
+         its tables offer no read with four and no way into four-byte address mode. Or\n\
+         --mode4 says that it is in that mode, and no read shows whether it is: switch\n\
+         it off and on, and leave --mode4 out. Nothing was sent that changes it.",
     ),
     (
         "unlike differs",
@@ -119,23 +120,25 @@ pub(crate) const TOPICS: &[Topic] = &[
     (
         "failed",
         "The number after `at` is the step, from 0, that the device didn't do.\n\
-         `carried`: the step needs four lanes, or more bytes than the device takes. play\n\
-         sent no step: build without --quad, and with bit 9 of --status as 0. Else the\n\
+         `carried`: the step needs four lanes, or more bytes than the device takes. No\n\
+         step was sent: build without --quad, and with bit 9 of --status as 0. Else the\n\
          steps before it are done, and it may be done in part: `nak` the device refused\n\
          it, `silent` no answer came, `read` or `write` failed, `differs` another byte\n\
-         came than `want`. Where the number is that of all steps, play sent them all and\n\
-         then read the chip back: at the address it doesn't hold what it must. If no\n\
+         came than `want`. Where the number is that of all steps, all were sent, and\n\
+         then the chip was read back: at the address it doesn't hold what it must. If no\n\
          step touches that address, the chip is smaller than --uniform says, or an erase\n\
          of it takes more than it should. Ask for `the chip`.",
     ),
     (
         "the chip",
-        "play sent steps to the chip, and doesn't know that all of them are done. So the\n\
+        "Steps were sent to the chip, and not all of them are known to be done. So the\n\
          chip may hold neither what it held nor what it must hold, and may be in another\n\
-         address mode: power it off and on. What it must hold is what norprog run --out\n\
-         want.bin leaves, from the old dump and script. Make want.bin HEX with objcopy,\n\
-         read the chip again, and build that HEX, whole and without regions, from the\n\
-         new dump. The old HEX would leave FF what was erased around it.",
+         address mode: power it off and on. After flash give the same command again,\n\
+         with the dump of the first try as --resume, and a new file as --before. After\n\
+         play what it must hold is what norprog run --out want.bin leaves, from the old\n\
+         dump and script. Make want.bin HEX with objcopy, read the chip again, and build\n\
+         that HEX, whole and without regions, from the new dump. The old HEX would leave\n\
+         FF what was erased around it.",
     ),
 ];
 
