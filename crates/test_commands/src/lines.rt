@@ -35,7 +35,12 @@ static DIFFERS: [(u64, u32, &str); 3] = [
 /// Chips that show a no at 3, and what is printed behind the line of the verdict.
 static SHOWN: [(u32, bool, Option<u32>, &str); 4] = [
     (1, false, None, "shown by norprog run --each-busy 1\n"),
-    (999_999, true, None, "shown by norprog run --each-busy 999999 --keep\n"),
+    (
+        999_999,
+        true,
+        None,
+        "shown by norprog run --each-busy 999999 --keep\n",
+    ),
     (
         1_000_000,
         false,
@@ -126,7 +131,11 @@ fn each_chip_has_its_line(rt: HostRuntime) -> Result<(), Fail> {
         holds(&rt, want, lines.inner.as_slice() == text.as_bytes());
         let mut line = IntoWrite::new(Vec::new(rt.alloc()));
         norprog_check::write_finding(&found, false, &mut line)?;
-        holds(&rt, want, line.inner.as_slice() == b"no at 3 differs 00000010\n".as_slice());
+        holds(
+            &rt,
+            want,
+            line.inner.as_slice() == b"no at 3 differs 00000010\n".as_slice(),
+        );
     }
     Ok(())
 }
