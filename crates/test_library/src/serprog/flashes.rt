@@ -114,17 +114,6 @@ const FAR: &[u8] = b"\rstep 4 of 4, 13 of 13 bytes\n";
 const PLAN: &[u8] =
     b"program 00000000 1\nstrategy S2\nsteps 4\nerases 0\nerased 0\nprograms 1\nignored 0\n";
 
-/// What is asked of a chip of 8 KiB without tables.
-const ASK: Ask<'static> = Ask {
-    known: Known::Uniform(8192),
-    bits: "",
-    part: Part::Generic,
-    mode4: false,
-    turns: 3,
-    content: true,
-    erased_only: false,
-};
-
 /// Work on a chip of 8 KiB behind a device that gives at most 4096 bytes at once, and how it ends.
 #[derive(Clone, Copy)]
 struct Row {
@@ -609,23 +598,36 @@ fn line_of(alloc: Global, ended: Result<Ending, Unflashed>) -> Vec<u8> {
     line.into_inner().bytes
 }
 
+/// The files of a row, and its device; where no file of the name is there, what is saved has this place.
+fn store_of<'a>(
+    alloc: Global,
+    row: &Row,
+    answers: &'a [u8],
+    put: &'a Cell<Vec<u8>>,
+    left: &'a Cell<usize>,
+    saved: &'a Cell<Vec<u8>>,
+) -> Store<'a> {
+    let place = if row.free { Some(saved) } else { None };
+    Store {
+        alloc,
+        content: &[],
+        script: "",
+        tables: &[],
+        answers,
+        end: row.end,
+        put,
+        left,
+        saved: place,
+    }
+}
+
 /// Does the work of a row on its device.
 fn flashes(rt: &impl Abort, alloc: Global, row: &Row) -> Result<(), AllocError> {
     let answers = answers(alloc, row)?;
     let put = Cell::new(Vec::new(alloc));
     let left = Cell::new(answers.len());
     let saved = Cell::new(Vec::new(alloc));
-    let store = Store {
-        alloc,
-        content: &[],
-        script: "",
-        tables: &[],
-        answers: answers.as_slice(),
-        end: row.end,
-        put: &put,
-        left: &left,
-        saved: row.free.then_some(&saved),
-    };
+    let store = store_of(alloc, row, answers.as_slice(), &put, &left, &saved);
     match store.open_device("device") {
         Ok(line) => works(rt, alloc, &store, line, row)?,
         Err(_) => holds(rt, "a device", false),
@@ -650,6 +652,29 @@ fn has_saved(rt: &impl Abort, alloc: Global, found: Vec<u8>, row: &Row) -> Resul
     Ok(())
 }
 
+/// The job of a row, on a chip of 8 KiB without tables.
+fn job_of<'a>(row: &Row, old: &'a [u8]) -> Job<'a> {
+    let older = if row.old.is_some() { Some(old) } else { None };
+    Job {
+        ask: Ask {
+            known: Known::Uniform(8192),
+            bits: "",
+            part: Part::Generic,
+            mode4: false,
+            turns: 3,
+            content: true,
+            erased_only: false,
+        },
+        hex: row.hex.as_bytes(),
+        layout: None,
+        regions: &[],
+        base: 0,
+        old: older,
+        before: "before",
+        dry: row.dry,
+    }
+}
+
 /// Does the work of a row over this line, and compares what is printed.
 fn works(
     rt: &impl Abort,
@@ -663,16 +688,7 @@ fn works(
     let mut to = IntoWrite::new(line.1);
     let mut out = IntoWrite::new(Held::new(alloc, 1000));
     let mut progress = IntoWrite::new(Held::new(alloc, 1000));
-    let job = Job {
-        ask: ASK,
-        hex: row.hex.as_bytes(),
-        layout: None,
-        regions: &[],
-        base: 0,
-        old: row.old.is_some().then_some(old.as_slice()),
-        before: "before",
-        dry: row.dry,
-    };
+    let job = job_of(row, old.as_slice());
     let ended = flash_opened(
         alloc,
         store,
