@@ -1,5 +1,7 @@
 //! Whole work on chips behind devices in memory: what goes out, what is saved and printed, and how it ends.
 
+ghost use Rattle.std.specs.Prelude.{◌≡◌, true};
+
 use crate::ports::BLANK;
 use crate::same::{holds, same};
 use crate::serprog::canned::{End, Held};
@@ -653,7 +655,9 @@ fn has_saved(rt: &impl Abort, alloc: Global, found: Vec<u8>, row: &Row) -> Resul
 }
 
 /// The job of a row, on a chip of 8 KiB without tables.
-fn job_of<'a>(row: &Row, old: &'a [u8]) -> Job<'a> {
+fn job_of<'a>(row: &Row, old: &'a [u8]) -> Job<'a>
+    ensures whole { result.ask.content ≡ true }
+{
     let older = if row.old.is_some() { Some(old) } else { None };
     Job {
         ask: Ask {
