@@ -18,12 +18,13 @@ use nor_base::{ByteOut, IntoWrite, Nowhere};
 use norprog_build::build;
 use norprog_check::check;
 use norprog_common::{FileStore, Refusal, SystemFiles, refuse};
+use norprog_details::{Heard, write_details};
 use norprog_draw::draw;
 use norprog_explain::explain;
 use norprog_flash::flash;
 use norprog_hex::hex;
 use norprog_list::list;
-use norprog_options::{Asked, asked_by};
+use norprog_options::{Asked, Line, TypedLine, asked_by};
 use norprog_plan::plan;
 use norprog_play::play;
 use norprog_read::read;
@@ -37,14 +38,14 @@ use std::process::ExitCode;
 const BUFFER: usize = 65536;
 
 fn main(rt: HostRuntime) -> ExitCode {
-    let mut err = IntoWrite::new(rt.stderr());
+    let mut err = Heard::new(IntoWrite::new(rt.stderr()));
     ExitCode::from(main_status(&rt, &mut err))
 }
 
 /// Does what the program's words say, with standard output gathered, and answers the status. Where standard error is a terminal
 /// the progress of a play goes there too.
-fn main_status<E: ByteOut>(rt: &HostRuntime, err: &mut E) -> u8
-    requires { E.count err.old < 2 ^ 64 - 1 }
+fn main_status<E: ByteOut + Drop>(rt: &HostRuntime, err: &mut Heard<E>) -> u8
+    requires { E.count err.old.out < 2 ^ 64 - 1 }
 {
     let words = match words_of(rt) {
         Ok(words) => words,
@@ -96,31 +97,56 @@ fn words_of(rt: &HostRuntime) -> Result<Vec<String>, Refusal> {
 /// Runs the command that the words spell, the program's name not among them. It opens the files that they name, writes
 /// what goes to standard output to `out`, a refusal to `err`, and the progress of a play to `progress`. It answers the status: 0
 /// done, 1 refused or a script that goes wrong or doesn't do its job, 2 usage.
-fn command<S: FileStore, O: ByteOut, E: ByteOut, P: ByteOut>(
+fn command<S: FileStore, O: ByteOut, E: ByteOut + Drop, P: ByteOut>(
     alloc: Global,
     store: &S,
     words: Vec<String>,
     out: &mut O,
-    err: &mut E,
+    err: &mut Heard<E>,
     progress: &mut P,
 ) -> u8
     requires out { O.count out.old < 2 ^ 64 - 2 }
-    requires err { E.count err.old < 2 ^ 64 - 1 }
+    requires err { E.count err.old.out < 2 ^ 64 - 1 }
     requires progress { P.count progress.old < 2 ^ 64 - 1 }
     ensures status { result ≤ 2 }
     ensures quiet { result ≡ 0 → err.new ≡ err.old }
     ensures answer { AnswersSome (S.facts store.now) (O.held out.old) (O.held out.new) (err.new ≡ err.old)
-        (E.count err.new ≡ E.count err.old) (E.held err.old) (E.held err.new) result }
+        (E.count err.new.out ≡ E.count err.old.out) (E.held err.old.out) (E.held err.new.out) result }
 {
-    let asked = asked_by(alloc, words.as_slice());
-    answer_to(alloc, store, asked, out, err, progress)
+    match asked_by(alloc, words.as_slice()) {
+        Ok(line) => {
+            let Line { asked, details } = line;
+            let status = answer_to(alloc, store, asked, out, err, progress);
+            add_details(alloc, store, details, status, err);
+            status
+        }
+        Err(refusal) => refuse(&refusal, err),
+    }
+}
+
+/// Writes more of a refusal, where a command line wants that.
+fn add_details<S: FileStore, E: ByteOut + Drop>(
+    alloc: Global,
+    store: &S,
+    details: Option<TypedLine<'_>>,
+    status: u8,
+    err: &mut Heard<E>,
+)
+{
+    match details {
+        Some(typed) if status != 0 && err.failures() < u64::MAX => {
+            let refusal = err.take_line();
+            write_details(alloc, store, typed.as_line(), refusal.as_slice(), &mut err.out)
+        }
+        _ => {}
+    }
 }
 
 /// Does what is asked for, or tells why it couldn't be read.
 fn answer_to<S: FileStore, O: ByteOut, E: ByteOut, P: ByteOut>(
     alloc: Global,
     store: &S,
-    asked: Result<Asked<'_>, Refusal>,
+    asked: Asked<'_>,
     out: &mut O,
     err: &mut E,
     progress: &mut P,
@@ -134,18 +160,17 @@ fn answer_to<S: FileStore, O: ByteOut, E: ByteOut, P: ByteOut>(
         (E.count err.new ≡ E.count err.old) (E.held err.old) (E.held err.new) result }
 {
     match asked {
-        Ok(Asked::Build(given)) => build(alloc, store, given, out, err),
-        Ok(Asked::Plan(given)) => plan(alloc, store, given, out, err),
-        Ok(Asked::Check(given)) => check(alloc, store, given, out, err),
-        Ok(Asked::Run(given)) => run(alloc, store, given, out, err),
-        Ok(Asked::List(given)) => list(alloc, store, given, out, err),
-        Ok(Asked::Draw(given)) => draw(alloc, store, given, err),
-        Ok(Asked::Play(given)) => play(alloc, store, given, out, err, progress),
-        Ok(Asked::Read(given)) => read(alloc, store, given, out, err),
-        Ok(Asked::Flash(given)) => flash(alloc, store, given, out, err, progress),
-        Ok(Asked::Sfdp(given)) => sfdp(alloc, store, given, out, err),
-        Ok(Asked::Hex(given)) => hex(alloc, store, given, err),
-        Ok(Asked::Explain(words)) => explain(words.as_slice(), out, err),
-        Err(refusal) => refuse(&refusal, err),
+        Asked::Build(given) => build(alloc, store, given, out, err),
+        Asked::Plan(given) => plan(alloc, store, given, out, err),
+        Asked::Check(given) => check(alloc, store, given, out, err),
+        Asked::Run(given) => run(alloc, store, given, out, err),
+        Asked::List(given) => list(alloc, store, given, out, err),
+        Asked::Draw(given) => draw(alloc, store, given, err),
+        Asked::Play(given) => play(alloc, store, given, out, err, progress),
+        Asked::Read(given) => read(alloc, store, given, out, err),
+        Asked::Flash(given) => flash(alloc, store, given, out, err, progress),
+        Asked::Sfdp(given) => sfdp(alloc, store, given, out, err),
+        Asked::Hex(given) => hex(alloc, store, given, err),
+        Asked::Explain(words) => explain(words.as_slice(), out, err),
     }
 }

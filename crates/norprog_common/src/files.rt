@@ -203,6 +203,21 @@ pub(crate) fn open_device<R: Files>(rt: &R, path: &str) -> Result<(R::File, R::F
     Ok((from, to))
 }
 
+/// Why the system doesn't open a file to be read; a folder is none. Nothing but a regular file is opened.
+pub(crate) fn open_error<R: Files>(rt: &R, path: &str) -> Option<io::Error> {
+    let metadata = match fs::metadata(rt, path) {
+        Ok(metadata) => metadata,
+        Err(error) => return Some(error),
+    };
+    if metadata.is_dir() {
+        return Some(io::Error::from(io::ErrorKind::IsADirectory));
+    }
+    if !metadata.is_file() {
+        return None;
+    }
+    fs::open(rt, path).err()
+}
+
 /// Refuses what isn't known to be a character device.
 fn only_device(metadata: io::Result<Metadata>) -> Result<(), Refusal>
     ensures device { IfOk result (λ _. MatchResult metadata (λ m. is_character_device (metadata_mode m) ≡ true) (λ _. ⊥)) }

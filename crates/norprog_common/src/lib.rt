@@ -30,5 +30,5 @@ pub use request::{Request, request_of};
 pub use setup::{Setup, known_chip, setup_inputs, setup_of};
 pub use store::{FileStore, noted_tables, tables_of};
 pub use system_files::SystemFiles;
-pub use values::{base, decimal, limit, part};
+pub use values::{base, decimal, limit, part, status};
 pub use wrongs::wrong_number;

@@ -108,6 +108,14 @@ pub trait FileStore {
             (Self.ToDevice.contents device.1)) }
         ensures refused { IfErr result (RefusesFile Device) }
         ensures lacked { IfErr result (TellsFile (facts self.now).lacked) };
+
+    /// Why the system doesn't open a file to be read, in its words. Nothing but a regular file is opened for that, and none is
+    /// changed. None where it opens it or memory runs out.
+    fn trouble(&self, alloc: Global, path: &str) -> Option<String> {
+        let _ = alloc;
+        let _ = path;
+        None
+    }
 }
 
 /// What the file of a chip's SFDP tables holds; nothing for a uniform chip, which has none.

@@ -1,5 +1,5 @@
 -- What is told of a text that the program prints (this project's).
-use Rattle.std.specs.Prelude.{◌≡◌, ◌⊎◌, ℕ, Bool, nat_eq, if◌then◌else◌, List, [], ◌∷◌, ◌++◌, flat_map, map, bytes_eq, codes, Option, Some, None, option_map}
+use Rattle.std.specs.Prelude.{◌≡◌, ◌⊎◌, ℕ, Bool, nat_eq, if◌then◌else◌, List, [], ◌∷◌, ◌++◌, flat_map, map, bytes_eq, codes, Option, Some, None, option_map, unwrap_or}
 use Rattle.std.specs.Borrow.{Bor}
 use Rattle.std.specs.Io.KnownBytes.{Appends}
 use Rattle.std.specs.List.{find, starts_with}
@@ -40,6 +40,10 @@ listed topic = closed topic.0
 abbrev pub answered : List Topic → List (List ℕ) → Option (List ℕ)
 answered topics [] = Some (flat_map listed topics)
 answered topics (argument ∷ more) = option_map paragraph (find (is_about (in_a_row (argument ∷ more))) topics)
+
+-- the paragraph of the first topic that the words begin with, if there is one
+abbrev pub topic_text : List Topic → List (List ℕ) → List ℕ
+topic_text topics words = unwrap_or (option_map paragraph (find (is_about (in_a_row words)) topics)) []
 
 -- arguments without the name in front of them that the line of a refusal begins with
 abbrev pub nameless : List (List ℕ) → List (List ℕ)

@@ -5,4 +5,4 @@ mod matching;
 mod teller;
 mod topics;
 
-pub use teller::explain;
+pub use teller::{explain, write_topic};

@@ -2,12 +2,12 @@
 
 ghost use Rattle.std.specs.Prelude.{◌≡◌, ◌<◌, ◌≤◌, ◌-◌, ◌^◌, flat_map, IfOk, IfErr};
 ghost use Rattle.nor_base.specs.Device.{Writes, Counts};
-ghost use Rattle.norprog_explain.specs.Explained.{answered, explained, nameless, listed, told, in_order, Tells, CutsText, RefusesText, AnswersExplain};
+ghost use Rattle.norprog_explain.specs.Explained.{answered, explained, nameless, listed, told, in_order, topic_text, Tells, CutsText, RefusesText, AnswersExplain};
 ghost use Rattle.norprog_explain.specs.Topics.{topics};
 
 use crate::matching::topic_of;
 use crate::topics::{Topic, subjects};
-use nor_base::{ByteOut, Bytes, Failed, put_parts};
+use nor_base::{ByteOut, Bytes, Failed, put_all, put_parts};
 use norprog_common::{Refusal, refuse};
 
 /// What the line of a refusal begins with.
@@ -30,6 +30,19 @@ pub fn explain<O: ByteOut, E: ByteOut>(words: &[Bytes], out: &mut O, err: &mut E
     match tell(&subjects(), nameless(words), out) {
         Ok(()) => 0,
         Err(refusal) => refuse(&refusal, err),
+    }
+}
+
+/// Writes to `out` the paragraph of the first topic whose words a text begins with, word by word; nothing where there is none.
+/// The text is the arguments in a row, without the name of the program.
+pub fn write_topic<O: ByteOut>(words: &[Bytes], out: &mut O) -> Result<(), Failed>
+    requires { O.count out.old < 2 ^ 64 - 1 }
+    ensures bytes { Writes (O.held out.old) (O.held out.new) result (topic_text topics words.now) }
+    ensures count { Counts (O.count out.old) (O.count out.new) result }
+{
+    match topic_of(&subjects(), words) {
+        Some((_, paragraph)) => put_parts(out, &[paragraph.as_bytes(), b"\n"]),
+        None => put_all(out, b""),
     }
 }
 

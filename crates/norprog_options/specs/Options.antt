@@ -153,6 +153,3 @@ IsAsked matches (command.Flash given) = IsUsed matches (codes "flash") (λ found
 IsAsked matches (command.Sfdp given) = IsUsed matches (codes "sfdp") (λ found. IsChipIn found given)
 IsAsked matches (command.Hex given) = IsUsed matches (codes "hex") (λ found. IsHexIn found given)
 IsAsked matches (command.Explain words) = IsUsed matches (codes "explain") (λ found. words.items ≡ texts_of found (codes "words"))
-
-abbrev pub IsAskedBySome : Asked → Type 0
-IsAskedBySome asked = (matches : ArgMatches) × IsAsked matches asked

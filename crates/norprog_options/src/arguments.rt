@@ -331,6 +331,16 @@ const WORDS: Choice = Choice {
     help: "What norprog printed, or the beginning of it [default: list all that you can ask]",
 };
 
+const DETAILS: Choice = Choice {
+    name: "details",
+    takes: Takes::Nothing,
+    required: false,
+    help: "After a refusal say more: which value, file or line it is about, and what to do [default: no]",
+};
+
+/// The options of every command but explain, which takes words only.
+const EACH: &[Choice] = &[DETAILS];
+
 const IMAGE: &[Choice] = &[HEX, LAYOUT, BASE, REGIONS];
 
 const CHIP: &[Choice] = &[SFDP, UNIFORM, BITS, PART];
@@ -497,7 +507,13 @@ fn command_of<'a>(alloc: Global, form: &Form) -> Result<Command<'a>, AllocError>
     for group in form.groups {
         command = with_choices(alloc, command, choices_of(*group))?;
     }
-    with_choices(alloc, command, form.choices)
+    command = with_choices(alloc, command, form.choices)?;
+    with_choices(alloc, command, each_has(form))
+}
+
+/// The options that a command has as every other.
+fn each_has(form: &Form) -> &'static [Choice] {
+    if form.name == "explain" { &[] } else { EACH }
 }
 
 /// A command with more options.

@@ -3,5 +3,7 @@
 
 mod arguments;
 mod options;
+mod typed;
 
-pub use options::{Asked, asked_by};
+pub use options::{Asked, Line, asked_by};
+pub use typed::TypedLine;

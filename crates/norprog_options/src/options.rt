@@ -2,9 +2,11 @@
 
 ghost use Rattle.std.specs.Prelude.{◌≡◌, map, IfOk};
 ghost use Rattle.clap.specs.Words.{found_of};
-ghost use Rattle.norprog_options.specs.Options.{texts_of, IsBuildIn, IsCheckIn, IsJobIn, IsChipIn, IsDrawIn, IsFlashIn, IsHexIn, IsListIn, IsPlanIn, IsPlayIn, IsReadIn, IsRunIn, IsSetupIn, IsAsked, IsAskedBySome};
+ghost use Rattle.norprog_options.specs.Options.{texts_of, IsBuildIn, IsCheckIn, IsJobIn, IsChipIn, IsDrawIn, IsFlashIn, IsHexIn, IsListIn, IsPlanIn, IsPlayIn, IsReadIn, IsRunIn, IsSetupIn, IsAsked};
+ghost use Rattle.norprog_options.specs.Typed.{IsDetailed, IsLineBySome};
 
 use crate::arguments::norprog;
+use crate::typed::{TypedLine, line_in};
 use clap::error::ErrorKind;
 use clap::{ArgMatches, Error};
 use nor_base::Bytes;
@@ -32,18 +34,45 @@ pub enum Asked<'a> {
     Explain(Vec<Bytes>),
 }
 
-/// Reads the words behind the program's name, by the command line library. Each value is the text of the option of its name, among
+/// A command line.
+#[derive(Drop)]
+pub struct Line<'a> {
+    /// What it asks for.
+    pub asked: Asked<'a>,
+    /// With `--details` what stands on it.
+    pub details: Option<TypedLine<'a>>,
+}
+
+/// Reads the words after the program's name, by the command line library. Each value is the text of the option of its name, among
 /// the matches that the library gives for the words; which words it refuses is its own.
 ///
 /// A fault of the words, and a request for help, is `Text` of that library; where it names no command, `Usage`; `Memory` where
 /// a growth is refused.
-pub fn asked_by<'a>(alloc: Global, words: &'a [String]) -> Result<Asked<'a>, Refusal>
-    ensures { IfOk result IsAskedBySome }
+pub fn asked_by<'a>(alloc: Global, words: &'a [String]) -> Result<Line<'a>, Refusal>
+    ensures { IfOk result IsLineBySome }
 {
     let command = norprog(alloc)?;
     match command.try_get_matches_from(words) {
-        Ok(matches) => asked_in(alloc, &matches),
+        Ok(matches) => Ok(Line {
+            asked: asked_in(alloc, &matches)?,
+            details: details_in(alloc, &matches)?,
+        }),
         Err(error) => Err(refusal_of(alloc, &error)),
+    }
+}
+
+/// With `--details`, what stands on a command line.
+fn details_in<'a>(
+    alloc: Global,
+    matches: &ArgMatches<'a>,
+) -> Result<Option<TypedLine<'a>>, Refusal>
+    ensures { IfOk result (IsDetailed matches.now) }
+{
+    match matches.subcommand() {
+        Some((command, used)) if used.get_flag("details") => {
+            Ok(Some(line_in(alloc, command, used)?))
+        }
+        _ => Ok(None),
     }
 }
 

@@ -4,12 +4,13 @@ use nor_base::{IntoWrite, Nowhere};
 use norprog_build::build;
 use norprog_check::check;
 use norprog_common::{Refusal, SystemFiles, refuse};
+use norprog_details::{Heard, write_details};
 use norprog_draw::draw;
 use norprog_explain::explain;
 use norprog_flash::flash;
 use norprog_hex::hex;
 use norprog_list::list;
-use norprog_options::Asked;
+use norprog_options::{Asked, Line};
 use norprog_plan::plan;
 use norprog_play::play;
 use norprog_read::read;
@@ -22,34 +23,56 @@ use std::io;
 /// status.
 pub(crate) fn status_of(
     rt: &HostRuntime,
-    asked: Result<Asked<'_>, Refusal>,
+    line: Result<Line<'_>, Refusal>,
     out: &str,
     err: &str,
 ) -> io::Result<u8> {
     let out = fs::create(rt, out)?;
     let err = fs::create(rt, err)?;
-    Ok(status_into(rt, asked, out, err))
+    Ok(status_into(rt, line, out, err))
 }
 
 /// The status, with what is printed in these files.
-fn status_into(rt: &HostRuntime, asked: Result<Asked<'_>, Refusal>, out: File, err: File) -> u8 {
+fn status_into(rt: &HostRuntime, line: Result<Line<'_>, Refusal>, out: File, err: File) -> u8 {
+    let mut out = IntoWrite::new(out);
+    let mut err = Heard::new(IntoWrite::new(err));
+    let line = match line {
+        Ok(line) => line,
+        Err(refusal) => return refuse(&refusal, &mut err),
+    };
+    let Line { asked, details } = line;
+    let status = answer(rt, asked, &mut out, &mut err);
+    if let Some(typed) = details
+        && status != 0
+    {
+        let files = SystemFiles::new(rt);
+        let refusal = err.take_line();
+        write_details(rt.alloc(), &files, typed.as_line(), refusal.as_slice(), &mut err.out);
+    }
+    status
+}
+
+/// The status of what is asked for.
+fn answer(
+    rt: &HostRuntime,
+    asked: Asked<'_>,
+    out: &mut IntoWrite<File>,
+    err: &mut Heard<IntoWrite<File>>,
+) -> u8 {
     let alloc = rt.alloc();
     let files = SystemFiles::new(rt);
-    let mut out = IntoWrite::new(out);
-    let mut err = IntoWrite::new(err);
     match asked {
-        Ok(Asked::Build(given)) => build(alloc, &files, given, &mut out, &mut err),
-        Ok(Asked::Plan(given)) => plan(alloc, &files, given, &mut out, &mut err),
-        Ok(Asked::Check(given)) => check(alloc, &files, given, &mut out, &mut err),
-        Ok(Asked::Run(given)) => run(alloc, &files, given, &mut out, &mut err),
-        Ok(Asked::List(given)) => list(alloc, &files, given, &mut out, &mut err),
-        Ok(Asked::Draw(given)) => draw(alloc, &files, given, &mut err),
-        Ok(Asked::Play(given)) => play(alloc, &files, given, &mut out, &mut err, &mut Nowhere),
-        Ok(Asked::Read(given)) => read(alloc, &files, given, &mut out, &mut err),
-        Ok(Asked::Flash(given)) => flash(alloc, &files, given, &mut out, &mut err, &mut Nowhere),
-        Ok(Asked::Sfdp(given)) => sfdp(alloc, &files, given, &mut out, &mut err),
-        Ok(Asked::Hex(given)) => hex(alloc, &files, given, &mut err),
-        Ok(Asked::Explain(words)) => explain(words.as_slice(), &mut out, &mut err),
-        Err(refusal) => refuse(&refusal, &mut err),
+        Asked::Build(given) => build(alloc, &files, given, out, err),
+        Asked::Plan(given) => plan(alloc, &files, given, out, err),
+        Asked::Check(given) => check(alloc, &files, given, out, err),
+        Asked::Run(given) => run(alloc, &files, given, out, err),
+        Asked::List(given) => list(alloc, &files, given, out, err),
+        Asked::Draw(given) => draw(alloc, &files, given, err),
+        Asked::Play(given) => play(alloc, &files, given, out, err, &mut Nowhere),
+        Asked::Read(given) => read(alloc, &files, given, out, err),
+        Asked::Flash(given) => flash(alloc, &files, given, out, err, &mut Nowhere),
+        Asked::Sfdp(given) => sfdp(alloc, &files, given, out, err),
+        Asked::Hex(given) => hex(alloc, &files, given, err),
+        Asked::Explain(words) => explain(words.as_slice(), out, err),
     }
 }

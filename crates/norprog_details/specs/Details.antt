@@ -1,0 +1,84 @@
+-- What is written after the line of a refusal (this project's; docs/FORMATS.md, section 9).
+use Rattle.std.specs.Prelude.{◌≡◌, ◌⊎◌, ℕ, Bool, true, false, nat_eq, if◌then◌else◌, List, [], ◌∷◌, ◌++◌, length, drop, map, codes, Option, Some, None, Result}
+use Rattle.std.specs.Io.KnownBytes.{Appends}
+use Rattle.std.specs.List.{starts_with}
+use Rattle.std.specs.Str.{bytes_eq}
+use Rattle.nor_base.specs.Device.{Writes}
+use Rattle.nor_base.specs.Script.{closed}
+use Rattle.nor_base.specs.declared.device.Failed.{Failed}
+use Rattle.norprog_common.specs.FileStore.{FileFacts}
+use Rattle.norprog_explain.specs.Explained.{topic_text}
+use Rattle.norprog_explain.specs.Topics.{topics}
+use Rattle.norprog_details.specs.declared.typed.CommandLine.{CommandLine}
+use Rattle.norprog_details.specs.Passage.{passage_line, passage_of}
+use Rattle.norprog_details.specs.Seems.{advice_line}
+use Rattle.norprog_details.specs.Subject.{option_of, region_of}
+use Rattle.norprog_details.specs.Usage.{usage_lines}
+
+-- what the system says, if it says something, after a colon
+abbrev pub after_colon : Option (List ℕ) → List ℕ
+after_colon None = []
+after_colon (Some words) = codes ": " ++ words
+
+-- an option with its value, and what the system says of its file
+abbrev pub option_line : List ℕ × List ℕ → Option (List ℕ) → List ℕ
+option_line option trouble = codes "--" ++ (option.0 ++ (codes " " ++ (option.1 ++ closed (after_colon trouble))))
+
+-- the region that a refusal counts
+abbrev pub named_region : Option (List ℕ) → List ℕ
+named_region None = []
+named_region (Some name) = codes "region " ++ closed name
+
+abbrev pub region_line : List (List ℕ) → List ℕ → List ℕ
+region_line names refusal = named_region (region_of names refusal)
+
+-- the line of its file at which a refusal is, and the command that converts a file of another kind
+abbrev pub passage_lines : Option (ℕ × List ℕ) → List ℕ
+passage_lines None = []
+passage_lines (Some numbered) = passage_line numbered
+
+abbrev pub text_lines : List ℕ × List ℕ → List ℕ → List ℕ → List ℕ
+text_lines option refusal text = passage_lines (passage_of refusal text) ++ advice_line option.0 option.1 text
+
+-- all that is said of an option, by what the system says of its file, what that gave, and the chosen regions
+abbrev pub about_lines : List ℕ × List ℕ → Option (List ℕ) → List ℕ → List (List ℕ) → List ℕ → List ℕ
+about_lines option trouble text names refusal = option_line option trouble ++ (region_line names refusal ++ text_lines option refusal text)
+
+-- the file of that name gave this; or it isn't read, and this is nothing
+abbrev pub IsHeld : FileFacts → List ℕ → List ℕ → Type 0
+IsHeld files name text = (text ≡ []) ⊎ files.gave name text
+
+-- what is said of the option that a refusal is about, by its name and value
+abbrev pub IsSaidOf : FileFacts → CommandLine → List ℕ → Option (List ℕ × List ℕ) → List ℕ → Type 0
+IsSaidOf files line refusal None said = said ≡ []
+IsSaidOf files line refusal (Some option) said =
+    (trouble : Option (List ℕ)) × (text : List ℕ) × IsHeld files option.1 text
+    × (said ≡ about_lines option trouble text (map (λ name. name.now) line.regions.now) refusal)
+
+-- after `usage` what isn't of its form, else what there is to say of the first option that the refusal is about
+abbrev pub AreFactsIf : Bool → FileFacts → CommandLine → List ℕ → List ℕ → Type 0
+AreFactsIf true files line refusal said = said ≡ usage_lines line
+AreFactsIf false files line refusal said =
+    IsSaidOf files line refusal (option_of line.typed.now refusal) said
+
+abbrev pub AreFacts : FileFacts → CommandLine → List ℕ → List ℕ → Type 0
+AreFacts files line refusal said = AreFactsIf (bytes_eq refusal (codes "norprog: usage")) files line refusal said
+
+-- the line without the program's name
+abbrev pub words_after : List ℕ → List ℕ
+words_after refusal =
+    if starts_with nat_eq refusal (codes "norprog: ") then drop (length (codes "norprog: ")) refusal else refusal
+
+-- the paragraph of `explain`; nothing where memory ran out
+abbrev pub IsParagraph : List ℕ → List ℕ → Type 0
+IsParagraph refusal text = (text ≡ []) ⊎ (text ≡ topic_text topics (words_after refusal ∷ []))
+
+-- some such text was written, or a proper prefix of it where the writer failed
+abbrev pub WritesSome : (List ℕ → Type 0) → Option (List ℕ) → Option (List ℕ) → Result (Unit {0}) Failed → Type 0
+WritesSome Is before after result = (text : List ℕ) × Is text × Writes before after result text
+
+-- both were written, if the writer works
+abbrev pub TellsDetails : FileFacts → CommandLine → List ℕ → Type 0 → Option (List ℕ) → Option (List ℕ) → Type 0
+TellsDetails files line refusal Works before after =
+    Works → (said paragraph : List ℕ) × AreFacts files line refusal said × IsParagraph refusal paragraph
+    × Appends before after (said ++ paragraph)

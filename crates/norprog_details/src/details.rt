@@ -1,0 +1,196 @@
+//! What is written after the line of a refusal.
+
+ghost use Rattle.std.specs.Prelude.{◌≡◌, ◌<◌, ◌-◌, ◌^◌, map, option_map, string_bytes};
+ghost use Rattle.nor_base.specs.Device.{Writes, Counts};
+ghost use Rattle.norprog_details.specs.Passage.{passage_of};
+ghost use Rattle.norprog_details.specs.Details.{about_lines, option_line, region_line, passage_lines, text_lines, words_after, IsHeld, IsParagraph, WritesSome, AreFacts, TellsDetails};
+
+use crate::passage::{passage_of, write_passage};
+use crate::seems::write_advice;
+use crate::subject::{option_of, region_of};
+use crate::typed::{CommandLine, Typed};
+use crate::usage::write_usage;
+use nor_base::{ByteOut, Bytes, Failed, put_all, put_parts};
+use norprog_common::{FileName, FileStore};
+use norprog_explain::write_topic;
+use std::alloc::Global;
+
+/// Writes what more there is to say of the line of a refusal, without its LF, of a command line:
+///
+/// - after `usage`, which values aren't of their form and which options don't go together;
+/// - else the option that the refusal is about, with its value, and what the system says of a file that it doesn't open;
+/// - the name of the region that it counts;
+/// - the line of the file at which it is, and the command that converts a file of another kind;
+/// - the paragraph of `explain`.
+///
+/// Where `err` fails the rest is left out. So is the file's line where the file can't be read again.
+pub fn write_details<S: FileStore, E: ByteOut>(
+    alloc: Global,
+    store: &S,
+    line: CommandLine<'_>,
+    refusal: &[u8],
+    err: &mut E,
+)
+    requires { E.count err.old < 2 ^ 64 - 1 }
+    ensures told { TellsDetails (S.facts store.now) line.entry refusal.now (E.count err.new ≡ E.count err.old)
+        (E.held err.old) (E.held err.new) }
+{
+    if write_facts(alloc, store, line, refusal, err).is_ok() {
+        let _ = write_paragraph(alloc, refusal, err);
+    }
+}
+
+/// Writes the paragraph of `explain`; nothing where memory runs out.
+fn write_paragraph<E: ByteOut>(alloc: Global, refusal: &[u8], err: &mut E) -> Result<(), Failed>
+    requires { E.count err.old < 2 ^ 64 - 1 }
+    ensures bytes { WritesSome (IsParagraph refusal.now) (E.held err.old) (E.held err.new) result }
+    ensures count { Counts (E.count err.old) (E.count err.new) result }
+{
+    match Vec::from_slice(alloc, words_after(refusal)) {
+        Ok(words) => write_topic(&[Bytes::new(words)], err),
+        Err(_) => put_all(err, b""),
+    }
+}
+
+/// The line of a refusal without the program's name.
+fn words_after(refusal: &[u8]) -> &[u8]
+    ensures { result.now ≡ words_after refusal.now }
+{
+    match refusal.strip_prefix(b"norprog: ") {
+        Some(words) => words,
+        None => refusal,
+    }
+}
+
+/// Writes all but the paragraph.
+fn write_facts<S: FileStore, E: ByteOut>(
+    alloc: Global,
+    store: &S,
+    line: CommandLine<'_>,
+    refusal: &[u8],
+    err: &mut E,
+) -> Result<(), Failed>
+    requires { E.count err.old < 2 ^ 64 - 1 }
+    ensures bytes { WritesSome (AreFacts (S.facts store.now) line.entry refusal.now) (E.held err.old) (E.held err.new) result }
+    ensures count { Counts (E.count err.old) (E.count err.new) result }
+{
+    if refusal == b"norprog: usage".as_slice() {
+        return write_usage(line, err);
+    }
+    let Some(option) = option_of(line.typed, refusal) else {
+        return put_all(err, b"");
+    };
+    let trouble = trouble_of(alloc, store, option);
+    let text = held_by(alloc, store, option);
+    write_about(option, trouble, text.as_slice(), line.regions, refusal, err)
+}
+
+/// Writes an option that a refusal is about, the region that it counts, and what of the option's file there is to say.
+fn write_about<E: ByteOut>(
+    option: Typed<'_>,
+    trouble: Option<String>,
+    text: &[u8],
+    regions: &[&str],
+    refusal: &[u8],
+    err: &mut E,
+) -> Result<(), Failed>
+    requires { E.count err.old < 2 ^ 64 - 1 }
+    ensures bytes { Writes (E.held err.old) (E.held err.new) result
+        (about_lines (option.entry.name.now, option.entry.value.now) (option_map string_bytes trouble) text.now
+        (map (λ name. name.now) regions.now) refusal.now) }
+    ensures count { Counts (E.count err.old) (E.count err.new) result }
+{
+    write_option(option, trouble, err)?;
+    write_region(regions, refusal, err)?;
+    write_text(option, refusal, text, err)
+}
+
+/// What the system says of the file that an option names, where it doesn't open it.
+fn trouble_of<S: FileStore>(alloc: Global, store: &S, option: Typed<'_>) -> Option<String> {
+    match option.name {
+        "hex" | "layout" | "sfdp" | "content" | "script" | "log" | "bin" | "resume" | "device" => {
+            store.trouble(alloc, option.value)
+        }
+        _ => None,
+    }
+}
+
+/// What the file of an option of a text gives; nothing where it can't be read.
+fn held_by<S: FileStore>(alloc: Global, store: &S, option: Typed<'_>) -> Vec<u8>
+    ensures { IsHeld (S.facts store.now) option.entry.value.now result.items }
+{
+    let name = match option.name {
+        "hex" => FileName::Hex,
+        "layout" => FileName::Layout,
+        "script" => FileName::Script,
+        _ => return Vec::new(alloc),
+    };
+    match store.read(alloc, option.value, name) {
+        Ok((text, _)) => text,
+        Err(_) => Vec::new(alloc),
+    }
+}
+
+/// Writes an option with its value, and what the system says of its file.
+fn write_option<E: ByteOut>(
+    option: Typed<'_>,
+    trouble: Option<String>,
+    err: &mut E,
+) -> Result<(), Failed>
+    requires { E.count err.old < 2 ^ 64 - 1 }
+    ensures bytes { Writes (E.held err.old) (E.held err.new) result (option_line (option.entry.name.now, option.entry.value.now) (option_map string_bytes trouble)) }
+    ensures count { Counts (E.count err.old) (E.count err.new) result }
+{
+    let name = option.name.as_bytes();
+    let value = option.value.as_bytes();
+    match trouble {
+        Some(words) => put_parts(
+            err,
+            &[b"--", name, b" ", value, b": ", words.as_bytes(), b"\n"],
+        ),
+        None => put_parts(err, &[b"--", name, b" ", value, b"\n"]),
+    }
+}
+
+/// Writes the name of the region that the line of a refusal counts.
+fn write_region<E: ByteOut>(
+    regions: &[&str],
+    refusal: &[u8],
+    err: &mut E,
+) -> Result<(), Failed>
+    requires { E.count err.old < 2 ^ 64 - 1 }
+    ensures bytes { Writes (E.held err.old) (E.held err.new) result (region_line (map (λ name. name.now) regions.now) refusal.now) }
+    ensures count { Counts (E.count err.old) (E.count err.new) result }
+{
+    match region_of(regions, refusal) {
+        Some(name) => put_parts(err, &[b"region ", name.as_bytes(), b"\n"]),
+        None => put_all(err, b""),
+    }
+}
+
+/// Writes the line of a text at which a refusal is, and the command that converts a text of another kind.
+fn write_text<E: ByteOut>(
+    option: Typed<'_>,
+    refusal: &[u8],
+    text: &[u8],
+    err: &mut E,
+) -> Result<(), Failed>
+    requires { E.count err.old < 2 ^ 64 - 1 }
+    ensures bytes { Writes (E.held err.old) (E.held err.new) result (text_lines (option.entry.name.now, option.entry.value.now) refusal.now text.now) }
+    ensures count { Counts (E.count err.old) (E.count err.new) result }
+{
+    write_line(refusal, text, err)?;
+    write_advice(option.name, option.value, text, err)
+}
+
+/// Writes the line of a text at which a refusal is, if it is at one.
+fn write_line<E: ByteOut>(refusal: &[u8], text: &[u8], err: &mut E) -> Result<(), Failed>
+    requires { E.count err.old < 2 ^ 64 - 1 }
+    ensures bytes { Writes (E.held err.old) (E.held err.new) result (passage_lines (passage_of refusal.now text.now)) }
+    ensures count { Counts (E.count err.old) (E.count err.new) result }
+{
+    match passage_of(refusal, text) {
+        Some((number, line)) => write_passage(number, line, err),
+        None => put_all(err, b""),
+    }
+}

@@ -1,0 +1,44 @@
+-- The options with values as they stand on a command line (this project's).
+use Rattle.std.specs.Prelude.{◌≡◌, ℕ, List, [], ◌∷◌, flat_map, map, codes, Option, Some, None, is_some, option_map, IfSome}
+use Rattle.clap.specs.Words.{first_value, rows_of, subcommand_name_of, subcommand_rows_of}
+use Rattle.clap.specs.declared.parser.matches.ArgMatches.{ArgMatches}
+use Rattle.clap.specs.declared.parser.matches.Found.{Found}
+use Rattle.norprog_options.specs.declared.typed.TypedLine.{TypedLine}
+use Rattle.norprog_options.specs.declared.typed.TheConstants.{NAMES}
+use Rattle.norprog_options.specs.declared.options.Line.{Line}
+use Rattle.norprog_options.specs.Options.{IsAsked, Sets, texts_of}
+
+-- an option by its name with its value, if it has one
+abbrev pub with_value : List ℕ → Option (List ℕ) → List (List ℕ × List ℕ)
+with_value name (Some value) = (name, value) ∷ []
+with_value name None = []
+
+-- each option that has a value
+abbrev pub typed_in : Found → List (List ℕ × List ℕ)
+typed_in found = flat_map (λ name. with_value name.now (first_value found name.now)) NAMES
+
+-- the names of the chosen regions
+abbrev pub texts_in : Found → List (List ℕ)
+texts_in found = texts_of found (codes "regions")
+
+-- what stands behind the name of a command, except flags
+pub record IsLineIn (command : List ℕ) (found : Found) (line : TypedLine) : Type 0 where
+  pub named : line.command.now ≡ command
+  pub typed : map (λ o. (o.name.now, o.value.now)) line.typed.items ≡ typed_in found
+  pub regions : map (λ name. name.now) line.regions.items ≡ texts_in found
+
+-- it is there where the option --details is used, and then is what stands on the command line
+pub record IsDetailedBy (command : List ℕ) (found : Found) (details : Option TypedLine) : Type 0 where
+  pub asked : Sets found (codes "details") (is_some details)
+  pub line : IfSome details (IsLineIn command found)
+
+-- of the command that was used
+pub record IsDetailed (matches : ArgMatches) (details : Option TypedLine) : Type 0 where
+  pub used : (command : List ℕ) → subcommand_name_of matches ≡ Some command
+      → (found : Found) × (option_map (λ used. used.1) (subcommand_rows_of matches) ≡ Some (rows_of found)) × IsDetailedBy command found details
+
+-- what some matches of the words say
+pub record IsLineBySome (line : Line) : Type 0 where
+  pub matches : ArgMatches
+  pub asked : IsAsked matches line.asked
+  pub details : IsDetailed matches line.details

@@ -1,0 +1,79 @@
+//! The options with values as they stand on a command line.
+
+ghost use Rattle.std.specs.Prelude.{◌≡◌, map, IfOk};
+ghost use Rattle.clap.specs.Words.{found_of};
+ghost use Rattle.norprog_options.specs.Typed.{IsLineIn, texts_in, typed_in};
+
+use clap::ArgMatches;
+use norprog_common::Refusal;
+use norprog_details::{CommandLine, Typed};
+use std::alloc::Global;
+
+/// The options that have values.
+const NAMES: [&str; 25] = [
+    "hex", "layout", "base", "sfdp", "uniform", "bits", "part", "content", "status", "busy",
+    "each-busy", "limit", "page", "script", "log", "out", "map", "tables", "bin", "at", "from",
+    "steps", "device", "before", "resume",
+];
+
+/// What stands on a command line, except flags.
+#[derive(Drop)]
+pub struct TypedLine<'a> {
+    /// The command's name.
+    pub command: &'a str,
+    typed: Vec<Typed<'a>>,
+    regions: Vec<&'a str>,
+}
+
+impl<'a> TypedLine<'a> {
+    /// The same as slices.
+    pub fn as_line(&self) -> CommandLine<'_>
+        ensures command { result.command.now ≡ self.now.command.now }
+        ensures typed { result.typed.now ≡ self.now.typed.items }
+        ensures regions { result.regions.now ≡ self.now.regions.items }
+    {
+        CommandLine {
+            command: self.command,
+            typed: self.typed.as_slice(),
+            regions: self.regions.as_slice(),
+        }
+    }
+}
+
+/// What stands behind the name of a command, except flags.
+pub(crate) fn line_in<'a>(
+    alloc: Global,
+    command: &'a str,
+    used: &ArgMatches<'a>,
+) -> Result<TypedLine<'a>, Refusal>
+    ensures { IfOk result (IsLineIn command.entry.now (found_of used.now)) }
+{
+    Ok(TypedLine {
+        command,
+        typed: typed_in(alloc, used)?,
+        regions: names_in(alloc, used)?,
+    })
+}
+
+/// The options that have values.
+fn typed_in<'a>(alloc: Global, used: &ArgMatches<'a>) -> Result<Vec<Typed<'a>>, Refusal>
+    ensures { IfOk result (λ typed. map (λ o. (o.name.now, o.value.now)) typed.items ≡ typed_in (found_of used.now)) }
+{
+    let mut typed = Vec::new(alloc);
+    for name in &NAMES {
+        if let Some(value) = used.get_str(name) {
+            typed.push(Typed { name: *name, value })?;
+        }
+    }
+    Ok(typed)
+}
+
+/// The names of the chosen regions.
+fn names_in<'a>(alloc: Global, used: &ArgMatches<'a>) -> Result<Vec<&'a str>, Refusal>
+    ensures { IfOk result (λ names. map (λ name. name.now) names.items ≡ texts_in (found_of used.now)) }
+{
+    match used.get_strs("regions") {
+        Some(names) => Ok(Vec::from_slice(alloc, names)?),
+        None => Ok(Vec::new(alloc)),
+    }
+}
