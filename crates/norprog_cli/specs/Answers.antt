@@ -1,15 +1,19 @@
 -- What the program answers (this project's).
-use Rattle.std.specs.Prelude.{◌≡◌, ℕ, List, Option, Result, Ok, Err, IfOk}
+use Rattle.std.specs.Prelude.{◌≡◌, ◌<◌, ◌-◌, ◌^◌, ℕ, zero, suc, List, Option, Some, None, Result, Ok, Err}
 use Rattle.norprog_common.specs.declared.faults.Refusal.{Refusal}
 use Rattle.norprog_common.specs.FileStore.{FileFacts}
 use Rattle.norprog_common.specs.Told.{TellsOf}
 use Rattle.norprog_options.specs.declared.options.Asked.{Asked}
 use Rattle.norprog_options.specs.declared.options.Asked.TheVariants as command
-use Rattle.norprog_options.specs.Options.{IsAskedBySome}
+use Rattle.norprog_options.specs.declared.options.Line.{Line}
+use Rattle.norprog_options.specs.declared.typed.TypedLine.{TypedLine}
+use Rattle.norprog_options.specs.Typed.{IsLineBySome, IsLineOf}
 use Rattle.norprog_build.specs.Answer.{AnswersBuild}
 use Rattle.norprog_plan.specs.Answer.{AnswersPlan}
 use Rattle.norprog_check.specs.Answer.{AnswersCheck}
 use Rattle.norprog_sfdp.specs.Answer.{AnswersChip}
+use Rattle.norprog_details.specs.declared.typed.CommandLine.{CommandLine}
+use Rattle.norprog_details.specs.Details.{TellsDetails}
 use Rattle.norprog_draw.specs.Answer.{AnswersDraw}
 use Rattle.norprog_explain.specs.Explained.{explained, AnswersExplain}
 use Rattle.norprog_explain.specs.Topics.{topics}
@@ -17,39 +21,55 @@ use Rattle.norprog_flash.specs.Answer.{AnswersFlash}
 use Rattle.norprog_hex.specs.Answer.{AnswersHex}
 use Rattle.norprog_list.specs.Answer.{AnswersList}
 use Rattle.norprog_play.specs.Answer.{AnswersPlay}
-use Rattle.norprog_read.specs.Answer.{PrintsReading}
+use Rattle.norprog_read.specs.Answer.{AnswersRead}
 use Rattle.norprog_run.specs.Answer.{AnswersRun}
 
--- to what is asked for, each command its answer, by what is known of files by their names; to words that couldn't be read, why
-abbrev pub AnswersTo : FileFacts → Result Asked Refusal → Option (List ℕ) → Option (List ℕ) → Type 0 → Type 0 → Option (List ℕ) → Option (List ℕ) → ℕ → Type 0
-AnswersTo files (Ok (command.Build given)) before after Quiet Works told_before told_after status =
+-- to what is asked for, each command its answer, by what is known of files by their names
+abbrev pub AnswersTo : FileFacts → Asked → Option (List ℕ) → Option (List ℕ) → Type 0 → Type 0 → Option (List ℕ) → Option (List ℕ) → ℕ → Type 0
+AnswersTo files (command.Build given) before after Quiet Works told_before told_after status =
     AnswersBuild files given before after Quiet Works told_before told_after status
-AnswersTo files (Ok (command.Plan given)) before after Quiet Works told_before told_after status =
+AnswersTo files (command.Plan given) before after Quiet Works told_before told_after status =
     AnswersPlan files given before after Quiet Works told_before told_after status
-AnswersTo files (Ok (command.Check given)) before after Quiet Works told_before told_after status =
+AnswersTo files (command.Check given) before after Quiet Works told_before told_after status =
     AnswersCheck files given before after Quiet Works told_before told_after status
-AnswersTo files (Ok (command.Run given)) before after Quiet Works told_before told_after status =
+AnswersTo files (command.Run given) before after Quiet Works told_before told_after status =
     AnswersRun files given before after Quiet Works told_before told_after status
-AnswersTo files (Ok (command.List given)) before after Quiet Works told_before told_after status =
+AnswersTo files (command.List given) before after Quiet Works told_before told_after status =
     AnswersList files given before after Quiet Works told_before told_after status
-AnswersTo files (Ok (command.Draw given)) before after Quiet Works told_before told_after status =
+AnswersTo files (command.Draw given) before after Quiet Works told_before told_after status =
     (after ≡ before) × AnswersDraw files given Quiet Works told_before told_after status
-AnswersTo files (Ok (command.Play given)) before after Quiet Works told_before told_after status =
+AnswersTo files (command.Play given) before after Quiet Works told_before told_after status =
     AnswersPlay files given before after Quiet Works told_before told_after status
-AnswersTo files (Ok (command.Read given)) before after Quiet Works told_before told_after status =
-    status ≡ 0 → PrintsReading files given before after
-AnswersTo files (Ok (command.Flash given)) before after Quiet Works told_before told_after status =
+AnswersTo files (command.Read given) before after Quiet Works told_before told_after status =
+    AnswersRead files given before after Quiet Works told_before told_after status
+AnswersTo files (command.Flash given) before after Quiet Works told_before told_after status =
     AnswersFlash files given before after Quiet Works told_before told_after status
-AnswersTo files (Ok (command.Sfdp given)) before after Quiet Works told_before told_after status =
+AnswersTo files (command.Sfdp given) before after Quiet Works told_before told_after status =
     AnswersChip files given before after Quiet Works told_before told_after status
-AnswersTo files (Ok (command.Hex given)) before after Quiet Works told_before told_after status =
+AnswersTo files (command.Hex given) before after Quiet Works told_before told_after status =
     (after ≡ before) × AnswersHex files given Quiet Works told_before told_after status
-AnswersTo files (Ok (command.Explain words)) before after Quiet Works told_before told_after status =
+AnswersTo files (command.Explain words) before after Quiet Works told_before told_after status =
     AnswersExplain (explained topics words.items) before after Quiet Works told_before told_after status
-AnswersTo files (Err why) before after Quiet Works told_before told_after status =
-    (after ≡ before) × TellsOf (λ told. told ≡ why) Works told_before told_after status
 
--- to what some matches of the words ask for, each value by the option of its name
-abbrev pub AnswersSome : FileFacts → Option (List ℕ) → Option (List ℕ) → Type 0 → Type 0 → Option (List ℕ) → Option (List ℕ) → ℕ → Type 0
-AnswersSome files before after Quiet Works told_before told_after status =
-    (asked : Result Asked Refusal) × IfOk asked IsAskedBySome × AnswersTo files asked before after Quiet Works told_before told_after status
+-- more of a refusal was written after its line, where the command line wants that and the command isn't done
+abbrev pub AddsDetails : {E : Type 0} → (E → ℕ) → (E → Option (List ℕ)) → FileFacts → Option TypedLine → ℕ → E → E → Type 0
+AddsDetails count held files None status before after = after ≡ before
+AddsDetails count held files (Some typed) zero before after = after ≡ before
+AddsDetails count held files (Some typed) (suc status) before after =
+    (line : CommandLine) × (refusal : List ℕ) × IsLineOf typed line
+    × TellsDetails files line refusal ((count before < 2 ^ 64 - 1) × (count after ≡ count before)) (held before) (held after)
+
+-- a command line has its command's answer, and then more of a refusal
+pub record AnswersLine (E : Type 0) (count : E → ℕ) (held : E → Option (List ℕ)) (files : FileFacts) (before after : Option (List ℕ))
+    (err_before err_after : E) (status : ℕ) (line : Line) : Type 0 where
+  pub answered : E
+  pub answers : AnswersTo files line.asked before after (answered ≡ err_before) (count answered ≡ count err_before) (held err_before)
+      (held answered) status
+  pub details : AddsDetails count held files line.details status answered err_after
+
+-- to what some matches of the words say its answer; to words that couldn't be read, why
+abbrev pub AnswersSome : (E : Type 0) → (E → ℕ) → (E → Option (List ℕ)) → FileFacts → Option (List ℕ) → Option (List ℕ) → E → E → ℕ → Result Line Refusal → Type 0
+AnswersSome E count held files before after err_before err_after status (Ok line) =
+    IsLineBySome line × AnswersLine E count held files before after err_before err_after status line
+AnswersSome E count held files before after err_before err_after status (Err why) =
+    (after ≡ before) × TellsOf (λ told. told ≡ why) (count err_after ≡ count err_before) (held err_before) (held err_after) status

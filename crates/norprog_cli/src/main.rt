@@ -12,7 +12,7 @@ ghost use Rattle.std.specs.Prelude.{◌≡◌, ◌≢◌, ◌<◌, ◌≤◌, �
 ghost use Rattle.nor_job.specs.declared.fault.BuildFault.TheVariants.{Write as write_fault};
 ghost use Rattle.norprog_common.specs.declared.faults.Refusal.TheVariants.{Build as of_build};
 ghost use Rattle.norprog_common.specs.Told.{TellsOf};
-ghost use Rattle.norprog_cli.specs.Answers.{AnswersTo, AnswersSome};
+ghost use Rattle.norprog_cli.specs.Answers.{AnswersTo, AnswersSome, AddsDetails};
 
 use nor_base::{ByteOut, IntoWrite, Nowhere};
 use norprog_build::build;
@@ -110,8 +110,8 @@ fn command<S: FileStore, O: ByteOut, E: ByteOut + Drop, P: ByteOut>(
     requires progress { P.count progress.old < 2 ^ 64 - 1 }
     ensures status { result ≤ 2 }
     ensures quiet { result ≡ 0 → err.new ≡ err.old }
-    ensures answer { AnswersSome (S.facts store.now) (O.held out.old) (O.held out.new) (err.new ≡ err.old)
-        (E.count err.new.out ≡ E.count err.old.out) (E.held err.old.out) (E.held err.new.out) result }
+    ensures answer { (line : Result Line Refusal) × AnswersSome (Heard E) (λ heard. E.count heard.out) (λ heard. E.held heard.out)
+        (S.facts store.now) (O.held out.old) (O.held out.new) err.old err.new result line }
 {
     match asked_by(alloc, words.as_slice()) {
         Ok(line) => {
@@ -132,17 +132,26 @@ fn add_details<S: FileStore, E: ByteOut + Drop>(
     status: u8,
     err: &mut Heard<E>,
 )
+    ensures { AddsDetails (λ heard. E.count heard.out) (λ heard. E.held heard.out) (S.facts store.now) details status err.old err.new }
 {
-    match details {
-        Some(typed) if status != 0 && err.failures() < u64::MAX => {
-            let refusal = err.take_line();
-            write_details(alloc, store, typed.as_line(), refusal.as_slice(), &mut err.out)
-        }
-        _ => {}
+    if status == 0 {
+        return;
+    }
+    if let Some(typed) = details
+        && err.failures() < u64::MAX
+    {
+        let refusal = err.take_line();
+        write_details(
+            alloc,
+            store,
+            typed.as_line(),
+            refusal.as_slice(),
+            &mut err.out,
+        )
     }
 }
 
-/// Does what is asked for, or tells why it couldn't be read.
+/// Does what is asked for.
 fn answer_to<S: FileStore, O: ByteOut, E: ByteOut, P: ByteOut>(
     alloc: Global,
     store: &S,

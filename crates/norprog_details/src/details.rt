@@ -153,11 +153,7 @@ fn write_option<E: ByteOut>(
 }
 
 /// Writes the name of the region that the line of a refusal counts.
-fn write_region<E: ByteOut>(
-    regions: &[&str],
-    refusal: &[u8],
-    err: &mut E,
-) -> Result<(), Failed>
+fn write_region<E: ByteOut>(regions: &[&str], refusal: &[u8], err: &mut E) -> Result<(), Failed>
     requires { E.count err.old < 2 ^ 64 - 1 }
     ensures bytes { Writes (E.held err.old) (E.held err.new) result (region_line (map (λ name. name.now) regions.now) refusal.now) }
     ensures count { Counts (E.count err.old) (E.count err.new) result }

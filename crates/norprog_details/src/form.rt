@@ -24,8 +24,7 @@ pub(crate) enum Form {
     Part,
 }
 
-const NUMBER: &str =
-    "a decimal number up to 4294967295, without 0x or a unit (8 MiB is 8388608)";
+const NUMBER: &str = "a decimal number up to 4294967295, without 0x or a unit (8 MiB is 8388608)";
 
 const LIMIT: &str = "a decimal number from 1 to 18446744073709551615";
 

@@ -28,11 +28,7 @@ pub(crate) fn passage_of<'a>(refusal: &[u8], text: &'a [u8]) -> Option<(u64, &'a
 }
 
 /// Writes a line with its number: its first 80 bytes, with a full stop for each that is no printable ASCII.
-pub(crate) fn write_passage<E: ByteOut>(
-    number: u64,
-    line: &[u8],
-    err: &mut E,
-) -> Result<(), Failed>
+pub(crate) fn write_passage<E: ByteOut>(number: u64, line: &[u8], err: &mut E) -> Result<(), Failed>
     requires { E.count err.old < 2 ^ 64 - 1 }
     ensures bytes { Writes (E.held err.old) (E.held err.new) result (passage_line (number, line.now)) }
     ensures count { Counts (E.count err.old) (E.count err.new) result }

@@ -103,10 +103,7 @@ fn write_for_hex<E: ByteOut>(file: &[u8], kind: Kind, err: &mut E) -> Result<(),
     match kind {
         Kind::Elf => put_parts(err, &[ELF, file, b" ", file, b".hex\n"]),
         Kind::SRecords => put_parts(err, &[S_RECORDS, file, b" ", file, b".hex\n"]),
-        Kind::Raw => put_parts(
-            err,
-            &[RAW, file, b" --at H --out ", file, b".hex\n"],
-        ),
+        Kind::Raw => put_parts(err, &[RAW, file, b" --at H --out ", file, b".hex\n"]),
         Kind::Fmap | Kind::Text => put_all(err, b""),
     }
 }

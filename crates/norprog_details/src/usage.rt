@@ -21,10 +21,7 @@ const NO_CHIP: &[u8] = b"--sfdp or --uniform is missing: the chip\n";
 const ONE_FILE: &[u8] = b"--tables and --out name one file\n";
 
 /// Writes a line for each value that isn't of its form, and one for each rule on options that a command line breaks.
-pub(crate) fn write_usage<E: ByteOut>(
-    line: CommandLine<'_>,
-    err: &mut E,
-) -> Result<(), Failed>
+pub(crate) fn write_usage<E: ByteOut>(line: CommandLine<'_>, err: &mut E) -> Result<(), Failed>
     requires { E.count err.old < 2 ^ 64 - 1 }
     ensures bytes { Writes (E.held err.old) (E.held err.new) result (usage_lines line.entry) }
     ensures count { Counts (E.count err.old) (E.count err.new) result }
@@ -85,12 +82,7 @@ fn write_form<E: ByteOut>(option: Typed<'_>, form: &str, err: &mut E) -> Result<
 }
 
 /// A text, where two options are both given.
-fn pair_line(
-    typed: &[Typed<'_>],
-    first: &str,
-    second: &str,
-    text: &'static [u8],
-) -> &'static [u8]
+fn pair_line(typed: &[Typed<'_>], first: &str, second: &str, text: &'static [u8]) -> &'static [u8]
     ensures { result.now ≡ pair_line typed.now first.now second.now text.now }
 {
     if is_typed(typed, first) && is_typed(typed, second) {
@@ -116,7 +108,10 @@ fn chip_line(line: CommandLine<'_>) -> &'static [u8]
 fn wants_chip(command: &str) -> bool
     ensures { result ≡ wants_chip command.now }
 {
-    !matches!(command, "read" | "flash" | "draw" | "hex" | "script" | "explain")
+    !matches!(
+        command,
+        "read" | "flash" | "draw" | "hex" | "script" | "explain"
+    )
 }
 
 /// That one file is named for both outputs of a reading.

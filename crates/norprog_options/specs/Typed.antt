@@ -3,6 +3,7 @@ use Rattle.std.specs.Prelude.{◌≡◌, ℕ, List, [], ◌∷◌, flat_map, map
 use Rattle.clap.specs.Words.{first_value, rows_of, subcommand_name_of, subcommand_rows_of}
 use Rattle.clap.specs.declared.parser.matches.ArgMatches.{ArgMatches}
 use Rattle.clap.specs.declared.parser.matches.Found.{Found}
+use Rattle.norprog_details.specs.declared.typed.CommandLine.{CommandLine}
 use Rattle.norprog_options.specs.declared.typed.TypedLine.{TypedLine}
 use Rattle.norprog_options.specs.declared.typed.TheConstants.{NAMES}
 use Rattle.norprog_options.specs.declared.options.Line.{Line}
@@ -13,9 +14,13 @@ abbrev pub with_value : List ℕ → Option (List ℕ) → List (List ℕ × Lis
 with_value name (Some value) = (name, value) ∷ []
 with_value name None = []
 
--- each option that has a value
-abbrev pub typed_in : Found → List (List ℕ × List ℕ)
-typed_in found = flat_map (λ name. with_value name.now (first_value found name.now)) NAMES
+-- each option of these names that has a value
+abbrev pub typed_in : List (List ℕ) → Found → List (List ℕ × List ℕ)
+typed_in names found = flat_map (λ name. with_value name (first_value found name)) names
+
+-- the options that have values
+abbrev pub option_names : List (List ℕ)
+option_names = map {B = List ℕ} (λ name. name.now) NAMES.now
 
 -- the names of the chosen regions
 abbrev pub texts_in : Found → List (List ℕ)
@@ -24,8 +29,14 @@ texts_in found = texts_of found (codes "regions")
 -- what stands behind the name of a command, except flags
 pub record IsLineIn (command : List ℕ) (found : Found) (line : TypedLine) : Type 0 where
   pub named : line.command.now ≡ command
-  pub typed : map (λ o. (o.name.now, o.value.now)) line.typed.items ≡ typed_in found
+  pub typed : map (λ o. (o.name.now, o.value.now)) line.typed.items ≡ typed_in option_names found
   pub regions : map (λ name. name.now) line.regions.items ≡ texts_in found
+
+-- the same as slices
+pub record IsLineOf (line : TypedLine) (handed : CommandLine) : Type 0 where
+  pub command : handed.command.now ≡ line.command.now
+  pub typed : handed.typed.now ≡ line.typed.items
+  pub regions : handed.regions.now ≡ line.regions.items
 
 -- it is there where the option --details is used, and then is what stands on the command line
 pub record IsDetailedBy (command : List ℕ) (found : Found) (details : Option TypedLine) : Type 0 where

@@ -3,7 +3,7 @@
 ghost use Rattle.std.specs.Prelude.{◌≡◌, map, IfOk};
 ghost use Rattle.clap.specs.Words.{found_of};
 ghost use Rattle.norprog_options.specs.Options.{texts_of, IsBuildIn, IsCheckIn, IsJobIn, IsChipIn, IsDrawIn, IsFlashIn, IsHexIn, IsListIn, IsPlanIn, IsPlayIn, IsReadIn, IsRunIn, IsSetupIn, IsAsked};
-ghost use Rattle.norprog_options.specs.Typed.{IsDetailed, IsLineBySome};
+ghost use Rattle.norprog_options.specs.Typed.{IsDetailed, IsDetailedBy, IsLineBySome};
 
 use crate::arguments::norprog;
 use crate::typed::{TypedLine, line_in};
@@ -62,18 +62,27 @@ pub fn asked_by<'a>(alloc: Global, words: &'a [String]) -> Result<Line<'a>, Refu
 }
 
 /// With `--details`, what stands on a command line.
-fn details_in<'a>(
-    alloc: Global,
-    matches: &ArgMatches<'a>,
-) -> Result<Option<TypedLine<'a>>, Refusal>
+fn details_in<'a>(alloc: Global, matches: &ArgMatches<'a>) -> Result<Option<TypedLine<'a>>, Refusal>
     ensures { IfOk result (IsDetailed matches.now) }
 {
     match matches.subcommand() {
-        Some((command, used)) if used.get_flag("details") => {
-            Ok(Some(line_in(alloc, command, used)?))
-        }
-        _ => Ok(None),
+        Some((command, used)) => details_of(alloc, command, used),
+        None => Ok(None),
     }
+}
+
+/// With `--details`, what stands after the name of a command.
+fn details_of<'a>(
+    alloc: Global,
+    command: &'a str,
+    used: &ArgMatches<'a>,
+) -> Result<Option<TypedLine<'a>>, Refusal>
+    ensures { IfOk result (IsDetailedBy command.entry.now (found_of used.now)) }
+{
+    if !used.get_flag("details") {
+        return Ok(None);
+    }
+    Ok(Some(line_in(alloc, command, used)?))
 }
 
 /// What the matches of a command line ask for.

@@ -2,7 +2,7 @@
 
 ghost use Rattle.std.specs.Prelude.{◌≡◌, map, IfOk};
 ghost use Rattle.clap.specs.Words.{found_of};
-ghost use Rattle.norprog_options.specs.Typed.{IsLineIn, texts_in, typed_in};
+ghost use Rattle.norprog_options.specs.Typed.{IsLineIn, IsLineOf, option_names, texts_in, typed_in};
 
 use clap::ArgMatches;
 use norprog_common::Refusal;
@@ -10,10 +10,32 @@ use norprog_details::{CommandLine, Typed};
 use std::alloc::Global;
 
 /// The options that have values.
-const NAMES: [&str; 25] = [
-    "hex", "layout", "base", "sfdp", "uniform", "bits", "part", "content", "status", "busy",
-    "each-busy", "limit", "page", "script", "log", "out", "map", "tables", "bin", "at", "from",
-    "steps", "device", "before", "resume",
+const NAMES: &[&str] = &[
+    "hex",
+    "layout",
+    "base",
+    "sfdp",
+    "uniform",
+    "bits",
+    "part",
+    "content",
+    "status",
+    "busy",
+    "each-busy",
+    "limit",
+    "page",
+    "script",
+    "log",
+    "out",
+    "map",
+    "tables",
+    "bin",
+    "at",
+    "from",
+    "steps",
+    "device",
+    "before",
+    "resume",
 ];
 
 /// What stands on a command line, except flags.
@@ -28,9 +50,7 @@ pub struct TypedLine<'a> {
 impl<'a> TypedLine<'a> {
     /// The same as slices.
     pub fn as_line(&self) -> CommandLine<'_>
-        ensures command { result.command.now ≡ self.now.command.now }
-        ensures typed { result.typed.now ≡ self.now.typed.items }
-        ensures regions { result.regions.now ≡ self.now.regions.items }
+        ensures { IsLineOf self.now result }
     {
         CommandLine {
             command: self.command,
@@ -50,17 +70,29 @@ pub(crate) fn line_in<'a>(
 {
     Ok(TypedLine {
         command,
-        typed: typed_in(alloc, used)?,
+        typed: typed_in(alloc, used, option_names())?,
         regions: names_in(alloc, used)?,
     })
 }
 
-/// The options that have values.
-fn typed_in<'a>(alloc: Global, used: &ArgMatches<'a>) -> Result<Vec<Typed<'a>>, Refusal>
-    ensures { IfOk result (λ typed. map (λ o. (o.name.now, o.value.now)) typed.items ≡ typed_in (found_of used.now)) }
+/// The names of the options that have values.
+fn option_names() -> &'static [&'static str]
+    ensures { map (λ name. name.now) result.now ≡ option_names }
+{
+    NAMES
+}
+
+/// The options of these names that have values.
+fn typed_in<'a>(
+    alloc: Global,
+    used: &ArgMatches<'a>,
+    names: &[&'static str],
+) -> Result<Vec<Typed<'a>>, Refusal>
+    ensures { IfOk result (λ typed. map (λ o. (o.name.now, o.value.now)) typed.items
+        ≡ typed_in (map (λ name. name.now) names.now) (found_of used.now)) }
 {
     let mut typed = Vec::new(alloc);
-    for name in &NAMES {
+    for name in names {
         if let Some(value) = used.get_str(name) {
             typed.push(Typed { name: *name, value })?;
         }

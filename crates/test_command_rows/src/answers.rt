@@ -47,7 +47,13 @@ fn status_into(rt: &HostRuntime, line: Result<Line<'_>, Refusal>, out: File, err
     {
         let files = SystemFiles::new(rt);
         let refusal = err.take_line();
-        write_details(rt.alloc(), &files, typed.as_line(), refusal.as_slice(), &mut err.out);
+        write_details(
+            rt.alloc(),
+            &files,
+            typed.as_line(),
+            refusal.as_slice(),
+            &mut err.out,
+        );
     }
     status
 }

@@ -20,9 +20,9 @@ returns-clause-bytes g c =
     let other : false ≡ bytes_eq refusal (codes "norprog: usage") = search rules in
     let is : Some pair ≡ option_of line.typed.now refusal = search rules in
     let are : AreFacts files line refusal said =
-            subst (λ (b : Bool). AreFactsIf b files line refusal said) other (subst (λ (o : Option (List ℕ × List ℕ)). IsSaidOf files line refusal o said) is of) in
+    subst (λ (b : Bool). AreFactsIf b files line refusal said) other (subst (λ (o : Option (List ℕ × List ℕ)). IsSaidOf files line refusal o said) is of) in
     let names = map (λ (name : Bor (List ℕ)). name.now) line.regions.now in
     let writes : Writes (g.E.ByteOut.held c.args.err.now) (g.E.ByteOut.held c.write_about.new.err) c.write_about.result said =
-            subst (λ (held : List ℕ). Writes (g.E.ByteOut.held c.args.err.now) (g.E.ByteOut.held c.write_about.new.err) c.write_about.result (about_lines pair trouble held names refusal))
-            c.as_slice-2.ensures.value c.write_about.ensures.bytes in
+    subst (λ (held : List ℕ). Writes (g.E.ByteOut.held c.args.err.now) (g.E.ByteOut.held c.write_about.new.err) c.write_about.result (about_lines pair trouble held names refusal))
+    c.as_slice-2.ensures.value c.write_about.ensures.bytes in
     (said, are, writes)
