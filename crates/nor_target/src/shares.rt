@@ -112,13 +112,10 @@ fn region_named<'a>(regions: &[Region<'a>], name: &[u8]) -> Option<Region<'a>>
 }
 
 /// The index of the first of these regions to which the image gives no byte.
-pub fn first_empty(
-    image: &Image,
-    base: u32,
-    size: u32,
-    regions: &[Region<'_>],
-) -> Option<usize>
+pub fn first_empty(image: &Image, base: u32, size: u32, regions: &[Region<'_>]) -> Option<usize>
     ensures { result ≡ first_empty (byte_at image.now) base size regions.now }
 {
-    regions.iter().position(|region| share_of(image, base, size, region).is_none())
+    regions
+        .iter()
+        .position(|region| share_of(image, base, size, region).is_none())
 }

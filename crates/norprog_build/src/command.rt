@@ -10,8 +10,8 @@ ghost use Rattle.norprog_common.specs.Strict.{Filled};
 use nor_base::{ByteOut, Failed};
 use norprog::{BuildFault, Report, write_report};
 use norprog_common::{
-    BuildArgs, FileName, FileStore, Refusal, Request, answered, inputs_of, open_job,
-    refuse_empty, request_of,
+    BuildArgs, FileName, FileStore, Refusal, Request, answered, inputs_of, open_job, refuse_empty,
+    request_of,
 };
 use std::alloc::Global;
 

@@ -123,7 +123,7 @@ printed (Build fault) = program_line (fault_text fault)
 printed Page = program_line (codes "page")
 printed (Script fault) = program_line (script_text fault)
 printed BinSize = program_line (codes "bin size")
-printed (Steps number) = program_line (codes "steps " ++ decimal number)
+printed (Steps number) = program_line (codes "script steps " ++ decimal number)
 printed (EmptyRegion index) = program_line (codes "empty region " ++ decimal index)
 
 -- 2 where the command line is at fault or asks for help, else 1

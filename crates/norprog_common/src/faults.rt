@@ -163,7 +163,7 @@ fn write_refusal<E: ByteOut>(refusal: &Refusal, err: &mut E) -> Result<(), Faile
             put_line(err, words, behind)
         }
         Refusal::BinSize => put_line(err, b"bin size", Behind::Nothing),
-        Refusal::Steps(number) => put_line(err, b"steps ", Behind::Number(*number)),
+        Refusal::Steps(number) => put_line(err, b"script steps ", Behind::Number(*number)),
         Refusal::EmptyRegion(index) => put_line(err, b"empty region ", Behind::Number(*index)),
     }
 }

@@ -10,16 +10,16 @@ use Rattle.nor_script.specs.Hexadecimal.{hex_number}
 use Rattle.nor_target.specs.Shares.{chosen_regions, share_in}
 use Rattle.nor_target.specs.declared.shares.Share.{Share}
 
--- what is told of a region to which the image gives so many bytes, the first of them here
-abbrev pub share_line : Region → ℕ → ℕ → List ℕ
-share_line region count first =
+-- what is told of a region to which the image gives so many bytes, the first, after these words, here
+abbrev pub share_line : Region → ℕ → List ℕ → ℕ → List ℕ
+share_line region count words first =
     codes "region " ++ (region.name ++ (codes " " ++ (hex_number region.start ++ (codes " " ++ (hex_number region.end ++ (codes " "
-    ++ (decimal count ++ (codes " of " ++ (decimal (region.end + 1 - region.start) ++ (codes " bytes from the image, first " ++ (hex_number first ++ codes "\n")))))))))))
+    ++ (decimal count ++ (codes " of " ++ (decimal (region.end + 1 - region.start) ++ (words ++ (hex_number first ++ codes "\n")))))))))))
 
 -- `region NAME AAAAAAAA BBBBBBBB n of m bytes from the image, first AAAAAAAA`, or `region NAME empty`
 abbrev pub region_line : Region → Option Share → List ℕ
 region_line region None = codes "region " ++ (region.name ++ codes " empty\n")
-region_line region (Some share) = share_line region share.count share.first
+region_line region (Some share) = share_line region share.count (codes " bytes from the image, first ") share.first
 
 -- one for each of these regions, in their order
 abbrev pub region_lines : (ℕ → Option ℕ) → ℕ → ℕ → List Region → List ℕ

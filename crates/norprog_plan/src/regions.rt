@@ -53,7 +53,13 @@ fn lines_of(alloc: Global, inputs: &Inputs<'_>, len: u64) -> Result<Vec<u8>, Ref
     let Ok(regions) = chosen_regions(alloc, inputs, job.meaning.size) else {
         return Err(Refusal::MEMORY);
     };
-    lines_in(alloc, &job.image, job.base, job.meaning.size, regions.as_slice())
+    lines_in(
+        alloc,
+        &job.image,
+        job.base,
+        job.meaning.size,
+        regions.as_slice(),
+    )
 }
 
 /// The lines of these regions. `Memory` where a growth is refused.
@@ -105,18 +111,19 @@ fn write_line<W: ByteOut>(
     let Some(Share { count, first }) = share else {
         return put_parts(out, &[b"region ", region.name, b" empty\n"]);
     };
-    write_share(region, count, first, out)
+    write_share(region, count, b" bytes from the image, first ", first, out)
 }
 
-/// Writes the line of a region to which the image gives a number of bytes, the first at an address.
+/// Writes the line of a region to which the image gives a number of bytes, the first, after these words, at an address.
 fn write_share<W: ByteOut>(
     region: &Region<'_>,
     count: u64,
+    words: &[u8],
     first: u32,
     out: &mut W,
 ) -> Result<(), Failed>
     requires { W.count out.old < 2 ^ 64 - 1 }
-    ensures bytes { Writes (W.held out.old) (W.held out.new) result (share_line region.now count first) }
+    ensures bytes { Writes (W.held out.old) (W.held out.new) result (share_line region.now count words.now first) }
     ensures count { Counts (W.count out.old) (W.count out.new) result }
 {
     let length = (u64::from(region.end) + 1).saturating_sub(u64::from(region.start));
@@ -135,7 +142,7 @@ fn write_share<W: ByteOut>(
             counted.format(count).as_bytes(),
             b" of ",
             whole.format(length).as_bytes(),
-            b" bytes from the image, first ",
+            words,
             &hex_number(first),
             b"\n",
         ],
