@@ -1,3 +1,4 @@
 pub mod FaultLemmas
 pub mod LayoutLemmas
 pub mod TargetLemmas
+pub mod OneLemmas

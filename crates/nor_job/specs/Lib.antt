@@ -7,3 +7,4 @@ pub mod Lifted
 pub mod Written
 pub mod Wanted
 pub mod Filled
+pub mod Shares

@@ -8,6 +8,7 @@ mod content;
 mod fault;
 mod inputs;
 mod job;
+mod shares;
 mod status;
 
 pub use chip::chip_of;
@@ -15,3 +16,4 @@ pub use content::fill_window;
 pub use fault::BuildFault;
 pub use inputs::{Inputs, Source, contradiction};
 pub use job::{Job, job_of};
+pub use shares::{chosen_regions, empty_region};

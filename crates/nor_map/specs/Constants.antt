@@ -83,7 +83,7 @@ legend = flat_map closed (
     codes "<path class=\"e\" transform=\"translate(0 84) scale(20)\" d=\"M0 .5h2\"/>" ∷
     codes "<text x=\"56\" y=\"99\">erased, some of it chosen</text>" ∷
     codes "<path class=\"r\" transform=\"translate(0 112) scale(20)\" d=\"M0 .5h2\"/>" ∷
-    codes "<text x=\"56\" y=\"127\">erased, none of it chosen: restored alone</text>" ∷
+    codes "<text x=\"56\" y=\"127\">erased with its block, written back as it was</text>" ∷
     codes "<path class=\"g\" stroke-dasharray=\"10\" d=\"M1 141h38v18h-38z\"/>" ∷
     codes "<text x=\"56\" y=\"155\">a region</text>" ∷
     [])

@@ -18,7 +18,7 @@ pub record Grid : Type 0 where
   pub erased : List Bool
   pub programmed : List Bool
 
--- a cell by what is so of some byte of it: of an erased cell of which no byte is chosen all is restored alone
+-- a cell by what is so of some byte of it: of an erased cell of which no byte is chosen all is written back as it was
 abbrev pub state_of : Bool → Bool → Bool → State
 state_of chosen erased programmed =
     if erased then (if chosen then Erased else Restored)

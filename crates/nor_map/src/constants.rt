@@ -44,7 +44,7 @@ const LEGEND: &[u8] = b"</g>
 <path class=\"e\" transform=\"translate(0 84) scale(20)\" d=\"M0 .5h2\"/>
 <text x=\"56\" y=\"99\">erased, some of it chosen</text>
 <path class=\"r\" transform=\"translate(0 112) scale(20)\" d=\"M0 .5h2\"/>
-<text x=\"56\" y=\"127\">erased, none of it chosen: restored alone</text>
+<text x=\"56\" y=\"127\">erased with its block, written back as it was</text>
 <path class=\"g\" stroke-dasharray=\"10\" d=\"M1 141h38v18h-38z\"/>
 <text x=\"56\" y=\"155\">a region</text>
 ";

@@ -155,7 +155,7 @@ chosen_more base is_chosen size image (suc n) rising all =
 
 -- ---- the loops
 -- place k of a chip from address 0 on is address k
-from_zero : (P : ℕ → Type 0) (k : ℕ) → P (0 + k) → P k
+pub from_zero : (P : ℕ → Type 0) (k : ℕ) → P (0 + k) → P k
 from_zero P k h = let same : 0 + k ≡ k = omega arith in subst P same h
 
 from_first : (first k : ℕ) → first ≤ k → k ≡ 0 + (first + (k - first))

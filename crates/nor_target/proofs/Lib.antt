@@ -1,3 +1,4 @@
 mod CountLemmas
 mod PartLemmas
 mod RunLemmas
+mod ShareLemmas

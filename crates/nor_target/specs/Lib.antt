@@ -1,2 +1,3 @@
 pub mod Ignored
 pub mod Runs
+pub mod Shares

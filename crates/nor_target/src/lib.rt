@@ -14,8 +14,11 @@ ghost use Rattle.nor_layout.specs.Chosen.{has};
 ghost use Rattle.nor_target.specs.Ignored.{HasNoPlace, ignored_below};
 ghost use Rattle.nor_target.specs.Runs.{HasNoChosen, IsNextChosen, HasNoRun, IsNextRun, IsLaid};
 
+mod shares;
+
 pub use nor_hex::Image;
 pub use nor_layout::Chosen;
+pub use shares::{Share, chosen_regions, first_empty, share_of};
 
 /// Fills `want` with the target of the chip's addresses from `at` on, where `have` is what the chip holds there.
 ///

@@ -1,5 +1,5 @@
 -- What was built, and why nothing was, of a job that is asked for.
-use Rattle.std.proofs.Common.{◌≡◌, ℕ, ◌⊎◌, inl, inr, refl, List, Option, Some, Result, Ok, Err, IfOk, IfErr}
+use Rattle.std.proofs.Common.{◌≡◌, ℕ, Bool, true, ◌⊎◌, ◌∙◌, inl, inr, refl, List, Option, Some, Result, Ok, Err, IfOk, IfErr}
 use Rattle.std.specs.Prelude.{⊤}
 use Rattle.nor_base.specs.Device.{Ahead}
 use Rattle.nor_job.specs.declared.fault.BuildFault.{BuildFault}
@@ -10,10 +10,14 @@ use Rattle.norprog.specs.declared.report.Report.{Report}
 use Rattle.norprog_common.specs.declared.faults.FileName.{FileName}
 use Rattle.norprog_common.specs.declared.faults.Refusal.{Refusal}
 use Rattle.norprog_common.specs.declared.faults.Refusal.TheVariants.{Build}
-use Rattle.norprog_common.specs.Told.{OfFault}
+use Rattle.std.specs.Io.KnownBytes.{Appends}
+use Rattle.norprog_common.specs.Lines.{printed, status_after}
+use Rattle.norprog_common.specs.Told.{OfFault, OrUsage, Answers}
 use Rattle.norprog_common.proofs.ToldLemmas.{asked_wider, fault_wider, by_fault, refuses_wider}
 use Rattle.norprog_build.specs.Answer.{IsReportOf, IsBuildReport, IsFaultOf, IsBuildFault, RefusesBuild, done}
 use Rattle.norprog_common.specs.Served.{Job, job_with}
+use Rattle.norprog_common.specs.Strict.{Filled, OrEmpty, RefusesEmpty}
+use Rattle.norprog_common.proofs.StrictLemmas.{filled_wider, empty_wider, by_empty}
 
 pub report_of : {U E : Type 0} (Asked : Job → Type 0) (Sent : Option (List ℕ) → Type 0) (t : Task) (len : ℕ) (before after : Ahead) (held held' : Option (List ℕ))
     (answer : Result Report BuildFault) (flushed : Result U E) (r : Result Report Refusal) → Asked (job_with t before len (Some held))
@@ -26,19 +30,19 @@ report_of Asked Sent t len before after held held' (Ok report) (Ok u) r asked bu
   has = record { after = after; held_before = held; held_after = held'; begun = refl; sent = sent; built = built };
 })
 
-pub refusal_of_build : {U E : Type 0} (Lacked : FileName → Type 0) (A B : Type 0) (Asked : Job → Type 0) (t : Task) (len : ℕ) (before after : Ahead) (held held' : Option (List ℕ))
-    (answer : Result Report BuildFault) (flushed : Result U E) (r : Result Report Refusal) → Asked (job_with t before len (Some held))
+pub refusal_of_build : {U E : Type 0} (strict : Bool) (Lacked : FileName → Type 0) (A B : Type 0) (Asked : Job → Type 0) (t : Task) (len : ℕ) (before after : Ahead) (held held' : Option (List ℕ))
+    (answer : Result Report BuildFault) (flushed : Result U E) (r : Result Report Refusal) → Filled strict Asked (job_with t before len (Some held))
     → IfOk answer (IsBuilt t len before after held held')
     → IfErr answer (λ why. (RefusesInputs t len why × A × B) ⊎ StopsWork t len before after held held' why)
-    → r ≡ done answer flushed → IfErr r (RefusesBuild Lacked Asked)
-refusal_of_build Lacked A B Asked t len before after held held' (Err why) flushed r asked built refused is =
+    → r ≡ done answer flushed → IfErr r (RefusesBuild strict Lacked Asked)
+refusal_of_build strict Lacked A B Asked t len before after held held' (Err why) flushed r asked built refused is =
     let cause : RefusesInputs t len why ⊎ StopsWork t len before after held held' why = elim refused [ inl early ↦ inl early.0 | inr late ↦ inr late ] in
-    rw is (by_fault Lacked (OfFault (IsBuildFault Asked)) _ (Build why) (record {
+    rw is (by_fault Lacked (OrEmpty strict Asked (OfFault (IsBuildFault (Filled strict Asked)))) _ (Build why) (record {
       it = job_with t before len (Some held);
       asked = asked;
       has = record { after = after; held_before = held; held_after = held'; begun = refl; refused = cause };
     }))
-refusal_of_build Lacked A B Asked t len before after held held' (Ok report) (Err e) r asked built refused is = rw is (inr (
+refusal_of_build strict Lacked A B Asked t len before after held held' (Ok report) (Err e) r asked built refused is = rw is (inr (
   report,
   record {
     it = job_with t before len (Some held);
@@ -46,14 +50,24 @@ refusal_of_build Lacked A B Asked t len before after held held' (Ok report) (Err
     has = record { after = after; held_before = held; held_after = held'; begun = refl; sent = tt; built = built };
   },
 ))
-refusal_of_build Lacked A B Asked t len before after held held' (Ok report) (Ok u) r asked built refused is = rw is tt
+refusal_of_build strict Lacked A B Asked t len before after held held' (Ok report) (Ok u) r asked built refused is = rw is tt
 
-pub build_wider : (Lacked : FileName → Type 0) (A B : Job → Type 0) → ((j : Job) → A j → B j) → (why : Refusal) → RefusesBuild Lacked A why
-    → RefusesBuild Lacked B why
-build_wider Lacked A B wider =
-    refuses_wider Lacked Lacked (OfFault (IsBuildFault A)) (OfFault (IsBuildFault B)) ((report : Report) × IsBuildReport A (λ held. ⊤) report) ((report : Report) × IsBuildReport B (λ held. ⊤) report)
-    (λ name lacks. lacks) (fault_wider (IsBuildFault A) (IsBuildFault B) (λ why of. asked_wider Job A B (IsFaultOf why) wider of))
-    (λ late. (late.0, asked_wider Job A B (IsReportOf (λ held. ⊤) late.0) wider late.1))
+-- a job that is refused as strict
+pub empty_refused : (strict : Bool) (Lacked : FileName → Type 0) (Asked : Job → Type 0) (j : Job) (why : Refusal) → Asked j → RefusesEmpty strict j.task j.len why
+    → RefusesBuild strict Lacked Asked why
+empty_refused strict Lacked Asked =
+    by_empty strict Lacked Asked (OfFault (IsBuildFault (Filled strict Asked))) ((report : Report) × IsBuildReport (Filled strict Asked) (λ held. ⊤) report)
+
+pub build_wider : (strict : Bool) (Lacked : FileName → Type 0) (A B : Job → Type 0) → ((j : Job) → A j → B j) → (why : Refusal) → RefusesBuild strict Lacked A why
+    → RefusesBuild strict Lacked B why
+build_wider strict Lacked A B wider =
+    let filled = filled_wider strict A B wider in
+    refuses_wider Lacked Lacked (OrEmpty strict A (OfFault (IsBuildFault (Filled strict A)))) (OrEmpty strict B (OfFault (IsBuildFault (Filled strict B))))
+    ((report : Report) × IsBuildReport (Filled strict A) (λ held. ⊤) report) ((report : Report) × IsBuildReport (Filled strict B) (λ held. ⊤) report)
+    (λ name lacks. lacks)
+    (empty_wider strict A B (OfFault (IsBuildFault (Filled strict A))) (OfFault (IsBuildFault (Filled strict B))) wider
+    (fault_wider (IsBuildFault (Filled strict A)) (IsBuildFault (Filled strict B)) (λ why of. asked_wider Job (Filled strict A) (Filled strict B) (IsFaultOf why) filled of)))
+    (λ late. (late.0, asked_wider Job (Filled strict A) (Filled strict B) (IsReportOf (λ held. ⊤) late.0) filled late.1))
 
 -- a report that wasn't printed is one that was built, whether it has gone out or not
 pub unsent : (Asked : Job → Type 0) (Sent : Option (List ℕ) → Type 0) (report : Report) → IsBuildReport Asked Sent report → IsBuildReport Asked (λ held. ⊤) report
@@ -69,3 +83,11 @@ unsent Asked Sent report of = record {
     built = of.has.built;
   };
 }
+
+-- what is answered, as the work ended
+pub answer_is : (asks : Bool) (Done Cut Quiet Works : Type 0) (Work : Refusal → Type 0) (told_before told_after : Option (List ℕ)) (work : Result ℕ Refusal) (status : ℕ)
+    → IfOk work (λ s. s ≡ 0) → IfOk work (λ _. Done) → IfErr work (λ _. Cut) → IfOk work (λ _. asks ≡ true) → IfErr work (OrUsage asks Work)
+    → IfOk work (λ s. (status ≡ s) × Quiet) → IfErr work (λ why. (status ≡ status_after why) × (Works → Appends told_before told_after (printed why)))
+    → Answers asks ((status ≡ 0) × Done × Quiet) Cut Work Works told_before told_after status
+answer_is asks Done Cut Quiet Works Work told_before told_after (Ok s) status zero is cut formed why done told = inl (formed, (done.0 ∙ zero, is, done.1))
+answer_is asks Done Cut Quiet Works Work told_before told_after (Err why) status zero is cut formed first done told = inr (cut, (why, first, told.0, told.1))

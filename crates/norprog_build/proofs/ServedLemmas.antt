@@ -1,16 +1,33 @@
 -- The job of a request is the one that the texts ask for.
-use Rattle.std.proofs.Common.{◌≡◌, true, is_some, option_map, Option, Some, IfSome, List, ℕ}
+use Rattle.std.proofs.Common.{◌≡◌, ◌∙◌, subst, Bool, true, is_some, option_map, Option, Some, IfSome, List, ℕ}
 use Rattle.norprog_common.specs.FileStore.{FileFacts}
 use Rattle.norprog_common.specs.declared.given.BuildArgs.{BuildArgs}
 use Rattle.norprog_common.specs.declared.request.Request.{Request}
 use Rattle.norprog_build.specs.Served.{asks_build, ServesBuild}
 use Rattle.norprog_common.specs.Request.{is_well_formed, AsksFor}
 use Rattle.norprog_common.specs.Served.{Job, IsJobOf}
+use Rattle.norprog_common.specs.Strict.{Filled}
+use Rattle.norprog_common.specs.declared.faults.Refusal.{Refusal}
+use Rattle.norprog_build.specs.Answer.{RefusesBuild}
+use Rattle.norprog_build.proofs.AnswerLemmas.{build_wider}
 use Rattle.norprog_common.proofs.ServedLemmas.{serves, asks_of, both, is_formed, is_named}
 
 pub build_serves : (files : FileFacts) (given : BuildArgs) (o : Option Request) (request : Request) (path : List ℕ) → o ≡ Some request → IfSome o (AsksFor given.job)
     → option_map (λ t. t.now) given.out ≡ Some path → (j : Job) → IsJobOf files request (Some path) j → ServesBuild files given j
 build_serves files given o request path some asks out = serves files given.job request (Some path) _ out (asks_of given.job o request some asks)
+
+-- where it is strict, that one has no empty region either
+pub build_filled : (files : FileFacts) (given : BuildArgs) (o : Option Request) (request : Request) (path : List ℕ) → o ≡ Some request → IfSome o (AsksFor given.job)
+    → option_map (λ t. t.now) given.out ≡ Some path → (j : Job) → Filled request.strict (IsJobOf files request (Some path)) j → Filled given.job.strict (ServesBuild files given) j
+build_filled files given o request path some asks out j of =
+    (build_serves files given o request path some asks out j of.0, λ strict. of.1 ((asks_of given.job o request some asks).strict ∙ strict))
+
+pub build_refused : (files : FileFacts) (given : BuildArgs) (o : Option Request) (request : Request) (path : List ℕ) → o ≡ Some request → IfSome o (AsksFor given.job)
+    → option_map (λ t. t.now) given.out ≡ Some path → (why : Refusal) → RefusesBuild request.strict files.lacked (IsJobOf files request (Some path)) why
+    → RefusesBuild given.job.strict files.lacked (ServesBuild files given) why
+build_refused files given o request path some asks out why of =
+    build_wider given.job.strict files.lacked (IsJobOf files request (Some path)) (ServesBuild files given) (build_serves files given o request path some asks out) why
+    (subst (λ (strict : Bool). RefusesBuild strict files.lacked (IsJobOf files request (Some path)) why) (asks_of given.job o request some asks).strict of)
 
 pub build_asked : (given : BuildArgs) (o : Option Request) (request : Request) (path : List ℕ) → o ≡ Some request → is_some o ≡ is_well_formed given.job
     → option_map (λ t. t.now) given.out ≡ Some path → asks_build given ≡ true

@@ -1,5 +1,5 @@
 -- What is told of a build (this project's).
-use Rattle.std.specs.Prelude.{◌≡◌, ◌⊎◌, ⊤, ℕ, List, Option, Some, Result, Ok, Err}
+use Rattle.std.specs.Prelude.{◌≡◌, ◌⊎◌, ⊤, ℕ, Bool, List, Option, Some, Result, Ok, Err}
 use Rattle.std.specs.Io.KnownBytes.{Appends}
 use Rattle.nor_base.specs.Device.{Ahead, Cuts}
 use Rattle.nor_job.specs.declared.fault.BuildFault.{BuildFault}
@@ -16,6 +16,7 @@ use Rattle.norprog_common.specs.FileStore.{FileFacts}
 use Rattle.norprog_common.specs.Told.{ForAsked, OfFault, RefusesFor, Answers}
 use Rattle.norprog_build.specs.Served.{asks_build, ServesBuild}
 use Rattle.norprog_common.specs.Served.{Job}
+use Rattle.norprog_common.specs.Strict.{Filled, OrEmpty}
 
 -- the job was done, this is its report, and its output is so of what it had taken
 pub record IsReportOf (Sent : Option (List ℕ) → Type 0) (report : Report) (j : Job) : Type 0 where
@@ -40,9 +41,11 @@ pub record IsFaultOf (why : BuildFault) (j : Job) : Type 0 where
 abbrev pub IsBuildFault : (Job → Type 0) → BuildFault → Type 0
 IsBuildFault Asked why = ForAsked Job Asked (IsFaultOf why)
 
--- why a build that was asked for isn't done; one that was may have failed to go out
-abbrev pub RefusesBuild : (FileName → Type 0) → (Job → Type 0) → Refusal → Type 0
-RefusesBuild Lacked Asked = RefusesFor Lacked (OfFault (IsBuildFault Asked)) ((report : Report) × IsBuildReport Asked (λ held. ⊤) report)
+-- why a build that was asked for isn't done; one that was may have failed to go out. Under `--strict` also the first chosen region
+-- without a byte of the image, and of a build that went further each has one
+abbrev pub RefusesBuild : Bool → (FileName → Type 0) → (Job → Type 0) → Refusal → Type 0
+RefusesBuild strict Lacked Asked =
+    RefusesFor Lacked (OrEmpty strict Asked (OfFault (IsBuildFault (Filled strict Asked)))) ((report : Report) × IsBuildReport (Filled strict Asked) (λ held. ⊤) report)
 
 -- the report of a job that was asked for and built was printed, and nothing else
 pub record PrintsReport (Asked : Job → Type 0) (Sent : Option (List ℕ) → Type 0) (before after : Option (List ℕ)) : Type 0 where
@@ -65,7 +68,7 @@ done (Ok report) (Ok u) = Ok report
 abbrev pub AnswersBuild : FileFacts → BuildArgs → Option (List ℕ) → Option (List ℕ) → Type 0 → Type 0 → Option (List ℕ) → Option (List ℕ) → ℕ → Type 0
 AnswersBuild files given before after Quiet Works told_before told_after status =
     Answers (asks_build given)
-    ((status ≡ 0) × PrintsReport (ServesBuild files given) files.flushed before after × Quiet)
-    (CutsReport (ServesBuild files given) files.flushed before after)
-    (RefusesBuild files.lacked (ServesBuild files given))
+    ((status ≡ 0) × PrintsReport (Filled given.job.strict (ServesBuild files given)) files.flushed before after × Quiet)
+    (CutsReport (Filled given.job.strict (ServesBuild files given)) files.flushed before after)
+    (RefusesBuild given.job.strict files.lacked (ServesBuild files given))
     Works told_before told_after status

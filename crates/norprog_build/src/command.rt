@@ -5,11 +5,13 @@ ghost use Rattle.norprog_common.specs.Told.{OrUsage};
 ghost use Rattle.norprog_build.specs.Served.{asks_build, ServesBuild};
 ghost use Rattle.norprog_build.specs.Answer.{IsBuildReport, RefusesBuild, PrintsReport, CutsReport, AnswersBuild, done};
 ghost use Rattle.norprog_common.specs.Served.{IsJobOf};
+ghost use Rattle.norprog_common.specs.Strict.{Filled};
 
 use nor_base::{ByteOut, Failed};
 use norprog::{BuildFault, Report, write_report};
 use norprog_common::{
-    BuildArgs, FileName, FileStore, Refusal, Request, answered, inputs_of, open_job, request_of,
+    BuildArgs, FileName, FileStore, Refusal, Request, answered, inputs_of, open_job, refuse_empty,
+    request_of,
 };
 use std::alloc::Global;
 
@@ -44,12 +46,12 @@ fn report_build<S: FileStore, O: ByteOut>(
 ) -> Result<u8, Refusal>
     requires { O.count out.old < 2 ^ 64 - 1 }
     ensures status { IfOk result (λ status. status ≡ 0) }
-    ensures printed { IfOk result (λ _. PrintsReport (ServesBuild (S.facts store.now) given.entry) (S.facts store.now).flushed
-        (O.held out.old) (O.held out.new)) }
-    ensures unprinted { IfErr result (λ _. CutsReport (ServesBuild (S.facts store.now) given.entry) (S.facts store.now).flushed
-        (O.held out.old) (O.held out.new)) }
+    ensures printed { IfOk result (λ _. PrintsReport (Filled given.entry.job.strict (ServesBuild (S.facts store.now) given.entry))
+        (S.facts store.now).flushed (O.held out.old) (O.held out.new)) }
+    ensures unprinted { IfErr result (λ _. CutsReport (Filled given.entry.job.strict (ServesBuild (S.facts store.now) given.entry))
+        (S.facts store.now).flushed (O.held out.old) (O.held out.new)) }
     ensures asked { IfOk result (λ _. asks_build given.entry ≡ true) }
-    ensures first { IfErr result (OrUsage (asks_build given.entry) (RefusesBuild (S.facts store.now).lacked
+    ensures first { IfErr result (OrUsage (asks_build given.entry) (RefusesBuild given.entry.job.strict (S.facts store.now).lacked
         (ServesBuild (S.facts store.now) given.entry))) }
 {
     let request = request_of(given.job).ok_or(Refusal::Usage)?;
@@ -68,13 +70,16 @@ fn run_build<S: FileStore>(
     request: &Request<'_>,
     path: &str,
 ) -> Result<Report, Refusal>
-    ensures built { IfOk result (IsBuildReport (IsJobOf (S.facts store.now) request.now (Some path.now)) (S.facts store.now).flushed) }
-    ensures refused { IfErr result (RefusesBuild (S.facts store.now).lacked (IsJobOf (S.facts store.now) request.now (Some path.now))) }
+    ensures built { IfOk result (IsBuildReport (Filled request.now.strict (IsJobOf (S.facts store.now) request.now (Some path.now)))
+        (S.facts store.now).flushed) }
+    ensures refused { IfErr result (RefusesBuild request.now.strict (S.facts store.now).lacked
+        (IsJobOf (S.facts store.now) request.now (Some path.now))) }
 {
     let mut places = Vec::new(alloc);
     let (texts, mut content, len) = open_job(alloc, store, request, &mut places)?;
     let mut script = store.create(alloc, path, FileName::Out, places.as_slice())?;
     let inputs = inputs_of(request, &texts);
+    refuse_empty(alloc, request.strict, &inputs, len)?;
     let answer = norprog::build(alloc, &inputs, &mut content, len, &mut script);
     let flushed = store.flush(&mut script);
     done(answer, flushed)

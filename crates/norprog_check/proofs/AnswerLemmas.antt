@@ -1,5 +1,5 @@
 -- What was judged, and why nothing was, of a job that is asked for.
-use Rattle.std.proofs.Common.{◌≡◌, ℕ, ◌⊎◌, inl, inr, refl, List, Result, Ok, Err, IfOk, IfErr}
+use Rattle.std.proofs.Common.{◌≡◌, ℕ, Bool, ◌⊎◌, inl, inr, refl, List, Result, Ok, Err, IfOk, IfErr}
 use Rattle.nor_base.specs.Device.{Ahead}
 use Rattle.nor_script.specs.declared.fault.ScriptFault.TheVariants as script
 use Rattle.norprog_check.specs.declared.fault.CheckStop.{CheckStop}
@@ -13,10 +13,12 @@ use Rattle.norprog_check.proofs.StopLaws.{some_text}
 use Rattle.norprog_common.specs.declared.faults.FileName.{FileName}
 use Rattle.norprog_common.specs.declared.faults.FileName.TheVariants as file
 use Rattle.norprog_common.specs.declared.faults.Refusal.{Refusal}
-use Rattle.norprog_common.specs.declared.faults.Refusal.TheVariants.{Text, Usage, File, Build, Page, Script, BinSize}
+use Rattle.norprog_common.specs.declared.faults.Refusal.TheVariants.{Text, Usage, File, Build, Page, Script, BinSize, Steps, EmptyRegion}
 use Rattle.norprog_common.proofs.ToldLemmas.{asked_wider, by_fault, refuses_wider}
 use Rattle.norprog_common.specs.Served.{Job, Is}
-use Rattle.norprog_check.specs.Answer.{IsCheckFinding, IsStopOf, IsCheckFault, RefusesCheck, stop_refusal, stream_refusal}
+use Rattle.norprog_common.specs.Strict.{Filled, OrEmpty, RefusesEmpty}
+use Rattle.norprog_common.proofs.StrictLemmas.{filled_wider, empty_wider, by_empty}
+use Rattle.norprog_check.specs.Answer.{IsCheckFinding, IsStopOf, IsCheckFault, RefusesCheck, RefusesAsked, stop_refusal, stream_refusal}
 
 pub stop_of : (Lacked : FileName → Type 0) (Asked : Job → Type 0) (IsText : List ℕ → Type 0) (j : Job) (text : List ℕ) (after : Ahead) (why : CheckStop) → Asked j
     → RefusesTexts j.task j.len text why ⊎ StopsCheck j.task j.len text j.content after why → RefusesCheck Lacked Asked IsText (stop_refusal why)
@@ -84,6 +86,8 @@ check_fault_wider A B wider Usage of = absurd of
 check_fault_wider A B wider (File name) of = absurd of
 check_fault_wider A B wider Page of = absurd of
 check_fault_wider A B wider BinSize of = absurd of
+check_fault_wider A B wider (Steps number) of = absurd of
+check_fault_wider A B wider (EmptyRegion index) of = absurd of
 
 pub verdict_wider : (A B : Job → Type 0) (P Q : List ℕ → Type 0) → ((j : Job) → A j → B j) → ((text : List ℕ) → P text → Q text) → (found : Finding)
     → IsCheckFinding A P found → IsCheckFinding B Q found
@@ -109,3 +113,39 @@ pub refusals_wider : (L M : FileName → Type 0) (A B : Job → Type 0) (P Q : L
     → IfErr r (RefusesCheck L A P) → IfErr r (RefusesCheck M B Q)
 refusals_wider L M A B P Q files wider more (Ok found) of = tt
 refusals_wider L M A B P Q files wider more (Err why) of = check_wider L M A B P Q files wider more why of
+
+-- ---- strict jobs
+-- a fault of the check is told as such
+told_so : (strict : Bool) (A B : Job → Type 0) (why : Refusal) → IsCheckFault B why → OrEmpty strict A (IsCheckFault B) why
+told_so strict A B (Build why) is = is
+told_so strict A B (Script why) is = is
+told_so strict A B (Text words) is = is
+told_so strict A B Usage is = is
+told_so strict A B (File name) is = is
+told_so strict A B Page is = is
+told_so strict A B BinSize is = is
+told_so strict A B (Steps number) is = is
+told_so strict A B (EmptyRegion index) is = absurd is
+
+pub asked_refused : (strict : Bool) (L : FileName → Type 0) (A : Job → Type 0) (P : List ℕ → Type 0) (r : Result Finding Refusal)
+    → IfErr r (RefusesCheck L (Filled strict A) P) → IfErr r (RefusesAsked strict L A P)
+asked_refused strict L A P (Ok found) is = tt
+asked_refused strict L A P (Err why) is =
+    refuses_wider L L (IsCheckFault (Filled strict A)) (OrEmpty strict A (IsCheckFault (Filled strict A)))
+    ((found : Finding) × IsCheckFinding (Filled strict A) P found) ((found : Finding) × IsCheckFinding (Filled strict A) P found)
+    (λ name lacks. lacks) (told_so strict A (Filled strict A)) (λ late. late) why is
+
+pub asked_wider_check : (strict : Bool) (L : FileName → Type 0) (A B : Job → Type 0) (P Q : List ℕ → Type 0) → ((j : Job) → A j → B j) → ((text : List ℕ) → P text → Q text) → (why : Refusal)
+    → RefusesAsked strict L A P why → RefusesAsked strict L B Q why
+asked_wider_check strict L A B P Q wider more =
+    let filled = filled_wider strict A B wider in
+    refuses_wider L L (OrEmpty strict A (IsCheckFault (Filled strict A))) (OrEmpty strict B (IsCheckFault (Filled strict B)))
+    ((found : Finding) × IsCheckFinding (Filled strict A) P found) ((found : Finding) × IsCheckFinding (Filled strict B) Q found)
+    (λ name lacks. lacks)
+    (empty_wider strict A B (IsCheckFault (Filled strict A)) (IsCheckFault (Filled strict B)) wider (check_fault_wider (Filled strict A) (Filled strict B) filled))
+    (λ late. (late.0, verdict_wider (Filled strict A) (Filled strict B) P Q filled more late.0 late.1))
+
+pub empty_refused : (strict : Bool) (L : FileName → Type 0) (A : Job → Type 0) (P : List ℕ → Type 0) (j : Job) (why : Refusal) → A j → RefusesEmpty strict j.task j.len why
+    → RefusesAsked strict L A P why
+empty_refused strict L A P =
+    by_empty strict L A (IsCheckFault (Filled strict A)) ((found : Finding) × IsCheckFinding (Filled strict A) P found)

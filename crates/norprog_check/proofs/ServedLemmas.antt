@@ -1,20 +1,38 @@
 -- The job of a request is the one that the texts ask for, and so is the script.
-use Rattle.std.proofs.Common.{◌≡◌, refl, sym, subst, true, is_some, option_map, Option, Some, None, IfSome, List, ℕ}
+use Rattle.std.proofs.Common.{◌≡◌, ◌∙◌, Bool, refl, sym, subst, true, is_some, option_map, Option, Some, None, IfSome, List, ℕ}
 use Rattle.norprog_common.specs.FileStore.{FileFacts, IsTextIn, Named}
 use Rattle.norprog_common.specs.declared.given.CheckArgs.{CheckArgs}
 use Rattle.norprog_common.specs.declared.request.Request.{Request}
 use Rattle.norprog_check.specs.Served.{asks_check, ServesCheck, ServesScript}
 use Rattle.norprog_common.specs.Request.{is_well_formed, AsksFor}
 use Rattle.norprog_common.specs.Served.{Job, IsJobOf}
+use Rattle.norprog_common.specs.Strict.{Filled}
+use Rattle.norprog_common.specs.Told.{OrScript}
+use Rattle.norprog_common.specs.declared.faults.Refusal.{Refusal}
+use Rattle.norprog_check.specs.Answer.{RefusesAsked}
+use Rattle.norprog_check.proofs.AnswerLemmas.{asked_wider_check}
 use Rattle.norprog_common.proofs.ServedLemmas.{serves, asks_of, both, is_formed, is_named}
 
 pub check_serves : (files : FileFacts) (given : CheckArgs) (o : Option Request) (request : Request) → o ≡ Some request → IfSome o (AsksFor given.job)
     → (j : Job) → IsJobOf files request None j → ServesCheck files given j
 check_serves files given o request some asks = serves files given.job request None None refl (asks_of given.job o request some asks)
 
+pub check_filled : (files : FileFacts) (given : CheckArgs) (o : Option Request) (request : Request) → o ≡ Some request → IfSome o (AsksFor given.job)
+    → (j : Job) → Filled request.strict (IsJobOf files request None) j → Filled given.job.strict (ServesCheck files given) j
+check_filled files given o request some asks j of =
+    (check_serves files given o request some asks j of.0, λ strict. of.1 ((asks_of given.job o request some asks).strict ∙ strict))
+
 pub script_serves : (files : FileFacts) (given : CheckArgs) (path : List ℕ) → option_map (λ t. t.now) given.script ≡ Some path
     → (text : List ℕ) → IsTextIn files path text → ServesScript files given text
 script_serves files given path named text of = subst (Named (λ n. IsTextIn files n text)) (sym named) of
+
+pub check_refused : (files : FileFacts) (given : CheckArgs) (o : Option Request) (request : Request) (path : List ℕ) → o ≡ Some request → IfSome o (AsksFor given.job)
+    → option_map (λ t. t.now) given.script ≡ Some path → (why : Refusal) → RefusesAsked request.strict (OrScript files.lacked) (IsJobOf files request None) (IsTextIn files path) why
+    → RefusesAsked given.job.strict (OrScript files.lacked) (ServesCheck files given) (ServesScript files given) why
+check_refused files given o request path some asks script why of =
+    asked_wider_check given.job.strict (OrScript files.lacked) (IsJobOf files request None) (ServesCheck files given) (IsTextIn files path) (ServesScript files given)
+    (check_serves files given o request some asks) (script_serves files given path script) why
+    (subst (λ (strict : Bool). RefusesAsked strict (OrScript files.lacked) (IsJobOf files request None) (IsTextIn files path) why) (asks_of given.job o request some asks).strict of)
 
 pub check_asked : (given : CheckArgs) (o : Option Request) (request : Request) (path : List ℕ) → o ≡ Some request → is_some o ≡ is_well_formed given.job
     → option_map (λ t. t.now) given.script ≡ Some path → asks_check given ≡ true

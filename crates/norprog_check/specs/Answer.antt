@@ -21,6 +21,7 @@ use Rattle.norprog_common.specs.FileStore.{FileFacts}
 use Rattle.norprog_common.specs.Told.{ForAsked, RefusesFor, OrScript, Answers}
 use Rattle.norprog_check.specs.Served.{asks_check, ServesCheck, ServesScript}
 use Rattle.norprog_common.specs.Served.{Job}
+use Rattle.norprog_common.specs.Strict.{Filled, OrEmpty}
 
 -- 0 where the script does its job, else 1
 abbrev pub verdict_status : Verdict → ℕ
@@ -52,6 +53,12 @@ IsCheckFault Asked other = ⊥
 abbrev pub RefusesCheck : (FileName → Type 0) → (Job → Type 0) → (List ℕ → Type 0) → Refusal → Type 0
 RefusesCheck Lacked Asked IsText = RefusesFor Lacked (IsCheckFault Asked) ((found : Finding) × IsCheckFinding Asked IsText found)
 
+-- the same where a job may be strict: the first chosen region without a byte of the image is told, and of a check that went further
+-- each has one
+abbrev pub RefusesAsked : Bool → (FileName → Type 0) → (Job → Type 0) → (List ℕ → Type 0) → Refusal → Type 0
+RefusesAsked strict Lacked Asked IsText =
+    RefusesFor Lacked (OrEmpty strict Asked (IsCheckFault (Filled strict Asked))) ((found : Finding) × IsCheckFinding (Filled strict Asked) IsText found)
+
 -- a check's stop as a refusal: want of memory is the program's own
 abbrev pub stop_refusal : CheckStop → Refusal
 stop_refusal (stop.Build why) = Build why
@@ -78,7 +85,7 @@ CutsVerdict witness Asked IsText before after =
 abbrev pub AnswersCheck : FileFacts → CheckArgs → Option (List ℕ) → Option (List ℕ) → Type 0 → Type 0 → Option (List ℕ) → Option (List ℕ) → ℕ → Type 0
 AnswersCheck files given before after Quiet Works told_before told_after status =
     Answers (asks_check given)
-    (PrintsJudgement given.witness (ServesCheck files given) (ServesScript files given) before after status × Quiet)
-    (CutsVerdict given.witness (ServesCheck files given) (ServesScript files given) before after)
-    (RefusesCheck (OrScript files.lacked) (ServesCheck files given) (ServesScript files given))
+    (PrintsJudgement given.witness (Filled given.job.strict (ServesCheck files given)) (ServesScript files given) before after status × Quiet)
+    (CutsVerdict given.witness (Filled given.job.strict (ServesCheck files given)) (ServesScript files given) before after)
+    (RefusesAsked given.job.strict (OrScript files.lacked) (ServesCheck files given) (ServesScript files given))
     Works told_before told_after status

@@ -8,7 +8,8 @@ ghost use Rattle.norprog_common.specs.declared.faults.FileName.TheVariants.{Scri
 ghost use Rattle.norprog_common.specs.Told.{OrScript, OrUsage};
 ghost use Rattle.norprog_check.specs.Served.{asks_check, ServesCheck, ServesScript};
 ghost use Rattle.norprog_common.specs.Served.{job_with, Is, IsJobOf};
-ghost use Rattle.norprog_check.specs.Answer.{verdict_status, stop_refusal, stream_refusal, IsCheckFinding, RefusesCheck, CutsVerdict, AnswersCheck};
+ghost use Rattle.norprog_common.specs.Strict.{Filled};
+ghost use Rattle.norprog_check.specs.Answer.{verdict_status, stop_refusal, stream_refusal, IsCheckFinding, RefusesCheck, RefusesAsked, CutsVerdict, AnswersCheck};
 
 use crate::checker::check_script;
 use crate::fault::{CheckStop, StreamStop};
@@ -20,7 +21,7 @@ use nor_check::Verdict;
 use nor_job::Inputs;
 use norprog_common::{
     CheckArgs, FileName, FileStore, Refusal, Request, ScriptFile, inputs_of, open_job, refuse,
-    request_of,
+    refuse_empty, request_of,
 };
 use std::alloc::Global;
 
@@ -66,12 +67,13 @@ fn report_check<S: FileStore, O: ByteOut>(
     out: &mut O,
 ) -> Result<Finding, Refusal>
     requires { O.count out.old < 2 ^ 64 - 1 }
-    ensures checked { IfOk result (IsCheckFinding (ServesCheck (S.facts store.now) given.entry) (ServesScript (S.facts store.now) given.entry)) }
+    ensures checked { IfOk result (IsCheckFinding (Filled given.entry.job.strict (ServesCheck (S.facts store.now) given.entry))
+        (ServesScript (S.facts store.now) given.entry)) }
     ensures printed { IfOk result (λ found. Appends (O.held out.old) (O.held out.new) (finding_text given.entry.witness found)) }
-    ensures unprinted { IfErr result (λ _. CutsVerdict given.entry.witness (ServesCheck (S.facts store.now) given.entry) (ServesScript (S.facts store.now) given.entry)
-        (O.held out.old) (O.held out.new)) }
+    ensures unprinted { IfErr result (λ _. CutsVerdict given.entry.witness (Filled given.entry.job.strict (ServesCheck (S.facts store.now) given.entry))
+        (ServesScript (S.facts store.now) given.entry) (O.held out.old) (O.held out.new)) }
     ensures asked { IfOk result (λ _. asks_check given.entry ≡ true) }
-    ensures first { IfErr result (OrUsage (asks_check given.entry) (RefusesCheck (OrScript (S.facts store.now).lacked)
+    ensures first { IfErr result (OrUsage (asks_check given.entry) (RefusesAsked given.entry.job.strict (OrScript (S.facts store.now).lacked)
         (ServesCheck (S.facts store.now) given.entry) (ServesScript (S.facts store.now) given.entry))) }
 {
     let request = request_of(given.job).ok_or(Refusal::Usage)?;
@@ -90,14 +92,16 @@ fn run_check<S: FileStore>(
     request: &Request<'_>,
     path: &str,
 ) -> Result<Finding, Refusal>
-    ensures checked { IfOk result (IsCheckFinding (IsJobOf (S.facts store.now) request.now None) (IsTextIn (S.facts store.now) path.now)) }
-    ensures refused { IfErr result (RefusesCheck (OrScript (S.facts store.now).lacked)
+    ensures checked { IfOk result (IsCheckFinding (Filled request.now.strict (IsJobOf (S.facts store.now) request.now None))
+        (IsTextIn (S.facts store.now) path.now)) }
+    ensures refused { IfErr result (RefusesAsked request.now.strict (OrScript (S.facts store.now).lacked)
         (IsJobOf (S.facts store.now) request.now None) (IsTextIn (S.facts store.now) path.now)) }
 {
     let mut places = Vec::new(alloc);
     let (texts, mut content, len) = open_job(alloc, store, request, &mut places)?;
     let (script, _place) = store.open_script(alloc, path)?;
     let inputs = inputs_of(request, &texts);
+    refuse_empty(alloc, request.strict, &inputs, len)?;
     check_file(alloc, &inputs, script, &mut content, len)
 }
 

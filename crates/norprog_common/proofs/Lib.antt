@@ -3,3 +3,4 @@ mod LineLemmas
 pub mod ToldLemmas
 pub mod StoreLemmas
 pub mod ServedLemmas
+pub mod StrictLemmas

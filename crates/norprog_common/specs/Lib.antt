@@ -9,3 +9,4 @@ pub mod Told
 pub mod Wrongs
 pub mod Request
 pub mod Served
+pub mod Strict

@@ -19,7 +19,7 @@ use Rattle.norprog_common.specs.declared.faults.Behind.TheVariants.{Nothing, Num
 use Rattle.norprog_common.specs.declared.faults.FileName.{FileName}
 use Rattle.norprog_common.specs.declared.faults.FileName.TheVariants as file
 use Rattle.norprog_common.specs.declared.faults.Refusal.{Refusal}
-use Rattle.norprog_common.specs.declared.faults.Refusal.TheVariants.{Text, Usage, File, Build, Page, Script, BinSize}
+use Rattle.norprog_common.specs.declared.faults.Refusal.TheVariants.{Text, Usage, File, Build, Page, Script, BinSize, Steps, EmptyRegion}
 
 -- words, and what stands behind them: a number in decimal, or an address in eight hexadecimal digits
 abbrev pub spelled : List ℕ → Behind → List ℕ
@@ -123,6 +123,8 @@ printed (Build fault) = program_line (fault_text fault)
 printed Page = program_line (codes "page")
 printed (Script fault) = program_line (script_text fault)
 printed BinSize = program_line (codes "bin size")
+printed (Steps number) = program_line (codes "script steps " ++ decimal number)
+printed (EmptyRegion index) = program_line (codes "empty region " ++ decimal index)
 
 -- 2 where the command line is at fault or asks for help, else 1
 abbrev pub status_after : Refusal → ℕ
@@ -133,6 +135,8 @@ status_after (Build fault) = 1
 status_after Page = 1
 status_after (Script fault) = 1
 status_after BinSize = 1
+status_after (Steps number) = 1
+status_after (EmptyRegion index) = 1
 
 -- a script's fault as a refusal: want of memory is the program's own
 abbrev pub script_refusal : ScriptFault → Refusal

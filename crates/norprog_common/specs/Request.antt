@@ -38,4 +38,5 @@ pub record AsksFor (given : Given) (request : Request) : Type 0 where
   pub content : given.content ≡ Some request.content
   pub verify : request.verify ≡ given.verify
   pub erased_only : request.erased_only ≡ given.erased_only
+  pub strict : request.strict ≡ given.strict
   pub regions : request.regions ≡ given.regions

@@ -61,6 +61,10 @@ pub enum Refusal {
     Script(ScriptFault),
     /// A raw image reaches past the last address.
     BinSize,
+    /// A script has only this many steps, and none of those asked for.
+    Steps(u64),
+    /// The image gives the chosen region of this index, from 0, no byte.
+    EmptyRegion(u64),
 }
 
 impl Refusal {
@@ -133,7 +137,9 @@ fn exit_status(refusal: &Refusal) -> u8
         | Refusal::Build(_)
         | Refusal::Page
         | Refusal::Script(_)
-        | Refusal::BinSize => 1,
+        | Refusal::BinSize
+        | Refusal::Steps(_)
+        | Refusal::EmptyRegion(_) => 1,
     }
 }
 
@@ -157,6 +163,8 @@ fn write_refusal<E: ByteOut>(refusal: &Refusal, err: &mut E) -> Result<(), Faile
             put_line(err, words, behind)
         }
         Refusal::BinSize => put_line(err, b"bin size", Behind::Nothing),
+        Refusal::Steps(number) => put_line(err, b"script steps ", Behind::Number(*number)),
+        Refusal::EmptyRegion(index) => put_line(err, b"empty region ", Behind::Number(*index)),
     }
 }
 

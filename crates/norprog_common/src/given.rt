@@ -18,6 +18,7 @@ pub struct Given<'a> {
     pub content: Option<&'a str>,
     pub verify: bool,
     pub erased_only: bool,
+    pub strict: bool,
     pub regions: Vec<Bytes>,
 }
 
@@ -28,11 +29,12 @@ pub struct BuildArgs<'a> {
     pub out: Option<&'a str>,
 }
 
-/// Of `plan`: the job, whether the times are told, and the name of the map's file.
+/// Of `plan`: the job, whether the times and the regions are told, and the name of the map's file.
 #[derive(Drop)]
 pub struct PlanArgs<'a> {
     pub job: Given<'a>,
     pub times: bool,
+    pub regions: bool,
     pub map: Option<&'a str>,
 }
 

@@ -22,6 +22,8 @@ pub struct Request<'a> {
     pub content: &'a str,
     pub verify: bool,
     pub erased_only: bool,
+    /// Each chosen region has to have a byte of the image.
+    pub strict: bool,
     pub regions: Vec<Bytes>,
 }
 
@@ -42,6 +44,7 @@ pub fn request_of<'a>(given: Given<'a>) -> Option<Request<'a>>
         content: given.content?,
         verify: given.verify,
         erased_only: given.erased_only,
+        strict: given.strict,
         regions: given.regions,
     })
 }

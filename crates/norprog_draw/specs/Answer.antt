@@ -3,40 +3,49 @@ use Rattle.std.specs.Prelude.{◌≡◌, ⊤, ℕ, List, Option, Result, Ok, Err
 use Rattle.nor_job.specs.declared.fault.BuildFault.TheVariants.{Write}
 use Rattle.norprog_common.specs.declared.faults.FileName.{FileName}
 use Rattle.norprog_common.specs.declared.faults.Refusal.{Refusal}
-use Rattle.norprog_common.specs.declared.faults.Refusal.TheVariants.{Build}
+use Rattle.norprog_common.specs.declared.faults.Refusal.TheVariants.{Build, Script, Steps}
 use Rattle.norprog_common.specs.FileStore.{FileFacts}
 use Rattle.norprog_common.specs.Told.{ForAsked, RefusesFor, Answers}
 use Rattle.norprog_common.specs.declared.given.DrawArgs.{DrawArgs}
-use Rattle.norprog_draw.specs.Drawn.{WasDrawn, RefusesDrawing}
+use Rattle.norprog_draw.specs.Drawn.{WasDrawn, WasCut, RefusesSteps}
 use Rattle.norprog_draw.specs.Request.{is_well_formed}
-use Rattle.norprog_draw.specs.Served.{DrawTask, Serves}
+use Rattle.norprog_draw.specs.Served.{DrawTask, Serves, Makes}
 
--- these steps of the text were drawn, and the output is so of what it had taken
-pub record IsDrawingOf (Sent : Option (List ℕ) → Type 0) (t : DrawTask) : Type 0 where
+-- these steps of the text were drawn into the output that was made, and it is so of what that had taken
+pub record IsDrawingOf (Made Sent : Option (List ℕ) → Type 0) (t : DrawTask) : Type 0 where
+  pub begun : Option (List ℕ)
+  pub made : Made begun
   pub after : Option (List ℕ)
   pub sent : Sent after
-  pub drawn : WasDrawn t.text t.from t.count t.begun after
+  pub drawn : WasDrawn t.text t.from t.count begun after
 
 -- what was asked for was drawn
-abbrev pub IsDrawing : (DrawTask → Type 0) → (Option (List ℕ) → Type 0) → Type 0
-IsDrawing Asked Sent = ForAsked DrawTask Asked (IsDrawingOf Sent)
+abbrev pub IsDrawing : (DrawTask → Type 0) → (Option (List ℕ) → Type 0) → (Option (List ℕ) → Type 0) → Type 0
+IsDrawing Asked Made Sent = ForAsked DrawTask Asked (IsDrawingOf Made Sent)
+
+-- the output that was made failed, after a proper prefix of the waveform
+pub record IsCutOf (Made : Option (List ℕ) → Type 0) (t : DrawTask) : Type 0 where
+  pub begun : Option (List ℕ)
+  pub made : Made begun
+  pub after : Option (List ℕ)
+  pub cut : WasCut t.text t.from t.count begun after
 
 -- why these steps of the text aren't drawn
-pub record IsStopOf (why : Refusal) (t : DrawTask) : Type 0 where
-  pub after : Option (List ℕ)
-  pub refused : RefusesDrawing t.text t.from t.count t.begun after why
+abbrev pub IsStopOf : (Option (List ℕ) → Type 0) → Refusal → DrawTask → Type 0
+IsStopOf Made (Build Write) t = IsCutOf Made t
+IsStopOf Made why t = RefusesSteps t.text t.from why
 
-abbrev pub IsDrawFault : (DrawTask → Type 0) → Refusal → Type 0
-IsDrawFault Asked why = ForAsked DrawTask Asked (IsStopOf why)
+abbrev pub IsDrawFault : (DrawTask → Type 0) → (Option (List ℕ) → Type 0) → Refusal → Type 0
+IsDrawFault Asked Made why = ForAsked DrawTask Asked (IsStopOf Made why)
 
 -- why what was asked for isn't drawn: a file can't be used, or a growth was refused; the output failed while it was drawn, or
 -- after; else the fault of the work
-abbrev pub RefusesDraw : (FileName → Type 0) → (DrawTask → Type 0) → Refusal → Type 0
-RefusesDraw Lacked Asked = RefusesFor Lacked (IsDrawFault Asked) (IsDrawing Asked (λ held. ⊤))
+abbrev pub RefusesDraw : (FileName → Type 0) → (DrawTask → Type 0) → (Option (List ℕ) → Type 0) → Refusal → Type 0
+RefusesDraw Lacked Asked Made = RefusesFor Lacked (IsDrawFault Asked Made) (IsDrawing Asked Made (λ held. ⊤))
 
 -- status 0 where the steps were drawn and the file was flushed as well
-abbrev pub done : {T U E : Type 0} → Result T Refusal → Result U E → Result ℕ Refusal
-done (Err why) flushed = Err why
+abbrev pub done : {T U E F : Type 0} → Result T E → Result U F → Result ℕ Refusal
+done (Err e) flushed = Err (Build Write)
 done (Ok drawn) (Err e) = Err (Build Write)
 done (Ok drawn) (Ok u) = Ok 0
 
@@ -44,7 +53,7 @@ done (Ok drawn) (Ok u) = Ok 0
 abbrev pub AnswersDraw : FileFacts → DrawArgs → Type 0 → Type 0 → Option (List ℕ) → Option (List ℕ) → ℕ → Type 0
 AnswersDraw files given Quiet Works told_before told_after status =
     Answers (is_well_formed given)
-    ((status ≡ 0) × IsDrawing (Serves files given) files.flushed × Quiet)
+    ((status ≡ 0) × IsDrawing (Serves files given) (Makes files given) files.flushed × Quiet)
     (Unit {0})
-    (RefusesDraw files.lacked (Serves files given))
+    (RefusesDraw files.lacked (Serves files given) (Makes files given))
     Works told_before told_after status

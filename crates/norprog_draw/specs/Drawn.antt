@@ -1,5 +1,5 @@
 -- What a waveform of a script's text is, and why there is none (this project's).
-use Rattle.std.specs.Prelude.{◌≡◌, ◌⊎◌, ◌<◌, ℕ, List, length, take, drop, Option, None, Some}
+use Rattle.std.specs.Prelude.{◌≡◌, ◌⊎◌, ◌<◌, ℕ, List, length, take, drop, ⊤, Option, None, Some}
 use Rattle.std.specs.Io.KnownBytes.{Appends}
 use Rattle.nor_base.specs.Device.{Cuts}
 use Rattle.nor_base.specs.Script.{IsScript}
@@ -8,7 +8,7 @@ use Rattle.nor_job.specs.declared.fault.BuildFault.TheVariants as fault
 use Rattle.nor_script.specs.Faults.{IsFault}
 use Rattle.nor_waves.specs.Waves.{waves}
 use Rattle.norprog_common.specs.declared.faults.Refusal.{Refusal}
-use Rattle.norprog_common.specs.declared.faults.Refusal.TheVariants.{Build, Script, Usage}
+use Rattle.norprog_common.specs.declared.faults.Refusal.TheVariants.{Build, Script, Steps}
 
 -- so many steps from one on; all from there on where no number is given
 abbrev pub part : ℕ → Option ℕ → List Step → List Step
@@ -19,10 +19,11 @@ part from (Some count) steps = take count (drop from steps)
 abbrev pub IsThere : ℕ → List Step → Type 0
 IsThere from steps = (from ≡ 0) ⊎ (from < length steps)
 
--- the text spells some steps, none of which has this number
-pub record LacksStep (text : List ℕ) (from : ℕ) : Type 0 where
+-- the text spells this number of steps, none of which has the number `from`
+pub record LacksStep (text : List ℕ) (from number : ℕ) : Type 0 where
   pub steps : List Step
   pub script : IsScript text steps
+  pub told : number ≡ length steps
   pub none : IsThere from steps → ⊥
 
 -- the text spells some steps, and the waveform of that part of them is these bytes
@@ -44,10 +45,9 @@ pub record WasCut (text : List ℕ) (from : ℕ) (count : Option ℕ) (before af
   pub is : IsWaveform text from count bytes
   pub put : Cuts before after bytes
 
--- why a script isn't drawn. But where the writer failed nothing was appended
-abbrev pub RefusesDrawing : List ℕ → ℕ → Option ℕ → Option (List ℕ) → Option (List ℕ) → Refusal → Type 0
-RefusesDrawing text from count before after (Script why) = IsFault text why × (after ≡ before)
-RefusesDrawing text from count before after (Build fault.Write) = WasCut text from count before after
-RefusesDrawing text from count before after (Build fault.Memory) = after ≡ before
-RefusesDrawing text from count before after Usage = LacksStep text from × (after ≡ before)
-RefusesDrawing text from count before after other = ⊥
+-- why there are no steps to draw: the text is no script, or has no such step; or a growth was refused
+abbrev pub RefusesSteps : List ℕ → ℕ → Refusal → Type 0
+RefusesSteps text from (Script why) = IsFault text why
+RefusesSteps text from (Steps number) = LacksStep text from number
+RefusesSteps text from (Build fault.Memory) = ⊤
+RefusesSteps text from other = ⊥

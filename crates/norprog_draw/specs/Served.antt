@@ -5,24 +5,29 @@ use Rattle.norprog_common.specs.declared.given.DrawArgs.{DrawArgs}
 use Rattle.norprog_draw.specs.declared.request.DrawRequest.{DrawRequest}
 use Rattle.norprog_draw.specs.Request.{asked_from, asked_count}
 
--- the script's text, which steps are drawn (the first, and how many), and what the output held when it was made
+-- the script's text, and which steps are drawn: the first, and how many
 pub record DrawTask : Type 0 where
   pub text : List ℕ
   pub from : ℕ
   pub count : Option ℕ
-  pub begun : Option (List ℕ)
 
--- those of a request: the text is what its file gave, and the output was made, as another file
+-- those of a request: the text is what its file gave
 pub record IsTaskOf (files : FileFacts) (request : DrawRequest) (t : DrawTask) : Type 0 where
   pub text : files.gave request.script.now t.text
   pub from : t.from ≡ request.from
   pub count : t.count ≡ request.count
-  pub made : IsMadeApart files (request.script.now ∷ []) request.out.now t.begun
 
--- those that the texts ask for, each by the value that its text spells, each file by its name; the output was made as another file
--- than the script's
+-- the output of a request was made, as another file than the script's, and held this then
+abbrev pub IsMadeFor : FileFacts → DrawRequest → Option (List ℕ) → Type 0
+IsMadeFor files request = IsMadeApart files (request.script.now ∷ []) request.out.now
+
+-- those that the texts ask for, each by the value that its text spells, the script's file by its name
 pub record Serves (files : FileFacts) (given : DrawArgs) (t : DrawTask) : Type 0 where
   pub text : Named (λ name. files.gave name t.text) (option_map (λ t. t.now) given.script)
   pub from : asked_from given ≡ Some t.from
   pub count : asked_count given ≡ Some t.count
-  pub made : Named (λ name. IsMadeApart files (option_to_list (option_map (λ t. t.now) given.script)) name t.begun) (option_map (λ t. t.now) given.out)
+
+-- the output that they name was made, as another file than the script's, and held this then
+abbrev pub Makes : FileFacts → DrawArgs → Option (List ℕ) → Type 0
+Makes files given begun =
+    Named (λ name. IsMadeApart files (option_to_list (option_map (λ t. t.now) given.script)) name begun) (option_map (λ t. t.now) given.out)

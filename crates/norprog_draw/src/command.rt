@@ -4,17 +4,17 @@ ghost use Rattle.std.specs.Prelude.{◌≡◌, ◌<◌, ◌≤◌, ◌-◌, ◌^
 ghost use Rattle.norprog_common.specs.Told.{OrUsage};
 ghost use Rattle.norprog_draw.specs.Answer.{IsDrawing, RefusesDraw, AnswersDraw, done};
 ghost use Rattle.norprog_draw.specs.Request.{is_well_formed};
-ghost use Rattle.norprog_draw.specs.Served.{IsTaskOf, Serves};
+ghost use Rattle.norprog_draw.specs.Served.{IsTaskOf, IsMadeFor, Serves, Makes};
 
 use crate::request::{DrawRequest, request_of};
-use crate::script::draw_script;
+use crate::script::{draw_steps, steps_of};
 use nor_base::{ByteOut, Failed};
 use norprog_common::{DrawArgs, FileName, FileStore, Refusal, answered};
 use std::alloc::Global;
 
 /// Draws the script on a command line into the file that it names, or writes a refusal to `err` (docs/FORMATS.md, section 9), and
 /// answers the status: 0 done, 1 refused, 2 usage. Nothing is printed where it is done. That file is made as another one than the
-/// script's.
+/// script's, and only where the script has the first step that is asked for.
 ///
 /// Usage is told where the texts ask for no waveform.
 pub fn draw<S: FileStore, E: ByteOut>(
@@ -35,41 +35,39 @@ pub fn draw<S: FileStore, E: ByteOut>(
 /// Draws what is asked for.
 fn drawn_in<S: FileStore>(alloc: Global, store: &S, given: DrawArgs<'_>) -> Result<u8, Refusal>
     ensures status { IfOk result (λ status. status ≡ 0) }
-    ensures drawn { IfOk result (λ _. IsDrawing (Serves (S.facts store.now) given.entry) (S.facts store.now).flushed) }
+    ensures drawn { IfOk result (λ _. IsDrawing (Serves (S.facts store.now) given.entry)
+        (Makes (S.facts store.now) given.entry) (S.facts store.now).flushed) }
     ensures asked { IfOk result (λ _. is_well_formed given.entry ≡ true) }
     ensures first { IfErr result (OrUsage (is_well_formed given.entry)
-        (RefusesDraw (S.facts store.now).lacked (Serves (S.facts store.now) given.entry))) }
+        (RefusesDraw (S.facts store.now).lacked (Serves (S.facts store.now) given.entry)
+        (Makes (S.facts store.now) given.entry))) }
 {
     let request = request_of(given).ok_or(Refusal::Usage)?;
     run_draw(alloc, store, request)
 }
 
-/// Opens the files of a request in their order, and draws the script into the second.
+/// Reads the script of a request, and then makes the output and draws into it.
 fn run_draw<S: FileStore>(alloc: Global, store: &S, request: DrawRequest<'_>) -> Result<u8, Refusal>
     ensures status { IfOk result (λ status. status ≡ 0) }
-    ensures drawn { IfOk result (λ _. IsDrawing (IsTaskOf (S.facts store.now) request.entry) (S.facts store.now).flushed) }
-    ensures refused { IfErr result (RefusesDraw (S.facts store.now).lacked (IsTaskOf (S.facts store.now) request.entry)) }
+    ensures drawn { IfOk result (λ _. IsDrawing (IsTaskOf (S.facts store.now) request.entry)
+        (IsMadeFor (S.facts store.now) request.entry) (S.facts store.now).flushed) }
+    ensures refused { IfErr result (RefusesDraw (S.facts store.now).lacked (IsTaskOf (S.facts store.now) request.entry)
+        (IsMadeFor (S.facts store.now) request.entry)) }
 {
     let (script, place) = store.read(alloc, request.script, FileName::Script)?;
+    let steps = steps_of(alloc, script.as_slice(), request.from)?;
     let mut out = store.create(alloc, request.out, FileName::Out, &[place])?;
-    let answer = draw_script(
-        alloc,
-        script.as_slice(),
-        request.from,
-        request.count,
-        &mut out,
-    );
+    let answer = draw_steps(steps.as_slice(), request.from, request.count, &mut out);
     let flushed = store.flush(&mut out);
     done(answer, flushed)
 }
 
 /// The status of a drawing whose file was flushed: 0 only where both are done.
-fn done(answer: Result<(), Refusal>, flushed: Result<(), Failed>) -> Result<u8, Refusal>
+fn done(answer: Result<(), Failed>, flushed: Result<(), Failed>) -> Result<u8, Refusal>
     ensures { result ≡ done answer flushed }
 {
     match (answer, flushed) {
-        (Err(refusal), _) => Err(refusal),
-        (Ok(()), Err(_)) => Err(Refusal::WRITE),
+        (Err(_), _) | (Ok(()), Err(_)) => Err(Refusal::WRITE),
         (Ok(()), Ok(())) => Ok(0),
     }
 }

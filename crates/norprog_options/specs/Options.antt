@@ -53,7 +53,8 @@ pub record IsJobIn (found : Found) (given : Given) : Type 0 where
   pub quad : Sets found (codes "quad") given.quad
   pub verify : Sets found (codes "verify") given.verify
   pub erased_only : Sets found (codes "erased-only") given.erased_only
-  pub regions : given.regions.items ≡ texts_of found (codes "regions")
+  pub strict : Sets found (codes "strict") given.strict
+  pub regions : given.regions.items ≡ texts_of found (codes "names")
 
 pub record IsSetupIn (found : Found) (given : SetupArgs) : Type 0 where
   pub chip : IsChipIn found given.chip
@@ -116,7 +117,7 @@ pub record IsFlashIn (found : Found) (given : FlashArgs) : Type 0 where
   pub resume : Has found (codes "resume") (option_map (λ t. t.now) given.resume)
   pub erased_only : Sets found (codes "erased-only") given.erased_only
   pub dry_run : Sets found (codes "dry-run") given.dry_run
-  pub regions : given.regions.items ≡ texts_of found (codes "regions")
+  pub regions : given.regions.items ≡ texts_of found (codes "names")
 
 pub record IsBuildIn (found : Found) (given : BuildArgs) : Type 0 where
   pub job : IsJobIn found given.job
@@ -125,6 +126,7 @@ pub record IsBuildIn (found : Found) (given : BuildArgs) : Type 0 where
 pub record IsPlanIn (found : Found) (given : PlanArgs) : Type 0 where
   pub job : IsJobIn found given.job
   pub times : Sets found (codes "times") given.times
+  pub regions : Sets found (codes "regions") given.regions
   pub map : Has found (codes "map") (option_map (λ t. t.now) given.map)
 
 pub record IsCheckIn (found : Found) (given : CheckArgs) : Type 0 where

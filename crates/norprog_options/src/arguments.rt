@@ -80,7 +80,7 @@ const BASE: Choice = Choice {
 };
 
 const REGIONS: Choice = Choice {
-    name: "regions",
+    name: "names",
     takes: Takes::Words("REGIONS"),
     required: false,
     help: "The names of the layout's regions to program [default: the whole chip]",
@@ -268,6 +268,20 @@ const TIMES: Choice = Choice {
     help: "Print after the report how long the chip is busy, and the clocks on the bus [default: no]",
 };
 
+const SHARES: Choice = Choice {
+    name: "regions",
+    takes: Takes::Nothing,
+    required: false,
+    help: "Print after all else a line for each chosen region: how many of its bytes the image gives, and the first [default: no]",
+};
+
+const STRICT: Choice = Choice {
+    name: "strict",
+    takes: Takes::Nothing,
+    required: false,
+    help: "Refuse a job whose image gives a chosen region no byte [default: no]",
+};
+
 const MAP: Choice = Choice {
     name: "map",
     takes: Takes::File,
@@ -368,7 +382,7 @@ static FORMS: [Form; 12] = [
             Group::Start,
             Group::Verify,
         ],
-        choices: &[SCRIPT_OUT],
+        choices: &[STRICT, SCRIPT_OUT],
     },
     Form {
         name: "plan",
@@ -381,7 +395,7 @@ static FORMS: [Form; 12] = [
             Group::Start,
             Group::Verify,
         ],
-        choices: &[TIMES, MAP],
+        choices: &[STRICT, TIMES, SHARES, MAP],
     },
     Form {
         name: "check",
@@ -394,7 +408,7 @@ static FORMS: [Form; 12] = [
             Group::Start,
             Group::Script,
         ],
-        choices: &[WITNESS],
+        choices: &[STRICT, WITNESS],
     },
     Form {
         name: "run",

@@ -171,7 +171,8 @@ fn given_in<'a>(alloc: Global, job: &ArgMatches<'a>) -> Result<Given<'a>, Refusa
         content: job.get_str("content"),
         verify: job.get_flag("verify"),
         erased_only: job.get_flag("erased-only"),
-        regions: texts_in(alloc, job, "regions")?,
+        strict: job.get_flag("strict"),
+        regions: texts_in(alloc, job, "names")?,
     })
 }
 
@@ -203,6 +204,7 @@ fn plan_in<'a>(alloc: Global, plan: &ArgMatches<'a>) -> Result<PlanArgs<'a>, Ref
     Ok(PlanArgs {
         job: given_in(alloc, plan)?,
         times: plan.get_flag("times"),
+        regions: plan.get_flag("regions"),
         map: plan.get_str("map"),
     })
 }
@@ -312,7 +314,7 @@ fn flash_in<'a>(alloc: Global, flash: &ArgMatches<'a>) -> Result<FlashArgs<'a>, 
         resume: flash.get_str("resume"),
         erased_only: flash.get_flag("erased-only"),
         dry_run: flash.get_flag("dry-run"),
-        regions: texts_in(alloc, flash, "regions")?,
+        regions: texts_in(alloc, flash, "names")?,
     })
 }
 

@@ -1,5 +1,5 @@
 -- What was planned, and why nothing was, of a job that is asked for.
-use Rattle.std.proofs.Common.{◌≡◌, ℕ, ◌⊎◌, inl, inr, refl, ap, arith, ◌<◌, ◌++◌, [], length, Bool, true, is_some, List, Option, Some, Result, Ok, Err, IfOk, IfErr, subst}
+use Rattle.std.proofs.Common.{◌≡◌, ℕ, ◌⊎◌, inl, inr, refl, ap, arith, ◌<◌, ◌++◌, [], length, Bool, true, is_some, List, Option, Some, Result, Ok, Err, IfOk, IfErr, subst, sym}
 use Rattle.std.specs.Io.KnownBytes.{Appends}
 use Rattle.nor_base.specs.Device.{Ahead, Cuts}
 use Rattle.nor_job.specs.declared.fault.BuildFault.{BuildFault}
@@ -10,11 +10,16 @@ use Rattle.norprog.specs.Plan.{IsPlanOf, StopsPlan}
 use Rattle.norprog.specs.declared.report.Report.{Report}
 use Rattle.norprog_common.specs.declared.faults.FileName.{FileName}
 use Rattle.norprog_common.specs.declared.faults.Refusal.{Refusal}
-use Rattle.norprog_common.specs.declared.faults.Refusal.TheVariants.{Build}
+use Rattle.norprog_common.specs.declared.faults.Refusal.TheVariants.{Text, Usage, File, Build, Page, Script, BinSize, Steps, EmptyRegion}
 use Rattle.norprog_common.specs.Told.{ForAsked, OfFault, OrUsage}
-use Rattle.norprog_common.proofs.ToldLemmas.{asked_wider, fault_wider, by_fault, refuses_wider, or_usage}
-use Rattle.norprog_plan.specs.Answer.{FailsToDraw, IsUndrawn, IsPart, in_memory, behind_lines, read_lines, Draws, IsLines, IsWhole, IsTold, PrintsPlan, CutsPlan, FailsToPrint, StopsPlanOf, StopsTask, IsPlanFault, RefusesPlan}
+use Rattle.norprog_common.proofs.ToldLemmas.{asked_wider, fault_wider, by_fault, by_files, refuses_wider, or_usage}
+use Rattle.norprog_plan.specs.Answer.{FailsToDraw, IsUndrawn, IsPart, in_memory, behind_lines, read_lines, Draws, IsLines, IsShown, IsWhole, IsTold, PrintsPlan, CutsPlan, FailsToPrint, StopsPlanOf, StopsTask, StopsAsked, IsPlanFault, RefusesPlan}
 use Rattle.norprog_common.specs.Served.{Job, Is}
+use Rattle.norprog_common.specs.Files.{TellsFile}
+use Rattle.norprog_common.specs.Strict.{Filled, OrEmpty, RefusesEmpty}
+use Rattle.norprog_common.proofs.StrictLemmas.{filled_wider, empty_wider, by_empty}
+use Rattle.norprog_plan.specs.declared.outline.Shows.{Shows}
+use Rattle.norprog_plan.specs.Regions.{EndsWith}
 use Rattle.norprog_common.proofs.ServedLemmas.{of_one}
 
 -- a fault of a plan that was written to memory, as it is told
@@ -44,10 +49,10 @@ stops_of_plan Lacked C D j behind before after why refused =
 
 -- what was told of the plan of the job that is asked for
 
-pub wholes_of : {V : Type 0} (r : Result V Refusal) (items : V → List ℕ) (Sent : Option (List ℕ) → Type 0) (times : Bool) (lines : List ℕ) (Asked : Job → Type 0) (j : Job)
-    → Asked j → IfOk r (λ rest. IsWhole Sent times lines (items rest) j) → IfOk r (λ rest. ForAsked Job Asked (IsWhole Sent times lines (items rest)))
-wholes_of (Ok rest) items Sent times lines Asked j asked of = record { it = j; asked = asked; has = of }
-wholes_of (Err why) items Sent times lines Asked j asked of = tt
+pub wholes_of : {V : Type 0} (r : Result V Refusal) (items : V → List ℕ) (Sent : Option (List ℕ) → Type 0) (shows : Shows) (lines : List ℕ) (Asked : Job → Type 0) (j : Job)
+    → Asked j → IfOk r (λ rest. IsWhole Sent shows lines (items rest) j) → IfOk r (λ rest. ForAsked Job Asked (IsWhole Sent shows lines (items rest)))
+wholes_of (Ok rest) items Sent shows lines Asked j asked of = record { it = j; asked = asked; has = of }
+wholes_of (Err why) items Sent shows lines Asked j asked of = tt
 
 pub parts_of : {V : Type 0} (r : Result V Refusal) (lines : List ℕ) (Asked : Job → Type 0) (j : Job) → Asked j
     → IfErr r (λ why. (lines ≡ []) ⊎ IsPart lines j) → IfErr r (λ why. (lines ≡ []) ⊎ ForAsked Job Asked (IsPart lines))
@@ -61,12 +66,57 @@ stops_wider Lacked A B wider =
     refuses_wider Lacked Lacked (OfFault (IsPlanFault A)) (OfFault (IsPlanFault B)) (FailsToDraw A) (FailsToDraw B)
     (λ name lacks. lacks) (fault_wider (IsPlanFault A) (IsPlanFault B) (λ why of. asked_wider Job A B (StopsPlanOf why) wider of)) (asked_wider Job A B IsUndrawn wider)
 
+-- of strict jobs
+pub asked_wider_stops : (strict : Bool) (Lacked : FileName → Type 0) (A B : Job → Type 0) → ((j : Job) → A j → B j) → (why : Refusal) → StopsAsked strict Lacked A why
+    → StopsAsked strict Lacked B why
+asked_wider_stops strict Lacked A B wider =
+    let filled = filled_wider strict A B wider in
+    refuses_wider Lacked Lacked (OrEmpty strict A (OfFault (IsPlanFault (Filled strict A)))) (OrEmpty strict B (OfFault (IsPlanFault (Filled strict B))))
+    (FailsToDraw (Filled strict A)) (FailsToDraw (Filled strict B))
+    (λ name lacks. lacks)
+    (empty_wider strict A B (OfFault (IsPlanFault (Filled strict A))) (OfFault (IsPlanFault (Filled strict B))) wider
+    (fault_wider (IsPlanFault (Filled strict A)) (IsPlanFault (Filled strict B)) (λ why of. asked_wider Job (Filled strict A) (Filled strict B) (StopsPlanOf why) filled of)))
+    (asked_wider Job (Filled strict A) (Filled strict B) IsUndrawn filled)
+
+-- a fault of the work is told as such
+fault_so : (strict : Bool) (A : Job → Type 0) (P : BuildFault → Type 0) (why : Refusal) → OfFault P why → OrEmpty strict A (OfFault P) why
+fault_so strict A P (Build why) is = is
+fault_so strict A P (Script why) is = is
+fault_so strict A P (Text words) is = is
+fault_so strict A P Usage is = is
+fault_so strict A P (File name) is = is
+fault_so strict A P Page is = is
+fault_so strict A P BinSize is = is
+fault_so strict A P (Steps number) is = is
+fault_so strict A P (EmptyRegion index) is = absurd is
+
+pub asked_stops : {V : Type 0} (strict : Bool) (Lacked : FileName → Type 0) (A : Job → Type 0) (r : Result V Refusal) → IfErr r (StopsTask Lacked (Filled strict A)) → IfErr r (StopsAsked strict Lacked A)
+asked_stops strict Lacked A (Ok x) is = tt
+asked_stops strict Lacked A (Err why) is =
+    refuses_wider Lacked Lacked (OfFault (IsPlanFault (Filled strict A))) (OrEmpty strict A (OfFault (IsPlanFault (Filled strict A))))
+    (FailsToDraw (Filled strict A)) (FailsToDraw (Filled strict A)) (λ name lacks. lacks) (fault_so strict A (IsPlanFault (Filled strict A))) (λ late. late) why is
+
+pub empty_stops : {V : Type 0} (strict : Bool) (Lacked : FileName → Type 0) (A : Job → Type 0) (j : Job) (why : Refusal) (r : Result V Refusal) → A j → RefusesEmpty strict j.task j.len why
+    → r ≡ Err why → IfErr r (StopsAsked strict Lacked A)
+empty_stops strict Lacked A j why r asked is refused =
+    rw refused (by_empty strict Lacked A (OfFault (IsPlanFault (Filled strict A))) (FailsToDraw (Filled strict A)) j why asked is)
+
+pub files_stop : {V : Type 0} (strict : Bool) (Lacked : FileName → Type 0) (A : Job → Type 0) (why : Refusal) (r : Result V Refusal) → TellsFile Lacked why
+    → r ≡ Err why → IfErr r (StopsAsked strict Lacked A)
+files_stop strict Lacked A why r is refused =
+    rw refused (by_files Lacked Lacked (OrEmpty strict A (OfFault (IsPlanFault (Filled strict A)))) (FailsToDraw (Filled strict A)) why (λ name lacks. lacks) is)
+
+pub nothing_told : {V : Type 0} (r : Result V Refusal) (lines : List ℕ) (P : Type 0) → lines ≡ [] → IfErr r (λ why. (lines ≡ []) ⊎ P)
+nothing_told (Ok x) lines P none = tt
+nothing_told (Err why) lines P none = inl none
+
 -- why a plan wasn't made is why it isn't told
-pub unmade : (Lacked : FileName → Type 0) (Sent : Option (List ℕ) → Type 0) (times : Bool) (Asked : Job → Type 0) (before after : Option (List ℕ)) (why : Refusal) → StopsTask Lacked Asked why
-    → RefusesPlan Lacked Sent times Asked before after why
-unmade Lacked Sent times Asked before after =
-    refuses_wider Lacked Lacked (OfFault (IsPlanFault Asked)) (OfFault (IsPlanFault Asked)) (FailsToDraw Asked)
-    (FailsToDraw Asked ⊎ FailsToPrint Sent times Asked before after) (λ name lacks. lacks) (λ why of. of) (λ late. inl late)
+pub unmade : (strict : Bool) (Lacked : FileName → Type 0) (Sent : Option (List ℕ) → Type 0) (shows : Shows) (Asked : Job → Type 0) (before after : Option (List ℕ)) (why : Refusal) → StopsAsked strict Lacked Asked why
+    → RefusesPlan strict Lacked Sent shows Asked before after why
+unmade strict Lacked Sent shows Asked before after =
+    refuses_wider Lacked Lacked (OrEmpty strict Asked (OfFault (IsPlanFault (Filled strict Asked)))) (OrEmpty strict Asked (OfFault (IsPlanFault (Filled strict Asked))))
+    (FailsToDraw (Filled strict Asked)) (FailsToDraw (Filled strict Asked) ⊎ FailsToPrint Sent shows (Filled strict Asked) before after)
+    (λ name lacks. lacks) (λ why of. of) (λ late. inl late)
 
 -- what a plan is told with
 
@@ -82,7 +132,7 @@ pub outline_whole : {V : Type 0} (r : Result V Refusal) (items : V → List ℕ)
     (begun lines slice : List ℕ) (report : Report) → begun ≡ [] → slice ≡ lines → IsPlanOf j.task j.len j.content behind (Some begun) (Some lines) report
     → ((len : ℕ) (ahead : Ahead) (of : IsLines slice report j.task len ahead) → IfOk r (λ rest. items rest ≡ behind_lines times report j.task of.planned.m (read_lines of)))
     → ((len : ℕ) (ahead : Ahead) (of : IsLines slice report j.task len ahead) → IfOk r (λ rest. Draws Sent j.begun j.task of.planned.m (read_lines of) (items rest)))
-    → IfOk r (λ rest. IsWhole Sent times lines (items rest) j)
+    → IfOk r (λ rest. IsShown Sent times lines (items rest) j)
 outline_whole (Err why) items Sent times j behind begun lines slice report none same planned rests drawn = tt
 outline_whole (Ok rest) items Sent times j behind begun lines slice report none same planned rests drawn =
     let of : IsLines lines report j.task j.len j.content = lines_in j.task j.len j.content behind begun lines report none planned in
@@ -115,48 +165,48 @@ pub stops_for : {V : Type 0} (Lacked : FileName → Type 0) (r : Result V Refusa
 stops_for Lacked (Ok x) Asked j of stops = tt
 stops_for Lacked (Err why) Asked j of stops = stops_wider Lacked (Is j) Asked (of_one Asked j of) why stops
 
-told_wider : (Sent : Option (List ℕ) → Type 0) (times : Bool) (A B : Job → Type 0) → ((j : Job) → A j → B j) → (lines : List ℕ)
-    → (lines ≡ []) ⊎ ForAsked Job A (IsPart lines) → (lines ≡ []) ⊎ ForAsked Job B (IsTold Sent times lines)
-told_wider Sent times A B wider lines (inl none) = inl none
-told_wider Sent times A B wider lines (inr of) = inr (record { it = of.it; asked = wider of.it of.asked; has = inl of.has })
+told_wider : (Sent : Option (List ℕ) → Type 0) (shows : Shows) (A B : Job → Type 0) → ((j : Job) → A j → B j) → (lines : List ℕ)
+    → (lines ≡ []) ⊎ ForAsked Job A (IsPart lines) → (lines ≡ []) ⊎ ForAsked Job B (IsTold Sent shows lines)
+told_wider Sent shows A B wider lines (inl none) = inl none
+told_wider Sent shows A B wider lines (inr of) = inr (record { it = of.it; asked = wider of.it of.asked; has = inl of.has })
 
 -- of all lines and what stands behind them
 
 -- they are those that the plan's outline has, where it has what stands behind them
-pub whole_of : {V : Type 0} (r : Result V Refusal) (rest : V) (items : V → List ℕ) (Sent : Option (List ℕ) → Type 0) (times : Bool) (A : Job → Type 0) (lines slice tail : List ℕ)
-    → r ≡ Ok rest → slice ≡ lines → tail ≡ items rest → IfOk r (λ rest. ForAsked Job A (IsWhole Sent times lines (items rest))) → ForAsked Job A (IsWhole Sent times slice tail)
-whole_of r rest items Sent times A lines slice tail is same behind of =
-    rw (same, behind) (subst (λ r. IfOk r (λ rest. ForAsked Job A (IsWhole Sent times lines (items rest)))) is of)
+pub whole_of : {V : Type 0} (r : Result V Refusal) (rest : V) (items : V → List ℕ) (Sent : Option (List ℕ) → Type 0) (shows : Shows) (A : Job → Type 0) (lines slice tail : List ℕ)
+    → r ≡ Ok rest → slice ≡ lines → tail ≡ items rest → IfOk r (λ rest. ForAsked Job A (IsWhole Sent shows lines (items rest))) → ForAsked Job A (IsWhole Sent shows slice tail)
+whole_of r rest items Sent shows A lines slice tail is same behind of =
+    rw (same, behind) (subst (λ r. IfOk r (λ rest. ForAsked Job A (IsWhole Sent shows lines (items rest)))) is of)
 
-whole_is_told : (Sent : Option (List ℕ) → Type 0) (times : Bool) (A : Job → Type 0) (lines rest : List ℕ) → ForAsked Job A (IsWhole Sent times lines rest)
-    → ForAsked Job A (IsTold Sent times (lines ++ rest))
-whole_is_told Sent times A lines rest of = record { it = of.it; asked = of.asked; has = inr (lines, rest, of.has, refl) }
+whole_is_told : (Sent : Option (List ℕ) → Type 0) (shows : Shows) (A : Job → Type 0) (lines rest : List ℕ) → ForAsked Job A (IsWhole Sent shows lines rest)
+    → ForAsked Job A (IsTold Sent shows (lines ++ rest))
+whole_is_told Sent shows A lines rest of = record { it = of.it; asked = of.asked; has = inr (lines, rest, of.has, refl) }
 
-pub whole_printed : {U : Type 0} (Sent : Option (List ℕ) → Type 0) (times : Bool) (A B : Job → Type 0) → ((j : Job) → A j → B j) → (lines rest : List ℕ) (before after : Option (List ℕ))
-    (r : Result U Refusal) → ForAsked Job A (IsWhole Sent times lines rest) → IfOk r (λ u. Appends before after (lines ++ rest))
-    → IfOk r (λ u. PrintsPlan Sent times B before after)
-whole_printed Sent times A B wider lines rest before after (Ok u) of put =
-    record { lines = lines; rest = rest; whole = asked_wider Job A B (IsWhole Sent times lines rest) wider of; put = put }
-whole_printed Sent times A B wider lines rest before after (Err why) of put = tt
+pub whole_printed : {U : Type 0} (Sent : Option (List ℕ) → Type 0) (shows : Shows) (A B : Job → Type 0) → ((j : Job) → A j → B j) → (lines rest : List ℕ) (before after : Option (List ℕ))
+    (r : Result U Refusal) → ForAsked Job A (IsWhole Sent shows lines rest) → IfOk r (λ u. Appends before after (lines ++ rest))
+    → IfOk r (λ u. PrintsPlan Sent shows B before after)
+whole_printed Sent shows A B wider lines rest before after (Ok u) of put =
+    record { lines = lines; rest = rest; whole = asked_wider Job A B (IsWhole Sent shows lines rest) wider of; put = put }
+whole_printed Sent shows A B wider lines rest before after (Err why) of put = tt
 
-pub whole_cut : {U : Type 0} (Sent : Option (List ℕ) → Type 0) (times : Bool) (A B : Job → Type 0) → ((j : Job) → A j → B j) → (lines rest : List ℕ) (before after : Option (List ℕ))
-    (r : Result U Refusal) → ForAsked Job A (IsWhole Sent times lines rest) → IfErr r (λ why. Cuts before after (lines ++ rest))
-    → IfErr r (λ why. CutsPlan Sent times B before after)
-whole_cut Sent times A B wider lines rest before after (Ok u) of put = tt
-whole_cut Sent times A B wider lines rest before after (Err why) of put = inr (record {
+pub whole_cut : {U : Type 0} (Sent : Option (List ℕ) → Type 0) (shows : Shows) (A B : Job → Type 0) → ((j : Job) → A j → B j) → (lines rest : List ℕ) (before after : Option (List ℕ))
+    (r : Result U Refusal) → ForAsked Job A (IsWhole Sent shows lines rest) → IfErr r (λ why. Cuts before after (lines ++ rest))
+    → IfErr r (λ why. CutsPlan Sent shows B before after)
+whole_cut Sent shows A B wider lines rest before after (Ok u) of put = tt
+whole_cut Sent shows A B wider lines rest before after (Err why) of put = inr (record {
   bytes = lines ++ rest;
-  of = whole_is_told Sent times B lines rest (asked_wider Job A B (IsWhole Sent times lines rest) wider of);
+  of = whole_is_told Sent shows B lines rest (asked_wider Job A B (IsWhole Sent shows lines rest) wider of);
   put = inr put;
 })
 
-pub whole_refused : {U : Type 0} (Lacked : FileName → Type 0) (Sent : Option (List ℕ) → Type 0) (times : Bool) (A B : Job → Type 0) → ((j : Job) → A j → B j) → (lines rest : List ℕ) (before after : Option (List ℕ))
-    (asks : Bool) (r : Result U Refusal) → asks ≡ true → ForAsked Job A (IsWhole Sent times lines rest)
+pub whole_refused : {U : Type 0} (strict : Bool) (Lacked : FileName → Type 0) (Sent : Option (List ℕ) → Type 0) (shows : Shows) (A B : Job → Type 0) → ((j : Job) → A j → Filled strict B j) → (lines rest : List ℕ) (before after : Option (List ℕ))
+    (asks : Bool) (r : Result U Refusal) → asks ≡ true → ForAsked Job A (IsWhole Sent shows lines rest)
     → IfErr r (λ why. Cuts before after (lines ++ rest)) → IfErr r (λ why. why ≡ Build fault.Write)
-    → IfErr r (OrUsage asks (RefusesPlan Lacked Sent times B before after))
-whole_refused Lacked Sent times A B wider lines rest before after asks (Ok u) formed of put is = tt
-whole_refused Lacked Sent times A B wider lines rest before after asks (Err why) formed of put is = or_usage _ _ _ formed (rw is (inr (inr (record {
+    → IfErr r (OrUsage asks (RefusesPlan strict Lacked Sent shows B before after))
+whole_refused strict Lacked Sent shows A B wider lines rest before after asks (Ok u) formed of put is = tt
+whole_refused strict Lacked Sent shows A B wider lines rest before after asks (Err why) formed of put is = or_usage _ _ _ formed (rw is (inr (inr (record {
   bytes = lines ++ rest;
-  of = whole_is_told Sent times B lines rest (asked_wider Job A B (IsWhole Sent times lines rest) wider of);
+  of = whole_is_told Sent shows (Filled strict B) lines rest (asked_wider Job A (Filled strict B) (IsWhole Sent shows lines rest) wider of);
   put = put;
 }))))
 
@@ -172,30 +222,58 @@ PrintsLines Same lines before after why told =
     ((lines ≡ []) × Same × (told ≡ why))
     ⊎ (((0 < length lines) × Appends before after lines × (told ≡ why)) ⊎ (Cuts before after lines × (told ≡ Build fault.Write)))
 
-lines_cut_of : (Same : Type 0) (before after : Option (List ℕ)) → (Same → after ≡ before) → (Sent : Option (List ℕ) → Type 0) (times : Bool) (B : Job → Type 0) (lines : List ℕ) (why told : Refusal)
-    → (lines ≡ []) ⊎ ForAsked Job B (IsTold Sent times lines) → PrintsLines Same lines before after why told → CutsPlan Sent times B before after
-lines_cut_of Same before after same Sent times B lines why told part (inl none) = inl (same none.1)
-lines_cut_of Same before after same Sent times B lines why told (inr of) (inr (inl all)) = inr (record { bytes = lines; of = of; put = inl all.1 })
-lines_cut_of Same before after same Sent times B lines why told (inl none) (inr (inl all)) = absurd (omega (arith, all.0, ap length none))
-lines_cut_of Same before after same Sent times B lines why told (inr of) (inr (inr cut)) = inr (record { bytes = lines; of = of; put = inr cut.0 })
-lines_cut_of Same before after same Sent times B lines why told (inl none) (inr (inr cut)) = absurd (omega (arith, cut.0.1, ap length none))
+lines_cut_of : (Same : Type 0) (before after : Option (List ℕ)) → (Same → after ≡ before) → (Sent : Option (List ℕ) → Type 0) (shows : Shows) (B : Job → Type 0) (lines : List ℕ) (why told : Refusal)
+    → (lines ≡ []) ⊎ ForAsked Job B (IsTold Sent shows lines) → PrintsLines Same lines before after why told → CutsPlan Sent shows B before after
+lines_cut_of Same before after same Sent shows B lines why told part (inl none) = inl (same none.1)
+lines_cut_of Same before after same Sent shows B lines why told (inr of) (inr (inl all)) = inr (record { bytes = lines; of = of; put = inl all.1 })
+lines_cut_of Same before after same Sent shows B lines why told (inl none) (inr (inl all)) = absurd (omega (arith, all.0, ap length none))
+lines_cut_of Same before after same Sent shows B lines why told (inr of) (inr (inr cut)) = inr (record { bytes = lines; of = of; put = inr cut.0 })
+lines_cut_of Same before after same Sent shows B lines why told (inl none) (inr (inr cut)) = absurd (omega (arith, cut.0.1, ap length none))
 
-pub lines_cut : (Same : Type 0) (before after : Option (List ℕ)) → (Same → after ≡ before) → (Sent : Option (List ℕ) → Type 0) (times : Bool) (A B : Job → Type 0) → ((j : Job) → A j → B j)
+pub lines_cut : (Same : Type 0) (before after : Option (List ℕ)) → (Same → after ≡ before) → (Sent : Option (List ℕ) → Type 0) (shows : Shows) (A B : Job → Type 0) → ((j : Job) → A j → B j)
     → (lines : List ℕ) (why told : Refusal) → (lines ≡ []) ⊎ ForAsked Job A (IsPart lines) → PrintsLines Same lines before after why told
-    → CutsPlan Sent times B before after
-lines_cut Same before after same Sent times A B wider lines why told part =
-    lines_cut_of Same before after same Sent times B lines why told (told_wider Sent times A B wider lines part)
+    → CutsPlan Sent shows B before after
+lines_cut Same before after same Sent shows A B wider lines why told part =
+    lines_cut_of Same before after same Sent shows B lines why told (told_wider Sent shows A B wider lines part)
 
-lines_refused_of : (Lacked : FileName → Type 0) (Same : Type 0) (before after : Option (List ℕ)) (Sent : Option (List ℕ) → Type 0) (times : Bool) (B : Job → Type 0) (lines : List ℕ) (why told : Refusal)
-    → (lines ≡ []) ⊎ ForAsked Job B (IsTold Sent times lines) → StopsTask Lacked B why → PrintsLines Same lines before after why told
-    → RefusesPlan Lacked Sent times B before after told
-lines_refused_of Lacked Same before after Sent times B lines why told part stops (inl none) = rw none.2 (unmade Lacked Sent times B before after why stops)
-lines_refused_of Lacked Same before after Sent times B lines why told part stops (inr (inl all)) = rw all.2 (unmade Lacked Sent times B before after why stops)
-lines_refused_of Lacked Same before after Sent times B lines why told (inr of) stops (inr (inr cut)) = rw cut.1 (inr (inr (record { bytes = lines; of = of; put = cut.0 })))
-lines_refused_of Lacked Same before after Sent times B lines why told (inl none) stops (inr (inr cut)) = absurd (omega (arith, cut.0.1, ap length none))
+lines_refused_of : (strict : Bool) (Lacked : FileName → Type 0) (Same : Type 0) (before after : Option (List ℕ)) (Sent : Option (List ℕ) → Type 0) (shows : Shows) (B : Job → Type 0) (lines : List ℕ) (why told : Refusal)
+    → (lines ≡ []) ⊎ ForAsked Job (Filled strict B) (IsTold Sent shows lines) → StopsAsked strict Lacked B why → PrintsLines Same lines before after why told
+    → RefusesPlan strict Lacked Sent shows B before after told
+lines_refused_of strict Lacked Same before after Sent shows B lines why told part stops (inl none) = rw none.2 (unmade strict Lacked Sent shows B before after why stops)
+lines_refused_of strict Lacked Same before after Sent shows B lines why told part stops (inr (inl all)) = rw all.2 (unmade strict Lacked Sent shows B before after why stops)
+lines_refused_of strict Lacked Same before after Sent shows B lines why told (inr of) stops (inr (inr cut)) = rw cut.1 (inr (inr (record { bytes = lines; of = of; put = cut.0 })))
+lines_refused_of strict Lacked Same before after Sent shows B lines why told (inl none) stops (inr (inr cut)) = absurd (omega (arith, cut.0.1, ap length none))
 
-pub lines_refused : (Lacked : FileName → Type 0) (Same : Type 0) (before after : Option (List ℕ)) (Sent : Option (List ℕ) → Type 0) (times : Bool) (A B : Job → Type 0) → ((j : Job) → A j → B j)
-    → (lines : List ℕ) (asks : Bool) (why told : Refusal) → asks ≡ true → (lines ≡ []) ⊎ ForAsked Job A (IsPart lines) → StopsTask Lacked A why
-    → PrintsLines Same lines before after why told → OrUsage asks (RefusesPlan Lacked Sent times B before after) told
-lines_refused Lacked Same before after Sent times A B wider lines asks why told formed part stops prints =
-    or_usage _ _ _ formed (lines_refused_of Lacked Same before after Sent times B lines why told (told_wider Sent times A B wider lines part) (stops_wider Lacked A B wider why stops) prints)
+pub lines_refused : (strict : Bool) (Lacked : FileName → Type 0) (Same : Type 0) (before after : Option (List ℕ)) (Sent : Option (List ℕ) → Type 0) (shows : Shows) (A B : Job → Type 0) → ((j : Job) → A j → Filled strict B j)
+    → (lines : List ℕ) (asks : Bool) (why told : Refusal) → asks ≡ true → (lines ≡ []) ⊎ ForAsked Job A (IsPart lines) → StopsAsked strict Lacked B why
+    → PrintsLines Same lines before after why told → OrUsage asks (RefusesPlan strict Lacked Sent shows B before after) told
+lines_refused strict Lacked Same before after Sent shows A B wider lines asks why told formed part stops prints =
+    or_usage _ _ _ formed (lines_refused_of strict Lacked Same before after Sent shows B lines why told (told_wider Sent shows A (Filled strict B) wider lines part) stops prints)
+
+-- ---- with the lines of the regions
+apart : {V : Type 0} (x : V) (e : Refusal) → ◌≡◌ {A = Result V Refusal} (Ok x) (Err e) → ⊥
+apart x e h = cc
+
+pub job_whole : {V : Type 0} (r q : Result V Refusal) (items : V → List ℕ) (Sent : Option (List ℕ) → Type 0) (shows : Shows) (lines : List ℕ) (j : Job)
+    → IfOk r (λ text. IsShown Sent shows.times lines (items text) j) → IfOk r (λ text. IfOk q (λ rest. EndsWith shows.regions j.task j.len (items text) (items rest)))
+    → IfErr r (λ why. q ≡ Err why) → IfOk q (λ rest. IsWhole Sent shows lines (items rest) j)
+job_whole (Ok text) (Ok rest) items Sent shows lines j of told kept = record { shown = items text; planned = of; ends = told }
+job_whole (Ok text) (Err why) items Sent shows lines j of told kept = tt
+job_whole (Err e) (Ok rest) items Sent shows lines j of told kept = absurd (apart rest e kept)
+job_whole (Err e) (Err why) items Sent shows lines j of told kept = tt
+
+pub job_part : {V : Type 0} (r q : Result V Refusal) (items : V → List ℕ) (Sent : Option (List ℕ) → Type 0) (shows : Shows) (lines : List ℕ) (j : Job)
+    → IfOk r (λ text. IsShown Sent shows.times lines (items text) j) → IfErr r (λ why. (lines ≡ []) ⊎ IsPart lines j)
+    → IfErr q (λ why. (lines ≡ []) ⊎ IsPart lines j)
+job_part (Ok text) (Ok rest) items Sent shows lines j of part = tt
+job_part (Ok text) (Err why) items Sent shows lines j of part = inr (inr (of.report, of.of))
+job_part (Err e) (Ok rest) items Sent shows lines j of part = tt
+job_part (Err e) (Err why) items Sent shows lines j of part = part
+
+pub job_stops : {V : Type 0} (Lacked : FileName → Type 0) (r q : Result V Refusal) (j : Job) → IfErr r (StopsTask Lacked (Is j)) → IfOk r (λ text. IfErr q (λ why. why ≡ Build fault.Memory))
+    → IfErr r (λ why. q ≡ Err why) → IfErr q (StopsTask Lacked (Is j))
+job_stops Lacked (Ok text) (Ok rest) j stops memory kept = tt
+job_stops Lacked (Ok text) (Err why) j stops memory kept = rw memory tt
+job_stops Lacked (Err e) (Ok rest) j stops memory kept = tt
+job_stops Lacked (Err e) (Err why) j stops memory kept =
+    subst (λ r. IfErr r (StopsTask Lacked (Is j))) (sym kept) stops

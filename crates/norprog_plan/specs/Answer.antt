@@ -30,7 +30,10 @@ use Rattle.norprog_common.specs.declared.given.PlanArgs.{PlanArgs}
 use Rattle.norprog_common.specs.FileStore.{FileFacts}
 use Rattle.norprog_common.specs.Told.{ForAsked, OfFault, RefusesFor, Answers}
 use Rattle.norprog_common.specs.Served.{Job}
-use Rattle.norprog_plan.specs.Served.{asks_plan, ServesPlan}
+use Rattle.norprog_common.specs.Strict.{Filled, OrEmpty}
+use Rattle.norprog_plan.specs.declared.outline.Shows.{Shows}
+use Rattle.norprog_plan.specs.Regions.{EndsWith}
+use Rattle.norprog_plan.specs.Served.{asks_plan, shows_of, ServesPlan}
 
 -- the times that a chip's tables tell; a chip of a size alone has none
 abbrev pub tables_times : Origin → Option Times
@@ -84,11 +87,17 @@ Draws Sent None t m lines rest = ⊤
 
 -- these are the lines of the plan of the job, and what stands behind them, with its times or without; and it was drawn, where it
 -- has an output for that
-pub record IsWhole (Sent : Option (List ℕ) → Type 0) (times : Bool) (told rest : List ℕ) (j : Job) : Type 0 where
+pub record IsShown (Sent : Option (List ℕ) → Type 0) (times : Bool) (told shown : List ℕ) (j : Job) : Type 0 where
   pub report : Report
   pub of : IsLinesOf told report j
-  pub ends : rest ≡ behind_lines times report j.task of.planned.m (read_lines of)
-  pub drawn : Draws Sent j.begun j.task of.planned.m (read_lines of) rest
+  pub ends : shown ≡ behind_lines times report j.task of.planned.m (read_lines of)
+  pub drawn : Draws Sent j.begun j.task of.planned.m (read_lines of) shown
+
+-- and behind that the lines of its chosen regions, where they are asked for
+pub record IsWhole (Sent : Option (List ℕ) → Type 0) (shows : Shows) (told rest : List ℕ) (j : Job) : Type 0 where
+  pub shown : List ℕ
+  pub planned : IsShown Sent shows.times told shown j
+  pub ends : EndsWith shows.regions j.task j.len shown rest
 
 -- the plan of the job stopped so, and the bytes are the lines that had been before
 pub record IsStopped (told : List ℕ) (j : Job) : Type 0 where
@@ -101,31 +110,31 @@ abbrev pub IsPart : List ℕ → Job → Type 0
 IsPart told j = IsStopped told j ⊎ ((report : Report) × IsLinesOf told report j)
 
 -- the bytes tell the plan of the job: lines of it, or all of them with what stands behind them
-abbrev pub IsTold : (Option (List ℕ) → Type 0) → Bool → List ℕ → Job → Type 0
-IsTold Sent times told j =
-    IsPart told j ⊎ ((lines : List ℕ) × (rest : List ℕ) × IsWhole Sent times lines rest j × (told ≡ lines ++ rest))
+abbrev pub IsTold : (Option (List ℕ) → Type 0) → Shows → List ℕ → Job → Type 0
+IsTold Sent shows told j =
+    IsPart told j ⊎ ((lines : List ℕ) × (rest : List ℕ) × IsWhole Sent shows lines rest j × (told ≡ lines ++ rest))
 
 -- the lines of the plan of a job that was asked for were printed, what stands behind them, and nothing else
-pub record PrintsPlan (Sent : Option (List ℕ) → Type 0) (times : Bool) (Asked : Job → Type 0) (before after : Option (List ℕ)) : Type 0 where
+pub record PrintsPlan (Sent : Option (List ℕ) → Type 0) (shows : Shows) (Asked : Job → Type 0) (before after : Option (List ℕ)) : Type 0 where
   pub lines : List ℕ
   pub rest : List ℕ
-  pub whole : ForAsked Job Asked (IsWhole Sent times lines rest)
+  pub whole : ForAsked Job Asked (IsWhole Sent shows lines rest)
   pub put : Appends before after (lines ++ rest)
 
 -- some bytes that tell the plan of a job that was asked for were printed, all or a proper prefix of them
-pub record PrintsSome (Sent : Option (List ℕ) → Type 0) (times : Bool) (Asked : Job → Type 0) (before after : Option (List ℕ)) : Type 0 where
+pub record PrintsSome (Sent : Option (List ℕ) → Type 0) (shows : Shows) (Asked : Job → Type 0) (before after : Option (List ℕ)) : Type 0 where
   pub bytes : List ℕ
-  pub of : ForAsked Job Asked (IsTold Sent times bytes)
+  pub of : ForAsked Job Asked (IsTold Sent shows bytes)
   pub put : Appends before after bytes ⊎ Cuts before after bytes
 
 -- nothing was printed, or some of what tells such a plan
-abbrev pub CutsPlan : (Option (List ℕ) → Type 0) → Bool → (Job → Type 0) → Option (List ℕ) → Option (List ℕ) → Type 0
-CutsPlan Sent times Asked before after = (after ≡ before) ⊎ PrintsSome Sent times Asked before after
+abbrev pub CutsPlan : (Option (List ℕ) → Type 0) → Shows → (Job → Type 0) → Option (List ℕ) → Option (List ℕ) → Type 0
+CutsPlan Sent shows Asked before after = (after ≡ before) ⊎ PrintsSome Sent shows Asked before after
 
 -- the output failed at the bytes that tell the plan of a job that was asked for
-pub record FailsToPrint (Sent : Option (List ℕ) → Type 0) (times : Bool) (Asked : Job → Type 0) (before after : Option (List ℕ)) : Type 0 where
+pub record FailsToPrint (Sent : Option (List ℕ) → Type 0) (shows : Shows) (Asked : Job → Type 0) (before after : Option (List ℕ)) : Type 0 where
   pub bytes : List ℕ
-  pub of : ForAsked Job Asked (IsTold Sent times bytes)
+  pub of : ForAsked Job Asked (IsTold Sent shows bytes)
   pub put : Cuts before after bytes
 
 -- the inputs of the job are refused, or its plan stopped
@@ -154,17 +163,24 @@ FailsToDraw Asked = ForAsked Job Asked IsUndrawn
 abbrev pub StopsTask : (FileName → Type 0) → (Job → Type 0) → Refusal → Type 0
 StopsTask Lacked Asked = RefusesFor Lacked (OfFault (IsPlanFault Asked)) (FailsToDraw Asked)
 
+-- the same where a job may be strict: the first chosen region without a byte of the image is told, and of a plan that went further
+-- each has one
+abbrev pub StopsAsked : Bool → (FileName → Type 0) → (Job → Type 0) → Refusal → Type 0
+StopsAsked strict Lacked Asked =
+    RefusesFor Lacked (OrEmpty strict Asked (OfFault (IsPlanFault (Filled strict Asked)))) (FailsToDraw (Filled strict Asked))
+
 -- why a plan that was asked for isn't told
-abbrev pub RefusesPlan : (FileName → Type 0) → (Option (List ℕ) → Type 0) → Bool → (Job → Type 0) → Option (List ℕ) → Option (List ℕ) → Refusal → Type 0
-RefusesPlan Lacked Sent times Asked before after =
-    RefusesFor Lacked (OfFault (IsPlanFault Asked)) (FailsToDraw Asked ⊎ FailsToPrint Sent times Asked before after)
+abbrev pub RefusesPlan : Bool → (FileName → Type 0) → (Option (List ℕ) → Type 0) → Shows → (Job → Type 0) → Option (List ℕ) → Option (List ℕ) → Refusal → Type 0
+RefusesPlan strict Lacked Sent shows Asked before after =
+    RefusesFor Lacked (OrEmpty strict Asked (OfFault (IsPlanFault (Filled strict Asked))))
+    (FailsToDraw (Filled strict Asked) ⊎ FailsToPrint Sent shows (Filled strict Asked) before after)
 
 -- what `plan` answers to the texts of a command line: the lines and the report at status 0, after the picture has gone out where one
 -- is asked for; or a refusal
 abbrev pub AnswersPlan : FileFacts → PlanArgs → Option (List ℕ) → Option (List ℕ) → Type 0 → Type 0 → Option (List ℕ) → Option (List ℕ) → ℕ → Type 0
 AnswersPlan files given before after Quiet Works told_before told_after status =
     Answers (asks_plan given)
-    ((status ≡ 0) × PrintsPlan files.flushed given.times (ServesPlan files given) before after × Quiet)
-    (CutsPlan files.flushed given.times (ServesPlan files given) before after)
-    (RefusesPlan files.lacked files.flushed given.times (ServesPlan files given) before after)
+    ((status ≡ 0) × PrintsPlan files.flushed (shows_of given) (Filled given.job.strict (ServesPlan files given)) before after × Quiet)
+    (CutsPlan files.flushed (shows_of given) (Filled given.job.strict (ServesPlan files given)) before after)
+    (RefusesPlan given.job.strict files.lacked files.flushed (shows_of given) (ServesPlan files given) before after)
     Works told_before told_after status

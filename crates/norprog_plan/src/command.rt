@@ -1,22 +1,23 @@
 //! `plan`: from the texts of the command line to the lines that tell what a build would erase and program, and why.
 
-ghost use Rattle.std.specs.Prelude.{◌≡◌, ◌⊎◌, ◌<◌, ◌≤◌, ◌-◌, ◌^◌, ◌++◌, true, [], length, IfOk, IfErr, IfSome, option_map};
+ghost use Rattle.std.specs.Prelude.{◌≡◌, ◌⊎◌, ◌<◌, ◌≤◌, ◌-◌, ◌^◌, ◌++◌, true, [], length, Err, IfOk, IfErr, IfSome, option_map};
 ghost use Rattle.std.specs.Io.KnownBytes.{Appends};
 ghost use Rattle.nor_base.specs.Device.{Cuts};
 ghost use Rattle.nor_job.specs.declared.fault.BuildFault.TheVariants.{Write};
 ghost use Rattle.norprog_common.specs.declared.faults.Refusal.TheVariants.{Build};
 ghost use Rattle.norprog_common.specs.Files.{TellsFile};
 ghost use Rattle.norprog_common.specs.FileStore.{IsMadeApart, WhereNamed};
+ghost use Rattle.norprog_common.specs.Strict.{Filled};
 ghost use Rattle.norprog_common.specs.Told.{ForAsked, OrUsage};
-ghost use Rattle.norprog_plan.specs.Served.{asks_plan, ServesPlan};
-ghost use Rattle.norprog_plan.specs.Answer.{IsPart, IsWhole, StopsTask, PrintsPlan, CutsPlan, RefusesPlan, AnswersPlan};
+ghost use Rattle.norprog_plan.specs.Served.{asks_plan, shows_of, ServesPlan};
+ghost use Rattle.norprog_plan.specs.Answer.{IsPart, IsWhole, StopsAsked, PrintsPlan, CutsPlan, RefusesPlan, AnswersPlan};
 ghost use Rattle.norprog_common.specs.Served.{Job, IsJobOf, AreGiven, held_in, input_files_of};
 
-use crate::outline::{Outline, outline_of};
+use crate::outline::{Outline, Shows, outline_job};
 use nor_base::{ByteOut, put_all, put_parts};
 use norprog_common::{
     FileName, FileStore, PlanArgs, Refusal, Request, Texts, answered, inputs_of, open_job,
-    request_of,
+    refuse_empty, request_of,
 };
 use std::alloc::Global;
 
@@ -53,17 +54,22 @@ fn report_plan<S: FileStore, O: ByteOut>(
 ) -> Result<u8, Refusal>
     requires { O.count out.old < 2 ^ 64 - 1 }
     ensures status { IfOk result (λ status. status ≡ 0) }
-    ensures printed { IfOk result (λ _. PrintsPlan (S.facts store.now).flushed given.entry.times
-        (ServesPlan (S.facts store.now) given.entry) (O.held out.old) (O.held out.new)) }
-    ensures unprinted { IfErr result (λ _. CutsPlan (S.facts store.now).flushed given.entry.times
-        (ServesPlan (S.facts store.now) given.entry) (O.held out.old) (O.held out.new)) }
+    ensures printed { IfOk result (λ _. PrintsPlan (S.facts store.now).flushed (shows_of given.entry)
+        (Filled given.entry.job.strict (ServesPlan (S.facts store.now) given.entry)) (O.held out.old) (O.held out.new)) }
+    ensures unprinted { IfErr result (λ _. CutsPlan (S.facts store.now).flushed (shows_of given.entry)
+        (Filled given.entry.job.strict (ServesPlan (S.facts store.now) given.entry)) (O.held out.old) (O.held out.new)) }
     ensures asked { IfOk result (λ _. asks_plan given.entry ≡ true) }
-    ensures first { IfErr result (OrUsage (asks_plan given.entry) (RefusesPlan (S.facts store.now).lacked (S.facts store.now).flushed
-        given.entry.times (ServesPlan (S.facts store.now) given.entry) (O.held out.old) (O.held out.new))) }
+    ensures first { IfErr result (OrUsage (asks_plan given.entry) (RefusesPlan given.entry.job.strict (S.facts store.now).lacked
+        (S.facts store.now).flushed (shows_of given.entry) (ServesPlan (S.facts store.now) given.entry) (O.held out.old) (O.held out.new))) }
 {
-    let PlanArgs { job, times, map } = given;
+    let PlanArgs {
+        job,
+        times,
+        regions,
+        map,
+    } = given;
     let request = request_of(job).ok_or(Refusal::Usage)?;
-    let Outline { lines, rest } = run_plan(alloc, store, &request, times, map);
+    let Outline { lines, rest } = run_plan(alloc, store, &request, Shows { times, regions }, map);
     match rest {
         Ok(rest) => print_whole(lines.as_slice(), rest.as_slice(), out),
         Err(refusal) => Err(print_lines(lines.as_slice(), refusal, out)),
@@ -116,14 +122,16 @@ fn run_plan<S: FileStore>(
     alloc: Global,
     store: &S,
     request: &Request<'_>,
-    times: bool,
+    shows: Shows,
     map: Option<&str>,
 ) -> Outline
-    ensures whole { IfOk result.rest (λ rest. ForAsked Job (IsJobOf (S.facts store.now) request.now (option_map (λ t. t.now) map.entry))
-        (IsWhole (S.facts store.now).flushed times result.lines.items rest.items)) }
+    ensures whole { IfOk result.rest (λ rest. ForAsked Job
+        (Filled request.now.strict (IsJobOf (S.facts store.now) request.now (option_map (λ t. t.now) map.entry)))
+        (IsWhole (S.facts store.now).flushed shows result.lines.items rest.items)) }
     ensures part { IfErr result.rest (λ _. (result.lines.items ≡ [])
-        ⊎ ForAsked Job (IsJobOf (S.facts store.now) request.now (option_map (λ t. t.now) map.entry)) (IsPart result.lines.items)) }
-    ensures refused { IfErr result.rest (StopsTask (S.facts store.now).lacked
+        ⊎ ForAsked Job (Filled request.now.strict (IsJobOf (S.facts store.now) request.now (option_map (λ t. t.now) map.entry)))
+        (IsPart result.lines.items)) }
+    ensures refused { IfErr result.rest (StopsAsked request.now.strict (S.facts store.now).lacked
         (IsJobOf (S.facts store.now) request.now (option_map (λ t. t.now) map.entry))) }
 {
     match open_files(alloc, store, request, map) {
@@ -135,12 +143,23 @@ fn run_plan<S: FileStore>(
                 map,
             } = files;
             let inputs = inputs_of(request, &texts);
-            outline_of(alloc, store, &inputs, &mut content, len, times, map)
+            match refuse_empty(alloc, request.strict, &inputs, len) {
+                Ok(()) => outline_job(alloc, store, &inputs, &mut content, len, shows, map),
+                Err(refusal) => unplanned(alloc, refusal),
+            }
         }
-        Err(refusal) => Outline {
-            lines: Vec::new(alloc),
-            rest: Err(refusal),
-        },
+        Err(refusal) => unplanned(alloc, refusal),
+    }
+}
+
+/// No lines, and why there are none.
+fn unplanned(alloc: Global, refusal: Refusal) -> Outline
+    ensures none { result.lines.items ≡ [] }
+    ensures refused { result.rest ≡ Err refusal }
+{
+    Outline {
+        lines: Vec::new(alloc),
+        rest: Err(refusal),
     }
 }
 

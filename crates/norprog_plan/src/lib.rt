@@ -7,6 +7,7 @@
 mod command;
 mod drawing;
 mod outline;
+mod regions;
 
 pub use command::plan;
 pub use norprog_common::PlanArgs;

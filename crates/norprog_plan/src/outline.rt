@@ -11,10 +11,11 @@ ghost use Rattle.nor_times.specs.Plan.{plan_of};
 ghost use Rattle.norprog.specs.PlanWindows.{plan_text};
 ghost use Rattle.norprog.specs.Report.{report_text};
 ghost use Rattle.norprog_common.specs.declared.faults.Refusal.TheVariants.{Build};
-ghost use Rattle.norprog_plan.specs.Answer.{behind_lines, in_memory, times_lines, read_lines, Draws, IsLines, IsPart, IsWhole, StopsTask};
+ghost use Rattle.norprog_plan.specs.Answer.{behind_lines, in_memory, times_lines, read_lines, Draws, IsLines, IsPart, IsShown, IsWhole, StopsTask};
 ghost use Rattle.norprog_common.specs.Served.{job_with, Is};
 
 use crate::drawing::draw_file;
+use crate::regions::with_regions;
 use nor_base::{ByteIn, ByteOut, Failed, IntoWrite, Meaning, Start};
 use nor_job::{BuildFault, Inputs, Source, chip_of};
 use nor_plan_read::{PlanLine, read_plan};
@@ -31,9 +32,43 @@ pub(crate) struct Outline {
     pub rest: Result<Vec<u8>, Refusal>,
 }
 
+/// What is told besides a plan's lines and its report.
+#[derive(Clone, Copy)]
+pub(crate) struct Shows {
+    /// How long it takes.
+    pub times: bool,
+    /// What the image gives each chosen region.
+    pub regions: bool,
+}
+
+/// What tells the plan of a job, with the lines that are asked for; it is drawn where there is a file for that. Memory is taken
+/// for the text.
+pub(crate) fn outline_job<S: FileStore, R: ByteIn>(
+    alloc: Global,
+    store: &S,
+    inputs: &Inputs<'_>,
+    content: &mut R,
+    len: u64,
+    shows: Shows,
+    map: Option<S::Output>,
+) -> Outline
+    requires content { R.count content.old < 2 ^ 64 - 1 }
+    requires map { IfSome map (λ file. S.Output.count file < 2 ^ 64 - 1) }
+    ensures whole { IfOk result.rest (λ rest. IsWhole (S.facts store.now).flushed shows result.lines.items rest.items
+        (job_with inputs.now (R.ahead content.old) len (option_map S.Output.held map))) }
+    ensures part { IfErr result.rest (λ _. (result.lines.items ≡ [])
+        ⊎ IsPart result.lines.items (job_with inputs.now (R.ahead content.old) len (option_map S.Output.held map))) }
+    ensures refused { IfErr result.rest (StopsTask (S.facts store.now).lacked
+        (Is (job_with inputs.now (R.ahead content.old) len (option_map S.Output.held map)))) }
+{
+    let Outline { lines, rest } = outline_of(alloc, store, inputs, content, len, shows.times, map);
+    let rest = with_regions(alloc, inputs, len, shows.regions, rest);
+    Outline { lines, rest }
+}
+
 /// What tells the plan of the inputs, with the lines of its times where they are asked for; it is drawn where there is a file for
 /// that. Memory is taken for the text.
-pub(crate) fn outline_of<S: FileStore, R: ByteIn>(
+fn outline_of<S: FileStore, R: ByteIn>(
     alloc: Global,
     store: &S,
     inputs: &Inputs<'_>,
@@ -44,7 +79,7 @@ pub(crate) fn outline_of<S: FileStore, R: ByteIn>(
 ) -> Outline
     requires content { R.count content.old < 2 ^ 64 - 1 }
     requires map { IfSome map (λ file. S.Output.count file < 2 ^ 64 - 1) }
-    ensures whole { IfOk result.rest (λ rest. IsWhole (S.facts store.now).flushed times result.lines.items rest.items
+    ensures whole { IfOk result.rest (λ rest. IsShown (S.facts store.now).flushed times result.lines.items rest.items
         (job_with inputs.now (R.ahead content.old) len (option_map S.Output.held map))) }
     ensures part { IfErr result.rest (λ _. (result.lines.items ≡ [])
         ⊎ IsPart result.lines.items (job_with inputs.now (R.ahead content.old) len (option_map S.Output.held map))) }

@@ -159,6 +159,7 @@ fn one_byte<'a>(alloc: Global) -> Given<'a> {
         base: None,
         content: Some("content"),
         verify: false,
+        strict: false,
         erased_only: false,
         regions: Vec::new(alloc),
     }

@@ -11,8 +11,8 @@ pub(crate) const TOPICS: &[Topic] = &[
         "A value isn't of its form, or options don't go together. Give exactly one of\n\
          --sfdp and --uniform, and no --bits with --uniform. Write numbers only in\n\
          digits, and --status as six hexadecimal digits. The command's --help has each\n\
-         form. Of draw: the script may lack the step of --from. Of explain: it has\n\
-         nothing on these words; without words it lists what you can ask.",
+         form. Of explain: it has nothing on these words; without words it lists what\n\
+         you can ask.",
     ),
     (
         "file hex",
@@ -150,6 +150,13 @@ pub(crate) const TOPICS: &[Topic] = &[
         "bin size",
         "The raw image's last byte would lie past address FFFFFFFF. Correct --at, or\n\
          give a shorter image. The output wasn't touched.",
+    ),
+    (
+        "empty region",
+        "With --strict: the image gives this chosen region no byte. It is counted from 0,\n\
+         in the order of the names; where no region is named, 0 is the whole chip.\n\
+         `plan --regions` shows what each gets. Correct --base, the names or the layout,\n\
+         or leave --strict out. The output holds no script.",
     ),
     (
         "content short",

@@ -100,9 +100,11 @@ pub(crate) const TOPICS: &[Topic] = &[
     ),
     (
         "region",
-        "A region of the sector map, from address 0 on: its bytes, and the sum of the\n\
-         kinds that may erase there: 1 for kind 1, 2 for kind 2, 4 for kind 3, 8 for\n\
-         kind 4. A kind that the chip lacks has no effect.",
+        "As a line of sfdp: a region of the sector map, from address 0 on: its bytes,\n\
+         and the sum of the kinds that may erase there: 1 for kind 1, 2 for kind 2, 4\n\
+         for kind 3, 8 for kind 4. A kind that the chip lacks has no effect. As a line\n\
+         of plan: a chosen region, its first and its last address, how many of its bytes\n\
+         the image gives, and the lowest address of these; `empty` where it gives none.",
     ),
 ];
 

@@ -30,7 +30,8 @@ pub(crate) const TOPICS: &[Topic] = &[
     (
         "strategy S5",
         "The chip has more than 16 MiB, but norprog can reach only the first 16 MiB, by\n\
-         three address bytes. It refuses a change past them (plan 2).",
+         three address bytes. It refuses a change past them (plan 2). If the chip is in\n\
+         four-byte mode already, give --mode4.",
     ),
     (
         "strategy",

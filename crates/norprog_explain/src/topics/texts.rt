@@ -121,6 +121,11 @@ pub(crate) const TOPICS: &[Topic] = &[
          added. Write the script again.",
     ),
     (
+        "script steps",
+        "The script has only this number of steps, counted from 0, and no step that\n\
+         --from names. Give a smaller --from. The output wasn't touched.",
+    ),
+    (
         "script",
         "The script file is wrong; the first number says why, the second is the line.\n\
          Ask for the word with its number, 1 to 6.",

@@ -5,8 +5,9 @@ use Rattle.norprog_common.proofs.ToldLemmas.{asked_wider, or_usage}
 use Rattle.norprog_build.specs.Served.{asks_build, ServesBuild}
 use Rattle.norprog_build.specs.Answer.{IsReportOf}
 use Rattle.norprog_common.specs.Served.{Job, IsJobOf}
-use Rattle.norprog_build.proofs.AnswerLemmas.{build_wider, unsent}
-use Rattle.norprog_build.proofs.ServedLemmas.{build_serves, build_asked}
+use Rattle.norprog_common.specs.Strict.{Filled}
+use Rattle.norprog_build.proofs.AnswerLemmas.{unsent}
+use Rattle.norprog_build.proofs.ServedLemmas.{build_filled, build_refused, build_asked}
 use Rattle.norprog_common.proofs.ServedLemmas.{no_job}
 use Rattle.norprog_build.proofs.command.report_build.Goals as goal
 
@@ -14,11 +15,11 @@ pub returns-in-Ok-clause-printed : goal.returns-in-Ok-clause-printed
 returns-in-Ok-clause-printed g c =
     let files = g.S.FileStore.facts c.args.store.now in
     let out = ap (option_map (λ t. t.now)) c.in_ok-path.ensures.ok_part in
-    let wider = build_serves files c.args.given c.request_of.result c.in_ok-request.request c.in_ok-path.path.now
+    let wider = build_filled files c.args.given c.request_of.result c.in_ok-request.request c.in_ok-path.path.now
     c.in_ok-request.ensures.ok_part c.request_of.ensures.values out in
     record {
       report = c.in_ok-report.report;
-      of_build = asked_wider Job (IsJobOf files c.in_ok-request.request (Some c.in_ok-path.path.now)) (ServesBuild files c.args.given) (IsReportOf files.flushed c.in_ok-report.report) wider c.in_ok-report.ensures.built;
+      of_build = asked_wider Job (Filled c.in_ok-request.request.strict (IsJobOf files c.in_ok-request.request (Some c.in_ok-path.path.now))) (Filled c.args.given.job.strict (ServesBuild files c.args.given)) (IsReportOf files.flushed c.in_ok-report.report) wider c.in_ok-report.ensures.built;
       put = c.in-Ok.ensures.bytes;
     }
 
@@ -26,22 +27,22 @@ pub returns-in_err-report-clause-first : goal.returns-in_err-report-clause-first
 returns-in_err-report-clause-first g c =
     let files = g.S.FileStore.facts c.args.store.now in
     let out = ap (option_map (λ t. t.now)) c.in_ok-path.ensures.ok_part in
-    let wider = build_serves files c.args.given c.request_of.result c.in_ok-request.request c.in_ok-path.path.now
+    let wider = build_refused files c.args.given c.request_of.result c.in_ok-request.request c.in_ok-path.path.now
     c.in_ok-request.ensures.ok_part c.request_of.ensures.values out in
     let formed = build_asked c.args.given c.request_of.result c.in_ok-request.request c.in_ok-path.path.now
     c.in_ok-request.ensures.ok_part c.request_of.ensures.forms out in
     handed_on _ _ _ c.from_residual-in_err-report.ensures.1
-    (or_usage _ _ _ formed (build_wider files.lacked (IsJobOf files c.in_ok-request.request (Some c.in_ok-path.path.now)) (ServesBuild files c.args.given) wider _ c.in_err-report.ensures.refused))
+    (or_usage _ _ _ formed (wider _ c.in_err-report.ensures.refused))
 
 pub returns-clause-unprinted : goal.returns-clause-unprinted
 returns-clause-unprinted g c =
     let files = g.S.FileStore.facts c.args.store.now in
     let out = ap (option_map (λ t. t.now)) c.in_ok-path.ensures.ok_part in
-    let wider = build_serves files c.args.given c.request_of.result c.in_ok-request.request c.in_ok-path.path.now
+    let wider = build_filled files c.args.given c.request_of.result c.in_ok-request.request c.in_ok-path.path.now
     c.in_ok-request.ensures.ok_part c.request_of.ensures.values out in
     inr (
       c.in_ok-report.report,
-      asked_wider Job (IsJobOf files c.in_ok-request.request (Some c.in_ok-path.path.now)) (ServesBuild files c.args.given) (IsReportOf files.flushed c.in_ok-report.report) wider c.in_ok-report.ensures.built,
+      asked_wider Job (Filled c.in_ok-request.request.strict (IsJobOf files c.in_ok-request.request (Some c.in_ok-path.path.now))) (Filled c.args.given.job.strict (ServesBuild files c.args.given)) (IsReportOf files.flushed c.in_ok-report.report) wider c.in_ok-report.ensures.built,
       c.in-Err.ensures.bytes,
     )
 
@@ -49,14 +50,14 @@ pub returns-clause-first : goal.returns-clause-first
 returns-clause-first g c =
     let files = g.S.FileStore.facts c.args.store.now in
     let out = ap (option_map (λ t. t.now)) c.in_ok-path.ensures.ok_part in
-    let wider = build_serves files c.args.given c.request_of.result c.in_ok-request.request c.in_ok-path.path.now
+    let wider = build_filled files c.args.given c.request_of.result c.in_ok-request.request c.in_ok-path.path.now
     c.in_ok-request.ensures.ok_part c.request_of.ensures.values out in
     let formed = build_asked c.args.given c.request_of.result c.in_ok-request.request c.in_ok-path.path.now
     c.in_ok-request.ensures.ok_part c.request_of.ensures.forms out in
     or_usage _ _ _ formed (inr (
       c.in_ok-report.report,
-      unsent (ServesBuild files c.args.given) files.flushed c.in_ok-report.report
-          (asked_wider Job (IsJobOf files c.in_ok-request.request (Some c.in_ok-path.path.now)) (ServesBuild files c.args.given) (IsReportOf files.flushed c.in_ok-report.report) wider c.in_ok-report.ensures.built),
+      unsent (Filled c.args.given.job.strict (ServesBuild files c.args.given)) files.flushed c.in_ok-report.report
+          (asked_wider Job (Filled c.in_ok-request.request.strict (IsJobOf files c.in_ok-request.request (Some c.in_ok-path.path.now))) (Filled c.args.given.job.strict (ServesBuild files c.args.given)) (IsReportOf files.flushed c.in_ok-report.report) wider c.in_ok-report.ensures.built),
     ))
 
 pub returns-in_err-request-clause-first : goal.returns-in_err-request-clause-first

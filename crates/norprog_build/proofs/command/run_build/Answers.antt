@@ -2,7 +2,9 @@
 use Rattle.std.proofs.Common.{Some}
 use Rattle.norprog_common.proofs.StoreLemmas.{made_apart}
 use Rattle.norprog_common.specs.Served.{IsJobOf, held_in, input_files_of}
-use Rattle.norprog_build.proofs.AnswerLemmas.{report_of, refusal_of_build}
+use Rattle.nor_base.proofs.FaultLaws.{handed_on}
+use Rattle.norprog_common.specs.Strict.{Filled}
+use Rattle.norprog_build.proofs.AnswerLemmas.{report_of, refusal_of_build, empty_refused}
 use Rattle.norprog_common.proofs.ServedLemmas.{job_of}
 use Rattle.norprog_build.proofs.command.run_build.Goals as goal
 
@@ -13,7 +15,7 @@ returns-clause-built g c =
     c.in_ok-script.ensures.made in
     let asked = job_of files c.args.request.now (Some c.args.path.now) c.inputs_of-inputs.result _ _ (Some _) (held_in c.in_ok-texts.texts)
     c.in_ok-texts.ensures.given c.inputs_of-inputs.ensures c.in_ok-texts.ensures.content made in
-    report_of (IsJobOf files c.args.request.now (Some c.args.path.now)) files.flushed _ _ _ _ _ _ c.build-answer.result c.flush-flushed.result _ asked
+    report_of (Filled c.args.request.now.strict (IsJobOf files c.args.request.now (Some c.args.path.now))) files.flushed _ _ _ _ _ _ c.build-answer.result c.flush-flushed.result _ (asked, c.in_ok-refuse_empty.ensures.filled)
     c.build-answer.ensures.built c.flush-flushed.ensures.flushed c.done.ensures
 
 pub returns-clause-refused : goal.returns-clause-refused
@@ -23,5 +25,15 @@ returns-clause-refused g c =
     c.in_ok-script.ensures.made in
     let asked = job_of files c.args.request.now (Some c.args.path.now) c.inputs_of-inputs.result _ _ (Some _) (held_in c.in_ok-texts.texts)
     c.in_ok-texts.ensures.given c.inputs_of-inputs.ensures c.in_ok-texts.ensures.content made in
-    refusal_of_build files.lacked _ _ (IsJobOf files c.args.request.now (Some c.args.path.now)) _ _ _ _ _ _ c.build-answer.result c.flush-flushed.result _ asked
+    refusal_of_build c.args.request.now.strict files.lacked _ _ (IsJobOf files c.args.request.now (Some c.args.path.now)) _ _ _ _ _ _ c.build-answer.result c.flush-flushed.result _ (asked, c.in_ok-refuse_empty.ensures.filled)
     c.build-answer.ensures.built c.build-answer.ensures.refused c.done.ensures
+
+pub returns-in_err-refuse_empty-clause-refused : goal.returns-in_err-refuse_empty-clause-refused
+returns-in_err-refuse_empty-clause-refused g c =
+    let files = g.S.FileStore.facts c.args.store.now in
+    let made = made_apart files (input_files_of c.args.request.now) c.args.path.now _ _ _ _ c.new-places.ensures.items c.in_ok-texts.ensures.noted c.as_slice.ensures.value
+    c.in_ok-script.ensures.made in
+    let asked = job_of files c.args.request.now (Some c.args.path.now) c.inputs_of-inputs.result _ _ (Some _) (held_in c.in_ok-texts.texts)
+    c.in_ok-texts.ensures.given c.inputs_of-inputs.ensures c.in_ok-texts.ensures.content made in
+    handed_on _ _ _ c.from_residual-in_err-refuse_empty.ensures.1
+    (empty_refused c.args.request.now.strict files.lacked (IsJobOf files c.args.request.now (Some c.args.path.now)) _ _ asked c.in_err-refuse_empty.ensures.refused)

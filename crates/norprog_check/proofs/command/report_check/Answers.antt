@@ -1,13 +1,13 @@
 -- The verdict is on what the texts ask for.
 use Rattle.std.proofs.Common.{ap, inr, is_some, None, option_map, ◌&&◌}
 use Rattle.norprog_common.specs.FileStore.{IsTextIn}
-use Rattle.norprog_common.specs.Told.{OrScript}
+use Rattle.norprog_common.specs.Strict.{Filled}
 use Rattle.nor_base.proofs.FaultLaws.{handed_on}
 use Rattle.norprog_common.proofs.ToldLemmas.{or_usage}
 use Rattle.norprog_check.specs.Served.{asks_check, ServesCheck, ServesScript}
 use Rattle.norprog_common.specs.Served.{IsJobOf}
-use Rattle.norprog_check.proofs.AnswerLemmas.{check_wider, verdict_wider}
-use Rattle.norprog_check.proofs.ServedLemmas.{check_serves, check_asked, script_serves}
+use Rattle.norprog_check.proofs.AnswerLemmas.{verdict_wider}
+use Rattle.norprog_check.proofs.ServedLemmas.{check_filled, check_refused, check_asked, script_serves}
 use Rattle.norprog_common.proofs.ServedLemmas.{no_job}
 use Rattle.norprog_check.proofs.command.report_check.Goals as goal
 
@@ -15,33 +15,31 @@ pub returns-in-Ok-clause-checked : goal.returns-in-Ok-clause-checked
 returns-in-Ok-clause-checked g c =
     let files = g.S.FileStore.facts c.args.store.now in
     let script = ap (option_map (λ t. t.now)) c.in_ok-path.ensures.ok_part in
-    let wider = check_serves files c.args.given c.request_of.result c.in_ok-request.request
+    let wider = check_filled files c.args.given c.request_of.result c.in_ok-request.request
     c.in_ok-request.ensures.ok_part c.request_of.ensures.values in
     let more = script_serves files c.args.given c.in_ok-path.path.now script in
-    verdict_wider (IsJobOf files c.in_ok-request.request None) (ServesCheck files c.args.given) (IsTextIn files c.in_ok-path.path.now) (ServesScript files c.args.given) wider more c.in_ok-found.found c.in_ok-found.ensures.checked
+    verdict_wider (Filled c.in_ok-request.request.strict (IsJobOf files c.in_ok-request.request None)) (Filled c.args.given.job.strict (ServesCheck files c.args.given)) (IsTextIn files c.in_ok-path.path.now) (ServesScript files c.args.given) wider more c.in_ok-found.found c.in_ok-found.ensures.checked
 
 pub returns-in_err-found-clause-first : goal.returns-in_err-found-clause-first
 returns-in_err-found-clause-first g c =
     let files = g.S.FileStore.facts c.args.store.now in
     let script = ap (option_map (λ t. t.now)) c.in_ok-path.ensures.ok_part in
-    let wider = check_serves files c.args.given c.request_of.result c.in_ok-request.request
-    c.in_ok-request.ensures.ok_part c.request_of.ensures.values in
-    let more = script_serves files c.args.given c.in_ok-path.path.now script in
     let formed = check_asked c.args.given c.request_of.result c.in_ok-request.request c.in_ok-path.path.now
     c.in_ok-request.ensures.ok_part c.request_of.ensures.forms script in
     handed_on _ _ _ c.from_residual-in_err-found.ensures.1
-    (or_usage _ _ _ formed (check_wider (OrScript files.lacked) (OrScript files.lacked) (IsJobOf files c.in_ok-request.request None) (ServesCheck files c.args.given) (IsTextIn files c.in_ok-path.path.now) (ServesScript files c.args.given) (λ name lacks. lacks) wider more _ c.in_err-found.ensures.refused))
+    (or_usage _ _ _ formed (check_refused files c.args.given c.request_of.result c.in_ok-request.request c.in_ok-path.path.now
+    c.in_ok-request.ensures.ok_part c.request_of.ensures.values script _ c.in_err-found.ensures.refused))
 
 pub returns-clause-unprinted : goal.returns-clause-unprinted
 returns-clause-unprinted g c =
     let files = g.S.FileStore.facts c.args.store.now in
     let script = ap (option_map (λ t. t.now)) c.in_ok-path.ensures.ok_part in
-    let wider = check_serves files c.args.given c.request_of.result c.in_ok-request.request
+    let wider = check_filled files c.args.given c.request_of.result c.in_ok-request.request
     c.in_ok-request.ensures.ok_part c.request_of.ensures.values in
     let more = script_serves files c.args.given c.in_ok-path.path.now script in
     inr (
       c.in_ok-found.found,
-      verdict_wider (IsJobOf files c.in_ok-request.request None) (ServesCheck files c.args.given) (IsTextIn files c.in_ok-path.path.now) (ServesScript files c.args.given) wider more c.in_ok-found.found c.in_ok-found.ensures.checked,
+      verdict_wider (Filled c.in_ok-request.request.strict (IsJobOf files c.in_ok-request.request None)) (Filled c.args.given.job.strict (ServesCheck files c.args.given)) (IsTextIn files c.in_ok-path.path.now) (ServesScript files c.args.given) wider more c.in_ok-found.found c.in_ok-found.ensures.checked,
       c.in-Err.ensures.bytes,
     )
 
@@ -49,14 +47,14 @@ pub returns-clause-first : goal.returns-clause-first
 returns-clause-first g c =
     let files = g.S.FileStore.facts c.args.store.now in
     let script = ap (option_map (λ t. t.now)) c.in_ok-path.ensures.ok_part in
-    let wider = check_serves files c.args.given c.request_of.result c.in_ok-request.request
+    let wider = check_filled files c.args.given c.request_of.result c.in_ok-request.request
     c.in_ok-request.ensures.ok_part c.request_of.ensures.values in
     let more = script_serves files c.args.given c.in_ok-path.path.now script in
     let formed = check_asked c.args.given c.request_of.result c.in_ok-request.request c.in_ok-path.path.now
     c.in_ok-request.ensures.ok_part c.request_of.ensures.forms script in
     or_usage _ _ _ formed (inr (
       c.in_ok-found.found,
-      verdict_wider (IsJobOf files c.in_ok-request.request None) (ServesCheck files c.args.given) (IsTextIn files c.in_ok-path.path.now) (ServesScript files c.args.given) wider more c.in_ok-found.found c.in_ok-found.ensures.checked,
+      verdict_wider (Filled c.in_ok-request.request.strict (IsJobOf files c.in_ok-request.request None)) (Filled c.args.given.job.strict (ServesCheck files c.args.given)) (IsTextIn files c.in_ok-path.path.now) (ServesScript files c.args.given) wider more c.in_ok-found.found c.in_ok-found.ensures.checked,
     ))
 
 pub returns-in_err-request-clause-first : goal.returns-in_err-request-clause-first

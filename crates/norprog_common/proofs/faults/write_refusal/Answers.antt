@@ -19,3 +19,13 @@ pub returns-in-BinSize-clause-bytes : goal.returns-in-BinSize-clause-bytes
 returns-in-BinSize-clause-bytes g c =
     subst (λ (refusal : Refusal). Writes (g.E.ByteOut.held c.args.err.now) (g.E.ByteOut.held c.put_line-in-BinSize.new.err) c.put_line-in-BinSize.result (printed refusal))
     (sym c.in-BinSize.is) c.put_line-in-BinSize.ensures.bytes
+
+pub returns-in-Steps-clause-bytes : goal.returns-in-Steps-clause-bytes
+returns-in-Steps-clause-bytes g c =
+    subst (λ (refusal : Refusal). Writes (g.E.ByteOut.held c.args.err.now) (g.E.ByteOut.held c.put_line-in-Steps.new.err) c.put_line-in-Steps.result (printed refusal))
+    (sym c.in-Steps.is) c.put_line-in-Steps.ensures.bytes
+
+pub returns-in-EmptyRegion-clause-bytes : goal.returns-in-EmptyRegion-clause-bytes
+returns-in-EmptyRegion-clause-bytes g c =
+    subst (λ (refusal : Refusal). Writes (g.E.ByteOut.held c.args.err.now) (g.E.ByteOut.held c.put_line-in-EmptyRegion.new.err) c.put_line-in-EmptyRegion.result (printed refusal))
+    (sym c.in-EmptyRegion.is) c.put_line-in-EmptyRegion.ensures.bytes

@@ -1,55 +1,57 @@
 -- The plan is of what the texts ask for.
 use Rattle.std.proofs.Common.{ap, option_map}
 use Rattle.nor_base.proofs.FaultLaws.{handed_on}
-use Rattle.norprog_plan.specs.Served.{asks_plan}
+use Rattle.norprog_plan.specs.Served.{asks_plan, shows_of, ServesPlan}
+use Rattle.norprog_common.specs.Strict.{Filled}
 use Rattle.norprog_common.specs.Served.{IsJobOf}
 use Rattle.norprog_plan.proofs.AnswerLemmas.{whole_of, part_of_lines, whole_printed, whole_cut, whole_refused, lines_cut, lines_refused}
-use Rattle.norprog_plan.proofs.ServedLemmas.{plan_serves}
+use Rattle.norprog_plan.proofs.ServedLemmas.{plan_filled, plan_stops}
 use Rattle.norprog_common.proofs.ServedLemmas.{is_formed, no_job}
 use Rattle.norprog_plan.proofs.command.report_plan.Goals as goal
 
 pub returns-in-Ok-clause-printed : goal.returns-in-Ok-clause-printed
 returns-in-Ok-clause-printed g c =
     let files = g.S.FileStore.facts c.args.store.now in
-    let wider = plan_serves files c.args.given c.request_of.result c.in_ok-request.request c.in_ok-request.ensures.ok_part c.request_of.ensures.values in
-    let whole = whole_of c.run_plan-lines.result.rest c.in-Ok.rest (λ rest. rest.items) files.flushed c.args.given.times (IsJobOf files c.in_ok-request.request (option_map (λ t. t.now) c.args.given.map))
+    let wider = plan_filled files c.args.given c.request_of.result c.in_ok-request.request c.in_ok-request.ensures.ok_part c.request_of.ensures.values in
+    let whole = whole_of c.run_plan-lines.result.rest c.in-Ok.rest (λ rest. rest.items) files.flushed (shows_of c.args.given) (Filled c.in_ok-request.request.strict (IsJobOf files c.in_ok-request.request (option_map (λ t. t.now) c.args.given.map)))
     _ _ _ c.in-Ok.is c.as_slice.ensures.value c.as_slice-in-Ok.ensures.value c.run_plan-lines.ensures.whole in
     whole_printed files.flushed _ _ _ wider _ _ _ _ _ whole c.print_whole.ensures.printed
 
 pub returns-in-Ok-clause-unprinted : goal.returns-in-Ok-clause-unprinted
 returns-in-Ok-clause-unprinted g c =
     let files = g.S.FileStore.facts c.args.store.now in
-    let wider = plan_serves files c.args.given c.request_of.result c.in_ok-request.request c.in_ok-request.ensures.ok_part c.request_of.ensures.values in
-    let whole = whole_of c.run_plan-lines.result.rest c.in-Ok.rest (λ rest. rest.items) files.flushed c.args.given.times (IsJobOf files c.in_ok-request.request (option_map (λ t. t.now) c.args.given.map))
+    let wider = plan_filled files c.args.given c.request_of.result c.in_ok-request.request c.in_ok-request.ensures.ok_part c.request_of.ensures.values in
+    let whole = whole_of c.run_plan-lines.result.rest c.in-Ok.rest (λ rest. rest.items) files.flushed (shows_of c.args.given) (Filled c.in_ok-request.request.strict (IsJobOf files c.in_ok-request.request (option_map (λ t. t.now) c.args.given.map)))
     _ _ _ c.in-Ok.is c.as_slice.ensures.value c.as_slice-in-Ok.ensures.value c.run_plan-lines.ensures.whole in
     whole_cut files.flushed _ _ _ wider _ _ _ _ _ whole c.print_whole.ensures.cut
 
 pub returns-in-Ok-clause-first : goal.returns-in-Ok-clause-first
 returns-in-Ok-clause-first g c =
     let files = g.S.FileStore.facts c.args.store.now in
-    let wider = plan_serves files c.args.given c.request_of.result c.in_ok-request.request c.in_ok-request.ensures.ok_part c.request_of.ensures.values in
+    let wider = plan_filled files c.args.given c.request_of.result c.in_ok-request.request c.in_ok-request.ensures.ok_part c.request_of.ensures.values in
     let formed = is_formed c.args.given.job c.request_of.result c.in_ok-request.request c.in_ok-request.ensures.ok_part c.request_of.ensures.forms in
-    let whole = whole_of c.run_plan-lines.result.rest c.in-Ok.rest (λ rest. rest.items) files.flushed c.args.given.times (IsJobOf files c.in_ok-request.request (option_map (λ t. t.now) c.args.given.map))
+    let whole = whole_of c.run_plan-lines.result.rest c.in-Ok.rest (λ rest. rest.items) files.flushed (shows_of c.args.given) (Filled c.in_ok-request.request.strict (IsJobOf files c.in_ok-request.request (option_map (λ t. t.now) c.args.given.map)))
     _ _ _ c.in-Ok.is c.as_slice.ensures.value c.as_slice-in-Ok.ensures.value c.run_plan-lines.ensures.whole in
-    whole_refused files.lacked files.flushed _ _ _ wider _ _ _ _ _ _ formed whole c.print_whole.ensures.cut c.print_whole.ensures.failed
+    whole_refused c.args.given.job.strict files.lacked files.flushed _ _ (ServesPlan files c.args.given) wider _ _ _ _ _ _ formed whole c.print_whole.ensures.cut c.print_whole.ensures.failed
 
 pub returns-clause-unprinted : goal.returns-clause-unprinted
 returns-clause-unprinted g c =
     let files = g.S.FileStore.facts c.args.store.now in
-    let wider = plan_serves files c.args.given c.request_of.result c.in_ok-request.request c.in_ok-request.ensures.ok_part c.request_of.ensures.values in
-    let part = part_of_lines c.run_plan-lines.result.rest c.in-Err.refusal (IsJobOf files c.in_ok-request.request (option_map (λ t. t.now) c.args.given.map))
+    let wider = plan_filled files c.args.given c.request_of.result c.in_ok-request.request c.in_ok-request.ensures.ok_part c.request_of.ensures.values in
+    let part = part_of_lines c.run_plan-lines.result.rest c.in-Err.refusal (Filled c.in_ok-request.request.strict (IsJobOf files c.in_ok-request.request (option_map (λ t. t.now) c.args.given.map)))
     _ _ c.in-Err.is c.as_slice-in-Err.ensures.value c.run_plan-lines.ensures.part in
-    lines_cut _ _ _ (λ same. ap g.O.ByteOut.held same) files.flushed c.args.given.times _ _ wider _ _ _ part c.print_lines.ensures
+    lines_cut _ _ _ (λ same. ap g.O.ByteOut.held same) files.flushed (shows_of c.args.given) _ _ wider _ _ _ part c.print_lines.ensures
 
 pub returns-clause-first : goal.returns-clause-first
 returns-clause-first g c =
     let files = g.S.FileStore.facts c.args.store.now in
-    let wider = plan_serves files c.args.given c.request_of.result c.in_ok-request.request c.in_ok-request.ensures.ok_part c.request_of.ensures.values in
+    let wider = plan_filled files c.args.given c.request_of.result c.in_ok-request.request c.in_ok-request.ensures.ok_part c.request_of.ensures.values in
     let formed = is_formed c.args.given.job c.request_of.result c.in_ok-request.request c.in_ok-request.ensures.ok_part c.request_of.ensures.forms in
-    let part = part_of_lines c.run_plan-lines.result.rest c.in-Err.refusal (IsJobOf files c.in_ok-request.request (option_map (λ t. t.now) c.args.given.map))
+    let part = part_of_lines c.run_plan-lines.result.rest c.in-Err.refusal (Filled c.in_ok-request.request.strict (IsJobOf files c.in_ok-request.request (option_map (λ t. t.now) c.args.given.map)))
     _ _ c.in-Err.is c.as_slice-in-Err.ensures.value c.run_plan-lines.ensures.part in
     let stops = rw c.in-Err.is at c.run_plan-lines.ensures.refused in
-    lines_refused files.lacked _ _ _ files.flushed c.args.given.times _ _ wider _ _ _ _ formed part stops c.print_lines.ensures
+    let asked = plan_stops files c.args.given c.request_of.result c.in_ok-request.request c.in_ok-request.ensures.ok_part c.request_of.ensures.values c.in-Err.refusal stops in
+    lines_refused c.args.given.job.strict files.lacked _ _ _ files.flushed (shows_of c.args.given) _ (ServesPlan files c.args.given) wider _ _ _ _ formed part asked c.print_lines.ensures
 
 pub returns-in_err-request-clause-first : goal.returns-in_err-request-clause-first
 returns-in_err-request-clause-first g c =

@@ -1,0 +1,150 @@
+//! The lines on what the image gives the chosen regions.
+
+ghost use Rattle.std.specs.Prelude.{◌≡◌, ◌<◌, ◌≤◌, ◌-◌, ◌^◌, ◌++◌, Err, IfOk, IfErr};
+ghost use Rattle.nor_base.specs.Device.{Writes, Counts};
+ghost use Rattle.nor_hex.specs.Image.{byte_at};
+ghost use Rattle.nor_job.specs.declared.fault.BuildFault.TheVariants.{Memory};
+ghost use Rattle.norprog_common.specs.declared.faults.Refusal.TheVariants.{Build};
+ghost use Rattle.norprog_plan.specs.Regions.{region_line, region_lines, share_line, AreRegionLines, EndsWith};
+
+use itoa::Buffer;
+use nor_base::{ByteOut, Failed, IntoWrite, put_parts};
+use nor_hex::Image;
+use nor_job::{Inputs, chosen_regions, job_of};
+use nor_layout::Region;
+use nor_script::hex_number;
+use nor_target::{Share, share_of};
+use norprog_common::Refusal;
+use std::alloc::Global;
+
+/// The text that stands behind a plan's lines, with those of the chosen regions where they are asked for.
+///
+/// `Memory` where a growth is refused; else the refusal that stands in the text's place.
+pub(crate) fn with_regions(
+    alloc: Global,
+    inputs: &Inputs<'_>,
+    len: u64,
+    regions: bool,
+    shown: Result<Vec<u8>, Refusal>,
+) -> Result<Vec<u8>, Refusal>
+    ensures told { IfOk shown (λ text. IfOk result (λ rest. EndsWith regions inputs.now len text.items rest.items)) }
+    ensures memory { IfOk shown (λ _. IfErr result (λ why. why ≡ Build Memory)) }
+    ensures kept { IfErr shown (λ why. result ≡ Err why) }
+{
+    let shown = shown?;
+    if !regions {
+        return Ok(shown);
+    }
+    let mut rest = shown;
+    let lines = lines_of(alloc, inputs, len)?;
+    rest.extend_from_slice(lines.as_slice())?;
+    Ok(rest)
+}
+
+/// The lines of the chosen regions. `Memory` where a growth is refused.
+fn lines_of(alloc: Global, inputs: &Inputs<'_>, len: u64) -> Result<Vec<u8>, Refusal>
+    ensures lines { IfOk result (λ lines. AreRegionLines inputs.now len lines.items) }
+    ensures refused { IfErr result (λ why. why ≡ Build Memory) }
+{
+    // the plan was made of these inputs, so no cause is left
+    let Ok(job) = job_of(alloc, inputs, len) else {
+        return Err(Refusal::MEMORY);
+    };
+    let Ok(regions) = chosen_regions(alloc, inputs, job.meaning.size) else {
+        return Err(Refusal::MEMORY);
+    };
+    lines_in(
+        alloc,
+        &job.image,
+        job.base,
+        job.meaning.size,
+        regions.as_slice(),
+    )
+}
+
+/// The lines of these regions. `Memory` where a growth is refused.
+fn lines_in(
+    alloc: Global,
+    image: &Image,
+    base: u32,
+    size: u32,
+    regions: &[Region<'_>],
+) -> Result<Vec<u8>, Refusal>
+    ensures lines { IfOk result (λ lines. lines.items ≡ region_lines (byte_at image.now) base size regions.now) }
+    ensures refused { IfErr result (λ why. why ≡ Build Memory) }
+{
+    let mut lines = IntoWrite::new(Vec::new(alloc));
+    for region in regions {
+        let share = share_of(image, base, size, region);
+        add_line(region, share, &mut lines)?;
+    }
+    Ok(lines.inner)
+}
+
+/// Adds the line of a region to lines in memory. `Memory` where a growth is refused.
+fn add_line(
+    region: &Region<'_>,
+    share: Option<Share>,
+    lines: &mut IntoWrite<Vec<u8>>,
+) -> Result<(), Refusal>
+    requires { lines.old.failed ≡ 0 }
+    ensures line { IfOk result (λ _. lines.new.inner.items ≡ lines.old.inner.items ++ region_line region.now share) }
+    ensures works { IfOk result (λ _. lines.new.failed ≡ 0) }
+    ensures refused { IfErr result (λ why. why ≡ Build Memory) }
+{
+    match write_line(region, share, lines) {
+        Ok(()) => Ok(()),
+        Err(_) => Err(Refusal::MEMORY),
+    }
+}
+
+/// Writes the line of a region.
+fn write_line<W: ByteOut>(
+    region: &Region<'_>,
+    share: Option<Share>,
+    out: &mut W,
+) -> Result<(), Failed>
+    requires { W.count out.old < 2 ^ 64 - 1 }
+    ensures bytes { Writes (W.held out.old) (W.held out.new) result (region_line region.now share) }
+    ensures count { Counts (W.count out.old) (W.count out.new) result }
+{
+    let Some(Share { count, first }) = share else {
+        return put_parts(out, &[b"region ", region.name, b" empty\n"]);
+    };
+    write_share(region, count, b" bytes from the image, first ", first, out)
+}
+
+/// Writes the line of a region to which the image gives a number of bytes, the first, after these words, at an address.
+fn write_share<W: ByteOut>(
+    region: &Region<'_>,
+    count: u64,
+    words: &[u8],
+    first: u32,
+    out: &mut W,
+) -> Result<(), Failed>
+    requires { W.count out.old < 2 ^ 64 - 1 }
+    ensures bytes { Writes (W.held out.old) (W.held out.new) result (share_line region.now count words.now first) }
+    ensures count { Counts (W.count out.old) (W.count out.new) result }
+{
+    let length = (u64::from(region.end) + 1).saturating_sub(u64::from(region.start));
+    let mut counted = Buffer::new();
+    let mut whole = Buffer::new();
+    put_parts(
+        out,
+        &[
+            b"region ",
+            region.name,
+            b" ",
+            &hex_number(region.start),
+            b" ",
+            &hex_number(region.end),
+            b" ",
+            counted.format(count).as_bytes(),
+            b" of ",
+            whole.format(length).as_bytes(),
+            words,
+            &hex_number(first),
+            b"\n",
+        ],
+    )
+}
