@@ -19,6 +19,7 @@ use Rattle.norprog_list.specs.Answer.{AnswersList}
 use Rattle.norprog_play.specs.Answer.{AnswersPlay}
 use Rattle.norprog_read.specs.Answer.{PrintsReading}
 use Rattle.norprog_run.specs.Answer.{AnswersRun}
+use Rattle.norprog_script.specs.Answer.{AnswersScript}
 
 -- to what is asked for, each command its answer, by what is known of files by their names; to words that couldn't be read, why
 abbrev pub AnswersTo : FileFacts → Result Asked Refusal → Option (List ℕ) → Option (List ℕ) → Type 0 → Type 0 → Option (List ℕ) → Option (List ℕ) → ℕ → Type 0
@@ -44,6 +45,8 @@ AnswersTo files (Ok (command.Sfdp given)) before after Quiet Works told_before t
     AnswersChip files given before after Quiet Works told_before told_after status
 AnswersTo files (Ok (command.Hex given)) before after Quiet Works told_before told_after status =
     (after ≡ before) × AnswersHex files given Quiet Works told_before told_after status
+AnswersTo files (Ok (command.Script given)) before after Quiet Works told_before told_after status =
+    AnswersScript files given before after Quiet Works told_before told_after status
 AnswersTo files (Ok (command.Explain words)) before after Quiet Works told_before told_after status =
     AnswersExplain (explained topics words.items) before after Quiet Works told_before told_after status
 AnswersTo files (Err why) before after Quiet Works told_before told_after status =

@@ -4,7 +4,7 @@ use Rattle.nor_job.specs.declared.fault.BuildFault.{BuildFault}
 use Rattle.nor_job.specs.declared.fault.BuildFault.TheVariants as fault
 use Rattle.norprog_common.specs.declared.faults.FileName.{FileName}
 use Rattle.norprog_common.specs.declared.faults.Refusal.{Refusal}
-use Rattle.norprog_common.specs.declared.faults.Refusal.TheVariants.{Text, Usage, File, Build, Page, Script, BinSize}
+use Rattle.norprog_common.specs.declared.faults.Refusal.TheVariants.{Text, Usage, File, Build, Page, Script, BinSize, Log}
 use Rattle.norprog_common.specs.Files.{TellsFile}
 use Rattle.norprog_common.specs.Lines.{status_after}
 use Rattle.norprog_common.specs.Told.{ForAsked, OfFault, RefusesFor, OrUsage}
@@ -21,6 +21,7 @@ fault_wider P Q wider (File name) is = absurd is
 fault_wider P Q wider Page is = absurd is
 fault_wider P Q wider (Script why) is = absurd is
 fault_wider P Q wider BinSize is = absurd is
+fault_wider P Q wider (Log line) is = absurd is
 
 -- a fault of the work is told as such
 pub by_fault : (Lacked : FileName → Type 0) (Fault : Refusal → Type 0) (Done : Type 0) (why : Refusal) → Fault why → RefusesFor Lacked Fault Done why
@@ -42,6 +43,7 @@ by_fault Lacked Fault Done Usage is = is
 by_fault Lacked Fault Done Page is = is
 by_fault Lacked Fault Done (Script why) is = is
 by_fault Lacked Fault Done BinSize is = is
+by_fault Lacked Fault Done (Log line) is = is
 
 -- and a file that couldn't be used as that
 pub by_files : (Lacked Other : FileName → Type 0) (Fault : Refusal → Type 0) (Done : Type 0) (why : Refusal) → ((name : FileName) → Lacked name → Other name)
@@ -64,6 +66,7 @@ by_files Lacked Other Fault Done Usage wider is = absurd is
 by_files Lacked Other Fault Done Page wider is = absurd is
 by_files Lacked Other Fault Done (Script why) wider is = absurd is
 by_files Lacked Other Fault Done BinSize wider is = absurd is
+by_files Lacked Other Fault Done (Log line) wider is = absurd is
 
 -- with more files, more faults, and more that may have been done, no refusal is lost
 pub refuses_wider : (L M : FileName → Type 0) (F G : Refusal → Type 0) (D E : Type 0) → ((name : FileName) → L name → M name)
@@ -86,6 +89,7 @@ refuses_wider L M F G D E files wider more Usage is = wider Usage is
 refuses_wider L M F G D E files wider more Page is = wider Page is
 refuses_wider L M F G D E files wider more (Script why) is = wider (Script why) is
 refuses_wider L M F G D E files wider more BinSize is = wider BinSize is
+refuses_wider L M F G D E files wider more (Log line) is = wider (Log line) is
 
 -- a refusal of the work is one of texts that ask for it
 pub or_usage : (asks : Bool) (Work : Refusal → Type 0) (why : Refusal) → asks ≡ true → Work why → OrUsage asks Work why
@@ -100,3 +104,4 @@ refused_status (Build why) status is = omega (arith, is)
 refused_status Page status is = omega (arith, is)
 refused_status (Script why) status is = omega (arith, is)
 refused_status BinSize status is = omega (arith, is)
+refused_status (Log line) status is = omega (arith, is)

@@ -32,6 +32,7 @@ pub enum FileName {
     Tables,
     Before,
     Resume,
+    Log,
 }
 
 /// What stands behind the words of a refusal.
@@ -61,6 +62,8 @@ pub enum Refusal {
     Script(ScriptFault),
     /// A raw image reaches past the last address.
     BinSize,
+    /// The line of this number is none of a log.
+    Log(u64),
 }
 
 impl Refusal {
@@ -133,7 +136,8 @@ fn exit_status(refusal: &Refusal) -> u8
         | Refusal::Build(_)
         | Refusal::Page
         | Refusal::Script(_)
-        | Refusal::BinSize => 1,
+        | Refusal::BinSize
+        | Refusal::Log(_) => 1,
     }
 }
 
@@ -157,6 +161,7 @@ fn write_refusal<E: ByteOut>(refusal: &Refusal, err: &mut E) -> Result<(), Faile
             put_line(err, words, behind)
         }
         Refusal::BinSize => put_line(err, b"bin size", Behind::Nothing),
+        Refusal::Log(line) => put_line(err, b"log line ", Behind::Number(*line)),
     }
 }
 
@@ -199,6 +204,7 @@ fn file_words(name: FileName) -> &'static [u8]
         FileName::Tables => b"file tables",
         FileName::Before => b"file before",
         FileName::Resume => b"file resume",
+        FileName::Log => b"file log",
     }
 }
 

@@ -2,7 +2,7 @@
 
 ghost use Rattle.std.specs.Prelude.{◌≡◌, map, IfOk};
 ghost use Rattle.clap.specs.Words.{found_of};
-ghost use Rattle.norprog_options.specs.Options.{texts_of, IsBuildIn, IsCheckIn, IsJobIn, IsChipIn, IsDrawIn, IsFlashIn, IsHexIn, IsListIn, IsPlanIn, IsPlayIn, IsReadIn, IsRunIn, IsSetupIn, IsAsked, IsAskedBySome};
+ghost use Rattle.norprog_options.specs.Options.{texts_of, IsBuildIn, IsCheckIn, IsJobIn, IsChipIn, IsDrawIn, IsFlashIn, IsHexIn, IsListIn, IsPlanIn, IsPlayIn, IsReadIn, IsRunIn, IsScriptIn, IsSetupIn, IsAsked, IsAskedBySome};
 
 use crate::arguments::norprog;
 use clap::error::ErrorKind;
@@ -10,7 +10,7 @@ use clap::{ArgMatches, Error};
 use nor_base::Bytes;
 use norprog_common::{
     BuildArgs, CheckArgs, ChipArgs, DrawArgs, FlashArgs, Given, HexArgs, ListArgs, PlanArgs,
-    PlayArgs, ReadArgs, Refusal, RunArgs, SetupArgs,
+    PlayArgs, ReadArgs, Refusal, RunArgs, ScriptArgs, SetupArgs,
 };
 use std::alloc::Global;
 
@@ -28,6 +28,7 @@ pub enum Asked<'a> {
     Flash(FlashArgs<'a>),
     Sfdp(ChipArgs<'a>),
     Hex(HexArgs<'a>),
+    Script(ScriptArgs<'a>),
     /// The words that are asked about.
     Explain(Vec<Bytes>),
 }
@@ -78,6 +79,9 @@ fn script_asked<'a>(alloc: Global, matches: &ArgMatches<'a>) -> Result<Asked<'a>
     }
     if let Some(play) = matches.subcommand_matches("play") {
         return Ok(Asked::Play(play_in(play)));
+    }
+    if let Some(script) = matches.subcommand_matches("script") {
+        return Ok(Asked::Script(script_in(script)));
     }
     meaning_asked(alloc, matches)
 }
@@ -241,6 +245,17 @@ fn hex_in<'a>(hex: &ArgMatches<'a>) -> HexArgs<'a>
         bin: hex.get_str("bin"),
         at: hex.get_str("at"),
         out: hex.get_str("out"),
+    }
+}
+
+/// The log of which a script is made.
+fn script_in<'a>(script: &ArgMatches<'a>) -> ScriptArgs<'a>
+    ensures { IsScriptIn (found_of script.now) result }
+{
+    ScriptArgs {
+        log: script.get_str("log"),
+        without_identity: script.get_flag("without-identity"),
+        out: script.get_str("out"),
     }
 }
 

@@ -2,7 +2,7 @@
 use Rattle.std.proofs.Common.{◌≡◌, inl, inr, ℕ, true, List, Some, option_map, is_some, sym, ◌∙◌, ap}
 use Rattle.nor_job.specs.declared.fault.BuildFault.TheVariants as fault
 use Rattle.norprog_common.specs.declared.faults.Refusal.{Refusal}
-use Rattle.norprog_common.specs.declared.faults.Refusal.TheVariants.{Text, Usage, File, Build, Page, Script, BinSize}
+use Rattle.norprog_common.specs.declared.faults.Refusal.TheVariants.{Text, Usage, File, Build, Page, Script, BinSize, Log}
 use Rattle.norprog_common.specs.declared.given.ReadArgs.{ReadArgs}
 use Rattle.norprog_common.specs.Chip.{origin_of}
 use Rattle.norprog_common.specs.FileStore.{FileFacts}
@@ -94,7 +94,9 @@ module _ (files : FileFacts) (given : ReadArgs) (request : ReadRequest) (file : 
   refused (Script why) (inl lacks) = absurd lacks
   refused (Script why) (inr on) = stopped (Refused (Script why)) on
   refused BinSize (inl lacks) = absurd lacks
+  refused (Log line) (inl lacks) = absurd lacks
   refused BinSize (inr on) = stopped (Refused BinSize) on
+  refused (Log line) (inr on) = stopped (Refused (Log line)) on
 
   module _ (formed : is_well_formed given ≡ true) where
     pub unread : (why : Unread) → IsUnreadOn files.lacked (files.device request.device.now) ask why → IsUnread files given why
@@ -121,6 +123,7 @@ module _ (files : FileFacts) (given : ReadArgs) (request : ReadRequest) (file : 
     not_saved r on Page p = absurd p
     not_saved r on (Script why) p = absurd p
     not_saved r on BinSize p = absurd p
+    not_saved r on (Log line) p = absurd p
 
     pub unsaved : (r : Reading) → IsReadOn (files.device request.device.now) ask r → (why : Refusal) → FailsToSave files.lacked why → IsUnread files given (Refused why)
     unsaved r on why p = or_usage (is_well_formed given) (RefusesReading files given) why formed (not_saved r on why p)

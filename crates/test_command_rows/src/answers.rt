@@ -14,6 +14,7 @@ use norprog_plan::plan;
 use norprog_play::play;
 use norprog_read::read;
 use norprog_run::run;
+use norprog_script::script;
 use norprog_sfdp::sfdp;
 use std::fs::{self, File};
 use std::io;
@@ -49,6 +50,7 @@ fn status_into(rt: &HostRuntime, asked: Result<Asked<'_>, Refusal>, out: File, e
         Ok(Asked::Flash(given)) => flash(alloc, &files, given, &mut out, &mut err, &mut Nowhere),
         Ok(Asked::Sfdp(given)) => sfdp(alloc, &files, given, &mut out, &mut err),
         Ok(Asked::Hex(given)) => hex(alloc, &files, given, &mut err),
+        Ok(Asked::Script(given)) => script(alloc, &files, given, &mut out, &mut err),
         Ok(Asked::Explain(words)) => explain(words.as_slice(), &mut out, &mut err),
         Err(refusal) => refuse(&refusal, &mut err),
     }

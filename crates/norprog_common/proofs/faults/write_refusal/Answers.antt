@@ -19,3 +19,8 @@ pub returns-in-BinSize-clause-bytes : goal.returns-in-BinSize-clause-bytes
 returns-in-BinSize-clause-bytes g c =
     subst (λ (refusal : Refusal). Writes (g.E.ByteOut.held c.args.err.now) (g.E.ByteOut.held c.put_line-in-BinSize.new.err) c.put_line-in-BinSize.result (printed refusal))
     (sym c.in-BinSize.is) c.put_line-in-BinSize.ensures.bytes
+
+pub returns-in-Log-clause-bytes : goal.returns-in-Log-clause-bytes
+returns-in-Log-clause-bytes g c =
+    subst (λ (refusal : Refusal). Writes (g.E.ByteOut.held c.args.err.now) (g.E.ByteOut.held c.put_line-in-Log.new.err) c.put_line-in-Log.result (printed refusal))
+    (sym c.in-Log.is) c.put_line-in-Log.ensures.bytes
