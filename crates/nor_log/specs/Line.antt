@@ -43,11 +43,11 @@ step_by sent (Same []) = Send (asking sent 0)
 step_by sent (Same (byte ∷ bytes)) = Verify (asking sent (length (byte ∷ bytes))) (byte ∷ bytes)
 
 -- an opcode that reads an identification or a register that norprog doesn't know, and how many bytes are sent after it: none of
--- `9F`, `15` and `35`; three of `AB` and `90`; an address and a dummy byte of `5A`
+-- `9F`, `15` and `35`; three of `AB`, `90` and `5A`, whose dummy byte may also be sent
 abbrev pub is_register : ℕ → ℕ → Bool
 is_register op others =
     ((op == 0x9F || (op == 0x15 || op == 0x35)) && others == 0)
-    || (((op == 0xAB || op == 0x90) && others == 3) || (op == 0x5A && others == 4))
+    || (((op == 0xAB || (op == 0x90 || op == 0x5A)) && others == 3) || (op == 0x5A && others == 4))
 
 -- such a read, which reads something
 abbrev pub is_identity : List ℕ → ℕ → Bool

@@ -133,7 +133,7 @@ fn is_register(op: u8, others: usize) -> bool
     match op {
         0x9F | 0x15 | 0x35 => others == 0,
         0xAB | 0x90 => others == 3,
-        0x5A => others == 4,
+        0x5A => others == 3 || others == 4,
         _ => false,
     }
 }
