@@ -4,16 +4,15 @@ ghost use Rattle.std.specs.Prelude.{◌≡◌, false, IfOk};
 ghost use Rattle.nor_base.specs.Run.{poll_clocks};
 ghost use Rattle.nor_base.specs.declared.step.Step.TheVariants.{Poll};
 ghost use Rattle.nor_log.specs.declared.line.Said.TheVariants.{Does};
-ghost use Rattle.nor_log.specs.Line.{answer_of, asking, count_read, is_identity, is_register, line_says, said_by, step_by, text_says};
+ghost use Rattle.nor_log.specs.Line.{answer_of, asking, count_read, is_identity, is_register, line_says};
+ghost use Rattle.nor_log.specs.Line.{said_by, step_by, text_says};
 
 use crate::bytes::{bytes_of, count_of};
 use crate::text::{bare, cut};
 use nor_base::{Bytes, Step};
+use nor_decode::POLL;
 use nor_frames::spread1;
 use std::alloc::{AllocError, Global};
-
-/// The clocks of a poll: status read, and one byte.
-const POLL: &[u8; 16] = b"00000101........";
 
 /// What is said of the bytes that a transaction reads.
 #[derive(Drop)]
