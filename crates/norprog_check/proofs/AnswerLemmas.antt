@@ -13,7 +13,7 @@ use Rattle.norprog_check.proofs.StopLaws.{some_text}
 use Rattle.norprog_common.specs.declared.faults.FileName.{FileName}
 use Rattle.norprog_common.specs.declared.faults.FileName.TheVariants as file
 use Rattle.norprog_common.specs.declared.faults.Refusal.{Refusal}
-use Rattle.norprog_common.specs.declared.faults.Refusal.TheVariants.{Text, Usage, File, Build, Page, Script, BinSize, Steps, EmptyRegion}
+use Rattle.norprog_common.specs.declared.faults.Refusal.TheVariants.{Text, Usage, File, Build, Page, Script, BinSize, Steps, EmptyRegion, Log}
 use Rattle.norprog_common.proofs.ToldLemmas.{asked_wider, by_fault, refuses_wider}
 use Rattle.norprog_common.specs.Served.{Job, Is}
 use Rattle.norprog_common.specs.Strict.{Filled, OrEmpty, RefusesEmpty}
@@ -88,6 +88,7 @@ check_fault_wider A B wider Page of = absurd of
 check_fault_wider A B wider BinSize of = absurd of
 check_fault_wider A B wider (Steps number) of = absurd of
 check_fault_wider A B wider (EmptyRegion index) of = absurd of
+check_fault_wider A B wider (Log line) of = absurd of
 
 pub verdict_wider : (A B : Job → Type 0) (P Q : List ℕ → Type 0) → ((j : Job) → A j → B j) → ((text : List ℕ) → P text → Q text) → (found : Finding)
     → IsCheckFinding A P found → IsCheckFinding B Q found

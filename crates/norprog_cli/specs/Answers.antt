@@ -23,6 +23,7 @@ use Rattle.norprog_list.specs.Answer.{AnswersList}
 use Rattle.norprog_play.specs.Answer.{AnswersPlay}
 use Rattle.norprog_read.specs.Answer.{AnswersRead}
 use Rattle.norprog_run.specs.Answer.{AnswersRun}
+use Rattle.norprog_script.specs.Answer.{AnswersScript}
 
 -- to what is asked for, each command its answer, by what is known of files by their names
 abbrev pub AnswersTo : FileFacts → Asked → Option (List ℕ) → Option (List ℕ) → Type 0 → Type 0 → Option (List ℕ) → Option (List ℕ) → ℕ → Type 0
@@ -48,6 +49,8 @@ AnswersTo files (command.Sfdp given) before after Quiet Works told_before told_a
     AnswersChip files given before after Quiet Works told_before told_after status
 AnswersTo files (command.Hex given) before after Quiet Works told_before told_after status =
     (after ≡ before) × AnswersHex files given Quiet Works told_before told_after status
+AnswersTo files (command.Script given) before after Quiet Works told_before told_after status =
+    AnswersScript files given before after Quiet Works told_before told_after status
 AnswersTo files (command.Explain words) before after Quiet Works told_before told_after status =
     AnswersExplain (explained topics words.items) before after Quiet Works told_before told_after status
 

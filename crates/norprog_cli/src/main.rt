@@ -2,10 +2,10 @@
 //! would erase and program, `norprog check` says whether a script does a job, `norprog run` plays one on a chip in memory,
 //! `norprog list` tells what each step of one is, `norprog draw` draws one as a waveform, `norprog play` plays one on a chip behind
 //! a serprog device, `norprog read` reads such a chip, `norprog flash` programs it, `norprog sfdp` prints what a chip's tables mean, `norprog hex` writes a raw
-//! image as Intel HEX, `norprog explain` says what a printed text means.
+//! image as Intel HEX, `norprog script` writes the script of a log, `norprog explain` says what a printed text means.
 //!
 //! The crate `norprog_options` reads the options; `norprog_build`, `norprog_plan`, `norprog_check`, `norprog_sfdp`, `norprog_run`,
-//! `norprog_list`, `norprog_draw`, `norprog_play`, `norprog_read`, `norprog_flash`, `norprog_hex` and `norprog_explain` do the work behind them.
+//! `norprog_list`, `norprog_draw`, `norprog_play`, `norprog_read`, `norprog_flash`, `norprog_hex`, `norprog_script` and `norprog_explain` do the work behind them.
 #![tactic(auto)]
 
 ghost use Rattle.std.specs.Prelude.{◌≡◌, ◌≢◌, ◌<◌, ◌≤◌, ◌-◌, ◌^◌, IfOk, IfErr};
@@ -29,6 +29,7 @@ use norprog_plan::plan;
 use norprog_play::play;
 use norprog_read::read;
 use norprog_run::run;
+use norprog_script::script;
 use norprog_sfdp::sfdp;
 use std::alloc::Global;
 use std::io::{self, BufWriter, ErrorKind, IsTerminal, Write};
@@ -180,6 +181,7 @@ fn answer_to<S: FileStore, O: ByteOut, E: ByteOut, P: ByteOut>(
         Asked::Flash(given) => flash(alloc, store, given, out, err, progress),
         Asked::Sfdp(given) => sfdp(alloc, store, given, out, err),
         Asked::Hex(given) => hex(alloc, store, given, err),
+        Asked::Script(given) => script(alloc, store, given, out, err),
         Asked::Explain(words) => explain(words.as_slice(), out, err),
     }
 }

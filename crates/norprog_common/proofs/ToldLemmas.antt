@@ -4,7 +4,7 @@ use Rattle.nor_job.specs.declared.fault.BuildFault.{BuildFault}
 use Rattle.nor_job.specs.declared.fault.BuildFault.TheVariants as fault
 use Rattle.norprog_common.specs.declared.faults.FileName.{FileName}
 use Rattle.norprog_common.specs.declared.faults.Refusal.{Refusal}
-use Rattle.norprog_common.specs.declared.faults.Refusal.TheVariants.{Text, Usage, File, Build, Page, Script, BinSize, Steps, EmptyRegion}
+use Rattle.norprog_common.specs.declared.faults.Refusal.TheVariants.{Text, Usage, File, Build, Page, Script, BinSize, Steps, EmptyRegion, Log}
 use Rattle.norprog_common.specs.Files.{TellsFile}
 use Rattle.norprog_common.specs.Lines.{status_after}
 use Rattle.norprog_common.specs.Told.{ForAsked, OfFault, RefusesFor, OrUsage}
@@ -23,6 +23,7 @@ fault_wider P Q wider (Script why) is = absurd is
 fault_wider P Q wider BinSize is = absurd is
 fault_wider P Q wider (Steps number) is = absurd is
 fault_wider P Q wider (EmptyRegion index) is = absurd is
+fault_wider P Q wider (Log line) is = absurd is
 
 -- a fault of the work is told as such
 pub by_fault : (Lacked : FileName → Type 0) (Fault : Refusal → Type 0) (Done : Type 0) (why : Refusal) → Fault why → RefusesFor Lacked Fault Done why
@@ -46,6 +47,7 @@ by_fault Lacked Fault Done (Script why) is = is
 by_fault Lacked Fault Done BinSize is = is
 by_fault Lacked Fault Done (Steps number) is = is
 by_fault Lacked Fault Done (EmptyRegion index) is = is
+by_fault Lacked Fault Done (Log line) is = is
 
 -- and a file that couldn't be used as that
 pub by_files : (Lacked Other : FileName → Type 0) (Fault : Refusal → Type 0) (Done : Type 0) (why : Refusal) → ((name : FileName) → Lacked name → Other name)
@@ -70,6 +72,7 @@ by_files Lacked Other Fault Done (Script why) wider is = absurd is
 by_files Lacked Other Fault Done BinSize wider is = absurd is
 by_files Lacked Other Fault Done (Steps number) wider is = absurd is
 by_files Lacked Other Fault Done (EmptyRegion index) wider is = absurd is
+by_files Lacked Other Fault Done (Log line) wider is = absurd is
 
 -- with more files, more faults, and more that may have been done, no refusal is lost
 pub refuses_wider : (L M : FileName → Type 0) (F G : Refusal → Type 0) (D E : Type 0) → ((name : FileName) → L name → M name)
@@ -94,6 +97,7 @@ refuses_wider L M F G D E files wider more (Script why) is = wider (Script why) 
 refuses_wider L M F G D E files wider more BinSize is = wider BinSize is
 refuses_wider L M F G D E files wider more (Steps number) is = wider (Steps number) is
 refuses_wider L M F G D E files wider more (EmptyRegion index) is = wider (EmptyRegion index) is
+refuses_wider L M F G D E files wider more (Log line) is = wider (Log line) is
 
 -- a refusal of the work is one of texts that ask for it
 pub or_usage : (asks : Bool) (Work : Refusal → Type 0) (why : Refusal) → asks ≡ true → Work why → OrUsage asks Work why
@@ -110,3 +114,4 @@ refused_status (Script why) status is = omega (arith, is)
 refused_status BinSize status is = omega (arith, is)
 refused_status (Steps number) status is = omega (arith, is)
 refused_status (EmptyRegion index) status is = omega (arith, is)
+refused_status (Log line) status is = omega (arith, is)

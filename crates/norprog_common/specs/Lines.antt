@@ -19,7 +19,7 @@ use Rattle.norprog_common.specs.declared.faults.Behind.TheVariants.{Nothing, Num
 use Rattle.norprog_common.specs.declared.faults.FileName.{FileName}
 use Rattle.norprog_common.specs.declared.faults.FileName.TheVariants as file
 use Rattle.norprog_common.specs.declared.faults.Refusal.{Refusal}
-use Rattle.norprog_common.specs.declared.faults.Refusal.TheVariants.{Text, Usage, File, Build, Page, Script, BinSize, Steps, EmptyRegion}
+use Rattle.norprog_common.specs.declared.faults.Refusal.TheVariants.{Text, Usage, File, Build, Page, Script, BinSize, Steps, EmptyRegion, Log}
 
 -- words, and what stands behind them: a number in decimal, or an address in eight hexadecimal digits
 abbrev pub spelled : List ℕ → Behind → List ℕ
@@ -109,6 +109,7 @@ file_text file.Bin = codes "file bin"
 file_text file.Tables = codes "file tables"
 file_text file.Before = codes "file before"
 file_text file.Resume = codes "file resume"
+file_text file.Log = codes "file log"
 
 -- `norprog: `, a text, LF
 abbrev pub program_line : List ℕ → List ℕ
@@ -125,6 +126,7 @@ printed (Script fault) = program_line (script_text fault)
 printed BinSize = program_line (codes "bin size")
 printed (Steps number) = program_line (codes "script steps " ++ decimal number)
 printed (EmptyRegion index) = program_line (codes "empty region " ++ decimal index)
+printed (Log line) = program_line (codes "log line " ++ decimal line)
 
 -- 2 where the command line is at fault or asks for help, else 1
 abbrev pub status_after : Refusal → ℕ
@@ -137,6 +139,7 @@ status_after (Script fault) = 1
 status_after BinSize = 1
 status_after (Steps number) = 1
 status_after (EmptyRegion index) = 1
+status_after (Log line) = 1
 
 -- a script's fault as a refusal: want of memory is the program's own
 abbrev pub script_refusal : ScriptFault → Refusal

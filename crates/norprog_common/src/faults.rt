@@ -32,6 +32,7 @@ pub enum FileName {
     Tables,
     Before,
     Resume,
+    Log,
 }
 
 /// What stands behind the words of a refusal.
@@ -65,6 +66,8 @@ pub enum Refusal {
     Steps(u64),
     /// The image gives the chosen region of this index, from 0, no byte.
     EmptyRegion(u64),
+    /// The line of this number is none of a log.
+    Log(u64),
 }
 
 impl Refusal {
@@ -139,7 +142,8 @@ fn exit_status(refusal: &Refusal) -> u8
         | Refusal::Script(_)
         | Refusal::BinSize
         | Refusal::Steps(_)
-        | Refusal::EmptyRegion(_) => 1,
+        | Refusal::EmptyRegion(_)
+        | Refusal::Log(_) => 1,
     }
 }
 
@@ -165,6 +169,7 @@ fn write_refusal<E: ByteOut>(refusal: &Refusal, err: &mut E) -> Result<(), Faile
         Refusal::BinSize => put_line(err, b"bin size", Behind::Nothing),
         Refusal::Steps(number) => put_line(err, b"script steps ", Behind::Number(*number)),
         Refusal::EmptyRegion(index) => put_line(err, b"empty region ", Behind::Number(*index)),
+        Refusal::Log(line) => put_line(err, b"log line ", Behind::Number(*line)),
     }
 }
 
@@ -207,6 +212,7 @@ fn file_words(name: FileName) -> &'static [u8]
         FileName::Tables => b"file tables",
         FileName::Before => b"file before",
         FileName::Resume => b"file resume",
+        FileName::Log => b"file log",
     }
 }
 

@@ -89,6 +89,14 @@ pub struct HexArgs<'a> {
     pub out: Option<&'a str>,
 }
 
+/// Of `script`.
+#[derive(Clone, Copy)]
+pub struct ScriptArgs<'a> {
+    pub log: Option<&'a str>,
+    pub without_identity: bool,
+    pub out: Option<&'a str>,
+}
+
 /// Of `run`.
 #[derive(Clone, Copy)]
 pub struct RunArgs<'a> {

@@ -23,7 +23,7 @@ pub use faults::{FileName, Refusal, answered, refuse};
 pub use files::{FileId, ScriptFile};
 pub use given::{
     BuildArgs, CheckArgs, ChipArgs, DrawArgs, FlashArgs, Given, HexArgs, ListArgs, PlanArgs,
-    PlayArgs, ReadArgs, RunArgs, SetupArgs,
+    PlayArgs, ReadArgs, RunArgs, ScriptArgs, SetupArgs,
 };
 pub use inputs::{Texts, inputs_of};
 pub use opened::open_job;

@@ -11,7 +11,7 @@ use Rattle.nor_script.specs.declared.fault.ScriptFault.TheVariants as script
 use Rattle.norprog_common.specs.declared.faults.FileName.TheVariants as file
 use Rattle.norprog_common.specs.declared.faults.FileName.{FileName}
 use Rattle.norprog_common.specs.declared.faults.Refusal.{Refusal}
-use Rattle.norprog_common.specs.declared.faults.Refusal.TheVariants.{Text, Usage, File, Build, Page, Script, BinSize, Steps, EmptyRegion}
+use Rattle.norprog_common.specs.declared.faults.Refusal.TheVariants.{Text, Usage, File, Build, Page, Script, BinSize, Steps, EmptyRegion, Log}
 use Rattle.norprog_list.specs.declared.steps.Stop.{Stop}
 use Rattle.norprog_list.specs.declared.steps.Stop.TheVariants as stop
 use Rattle.norprog_list.specs.Stop.{Lists, refusal_of}
@@ -78,10 +78,12 @@ module _ (Asked : ListTask → Type 0) (t : ListTask) (asked : Asked t) (rest : 
   cut text of (File file.Tables) h = inl h.1
   cut text of (File file.Before) h = inl h.1
   cut text of (File file.Resume) h = inl h.1
+  cut text of (File file.Log) h = inl h.1
   cut text of Page h = inl h.1
   cut text of BinSize h = inl h.1
   cut text of (Steps number) h = inl h.1
   cut text of (EmptyRegion index) h = inl h.1
+  cut text of (Log line) h = inl h.1
 
   pub refused_cut : {T : Type 0} (r : Result T Refusal) → IfErr r (RefusesText t.chip t.script rest before after)
       → IfErr r (λ _. CutsListing Asked before after)
@@ -128,6 +130,7 @@ module _ (t : Task) (same : Option (List ℕ)) where
   chip_refused text (File file.Tables) h = (h, refl)
   chip_refused text (File file.Before) h = (h, refl)
   chip_refused text (File file.Resume) h = (h, refl)
+  chip_refused text (File file.Log) h = (h, refl)
   chip_refused text (File file.Script) h = absurd h
   chip_refused text (Text words) h = (h, refl)
   chip_refused text Usage h = (h, refl)
@@ -135,6 +138,7 @@ module _ (t : Task) (same : Option (List ℕ)) where
   chip_refused text BinSize h = (h, refl)
   chip_refused text (Steps number) h = (h, refl)
   chip_refused text (EmptyRegion index) h = (h, refl)
+  chip_refused text (Log line) h = (h, refl)
   chip_refused text (Script why) h = absurd h
 
   pub no_chip : {T : Type 0} (ahead : Ahead) (r : Result T Refusal) (why : Refusal) → IsErrAnd r (λ e. e ≡ why) → RefusesChipOf t why

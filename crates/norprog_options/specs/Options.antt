@@ -15,6 +15,7 @@ use Rattle.norprog_common.specs.declared.given.PlanArgs.{PlanArgs}
 use Rattle.norprog_common.specs.declared.given.PlayArgs.{PlayArgs}
 use Rattle.norprog_common.specs.declared.given.ReadArgs.{ReadArgs}
 use Rattle.norprog_common.specs.declared.given.RunArgs.{RunArgs}
+use Rattle.norprog_common.specs.declared.given.ScriptArgs.{ScriptArgs}
 use Rattle.norprog_common.specs.declared.given.SetupArgs.{SetupArgs}
 use Rattle.norprog_options.specs.declared.options.Asked.{Asked}
 use Rattle.norprog_options.specs.declared.options.Asked.TheVariants as command
@@ -89,6 +90,11 @@ pub record IsHexIn (found : Found) (given : HexArgs) : Type 0 where
   pub at : Has found (codes "at") (option_map (λ t. t.now) given.at)
   pub out : Has found (codes "out") (option_map (λ t. t.now) given.out)
 
+pub record IsScriptIn (found : Found) (given : ScriptArgs) : Type 0 where
+  pub log : Has found (codes "log") (option_map (λ t. t.now) given.log)
+  pub without : Sets found (codes "without-identity") given.without_identity
+  pub out : Has found (codes "out") (option_map (λ t. t.now) given.out)
+
 pub record IsPlayIn (found : Found) (given : PlayArgs) : Type 0 where
   pub setup : IsSetupIn found given.setup
   pub content : Has found (codes "content") (option_map (λ t. t.now) given.content)
@@ -154,4 +160,5 @@ IsAsked matches (command.Read given) = IsUsed matches (codes "read") (λ found. 
 IsAsked matches (command.Flash given) = IsUsed matches (codes "flash") (λ found. IsFlashIn found given)
 IsAsked matches (command.Sfdp given) = IsUsed matches (codes "sfdp") (λ found. IsChipIn found given)
 IsAsked matches (command.Hex given) = IsUsed matches (codes "hex") (λ found. IsHexIn found given)
+IsAsked matches (command.Script given) = IsUsed matches (codes "script") (λ found. IsScriptIn found given)
 IsAsked matches (command.Explain words) = IsUsed matches (codes "explain") (λ found. words.items ≡ texts_of found (codes "words"))

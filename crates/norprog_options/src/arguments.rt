@@ -254,6 +254,27 @@ const HEX_OUT: Choice = Choice {
     help: "Intel HEX; what the file held is replaced. It can't be the raw image",
 };
 
+const LOG: Choice = Choice {
+    name: "log",
+    takes: Takes::File,
+    required: true,
+    help: "The log: a line for each transaction, as `02 00 00 00 a5`, `9f > 3 bytes` or `poll`",
+};
+
+const WITHOUT_IDENTITY: Choice = Choice {
+    name: "without-identity",
+    takes: Takes::Nothing,
+    required: false,
+    help: "Leave out reads of an ID or a register: 9F, 15, 35, AB, 90, 5A [default: keep them]",
+};
+
+const LOG_OUT: Choice = Choice {
+    name: "out",
+    takes: Takes::File,
+    required: true,
+    help: "The script; what the file held is replaced. It can't be the log",
+};
+
 const WITNESS: Choice = Choice {
     name: "witness",
     takes: Takes::Nothing,
@@ -370,7 +391,7 @@ const VERIFY: &[Choice] = &[READ_BACK];
 const SCRIPT: &[Choice] = &[SCRIPT_FILE];
 
 /// The commands, in the order of the help.
-static FORMS: [Form; 12] = [
+static FORMS: [Form; 13] = [
     Form {
         name: "build",
         about: "Writes the script that programs the chip, and prints a report of it",
@@ -471,6 +492,13 @@ static FORMS: [Form; 12] = [
         example: "Example: norprog hex --bin app.bin --at 8000000 --out app.hex",
         groups: &[],
         choices: &[BIN, AT, HEX_OUT],
+    },
+    Form {
+        name: "script",
+        about: "Writes the script of a log of transactions, as other tools print them",
+        example: "Example: norprog script --log log.txt --out app.script",
+        groups: &[],
+        choices: &[LOG, WITHOUT_IDENTITY, LOG_OUT],
     },
     Form {
         name: "explain",

@@ -2,7 +2,7 @@
 
 ghost use Rattle.std.specs.Prelude.{◌≡◌, map, IfOk};
 ghost use Rattle.clap.specs.Words.{found_of};
-ghost use Rattle.norprog_options.specs.Options.{texts_of, IsBuildIn, IsCheckIn, IsJobIn, IsChipIn, IsDrawIn, IsFlashIn, IsHexIn, IsListIn, IsPlanIn, IsPlayIn, IsReadIn, IsRunIn, IsSetupIn, IsAsked};
+ghost use Rattle.norprog_options.specs.Options.{texts_of, IsBuildIn, IsCheckIn, IsJobIn, IsChipIn, IsDrawIn, IsFlashIn, IsHexIn, IsListIn, IsPlanIn, IsPlayIn, IsReadIn, IsRunIn, IsSetupIn, IsAsked, IsScriptIn, IsAskedBySome};
 ghost use Rattle.norprog_options.specs.Typed.{IsDetailed, IsDetailedBy, IsLineBySome};
 
 use crate::arguments::norprog;
@@ -12,7 +12,7 @@ use clap::{ArgMatches, Error};
 use nor_base::Bytes;
 use norprog_common::{
     BuildArgs, CheckArgs, ChipArgs, DrawArgs, FlashArgs, Given, HexArgs, ListArgs, PlanArgs,
-    PlayArgs, ReadArgs, Refusal, RunArgs, SetupArgs,
+    PlayArgs, ReadArgs, Refusal, RunArgs, ScriptArgs, SetupArgs,
 };
 use std::alloc::Global;
 
@@ -30,6 +30,7 @@ pub enum Asked<'a> {
     Flash(FlashArgs<'a>),
     Sfdp(ChipArgs<'a>),
     Hex(HexArgs<'a>),
+    Script(ScriptArgs<'a>),
     /// The words that are asked about.
     Explain(Vec<Bytes>),
 }
@@ -116,6 +117,9 @@ fn script_asked<'a>(alloc: Global, matches: &ArgMatches<'a>) -> Result<Asked<'a>
     }
     if let Some(play) = matches.subcommand_matches("play") {
         return Ok(Asked::Play(play_in(play)));
+    }
+    if let Some(script) = matches.subcommand_matches("script") {
+        return Ok(Asked::Script(script_in(script)));
     }
     meaning_asked(alloc, matches)
 }
@@ -281,6 +285,17 @@ fn hex_in<'a>(hex: &ArgMatches<'a>) -> HexArgs<'a>
         bin: hex.get_str("bin"),
         at: hex.get_str("at"),
         out: hex.get_str("out"),
+    }
+}
+
+/// The log of which a script is made.
+fn script_in<'a>(script: &ArgMatches<'a>) -> ScriptArgs<'a>
+    ensures { IsScriptIn (found_of script.now) result }
+{
+    ScriptArgs {
+        log: script.get_str("log"),
+        without_identity: script.get_flag("without-identity"),
+        out: script.get_str("out"),
     }
 }
 

@@ -2,7 +2,7 @@
 use Rattle.std.proofs.Common.{◌≡◌, inl, inr, ℕ, true, List, Some, option_map, is_some, sym, ◌∙◌, ap}
 use Rattle.nor_job.specs.declared.fault.BuildFault.TheVariants as fault
 use Rattle.norprog_common.specs.declared.faults.Refusal.{Refusal}
-use Rattle.norprog_common.specs.declared.faults.Refusal.TheVariants.{Text, Usage, File, Build, Page, Script, BinSize, Steps, EmptyRegion}
+use Rattle.norprog_common.specs.declared.faults.Refusal.TheVariants.{Text, Usage, File, Build, Page, Script, BinSize, Steps, EmptyRegion, Log}
 use Rattle.norprog_common.specs.declared.given.ReadArgs.{ReadArgs}
 use Rattle.norprog_common.specs.Chip.{origin_of}
 use Rattle.norprog_common.specs.FileStore.{FileFacts}
@@ -99,6 +99,8 @@ module _ (files : FileFacts) (given : ReadArgs) (request : ReadRequest) (file : 
   refused (Steps number) (inr on) = stopped (Refused (Steps number)) on
   refused (EmptyRegion index) (inl lacks) = absurd lacks
   refused (EmptyRegion index) (inr on) = stopped (Refused (EmptyRegion index)) on
+  refused (Log line) (inl lacks) = absurd lacks
+  refused (Log line) (inr on) = stopped (Refused (Log line)) on
 
   module _ (formed : is_well_formed given ≡ true) where
     pub unread : (why : Unread) → IsUnreadOn files.lacked (files.device request.device.now) ask why → IsUnread files given why
@@ -127,6 +129,7 @@ module _ (files : FileFacts) (given : ReadArgs) (request : ReadRequest) (file : 
     not_saved r on BinSize p = absurd p
     not_saved r on (Steps number) p = absurd p
     not_saved r on (EmptyRegion index) p = absurd p
+    not_saved r on (Log line) p = absurd p
 
     pub unsaved : (r : Reading) → IsReadOn (files.device request.device.now) ask r → (why : Refusal) → FailsToSave files.lacked why → IsUnread files given (Refused why)
     unsaved r on why p = or_usage (is_well_formed given) (RefusesReading files given) why formed (not_saved r on why p)

@@ -9,7 +9,7 @@ use Rattle.norprog_common.specs.declared.faults.FileName.{FileName}
 use Rattle.norprog_common.specs.declared.faults.FileName.TheVariants as file
 use Rattle.norprog_common.specs.declared.faults.Refusal.{Refusal}
 use Rattle.norprog_common.specs.declared.files.FileId.{FileId}
-use Rattle.norprog_common.specs.declared.faults.Refusal.TheVariants.{Text, Usage, File, Build, Page, Script, BinSize, Steps, EmptyRegion}
+use Rattle.norprog_common.specs.declared.faults.Refusal.TheVariants.{Text, Usage, File, Build, Page, Script, BinSize, Steps, EmptyRegion, Log}
 use Rattle.norprog_common.specs.Chip.{origin_of}
 use Rattle.norprog_common.specs.Files.{TellsFile}
 use Rattle.norprog_common.specs.Setup.{setup_task}
@@ -247,3 +247,4 @@ given_refused files given (Script why) refused = absurd refused
 given_refused files given BinSize refused = absurd refused
 given_refused files given (Steps number) refused = absurd refused
 given_refused files given (EmptyRegion index) refused = absurd refused
+given_refused files given (Log line) refused = absurd refused

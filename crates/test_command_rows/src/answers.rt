@@ -15,6 +15,7 @@ use norprog_plan::plan;
 use norprog_play::play;
 use norprog_read::read;
 use norprog_run::run;
+use norprog_script::script;
 use norprog_sfdp::sfdp;
 use std::fs::{self, File};
 use std::io;
@@ -79,6 +80,7 @@ fn answer(
         Asked::Flash(given) => flash(alloc, &files, given, out, err, &mut Nowhere),
         Asked::Sfdp(given) => sfdp(alloc, &files, given, out, err),
         Asked::Hex(given) => hex(alloc, &files, given, err),
+        Asked::Script(given) => script(alloc, &files, given, out, err),
         Asked::Explain(words) => explain(words.as_slice(), out, err),
     }
 }

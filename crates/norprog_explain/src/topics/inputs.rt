@@ -67,6 +67,12 @@ pub(crate) const TOPICS: &[Topic] = &[
          What stands in the output has no end record.",
     ),
     (
+        "file log",
+        "norprog can't read the log: it isn't there, you may not read it, it is a\n\
+         folder, reading it failed, or it has more than 2^36 bytes. Check its name and\n\
+         its rights. The output is as it was.",
+    ),
+    (
         "file tables",
         "A file of the name that --tables says is there, or can't be made or written.\n\
          None is written over. Name another file, or move that one away.",
@@ -85,8 +91,8 @@ pub(crate) const TOPICS: &[Topic] = &[
     (
         "file",
         "norprog can't use a file of the command line; the word after `file` says which\n\
-         one: hex, layout, sfdp, content, script, out, map, device, bin, tables, before\n\
-         or resume. Ask for the two words.",
+         one: hex, layout, sfdp, content, script, out, map, device, bin, log, tables,\n\
+         before or resume. Ask for the two words.",
     ),
     (
         "contradiction 1",
@@ -157,6 +163,13 @@ pub(crate) const TOPICS: &[Topic] = &[
          in the order of the names; where no region is named, 0 is the whole chip.\n\
          `plan --regions` shows what each gets. Correct --base, the names or the layout,\n\
          or leave --strict out. The output holds no script.",
+    ),
+    (
+        "log line",
+        "The line of the log with this number is none of a log. One has the bytes that\n\
+         were sent, two hexadecimal digits each, as `02 00 00 00 a5`; after `>` the\n\
+         bytes that were read, or their number, as `9f > 3 bytes`. Or it is `poll`. What\n\
+         is after `#` doesn't count. The output is empty.",
     ),
     (
         "content short",

@@ -65,6 +65,12 @@ pub(crate) const TOPICS: &[Topic] = &[
          and the regions.",
     ),
     (
+        "left out",
+        "The number of lines of the log that aren't in the script: reads of an\n\
+         identification or a register (9F, AB, 90, 5A, 15, 35), where\n\
+         --without-identity asks for it. They change nothing on a chip.",
+    ),
+    (
         "busy unknown",
         "norprog doesn't know how long the chip is busy: a chip of a bare size has no\n\
          tables, and tables of fewer than eleven DWORDs have no times. Look into its\n\

@@ -46,8 +46,9 @@ pub(crate) const TOPICS: &[Topic] = &[
         "wrong 2",
         "Unknown: the chip model doesn't know the opcode, or a poll or a verify has\n\
          clocks that it may not have. Check the chip's tables and its part. A read of\n\
-         the identity or of other registers (9F, AB, 90, 15, 35) in a script is harmless\n\
-         in itself, but the chip model doesn't know it.",
+         the identity or of other registers (9F, AB, 90, 5A, 15, 35) in a script is\n\
+         harmless in itself, but the chip model doesn't know it. Of a log `norprog\n\
+         script --without-identity` leaves such reads out.",
     ),
     (
         "wrong 3",

@@ -34,3 +34,11 @@ returns-in-Some-subcommand_matches-3 c = record {
   behind = c.in-Some-subcommand_matches-3.ensures.rows;
   so = c.play_in.ensures;
 }
+
+pub returns-in-Some-subcommand_matches-4 : goal.returns-in-Some-subcommand_matches-4
+returns-in-Some-subcommand_matches-4 c = record {
+  named = c.in-Some-subcommand_matches-4.ensures.found.0 refl;
+  found = found_of c.in-Some-subcommand_matches-4.script.now;
+  behind = c.in-Some-subcommand_matches-4.ensures.rows;
+  so = c.script_in.ensures;
+}

@@ -1,0 +1,5 @@
+mod LineLemmas
+mod NumberLemmas
+mod ReadLemmas
+mod StepLemmas
+mod TextLemmas

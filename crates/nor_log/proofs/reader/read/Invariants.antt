@@ -1,0 +1,9 @@
+use Rattle.std.proofs.Common.{map}
+use Rattle.nor_lines.specs.Lines.{filled_lines}
+use Rattle.nor_log.proofs.ReadLemmas.{IsRead}
+use Rattle.nor_log.proofs.reader.read.Given as goal
+
+-- the lines so far were read
+abbrev pub invariant-loop-number : goal.invariant-loop-number
+invariant-loop-number l =
+    IsRead l.without_identity (filled_lines l.text) (map (λ line. (line.0, line.1.now)) l.yielded) l.number-iterator l.steps.items l.left_out.items

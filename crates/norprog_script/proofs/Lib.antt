@@ -1,0 +1,2 @@
+mod ServedLemmas
+mod TextLemmas

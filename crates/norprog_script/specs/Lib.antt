@@ -1,0 +1,5 @@
+pub mod Request
+pub mod Tally
+pub mod Written
+pub mod Served
+pub mod Answer

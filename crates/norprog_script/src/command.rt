@@ -1,0 +1,86 @@
+//! `script`: from the texts of the command line to the script in its file.
+
+ghost use Rattle.std.specs.Prelude.{◌≡◌, ◌<◌, ◌≤◌, ◌-◌, ◌^◌, true, IfOk, IfErr};
+ghost use Rattle.norprog_common.specs.Told.{OrUsage};
+ghost use Rattle.norprog_script.specs.Answer.{IsScripted, RefusesScript, PrintsTally, CutsTally, AnswersScript, done};
+ghost use Rattle.norprog_script.specs.Request.{is_well_formed};
+ghost use Rattle.norprog_script.specs.Served.{IsTaskOf, Serves};
+
+use crate::log::script_log;
+use crate::request::{ScriptRequest, request_of};
+use crate::tally::{Tally, write_tally};
+use nor_base::{ByteOut, Failed};
+use norprog_common::{FileName, FileStore, Refusal, ScriptArgs, answered};
+use std::alloc::Global;
+
+/// Writes the script of the log on a command line into the file that it names, which is made as another one than the log's. It
+/// prints to `out` how many steps there are, and how many were left out; or a refusal to `err` (docs/FORMATS.md, section 9). It
+/// returns the status: 0 done, 1 refused, 2 usage.
+pub fn script<S: FileStore, O: ByteOut, E: ByteOut>(
+    alloc: Global,
+    store: &S,
+    given: ScriptArgs<'_>,
+    out: &mut O,
+    err: &mut E,
+) -> u8
+    requires out { O.count out.old < 2 ^ 64 - 1 }
+    requires err { E.count err.old < 2 ^ 64 - 1 }
+    ensures status { result ≤ 2 }
+    ensures quiet { result ≡ 0 → err.new ≡ err.old }
+    ensures answer { AnswersScript (S.facts store.now) given.entry (O.held out.old) (O.held out.new) (err.new ≡ err.old)
+        (E.count err.new ≡ E.count err.old) (E.held err.old) (E.held err.new) result }
+{
+    answered(scripted_in(alloc, store, given, out), err)
+}
+
+/// Does what is asked for, and prints how many steps there are.
+fn scripted_in<S: FileStore, O: ByteOut>(
+    alloc: Global,
+    store: &S,
+    given: ScriptArgs<'_>,
+    out: &mut O,
+) -> Result<u8, Refusal>
+    requires { O.count out.old < 2 ^ 64 - 1 }
+    ensures status { IfOk result (λ status. status ≡ 0) }
+    ensures printed { IfOk result (λ _. PrintsTally (Serves (S.facts store.now) given.entry) (S.facts store.now).flushed
+        (O.held out.old) (O.held out.new)) }
+    ensures unprinted { IfErr result (λ _. CutsTally (Serves (S.facts store.now) given.entry) (S.facts store.now).flushed
+        (O.held out.old) (O.held out.new)) }
+    ensures asked { IfOk result (λ _. is_well_formed given.entry ≡ true) }
+    ensures first { IfErr result (OrUsage (is_well_formed given.entry) (RefusesScript (S.facts store.now).lacked
+        (Serves (S.facts store.now) given.entry))) }
+{
+    let request = request_of(given).ok_or(Refusal::Usage)?;
+    let tally = run_script(alloc, store, request)?;
+    match write_tally(tally, out) {
+        Ok(()) => Ok(0),
+        Err(_) => Err(Refusal::WRITE),
+    }
+}
+
+/// Opens the files of a request in their order, and writes the script of the first into the second.
+fn run_script<S: FileStore>(
+    alloc: Global,
+    store: &S,
+    request: ScriptRequest<'_>,
+) -> Result<Tally, Refusal>
+    ensures written { IfOk result (IsScripted (IsTaskOf (S.facts store.now) request.entry) (S.facts store.now).flushed) }
+    ensures refused { IfErr result (RefusesScript (S.facts store.now).lacked (IsTaskOf (S.facts store.now) request.entry)) }
+{
+    let (log, place) = store.read(alloc, request.log, FileName::Log)?;
+    let mut out = store.create(alloc, request.out, FileName::Out, &[place])?;
+    let answer = script_log(alloc, log.as_slice(), request.without_identity, &mut out);
+    let flushed = store.flush(&mut out);
+    done(answer, flushed)
+}
+
+/// How many steps a script has whose file was flushed: done only where both are.
+fn done(answer: Result<Tally, Refusal>, flushed: Result<(), Failed>) -> Result<Tally, Refusal>
+    ensures { result ≡ done answer flushed }
+{
+    match (answer, flushed) {
+        (Err(refusal), _) => Err(refusal),
+        (Ok(_), Err(_)) => Err(Refusal::WRITE),
+        (Ok(tally), Ok(())) => Ok(tally),
+    }
+}
