@@ -585,7 +585,7 @@ fn old_in(alloc: Global, row: &Row) -> Result<Vec<u8>, AllocError> {
 }
 
 /// The line of work that ended so: that of its ending, of its refusal, or of what was asked for and came otherwise.
-fn line_of(alloc: Global, ended: Result<Ending, Unflashed>) -> Vec<u8> {
+pub(crate) fn line_of(alloc: Global, ended: Result<Ending, Unflashed>) -> Vec<u8> {
     let mut line = IntoWrite::new(Held::new(alloc, 1000));
     let _ = match ended {
         Ok(ending) => write_ending(ending, &mut line).is_ok(),
