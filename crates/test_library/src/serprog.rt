@@ -4,6 +4,7 @@ mod bench;
 mod canned;
 mod endings;
 mod flashes;
+mod going_on;
 mod greets;
 mod line;
 mod memory;

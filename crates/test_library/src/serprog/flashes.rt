@@ -557,6 +557,12 @@ fn answers(alloc: Global, row: &Row) -> Result<Vec<u8>, AllocError> {
     Ok(all)
 }
 
+/// What a device answers in all that says NAK to the first step.
+pub(crate) fn stopped_answers(alloc: Global) -> Result<Vec<u8>, AllocError> {
+    let [row, ..] = &HALVES;
+    answers(alloc, row)
+}
+
 /// What goes out to it in all.
 fn wanted(alloc: Global, row: &Row) -> Result<Vec<u8>, AllocError> {
     let mut all = joined(alloc, &[row.opened])?;

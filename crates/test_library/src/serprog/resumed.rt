@@ -177,19 +177,38 @@ fn stops_at_each(rt: &impl Abort, alloc: Global, trouble: Trouble) -> Result<[u3
 /// change, of which 2 read the status, and 17 that verify; after them one that reads the chip back, and one that lets the pins go. NAK for
 /// the first word has it tried once more. A lie there, of the commands that are offered, of the two limits or of a status that says idle
 /// changes nothing in the end.
-static STOPS: [(Trouble, [u32; 3]); 5] = [
+static ANSWERED: [(Trouble, [u32; 3]); 2] = [
     (Trouble::Nak, [18, 29, 1]),
     (Trouble::Lies, [14, 23, 1]),
-    (Trouble::Silent, [19, 29, 1]),
-    (Trouble::Cut, [19, 29, 1]),
-    (Trouble::Torn, [19, 29, 1]),
 ];
 
-#[test]
-fn stopped_work_is_resumed(rt: HostRuntime) -> Result<(), Fail> {
-    for (trouble, want) in &STOPS {
-        let counts = stops_at_each(&rt, rt.alloc(), *trouble)?;
-        same(&rt, "stops", counts, *want);
+static SILENT: [(Trouble, [u32; 3]); 2] = [
+    (Trouble::Silent, [19, 29, 1]),
+    (Trouble::Cut, [19, 29, 1]),
+];
+
+static TORN: [(Trouble, [u32; 3]); 1] = [(Trouble::Torn, [19, 29, 1])];
+
+/// Stops the job by each trouble at each of its commands, and takes it up again.
+fn stop_as(rt: &impl Abort, alloc: Global, rows: &[(Trouble, [u32; 3])]) -> Result<(), Fail> {
+    for (trouble, want) in rows {
+        let counts = stops_at_each(rt, alloc, *trouble)?;
+        same(rt, "stops", counts, *want);
     }
     Ok(())
+}
+
+#[test]
+fn work_that_is_answered_wrongly_is_resumed(rt: HostRuntime) -> Result<(), Fail> {
+    stop_as(&rt, rt.alloc(), &ANSWERED)
+}
+
+#[test]
+fn work_that_falls_silent_is_resumed(rt: HostRuntime) -> Result<(), Fail> {
+    stop_as(&rt, rt.alloc(), &SILENT)
+}
+
+#[test]
+fn torn_work_is_resumed(rt: HostRuntime) -> Result<(), Fail> {
+    stop_as(&rt, rt.alloc(), &TORN)
 }
