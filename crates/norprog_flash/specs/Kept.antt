@@ -1,5 +1,5 @@
 -- What went over the wire where work isn't begun: nothing that changes what a chip holds (this project's).
-use Rattle.std.specs.Prelude.{◌≡◌, ◌⊎◌, ℕ, List, Option, Ok, Err}
+use Rattle.std.specs.Prelude.{◌⊎◌, ℕ, List, Option, Ok, Err}
 use Rattle.nor_base.specs.Device.{Ahead, ahead_of}
 use Rattle.nor_reader.specs.Harmless.{SendsHarmless}
 use Rattle.nor_serprog.specs.declared.fault.Fault.{Fault}

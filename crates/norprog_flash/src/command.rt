@@ -67,7 +67,7 @@ fn report_unflashed<O: ByteOut, E: ByteOut>(
     requires err { E.count err.old < 2 ^ 64 - 1 }
     ensures status { result ≤ 2 }
     ensures some { 0 < result }
-    ensures reported { ReportsUnflashed why.entry family (O.held out.old) (O.held out.new) (err.new ≡ err.old)
+    ensures reported { ReportsUnflashed why family (O.held out.old) (O.held out.new) (err.new ≡ err.old)
         (E.count err.new ≡ E.count err.old) (E.held err.old) (E.held err.new) result }
 {
     match why {

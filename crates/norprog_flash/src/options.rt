@@ -1,8 +1,9 @@
 //! The command that goes on with work that stopped, as a shell reads it.
 
-ghost use Rattle.std.specs.Prelude.{◌≡◌, ◌<◌, ◌-◌, ◌^◌, ◌∷◌, [], flat_map, option_map, Some};
+ghost use Rattle.std.specs.Prelude.{◌≡◌, ◌<◌, ◌-◌, ◌^◌, ◌++◌, flat_map, option_map};
+ghost use Rattle.std.specs.List.{list_all};
 ghost use Rattle.nor_base.specs.Device.{Counts, Writes};
-ghost use Rattle.norprog_flash.specs.State.{first_name, given_text, is_bare, is_plain, name_text, next_command, next_options, quoted, region_word, regions_text, shell_word, valued};
+ghost use Rattle.norprog_flash.specs.State.{first_name, flagged, given_text, is_bare, is_plain, name_text, named_text, next_command, next_options, option_front, quoted, quoted_word, region_word, regions_text, shell_word, valued};
 
 use nor_base::{ByteOut, Bytes, Failed, put_all, put_parts};
 use norprog_common::FlashArgs;
@@ -98,9 +99,21 @@ fn write_given<W: ByteOut>(option: Given<'_>, writer: &mut W) -> Result<(), Fail
 {
     match option {
         Given::Text(name, value) => write_valued(name, value, b"", writer),
-        Given::Flag(name, true) => put_parts(writer, &[b" --", name_text(name)]),
-        Given::Flag(_, false) => Ok(()),
+        Given::Flag(name, is) => write_flagged(name, is, writer),
         Given::Next(name, value) => write_valued(name, value, b".2", writer),
+    }
+}
+
+/// Writes a flag, where it is given.
+fn write_flagged<W: ByteOut>(name: Name, is: bool, writer: &mut W) -> Result<(), Failed>
+    requires { W.count writer.old < 2 ^ 64 - 1 }
+    ensures bytes { Writes (W.held writer.old) (W.held writer.new) result (flagged name is) }
+    ensures count { Counts (W.count writer.old) (W.count writer.new) result }
+{
+    if is {
+        put_parts(writer, &[b" --", name_text(name)])
+    } else {
+        Ok(())
     }
 }
 
@@ -117,13 +130,34 @@ fn write_valued<W: ByteOut>(
     ensures count { Counts (W.count writer.old) (W.count writer.new) result }
 {
     match value {
-        Some(value) => {
-            put_parts(writer, &[b" --", name_text(name), b"="])?;
-            write_word(value.as_bytes(), writer)?;
-            put_all(writer, after)
-        }
+        Some(value) => write_value(name, value, after, writer),
         None => Ok(()),
     }
+}
+
+/// Writes an option, its value, and something after that.
+fn write_value<W: ByteOut>(
+    name: Name,
+    value: &str,
+    after: &[u8],
+    writer: &mut W,
+) -> Result<(), Failed>
+    requires { W.count writer.old < 2 ^ 64 - 1 }
+    ensures bytes { Writes (W.held writer.old) (W.held writer.new) result (option_front name ++ (shell_word value.now ++ after.now)) }
+    ensures count { Counts (W.count writer.old) (W.count writer.new) result }
+{
+    write_front(name, writer)?;
+    write_word(value.as_bytes(), writer)?;
+    put_all(writer, after)
+}
+
+/// Writes what comes before the value of an option.
+fn write_front<W: ByteOut>(name: Name, writer: &mut W) -> Result<(), Failed>
+    requires { W.count writer.old < 2 ^ 64 - 1 }
+    ensures bytes { Writes (W.held writer.old) (W.held writer.new) result (option_front name) }
+    ensures count { Counts (W.count writer.old) (W.count writer.new) result }
+{
+    put_parts(writer, &[b" --", name_text(name), b"="])
 }
 
 /// An option's name.
@@ -153,9 +187,18 @@ fn write_regions<W: ByteOut>(regions: &[Bytes], writer: &mut W) -> Result<(), Fa
     ensures bytes { Writes (W.held writer.old) (W.held writer.new) result (regions_text regions.now) }
     ensures count { Counts (W.count writer.old) (W.count writer.new) result }
 {
-    if regions.is_empty() {
-        return Ok(());
+    match regions {
+        [] => Ok(()),
+        [..] => write_named(regions, writer),
     }
+}
+
+/// Writes `--` and the names of regions.
+fn write_named<W: ByteOut>(regions: &[Bytes], writer: &mut W) -> Result<(), Failed>
+    requires { W.count writer.old < 2 ^ 64 - 1 }
+    ensures bytes { Writes (W.held writer.old) (W.held writer.new) result (named_text regions.now) }
+    ensures count { Counts (W.count writer.old) (W.count writer.new) result }
+{
     put_all(writer, b" --")?;
     write_names(regions, writer)
 }
@@ -167,19 +210,19 @@ fn write_names<W: ByteOut>(regions: &[Bytes], writer: &mut W) -> Result<(), Fail
     ensures count { Counts (W.count writer.old) (W.count writer.new) result }
 {
     for region in regions {
-        write_name(region.as_slice(), writer)?;
+        write_name(region, writer)?;
     }
     Ok(())
 }
 
 /// Writes a blank and a word.
-fn write_name<W: ByteOut>(name: &[u8], writer: &mut W) -> Result<(), Failed>
+fn write_name<W: ByteOut>(name: &Bytes, writer: &mut W) -> Result<(), Failed>
     requires { W.count writer.old < 2 ^ 64 - 1 }
     ensures bytes { Writes (W.held writer.old) (W.held writer.new) result (region_word name.now) }
     ensures count { Counts (W.count writer.old) (W.count writer.new) result }
 {
     put_all(writer, b" ")?;
-    write_word(name, writer)
+    write_word(name.as_slice(), writer)
 }
 
 /// Writes the word that a shell reads as a text.
@@ -189,8 +232,18 @@ fn write_word<W: ByteOut>(text: &[u8], writer: &mut W) -> Result<(), Failed>
     ensures count { Counts (W.count writer.old) (W.count writer.new) result }
 {
     if is_bare(text) {
-        return put_all(writer, text);
+        put_all(writer, text)
+    } else {
+        write_quoted_word(text, writer)
     }
+}
+
+/// Writes a text between single quotes.
+fn write_quoted_word<W: ByteOut>(text: &[u8], writer: &mut W) -> Result<(), Failed>
+    requires { W.count writer.old < 2 ^ 64 - 1 }
+    ensures bytes { Writes (W.held writer.old) (W.held writer.new) result (quoted_word text.now) }
+    ensures count { Counts (W.count writer.old) (W.count writer.new) result }
+{
     put_all(writer, b"'")?;
     write_quoted(text, writer)?;
     put_all(writer, b"'")
@@ -200,7 +253,17 @@ fn write_word<W: ByteOut>(text: &[u8], writer: &mut W) -> Result<(), Failed>
 fn is_bare(text: &[u8]) -> bool
     ensures { result ≡ is_bare text.now }
 {
-    !text.is_empty() && text.iter().all(|byte| is_plain(*byte))
+    match text {
+        [] => false,
+        [..] => are_plain(text),
+    }
+}
+
+/// Whether a text has only letters, digits, and - . / _
+fn are_plain(text: &[u8]) -> bool
+    ensures { result ≡ list_all is_plain text.now }
+{
+    text.iter().all(|byte| is_plain(*byte))
 }
 
 /// Whether it is a letter, a digit, or one of - . / _

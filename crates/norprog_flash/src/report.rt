@@ -8,7 +8,7 @@ ghost use Rattle.norprog_common.specs.declared.faults.Refusal.TheVariants.{Build
 ghost use Rattle.norprog_common.specs.Lines.{printed};
 ghost use Rattle.norprog_flash.specs.Answer.{state_told, ReportsEnding};
 ghost use Rattle.norprog_flash.specs.Line.{is_partial, is_sent, status_of};
-ghost use Rattle.norprog_flash.specs.State.{state_line};
+ghost use Rattle.norprog_flash.specs.State.{state_front, state_line};
 
 use crate::ending::Ending;
 use crate::line::write_ending;
@@ -79,9 +79,18 @@ fn write_line<E: ByteOut>(given: &FlashArgs<'_>, err: &mut E) -> Result<(), Fail
     ensures bytes { Writes (E.held err.old) (E.held err.new) result (state_line given.now) }
     ensures count { Counts (E.count err.old) (E.count err.new) result }
 {
-    put_parts(err, &[HALF_DONE, first_name(given).as_bytes(), GO_ON])?;
+    write_front(first_name(given), err)?;
     write_command(given, err)?;
     put_all(err, b"\n")
+}
+
+/// Writes what comes before the command.
+fn write_front<E: ByteOut>(first: &str, err: &mut E) -> Result<(), Failed>
+    requires { E.count err.old < 2 ^ 64 - 1 }
+    ensures bytes { Writes (E.held err.old) (E.held err.new) result (state_front first.now) }
+    ensures count { Counts (E.count err.old) (E.count err.new) result }
+{
+    put_parts(err, &[HALF_DONE, first.as_bytes(), GO_ON])
 }
 
 /// Whether steps were sent, and the chip isn't known to hold what they leave.
