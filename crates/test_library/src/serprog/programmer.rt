@@ -1,5 +1,7 @@
 //! A serprog device with a chip in memory, which does what it is asked up to a command at which something goes wrong.
 
+ghost use Rattle.std.specs.Prelude.{◌≤◌, length};
+
 use crate::serprog::memory::Memory;
 use std::alloc::{AllocError, Global};
 use std::cell::Cell;
@@ -101,13 +103,12 @@ impl Programmer {
     }
 
     /// Gives the next bytes of its answer, as many as there are and have room.
-    fn give(&mut self, buf: &mut [u8]) -> usize {
-        let mut count = 0;
+    fn give(&mut self, buf: &mut [u8]) -> usize
+        ensures within { result ≤ length buf.old }
+    {
         let (_, rest) = self.answer.split_at(self.given.min(self.answer.len()));
-        for (place, byte) in buf.iter_mut().zip(rest) {
-            *place = *byte;
-            count += 1;
-        }
+        let count = rest.len().min(buf.len());
+        buf[..count].copy_from_slice(&rest[..count]);
         self.given = self.given.saturating_add(count);
         count
     }

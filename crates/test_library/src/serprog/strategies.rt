@@ -33,7 +33,7 @@ const BOTH: &[u8] =
     b":0200000400FFFB\n:01FFFF000001\n:020000040100F9\n:0100000000FF\n:00000001FF\n";
 
 /// 16 MiB and 64 KiB.
-const PAST: usize = 0x101_0000;
+const PAST: u32 = 0x101_0000;
 
 /// A chip behind a device, the work on it, and how it ends.
 #[derive(Clone, Copy)]
@@ -41,7 +41,7 @@ struct Row {
     /// Its SFDP bytes, with changes; where there are none it is described by its size.
     tables: &'static [u8],
     changes: &'static [&'static [(usize, u8)]],
-    size: usize,
+    size: u32,
     /// It begins in four-byte mode; it switches after a write enable only; what its page is; it programs only erased bytes.
     mode4: bool,
     latched: bool,
@@ -218,7 +218,7 @@ fn tables_of(alloc: Global, row: &Row) -> Result<Vec<u8>, AllocError> {
 
 /// The chip of a row.
 fn chip_of(alloc: Global, row: &Row) -> Result<Memory, AllocError> {
-    let array = held(alloc, row.size, row.held)?;
+    let array = held(alloc, row.size as usize, row.held)?;
     let mut chip = Memory::new(array, tables_of(alloc, row)?);
     chip.last = row.page.saturating_sub(1);
     chip.erased_only = row.erased_only;
@@ -232,7 +232,7 @@ fn job_of(row: &Row) -> Job<'static>
     ensures whole { result.ask.content ≡ true }
 {
     let known = if row.tables.is_empty() {
-        Known::Uniform(row.size as u32)
+        Known::Uniform(row.size)
     } else {
         Known::Own
     };
@@ -262,12 +262,12 @@ fn is_left(rt: &impl Abort, alloc: Global, bench: Bench, row: &Row) -> Result<()
     holds(rt, "the line", line.as_slice() == row.line);
     holds(rt, "the plan", bench.plan.as_slice() == row.plan);
     let chip = &bench.device.chip;
-    let want = held(alloc, row.size, row.wanted)?;
+    let want = held(alloc, row.size as usize, row.wanted)?;
     holds(rt, "the chip", chip.array.as_slice() == want.as_slice());
     holds(rt, "each instruction has its effect", !chip.odd);
     same(rt, "its mode", chip.mode4, row.mode4);
     if !bench.saved.is_empty() {
-        let before = held(alloc, row.size, row.held)?;
+        let before = held(alloc, row.size as usize, row.held)?;
         holds(
             rt,
             "what is saved",
