@@ -127,6 +127,7 @@ told_so strict A B Page is = is
 told_so strict A B BinSize is = is
 told_so strict A B (Steps number) is = is
 told_so strict A B (EmptyRegion index) is = absurd is
+told_so strict A B (Log line) is = is
 
 pub asked_refused : (strict : Bool) (L : FileName → Type 0) (A : Job → Type 0) (P : List ℕ → Type 0) (r : Result Finding Refusal)
     → IfErr r (RefusesCheck L (Filled strict A) P) → IfErr r (RefusesAsked strict L A P)

@@ -10,7 +10,7 @@ use Rattle.nor_hex.specs.Image.{Pairs}
 use Rattle.nor_layout.specs.Region.{Region}
 use Rattle.norprog_common.specs.declared.faults.FileName.{FileName}
 use Rattle.norprog_common.specs.declared.faults.Refusal.{Refusal}
-use Rattle.norprog_common.specs.declared.faults.Refusal.TheVariants.{Text, Usage, File, Build, Page, Script, BinSize, Steps, EmptyRegion}
+use Rattle.norprog_common.specs.declared.faults.Refusal.TheVariants.{Text, Usage, File, Build, Page, Script, BinSize, Steps, EmptyRegion, Log}
 use Rattle.norprog_common.specs.Served.{Job}
 use Rattle.norprog_common.specs.Strict.{RefusesEmpty, Filled, IsEmptyAt, OrEmpty}
 use Rattle.norprog_common.specs.Told.{RefusesFor}
@@ -30,6 +30,7 @@ empty_wider strict A B F G wider more Page is = more Page is
 empty_wider strict A B F G wider more (Script why) is = more (Script why) is
 empty_wider strict A B F G wider more BinSize is = more BinSize is
 empty_wider strict A B F G wider more (Steps number) is = more (Steps number) is
+empty_wider strict A B F G wider more (Log line) is = more (Log line) is
 
 -- a job that is refused as strict
 pub by_empty : (strict : Bool) (Lacked : FileName → Type 0) (Asked : Job → Type 0) (Fault : Refusal → Type 0) (Done : Type 0) (j : Job) (why : Refusal) → Asked j
@@ -54,6 +55,7 @@ by_empty strict Lacked Asked Fault Done j Page asked is = absurd is
 by_empty strict Lacked Asked Fault Done j (Script why) asked is = absurd is
 by_empty strict Lacked Asked Fault Done j BinSize asked is = absurd is
 by_empty strict Lacked Asked Fault Done j (Steps number) asked is = absurd is
+by_empty strict Lacked Asked Fault Done j (Log line) asked is = absurd is
 
 -- ---- what was found of a job
 pub none_empty : (found : Option ℕ) (index : ℕ) → found ≡ None → found ≡ Some index → ⊥

@@ -48,9 +48,9 @@ about_lines option trouble text names refusal = option_line option trouble ++ (r
 abbrev pub IsHeld : FileFacts → List ℕ → List ℕ → Type 0
 IsHeld files name text = (text ≡ []) ⊎ files.gave name text
 
--- what is said of the option that a refusal is about, by its name and value
+-- what is said of the option that a refusal is about, by its name and value; without one, of a region that it counts
 abbrev pub IsSaidOf : FileFacts → CommandLine → List ℕ → Option (List ℕ × List ℕ) → List ℕ → Type 0
-IsSaidOf files line refusal None said = said ≡ []
+IsSaidOf files line refusal None said = said ≡ region_line (map (λ name. name.now) line.regions.now) refusal
 IsSaidOf files line refusal (Some option) said =
     (trouble : Option (List ℕ)) × (text : List ℕ) × IsHeld files option.1 text
     × (said ≡ about_lines option trouble text (map (λ name. name.now) line.regions.now) refusal)

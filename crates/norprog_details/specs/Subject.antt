@@ -18,7 +18,7 @@ words_for name =
     else if bytes_eq name (codes "status") then Some (codes "norprog: status ")
     else if bytes_eq name (codes "page") then Some (codes "norprog: page")
     else if bytes_eq name (codes "device") then Some (codes "norprog: device ")
-    else if bytes_eq name (codes "from") then Some (codes "norprog: steps ") else None
+    else if bytes_eq name (codes "from") then Some (codes "norprog: script steps ") else None
 
 -- a line begins with such words
 abbrev pub begins : List ℕ → Option (List ℕ) → Bool

@@ -78,7 +78,7 @@ fn write_facts<S: FileStore, E: ByteOut>(
         return write_usage(line, err);
     }
     let Some(option) = option_of(line.typed, refusal) else {
-        return put_all(err, b"");
+        return write_region(line.regions, refusal, err);
     };
     let trouble = trouble_of(alloc, store, option);
     let text = held_by(alloc, store, option);
@@ -123,6 +123,7 @@ fn held_by<S: FileStore>(alloc: Global, store: &S, option: Typed<'_>) -> Vec<u8>
         "hex" => FileName::Hex,
         "layout" => FileName::Layout,
         "script" => FileName::Script,
+        "log" => FileName::Log,
         _ => return Vec::new(alloc),
     };
     match store.read(alloc, option.value, name) {

@@ -49,7 +49,7 @@ fn words_for(name: &str) -> Option<&'static str>
         "status" => Some("norprog: status "),
         "page" => Some("norprog: page"),
         "device" => Some("norprog: device "),
-        "from" => Some("norprog: steps "),
+        "from" => Some("norprog: script steps "),
         _ => None,
     }
 }

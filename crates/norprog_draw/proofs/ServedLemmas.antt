@@ -10,7 +10,7 @@ use Rattle.nor_waves.specs.Waves.{waves}
 use Rattle.norprog_common.specs.FileStore.{FileFacts, IsMadeApart, Named}
 use Rattle.norprog_common.specs.declared.faults.FileName.{FileName}
 use Rattle.norprog_common.specs.declared.faults.Refusal.{Refusal}
-use Rattle.norprog_common.specs.declared.faults.Refusal.TheVariants.{Text, Usage, File, Build, Page, Script, BinSize, Steps, EmptyRegion}
+use Rattle.norprog_common.specs.declared.faults.Refusal.TheVariants.{Text, Usage, File, Build, Page, Script, BinSize, Steps, EmptyRegion, Log}
 use Rattle.norprog_common.specs.Told.{OrUsage}
 use Rattle.norprog_common.proofs.ToldLemmas.{refuses_wider, or_usage}
 use Rattle.norprog_common.specs.declared.given.DrawArgs.{DrawArgs}
@@ -58,6 +58,7 @@ stop_wider M N wider t (Script why) of = of
 stop_wider M N wider t BinSize of = of
 stop_wider M N wider t (Steps number) of = of
 stop_wider M N wider t (EmptyRegion index) of = of
+stop_wider M N wider t (Log line) of = of
 
 drawing_asked : (files : FileFacts) (given : DrawArgs) (request : DrawRequest) (Sent : Option (List ℕ) → Type 0) → AsksFor given request
     → IsDrawing (IsTaskOf files request) (IsMadeFor files request) Sent → IsDrawing (Serves files given) (Makes files given) Sent
@@ -122,6 +123,7 @@ module _ (files : FileFacts) (request : DrawRequest) (text : List ℕ) (gave : f
   steps_refused Page is = absurd is
   steps_refused BinSize is = absurd is
   steps_refused (EmptyRegion index) is = absurd is
+  steps_refused (Log line) is = absurd is
 
   -- a drawing whose file was flushed
   module _ (steps : List Step) (script : IsScript text steps) (there : IsThere request.from steps) (before after : Option (List ℕ)) (made : IsMadeFor files request before) where

@@ -3,3 +3,5 @@ mod EndedLemmas
 mod LineLemmas
 mod OpenedLemmas
 mod ServedLemmas
+mod StateLemmas
+mod ReportLemmas

@@ -1,19 +1,34 @@
 -- What `flash` reports to the texts of a command line (this project's).
-use Rattle.std.specs.Prelude.{◌≡◌, ◌≢◌, ◌⊎◌, ℕ, Bool, true, false, List, [], ◌++◌, if◌then◌else◌, Option, option_map, unwrap_or}
+use Rattle.std.specs.Prelude.{◌≡◌, ◌⊎◌, ℕ, Bool, true, false, List, [], ◌++◌, if◌then◌else◌, Option, Some, option_map, unwrap_or}
 use Rattle.std.specs.Io.KnownBytes.{Appends}
+use Rattle.nor_base.specs.declared.meaning.Part.{Part}
+use Rattle.nor_base.specs.declared.meaning.Part.TheVariants.{Generic}
 use Rattle.nor_base.specs.Device.{Cuts}
 use Rattle.nor_job.specs.declared.fault.BuildFault.TheVariants.{Write}
 use Rattle.norprog_common.specs.FileStore.{FileFacts}
-use Rattle.norprog_common.specs.Lines.{printed}
+use Rattle.norprog_common.specs.Files.{TellsFile}
+use Rattle.norprog_common.specs.Lines.{printed, status_after}
+use Rattle.norprog_common.specs.Setup.{family_asked}
+use Rattle.norprog_common.specs.Told.{OrUsage}
+use Rattle.norprog_common.specs.Values.{part_of}
+use Rattle.norprog_common.specs.declared.faults.FileName.{FileName}
+use Rattle.norprog_common.specs.declared.faults.Refusal.{Refusal}
 use Rattle.norprog_common.specs.declared.faults.Refusal.TheVariants.{Build}
 use Rattle.norprog_common.specs.declared.given.FlashArgs.{FlashArgs}
+use Rattle.norprog_device.specs.Line.{device_line}
 use Rattle.norprog_flash.specs.declared.ending.Ending.{Ending}
+use Rattle.norprog_flash.specs.declared.ending.Unflashed.{Unflashed}
+use Rattle.norprog_flash.specs.declared.ending.Unflashed.TheVariants.{Refused, Device, Unlike, Closed}
 use Rattle.norprog_flash.specs.declared.job.Job.{Job}
 use Rattle.norprog_flash.specs.declared.request.FlashRequest.{FlashRequest}
-use Rattle.norprog_flash.specs.Line.{ending_line, is_partial, state_line, status_of}
+use Rattle.norprog_flash.specs.Kept.{KeepsOn}
+use Rattle.norprog_flash.specs.Line.{closed_line, ending_line, is_partial, status_of}
 use Rattle.norprog_flash.specs.Opened.{IsFlashedOn}
 use Rattle.norprog_flash.specs.Request.{is_well_formed, AsksFor}
 use Rattle.norprog_flash.specs.Served.{IsJobOf}
+use Rattle.norprog_flash.specs.State.{state_line}
+use Rattle.norprog_read.specs.Answer.{Reports}
+use Rattle.norprog_read.specs.Line.{unlike_line}
 
 -- the job of a request ended so on the device that it names
 pub record EndsRequest (files : FileFacts) (request : FlashRequest) (out_before out_after : Option (List ℕ)) (ending : Ending) : Type 0 where
@@ -28,38 +43,62 @@ pub record IsEndingOf (files : FileFacts) (given : FlashArgs) (out_before out_af
   pub asks : AsksFor given request
   pub ends : EndsRequest files request out_before out_after ending
 
--- the file that has what the chip held before the first try: that of --resume, where one is named, else that of --before
-abbrev pub first_name : FlashArgs → List ℕ
-first_name given = unwrap_or (option_map (λ t. t.now) given.resume) (unwrap_or (option_map (λ t. t.now) given.before) [])
+-- a file couldn't be used, or memory ran out, before anything went to a device or was printed; or the device was opened, and nothing was
+-- sent that changes the chip behind it
+abbrev pub IsUnbegunOn : (FileName → Type 0) → (Option (List ℕ) → Option (List ℕ) → Type 0) → Option (List ℕ) → Option (List ℕ) → Unflashed → Type 0
+IsUnbegunOn Lacked Opened out_before out_after why =
+    ((refusal : Refusal) × (why ≡ Refused refusal) × TellsFile Lacked refusal × (out_after ≡ out_before)) ⊎ KeepsOn Opened
+
+-- the texts ask for nothing; or so of the device that they name
+abbrev pub IsUnbegunFor : FileFacts → FlashArgs → Option (List ℕ) → Option (List ℕ) → Unflashed → Type 0
+IsUnbegunFor files given out_before out_after why =
+    ((refusal : Refusal) × (why ≡ Refused refusal) × OrUsage (is_well_formed given) (TellsFile files.lacked) refusal × (out_after ≡ out_before))
+    ⊎ ((is_well_formed given ≡ true) × (device : List ℕ) × (option_map (λ t. t.now) given.device ≡ Some device) × KeepsOn (files.device device))
+
+-- the part that is named, else that of which nothing is known
+abbrev pub family_of : FlashArgs → Part
+family_of given = unwrap_or (part_of (family_asked given.chip)) Generic
 
 -- what is written beside an ending
-abbrev pub state_told : Ending → List ℕ → List ℕ
-state_told ending first = if is_partial ending then state_line first else []
+abbrev pub state_told : Ending → FlashArgs → List ℕ
+state_told ending given = if is_partial ending then state_line given else []
 
 -- where the chip may hold a part of the work that was written, if the writer works; else nothing was
-abbrev pub TellsState : Bool → List ℕ → Type 0 → Type 0 → Option (List ℕ) → Option (List ℕ) → Type 0
-TellsState true first Quiet Works before after = Works → Appends before after (state_line first)
-TellsState false first Quiet Works before after = Quiet
+abbrev pub TellsState : Bool → FlashArgs → Type 0 → Type 0 → Option (List ℕ) → Option (List ℕ) → Type 0
+TellsState true given Quiet Works before after = Works → Appends before after (state_line given)
+TellsState false given Quiet Works before after = Quiet
 
 -- the line of an ending was printed, whose status it is; the chip's state was written first
-pub record PrintsLine (ending : Ending) (first : List ℕ) (before after : Option (List ℕ)) (Quiet Works : Type 0)
+pub record PrintsLine (ending : Ending) (given : FlashArgs) (before after : Option (List ℕ)) (Quiet Works : Type 0)
     (told_before told_after : Option (List ℕ)) (status : ℕ) : Type 0 where
   pub by_it : status ≡ status_of ending
   pub printed : Appends before after (ending_line ending)
-  pub told : TellsState (is_partial ending) first Quiet Works told_before told_after
+  pub told : TellsState (is_partial ending) given Quiet Works told_before told_after
 
 -- a proper prefix of it was, and so was, after the chip's state, that it couldn't be printed
-pub record CutsLine (ending : Ending) (first : List ℕ) (before after : Option (List ℕ)) (Works : Type 0)
+pub record CutsLine (ending : Ending) (given : FlashArgs) (before after : Option (List ℕ)) (Works : Type 0)
     (told_before told_after : Option (List ℕ)) (status : ℕ) : Type 0 where
   pub one : status ≡ 1
   pub cut : Cuts before after (ending_line ending)
-  pub told : Works → Appends told_before told_after (state_told ending first ++ printed (Build Write))
+  pub told : Works → Appends told_before told_after (state_told ending given ++ printed (Build Write))
 
 -- what is written of an ending
-abbrev pub ReportsEnding : Ending → List ℕ → Option (List ℕ) → Option (List ℕ) → Type 0 → Type 0 → Option (List ℕ) → Option (List ℕ) → ℕ → Type 0
-ReportsEnding ending first before after Quiet Works told_before told_after status =
-    PrintsLine ending first before after Quiet Works told_before told_after status
-    ⊎ CutsLine ending first before after Works told_before told_after status
+abbrev pub ReportsEnding : Ending → FlashArgs → Option (List ℕ) → Option (List ℕ) → Type 0 → Type 0 → Option (List ℕ) → Option (List ℕ) → ℕ → Type 0
+ReportsEnding ending given before after Quiet Works told_before told_after status =
+    PrintsLine ending given before after Quiet Works told_before told_after status
+    ⊎ CutsLine ending given before after Works told_before told_after status
+
+-- what is written where work isn't begun: a refusal, or why the device can't be used, and nothing is printed; or the line of what the
+-- chip said or gave, with status 1
+abbrev pub ReportsUnflashed : Unflashed → Part → Option (List ℕ) → Option (List ℕ) → Type 0 → Type 0 → Option (List ℕ) → Option (List ℕ) → ℕ → Type 0
+ReportsUnflashed (Refused why) family before after Quiet Works told_before told_after status =
+    (status ≡ status_after why) × (after ≡ before) × (Works → Appends told_before told_after (printed why))
+ReportsUnflashed (Device why) family before after Quiet Works told_before told_after status =
+    (status ≡ 1) × (after ≡ before) × (Works → Appends told_before told_after (device_line why))
+ReportsUnflashed (Unlike why) family before after Quiet Works told_before told_after status =
+    Reports (unlike_line why) 1 before after Quiet Works told_before told_after status
+ReportsUnflashed (Closed bits) family before after Quiet Works told_before told_after status =
+    Reports (closed_line family bits) 1 before after Quiet Works told_before told_after status
 
 -- what the texts ask for ended so: the lines of the plan were printed, and that is what was written of the ending
 pub record PrintsEnding (files : FileFacts) (given : FlashArgs) (before after : Option (List ℕ)) (Quiet Works : Type 0)
@@ -67,9 +106,18 @@ pub record PrintsEnding (files : FileFacts) (given : FlashArgs) (before after : 
   pub ending : Ending
   pub middle : Option (List ℕ)
   pub is : IsEndingOf files given before middle ending
-  pub reported : ReportsEnding ending (first_name given) middle after Quiet Works told_before told_after status
+  pub reported : ReportsEnding ending given middle after Quiet Works told_before told_after status
 
--- what `flash` answers to the texts of a command line: an ending; or another status than 0
+-- it wasn't begun, and that is what was written of it
+pub record PrintsUnflashed (files : FileFacts) (given : FlashArgs) (before after : Option (List ℕ)) (Quiet Works : Type 0)
+    (told_before told_after : Option (List ℕ)) (status : ℕ) : Type 0 where
+  pub why : Unflashed
+  pub middle : Option (List ℕ)
+  pub is : IsUnbegunFor files given before middle why
+  pub reported : ReportsUnflashed why (family_of given) middle after Quiet Works told_before told_after status
+
+-- what `flash` answers to the texts of a command line: an ending; or why nothing that changes a chip was sent
 abbrev pub AnswersFlash : FileFacts → FlashArgs → Option (List ℕ) → Option (List ℕ) → Type 0 → Type 0 → Option (List ℕ) → Option (List ℕ) → ℕ → Type 0
 AnswersFlash files given before after Quiet Works told_before told_after status =
-    PrintsEnding files given before after Quiet Works told_before told_after status ⊎ (status ≢ 0)
+    PrintsEnding files given before after Quiet Works told_before told_after status
+    ⊎ PrintsUnflashed files given before after Quiet Works told_before told_after status

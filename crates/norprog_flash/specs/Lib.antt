@@ -3,7 +3,9 @@ pub mod Begun
 pub mod Worked
 pub mod Ended
 pub mod Line
+pub mod State
 pub mod Opened
+pub mod Kept
 pub mod Request
 pub mod Served
 pub mod Answer

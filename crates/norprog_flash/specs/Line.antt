@@ -36,9 +36,3 @@ is_sent other = true
 abbrev pub is_partial : Ending → Bool
 is_partial (Failed step why) = is_sent why
 is_partial other = false
-
--- what is written then: the file that has what the chip held before the first try
-abbrev pub state_line : List ℕ → List ℕ
-state_line before =
-    codes "norprog: the chip is half done, and what it held is in " ++ (before
-    ++ codes ". Switch its power off and on, and go on with the same command, this file as --resume and a new one as --before. See: norprog explain the chip may hold\n")

@@ -36,4 +36,4 @@ pub record AsksFor (given : FlashArgs) (request : FlashRequest) : Type 0 where
   pub resume : request.resume ≡ given.resume
   pub erased_only : request.erased_only ≡ given.erased_only
   pub dry_run : request.dry_run ≡ given.dry_run
-  pub regions : request.regions ≡ given.regions
+  pub regions : request.regions.now ≡ given.regions.items

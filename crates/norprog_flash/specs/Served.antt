@@ -23,7 +23,7 @@ pub record IsJobOf (facts : FileFacts) (request : FlashRequest) (job : Job) : Ty
   pub erased_only : job.ask.erased_only ≡ request.erased_only
   pub hex : job.hex.now ≡ held.hex.items
   pub layout : option_map (λ t. t.now) job.layout ≡ option_map (λ bytes. bytes.items) held.layout
-  pub regions : job.regions.now ≡ request.regions.items
+  pub regions : job.regions.now ≡ request.regions.now
   pub base : job.base ≡ request.base
   pub old : option_map (λ t. t.now) job.old ≡ option_map (λ bytes. bytes.items) held.old
   pub before : job.before.now ≡ request.before.now

@@ -1,7 +1,11 @@
 //! `flash`: from the texts of the command line to the line of an ending.
 
-ghost use Rattle.std.specs.Prelude.{◌≡◌, ◌<◌, ◌≤◌, ◌-◌, ◌+◌, ◌^◌, true, option_map, IfOk};
-ghost use Rattle.norprog_flash.specs.Answer.{AnswersFlash, IsEndingOf, first_name};
+ghost use Rattle.std.specs.Prelude.{◌≡◌, ◌<◌, ◌≤◌, ◌-◌, ◌+◌, ◌^◌, true, option_map, IfOk, IfErr};
+ghost use Rattle.std.specs.Io.KnownBytes.{Appends};
+ghost use Rattle.nor_job.specs.declared.fault.BuildFault.TheVariants.{Write};
+ghost use Rattle.norprog_common.specs.declared.faults.Refusal.TheVariants.{Build};
+ghost use Rattle.norprog_common.specs.Lines.{printed};
+ghost use Rattle.norprog_flash.specs.Answer.{AnswersFlash, IsEndingOf, IsUnbegunFor, IsUnbegunOn, ReportsUnflashed, family_of};
 ghost use Rattle.norprog_flash.specs.Opened.{IsFlashedOn};
 
 use crate::ending::{Ending, Unflashed};
@@ -11,7 +15,7 @@ use crate::line::write_closed;
 use crate::opened::flash_opened;
 use crate::report::report_ending;
 use crate::request::{FlashRequest, request_of};
-use nor_base::{ByteOut, FromRead, IntoWrite, Part};
+use nor_base::{ByteOut, Failed, FromRead, IntoWrite, Part};
 use norprog_common::{FileStore, FlashArgs, Refusal, part, refuse};
 use norprog_device::{open_port, refuse_device};
 use norprog_read::{Ask, ask_of, write_unlike};
@@ -39,22 +43,17 @@ pub fn flash<S: FileStore, O: ByteOut, E: ByteOut, P: ByteOut>(
     ensures answer { AnswersFlash (S.facts store.now) given.entry (O.held out.old) (O.held out.new) (err.new ≡ err.old)
         (E.count err.new ≡ E.count err.old) (E.held err.old) (E.held err.new) result }
 {
-    let first = first_name(&given);
-    let family = part(given.chip.part.unwrap_or("generic")).unwrap_or(Part::Generic);
-    match flash_texts(alloc, store, given, out, progress) {
-        Ok(ending) => report_ending(ending, first, out, err),
-        Err(why) => report_unflashed(why, family, out, err),
+    match flash_texts(alloc, store, &given, out, progress) {
+        Ok(ending) => report_ending(ending, &given, out, err),
+        Err(why) => report_unflashed(why, family_of(&given), out, err),
     }
 }
 
-/// The name of the file that has what the chip held before the first try.
-fn first_name<'a>(given: &FlashArgs<'a>) -> &'a str
-    ensures { result.now ≡ first_name given.now }
+/// The part that is named, else that of which nothing is known.
+fn family_of(given: &FlashArgs<'_>) -> Part
+    ensures { result ≡ family_of given.now }
 {
-    match given.resume {
-        Some(name) => name,
-        None => given.before.unwrap_or(""),
-    }
+    part(given.chip.part.unwrap_or("generic")).unwrap_or(Part::Generic)
 }
 
 /// Reports why nothing that changes the chip was sent, and returns the status.
@@ -68,13 +67,25 @@ fn report_unflashed<O: ByteOut, E: ByteOut>(
     requires err { E.count err.old < 2 ^ 64 - 1 }
     ensures status { result ≤ 2 }
     ensures some { 0 < result }
+    ensures reported { ReportsUnflashed why family (O.held out.old) (O.held out.new) (err.new ≡ err.old)
+        (E.count err.new ≡ E.count err.old) (E.held err.old) (E.held err.new) result }
 {
-    let written = match why {
-        Unflashed::Refused(refusal) => return refuse(&refusal, err),
-        Unflashed::Device(fault) => return refuse_device(fault, err),
-        Unflashed::Unlike(unlike) => write_unlike(unlike, out),
-        Unflashed::Closed(status) => write_closed(family, status, out),
-    };
+    match why {
+        Unflashed::Refused(refusal) => refuse(&refusal, err),
+        Unflashed::Device(fault) => refuse_device(fault, err),
+        Unflashed::Unlike(unlike) => end_line(write_unlike(unlike, out), err),
+        Unflashed::Closed(status) => end_line(write_closed(family, status, out), err),
+    }
+}
+
+/// The status after a line, 1; where that couldn't be printed, so is written.
+fn end_line<E: ByteOut>(written: Result<(), Failed>, err: &mut E) -> u8
+    requires err { E.count err.old < 2 ^ 64 - 1 }
+    ensures status { result ≡ 1 }
+    ensures quiet { IfOk written (λ _. err.new ≡ err.old) }
+    ensures told { IfErr written (λ _. E.count err.new ≡ E.count err.old
+        → Appends (E.held err.old) (E.held err.new) (printed (Build Write))) }
+{
     match written {
         Ok(()) => 1,
         Err(_) => refuse(&Refusal::WRITE, err),
@@ -85,13 +96,14 @@ fn report_unflashed<O: ByteOut, E: ByteOut>(
 fn flash_texts<S: FileStore, O: ByteOut, P: ByteOut>(
     alloc: Global,
     store: &S,
-    given: FlashArgs<'_>,
+    given: &FlashArgs<'_>,
     out: &mut O,
     progress: &mut P,
 ) -> Result<Ending, Unflashed>
     requires out { O.count out.old < 2 ^ 64 - 1 }
     requires progress { P.count progress.old < 2 ^ 64 - 1 }
-    ensures ends { IfOk result (IsEndingOf (S.facts store.now) given.entry (O.held out.old) (O.held out.new)) }
+    ensures ends { IfOk result (IsEndingOf (S.facts store.now) given.now (O.held out.old) (O.held out.new)) }
+    ensures unbegun { IfErr result (IsUnbegunFor (S.facts store.now) given.now (O.held out.old) (O.held out.new)) }
     ensures count { IfOk result (λ _. O.count out.new ≡ O.count out.old) }
     ensures room { O.count out.new ≤ O.count out.old + 1 }
 {
@@ -121,7 +133,7 @@ fn flash_texts<S: FileStore, O: ByteOut, P: ByteOut>(
         },
         hex: files.hex.as_slice(),
         layout: bytes_in(&files.layout),
-        regions: regions.as_slice(),
+        regions,
         base,
         old: bytes_in(&files.old),
         before,
@@ -143,6 +155,8 @@ fn flash_device<S: FileStore, O: ByteOut, P: ByteOut>(
     requires out { O.count out.old < 2 ^ 64 - 1 }
     requires progress { P.count progress.old < 2 ^ 64 - 1 }
     ensures flashed { IfOk result (IsFlashedOn ((S.facts store.now).device device.now) (S.facts store.now) job.now (O.held out.old)
+        (O.held out.new)) }
+    ensures unbegun { IfErr result (IsUnbegunOn (S.facts store.now).lacked ((S.facts store.now).device device.now) (O.held out.old)
         (O.held out.new)) }
     ensures count { IfOk result (λ _. O.count out.new ≡ O.count out.old) }
     ensures room { O.count out.new ≤ O.count out.old + 1 }

@@ -14,6 +14,7 @@ mod files;
 mod job;
 mod line;
 mod opened;
+mod options;
 mod report;
 mod request;
 mod work;

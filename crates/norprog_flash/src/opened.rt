@@ -1,6 +1,7 @@
 //! Work on the chip behind a device, from its handshake on.
 
-ghost use Rattle.std.specs.Prelude.{◌≡◌, ◌≤◌, ◌<◌, ◌+◌, ◌-◌, ◌^◌, true, IfOk};
+ghost use Rattle.std.specs.Prelude.{◌≡◌, ◌≤◌, ◌<◌, ◌+◌, ◌-◌, ◌^◌, true, IfOk, IfErr};
+ghost use Rattle.norprog_flash.specs.Kept.{KeepsOpened, KeepsTested};
 ghost use Rattle.norprog_flash.specs.Opened.{HasFlashedOpened, HasFlashedTested};
 
 use crate::device::flash_chip;
@@ -15,7 +16,8 @@ use std::alloc::Global;
 /// Begins with a device, tests the line to it, and does the job on its chip, as [`flash_chip`] does, by the limits that the device
 /// reports. At last it lets the chip's pins go, where it drives them, whatever happened; what it answers to that changes nothing.
 ///
-/// `Device` where the handshake or the test of the line ended early.
+/// `Device` where the handshake or the test of the line ended early. At each `Unflashed` nothing was sent that changes what the chip
+/// holds.
 pub fn flash_opened<S: FileStore, R: ByteIn, W: ByteOut, O: ByteOut, P: ByteOut>(
     alloc: Global,
     store: &S,
@@ -32,6 +34,7 @@ pub fn flash_opened<S: FileStore, R: ByteIn, W: ByteOut, O: ByteOut, P: ByteOut>
     requires told { P.count progress.old < 2 ^ 64 - 1 }
     ensures ends { IfOk result (HasFlashedOpened (S.facts store.now) job.now (W.held to.old) (W.held to.new) (R.ahead from.old)
         (R.ahead from.new) (O.held out.old) (O.held out.new)) }
+    ensures keeps { IfErr result (λ _. KeepsOpened (W.held to.old) (W.held to.new) (R.ahead from.old) (R.ahead from.new)) }
     ensures out_count { IfOk result (λ _. O.count out.new ≡ O.count out.old) }
     ensures out_room { O.count out.new ≤ O.count out.old + 1 }
 {
@@ -62,6 +65,7 @@ fn flash_tested<S: FileStore, R: ByteIn, W: ByteOut, O: ByteOut, P: ByteOut>(
     requires told { P.count progress.old < 2 ^ 64 - 1 }
     ensures ends { IfOk result (HasFlashedTested (S.facts store.now) job.now limits.now (W.held to.old) (W.held to.new) (R.ahead from.old)
         (R.ahead from.new) (O.held out.old) (O.held out.new)) }
+    ensures keeps { IfErr result (λ _. KeepsTested (W.held to.old) (W.held to.new) (R.ahead from.old) (R.ahead from.new) limits.now) }
     ensures reads { R.count from.new ≤ R.count from.old + 2 }
     ensures writes { W.count to.new ≤ W.count to.old + 2 }
     ensures out_count { IfOk result (λ _. O.count out.new ≡ O.count out.old) }

@@ -8,37 +8,38 @@ ghost use Rattle.norprog_common.specs.declared.faults.Refusal.TheVariants.{Build
 ghost use Rattle.norprog_common.specs.Lines.{printed};
 ghost use Rattle.norprog_flash.specs.Answer.{state_told, ReportsEnding};
 ghost use Rattle.norprog_flash.specs.Line.{is_partial, is_sent, status_of};
+ghost use Rattle.norprog_flash.specs.State.{state_front, state_line};
 
 use crate::ending::Ending;
 use crate::line::write_ending;
-use nor_base::{ByteOut, Failed, put_parts};
-use norprog_common::{Refusal, refuse};
+use crate::options::{first_name, write_command};
+use nor_base::{ByteOut, Failed, put_all, put_parts};
+use norprog_common::{FlashArgs, Refusal, refuse};
 use norprog_failure::Failure;
 
 /// What is written around the name of the file that has what the chip held before the first try.
 const HALF_DONE: &[u8] = b"norprog: the chip is half done, and what it held is in ";
 
 const GO_ON: &[u8] =
-    b". Switch its power off and on, and go on with the same command, this file as --resume and a new one as \
-    --before. See: norprog explain the chip may hold\n";
+    b". See: norprog explain the chip may hold. Switch its power off and on, and go on with: ";
 
 /// Writes to `err` how to go on with a chip that may hold a part of the work, where that is so, and then the line of an ending to `out`, or
 /// to `err` that it can't be written. Returns the status: 0 where all was done and printed, else 1. Where `err` fails a part of its text is
 /// lost, and nothing more is written there.
 pub(crate) fn report_ending<O: ByteOut, E: ByteOut>(
     ending: Ending,
-    first: &str,
+    given: &FlashArgs<'_>,
     out: &mut O,
     err: &mut E,
 ) -> u8
     requires out { O.count out.old < 2 ^ 64 - 1 }
     requires err { E.count err.old < 2 ^ 64 - 1 }
-    ensures reported { ReportsEnding ending first.now (O.held out.old) (O.held out.new) (err.new ≡ err.old)
+    ensures reported { ReportsEnding ending given.now (O.held out.old) (O.held out.new) (err.new ≡ err.old)
         (E.count err.new ≡ E.count err.old) (E.held err.old) (E.held err.new) result }
     ensures status { result ≤ 1 }
     ensures quiet { result ≡ 0 → err.new ≡ err.old }
 {
-    let told = write_state(ending, first, err);
+    let told = write_state(ending, given, err);
     match write_ending(ending, out) {
         Ok(()) => status_of(ending),
         Err(_) => refuse_line(told, err),
@@ -59,17 +60,37 @@ fn refuse_line<E: ByteOut>(told: Result<(), Failed>, err: &mut E) -> u8
 }
 
 /// Writes how to go on with a chip that may hold a part of the work, where that is so.
-fn write_state<E: ByteOut>(ending: Ending, first: &str, err: &mut E) -> Result<(), Failed>
+fn write_state<E: ByteOut>(ending: Ending, given: &FlashArgs<'_>, err: &mut E) -> Result<(), Failed>
     requires { E.count err.old < 2 ^ 64 - 1 }
-    ensures bytes { Writes (E.held err.old) (E.held err.new) result (state_told ending first.now) }
+    ensures bytes { Writes (E.held err.old) (E.held err.new) result (state_told ending given.now) }
     ensures count { Counts (E.count err.old) (E.count err.new) result }
     ensures quiet { is_partial ending ≡ false → err.new ≡ err.old }
 {
     if is_partial(ending) {
-        put_parts(err, &[HALF_DONE, first.as_bytes(), GO_ON])
+        write_line(given, err)
     } else {
         Ok(())
     }
+}
+
+/// Writes the line on how to go on.
+fn write_line<E: ByteOut>(given: &FlashArgs<'_>, err: &mut E) -> Result<(), Failed>
+    requires { E.count err.old < 2 ^ 64 - 1 }
+    ensures bytes { Writes (E.held err.old) (E.held err.new) result (state_line given.now) }
+    ensures count { Counts (E.count err.old) (E.count err.new) result }
+{
+    write_front(first_name(given), err)?;
+    write_command(given, err)?;
+    put_all(err, b"\n")
+}
+
+/// Writes what comes before the command.
+fn write_front<E: ByteOut>(first: &str, err: &mut E) -> Result<(), Failed>
+    requires { E.count err.old < 2 ^ 64 - 1 }
+    ensures bytes { Writes (E.held err.old) (E.held err.new) result (state_front first.now) }
+    ensures count { Counts (E.count err.old) (E.count err.new) result }
+{
+    put_parts(err, &[HALF_DONE, first.as_bytes(), GO_ON])
 }
 
 /// Whether steps were sent, and the chip isn't known to hold what they leave.

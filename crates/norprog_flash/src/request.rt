@@ -21,16 +21,16 @@ pub struct FlashRequest<'a> {
     pub resume: Option<&'a str>,
     pub erased_only: bool,
     pub dry_run: bool,
-    pub regions: Vec<Bytes>,
+    pub regions: &'a [Bytes],
 }
 
 /// The request that the values spell. None where one isn't of its form, or one that has to be there isn't.
-pub fn request_of<'a>(given: FlashArgs<'a>) -> Option<FlashRequest<'a>>
-    ensures forms { is_some result ≡ is_well_formed given.entry }
-    ensures values { IfSome result (λ request. AsksFor given.entry request) }
+pub fn request_of<'a>(given: &'a FlashArgs<'a>) -> Option<FlashRequest<'a>>
+    ensures forms { is_some result ≡ is_well_formed given.now }
+    ensures values { IfSome result (λ request. AsksFor given.now request) }
 {
     Some(FlashRequest {
-        read: norprog_read::request_of(read_args(&given))?,
+        read: norprog_read::request_of(read_args(given))?,
         hex: given.hex?,
         layout: given.layout,
         base: base(given.base.unwrap_or("0"))?,
@@ -38,7 +38,7 @@ pub fn request_of<'a>(given: FlashArgs<'a>) -> Option<FlashRequest<'a>>
         resume: given.resume,
         erased_only: given.erased_only,
         dry_run: given.dry_run,
-        regions: given.regions,
+        regions: given.regions.as_slice(),
     })
 }
 

@@ -10,7 +10,7 @@ use Rattle.norprog.specs.Plan.{IsPlanOf, StopsPlan}
 use Rattle.norprog.specs.declared.report.Report.{Report}
 use Rattle.norprog_common.specs.declared.faults.FileName.{FileName}
 use Rattle.norprog_common.specs.declared.faults.Refusal.{Refusal}
-use Rattle.norprog_common.specs.declared.faults.Refusal.TheVariants.{Text, Usage, File, Build, Page, Script, BinSize, Steps, EmptyRegion}
+use Rattle.norprog_common.specs.declared.faults.Refusal.TheVariants.{Text, Usage, File, Build, Page, Script, BinSize, Steps, EmptyRegion, Log}
 use Rattle.norprog_common.specs.Told.{ForAsked, OfFault, OrUsage}
 use Rattle.norprog_common.proofs.ToldLemmas.{asked_wider, fault_wider, by_fault, by_files, refuses_wider, or_usage}
 use Rattle.norprog_plan.specs.Answer.{FailsToDraw, IsUndrawn, IsPart, in_memory, behind_lines, read_lines, Draws, IsLines, IsShown, IsWhole, IsTold, PrintsPlan, CutsPlan, FailsToPrint, StopsPlanOf, StopsTask, StopsAsked, IsPlanFault, RefusesPlan}
@@ -89,6 +89,7 @@ fault_so strict A P Page is = is
 fault_so strict A P BinSize is = is
 fault_so strict A P (Steps number) is = is
 fault_so strict A P (EmptyRegion index) is = absurd is
+fault_so strict A P (Log line) is = is
 
 pub asked_stops : {V : Type 0} (strict : Bool) (Lacked : FileName → Type 0) (A : Job → Type 0) (r : Result V Refusal) → IfErr r (StopsTask Lacked (Filled strict A)) → IfErr r (StopsAsked strict Lacked A)
 asked_stops strict Lacked A (Ok x) is = tt

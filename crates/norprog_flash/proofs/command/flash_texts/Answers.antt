@@ -7,16 +7,16 @@ use Rattle.norprog_flash.proofs.command.flash_texts.Goals as goal
 
 pub flash_device-requires-clause-whole : goal.flash_device-requires-clause-whole
 flash_device-requires-clause-whole g c =
-    let asks : AsksFor c.args.given c.in_ok-request.request = search rules in
-    wanted c.args.given c.in_ok-request.request c.as_slice.result.now c.ask_of-asked.result asks c.ask_of-asked.ensures
+    let asks : AsksFor c.args.given.now c.in_ok-request.request = search rules in
+    wanted c.args.given.now c.in_ok-request.request c.as_slice.result.now c.ask_of-asked.result asks c.ask_of-asked.ensures
 
 pub returns-clause-ends : goal.returns-clause-ends
 returns-clause-ends g c =
     let files = g.S.FileStore.facts c.args.store.now in
-    let asks : AsksFor c.args.given c.in_ok-request.request = search rules in
-    let formed : is_well_formed c.args.given ≡ true = search rules in
+    let asks : AsksFor c.args.given.now c.in_ok-request.request = search rules in
+    let formed : is_well_formed c.args.given.now ≡ true = search rules in
     let e = subst (λ (file : List ℕ). IsAskOf c.in_ok-request.request.read file c.ask_of-asked.result) c.as_slice.ensures.value c.ask_of-asked.ensures in
-    ending_by files c.args.given c.in_ok-request.request _ _ _ c.flash_device.result formed asks
+    ending_by files c.args.given.now c.in_ok-request.request _ _ _ c.flash_device.result formed asks
     (record {
       held = c.in_ok-files.files;
       given = c.in_ok-files.ensures.given;
@@ -24,7 +24,7 @@ returns-clause-ends g c =
       erased_only = refl;
       hex = c.as_slice-2.ensures.value;
       layout = c.bytes_in.ensures;
-      regions = c.as_slice-3.ensures.value;
+      regions = refl;
       base = refl;
       old = c.bytes_in-2.ensures;
       before = refl;

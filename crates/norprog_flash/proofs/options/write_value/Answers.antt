@@ -1,0 +1,25 @@
+-- What comes before the value, the value, and what comes after it.
+use Rattle.std.proofs.Common.{ℕ, List, ◌++◌, subst}
+use Rattle.std.specs.Io.KnownBytes.{Appends}
+use Rattle.nor_base.specs.Device.{Cuts}
+use Rattle.norprog_flash.specs.State.{option_front, shell_word}
+use Rattle.norprog_flash.proofs.StateLemmas.{all_three, first_cut, second_cut}
+use Rattle.norprog_flash.proofs.options.write_value.Goals as goal
+
+pub returns-in_err-write_front-clause-bytes : goal.returns-in_err-write_front-clause-bytes
+returns-in_err-write_front-clause-bytes g c =
+    first_cut _ _ c.from_residual.result (option_front c.args.name) (shell_word c.args.value.now ++ c.args.after.now)
+    c.from_residual.ensures.0 c.in_err-write_front.ensures.bytes
+
+pub returns-in_err-write_word-clause-bytes : goal.returns-in_err-write_word-clause-bytes
+returns-in_err-write_word-clause-bytes g c =
+    second_cut _ _ _ c.from_residual-in_err-write_word.result (option_front c.args.name) (shell_word c.args.value.now) c.args.after.now
+    c.from_residual-in_err-write_word.ensures.0 c.in_ok-write_front.ensures.bytes
+    (subst (λ (t : List ℕ). Cuts (g.W.ByteOut.held c.write_front.new.writer) (g.W.ByteOut.held c.write_word.new.writer) (shell_word t))
+    c.as_bytes.ensures.value c.in_err-write_word.ensures.bytes)
+
+pub returns-clause-bytes : goal.returns-clause-bytes
+returns-clause-bytes g c =
+    all_three _ _ _ _ c.put_all.result (option_front c.args.name) (shell_word c.args.value.now) c.args.after.now c.in_ok-write_front.ensures.bytes
+    (subst (λ (t : List ℕ). Appends (g.W.ByteOut.held c.write_front.new.writer) (g.W.ByteOut.held c.write_word.new.writer) (shell_word t))
+    c.as_bytes.ensures.value c.in_ok-write_word.ensures.bytes) c.put_all.ensures.bytes

@@ -1,0 +1,111 @@
+-- What is written of a chip that may hold a part of the work: how to go on (this project's; words and quotes are those of the Shell Command
+-- Language of POSIX, 2.2).
+use Rattle.std.specs.Prelude.{ℕ, Bool, true, false, ◌==◌, ◌||◌, if◌then◌else◌, List, [], ◌∷◌, ◌++◌, flat_map, codes, Option, Some, None, option_map, unwrap_or}
+use Rattle.std.specs.Char.{is_ascii_alphanumeric}
+use Rattle.std.specs.List.{concat, list_all, list_any}
+use Rattle.norprog_common.specs.declared.given.FlashArgs.{FlashArgs}
+use Rattle.norprog_flash.specs.declared.options.Name.{Name}
+use Rattle.norprog_flash.specs.declared.options.Name.TheVariants as name
+use Rattle.norprog_flash.specs.declared.options.Given.{Given}
+use Rattle.norprog_flash.specs.declared.options.Given.TheVariants.{Text, Flag, Next}
+
+-- a letter, a digit, or one of - . / _
+abbrev pub is_plain : ℕ → Bool
+is_plain c = is_ascii_alphanumeric c || list_any (λ other. other == c) (codes "-./_")
+
+-- a text of these is a word as it is
+abbrev pub is_bare : List ℕ → Bool
+is_bare [] = false
+is_bare (c ∷ rest) = list_all is_plain (c ∷ rest)
+
+-- between single quotes each character stands for itself, except a single quote: it stands outside of them, after a backslash
+abbrev pub quoted : ℕ → List ℕ
+quoted c = if c == 0x27 then 0x27 ∷ 0x5C ∷ 0x27 ∷ 0x27 ∷ [] else c ∷ []
+
+abbrev pub quoted_word : List ℕ → List ℕ
+quoted_word text = 0x27 ∷ (flat_map quoted text ++ 0x27 ∷ [])
+
+-- the word that a shell reads as this text
+abbrev pub shell_word : List ℕ → List ℕ
+shell_word text = if is_bare text then text else quoted_word text
+
+-- an option's name
+abbrev pub name_text : Name → List ℕ
+name_text name.Sfdp = codes "sfdp"
+name_text name.Uniform = codes "uniform"
+name_text name.Bits = codes "bits"
+name_text name.Part = codes "part"
+name_text name.Mode4 = codes "mode4"
+name_text name.Device = codes "device"
+name_text name.Limit = codes "limit"
+name_text name.Hex = codes "hex"
+name_text name.Layout = codes "layout"
+name_text name.Base = codes "base"
+name_text name.ErasedOnly = codes "erased-only"
+name_text name.Resume = codes "resume"
+name_text name.Before = codes "before"
+
+abbrev pub option_front : Name → List ℕ
+option_front name = codes " --" ++ (name_text name ++ codes "=")
+
+-- an option as it is given, with something after its value; nothing where it isn't given
+abbrev pub valued : Name → Option (List ℕ) → List ℕ → List ℕ
+valued name (Some value) after = option_front name ++ (shell_word value ++ after)
+valued name None after = []
+
+abbrev pub flagged : Name → Bool → List ℕ
+flagged name true = codes " --" ++ name_text name
+flagged name false = []
+
+abbrev pub given_text : Given → List ℕ
+given_text (Text name value) = valued name (option_map (λ t. t.now) value) []
+given_text (Flag name is) = flagged name is
+given_text (Next name value) = valued name (option_map (λ t. t.now) value) (codes ".2")
+
+-- the file that has what the chip held before the first try: that of --resume, where one is named, else that of --before
+abbrev pub first_name : FlashArgs → List ℕ
+first_name given = unwrap_or (option_map (λ t. t.now) given.resume) (unwrap_or (option_map (λ t. t.now) given.before) [])
+
+-- the options of the command that goes on: those that are given, --resume of that file, and --before of a new one, whose name is that of
+-- the last one and `.2`
+abbrev pub next_options : FlashArgs → List ℕ
+next_options given = concat (
+    valued name.Sfdp (option_map (λ t. t.now) given.chip.sfdp) []
+    ∷ valued name.Uniform (option_map (λ t. t.now) given.chip.uniform) []
+    ∷ valued name.Bits (option_map (λ t. t.now) given.chip.bits) []
+    ∷ valued name.Part (option_map (λ t. t.now) given.chip.part) []
+    ∷ flagged name.Mode4 given.mode4
+    ∷ valued name.Device (option_map (λ t. t.now) given.device) []
+    ∷ valued name.Limit (option_map (λ t. t.now) given.limit) []
+    ∷ valued name.Hex (option_map (λ t. t.now) given.hex) []
+    ∷ valued name.Layout (option_map (λ t. t.now) given.layout) []
+    ∷ valued name.Base (option_map (λ t. t.now) given.base) []
+    ∷ flagged name.ErasedOnly given.erased_only
+    ∷ valued name.Resume (Some (first_name given)) []
+    ∷ valued name.Before (option_map (λ t. t.now) given.before) (codes ".2")
+    ∷ []
+    )
+
+-- the names of the regions after `--`; nothing where there are none
+abbrev pub region_word : List ℕ → List ℕ
+region_word region = codes " " ++ shell_word region
+
+abbrev pub named_text : List (List ℕ) → List ℕ
+named_text regions = codes " --" ++ flat_map region_word regions
+
+abbrev pub regions_text : List (List ℕ) → List ℕ
+regions_text [] = []
+regions_text (region ∷ more) = named_text (region ∷ more)
+
+-- the command that goes on
+abbrev pub next_command : FlashArgs → List ℕ
+next_command given = codes "norprog flash" ++ (next_options given ++ regions_text given.regions.items)
+
+-- the file that has what the chip held, and how to go on
+abbrev pub state_front : List ℕ → List ℕ
+state_front first =
+    codes "norprog: the chip is half done, and what it held is in "
+    ++ (first ++ codes ". See: norprog explain the chip may hold. Switch its power off and on, and go on with: ")
+
+abbrev pub state_line : FlashArgs → List ℕ
+state_line given = state_front (first_name given) ++ (next_command given ++ codes "\n")

@@ -1,0 +1,299 @@
+//! The command that goes on with work that stopped, as a shell reads it.
+
+ghost use Rattle.std.specs.Prelude.{◌≡◌, ◌<◌, ◌-◌, ◌^◌, ◌++◌, flat_map, option_map};
+ghost use Rattle.std.specs.List.{list_all};
+ghost use Rattle.nor_base.specs.Device.{Counts, Writes};
+ghost use Rattle.norprog_flash.specs.State.{first_name, flagged, given_text, is_bare, is_plain, name_text, named_text, next_command, next_options, option_front, quoted, quoted_word, region_word, regions_text, shell_word, valued};
+
+use nor_base::{ByteOut, Bytes, Failed, put_all, put_parts};
+use norprog_common::FlashArgs;
+
+/// An option.
+#[derive(Clone, Copy)]
+pub(crate) enum Name {
+    Sfdp,
+    Uniform,
+    Bits,
+    Part,
+    Mode4,
+    Device,
+    Limit,
+    Hex,
+    Layout,
+    Base,
+    ErasedOnly,
+    Resume,
+    Before,
+}
+
+/// An option with what is given of it.
+#[derive(Clone, Copy)]
+pub(crate) enum Given<'a> {
+    /// Its value, if it is there.
+    Text(Name, Option<&'a str>),
+    /// Whether it is there.
+    Flag(Name, bool),
+    /// The value after which the next one is named.
+    Next(Name, Option<&'a str>),
+}
+
+/// Writes the command that goes on with work that stopped.
+pub(crate) fn write_command<W: ByteOut>(given: &FlashArgs<'_>, writer: &mut W) -> Result<(), Failed>
+    requires { W.count writer.old < 2 ^ 64 - 1 }
+    ensures bytes { Writes (W.held writer.old) (W.held writer.new) result (next_command given.now) }
+    ensures count { Counts (W.count writer.old) (W.count writer.new) result }
+{
+    put_all(writer, b"norprog flash")?;
+    write_options(&options(given), writer)?;
+    write_regions(given.regions.as_slice(), writer)
+}
+
+/// Its options.
+fn options<'a>(given: &'a FlashArgs<'a>) -> [Given<'a>; 13]
+    ensures { flat_map given_text result ≡ next_options given.now }
+{
+    [
+        Given::Text(Name::Sfdp, given.chip.sfdp),
+        Given::Text(Name::Uniform, given.chip.uniform),
+        Given::Text(Name::Bits, given.chip.bits),
+        Given::Text(Name::Part, given.chip.part),
+        Given::Flag(Name::Mode4, given.mode4),
+        Given::Text(Name::Device, given.device),
+        Given::Text(Name::Limit, given.limit),
+        Given::Text(Name::Hex, given.hex),
+        Given::Text(Name::Layout, given.layout),
+        Given::Text(Name::Base, given.base),
+        Given::Flag(Name::ErasedOnly, given.erased_only),
+        Given::Text(Name::Resume, Some(first_name(given))),
+        Given::Next(Name::Before, given.before),
+    ]
+}
+
+/// The name of the file that has what the chip held before the first try.
+pub(crate) fn first_name<'a>(given: &FlashArgs<'a>) -> &'a str
+    ensures { result.now ≡ first_name given.now }
+{
+    match given.resume {
+        Some(name) => name,
+        None => given.before.unwrap_or(""),
+    }
+}
+
+/// Writes options.
+fn write_options<W: ByteOut>(options: &[Given<'_>], writer: &mut W) -> Result<(), Failed>
+    requires { W.count writer.old < 2 ^ 64 - 1 }
+    ensures bytes { Writes (W.held writer.old) (W.held writer.new) result (flat_map given_text options.now) }
+    ensures count { Counts (W.count writer.old) (W.count writer.new) result }
+{
+    for option in options {
+        write_given(*option, writer)?;
+    }
+    Ok(())
+}
+
+/// Writes an option, where it is given.
+fn write_given<W: ByteOut>(option: Given<'_>, writer: &mut W) -> Result<(), Failed>
+    requires { W.count writer.old < 2 ^ 64 - 1 }
+    ensures bytes { Writes (W.held writer.old) (W.held writer.new) result (given_text option.entry) }
+    ensures count { Counts (W.count writer.old) (W.count writer.new) result }
+{
+    match option {
+        Given::Text(name, value) => write_valued(name, value, b"", writer),
+        Given::Flag(name, is) => write_flagged(name, is, writer),
+        Given::Next(name, value) => write_valued(name, value, b".2", writer),
+    }
+}
+
+/// Writes a flag, where it is given.
+fn write_flagged<W: ByteOut>(name: Name, is: bool, writer: &mut W) -> Result<(), Failed>
+    requires { W.count writer.old < 2 ^ 64 - 1 }
+    ensures bytes { Writes (W.held writer.old) (W.held writer.new) result (flagged name is) }
+    ensures count { Counts (W.count writer.old) (W.count writer.new) result }
+{
+    if is {
+        put_parts(writer, &[b" --", name_text(name)])
+    } else {
+        Ok(())
+    }
+}
+
+/// Writes an option with its value and something after that, where it is given.
+fn write_valued<W: ByteOut>(
+    name: Name,
+    value: Option<&str>,
+    after: &[u8],
+    writer: &mut W,
+) -> Result<(), Failed>
+    requires { W.count writer.old < 2 ^ 64 - 1 }
+    ensures bytes { Writes (W.held writer.old) (W.held writer.new) result
+        (valued name (option_map (λ t. t.now) value.entry) after.now) }
+    ensures count { Counts (W.count writer.old) (W.count writer.new) result }
+{
+    match value {
+        Some(value) => write_value(name, value, after, writer),
+        None => Ok(()),
+    }
+}
+
+/// Writes an option, its value, and something after that.
+fn write_value<W: ByteOut>(
+    name: Name,
+    value: &str,
+    after: &[u8],
+    writer: &mut W,
+) -> Result<(), Failed>
+    requires { W.count writer.old < 2 ^ 64 - 1 }
+    ensures bytes { Writes (W.held writer.old) (W.held writer.new) result (option_front name ++ (shell_word value.now ++ after.now)) }
+    ensures count { Counts (W.count writer.old) (W.count writer.new) result }
+{
+    write_front(name, writer)?;
+    write_word(value.as_bytes(), writer)?;
+    put_all(writer, after)
+}
+
+/// Writes what comes before the value of an option.
+fn write_front<W: ByteOut>(name: Name, writer: &mut W) -> Result<(), Failed>
+    requires { W.count writer.old < 2 ^ 64 - 1 }
+    ensures bytes { Writes (W.held writer.old) (W.held writer.new) result (option_front name) }
+    ensures count { Counts (W.count writer.old) (W.count writer.new) result }
+{
+    put_parts(writer, &[b" --", name_text(name), b"="])
+}
+
+/// An option's name.
+fn name_text(name: Name) -> &'static [u8]
+    ensures { result.now ≡ name_text name }
+{
+    match name {
+        Name::Sfdp => b"sfdp",
+        Name::Uniform => b"uniform",
+        Name::Bits => b"bits",
+        Name::Part => b"part",
+        Name::Mode4 => b"mode4",
+        Name::Device => b"device",
+        Name::Limit => b"limit",
+        Name::Hex => b"hex",
+        Name::Layout => b"layout",
+        Name::Base => b"base",
+        Name::ErasedOnly => b"erased-only",
+        Name::Resume => b"resume",
+        Name::Before => b"before",
+    }
+}
+
+/// Writes the names of regions after `--`, where there are some.
+fn write_regions<W: ByteOut>(regions: &[Bytes], writer: &mut W) -> Result<(), Failed>
+    requires { W.count writer.old < 2 ^ 64 - 1 }
+    ensures bytes { Writes (W.held writer.old) (W.held writer.new) result (regions_text regions.now) }
+    ensures count { Counts (W.count writer.old) (W.count writer.new) result }
+{
+    match regions {
+        [] => Ok(()),
+        [..] => write_named(regions, writer),
+    }
+}
+
+/// Writes `--` and the names of regions.
+fn write_named<W: ByteOut>(regions: &[Bytes], writer: &mut W) -> Result<(), Failed>
+    requires { W.count writer.old < 2 ^ 64 - 1 }
+    ensures bytes { Writes (W.held writer.old) (W.held writer.new) result (named_text regions.now) }
+    ensures count { Counts (W.count writer.old) (W.count writer.new) result }
+{
+    put_all(writer, b" --")?;
+    write_names(regions, writer)
+}
+
+/// Writes a blank and a name, of each region.
+fn write_names<W: ByteOut>(regions: &[Bytes], writer: &mut W) -> Result<(), Failed>
+    requires { W.count writer.old < 2 ^ 64 - 1 }
+    ensures bytes { Writes (W.held writer.old) (W.held writer.new) result (flat_map region_word regions.now) }
+    ensures count { Counts (W.count writer.old) (W.count writer.new) result }
+{
+    for region in regions {
+        write_name(region, writer)?;
+    }
+    Ok(())
+}
+
+/// Writes a blank and a word.
+fn write_name<W: ByteOut>(name: &Bytes, writer: &mut W) -> Result<(), Failed>
+    requires { W.count writer.old < 2 ^ 64 - 1 }
+    ensures bytes { Writes (W.held writer.old) (W.held writer.new) result (region_word name.now) }
+    ensures count { Counts (W.count writer.old) (W.count writer.new) result }
+{
+    put_all(writer, b" ")?;
+    write_word(name.as_slice(), writer)
+}
+
+/// Writes the word that a shell reads as a text.
+fn write_word<W: ByteOut>(text: &[u8], writer: &mut W) -> Result<(), Failed>
+    requires { W.count writer.old < 2 ^ 64 - 1 }
+    ensures bytes { Writes (W.held writer.old) (W.held writer.new) result (shell_word text.now) }
+    ensures count { Counts (W.count writer.old) (W.count writer.new) result }
+{
+    if is_bare(text) {
+        put_all(writer, text)
+    } else {
+        write_quoted_word(text, writer)
+    }
+}
+
+/// Writes a text between single quotes.
+fn write_quoted_word<W: ByteOut>(text: &[u8], writer: &mut W) -> Result<(), Failed>
+    requires { W.count writer.old < 2 ^ 64 - 1 }
+    ensures bytes { Writes (W.held writer.old) (W.held writer.new) result (quoted_word text.now) }
+    ensures count { Counts (W.count writer.old) (W.count writer.new) result }
+{
+    put_all(writer, b"'")?;
+    write_quoted(text, writer)?;
+    put_all(writer, b"'")
+}
+
+/// Whether a text is a word as it is.
+fn is_bare(text: &[u8]) -> bool
+    ensures { result ≡ is_bare text.now }
+{
+    match text {
+        [] => false,
+        [..] => are_plain(text),
+    }
+}
+
+/// Whether a text has only letters, digits, and - . / _
+fn are_plain(text: &[u8]) -> bool
+    ensures { result ≡ list_all is_plain text.now }
+{
+    text.iter().all(|byte| is_plain(*byte))
+}
+
+/// Whether it is a letter, a digit, or one of - . / _
+fn is_plain(byte: u8) -> bool
+    ensures { result ≡ is_plain byte }
+{
+    byte.is_ascii_alphanumeric() || b"-./_".contains(&byte)
+}
+
+/// Writes a text as it is between single quotes.
+fn write_quoted<W: ByteOut>(text: &[u8], writer: &mut W) -> Result<(), Failed>
+    requires { W.count writer.old < 2 ^ 64 - 1 }
+    ensures bytes { Writes (W.held writer.old) (W.held writer.new) result (flat_map quoted text.now) }
+    ensures count { Counts (W.count writer.old) (W.count writer.new) result }
+{
+    for byte in text {
+        write_byte(*byte, writer)?;
+    }
+    Ok(())
+}
+
+/// Writes a byte as it is between single quotes.
+fn write_byte<W: ByteOut>(byte: u8, writer: &mut W) -> Result<(), Failed>
+    requires { W.count writer.old < 2 ^ 64 - 1 }
+    ensures bytes { Writes (W.held writer.old) (W.held writer.new) result (quoted byte) }
+    ensures count { Counts (W.count writer.old) (W.count writer.new) result }
+{
+    if byte == b'\'' {
+        put_all(writer, b"'\\''")
+    } else {
+        put_all(writer, &[byte])
+    }
+}
