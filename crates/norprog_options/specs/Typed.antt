@@ -24,7 +24,7 @@ option_names = map {B = List ℕ} (λ name. name.now) NAMES.now
 
 -- the names of the chosen regions
 abbrev pub texts_in : Found → List (List ℕ)
-texts_in found = texts_of found (codes "regions")
+texts_in found = texts_of found (codes "names")
 
 -- what stands behind the name of a command, except flags
 pub record IsLineIn (command : List ℕ) (found : Found) (line : TypedLine) : Type 0 where

@@ -104,7 +104,7 @@ fn typed_in<'a>(
 fn names_in<'a>(alloc: Global, used: &ArgMatches<'a>) -> Result<Vec<&'a str>, Refusal>
     ensures { IfOk result (λ names. map (λ name. name.now) names.items ≡ texts_in (found_of used.now)) }
 {
-    match used.get_strs("regions") {
+    match used.get_strs("names") {
         Some(names) => Ok(Vec::from_slice(alloc, names)?),
         None => Ok(Vec::new(alloc)),
     }
