@@ -1,5 +1,5 @@
 -- How work that was planned ends.
-use Rattle.std.proofs.Common.{◌≡◌, ℕ, inl, inr, true, false, List, Option, Result, Ok, Err, IfOk, refl, sym, subst}
+use Rattle.std.proofs.Common.{◌≡◌, ℕ, inl, inr, true, false, List, Option, refl, sym, subst}
 use Rattle.nor_base.specs.declared.step.Step.{Step}
 use Rattle.nor_base.specs.Device.{Ahead}
 use Rattle.nor_flasher.specs.Apart.{BreaksApart}
@@ -58,17 +58,11 @@ module _ (close : Closes) (break : Breaks) (files : FileFacts) (job : Job) (limi
         missed.worked.done;
   }))
 
-  refused_ends : (h2 : Option (List ℕ)) (a2 : Ahead) (ending : Ending) → GoesOn h1 h2 a1 a2 limits job r goal steps ending
+  pub goes_ends : (h2 : Option (List ℕ)) (a2 : Ahead) (ending : Ending) → GoesOn h1 h2 a1 a2 limits job r goal steps ending
       → EndsFlash files job limits h0 h2 a0 a2 o0 o1 ending
-  refused_ends h2 a2 ending (inr out) = worked_ends h2 a2 out.0 ending out.1 out.2
-  refused_ends h2 a2 ending (inl cant) =
+  goes_ends h2 a2 ending (inr out) = worked_ends h2 a2 out.0 ending out.1 out.2
+  goes_ends h2 a2 ending (inl cant) =
       subst (λ (e : Ending). EndsFlash files job limits h0 h2 a0 a2 o0 o1 e) (sym cant.1)
       (subst (λ (h : Option (List ℕ)). EndsFlash files job limits h0 h a0 a2 o0 o1 (Failed cant.0 Carried)) (sym cant.3)
       (subst (λ (a : Ahead). EndsFlash files job limits h0 h1 a0 a o0 o1 (Failed cant.0 Carried)) (sym cant.4)
       (inl (record { todo = todo; first = cant.2; carried = refl }))))
-
-  -- so where it is not refused meanwhile
-  pub ends_by : {E : Type 0} (h2 : Option (List ℕ)) (a2 : Ahead) (result : Result Ending E)
-      → IfOk result (GoesOn h1 h2 a1 a2 limits job r goal steps) → IfOk result (EndsFlash files job limits h0 h2 a0 a2 o0 o1)
-  ends_by h2 a2 (Ok ending) goes = refused_ends h2 a2 ending goes
-  ends_by h2 a2 (Err why) goes = tt

@@ -5,3 +5,4 @@ mod OpenedLemmas
 mod ServedLemmas
 mod StateLemmas
 mod ReportLemmas
+mod StopsLemmas

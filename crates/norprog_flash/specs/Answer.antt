@@ -1,5 +1,5 @@
 -- What `flash` reports to the texts of a command line (this project's).
-use Rattle.std.specs.Prelude.{◌≡◌, ◌⊎◌, ℕ, Bool, true, false, List, [], ◌++◌, if◌then◌else◌, Option, Some, option_map, unwrap_or}
+use Rattle.std.specs.Prelude.{◌≡◌, ◌⊎◌, ℕ, Bool, true, false, List, [], ◌++◌, if◌then◌else◌, Option, unwrap_or}
 use Rattle.std.specs.Io.KnownBytes.{Appends}
 use Rattle.nor_base.specs.declared.meaning.Part.{Part}
 use Rattle.nor_base.specs.declared.meaning.Part.TheVariants.{Generic}
@@ -11,7 +11,6 @@ use Rattle.norprog_common.specs.Lines.{printed, status_after}
 use Rattle.norprog_common.specs.Setup.{family_asked}
 use Rattle.norprog_common.specs.Told.{OrUsage}
 use Rattle.norprog_common.specs.Values.{part_of}
-use Rattle.norprog_common.specs.declared.faults.FileName.{FileName}
 use Rattle.norprog_common.specs.declared.faults.Refusal.{Refusal}
 use Rattle.norprog_common.specs.declared.faults.Refusal.TheVariants.{Build}
 use Rattle.norprog_common.specs.declared.given.FlashArgs.{FlashArgs}
@@ -21,12 +20,12 @@ use Rattle.norprog_flash.specs.declared.ending.Unflashed.{Unflashed}
 use Rattle.norprog_flash.specs.declared.ending.Unflashed.TheVariants.{Refused, Device, Unlike, Closed}
 use Rattle.norprog_flash.specs.declared.job.Job.{Job}
 use Rattle.norprog_flash.specs.declared.request.FlashRequest.{FlashRequest}
-use Rattle.norprog_flash.specs.Kept.{KeepsOn}
 use Rattle.norprog_flash.specs.Line.{closed_line, ending_line, is_partial, status_of}
 use Rattle.norprog_flash.specs.Opened.{IsFlashedOn}
 use Rattle.norprog_flash.specs.Request.{is_well_formed, AsksFor}
 use Rattle.norprog_flash.specs.Served.{IsJobOf}
 use Rattle.norprog_flash.specs.State.{state_line}
+use Rattle.norprog_flash.specs.Stops.{StopsOn}
 use Rattle.norprog_read.specs.Answer.{Reports}
 use Rattle.norprog_read.specs.Line.{unlike_line}
 
@@ -43,17 +42,26 @@ pub record IsEndingOf (files : FileFacts) (given : FlashArgs) (out_before out_af
   pub asks : AsksFor given request
   pub ends : EndsRequest files request out_before out_after ending
 
--- a file couldn't be used, or memory ran out, before anything went to a device or was printed; or the device was opened, and nothing was
--- sent that changes the chip behind it
-abbrev pub IsUnbegunOn : (FileName → Type 0) → (Option (List ℕ) → Option (List ℕ) → Type 0) → Option (List ℕ) → Option (List ℕ) → Unflashed → Type 0
-IsUnbegunOn Lacked Opened out_before out_after why =
-    ((refusal : Refusal) × (why ≡ Refused refusal) × TellsFile Lacked refusal × (out_after ≡ out_before)) ⊎ KeepsOn Opened
+-- a file couldn't be used, or memory ran out, before anything went to a device or was printed; or the job on its chip stopped so
+abbrev pub IsUnbegunOn : FileFacts → (Option (List ℕ) → Option (List ℕ) → Type 0) → Job → Option (List ℕ) → Option (List ℕ) → Unflashed → Type 0
+IsUnbegunOn files Opened job out_before out_after why =
+    ((refusal : Refusal) × (why ≡ Refused refusal) × TellsFile files.lacked refusal × (out_after ≡ out_before))
+    ⊎ StopsOn Opened files job out_before out_after why
 
--- the texts ask for nothing; or so of the device that they name
+-- the job of a request stopped so on the device that it names
+pub record StopsRequest (files : FileFacts) (given : FlashArgs) (out_before out_after : Option (List ℕ)) (why : Unflashed) : Type 0 where
+  pub formed : is_well_formed given ≡ true
+  pub request : FlashRequest
+  pub asks : AsksFor given request
+  pub job : Job
+  pub is : IsJobOf files request job
+  pub stops : StopsOn (files.device request.read.device.now) files job out_before out_after why
+
+-- the texts ask for nothing, or a file couldn't be used, or memory ran out, and nothing was sent or printed; or the job stopped so
 abbrev pub IsUnbegunFor : FileFacts → FlashArgs → Option (List ℕ) → Option (List ℕ) → Unflashed → Type 0
 IsUnbegunFor files given out_before out_after why =
     ((refusal : Refusal) × (why ≡ Refused refusal) × OrUsage (is_well_formed given) (TellsFile files.lacked) refusal × (out_after ≡ out_before))
-    ⊎ ((is_well_formed given ≡ true) × (device : List ℕ) × (option_map (λ t. t.now) given.device ≡ Some device) × KeepsOn (files.device device))
+    ⊎ StopsRequest files given out_before out_after why
 
 -- the part that is named, else that of which nothing is known
 abbrev pub family_of : FlashArgs → Part

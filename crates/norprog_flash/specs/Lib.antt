@@ -5,7 +5,7 @@ pub mod Ended
 pub mod Line
 pub mod State
 pub mod Opened
-pub mod Kept
+pub mod Stops
 pub mod Request
 pub mod Served
 pub mod Answer

@@ -1,11 +1,12 @@
 //! A chip that is read back.
 
-ghost use Rattle.std.specs.Prelude.{◌≡◌, true, false, IfSome};
+ghost use Rattle.std.specs.Prelude.{◌≡◌, true, false, is_some, IfSome};
 ghost use Rattle.nor_base.specs.Chip.{begins4};
 ghost use Rattle.nor_base.specs.Instructions.{is_there};
 ghost use Rattle.nor_loop.specs.Laws.{IsReadable};
 ghost use Rattle.nor_reader.specs.Laws.{GivesBy};
 ghost use Rattle.norprog_flash.specs.Begun.{IsSureOfMode};
+ghost use Rattle.norprog_flash.specs.Stops.{has_way};
 ghost use Rattle.norprog_read.specs.Way.{has_both};
 
 use nor_base::{Meaning, Start, Switch, Width};
@@ -18,6 +19,7 @@ const REACH: u32 = 1 << 24;
 /// it has both, is said to be in four-byte mode, and has no read that is the same in either.
 pub(crate) fn way_of(meaning: &Meaning, start: Start) -> Option<ReadBy>
     ensures gives { IfSome result (GivesBy meaning.now start) }
+    ensures way { is_some result ≡ has_way meaning.now start }
     ensures sure { IfSome result (λ _. IsSureOfMode meaning.now start) }
 {
     if start.mode4 && has_both(meaning.width) && !meaning.read4 {

@@ -1,12 +1,14 @@
 //! A chip that is read, saved and planned for.
 
-ghost use Rattle.std.specs.Prelude.{◌≡◌, ◌<◌, ◌≤◌, ◌+◌, ◌-◌, ◌^◌, [], true, unwrap_or, IfOk, MatchResult};
+ghost use Rattle.std.specs.Prelude.{◌≡◌, ◌<◌, ◌≤◌, ◌+◌, ◌-◌, ◌^◌, [], true, unwrap_or, IfOk, IfErr, MatchResult};
 ghost use Rattle.nor_probe.specs.Status.{suits};
 ghost use Rattle.nor_job.specs.Status.{start_of};
 ghost use Rattle.norprog_flash.specs.Begun.{HasRead, HasPlanned, start_at};
 ghost use Rattle.norprog_flash.specs.Task.{dump_of, flash_task};
 ghost use Rattle.norprog_work.specs.Work.{IsWork};
 ghost use Rattle.nor_reader.specs.Harmless.{HasSentHarmless, SendsHarmless};
+ghost use Rattle.nor_reader.specs.Laws.{GivesBy};
+ghost use Rattle.norprog_flash.specs.Stops.{StopsBefore, StopsBegun};
 
 use crate::back::way_of;
 use crate::ending::Unflashed;
@@ -14,6 +16,7 @@ use crate::job::{Job, inputs_for};
 use nor_base::{ByteIn, ByteOut, Start};
 use nor_job::BuildFault;
 use nor_probe::suits;
+use nor_reader::ReadBy;
 use nor_serprog::Limits;
 use norprog_common::{FileName, FileStore, Refusal};
 use norprog_read::{Reading, Unlike, read_chip, save};
@@ -25,6 +28,8 @@ use std::alloc::Global;
 pub(crate) struct Begun {
     pub(crate) reading: Reading,
     pub(crate) work: Work,
+    /// How the chip is read back.
+    pub(crate) by: ReadBy,
 }
 
 /// Reads the chip, saves what it holds in a new file, and plans; the lines of the plan are printed.
@@ -41,15 +46,16 @@ pub(crate) fn begin<S: FileStore, R: ByteIn, W: ByteOut, O: ByteOut>(
     requires writer { W.count to.old < 2 ^ 64 - 1 }
     requires out { O.count out.old < 2 ^ 64 - 1 }
     ensures planned { IfOk result (λ begun. HasPlanned (S.facts store.now) job.now (W.held to.old) (W.held to.new) (R.ahead from.old)
-        (R.ahead from.new) begun.reading begun.work.goal.items begun.work.steps.items (O.held out.old) (O.held out.new)) }
-    ensures harmless { MatchResult result (λ _. HasSentHarmless (W.held to.old) (W.held to.new))
-        (λ _. SendsHarmless (W.held to.old) (W.held to.new)) }
+        (R.ahead from.new) begun.reading begun.work.goal.items begun.work.steps.items (O.held out.old) (O.held out.new)
+        × GivesBy begun.reading.meaning (start_of (flash_task job.now begun.reading.tables.items)) begun.by) }
+    ensures stops { IfErr result (StopsBegun (S.facts store.now) (W.held to.old) (W.held to.new) (R.ahead from.old) (R.ahead from.new) job.now
+        (O.held out.old) (O.held out.new)) }
     ensures reads_room { R.count from.new ≤ R.count from.old + 1 }
     ensures writes_room { W.count to.new ≤ W.count to.old + 1 }
     ensures out_count { IfOk result (λ _. O.count out.new ≡ O.count out.old) }
     ensures out_room { O.count out.new ≤ O.count out.old + 1 }
 {
-    let reading = read_suited(alloc, from, to, limits, job)?;
+    let (reading, by) = read_suited(alloc, from, to, limits, job)?;
     save(
         alloc,
         store,
@@ -58,7 +64,7 @@ pub(crate) fn begin<S: FileStore, R: ByteIn, W: ByteOut, O: ByteOut>(
         reading.content.as_slice(),
     )?;
     let work = plan_for(alloc, job, &reading, out)?;
-    Ok(Begun { reading, work })
+    Ok(Begun { reading, work, by })
 }
 
 /// Plans for a chip that was read, and prints the lines of the plan.
@@ -91,10 +97,12 @@ fn read_suited<R: ByteIn, W: ByteOut>(
     to: &mut W,
     limits: &Limits,
     job: &Job<'_>,
-) -> Result<Reading, Unflashed>
+) -> Result<(Reading, ReadBy), Unflashed>
     requires reader { R.count from.old < 2 ^ 64 - 1 }
     requires writer { W.count to.old < 2 ^ 64 - 1 }
-    ensures read { IfOk result (HasRead job.now (W.held to.old) (W.held to.new) (R.ahead from.old) (R.ahead from.new)) }
+    ensures read { IfOk result (λ read. HasRead job.now (W.held to.old) (W.held to.new) (R.ahead from.old) (R.ahead from.new) read.0) }
+    ensures way { IfOk result (λ read. GivesBy read.0.meaning (start_of (flash_task job.now read.0.tables.items)) read.1) }
+    ensures stops { IfErr result (StopsBefore (W.held to.old) (W.held to.new) (R.ahead from.old) (R.ahead from.new) job.now) }
     ensures harmless { MatchResult result (λ _. HasSentHarmless (W.held to.old) (W.held to.new))
         (λ _. SendsHarmless (W.held to.old) (W.held to.new)) }
     ensures reads_room { R.count from.new ≤ R.count from.old + 1 }
@@ -106,7 +114,7 @@ fn read_suited<R: ByteIn, W: ByteOut>(
         return Err(Unflashed::Closed(reading.status));
     }
     match way_of(&reading.meaning, said_start(job)) {
-        Some(_) => Ok(reading),
+        Some(by) => Ok((reading, by)),
         None => Err(Unflashed::Unlike(Unlike::Unreadable)),
     }
 }

@@ -156,7 +156,7 @@ fn flash_device<S: FileStore, O: ByteOut, P: ByteOut>(
     requires progress { P.count progress.old < 2 ^ 64 - 1 }
     ensures flashed { IfOk result (IsFlashedOn ((S.facts store.now).device device.now) (S.facts store.now) job.now (O.held out.old)
         (O.held out.new)) }
-    ensures unbegun { IfErr result (IsUnbegunOn (S.facts store.now).lacked ((S.facts store.now).device device.now) (O.held out.old)
+    ensures unbegun { IfErr result (IsUnbegunOn (S.facts store.now) ((S.facts store.now).device device.now) job.now (O.held out.old)
         (O.held out.new)) }
     ensures count { IfOk result (λ _. O.count out.new ≡ O.count out.old) }
     ensures room { O.count out.new ≤ O.count out.old + 1 }

@@ -1,13 +1,15 @@
 //! Work on the chip behind a device, after its handshake.
 
 ghost use Rattle.std.specs.Prelude.{◌≡◌, ◌<◌, ◌≤◌, ◌+◌, ◌-◌, ◌^◌, true, false, IfOk, IfErr};
-ghost use Rattle.nor_reader.specs.Harmless.{SendsHarmless};
+ghost use Rattle.nor_job.specs.Status.{start_of};
+ghost use Rattle.nor_reader.specs.Laws.{GivesBy};
 ghost use Rattle.norprog_flash.specs.Begun.{IsPlannedOn};
 ghost use Rattle.norprog_flash.specs.Ended.{EndsFlash};
+ghost use Rattle.norprog_flash.specs.Stops.{StopsBegun};
+ghost use Rattle.norprog_flash.specs.Task.{flash_task};
 ghost use Rattle.norprog_flash.specs.Worked.{GoesOn};
 
-use crate::back::way_of;
-use crate::begun::{Begun, begin, said_start};
+use crate::begun::{Begun, begin};
 use crate::ending::{Ending, Unflashed};
 use crate::job::Job;
 use crate::work::{Bench, do_work};
@@ -16,7 +18,6 @@ use nor_flasher::{breaks, closes, doable};
 use nor_serprog::{Limits, carried};
 use norprog_common::FileStore;
 use norprog_failure::Failure;
-use norprog_read::Unlike;
 use std::alloc::Global;
 
 /// Reads the chip behind a device twice, saves what it holds in a new file, plans for that, and prints the lines of the plan. Then,
@@ -41,7 +42,8 @@ pub fn flash_chip<S: FileStore, R: ByteIn, W: ByteOut, O: ByteOut, P: ByteOut>(
     requires told { P.count progress.old < 2 ^ 64 - 1 }
     ensures ends { IfOk result (EndsFlash (S.facts store.now) job.now limits.now (W.held to.old) (W.held to.new) (R.ahead from.old)
         (R.ahead from.new) (O.held out.old) (O.held out.new)) }
-    ensures harmless { IfErr result (λ _. SendsHarmless (W.held to.old) (W.held to.new)) }
+    ensures stops { IfErr result (StopsBegun (S.facts store.now) (W.held to.old) (W.held to.new) (R.ahead from.old) (R.ahead from.new) job.now
+        (O.held out.old) (O.held out.new)) }
     ensures reads_room { R.count from.new ≤ R.count from.old + 2 }
     ensures writes_room { W.count to.new ≤ W.count to.old + 2 }
     ensures out_count { IfOk result (λ _. O.count out.new ≡ O.count out.old) }
@@ -53,7 +55,7 @@ pub fn flash_chip<S: FileStore, R: ByteIn, W: ByteOut, O: ByteOut, P: ByteOut>(
     if job.dry {
         return Ok(Ending::Planned);
     }
-    flash_planned(store, from, to, limits, job, &begun, progress)
+    Ok(flash_planned(store, from, to, limits, job, &begun, progress))
 }
 
 /// Has the device do work that was planned.
@@ -65,27 +67,23 @@ fn flash_planned<S: FileStore, R: ByteIn, W: ByteOut, P: ByteOut>(
     job: &Job<'_>,
     begun: &Begun,
     progress: &mut P,
-) -> Result<Ending, Unflashed>
+) -> Ending
     requires wet { job.now.dry ≡ false }
     requires planned { IsPlannedOn (S.facts store.now) job.now begun.now.reading begun.now.work.goal.items begun.now.work.steps.items }
+    requires way { GivesBy begun.now.reading.meaning (start_of (flash_task job.now begun.now.reading.tables.items)) begun.now.by }
     requires reader { R.count from.old < 2 ^ 64 - 1 }
     requires writer { W.count to.old < 2 ^ 64 - 1 }
     requires told { P.count progress.old < 2 ^ 64 - 1 }
-    ensures goes { IfOk result (GoesOn (W.held to.old) (W.held to.new) (R.ahead from.old) (R.ahead from.new) limits.now job.now begun.now.reading
-        begun.now.work.goal.items begun.now.work.steps.items) }
-    ensures untouched { IfErr result (λ _. W.held to.new ≡ W.held to.old) }
+    ensures goes { GoesOn (W.held to.old) (W.held to.new) (R.ahead from.old) (R.ahead from.new) limits.now job.now begun.now.reading
+        begun.now.work.goal.items begun.now.work.steps.items result }
     ensures reads_room { R.count from.new ≤ R.count from.old + 1 }
     ensures writes_room { W.count to.new ≤ W.count to.old + 1 }
 {
-    let Begun { reading, work } = begun;
+    let Begun { reading, work, by } = begun;
     let steps = work.steps.as_slice();
-    let by = match way_of(&reading.meaning, said_start(job)) {
-        Some(by) => by,
-        None => return Err(Unflashed::Unlike(Unlike::Unreadable)),
-    };
     if let Err(step) = carried(steps, limits) {
         let why = Failure::Carried;
-        return Ok(Ending::Failed { step, why });
+        return Ending::Failed { step, why };
     }
     doable();
     let bench = Bench {
@@ -93,9 +91,9 @@ fn flash_planned<S: FileStore, R: ByteIn, W: ByteOut, P: ByteOut>(
         before: job.before,
         content: reading.content.as_slice(),
         meaning: &reading.meaning,
-        by,
+        by: *by,
     };
-    Ok(do_work(
+    do_work(
         &bench,
         from,
         to,
@@ -104,5 +102,5 @@ fn flash_planned<S: FileStore, R: ByteIn, W: ByteOut, P: ByteOut>(
         steps,
         work.goal.as_slice(),
         progress,
-    ))
+    )
 }

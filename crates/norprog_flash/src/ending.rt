@@ -3,6 +3,7 @@
 ghost use Rattle.std.specs.Prelude.{◌≡◌};
 ghost use Rattle.nor_job.specs.declared.fault.BuildFault.TheVariants.{Memory};
 ghost use Rattle.norprog_common.specs.declared.faults.Refusal.TheVariants.{Build};
+ghost use Rattle.norprog_flash.specs.Stops.{of_reading};
 ghost use Rattle.norprog_flash.specs.declared.ending.Unflashed.TheVariants as unflashed;
 
 use norprog_common::Refusal;
@@ -42,6 +43,8 @@ pub enum Unflashed {
 }
 
 impl From<Unread> for Unflashed {
+    ghost from_gives = { λ stop why. why ≡ of_reading stop };
+
     fn from(why: Unread) -> Unflashed {
         match why {
             Unread::Refused(refusal) => Unflashed::Refused(refusal),

@@ -1,7 +1,7 @@
 //! Work on the chip behind a device, from its handshake on.
 
 ghost use Rattle.std.specs.Prelude.{◌≡◌, ◌≤◌, ◌<◌, ◌+◌, ◌-◌, ◌^◌, true, IfOk, IfErr};
-ghost use Rattle.norprog_flash.specs.Kept.{KeepsOpened, KeepsTested};
+ghost use Rattle.norprog_flash.specs.Stops.{StopsOpened, StopsTested};
 ghost use Rattle.norprog_flash.specs.Opened.{HasFlashedOpened, HasFlashedTested};
 
 use crate::device::flash_chip;
@@ -34,7 +34,8 @@ pub fn flash_opened<S: FileStore, R: ByteIn, W: ByteOut, O: ByteOut, P: ByteOut>
     requires told { P.count progress.old < 2 ^ 64 - 1 }
     ensures ends { IfOk result (HasFlashedOpened (S.facts store.now) job.now (W.held to.old) (W.held to.new) (R.ahead from.old)
         (R.ahead from.new) (O.held out.old) (O.held out.new)) }
-    ensures keeps { IfErr result (λ _. KeepsOpened (W.held to.old) (W.held to.new) (R.ahead from.old) (R.ahead from.new)) }
+    ensures stops { IfErr result (StopsOpened (S.facts store.now) (W.held to.old) (W.held to.new) (R.ahead from.old) (R.ahead from.new) job.now
+        (O.held out.old) (O.held out.new)) }
     ensures out_count { IfOk result (λ _. O.count out.new ≡ O.count out.old) }
     ensures out_room { O.count out.new ≤ O.count out.old + 1 }
 {
@@ -65,7 +66,8 @@ fn flash_tested<S: FileStore, R: ByteIn, W: ByteOut, O: ByteOut, P: ByteOut>(
     requires told { P.count progress.old < 2 ^ 64 - 1 }
     ensures ends { IfOk result (HasFlashedTested (S.facts store.now) job.now limits.now (W.held to.old) (W.held to.new) (R.ahead from.old)
         (R.ahead from.new) (O.held out.old) (O.held out.new)) }
-    ensures keeps { IfErr result (λ _. KeepsTested (W.held to.old) (W.held to.new) (R.ahead from.old) (R.ahead from.new) limits.now) }
+    ensures stops { IfErr result (StopsTested (S.facts store.now) (W.held to.old) (W.held to.new) (R.ahead from.old) (R.ahead from.new) limits.now
+        job.now (O.held out.old) (O.held out.new)) }
     ensures reads { R.count from.new ≤ R.count from.old + 2 }
     ensures writes { W.count to.new ≤ W.count to.old + 2 }
     ensures out_count { IfOk result (λ _. O.count out.new ≡ O.count out.old) }

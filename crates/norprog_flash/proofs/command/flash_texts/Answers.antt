@@ -1,7 +1,7 @@
 -- The job of the texts, and its ending.
 use Rattle.std.proofs.Common.{◌≡◌, ℕ, true, List, rules, subst, refl}
 use Rattle.norprog_flash.specs.Request.{is_well_formed, AsksFor}
-use Rattle.norprog_flash.proofs.ServedLemmas.{ending_by, wanted}
+use Rattle.norprog_flash.proofs.ServedLemmas.{ending_by, unbegun_by, wanted}
 use Rattle.norprog_read.specs.Request.{IsAskOf}
 use Rattle.norprog_flash.proofs.command.flash_texts.Goals as goal
 
@@ -31,3 +31,25 @@ returns-clause-ends g c =
       dry = refl;
     })
     c.flash_device.ensures.flashed
+
+pub returns-clause-unbegun : goal.returns-clause-unbegun
+returns-clause-unbegun g c =
+    let files = g.S.FileStore.facts c.args.store.now in
+    let asks : AsksFor c.args.given.now c.in_ok-request.request = search rules in
+    let formed : is_well_formed c.args.given.now ≡ true = search rules in
+    let e = subst (λ (file : List ℕ). IsAskOf c.in_ok-request.request.read file c.ask_of-asked.result) c.as_slice.ensures.value c.ask_of-asked.ensures in
+    unbegun_by files c.args.given.now c.in_ok-request.request _ _ _ c.flash_device.result formed asks
+    (record {
+      held = c.in_ok-files.files;
+      given = c.in_ok-files.ensures.given;
+      ask = record { known = e.known; bits = e.bits; part = e.part; mode4 = e.mode4; turns = e.turns; content = e.content };
+      erased_only = refl;
+      hex = c.as_slice-2.ensures.value;
+      layout = c.bytes_in.ensures;
+      regions = refl;
+      base = refl;
+      old = c.bytes_in-2.ensures;
+      before = refl;
+      dry = refl;
+    })
+    c.flash_device.ensures.unbegun

@@ -1,10 +1,10 @@
 -- The work goes on so, by the steps and the goal that were planned.
-use Rattle.std.proofs.Common.{List, ℕ, inl, inr, refl, subst}
-use Rattle.nor_base.specs.declared.meaning.Start.{Start}
+use Rattle.std.proofs.Common.{List, ℕ, All, inl, inr, refl, subst, sym}
 use Rattle.nor_base.specs.declared.step.Step.{Step}
-use Rattle.nor_reader.specs.Laws.{GivesBy}
+use Rattle.nor_serprog.specs.Done.{IsDoable}
 use Rattle.nor_serprog.specs.Steps.{IsFirstNotCarried}
 use Rattle.norprog_flash.specs.Worked.{WorksOut}
+use Rattle.norprog_flash.proofs.PlannedLemmas.{steps_doable}
 use Rattle.norprog_flash.proofs.device.flash_planned.Goals as goal
 
 pub returns-in-Err-clause-goes : goal.returns-in-Err-clause-goes
@@ -27,10 +27,17 @@ returns-clause-goes g c =
     let a0 = g.R.ByteIn.ahead c.args.from.now in
     let a1 = g.R.ByteIn.ahead c.do_work.new.from in
     inr (
-      c.in-Some.by,
-      subst (λ (start : Start). GivesBy m start c.in-Some.by) c.said_start.ensures c.in-Some.ensures.gives,
-      subst (λ (xs : List Step). WorksOut h0 h1 a0 a1 limits job.ask.turns m c.in-Some.by xs c.args.begun.now.work.goal.items c.do_work.result)
+      c.args.begun.now.by,
+      c.requires.way,
+      subst (λ (xs : List Step). WorksOut h0 h1 a0 a1 limits job.ask.turns m c.args.begun.now.by xs c.args.begun.now.work.goal.items c.do_work.result)
           c.as_slice-steps.ensures.value
-          (subst (λ (xs : List ℕ). WorksOut h0 h1 a0 a1 limits job.ask.turns m c.in-Some.by c.as_slice-steps.result.now xs c.do_work.result)
+          (subst (λ (xs : List ℕ). WorksOut h0 h1 a0 a1 limits job.ask.turns m c.args.begun.now.by c.as_slice-steps.result.now xs c.do_work.result)
           c.as_slice-2.ensures.value c.do_work.ensures.ends),
     )
+
+pub do_work-requires-clause-form : goal.do_work-requires-clause-form
+do_work-requires-clause-form g c =
+    let p = c.requires.planned in
+    subst (λ (xs : List Step). All IsDoable xs) (sym c.as_slice-steps.ensures.value)
+    (steps_doable (g.S.FileStore.facts c.args.store.now) c.args.job.now p.0 p.1 p.2 p.3 c.args.begun.now.reading c.args.begun.now.work.goal.items
+    c.args.begun.now.work.steps.items p.4 p.5 p.6 c.doable.ensures.doable)

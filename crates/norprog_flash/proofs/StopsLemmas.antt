@@ -1,0 +1,50 @@
+-- Why work isn't begun on a chip that was read.
+use Rattle.std.proofs.Common.{◌≡◌, ◌∙◌, ℕ, Bool, false, List, Option, inl, inr, refl, sym, ap, subst}
+use Rattle.nor_base.specs.declared.meaning.Start.{Start}
+use Rattle.nor_base.specs.Device.{Ahead}
+use Rattle.nor_job.specs.Status.{start_of}
+use Rattle.nor_probe.specs.Status.{suits}
+use Rattle.nor_reader.specs.Harmless.{HasSentHarmless}
+use Rattle.nor_reader.proofs.HarmlessLemmas.{whole_sent}
+use Rattle.norprog_common.specs.declared.faults.Refusal.{Refusal}
+use Rattle.norprog_common.specs.FileStore.{FileFacts}
+use Rattle.norprog_flash.specs.declared.ending.Unflashed.TheVariants.{Refused, Unlike, Closed}
+use Rattle.norprog_flash.specs.declared.job.Job.{Job}
+use Rattle.norprog_flash.specs.Begun.{HasRead, start_at}
+use Rattle.norprog_flash.specs.Stops.{has_way, StopsBefore, StopsBegun}
+use Rattle.norprog_flash.specs.Task.{flash_task}
+use Rattle.norprog_read.specs.declared.asked.Reading.{Reading}
+use Rattle.norprog_read.specs.declared.fault.Unlike.TheVariants.{Unreadable}
+use Rattle.norprog_read.specs.Chip.{HasReadChip}
+use Rattle.norprog_read.specs.Saved.{FailsToSave, IsSaved}
+
+pub closed : (h i : Option (List ℕ)) (a b : Ahead) (job : Job) (r : Reading) → HasReadChip h i a b job.ask r → (start : Start) (fits : Bool)
+    → start ≡ start_at job r.status → fits ≡ suits job.ask.part start r.status → fits ≡ false → StopsBefore h i a b job (Closed r.status)
+closed h i a b job r read start fits begins is unfit = inr (record {
+  reading = r;
+  read = read;
+  unsuited = (refl, ap (λ (s : Start). suits job.ask.part s r.status) (sym begins) ∙ (sym is ∙ unfit));
+})
+
+pub wayless : (h i : Option (List ℕ)) (a b : Ahead) (job : Job) (r : Reading) → HasReadChip h i a b job.ask r → (start : Start)
+    → start ≡ start_of (flash_task job r.tables.items) → false ≡ has_way r.meaning start → StopsBefore h i a b job (Unlike Unreadable)
+wayless h i a b job r read start begins wants = inr (record {
+  reading = r;
+  read = read;
+  unsuited = ap (λ (s : Start). has_way r.meaning s) (sym begins) ∙ sym wants;
+})
+
+pub unsaved : (files : FileFacts) (h i : Option (List ℕ)) (a b : Ahead) (job : Job) (o : Option (List ℕ)) (r : Reading) → HasRead job h i a b r
+    → HasSentHarmless h i → (why : Refusal) → FailsToSave files.lacked why → StopsBegun files h i a b job o o (Refused why)
+unsaved files h i a b job o r read sent why fails = record {
+  stop = inl (refl, inr (record { reading = r; read = read; refusal = why; is = refl; fails = fails }));
+  harmless = whole_sent h i sent;
+}
+
+pub unplanned : (files : FileFacts) (h i : Option (List ℕ)) (a b : Ahead) (job : Job) (o p : Option (List ℕ)) (r : Reading) → HasRead job h i a b r
+    → HasSentHarmless h i → (content : List ℕ) → content ≡ r.content.items → IsSaved files job.before.now content → (why : Refusal)
+    → StopsBegun files h i a b job o p (Refused why)
+unplanned files h i a b job o p r read sent content same saved why = record {
+  stop = inr (record { reading = r; read = read; saved = subst (IsSaved files job.before.now) same saved; refusal = why; is = refl });
+  harmless = whole_sent h i sent;
+}

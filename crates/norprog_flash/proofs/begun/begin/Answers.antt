@@ -1,0 +1,23 @@
+-- What was read couldn't be saved, or its work couldn't be planned.
+use Rattle.nor_base.proofs.FaultLaws.{handed_on}
+use Rattle.norprog_flash.specs.declared.ending.Unflashed.TheVariants.{Refused}
+use Rattle.norprog_flash.specs.Stops.{StopsBegun}
+use Rattle.norprog_flash.proofs.StopsLemmas.{unplanned, unsaved}
+use Rattle.norprog_flash.proofs.begun.begin.Goals as goal
+
+pub returns-in_err-save-clause-stops : goal.returns-in_err-save-clause-stops
+returns-in_err-save-clause-stops g c =
+    handed_on (StopsBegun (g.S.FileStore.facts c.args.store.now) _ _ _ _ c.args.job.now _ _) _ (Refused c.in_err-save.field-0.0)
+    c.from_residual-in_err-save.ensures.1
+    (unsaved (g.S.FileStore.facts c.args.store.now) (g.W.ByteOut.held c.args.to.now) (g.W.ByteOut.held c.read_suited.new.to)
+    (g.R.ByteIn.ahead c.args.from.now) (g.R.ByteIn.ahead c.read_suited.new.from) c.args.job.now (g.O.ByteOut.held c.args.out.now)
+    c.in_ok-reading.reading c.in_ok-reading.ensures.read c.in_ok-reading.ensures.harmless c.in_err-save.field-0.0 c.in_err-save.ensures.fails)
+
+pub returns-in_err-work-clause-stops : goal.returns-in_err-work-clause-stops
+returns-in_err-work-clause-stops g c =
+    handed_on (StopsBegun (g.S.FileStore.facts c.args.store.now) _ _ _ _ c.args.job.now _ _) _ (Refused c.in_err-work.field-0.0)
+    c.from_residual-in_err-work.ensures.1
+    (unplanned (g.S.FileStore.facts c.args.store.now) (g.W.ByteOut.held c.args.to.now) (g.W.ByteOut.held c.read_suited.new.to)
+    (g.R.ByteIn.ahead c.args.from.now) (g.R.ByteIn.ahead c.read_suited.new.from) c.args.job.now (g.O.ByteOut.held c.args.out.now)
+    (g.O.ByteOut.held c.plan_for.new.out) c.in_ok-reading.reading c.in_ok-reading.ensures.read c.in_ok-reading.ensures.harmless
+    c.as_slice.result.now c.as_slice.ensures.value c.in_ok-save.ensures.saved c.in_err-work.field-0.0)

@@ -1,0 +1,140 @@
+-- Why work isn't begun; and that nothing went over the wire till then that changes what a chip holds (this project's).
+use Rattle.std.specs.Prelude.{◌≡◌, ◌⊎◌, ℕ, Bool, false, not, ◌&&◌, List, Option, Ok, Err}
+use Rattle.nor_base.specs.declared.meaning.Start.{Start}
+use Rattle.nor_base.specs.Device.{Ahead, ahead_of}
+use Rattle.nor_base.specs.Parameters.{Parameters}
+use Rattle.nor_job.specs.Status.{start_of}
+use Rattle.nor_probe.specs.Status.{suits}
+use Rattle.nor_reader.specs.Harmless.{SendsHarmless}
+use Rattle.nor_serprog.specs.declared.fault.Fault.{Fault}
+use Rattle.nor_serprog.specs.declared.fault.GreetFault.{GreetFault}
+use Rattle.nor_serprog.specs.declared.limits.Limits.{Limits}
+use Rattle.nor_serprog.specs.Greeting.{Greeted}
+use Rattle.nor_serprog.specs.Line.{TestsLine}
+use Rattle.norprog_common.specs.declared.faults.Refusal.{Refusal}
+use Rattle.norprog_common.specs.FileStore.{FileFacts}
+use Rattle.norprog_device.specs.declared.fault.DeviceFault.TheVariants.{Greet, Line}
+use Rattle.norprog_device.specs.Opened.{LetsGo}
+use Rattle.norprog_flash.specs.declared.ending.Unflashed.{Unflashed}
+use Rattle.norprog_flash.specs.declared.ending.Unflashed.TheVariants.{Refused, Device, Unlike, Closed}
+use Rattle.norprog_flash.specs.declared.job.Job.{Job}
+use Rattle.norprog_flash.specs.Begun.{HasRead, start_at}
+use Rattle.norprog_flash.specs.Task.{flash_task}
+use Rattle.norprog_read.specs.declared.asked.Ask.{Ask}
+use Rattle.norprog_read.specs.declared.asked.Reading.{Reading}
+use Rattle.norprog_read.specs.declared.fault.Unlike.TheVariants.{Unreadable}
+use Rattle.norprog_read.specs.declared.fault.Unread.{Unread}
+use Rattle.norprog_read.specs.declared.fault.Unread.TheVariants as unread
+use Rattle.norprog_read.specs.Chip.{HasReadChip}
+use Rattle.norprog_read.specs.Saved.{FailsToSave, IsSaved}
+use Rattle.norprog_read.specs.Stops.{StopsChip}
+use Rattle.norprog_read.specs.Way.{has_both, is_readable}
+
+-- the same of a reading
+abbrev pub of_reading : Unread → Unflashed
+of_reading (unread.Refused why) = Refused why
+of_reading (unread.Device why) = Device why
+of_reading (unread.Unlike why) = Unlike why
+
+-- the reading of the chip stopped so
+pub record StopsReading (held_before held_after : Option (List ℕ)) (ahead_before ahead_after : Ahead) (ask : Ask) (why : Unflashed) : Type 0 where
+  pub stop : Unread
+  pub stops : StopsChip held_before held_after ahead_before ahead_after ask stop
+  pub is : why ≡ of_reading stop
+
+-- a chip that begins so can be read whole, and a reading shows in which address mode it is
+abbrev pub has_way : Parameters → Start → Bool
+has_way m start = is_readable m start && not (start.mode4 && (has_both m.width && not m.read4))
+
+-- its status shows that it can't take work; or it can, but there is no such way
+abbrev pub IsUnsuited : Job → Reading → Unflashed → Type 0
+IsUnsuited job r (Closed status) = (status ≡ r.status) × (suits job.ask.part (start_at job r.status) r.status ≡ false)
+IsUnsuited job r (Unlike Unreadable) = has_way r.meaning (start_of (flash_task job r.tables.items)) ≡ false
+IsUnsuited job r other = ⊥
+
+-- it was read, and that is so
+pub record StopsUnsuited (held_before held_after : Option (List ℕ)) (ahead_before ahead_after : Ahead) (job : Job) (why : Unflashed) : Type 0 where
+  pub reading : Reading
+  pub read : HasReadChip held_before held_after ahead_before ahead_after job.ask reading
+  pub unsuited : IsUnsuited job reading why
+
+-- it wasn't read, or that
+abbrev pub StopsBefore : Option (List ℕ) → Option (List ℕ) → Ahead → Ahead → Job → Unflashed → Type 0
+StopsBefore held_before held_after ahead_before ahead_after job why =
+    StopsReading held_before held_after ahead_before ahead_after job.ask why
+    ⊎ StopsUnsuited held_before held_after ahead_before ahead_after job why
+
+-- it was read, and what it holds couldn't be saved
+pub record StopsUnsaved (files : FileFacts) (held_before held_after : Option (List ℕ)) (ahead_before ahead_after : Ahead) (job : Job)
+    (why : Unflashed) : Type 0 where
+  pub reading : Reading
+  pub read : HasRead job held_before held_after ahead_before ahead_after reading
+  pub refusal : Refusal
+  pub is : why ≡ Refused refusal
+  pub fails : FailsToSave files.lacked refusal
+
+-- it was read and saved, and its work couldn't be planned or printed
+pub record StopsUnplanned (files : FileFacts) (held_before held_after : Option (List ℕ)) (ahead_before ahead_after : Ahead) (job : Job)
+    (why : Unflashed) : Type 0 where
+  pub reading : Reading
+  pub read : HasRead job held_before held_after ahead_before ahead_after reading
+  pub saved : IsSaved files job.before.now reading.content.items
+  pub refusal : Refusal
+  pub is : why ≡ Refused refusal
+
+-- one of these; nothing was printed but of a plan
+abbrev pub StopsWork : FileFacts → Option (List ℕ) → Option (List ℕ) → Ahead → Ahead → Job → Option (List ℕ) → Option (List ℕ) → Unflashed → Type 0
+StopsWork files held_before held_after ahead_before ahead_after job out_before out_after why =
+    ((out_after ≡ out_before) × (StopsBefore held_before held_after ahead_before ahead_after job why
+    ⊎ StopsUnsaved files held_before held_after ahead_before ahead_after job why))
+    ⊎ StopsUnplanned files held_before held_after ahead_before ahead_after job why
+
+-- and then only operations were asked for that change nothing
+pub record StopsBegun (files : FileFacts) (held_before held_after : Option (List ℕ)) (ahead_before ahead_after : Ahead) (job : Job)
+    (out_before out_after : Option (List ℕ)) (why : Unflashed) : Type 0 where
+  pub stop : StopsWork files held_before held_after ahead_before ahead_after job out_before out_after why
+  pub harmless : SendsHarmless held_before held_after
+
+-- the line was tested, and then that
+pub record StopsAfter (files : FileFacts) (held_before held_after : Option (List ℕ)) (ahead_before ahead_after : Ahead) (limits : Limits) (job : Job)
+    (out_before out_after : Option (List ℕ)) (why : Unflashed) : Type 0 where
+  pub held : Option (List ℕ)
+  pub ahead : Ahead
+  pub tested : TestsLine held_before held ahead_before ahead (Ok tt) limits
+  pub begun : StopsBegun files held held_after ahead ahead_after job out_before out_after why
+
+-- the test of the line stopped, or so
+abbrev pub StopsTested : FileFacts → Option (List ℕ) → Option (List ℕ) → Ahead → Ahead → Limits → Job → Option (List ℕ) → Option (List ℕ) → Unflashed → Type 0
+StopsTested files held_before held_after ahead_before ahead_after limits job out_before out_after why =
+    ((fault : Fault) × (why ≡ Device (Line fault)) × TestsLine held_before held_after ahead_before ahead_after (Err fault) limits
+    × (out_after ≡ out_before))
+    ⊎ StopsAfter files held_before held_after ahead_before ahead_after limits job out_before out_after why
+
+-- the handshake was done, what came after it stopped so, and the pins were let go
+pub record StopsGreeted (files : FileFacts) (held_before held_after : Option (List ℕ)) (ahead_before ahead_after : Ahead) (job : Job)
+    (out_before out_after : Option (List ℕ)) (why : Unflashed) : Type 0 where
+  pub held : Option (List ℕ)
+  pub ahead : Ahead
+  pub limits : Limits
+  pub greeted : Greeted held_before held ahead_before ahead (Ok limits)
+  pub held_late : Option (List ℕ)
+  pub ahead_late : Ahead
+  pub stops : StopsTested files held held_late ahead ahead_late limits job out_before out_after why
+  pub released : LetsGo held_late held_after ahead_late ahead_after limits.pins
+
+-- the handshake stopped, or so
+abbrev pub StopsOpened : FileFacts → Option (List ℕ) → Option (List ℕ) → Ahead → Ahead → Job → Option (List ℕ) → Option (List ℕ) → Unflashed → Type 0
+StopsOpened files held_before held_after ahead_before ahead_after job out_before out_after why =
+    ((fault : GreetFault) × (why ≡ Device (Greet fault)) × Greeted held_before held_after ahead_before ahead_after (Err fault)
+    × (out_after ≡ out_before))
+    ⊎ StopsGreeted files held_before held_after ahead_before ahead_after job out_before out_after why
+
+-- the device that was named was opened, had this yet to give, and had taken that; and then the job on its chip stopped so
+pub record StopsOn (Opened : Option (List ℕ) → Option (List ℕ) → Type 0) (files : FileFacts) (job : Job) (out_before out_after : Option (List ℕ))
+    (why : Unflashed) : Type 0 where
+  pub remaining : Option (List ℕ)
+  pub contents : Option (List ℕ)
+  pub opened : Opened remaining contents
+  pub held : Option (List ℕ)
+  pub ahead : Ahead
+  pub stops : StopsOpened files contents held (ahead_of remaining) ahead job out_before out_after why
