@@ -133,12 +133,12 @@ pub(crate) const TOPICS: &[Topic] = &[
         "the chip",
         "Steps were sent to the chip, and not all of them are known to be done. So the\n\
          chip may hold neither what it held nor what it must hold, and may be in another\n\
-         address mode: power it off and on. After flash give the same command again,\n\
-         with the dump of the first try as --resume, and a new file as --before. After\n\
-         play what it must hold is what norprog run --out want.bin leaves, from the old\n\
-         dump and script. Make want.bin HEX with objcopy, read the chip again, and build\n\
-         that HEX, whole and without regions, from the new dump. The old HEX would leave\n\
-         FF what was erased around it.",
+         address mode: power it off and on. After flash give the command that the line\n\
+         prints: it takes the dump of the first try as --resume. After play what it must\n\
+         hold is what norprog run --out want.bin leaves, from the old dump and script.\n\
+         Make want.bin HEX with objcopy, read the chip again, and build that HEX, whole\n\
+         and without regions, from the new dump. The old HEX would leave FF what was\n\
+         erased around it.",
     ),
 ];
 
