@@ -29,6 +29,7 @@ pub returns-in-EmptyRegion-clause-bytes : goal.returns-in-EmptyRegion-clause-byt
 returns-in-EmptyRegion-clause-bytes g c =
     subst (λ (refusal : Refusal). Writes (g.E.ByteOut.held c.args.err.now) (g.E.ByteOut.held c.put_line-in-EmptyRegion.new.err) c.put_line-in-EmptyRegion.result (printed refusal))
     (sym c.in-EmptyRegion.is) c.put_line-in-EmptyRegion.ensures.bytes
+
 pub returns-in-Log-clause-bytes : goal.returns-in-Log-clause-bytes
 returns-in-Log-clause-bytes g c =
     subst (λ (refusal : Refusal). Writes (g.E.ByteOut.held c.args.err.now) (g.E.ByteOut.held c.put_line-in-Log.new.err) c.put_line-in-Log.result (printed refusal))
