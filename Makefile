@@ -1,6 +1,6 @@
 # README.md says what try, build and install are for, CONTRIBUTING.md the others.
 
-.PHONY: build try demo check test hooks edits refusals peers docs-check dist install uninstall
+.PHONY: build try demo check test hooks edits refusals peers wire docs-check dist install uninstall
 
 # the sample job of one byte, for the program in crates/norprog_cli
 job = build --hex data/one.hex --uniform 8192 --content data/chip.bin --out
@@ -44,6 +44,10 @@ refusals:
 # norprog beside flashrom and sigrok-cli, over the device of tools/serprog-device; it proves nothing, and says what it needs
 peers:
 	@tools/peers
+
+# norprog and flashrom on a programmer of which a round trip takes 1 ms; it proves nothing
+wire:
+	@tools/wire
 
 # the program unproved on a job that matters: a chip by its SFDP bytes, of which one region is programmed; it holds bits that
 # must rise, so a sector is erased, and what else the sector holds is restored
