@@ -54,13 +54,17 @@ AnswersTo files (command.Script given) before after Quiet Works told_before told
 AnswersTo files (command.Explain words) before after Quiet Works told_before told_after status =
     AnswersExplain (explained topics words.items) before after Quiet Works told_before told_after status
 
--- more of a refusal was written after its line, where the command line wants that and the command isn't done
+-- more of a refusal was written, by what stands on the command line
+abbrev pub AddsLines : {E : Type 0} → (E → ℕ) → (E → Option (List ℕ)) → FileFacts → TypedLine → E → E → Type 0
+AddsLines count held files typed before after =
+    (line : CommandLine) × (refusal : List ℕ) × IsLineOf typed line
+    × TellsDetails files line refusal ((count before < 2 ^ 64 - 1) × (count after ≡ count before)) (held before) (held after)
+
+-- that is so where the command line wants it and the command isn't done; else nothing was written
 abbrev pub AddsDetails : {E : Type 0} → (E → ℕ) → (E → Option (List ℕ)) → FileFacts → Option TypedLine → ℕ → E → E → Type 0
 AddsDetails count held files None status before after = after ≡ before
 AddsDetails count held files (Some typed) zero before after = after ≡ before
-AddsDetails count held files (Some typed) (suc status) before after =
-    (line : CommandLine) × (refusal : List ℕ) × IsLineOf typed line
-    × TellsDetails files line refusal ((count before < 2 ^ 64 - 1) × (count after ≡ count before)) (held before) (held after)
+AddsDetails count held files (Some typed) (suc status) before after = AddsLines count held files typed before after
 
 -- a command line has its command's answer, and then more of a refusal
 pub record AnswersLine (E : Type 0) (count : E → ℕ) (held : E → Option (List ℕ)) (files : FileFacts) (before after : Option (List ℕ))
@@ -71,8 +75,12 @@ pub record AnswersLine (E : Type 0) (count : E → ℕ) (held : E → Option (Li
   pub details : AddsDetails count held files line.details status answered err_after
 
 -- to what some matches of the words say its answer; to words that couldn't be read, why
-abbrev pub AnswersSome : (E : Type 0) → (E → ℕ) → (E → Option (List ℕ)) → FileFacts → Option (List ℕ) → Option (List ℕ) → E → E → ℕ → Result Line Refusal → Type 0
-AnswersSome E count held files before after err_before err_after status (Ok line) =
-    IsLineBySome line × AnswersLine E count held files before after err_before err_after status line
-AnswersSome E count held files before after err_before err_after status (Err why) =
+abbrev pub AnswersWords : {E : Type 0} → (E → ℕ) → (E → Option (List ℕ)) → FileFacts → Option (List ℕ) → Option (List ℕ) → E → E → ℕ → Result Line Refusal → Type 0
+AnswersWords count held files before after err_before err_after status (Ok line) =
+    IsLineBySome line × AnswersLine _ count held files before after err_before err_after status line
+AnswersWords count held files before after err_before err_after status (Err why) =
     (after ≡ before) × TellsOf (λ told. told ≡ why) (count err_after ≡ count err_before) (held err_before) (held err_after) status
+
+abbrev pub AnswersSome : {E : Type 0} → (E → ℕ) → (E → Option (List ℕ)) → FileFacts → Option (List ℕ) → Option (List ℕ) → E → E → ℕ → Type 0
+AnswersSome count held files before after err_before err_after status =
+    (words : Result Line Refusal) × AnswersWords count held files before after err_before err_after status words

@@ -12,7 +12,7 @@ ghost use Rattle.std.specs.Prelude.{◌≡◌, ◌≢◌, ◌<◌, ◌≤◌, �
 ghost use Rattle.nor_job.specs.declared.fault.BuildFault.TheVariants.{Write as write_fault};
 ghost use Rattle.norprog_common.specs.declared.faults.Refusal.TheVariants.{Build as of_build};
 ghost use Rattle.norprog_common.specs.Told.{TellsOf};
-ghost use Rattle.norprog_cli.specs.Answers.{AnswersTo, AnswersSome, AddsDetails};
+ghost use Rattle.norprog_cli.specs.Answers.{AnswersTo, AnswersSome, AddsDetails, AddsLines};
 
 use nor_base::{ByteOut, IntoWrite, Nowhere};
 use norprog_build::build;
@@ -111,8 +111,8 @@ fn command<S: FileStore, O: ByteOut, E: ByteOut + Drop, P: ByteOut>(
     requires progress { P.count progress.old < 2 ^ 64 - 1 }
     ensures status { result ≤ 2 }
     ensures quiet { result ≡ 0 → err.new ≡ err.old }
-    ensures answer { (line : Result Line Refusal) × AnswersSome (Heard E) (λ heard. E.count heard.out) (λ heard. E.held heard.out)
-        (S.facts store.now) (O.held out.old) (O.held out.new) err.old err.new result line }
+    ensures answer { AnswersSome (λ heard. E.count heard.out) (λ heard. E.held heard.out) (S.facts store.now)
+        (O.held out.old) (O.held out.new) err.old err.new result }
 {
     match asked_by(alloc, words.as_slice()) {
         Ok(line) => {
@@ -133,22 +133,29 @@ fn add_details<S: FileStore, E: ByteOut + Drop>(
     status: u8,
     err: &mut Heard<E>,
 )
-    ensures { AddsDetails (λ heard. E.count heard.out) (λ heard. E.held heard.out) (S.facts store.now) details status err.old err.new }
+    ensures { AddsDetails (λ heard. E.count heard.out) (λ heard. E.held heard.out) (S.facts store.now) details.entry status err.old err.new }
 {
-    if status == 0 {
+    let Some(typed) = details else {
         return;
+    };
+    if status != 0 {
+        add_lines(alloc, store, typed, err)
     }
-    if let Some(typed) = details
-        && err.failures() < u64::MAX
-    {
-        let refusal = err.take_line();
-        write_details(
-            alloc,
-            store,
-            typed.as_line(),
-            refusal.as_slice(),
-            &mut err.out,
-        )
+}
+
+/// Writes more of the refusal whose line was written last.
+fn add_lines<S: FileStore, E: ByteOut + Drop>(
+    alloc: Global,
+    store: &S,
+    typed: TypedLine<'_>,
+    err: &mut Heard<E>,
+)
+    ensures { AddsLines (λ heard. E.count heard.out) (λ heard. E.held heard.out) (S.facts store.now) typed.entry err.old err.new }
+{
+    let refusal = err.take_line();
+    let line = typed.as_line();
+    if err.failures() < u64::MAX {
+        write_details(alloc, store, line, refusal.as_slice(), &mut err.out)
     }
 }
 
