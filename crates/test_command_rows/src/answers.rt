@@ -1,6 +1,8 @@
 //! What a command line asks for, done.
 
-use nor_base::{IntoWrite, Nowhere};
+ghost use Rattle.std.specs.Prelude.{◌<◌, ◌-◌, ◌^◌};
+
+use nor_base::{ByteOut, IntoWrite, Nowhere};
 use norprog_build::build;
 use norprog_check::check;
 use norprog_common::{Refusal, SystemFiles, refuse};
@@ -45,6 +47,7 @@ fn status_into(rt: &HostRuntime, line: Result<Line<'_>, Refusal>, out: File, err
     let status = answer(rt, asked, &mut out, &mut err);
     if let Some(typed) = details
         && status != 0
+        && err.failures() < u64::MAX
     {
         let files = SystemFiles::new(rt);
         let refusal = err.take_line();
@@ -65,7 +68,10 @@ fn answer(
     asked: Asked<'_>,
     out: &mut IntoWrite<File>,
     err: &mut Heard<IntoWrite<File>>,
-) -> u8 {
+) -> u8
+    requires out { out.old.failed < 2 ^ 64 - 2 }
+    requires err { err.old.out.failed < 2 ^ 64 - 1 }
+{
     let alloc = rt.alloc();
     let files = SystemFiles::new(rt);
     match asked {
