@@ -557,6 +557,12 @@ fn answers(alloc: Global, row: &Row) -> Result<Vec<u8>, AllocError> {
     Ok(all)
 }
 
+/// What a device answers in all that says NAK to the first step.
+pub(crate) fn stopped_answers(alloc: Global) -> Result<Vec<u8>, AllocError> {
+    let [row, ..] = &HALVES;
+    answers(alloc, row)
+}
+
 /// What goes out to it in all.
 fn wanted(alloc: Global, row: &Row) -> Result<Vec<u8>, AllocError> {
     let mut all = joined(alloc, &[row.opened])?;
@@ -585,7 +591,7 @@ fn old_in(alloc: Global, row: &Row) -> Result<Vec<u8>, AllocError> {
 }
 
 /// The line of work that ended so: that of its ending, of its refusal, or of what was asked for and came otherwise.
-fn line_of(alloc: Global, ended: Result<Ending, Unflashed>) -> Vec<u8> {
+pub(crate) fn line_of(alloc: Global, ended: Result<Ending, Unflashed>) -> Vec<u8> {
     let mut line = IntoWrite::new(Held::new(alloc, 1000));
     let _ = match ended {
         Ok(ending) => write_ending(ending, &mut line).is_ok(),

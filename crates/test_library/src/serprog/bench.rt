@@ -1,0 +1,92 @@
+//! A whole job of `flash` on a chip behind a device in memory.
+
+ghost use Rattle.std.specs.Prelude.{◌≡◌, true};
+
+use crate::serprog::canned::{End, Held};
+use crate::serprog::memory::Memory;
+use crate::serprog::programmer::{FromProgrammer, Programmer, ToProgrammer, Trouble};
+use crate::serprog::store::Store;
+use nor_base::{FromRead, IntoWrite};
+use norprog_flash::{Ending, Job, Unflashed, flash_opened};
+use std::alloc::{AllocError, Global};
+use std::cell::Cell;
+
+/// What is left of a job: how it ended, the device, what was saved, and what was printed of the plan.
+#[derive(Drop)]
+pub(crate) struct Bench {
+    pub(crate) ended: Result<Ending, Unflashed>,
+    pub(crate) device: Programmer,
+    pub(crate) saved: Vec<u8>,
+    pub(crate) plan: Vec<u8>,
+}
+
+/// Does a job on a chip, with a trouble at one of the device's commands.
+pub(crate) fn flashed(
+    alloc: Global,
+    chip: Memory,
+    trouble: Option<(Trouble, usize)>,
+    job: &Job<'_>,
+) -> Result<Bench, AllocError>
+    requires whole { job.now.ask.content ≡ true }
+{
+    let device = Cell::new(Some(Programmer::new(alloc, chip, trouble)));
+    let saved = Cell::new(Vec::new(alloc));
+    let (ended, plan) = flashed_by(alloc, &device, &saved, job);
+    match device.replace(None) {
+        Some(device) => Ok(Bench {
+            ended,
+            device,
+            saved: saved.replace(Vec::new(alloc)),
+            plan,
+        }),
+        None => Err(AllocError),
+    }
+}
+
+/// Does a job with a device, and saves what its chip held: how it ended, and what was printed of the plan.
+fn flashed_by<'a>(
+    alloc: Global,
+    device: &'a Cell<Option<Programmer>>,
+    saved: &'a Cell<Vec<u8>>,
+    job: &Job<'_>,
+) -> (Result<Ending, Unflashed>, Vec<u8>)
+    requires whole { job.now.ask.content ≡ true }
+{
+    let put = Cell::new(Vec::new(alloc));
+    let left = Cell::new(0);
+    let store = files(alloc, &put, &left, saved);
+    let mut from = FromRead::new(FromProgrammer(device));
+    let mut to = IntoWrite::new(ToProgrammer(device));
+    let mut out = IntoWrite::new(Held::new(alloc, 1000));
+    let mut progress = IntoWrite::new(Held::new(alloc, 1000));
+    let ended = flash_opened(
+        alloc,
+        &store,
+        &mut from,
+        &mut to,
+        job,
+        &mut out,
+        &mut progress,
+    );
+    (ended, out.into_inner().bytes)
+}
+
+/// Files of which one is made anew, and no device.
+fn files<'a>(
+    alloc: Global,
+    put: &'a Cell<Vec<u8>>,
+    left: &'a Cell<usize>,
+    saved: &'a Cell<Vec<u8>>,
+) -> Store<'a> {
+    Store {
+        alloc,
+        content: &[],
+        script: "",
+        tables: &[],
+        answers: &[],
+        end: End::Silent,
+        put,
+        left,
+        saved: Some(saved),
+    }
+}
