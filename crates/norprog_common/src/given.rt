@@ -146,6 +146,7 @@ pub struct FlashArgs<'a> {
     pub before: Option<&'a str>,
     pub resume: Option<&'a str>,
     pub erased_only: bool,
+    pub strict: bool,
     pub dry_run: bool,
     pub regions: Vec<Bytes>,
 }

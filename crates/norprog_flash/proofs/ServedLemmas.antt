@@ -2,13 +2,12 @@
 use Rattle.std.proofs.Common.{◌≡◌, ℕ, true, List, Option, Result, Ok, Err, IfOk, IfErr, inl, inr, is_some, ap, ◌∙◌}
 use Rattle.norprog_common.specs.FileStore.{FileFacts}
 use Rattle.norprog_common.specs.declared.given.FlashArgs.{FlashArgs}
-use Rattle.norprog_common.specs.Files.{TellsFile}
-use Rattle.norprog_common.proofs.ToldLemmas.{or_usage}
 use Rattle.norprog_flash.specs.declared.ending.Ending.{Ending}
 use Rattle.norprog_flash.specs.declared.ending.Unflashed.{Unflashed}
 use Rattle.norprog_flash.specs.declared.job.Job.{Job}
 use Rattle.norprog_flash.specs.declared.request.FlashRequest.{FlashRequest}
 use Rattle.norprog_flash.specs.Answer.{IsEndingOf, IsUnbegunFor, IsUnbegunOn}
+use Rattle.norprog_flash.specs.Early.{IsSoundEarly}
 use Rattle.norprog_flash.specs.Opened.{IsFlashedOn}
 use Rattle.norprog_flash.specs.Request.{is_well_formed, AsksFor}
 use Rattle.norprog_flash.specs.Served.{IsJobOf}
@@ -21,23 +20,21 @@ pub wanted : (given : FlashArgs) (request : FlashRequest) (file : List ℕ) (ask
 wanted given request file ask asks is = is.content ∙ (ap is_some asks.read.out ∙ ap is_some asks.before)
 
 pub ending_by : {E : Type 0} (files : FileFacts) (given : FlashArgs) (request : FlashRequest) (job : Job) (o p : Option (List ℕ)) (r : Result Ending E)
-    → is_well_formed given ≡ true → AsksFor given request → IsJobOf files request job
+    → is_well_formed given ≡ true → AsksFor given request → IsJobOf files request job → IfOk r (λ _. IsSoundEarly job)
     → IfOk r (IsFlashedOn (files.device request.read.device.now) files job o p) → IfOk r (IsEndingOf files given o p)
-ending_by files given request job o p (Ok ending) formed asks is flashed = record {
+ending_by files given request job o p (Ok ending) formed asks is sound flashed = record {
   formed = formed;
   request = request;
   asks = asks;
-  ends = record { job = job; is = is; flashed = flashed };
+  ends = record { job = job; is = is; sound = sound; flashed = flashed };
 }
-ending_by files given request job o p (Err why) formed asks is flashed = tt
+ending_by files given request job o p (Err why) formed asks is sound flashed = tt
 
 pub unbegun_by : {T : Type 0} (files : FileFacts) (given : FlashArgs) (request : FlashRequest) (job : Job) (o p : Option (List ℕ)) (r : Result T Unflashed)
     → is_well_formed given ≡ true → AsksFor given request → IsJobOf files request job
     → IfErr r (IsUnbegunOn files (files.device request.read.device.now) job o p) → IfErr r (IsUnbegunFor files given o p)
 unbegun_by files given request job o p (Ok ending) formed asks is unbegun = tt
-unbegun_by files given request job o p (Err why) formed asks is (inl early) =
-    inl (early.0, early.1, or_usage (is_well_formed given) (TellsFile files.lacked) early.0 formed early.2, early.3)
-unbegun_by files given request job o p (Err why) formed asks is (inr stops) = inr (record {
+unbegun_by files given request job o p (Err why) formed asks is stops = inr (record {
   formed = formed;
   request = request;
   asks = asks;

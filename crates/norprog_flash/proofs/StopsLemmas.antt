@@ -1,5 +1,5 @@
 -- Why work isn't begun on a chip that was read.
-use Rattle.std.proofs.Common.{◌≡◌, ◌∙◌, ℕ, Bool, false, List, Option, inl, inr, refl, sym, ap, subst}
+use Rattle.std.proofs.Common.{◌≡◌, ◌∙◌, ℕ, Bool, false, List, length, Option, inl, inr, refl, sym, ap, subst}
 use Rattle.nor_base.specs.declared.meaning.Start.{Start}
 use Rattle.nor_base.specs.Device.{Ahead}
 use Rattle.nor_job.specs.Status.{start_of}
@@ -8,10 +8,11 @@ use Rattle.nor_reader.specs.Harmless.{HasSentHarmless}
 use Rattle.nor_reader.proofs.HarmlessLemmas.{whole_sent}
 use Rattle.norprog_common.specs.declared.faults.Refusal.{Refusal}
 use Rattle.norprog_common.specs.FileStore.{FileFacts}
+use Rattle.norprog_common.specs.Strict.{RefusesEmpty}
 use Rattle.norprog_flash.specs.declared.ending.Unflashed.TheVariants.{Refused, Unlike, Closed}
 use Rattle.norprog_flash.specs.declared.job.Job.{Job}
 use Rattle.norprog_flash.specs.Begun.{HasRead, start_at}
-use Rattle.norprog_flash.specs.Stops.{has_way, StopsBefore, StopsBegun}
+use Rattle.norprog_flash.specs.Stops.{has_way, CantPlan, StopsBefore, StopsBegun}
 use Rattle.norprog_flash.specs.Task.{flash_task}
 use Rattle.norprog_read.specs.declared.asked.Reading.{Reading}
 use Rattle.norprog_read.specs.declared.fault.Unlike.TheVariants.{Unreadable}
@@ -34,6 +35,10 @@ wayless h i a b job r read start begins wants = inr (record {
   unsuited = ap (λ (s : Start). has_way r.meaning s) (sym begins) ∙ sym wants;
 })
 
+pub unfilled : (h i : Option (List ℕ)) (a b : Ahead) (job : Job) (r : Reading) → HasReadChip h i a b job.ask r → (why : Refusal)
+    → RefusesEmpty job.strict (flash_task job r.tables.items) (length r.content.items) why → StopsBefore h i a b job (Refused why)
+unfilled h i a b job r read why empty = inr (record { reading = r; read = read; unsuited = empty })
+
 pub unsaved : (files : FileFacts) (h i : Option (List ℕ)) (a b : Ahead) (job : Job) (o : Option (List ℕ)) (r : Reading) → HasRead job h i a b r
     → HasSentHarmless h i → (why : Refusal) → FailsToSave files.lacked why → StopsBegun files h i a b job o o (Refused why)
 unsaved files h i a b job o r read sent why fails = record {
@@ -43,8 +48,15 @@ unsaved files h i a b job o r read sent why fails = record {
 
 pub unplanned : (files : FileFacts) (h i : Option (List ℕ)) (a b : Ahead) (job : Job) (o p : Option (List ℕ)) (r : Reading) → HasRead job h i a b r
     → HasSentHarmless h i → (content : List ℕ) → content ≡ r.content.items → IsSaved files job.before.now content → (why : Refusal)
-    → StopsBegun files h i a b job o p (Refused why)
-unplanned files h i a b job o p r read sent content same saved why = record {
-  stop = inr (record { reading = r; read = read; saved = subst (IsSaved files job.before.now) same saved; refusal = why; is = refl });
+    → CantPlan job r o p why → StopsBegun files h i a b job o p (Refused why)
+unplanned files h i a b job o p r read sent content same saved why cause = record {
+  stop = inr (record {
+    reading = r;
+    read = read;
+    saved = subst (IsSaved files job.before.now) same saved;
+    refusal = why;
+    is = refl;
+    cause = cause;
+  });
   harmless = whole_sent h i sent;
 }

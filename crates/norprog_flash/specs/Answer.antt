@@ -4,6 +4,7 @@ use Rattle.std.specs.Io.KnownBytes.{Appends}
 use Rattle.nor_base.specs.declared.meaning.Part.{Part}
 use Rattle.nor_base.specs.declared.meaning.Part.TheVariants.{Generic}
 use Rattle.nor_base.specs.Device.{Cuts}
+use Rattle.nor_job.specs.declared.fault.BuildFault.{BuildFault}
 use Rattle.nor_job.specs.declared.fault.BuildFault.TheVariants.{Write}
 use Rattle.norprog_common.specs.FileStore.{FileFacts}
 use Rattle.norprog_common.specs.Files.{TellsFile}
@@ -20,6 +21,7 @@ use Rattle.norprog_flash.specs.declared.ending.Unflashed.{Unflashed}
 use Rattle.norprog_flash.specs.declared.ending.Unflashed.TheVariants.{Refused, Device, Unlike, Closed}
 use Rattle.norprog_flash.specs.declared.job.Job.{Job}
 use Rattle.norprog_flash.specs.declared.request.FlashRequest.{FlashRequest}
+use Rattle.norprog_flash.specs.Early.{IsSoundEarly, RefusesEarly}
 use Rattle.norprog_flash.specs.Line.{closed_line, ending_line, is_partial, status_of}
 use Rattle.norprog_flash.specs.Opened.{IsFlashedOn}
 use Rattle.norprog_flash.specs.Request.{is_well_formed, AsksFor}
@@ -33,6 +35,7 @@ use Rattle.norprog_read.specs.Line.{unlike_line}
 pub record EndsRequest (files : FileFacts) (request : FlashRequest) (out_before out_after : Option (List ℕ)) (ending : Ending) : Type 0 where
   pub job : Job
   pub is : IsJobOf files request job
+  pub sound : IsSoundEarly job
   pub flashed : IsFlashedOn (files.device request.read.device.now) files job out_before out_after ending
 
 -- what the texts ask for did
@@ -42,11 +45,17 @@ pub record IsEndingOf (files : FileFacts) (given : FlashArgs) (out_before out_af
   pub asks : AsksFor given request
   pub ends : EndsRequest files request out_before out_after ending
 
--- a file couldn't be used, or memory ran out, before anything went to a device or was printed; or the job on its chip stopped so
-abbrev pub IsUnbegunOn : FileFacts → (Option (List ℕ) → Option (List ℕ) → Type 0) → Job → Option (List ℕ) → Option (List ℕ) → Unflashed → Type 0
-IsUnbegunOn files Opened job out_before out_after why =
+-- the device couldn't be opened, and nothing was printed; or the job on its chip stopped so
+abbrev pub IsUnbegunBy : FileFacts → (Option (List ℕ) → Option (List ℕ) → Type 0) → Job → Option (List ℕ) → Option (List ℕ) → Unflashed → Type 0
+IsUnbegunBy files Opened job out_before out_after why =
     ((refusal : Refusal) × (why ≡ Refused refusal) × TellsFile files.lacked refusal × (out_after ≡ out_before))
     ⊎ StopsOn Opened files job out_before out_after why
+
+-- a fault of the job shows before its chip is read: no device was opened, and nothing was printed; or none does, and then so
+abbrev pub IsUnbegunOn : FileFacts → (Option (List ℕ) → Option (List ℕ) → Type 0) → Job → Option (List ℕ) → Option (List ℕ) → Unflashed → Type 0
+IsUnbegunOn files Opened job out_before out_after why =
+    ((fault : BuildFault) × (why ≡ Refused (Build fault)) × RefusesEarly job fault × (out_after ≡ out_before))
+    ⊎ (IsSoundEarly job × IsUnbegunBy files Opened job out_before out_after why)
 
 -- the job of a request stopped so on the device that it names
 pub record StopsRequest (files : FileFacts) (given : FlashArgs) (out_before out_after : Option (List ℕ)) (why : Unflashed) : Type 0 where
@@ -55,9 +64,9 @@ pub record StopsRequest (files : FileFacts) (given : FlashArgs) (out_before out_
   pub asks : AsksFor given request
   pub job : Job
   pub is : IsJobOf files request job
-  pub stops : StopsOn (files.device request.read.device.now) files job out_before out_after why
+  pub stops : IsUnbegunOn files (files.device request.read.device.now) job out_before out_after why
 
--- the texts ask for nothing, or a file couldn't be used, or memory ran out, and nothing was sent or printed; or the job stopped so
+-- the texts ask for nothing, or a file couldn't be used, or memory ran out, and nothing was sent or printed; or the job wasn't begun
 abbrev pub IsUnbegunFor : FileFacts → FlashArgs → Option (List ℕ) → Option (List ℕ) → Unflashed → Type 0
 IsUnbegunFor files given out_before out_after why =
     ((refusal : Refusal) × (why ≡ Refused refusal) × OrUsage (is_well_formed given) (TellsFile files.lacked) refusal × (out_after ≡ out_before))

@@ -1,9 +1,10 @@
 -- A chip that was read, saved and planned for (this project's).
-use Rattle.std.specs.Prelude.{◌≡◌, ℕ, true, List, Option, unwrap_or}
+use Rattle.std.specs.Prelude.{◌≡◌, ℕ, true, List, length, Option, unwrap_or}
 use Rattle.nor_base.specs.declared.meaning.Start.{Start}
 use Rattle.nor_base.specs.declared.step.Step.{Step}
 use Rattle.nor_base.specs.Device.{Ahead}
 use Rattle.nor_base.specs.Parameters.{Parameters}
+use Rattle.nor_job.specs.Shares.{HasNoneEmpty}
 use Rattle.nor_job.specs.Status.{start_of}
 use Rattle.nor_probe.specs.Status.{suits}
 use Rattle.nor_sfdp.specs.Bits.{is_set}
@@ -24,11 +25,12 @@ start_at job status = record { mode4 = job.ask.mode4; quad = is_set status 9 }
 abbrev pub IsSureOfMode : Parameters → Start → Type 0
 IsSureOfMode m start = start.mode4 ≡ true → has_both m.width ≡ true → m.read4 ≡ true
 
--- the chip was read, and its status shows that it can take work
+-- the chip was read, and its status shows that it can take work; where the job is strict its image gives each chosen region a byte
 pub record HasRead (job : Job) (held_before held_after : Option (List ℕ)) (ahead_before ahead_after : Ahead) (r : Reading) : Type 0 where
   pub read : HasReadChip held_before held_after ahead_before ahead_after job.ask r
   pub suited : suits job.ask.part (start_at job r.status) r.status ≡ true
   pub sure : IsSureOfMode r.meaning (start_of (flash_task job r.tables.items))
+  pub filled : job.strict ≡ true → HasNoneEmpty (flash_task job r.tables.items) (length r.content.items)
 
 -- it was read, and nothing else was sent; what it holds is saved; and the work from that to the target was planned and printed
 pub record HasPlanned (files : FileFacts) (job : Job) (held_before held_after : Option (List ℕ)) (ahead_before ahead_after : Ahead)

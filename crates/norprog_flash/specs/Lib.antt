@@ -1,4 +1,5 @@
 pub mod Task
+pub mod Early
 pub mod Begun
 pub mod Worked
 pub mod Ended

@@ -35,5 +35,6 @@ pub record AsksFor (given : FlashArgs) (request : FlashRequest) : Type 0 where
   pub before : given.before ≡ Some request.before
   pub resume : request.resume ≡ given.resume
   pub erased_only : request.erased_only ≡ given.erased_only
+  pub strict : request.strict ≡ given.strict
   pub dry_run : request.dry_run ≡ given.dry_run
   pub regions : request.regions.now ≡ given.regions.items

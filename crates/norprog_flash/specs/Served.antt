@@ -27,4 +27,5 @@ pub record IsJobOf (facts : FileFacts) (request : FlashRequest) (job : Job) : Ty
   pub base : job.base ≡ request.base
   pub old : option_map (λ t. t.now) job.old ≡ option_map (λ bytes. bytes.items) held.old
   pub before : job.before.now ≡ request.before.now
+  pub strict : job.strict ≡ request.strict
   pub dry : job.dry ≡ request.dry_run

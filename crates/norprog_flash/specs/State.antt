@@ -42,6 +42,7 @@ name_text name.Hex = codes "hex"
 name_text name.Layout = codes "layout"
 name_text name.Base = codes "base"
 name_text name.ErasedOnly = codes "erased-only"
+name_text name.Strict = codes "strict"
 name_text name.Resume = codes "resume"
 name_text name.Before = codes "before"
 
@@ -81,6 +82,7 @@ next_options given = concat (
     ∷ valued name.Layout (option_map (λ t. t.now) given.layout) []
     ∷ valued name.Base (option_map (λ t. t.now) given.base) []
     ∷ flagged name.ErasedOnly given.erased_only
+    ∷ flagged name.Strict given.strict
     ∷ valued name.Resume (Some (first_name given)) []
     ∷ valued name.Before (option_map (λ t. t.now) given.before) (codes ".2")
     ∷ []

@@ -1,8 +1,10 @@
 -- Why work isn't begun; and that nothing went over the wire till then that changes what a chip holds (this project's).
-use Rattle.std.specs.Prelude.{◌≡◌, ◌⊎◌, ℕ, Bool, false, not, ◌&&◌, List, Option, Ok, Err}
+use Rattle.std.specs.Prelude.{◌≡◌, ◌⊎◌, ℕ, Bool, false, not, ◌&&◌, List, length, Option, Some, unwrap_or, Ok, Err, ◌≢◌}
 use Rattle.nor_base.specs.declared.meaning.Start.{Start}
 use Rattle.nor_base.specs.Device.{Ahead, ahead_of}
 use Rattle.nor_base.specs.Parameters.{Parameters}
+use Rattle.nor_job.specs.declared.fault.BuildFault.{BuildFault}
+use Rattle.nor_job.specs.declared.fault.BuildFault.TheVariants.{ContentSize}
 use Rattle.nor_job.specs.Status.{start_of}
 use Rattle.nor_probe.specs.Status.{suits}
 use Rattle.nor_reader.specs.Harmless.{SendsHarmless}
@@ -12,14 +14,16 @@ use Rattle.nor_serprog.specs.declared.limits.Limits.{Limits}
 use Rattle.nor_serprog.specs.Greeting.{Greeted}
 use Rattle.nor_serprog.specs.Line.{TestsLine}
 use Rattle.norprog_common.specs.declared.faults.Refusal.{Refusal}
+use Rattle.norprog_common.specs.declared.faults.Refusal.TheVariants.{Build}
 use Rattle.norprog_common.specs.FileStore.{FileFacts}
+use Rattle.norprog_common.specs.Strict.{RefusesEmpty}
 use Rattle.norprog_device.specs.declared.fault.DeviceFault.TheVariants.{Greet, Line}
 use Rattle.norprog_device.specs.Opened.{LetsGo}
 use Rattle.norprog_flash.specs.declared.ending.Unflashed.{Unflashed}
 use Rattle.norprog_flash.specs.declared.ending.Unflashed.TheVariants.{Refused, Device, Unlike, Closed}
 use Rattle.norprog_flash.specs.declared.job.Job.{Job}
 use Rattle.norprog_flash.specs.Begun.{HasRead, start_at}
-use Rattle.norprog_flash.specs.Task.{flash_task}
+use Rattle.norprog_flash.specs.Task.{dump_of, flash_task}
 use Rattle.norprog_read.specs.declared.asked.Ask.{Ask}
 use Rattle.norprog_read.specs.declared.asked.Reading.{Reading}
 use Rattle.norprog_read.specs.declared.fault.Unlike.TheVariants.{Unreadable}
@@ -29,6 +33,7 @@ use Rattle.norprog_read.specs.Chip.{HasReadChip}
 use Rattle.norprog_read.specs.Saved.{FailsToSave, IsSaved}
 use Rattle.norprog_read.specs.Stops.{StopsChip}
 use Rattle.norprog_read.specs.Way.{has_both, is_readable}
+use Rattle.norprog_work.specs.Refused.{RefusesWork}
 
 -- the same of a reading
 abbrev pub of_reading : Unread → Unflashed
@@ -46,10 +51,11 @@ pub record StopsReading (held_before held_after : Option (List ℕ)) (ahead_befo
 abbrev pub has_way : Parameters → Start → Bool
 has_way m start = is_readable m start && not (start.mode4 && (has_both m.width && not m.read4))
 
--- its status shows that it can't take work; or it can, but there is no such way
+-- its status shows that it can't take work; or there is no such way; or the job is strict, and its image gives a chosen region no byte
 abbrev pub IsUnsuited : Job → Reading → Unflashed → Type 0
 IsUnsuited job r (Closed status) = (status ≡ r.status) × (suits job.ask.part (start_at job r.status) r.status ≡ false)
 IsUnsuited job r (Unlike Unreadable) = has_way r.meaning (start_of (flash_task job r.tables.items)) ≡ false
+IsUnsuited job r (Refused why) = RefusesEmpty job.strict (flash_task job r.tables.items) (length r.content.items) why
 IsUnsuited job r other = ⊥
 
 -- it was read, and that is so
@@ -73,21 +79,37 @@ pub record StopsUnsaved (files : FileFacts) (held_before held_after : Option (Li
   pub is : why ≡ Refused refusal
   pub fails : FailsToSave files.lacked refusal
 
+-- work is resumed from a dump that hasn't the chip's length, and nothing was printed
+pub record OfOtherSize (job : Job) (r : Reading) (out_before out_after : Option (List ℕ)) (why : Refusal) : Type 0 where
+  pub dump : List ℕ
+  pub given : dump_of job ≡ Some dump
+  pub other : length dump ≢ length r.content.items
+  pub is : why ≡ Build ContentSize
+  pub quiet : out_after ≡ out_before
+
+-- or the work from the content to the target, for which some lines of the plan may have been printed, couldn't be planned or printed
+abbrev pub CantPlan : Job → Reading → Option (List ℕ) → Option (List ℕ) → Refusal → Type 0
+CantPlan job r out_before out_after why =
+    OfOtherSize job r out_before out_after why
+    ⊎ ((fault : BuildFault) × (why ≡ Build fault) × RefusesWork (flash_task job r.tables.items) r.content.items
+    (unwrap_or (dump_of job) r.content.items) out_before out_after fault)
+
 -- it was read and saved, and its work couldn't be planned or printed
 pub record StopsUnplanned (files : FileFacts) (held_before held_after : Option (List ℕ)) (ahead_before ahead_after : Ahead) (job : Job)
-    (why : Unflashed) : Type 0 where
+    (out_before out_after : Option (List ℕ)) (why : Unflashed) : Type 0 where
   pub reading : Reading
   pub read : HasRead job held_before held_after ahead_before ahead_after reading
   pub saved : IsSaved files job.before.now reading.content.items
   pub refusal : Refusal
   pub is : why ≡ Refused refusal
+  pub cause : CantPlan job reading out_before out_after refusal
 
 -- one of these; nothing was printed but of a plan
 abbrev pub StopsWork : FileFacts → Option (List ℕ) → Option (List ℕ) → Ahead → Ahead → Job → Option (List ℕ) → Option (List ℕ) → Unflashed → Type 0
 StopsWork files held_before held_after ahead_before ahead_after job out_before out_after why =
     ((out_after ≡ out_before) × (StopsBefore held_before held_after ahead_before ahead_after job why
     ⊎ StopsUnsaved files held_before held_after ahead_before ahead_after job why))
-    ⊎ StopsUnplanned files held_before held_after ahead_before ahead_after job why
+    ⊎ StopsUnplanned files held_before held_after ahead_before ahead_after job out_before out_after why
 
 -- and then only operations were asked for that change nothing
 pub record StopsBegun (files : FileFacts) (held_before held_after : Option (List ℕ)) (ahead_before ahead_after : Ahead) (job : Job)

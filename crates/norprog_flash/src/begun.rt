@@ -8,7 +8,7 @@ ghost use Rattle.norprog_flash.specs.Task.{dump_of, flash_task};
 ghost use Rattle.norprog_work.specs.Work.{IsWork};
 ghost use Rattle.nor_reader.specs.Harmless.{HasSentHarmless, SendsHarmless};
 ghost use Rattle.nor_reader.specs.Laws.{GivesBy};
-ghost use Rattle.norprog_flash.specs.Stops.{StopsBefore, StopsBegun};
+ghost use Rattle.norprog_flash.specs.Stops.{CantPlan, StopsBefore, StopsBegun};
 
 use crate::back::way_of;
 use crate::ending::Unflashed;
@@ -18,7 +18,7 @@ use nor_job::BuildFault;
 use nor_probe::suits;
 use nor_reader::ReadBy;
 use nor_serprog::Limits;
-use norprog_common::{FileName, FileStore, Refusal};
+use norprog_common::{FileName, FileStore, Refusal, refuse_empty};
 use norprog_read::{Reading, Unlike, read_chip, save};
 use norprog_work::{Work, work_for};
 use std::alloc::Global;
@@ -77,6 +77,7 @@ fn plan_for<O: ByteOut>(
     requires out { O.count out.old < 2 ^ 64 - 1 }
     ensures work { IfOk result (λ work. IsWork (flash_task job.now reading.now.tables.items) reading.now.content.items
         (unwrap_or (dump_of job.now) reading.now.content.items) work.goal.items work.steps.items (O.held out.old) (O.held out.new)) }
+    ensures refused { IfErr result (CantPlan job.now reading.now (O.held out.old) (O.held out.new)) }
     ensures out_count { IfOk result (λ _. O.count out.new ≡ O.count out.old) }
     ensures out_room { O.count out.new ≤ O.count out.old + 1 }
 {
@@ -90,7 +91,7 @@ fn plan_for<O: ByteOut>(
     work.map_err(Refusal::Build)
 }
 
-/// Reads the chip, whose status has to show that it can take the work.
+/// Reads the chip, whose status has to show that it can take the work. Of a strict job the image has to give each chosen region a byte.
 fn read_suited<R: ByteIn, W: ByteOut>(
     alloc: Global,
     from: &mut R,
@@ -113,10 +114,12 @@ fn read_suited<R: ByteIn, W: ByteOut>(
     if !suits(job.ask.part, start, reading.status) {
         return Err(Unflashed::Closed(reading.status));
     }
-    match way_of(&reading.meaning, said_start(job)) {
-        Some(by) => Ok((reading, by)),
-        None => Err(Unflashed::Unlike(Unlike::Unreadable)),
-    }
+    let Some(by) = way_of(&reading.meaning, said_start(job)) else {
+        return Err(Unflashed::Unlike(Unlike::Unreadable));
+    };
+    let inputs = inputs_for(job, reading.tables.as_slice());
+    refuse_empty(alloc, job.strict, &inputs, reading.content.len() as u64)?;
+    Ok((reading, by))
 }
 
 /// How the work is planned to begin: in the mode that was said, on one lane.

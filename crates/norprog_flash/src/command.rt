@@ -2,15 +2,17 @@
 
 ghost use Rattle.std.specs.Prelude.{◌≡◌, ◌<◌, ◌≤◌, ◌-◌, ◌+◌, ◌^◌, true, option_map, IfOk, IfErr};
 ghost use Rattle.std.specs.Io.KnownBytes.{Appends};
+ghost use Rattle.nor_job.specs.declared.fault.BuildFault.{BuildFault};
 ghost use Rattle.nor_job.specs.declared.fault.BuildFault.TheVariants.{Write};
 ghost use Rattle.norprog_common.specs.declared.faults.Refusal.TheVariants.{Build};
 ghost use Rattle.norprog_common.specs.Lines.{printed};
 ghost use Rattle.norprog_flash.specs.Answer.{AnswersFlash, IsEndingOf, IsUnbegunFor, IsUnbegunOn, ReportsUnflashed, family_of};
+ghost use Rattle.norprog_flash.specs.Early.{file_tables, is_known, IsSoundEarly, RefusesEarly};
 ghost use Rattle.norprog_flash.specs.Opened.{IsFlashedOn};
 
 use crate::ending::{Ending, Unflashed};
 use crate::files::read_files;
-use crate::job::Job;
+use crate::job::{Job, inputs_for};
 use crate::line::write_closed;
 use crate::opened::flash_opened;
 use crate::report::report_ending;
@@ -18,11 +20,12 @@ use crate::request::{FlashRequest, request_of};
 use nor_base::{ByteOut, Failed, FromRead, IntoWrite, Part};
 use norprog_common::{FileStore, FlashArgs, Refusal, part, refuse};
 use norprog_device::{open_port, refuse_device};
-use norprog_read::{Ask, ask_of, write_unlike};
+use norprog_read::{Ask, Known, ask_of, write_unlike};
+use norprog_work::look;
 use std::alloc::Global;
 
-/// Does what the texts of a command line of `flash` ask for: reads the chip behind the device that they name, saves what it holds, plans,
-/// prints the plan, and has the device do it (docs/FORMATS.md, sections 9 and 14). It writes its lines to `out`, or a refusal to `err`.
+/// Does what the texts of a command line of `flash` ask for: looks at the files, reads the chip behind the device that they name, saves what
+/// it holds, plans, prints the plan, and has the device do it (docs/FORMATS.md, sections 9 and 14). It writes its lines to `out`, or a refusal to `err`.
 /// Where steps were sent and the chip may hold a part of the work it first writes to `err` how to go on. It returns the status: 0 all done,
 /// 1 not so or refused, 2 usage.
 ///
@@ -117,6 +120,7 @@ fn flash_texts<S: FileStore, O: ByteOut, P: ByteOut>(
         before,
         resume: _,
         erased_only,
+        strict,
         dry_run,
         regions,
     } = request;
@@ -137,12 +141,13 @@ fn flash_texts<S: FileStore, O: ByteOut, P: ByteOut>(
         base,
         old: bytes_in(&files.old),
         before,
+        strict,
         dry: dry_run,
     };
     flash_device(alloc, store, read.device, &job, out, progress)
 }
 
-/// Does a job on the chip behind the device of this name.
+/// Does a job on the chip behind the device of this name, which is opened only where the job has no fault that shows before.
 fn flash_device<S: FileStore, O: ByteOut, P: ByteOut>(
     alloc: Global,
     store: &S,
@@ -154,6 +159,7 @@ fn flash_device<S: FileStore, O: ByteOut, P: ByteOut>(
     requires whole { job.now.ask.content ≡ true }
     requires out { O.count out.old < 2 ^ 64 - 1 }
     requires progress { P.count progress.old < 2 ^ 64 - 1 }
+    ensures sound { IfOk result (λ _. IsSoundEarly job.now) }
     ensures flashed { IfOk result (IsFlashedOn ((S.facts store.now).device device.now) (S.facts store.now) job.now (O.held out.old)
         (O.held out.new)) }
     ensures unbegun { IfErr result (IsUnbegunOn (S.facts store.now) ((S.facts store.now).device device.now) job.now (O.held out.old)
@@ -161,10 +167,32 @@ fn flash_device<S: FileStore, O: ByteOut, P: ByteOut>(
     ensures count { IfOk result (λ _. O.count out.new ≡ O.count out.old) }
     ensures room { O.count out.new ≤ O.count out.old + 1 }
 {
+    look_at(alloc, job)?;
     let (from, to) = open_port(alloc, store, device)?;
     let mut from = FromRead::new(from);
     let mut to = IntoWrite::new(to);
     flash_opened(alloc, store, &mut from, &mut to, job, out, progress)
+}
+
+/// Refuses a job for the first fault that shows before its chip is read.
+fn look_at(alloc: Global, job: &Job<'_>) -> Result<(), Refusal>
+    ensures sound { IfOk result (λ _. IsSoundEarly job.now) }
+    ensures refused { IfErr result (λ why. (fault : BuildFault) × (why ≡ Build fault) × RefusesEarly job.now fault) }
+{
+    let (known, tables) = known_tables(job);
+    look(alloc, &inputs_for(job, tables), known).map_err(Refusal::Build)
+}
+
+/// Whether the chip is known before it is read, and the tables of its file.
+fn known_tables<'a>(job: &Job<'a>) -> (bool, &'a [u8])
+    ensures known { result.0 ≡ is_known job.now.ask.known }
+    ensures tables { result.1.now ≡ file_tables job.now.ask.known }
+{
+    match job.ask.known {
+        Known::Own => (false, &[]),
+        Known::Tables(file) => (true, file),
+        Known::Uniform(_) => (true, &[]),
+    }
 }
 
 fn bytes_in(bytes: &Option<Vec<u8>>) -> Option<&[u8]>

@@ -26,6 +26,8 @@ pub struct Job<'a> {
     pub old: Option<&'a [u8]>,
     /// The name of the file that the content is saved in.
     pub before: &'a str,
+    /// Each chosen region has to get a byte of the image.
+    pub strict: bool,
     /// Only the plan is wanted.
     pub dry: bool,
 }

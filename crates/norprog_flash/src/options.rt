@@ -22,6 +22,7 @@ pub(crate) enum Name {
     Layout,
     Base,
     ErasedOnly,
+    Strict,
     Resume,
     Before,
 }
@@ -49,7 +50,7 @@ pub(crate) fn write_command<W: ByteOut>(given: &FlashArgs<'_>, writer: &mut W) -
 }
 
 /// Its options.
-fn options<'a>(given: &'a FlashArgs<'a>) -> [Given<'a>; 13]
+fn options<'a>(given: &'a FlashArgs<'a>) -> [Given<'a>; 14]
     ensures { flat_map given_text result ≡ next_options given.now }
 {
     [
@@ -64,6 +65,7 @@ fn options<'a>(given: &'a FlashArgs<'a>) -> [Given<'a>; 13]
         Given::Text(Name::Layout, given.layout),
         Given::Text(Name::Base, given.base),
         Given::Flag(Name::ErasedOnly, given.erased_only),
+        Given::Flag(Name::Strict, given.strict),
         Given::Text(Name::Resume, Some(first_name(given))),
         Given::Next(Name::Before, given.before),
     ]
@@ -176,6 +178,7 @@ fn name_text(name: Name) -> &'static [u8]
         Name::Layout => b"layout",
         Name::Base => b"base",
         Name::ErasedOnly => b"erased-only",
+        Name::Strict => b"strict",
         Name::Resume => b"resume",
         Name::Before => b"before",
     }

@@ -20,6 +20,8 @@ pub struct FlashRequest<'a> {
     /// The name of the file that has the content before the first try, where work is resumed.
     pub resume: Option<&'a str>,
     pub erased_only: bool,
+    /// Each chosen region has to get a byte of the image.
+    pub strict: bool,
     pub dry_run: bool,
     pub regions: &'a [Bytes],
 }
@@ -37,6 +39,7 @@ pub fn request_of<'a>(given: &'a FlashArgs<'a>) -> Option<FlashRequest<'a>>
         before: given.before?,
         resume: given.resume,
         erased_only: given.erased_only,
+        strict: given.strict,
         dry_run: given.dry_run,
         regions: given.regions.as_slice(),
     })

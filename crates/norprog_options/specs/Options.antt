@@ -122,6 +122,7 @@ pub record IsFlashIn (found : Found) (given : FlashArgs) : Type 0 where
   pub before : Has found (codes "before") (option_map (λ t. t.now) given.before)
   pub resume : Has found (codes "resume") (option_map (λ t. t.now) given.resume)
   pub erased_only : Sets found (codes "erased-only") given.erased_only
+  pub strict : Sets found (codes "strict") given.strict
   pub dry_run : Sets found (codes "dry-run") given.dry_run
   pub regions : given.regions.items ≡ texts_of found (codes "names")
 

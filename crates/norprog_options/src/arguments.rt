@@ -477,7 +477,16 @@ static FORMS: [Form; 13] = [
         about: "Programs the chip behind a serprog device: reads it twice, keeps what it holds, prints the plan, programs it and reads it back",
         example: "Example: norprog flash --device /dev/ttyACM0 --hex app.hex --base 8000000 --before before.bin",
         groups: &[Group::Image, Group::Chip],
-        choices: &[MODE4, ERASED_ONLY, DEVICE, LIMIT, BEFORE, RESUME, DRY_RUN],
+        choices: &[
+            MODE4,
+            ERASED_ONLY,
+            STRICT,
+            DEVICE,
+            LIMIT,
+            BEFORE,
+            RESUME,
+            DRY_RUN,
+        ],
     },
     Form {
         name: "sfdp",

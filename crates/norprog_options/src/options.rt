@@ -328,6 +328,7 @@ fn flash_in<'a>(alloc: Global, flash: &ArgMatches<'a>) -> Result<FlashArgs<'a>, 
         before: flash.get_str("before"),
         resume: flash.get_str("resume"),
         erased_only: flash.get_flag("erased-only"),
+        strict: flash.get_flag("strict"),
         dry_run: flash.get_flag("dry-run"),
         regions: texts_in(alloc, flash, "names")?,
     })

@@ -2,4 +2,5 @@ mod SpanLemmas
 mod NarrowedLemmas
 mod GoalLemmas
 mod BuiltLemmas
+mod RefusedLemmas
 mod WorkLemmas

@@ -1,2 +1,4 @@
 pub mod Work
 pub mod Narrowed
+pub mod Refused
+pub mod Early

@@ -1,6 +1,8 @@
 //! The work from what a chip holds to what it must hold.
 
-ghost use Rattle.std.specs.Prelude.{◌≡◌, ◌≤◌, ◌<◌, ◌+◌, ◌-◌, ◌^◌, length, IfOk, IfErr};
+ghost use Rattle.std.specs.Prelude.{◌≡◌, ◌⊎◌, ◌≤◌, ◌<◌, ◌+◌, ◌-◌, ◌^◌, length, IfOk, IfErr};
+ghost use Rattle.nor_job.specs.declared.fault.BuildFault.TheVariants.{Memory};
+ghost use Rattle.norprog_work.specs.Refused.{late, RefusesWork, StopsLines};
 ghost use Rattle.norprog_work.specs.Work.{IsWork, PlansLines};
 
 use crate::goal::goal_of;
@@ -26,7 +28,7 @@ pub struct Work {
 /// (docs/FORMATS.md, section 9). Memory is taken for the target, the work's script and its steps.
 ///
 /// The refusals are those of [`goal_of`]; then `Plan` with the lowest address that can't be made to hold its target, `Write`
-/// where the writer fails, and `Memory`. After a refusal some of the lines may have been written.
+/// where the writer fails, and `Memory`. After `Plan`, `Write` and `Memory` some of the lines may have been written, from the first on.
 pub fn work_for<W: ByteOut>(
     alloc: Global,
     inputs: &Inputs<'_>,
@@ -38,6 +40,7 @@ pub fn work_for<W: ByteOut>(
     requires writer { W.count out.old < 2 ^ 64 - 1 }
     ensures work { IfOk result (λ work. IsWork inputs.now content.now old.now work.goal.items work.steps.items
         (W.held out.old) (W.held out.new)) }
+    ensures refused { IfErr result (RefusesWork inputs.now content.now old.now (W.held out.old) (W.held out.new)) }
     ensures count { IfOk result (λ _. W.count out.new ≡ W.count out.old) }
     ensures room { W.count out.new ≤ W.count out.old + 1 }
 {
@@ -68,10 +71,24 @@ fn plan_lines<W: ByteOut>(
 ) -> Result<(), BuildFault>
     requires writer { W.count out.old < 2 ^ 64 - 1 }
     ensures lines { IfOk result (λ _. PlansLines inputs.now content.now (W.held out.old) (W.held out.new)) }
+    ensures stops { IfErr result (λ why. StopsLines inputs.now content.now content.now (W.held out.old) (W.held out.new) why
+        ⊎ ((why ≡ Memory) × (out.new ≡ out.old))) }
     ensures count { IfOk result (λ _. W.count out.new ≡ W.count out.old) }
     ensures room { W.count out.new ≤ W.count out.old + 1 }
 {
     let mut reader = FromRead::new(content);
-    plan(alloc, inputs, &mut reader, content.len() as u64, out)?;
-    Ok(())
+    match plan(alloc, inputs, &mut reader, content.len() as u64, out) {
+        Ok(_) => Ok(()),
+        Err(why) => Err(late(why)),
+    }
+}
+
+/// The fault of a plan of accepted inputs, whose content is in memory: an address, or the writer, or memory is at fault.
+fn late(why: BuildFault) -> BuildFault
+    ensures { result ≡ late why }
+{
+    match why {
+        BuildFault::Plan(_) | BuildFault::Write => why,
+        _ => BuildFault::Memory,
+    }
 }

@@ -11,6 +11,7 @@ mod memory;
 mod operations;
 mod plays;
 mod programmer;
+mod resumed;
 mod scripts;
 mod steps_done;
 mod store;

@@ -681,6 +681,7 @@ fn job_of<'a>(row: &Row, old: &'a [u8]) -> Job<'a>
         base: 0,
         old: older,
         before: "before",
+        strict: false,
         dry: row.dry,
     }
 }

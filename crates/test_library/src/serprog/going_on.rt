@@ -36,7 +36,7 @@ static ROWS: [(Option<&str>, bool, &str, &str); 2] = [
         Some("tables"),
         false,
         "tables",
-        "norprog flash --uniform=8192 --device=device --limit=3 --hex=content \
+        "norprog flash --uniform=8192 --device=device --limit=3 --hex=content --strict \
         --resume=tables --before='it'\\''s kept'.2\n",
     ),
 ];
@@ -73,6 +73,7 @@ fn args_of(
         before: Some("it's kept"),
         resume,
         erased_only: false,
+        strict: !all,
         dry_run: false,
         regions: names(alloc, all)?,
     })

@@ -25,6 +25,9 @@ const AROUND: &[u8] = b":0300040000F00009\n:00000001FF\n";
 
 const WITHIN: &[u8] = b":01000500708A\n:00000001FF\n";
 
+/// 00h at 2000h, which a chip of 8 KiB hasn't.
+const BESIDE: &[u8] = b":0120000000DF\n:00000001FF\n";
+
 /// 00h at FFFFFFh; and at 1000000h as well.
 const BELOW: &[u8] = b":0200000400FFFB\n:01FFFF000001\n:00000001FF\n";
 
@@ -46,6 +49,8 @@ struct Row {
     latched: bool,
     page: usize,
     erased_only: bool,
+    /// The image has to give it a byte.
+    strict: bool,
     /// What it holds at these addresses, and must hold at the end; FFh elsewhere.
     held: &'static [(usize, u8)],
     hex: &'static [u8],
@@ -63,6 +68,7 @@ const ERASES: Row = Row {
     latched: false,
     page: 256,
     erased_only: false,
+    strict: true,
     held: &[(0x0FFF, 0x00), (0x1001, 0x00), (0x1105, 0xA5)],
     hex: RISES,
     wanted: &[(0x0FFF, 0x00), (0x1001, 0x01), (0x1105, 0xA5)],
@@ -83,7 +89,7 @@ const READ_ONLY: &[(usize, u8)] = &[(84, 0), (85, 0), (86, 0), (87, 0), (88, 0x0
 const NOTHING: &[(usize, u8)] = &[(84, 0), (85, 0), (86, 0), (87, 0), (88, 0x00), (89, 0)];
 
 /// Of the 8 KiB and 64 KiB chips.
-static SMALLS: [Row; 7] = [
+static SMALLS: [Row; 9] = [
     ERASES,
     Row {
         tables: &LARGE,
@@ -130,6 +136,22 @@ static SMALLS: [Row; 7] = [
         plan: b"program 00000005 1\n\
             strategy S2\nsteps 4\nerases 0\nerased 0\nprograms 1\nignored 0\n",
         line: b"ok 4\n",
+        ..ERASES
+    },
+    // an image that misses the chip changes nothing, and is refused where that is asked for
+    Row {
+        strict: false,
+        hex: BESIDE,
+        wanted: &[(0x0FFF, 0x00), (0x1001, 0x00), (0x1105, 0xA5)],
+        plan: b"strategy S2\nsteps 0\nerases 0\nerased 0\nprograms 0\nignored 1\n",
+        line: b"ok 0\n",
+        ..ERASES
+    },
+    Row {
+        hex: BESIDE,
+        wanted: &[(0x0FFF, 0x00), (0x1001, 0x00), (0x1105, 0xA5)],
+        plan: b"",
+        line: b"norprog: empty region 0\n",
         ..ERASES
     },
 ];
@@ -251,6 +273,7 @@ fn job_of(row: &Row) -> Job<'static>
         base: 0,
         old: None,
         before: "before",
+        strict: row.strict,
         dry: false,
     }
 }
@@ -265,7 +288,9 @@ fn is_left(rt: &impl Abort, alloc: Global, bench: Bench, row: &Row) -> Result<()
     holds(rt, "the chip", chip.array.as_slice() == want.as_slice());
     holds(rt, "each instruction has its effect", !chip.odd);
     same(rt, "its mode", chip.mode4, row.mode4);
-    if !bench.saved.is_empty() {
+    let saved = !bench.saved.is_empty();
+    holds(rt, "saved, then planned", saved == !row.plan.is_empty());
+    if saved {
         let before = held(alloc, row.size as usize, row.held)?;
         holds(
             rt,
@@ -297,7 +322,11 @@ fn chips_past_16_mib_are_flashed(rt: HostRuntime) -> Result<(), Fail> {
 }
 
 /// A number of bytes of FFh, with other bytes at some addresses.
-fn held(alloc: Global, size: usize, patches: &[(usize, u8)]) -> Result<Vec<u8>, AllocError> {
+pub(crate) fn held(
+    alloc: Global,
+    size: usize,
+    patches: &[(usize, u8)],
+) -> Result<Vec<u8>, AllocError> {
     let mut bytes = vec![in alloc; 0xFFu8; size]?;
     for (at, byte) in patches {
         if let Some(place) = bytes.get_mut(*at) {

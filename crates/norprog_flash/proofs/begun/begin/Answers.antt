@@ -20,4 +20,5 @@ returns-in_err-work-clause-stops g c =
     (unplanned (g.S.FileStore.facts c.args.store.now) (g.W.ByteOut.held c.args.to.now) (g.W.ByteOut.held c.read_suited.new.to)
     (g.R.ByteIn.ahead c.args.from.now) (g.R.ByteIn.ahead c.read_suited.new.from) c.args.job.now (g.O.ByteOut.held c.args.out.now)
     (g.O.ByteOut.held c.plan_for.new.out) c.in_ok-reading.reading c.in_ok-reading.ensures.read c.in_ok-reading.ensures.harmless
-    c.as_slice.result.now c.as_slice.ensures.value c.in_ok-save.ensures.saved c.in_err-work.field-0.0)
+    c.as_slice.result.now c.as_slice.ensures.value c.in_ok-save.ensures.saved c.in_err-work.field-0.0
+    c.in_err-work.ensures.refused)

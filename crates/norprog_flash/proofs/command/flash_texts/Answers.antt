@@ -28,9 +28,10 @@ returns-clause-ends g c =
       base = refl;
       old = c.bytes_in-2.ensures;
       before = refl;
+      strict = refl;
       dry = refl;
     })
-    c.flash_device.ensures.flashed
+    c.flash_device.ensures.sound c.flash_device.ensures.flashed
 
 pub returns-clause-unbegun : goal.returns-clause-unbegun
 returns-clause-unbegun g c =
@@ -50,6 +51,7 @@ returns-clause-unbegun g c =
       base = refl;
       old = c.bytes_in-2.ensures;
       before = refl;
+      strict = refl;
       dry = refl;
     })
     c.flash_device.ensures.unbegun
