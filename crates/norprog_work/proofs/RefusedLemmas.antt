@@ -1,12 +1,11 @@
 -- Why a plan stopped, and which of its lines were written.
-use Rattle.std.proofs.Common.{◌≡◌, ◌⊎◌, inl, inr, ℕ, zero, suc, ◌+◌, ◌*◌, ◌/◌, ◌<◌, ◌≤◌, List, [], ◌∷◌, ◌++◌, length, take, drop, map, Option, refl, sym, ap, subst, ◌∙◌, arith, length-append}
+use Rattle.std.proofs.Common.{◌≡◌, ℕ, zero, suc, ◌+◌, ◌/◌, ◌≤◌, List, [], ◌∷◌, ◌++◌, length, take, drop, map, Option, refl, sym, ap, subst, ◌∙◌, arith, length-append}
 use Rattle.std.specs.Prelude.{flat_map}
 use Rattle.std.specs.Io.KnownBytes.{Appends}
 use Rattle.std.specs.List.{enumerate_from}
 use Rattle.std.proofs.Math.Nat.{div-mul-le_self, div-zero}
 use Rattle.std.proofs.lemmas.Grind.{flat_map-append}
-use Rattle.std.proofs.lemmas.List.{append-nil, append_assoc, length-map, map-append, take-append-drop}
-use Rattle.std.proofs.lemmas.List.FromFn.{length-enumerate_from}
+use Rattle.std.proofs.lemmas.List.{append-nil, append_assoc, map-append, take-append-drop}
 use Rattle.std.proofs.lemmas.Nat.{le-div}
 use Rattle.nor_base.specs.declared.meaning.Strategy.{Strategy}
 use Rattle.nor_base.specs.Device.{Ahead, Unknown, Finite, Endless, Gives}
@@ -14,7 +13,7 @@ use Rattle.nor_base.specs.Need.{is_due, erased_at, levelled}
 use Rattle.nor_base.specs.Parameters.{Parameters}
 use Rattle.nor_base.specs.Strategies.{strategy}
 use Rattle.nor_base.specs.Target.{target, target_byte}
-use Rattle.nor_base.specs.Units.{pages, units, units_of, units_over, unit_by}
+use Rattle.nor_base.specs.Units.{pages, units, units_over, unit_by}
 use Rattle.nor_geometry.specs.declared.fault.PlanFault.TheVariants as plan
 use Rattle.nor_geometry.specs.Plan.{HasPart, IsLowestAt}
 use Rattle.nor_hex.specs.Image.{Pairs, byte_at}
@@ -30,7 +29,7 @@ use Rattle.nor_outline.specs.Outline.{unit_lines}
 use Rattle.nor_outline.specs.Told.{stretch_lines, AreBegun, AreLines}
 use Rattle.norprog.specs.Build.{WorkCause}
 use Rattle.norprog.specs.Plan.{StopsPlan}
-use Rattle.norprog.specs.PlanWindows.{plan_text, TellsWindows}
+use Rattle.norprog.specs.PlanWindows.{TellsWindows}
 use Rattle.norprog.proofs.Content.Targets.{part_front}
 use Rattle.norprog_work.specs.Refused.{late, BeginsLines, IsCause, StopsLines}
 
