@@ -1,23 +1,28 @@
 -- Why work isn't begun on a chip that was read.
-use Rattle.std.proofs.Common.{◌≡◌, ◌∙◌, ℕ, Bool, false, List, length, Option, inl, inr, refl, sym, ap, subst}
+use Rattle.std.proofs.Common.{◌≡◌, ◌∙◌, ℕ, Bool, false, List, length, Option, unwrap_or, inl, inr, refl, sym, ap, subst}
 use Rattle.nor_base.specs.declared.meaning.Start.{Start}
 use Rattle.nor_base.specs.Device.{Ahead}
+use Rattle.nor_job.specs.declared.fault.BuildFault.{BuildFault}
+use Rattle.nor_job.specs.declared.fault.BuildFault.TheVariants.{ContentSize}
 use Rattle.nor_job.specs.Status.{start_of}
+use Rattle.nor_job.specs.Task.{Task}
 use Rattle.nor_probe.specs.Status.{suits}
 use Rattle.nor_reader.specs.Harmless.{HasSentHarmless}
 use Rattle.nor_reader.proofs.HarmlessLemmas.{whole_sent}
 use Rattle.norprog_common.specs.declared.faults.Refusal.{Refusal}
+use Rattle.norprog_common.specs.declared.faults.Refusal.TheVariants.{Build}
 use Rattle.norprog_common.specs.FileStore.{FileFacts}
 use Rattle.norprog_common.specs.Strict.{RefusesEmpty}
 use Rattle.norprog_flash.specs.declared.ending.Unflashed.TheVariants.{Refused, Unlike, Closed}
 use Rattle.norprog_flash.specs.declared.job.Job.{Job}
 use Rattle.norprog_flash.specs.Begun.{HasRead, start_at}
 use Rattle.norprog_flash.specs.Stops.{has_way, CantPlan, StopsBefore, StopsBegun}
-use Rattle.norprog_flash.specs.Task.{flash_task}
+use Rattle.norprog_flash.specs.Task.{dump_of, flash_task}
 use Rattle.norprog_read.specs.declared.asked.Reading.{Reading}
 use Rattle.norprog_read.specs.declared.fault.Unlike.TheVariants.{Unreadable}
 use Rattle.norprog_read.specs.Chip.{HasReadChip}
 use Rattle.norprog_read.specs.Saved.{FailsToSave, IsSaved}
+use Rattle.norprog_work.specs.Refused.{RefusesWork}
 
 pub closed : (h i : Option (List ℕ)) (a b : Ahead) (job : Job) (r : Reading) → HasReadChip h i a b job.ask r → (start : Start) (fits : Bool)
     → start ≡ start_at job r.status → fits ≡ suits job.ask.part start r.status → fits ≡ false → StopsBefore h i a b job (Closed r.status)
@@ -60,3 +65,22 @@ unplanned files h i a b job o p r read sent content same saved why cause = recor
   });
   harmless = whole_sent h i sent;
 }
+
+-- ---- why the work isn't planned
+pub cant_plan : (job : Job) (r : Reading) (o p : Option (List ℕ)) (t : Task) (tables content old : List ℕ) (why : BuildFault)
+    → t ≡ flash_task job tables → tables ≡ r.tables.items → content ≡ r.content.items → old ≡ unwrap_or (dump_of job) content
+    → RefusesWork t content old o p why → CantPlan job r o p (Build why)
+cant_plan job r o p t tables content old why task same all rest refused =
+    let from = unwrap_or (dump_of job) r.content.items in
+    let is : old ≡ from = rest ∙ ap (unwrap_or (dump_of job)) all in
+    inr (
+      why,
+      refl,
+      subst (λ (x : Task). RefusesWork x r.content.items from o p why) (task ∙ ap (flash_task job) same)
+          (subst (λ (xs : List ℕ). RefusesWork t xs from o p why) all (subst (λ (xs : List ℕ). RefusesWork t content xs o p why) is refused)),
+    )
+
+pub other_size : (job : Job) (r : Reading) (o : Option (List ℕ)) (content old : List ℕ) → content ≡ r.content.items
+    → old ≡ unwrap_or (dump_of job) content → (length old ≡ length content → ⊥) → CantPlan job r o o (Build ContentSize)
+other_size job r o content old all rest other =
+    let is = rest ∙ ap (unwrap_or (dump_of job)) all in inl (refl, λ same. other (ap length is ∙ (same ∙ sym (ap length all))), refl)

@@ -1,5 +1,5 @@
 -- Why work isn't begun; and that nothing went over the wire till then that changes what a chip holds (this project's).
-use Rattle.std.specs.Prelude.{◌≡◌, ◌⊎◌, ℕ, Bool, false, not, ◌&&◌, List, length, Option, Some, unwrap_or, Ok, Err, ◌≢◌}
+use Rattle.std.specs.Prelude.{◌≡◌, ◌⊎◌, ℕ, Bool, false, not, ◌&&◌, List, length, Option, unwrap_or, Ok, Err, ◌≢◌}
 use Rattle.nor_base.specs.declared.meaning.Start.{Start}
 use Rattle.nor_base.specs.Device.{Ahead, ahead_of}
 use Rattle.nor_base.specs.Parameters.{Parameters}
@@ -79,18 +79,10 @@ pub record StopsUnsaved (files : FileFacts) (held_before held_after : Option (Li
   pub is : why ≡ Refused refusal
   pub fails : FailsToSave files.lacked refusal
 
--- work is resumed from a dump that hasn't the chip's length, and nothing was printed
-pub record OfOtherSize (job : Job) (r : Reading) (out_before out_after : Option (List ℕ)) (why : Refusal) : Type 0 where
-  pub dump : List ℕ
-  pub given : dump_of job ≡ Some dump
-  pub other : length dump ≢ length r.content.items
-  pub is : why ≡ Build ContentSize
-  pub quiet : out_after ≡ out_before
-
--- or the work from the content to the target, for which some lines of the plan may have been printed, couldn't be planned or printed
+-- work is resumed from a dump that hasn't the chip's length, and nothing was printed; or the work from the content to the target, for which some lines of the plan may have been printed, couldn't be planned or printed
 abbrev pub CantPlan : Job → Reading → Option (List ℕ) → Option (List ℕ) → Refusal → Type 0
 CantPlan job r out_before out_after why =
-    OfOtherSize job r out_before out_after why
+    ((why ≡ Build ContentSize) × (length (unwrap_or (dump_of job) r.content.items) ≢ length r.content.items) × (out_after ≡ out_before))
     ⊎ ((fault : BuildFault) × (why ≡ Build fault) × RefusesWork (flash_task job r.tables.items) r.content.items
     (unwrap_or (dump_of job) r.content.items) out_before out_after fault)
 

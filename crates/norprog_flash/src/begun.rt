@@ -1,8 +1,10 @@
 //! A chip that is read, saved and planned for.
 
-ghost use Rattle.std.specs.Prelude.{◌≡◌, ◌<◌, ◌≤◌, ◌+◌, ◌-◌, ◌^◌, [], true, unwrap_or, IfOk, IfErr, MatchResult};
+ghost use Rattle.std.specs.Prelude.{◌≡◌, ◌<◌, ◌≤◌, ◌+◌, ◌-◌, ◌^◌, [], true, length, unwrap_or, IfOk, IfErr, MatchResult};
 ghost use Rattle.nor_probe.specs.Status.{suits};
+ghost use Rattle.nor_job.specs.Shares.{HasNoneEmpty};
 ghost use Rattle.nor_job.specs.Status.{start_of};
+ghost use Rattle.norprog_common.specs.Strict.{RefusesEmpty};
 ghost use Rattle.norprog_flash.specs.Begun.{HasRead, HasPlanned, start_at};
 ghost use Rattle.norprog_flash.specs.Task.{dump_of, flash_task};
 ghost use Rattle.norprog_work.specs.Work.{IsWork};
@@ -83,12 +85,24 @@ fn plan_for<O: ByteOut>(
 {
     let inputs = inputs_for(job, reading.tables.as_slice());
     let content = reading.content.as_slice();
-    let work = match job.old {
-        Some(old) if old.len() != content.len() => Err(BuildFault::ContentSize),
-        Some(old) => work_for(alloc, &inputs, content, old, out),
-        None => work_for(alloc, &inputs, content, content, out),
-    };
-    work.map_err(Refusal::Build)
+    let old = older(job, content);
+    if old.len() != content.len() {
+        return Err(Refusal::Build(BuildFault::ContentSize));
+    }
+    match work_for(alloc, &inputs, content, old, out) {
+        Ok(work) => Ok(work),
+        Err(why) => Err(Refusal::Build(why)),
+    }
+}
+
+/// The bytes whose rest is wanted: the older dump's where work is resumed, else the content.
+fn older<'a>(job: &Job<'a>, content: &'a [u8]) -> &'a [u8]
+    ensures { result.now ≡ unwrap_or (dump_of job.now) content.entry.now }
+{
+    match job.old {
+        Some(old) => old,
+        None => content,
+    }
 }
 
 /// Reads the chip, whose status has to show that it can take the work. Of a strict job the image has to give each chosen region a byte.
@@ -114,12 +128,25 @@ fn read_suited<R: ByteIn, W: ByteOut>(
     if !suits(job.ask.part, start, reading.status) {
         return Err(Unflashed::Closed(reading.status));
     }
-    let Some(by) = way_of(&reading.meaning, said_start(job)) else {
-        return Err(Unflashed::Unlike(Unlike::Unreadable));
-    };
+    match way_of(&reading.meaning, said_start(job)) {
+        Some(by) => {
+            refuse_unfilled(alloc, job, &reading)?;
+            Ok((reading, by))
+        }
+        None => Err(Unflashed::Unlike(Unlike::Unreadable)),
+    }
+}
+
+/// Refuses a strict job whose image gives a chosen region of this chip no byte.
+fn refuse_unfilled(alloc: Global, job: &Job<'_>, reading: &Reading) -> Result<(), Refusal>
+    ensures filled { IfOk result (λ _. job.now.strict ≡ true → HasNoneEmpty (flash_task job.now reading.now.tables.items)
+        (length reading.now.content.items)) }
+    ensures refused { IfErr result (RefusesEmpty job.now.strict (flash_task job.now reading.now.tables.items)
+        (length reading.now.content.items)) }
+{
     let inputs = inputs_for(job, reading.tables.as_slice());
-    refuse_empty(alloc, job.strict, &inputs, reading.content.len() as u64)?;
-    Ok((reading, by))
+    let content = reading.content.as_slice();
+    refuse_empty(alloc, job.strict, &inputs, content.len() as u64)
 }
 
 /// How the work is planned to begin: in the mode that was said, on one lane.

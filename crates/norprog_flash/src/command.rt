@@ -180,7 +180,10 @@ fn look_at(alloc: Global, job: &Job<'_>) -> Result<(), Refusal>
     ensures refused { IfErr result (λ why. (fault : BuildFault) × (why ≡ Build fault) × RefusesEarly job.now fault) }
 {
     let (known, tables) = known_tables(job);
-    look(alloc, &inputs_for(job, tables), known).map_err(Refusal::Build)
+    match look(alloc, &inputs_for(job, tables), known) {
+        Ok(()) => Ok(()),
+        Err(why) => Err(Refusal::Build(why)),
+    }
 }
 
 /// Whether the chip is known before it is read, and the tables of its file.

@@ -162,7 +162,8 @@ pub(crate) const TOPICS: &[Topic] = &[
         "With --strict: the image gives this chosen region no byte. It is counted from 0,\n\
          in the order of the names; where no region is named, 0 is the whole chip.\n\
          `plan --regions` shows what each gets. Correct --base, the names or the layout,\n\
-         or leave --strict out. The output holds no script.",
+         or leave --strict out. The output holds no script; of `flash` the chip is as\n\
+         it was.",
     ),
     (
         "log line",

@@ -1,5 +1,8 @@
 -- What was read shows that it doesn't do.
-use Rattle.norprog_flash.proofs.StopsLemmas.{closed, wayless}
+use Rattle.nor_base.proofs.FaultLaws.{handed_on}
+use Rattle.norprog_flash.specs.declared.ending.Unflashed.TheVariants.{Refused}
+use Rattle.norprog_flash.specs.Stops.{StopsBefore}
+use Rattle.norprog_flash.proofs.StopsLemmas.{closed, unfilled, wayless}
 use Rattle.norprog_flash.proofs.begun.read_suited.Goals as goal
 
 pub returns-then-not-suits-clause-stops : goal.returns-then-not-suits-clause-stops
@@ -10,3 +13,10 @@ returns-then-not-suits-clause-stops g c =
 pub returns-in-None-clause-stops : goal.returns-in-None-clause-stops
 returns-in-None-clause-stops g c =
     wayless _ _ _ _ c.args.job.now c.in_ok-reading.reading c.in_ok-reading.ensures.read c.said_start.result c.said_start.ensures c.in-None.ensures.way
+
+pub returns-in_err-refuse_unfilled-in-Some-clause-stops : goal.returns-in_err-refuse_unfilled-in-Some-clause-stops
+returns-in_err-refuse_unfilled-in-Some-clause-stops g c =
+    handed_on (StopsBefore _ _ _ _ c.args.job.now) _ (Refused c.in_err-refuse_unfilled-in-Some.field-0.0) c.from_residual-in_err-refuse_unfilled-in-Some.ensures.1
+    (unfilled (g.W.ByteOut.held c.args.to.now) (g.W.ByteOut.held c.read_chip.new.to) (g.R.ByteIn.ahead c.args.from.now)
+    (g.R.ByteIn.ahead c.read_chip.new.from) c.args.job.now c.in_ok-reading.reading c.in_ok-reading.ensures.read c.in_err-refuse_unfilled-in-Some.field-0.0
+    c.in_err-refuse_unfilled-in-Some.ensures.refused)
