@@ -87,5 +87,5 @@ abbrev pub in_rows : Grid → Grid
 in_rows g = record g { columns = columns_of g; tops = tops_of g (columns_of g); high = high_of g (columns_of g) }
 
 -- the grid of a chip of this size and page under a plan, with what is chosen of it
-abbrev pub grid_of : ℕ → ℕ → List PlanLine → (ℕ → Bool) → Grid
+unfoldable pub grid_of : ℕ → ℕ → List PlanLine → (ℕ → Bool) → Grid
 grid_of size page lines is_chosen = in_rows (cells_of size page lines is_chosen)

@@ -101,15 +101,6 @@ impl Grid {
         self.count
     }
 
-    /// How many cells a row has.
-    pub fn columns(&self) -> u32
-        ensures value { result ≡ self.now.columns }
-        ensures some { 0 < result }
-        ensures few { result ≤ 256 }
-    {
-        self.columns
-    }
-
     /// The state of a cell, counted from 0.
     pub fn state(&self, c: u32) -> State
         requires { c < self.now.count }

@@ -6,7 +6,7 @@ use Rattle.nor_layout.specs.Chosen.{has}
 use Rattle.nor_map.specs.declared.cells.Work.TheVariants as work
 use Rattle.nor_map.specs.Cells.{is_worked, some_bytes}
 use Rattle.nor_map.specs.Grid.{Grid}
-use Rattle.nor_map.specs.Rows.{in_rows}
+use Rattle.nor_map.specs.Rows.{grid_of, in_rows}
 use Rattle.nor_map.proofs.RowLemmas.{cells_are}
 use Rattle.nor_map.proofs.grid.Grid.of.Goals as goal
 
@@ -27,6 +27,7 @@ invariant_of-cells c =
     }
 
 pub returns : goal.returns
+unfolding grid_of
 returns c =
     subst (λ (g : Grid). IfOk c.in_rows.result (λ grid. grid ≡ in_rows g))
     (cells_are c.args.size c.args.page c.args.lines.now (has c.args.chosen.now) c.cell_size-cell.result c.div_ceil-count.result c.new.result.items
