@@ -2,11 +2,13 @@
 use Rattle.std.proofs.Common.{◌≡◌, ℕ, zero, suc, ◌+◌, ◌-◌, ◌*◌, ◌/◌, ◌%◌, ◌<◌, ◌≤◌, Bool, true, false, ◌==◌, if◌then◌else◌, inl, inr, refl, sym, ◌∙◌, ap, subst, arith}
 use Rattle.std.proofs.Math.Bool.{or-true}
 use Rattle.std.proofs.Math.Nat.{div-eq_of_lt-le}
-use Rattle.std.proofs.lemmas.Bool.{cases_lt}
+use Rattle.std.proofs.lemmas.Bool.{cases_lt, eqb-true}
 use Rattle.nor_map.specs.declared.state.State.{State}
 use Rattle.nor_map.specs.Grid.{Grid}
 use Rattle.nor_map.specs.Runs.{is_in, row_rest, run_length, begins}
+use Rattle.nor_map.specs.Rows.{all_in as row_in, goes_on, is_plain, fold_height, row_length, row_height, top_of}
 use Rattle.nor_map.specs.Drawn.{HasCell}
+use Rattle.nor_map.proofs.RowLemmas.{top_more}
 
 -- a number in a row, and the one before it
 same_quotient : (c d n : ℕ) → 0 < n → c ≡ d + 1 → 0 < c % n → d / n ≡ c / n
@@ -102,3 +104,24 @@ module _ (g : Grid) (s : State) where
   cell_is b c h =
       let here : b + (c - b) ≡ c = omega (arith, h.from) in
       ap (is_in g s) (sym here) ∙ all_in (row_rest g b) b (c - b) (omega (arith, h.from, h.upto))
+
+-- a row's cells
+pub in_row : (g : Grid) (s : State) (n r k : ℕ) → row_in g s n r ≡ true → k < row_length g n r → is_in g s (r * n + k) ≡ true
+in_row g s n r k all inside =
+    let full : run_length g s (r * n) (row_length g n r) ≡ row_length g n r = eqb-true _ _ all in
+    all_in g s (row_length g n r) (r * n) k (omega (arith, inside, full))
+
+-- how high a row is that isn't one line with the next
+some_height : (g : Grid) (n : ℕ) (plain : Bool) → 0 < (if plain then fold_height n else 1)
+some_height g n true = omega arith
+some_height g n false = omega arith
+
+pub rows_apart : (g : Grid) (n r : ℕ) → goes_on g n r ≡ false → top_of g n r < top_of g n (r + 1)
+rows_apart g n r ends =
+    let height : row_height g n r ≡ (if is_plain g n r then fold_height n else 1) = ap (λ b. if b then 0 else (if is_plain g n r then fold_height n else 1)) ends in
+    omega (arith, top_more g n r, height, some_height g n (is_plain g n r))
+
+pub rows_together : (g : Grid) (n r : ℕ) → goes_on g n r ≡ true → top_of g n (r + 1) ≡ top_of g n r
+rows_together g n r on =
+    let height : row_height g n r ≡ 0 = ap (λ b. if b then 0 else (if is_plain g n r then fold_height n else 1)) on in
+    omega (arith, top_more g n r, height)

@@ -1,5 +1,6 @@
 mod CellLemmas
 mod PutLemmas
+mod RowLemmas
 mod RunLemmas
 mod BlockLemmas
 mod DrawnLemmas

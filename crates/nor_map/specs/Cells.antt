@@ -48,16 +48,3 @@ doubled (suc more) cell size = if nat_le size (65536 * cell) then cell else doub
 -- the bytes of a cell: the page, doubled until at most 65,536 cells hold the chip
 abbrev pub cell_size : ℕ → ℕ → ℕ
 cell_size size page = doubled 16 (max page 1) size
-
--- the cells of a row: the least power of two whose square holds them all, 256 at most
-abbrev pub columns_for : ℕ → ℕ
-columns_for cells =
-    if nat_le cells 1 then 1
-    else if nat_le cells 4 then 2
-    else if nat_le cells 16 then 4
-    else if nat_le cells 64 then 8
-    else if nat_le cells 256 then 16
-    else if nat_le cells 1024 then 32
-    else if nat_le cells 4096 then 64
-    else if nat_le cells 16384 then 128
-    else 256

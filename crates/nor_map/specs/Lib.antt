@@ -2,9 +2,12 @@ pub mod Cells
 pub mod Marks
 pub mod Grid
 pub mod Runs
+pub mod Rows
+pub mod Paths
 pub mod Drawn
 pub mod Shapes
 pub mod Blocks
+pub mod Said
 pub mod Words
 pub mod Constants
 pub mod Map

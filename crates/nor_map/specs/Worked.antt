@@ -3,8 +3,9 @@ use Rattle.std.specs.Prelude.{◌≡◌, ℕ, Bool, ◌||◌, ◌==◌, nat_lt, 
 use Rattle.std.specs.List.{range_with_len}
 use Rattle.nor_plan_read.specs.declared.line.PlanLine.{PlanLine}
 use Rattle.nor_plan_read.specs.declared.line.PlanLine.TheVariants.{Erase, Because, Program}
-use Rattle.nor_map.specs.Cells.{cell_size, columns_for}
-use Rattle.nor_map.specs.Grid.{Grid, letter, state_at, grid_of}
+use Rattle.nor_map.specs.Cells.{cell_size}
+use Rattle.nor_map.specs.Grid.{Grid, letter, state_at}
+use Rattle.nor_map.specs.Rows.{grid_of}
 
 -- the letters of all cells
 abbrev pub letters : Grid → List ℕ
@@ -29,15 +30,9 @@ BlockErased = letters (grid_of 128 16 restoring some_chosen) ≡ codes "eeerppuu
 abbrev pub NothingTouched : Type 0
 NothingTouched = letters (grid_of 64 16 (Erase 16 0 0x20 ∷ Program 64 16 ∷ Because 0 0 ∷ []) (λ a. nat_lt 63 a)) ≡ codes "uuuu"
 
--- the bytes of a cell, and the cells of a row
+-- the bytes of a cell
 pub record AreSizes : Type 0 where
   pub a_page : cell_size 8192 256 ≡ 256
   pub sixteen : cell_size 0x1000000 256 ≡ 256
   pub one_more : cell_size 0x1001000 256 ≡ 512
   pub largest : cell_size 0x10000000 256 ≡ 4096
-  pub one : columns_for 1 ≡ 1
-  pub eight_kib : columns_for 32 ≡ 8
-  pub square : columns_for 256 ≡ 16
-  pub past_square : columns_for 257 ≡ 32
-  pub half : columns_for 32776 ≡ 256
-  pub all : columns_for 65536 ≡ 256

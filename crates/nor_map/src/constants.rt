@@ -1,7 +1,7 @@
 //! The parts of a map's text that are the same in each map.
 
 ghost use Rattle.std.specs.Prelude.{◌≡◌};
-ghost use Rattle.nor_map.specs.Constants.{blocks_begin, caption_begin, caption_end, entries_begin, frame_begin, frame_dashes, frame_lines, image_begin, image_end, labels_begin, legend, names_begin, outlined, report_begin, shapes_begin, style, too_many};
+ghost use Rattle.nor_map.specs.Constants.{blocks_begin, caption_begin, entries_begin, folds_begin, frame_begin, image_begin, image_end, labels_begin, legend, names_begin, offsets_begin, outlined, report_begin, shapes_begin, style, title_begin, too_many};
 ghost use Rattle.nor_map.specs.Words.{entry_line, next_line};
 
 /// How all is drawn: a pattern and a colour for each state.
@@ -10,31 +10,32 @@ const STYLE: &[u8] = b"\">
 svg{font:14px monospace;fill:#222}
 path{fill:none}
 .t{font-size:20px}
+.f{text-anchor:middle;fill:#555}
+.h{font-size:11px;fill:#555}
 .a{text-anchor:end;fill:#555}
-.n{font-weight:bold;paint-order:stroke;stroke:#fff;stroke-width:4;pointer-events:none}
-.u,.c,.p,.e,.r{stroke-width:1;stroke-dasharray:none}
+.n{font-weight:bold}
 .u{stroke:url(#U)}
 .c{stroke:url(#C)}
 .p{stroke:url(#P)}
 .e{stroke:url(#E)}
 .r{stroke:url(#R)}
-.b path{fill:#fff;fill-opacity:0;stroke:#d00;stroke-dasharray:none}
+.b path{fill:#fff;fill-opacity:0;stroke:#d00;stroke-width:1.5}
 .b path:hover{fill-opacity:.5}
-.g{stroke:#000}
+.g{stroke:#000;stroke-dasharray:6 4}
 </style>
 <defs>
 <pattern id=\"U\" width=\"1\" height=\"1\" patternUnits=\"userSpaceOnUse\"><rect width=\".95\" height=\".95\" fill=\"#eee\"/></pattern>
 <pattern id=\"C\" width=\"1\" height=\"1\" patternUnits=\"userSpaceOnUse\"><rect width=\".95\" height=\".95\" fill=\"#d5e8f7\"/><rect x=\".4\" y=\".4\" width=\".16\" height=\".16\" fill=\"#246\"/></pattern>
 <pattern id=\"P\" width=\"1\" height=\"1\" patternUnits=\"userSpaceOnUse\"><rect width=\".95\" height=\".95\" fill=\"#6bb0e8\"/><path d=\"M.2.75.75.2\" stroke=\"#024\" stroke-width=\".12\"/></pattern>
-<pattern id=\"E\" width=\"1\" height=\"1\" patternUnits=\"userSpaceOnUse\"><rect width=\".95\" height=\".95\" fill=\"#1b3f8b\"/><path d=\"M.2.75.75.2M.2.2.75.75\" stroke=\"#fff\" stroke-width=\".12\"/></pattern>
-<pattern id=\"R\" width=\"1\" height=\"1\" patternUnits=\"userSpaceOnUse\"><rect width=\".95\" height=\".95\" fill=\"#f4b942\"/><path d=\"M.15.475h.65\" stroke=\"#420\" stroke-width=\".16\"/></pattern>
+<pattern id=\"E\" width=\"1\" height=\"1\" patternUnits=\"userSpaceOnUse\"><rect width=\".95\" height=\".95\" fill=\"#001a4d\"/><path d=\"M.2.75.75.2M.2.2.75.75\" stroke=\"#fff\" stroke-width=\".12\"/></pattern>
+<pattern id=\"R\" width=\"1\" height=\"1\" patternUnits=\"userSpaceOnUse\"><rect width=\".95\" height=\".95\" fill=\"#ffd24d\"/><path d=\"M.15.475h.65\" stroke=\"#420\" stroke-width=\".16\"/></pattern>
 </defs>
 <rect width=\"100%\" height=\"100%\" fill=\"#fff\"/>
 ";
 
 /// What the patterns and outlines mean.
-const LEGEND: &[u8] = b"</g>
-<g transform=\"translate(1136 64)\">
+const LEGEND: &[u8] = b"</g></svg>
+<g transform=\"translate(1344 96)\">
 <path class=\"u\" transform=\"scale(20)\" d=\"M0 .5h2\"/>
 <text x=\"56\" y=\"15\">untouched</text>
 <path class=\"c\" transform=\"translate(0 28) scale(20)\" d=\"M0 .5h2\"/>
@@ -45,7 +46,7 @@ const LEGEND: &[u8] = b"</g>
 <text x=\"56\" y=\"99\">erased, some of it chosen</text>
 <path class=\"r\" transform=\"translate(0 112) scale(20)\" d=\"M0 .5h2\"/>
 <text x=\"56\" y=\"127\">erased with its block, written back as it was</text>
-<path class=\"g\" stroke-dasharray=\"10\" d=\"M1 141h38v18h-38z\"/>
+<path class=\"g\" d=\"M1 141h38v18h-38z\"/>
 <text x=\"56\" y=\"155\">a region</text>
 ";
 
@@ -54,7 +55,7 @@ const LEGEND: &[u8] = b"</g>
 pub(crate) fn image_begin() -> &'static [u8]
     ensures { result.now ≡ image_begin }
 {
-    b"<svg xmlns=\"http://www.w3.org/2000/svg\" viewBox=\"0 0 1600 "
+    b"<svg xmlns=\"http://www.w3.org/2000/svg\" viewBox=\"0 0 1808 "
 }
 
 /// How all is drawn: a pattern and a colour for each state.
@@ -66,19 +67,19 @@ pub(crate) fn style() -> &'static [u8]
 }
 
 /// The line above the cells begins.
+#[tactic(auto, unfolding(crate::specs::Constants::title_begin))]
+pub(crate) fn title_begin() -> &'static [u8]
+    ensures { result.now ≡ title_begin }
+{
+    b"<text class=\"t\" x=\"96\" y=\"32\">"
+}
+
+/// The line below it begins.
 #[tactic(auto, unfolding(crate::specs::Constants::caption_begin))]
 pub(crate) fn caption_begin() -> &'static [u8]
     ensures { result.now ≡ caption_begin }
 {
-    b"<text class=\"t\" x=\"96\" y=\"40\">"
-}
-
-/// The line above the cells ends.
-#[tactic(auto, unfolding(crate::specs::Constants::caption_end))]
-pub(crate) fn caption_end() -> &'static [u8]
-    ensures { result.now ≡ caption_end }
-{
-    b" in a cell</text>\n"
+    b"</text>\n<text x=\"96\" y=\"56\">"
 }
 
 /// Cells of one unit are moved to their place and made larger; the scale follows.
@@ -86,23 +87,7 @@ pub(crate) fn caption_end() -> &'static [u8]
 pub(crate) fn frame_begin() -> &'static [u8]
     ensures { result.now ≡ frame_begin }
 {
-    b"<g transform=\"translate(96 64) scale("
-}
-
-/// The lines around blocks and regions; their width follows.
-#[tactic(auto, unfolding(crate::specs::Constants::frame_lines))]
-pub(crate) fn frame_lines() -> &'static [u8]
-    ensures { result.now ≡ frame_lines }
-{
-    b")\" stroke-width=\""
-}
-
-/// The length of their dashes follows.
-#[tactic(auto, unfolding(crate::specs::Constants::frame_dashes))]
-pub(crate) fn frame_dashes() -> &'static [u8]
-    ensures { result.now ≡ frame_dashes }
-{
-    b"e-3\" stroke-dasharray=\""
+    b"</text>\n<g transform=\"translate(96 96) scale("
 }
 
 /// The erased blocks begin.
@@ -110,7 +95,7 @@ pub(crate) fn frame_dashes() -> &'static [u8]
 pub(crate) fn blocks_begin() -> &'static [u8]
     ensures { result.now ≡ blocks_begin }
 {
-    b"<g class=\"b\">\n"
+    b"</g>\n<g class=\"b\" transform=\"translate(96 96)\">\n"
 }
 
 /// The outlines of the regions begin.
@@ -118,7 +103,15 @@ pub(crate) fn blocks_begin() -> &'static [u8]
 pub(crate) fn shapes_begin() -> &'static [u8]
     ensures { result.now ≡ shapes_begin }
 {
-    b"</g>\n<path class=\"g\" d=\""
+    b"</g>\n<path class=\"g\" transform=\"translate(96 96)\" d=\""
+}
+
+/// The offsets of the columns begin.
+#[tactic(auto, unfolding(crate::specs::Constants::offsets_begin))]
+pub(crate) fn offsets_begin() -> &'static [u8]
+    ensures { result.now ≡ offsets_begin }
+{
+    b"\"/>\n<g class=\"h\" transform=\"translate(96 90)\">\n"
 }
 
 /// The addresses of the rows begin.
@@ -126,7 +119,15 @@ pub(crate) fn shapes_begin() -> &'static [u8]
 pub(crate) fn labels_begin() -> &'static [u8]
     ensures { result.now ≡ labels_begin }
 {
-    b"\"/>\n</g>\n<g class=\"a\" transform=\"translate(88 78)\">\n"
+    b"</g>\n<g class=\"a\" transform=\"translate(88 110)\">\n"
+}
+
+/// What stands for plain rows begins.
+#[tactic(auto, unfolding(crate::specs::Constants::folds_begin))]
+pub(crate) fn folds_begin() -> &'static [u8]
+    ensures { result.now ≡ folds_begin }
+{
+    b"</g>\n<g class=\"f\" transform=\"translate(608 110)\">\n"
 }
 
 /// The names of the regions begin.
@@ -134,7 +135,7 @@ pub(crate) fn labels_begin() -> &'static [u8]
 pub(crate) fn names_begin() -> &'static [u8]
     ensures { result.now ≡ names_begin }
 {
-    b"</g>\n<g class=\"n\" transform=\"translate(100 78)\">\n"
+    b"</g>\n<svg x=\"1128\" y=\"96\" width=\"200\"><g class=\"n\" transform=\"translate(0 14)\">\n"
 }
 
 /// What the patterns and outlines mean.
@@ -166,7 +167,7 @@ pub(crate) fn too_many() -> &'static [u8]
 pub(crate) fn report_begin() -> &'static [u8]
     ensures { result.now ≡ report_begin }
 {
-    b"</g>\n<text transform=\"translate(1136 288)\"><tspan x=\"0\" dy=\"24\">"
+    b"</g>\n<text transform=\"translate(1344 320)\"><tspan x=\"0\" dy=\"24\">"
 }
 
 /// What stands between two lines.

@@ -1,25 +1,28 @@
 //! The cells of a chip in rows.
 
 ghost use Rattle.std.specs.Prelude.{◌≡◌, ◌<◌, ◌≤◌, ◌/◌, IfOk};
-ghost use Rattle.std.specs.Int.{div_ceil};
 ghost use Rattle.nor_layout.specs.Chosen.{has};
-ghost use Rattle.nor_map.specs.Grid.{grid_of, scale, state_at};
+ghost use Rattle.nor_map.specs.Grid.{across, down, state_at, top};
+ghost use Rattle.nor_map.specs.Rows.{grid_of, in_rows};
 
 use crate::cells::{Work, chosen_cells, worked_cells};
-use crate::sizes::{cell_size, columns_for};
+use crate::rows::{columns_of, down_for, high_of, tops_of};
+use crate::sizes::cell_size;
 use crate::state::State;
 use nor_layout::Chosen;
 use nor_plan_read::PlanLine;
 use std::alloc::{AllocError, Global};
 use std::marker::Model;
 
-/// The cells of a chip in rows, at most 65,536 of them in rows of at most 256, and what a plan does to each.
+/// The cells of a chip in rows, at most 65,536 of them in rows of 16 to 256, and what a plan does to each.
 #[derive(Drop)]
 pub struct Grid {
     pub(crate) size: u32,
     pub(crate) cell: u32,
     pub(crate) count: u32,
     pub(crate) columns: u32,
+    tops: Vec<u32>,
+    pub(crate) high: u32,
     chosen: Vec<bool>,
     erased: Vec<bool>,
     programmed: Vec<bool>,
@@ -35,19 +38,21 @@ impl Model for Grid {
       cell = g.cell;
       count = g.count;
       columns = g.columns;
+      tops = g.tops.items;
+      high = g.high;
       chosen = g.chosen.items;
       erased = g.erased.items;
       programmed = g.programmed.items;
     } };
 
-    ghost invariant = { λ g. IsGrid g.cell g.count g.columns g.chosen.items g.erased.items g.programmed.items };
+    ghost invariant = { λ g. IsGrid g.cell g.count g.columns g.high g.chosen.items g.erased.items g.programmed.items };
 }
 
 impl Grid {
     /// The grid of a chip of `size` bytes and this page, under a plan of these lines, with what is chosen of it. The lines may
-    /// overlap, stand in any order and lie past the chip. A cell has as many
-    /// bytes as a page, doubled until 65,536 cells hold the chip; a row has so many cells that it is about as wide as the grid is
-    /// high, a power of two.
+    /// overlap, stand in any order and lie past the chip. A cell has as many bytes as a page, doubled until 65,536 cells hold the
+    /// chip. Rows in which nothing is done are drawn as one line; a row has the least power of two of cells, from 16 to 256, for
+    /// which all lines are at most 1152 units high.
     ///
     /// Its time grows with the number of lines and of the cells that each touches, and of cells times regions chosen. An error comes
     /// where memory was refused.
@@ -63,15 +68,30 @@ impl Grid {
         let cell = cell_size(size, page);
         let count = size.div_ceil(cell);
         let bytes = u64::from(cell);
-        Ok(Grid {
+        let cells = Grid {
             size,
             cell,
             count,
-            columns: columns_for(count),
+            columns: 16,
+            tops: Vec::new(alloc),
+            high: 0,
             chosen: chosen_cells(alloc, count, cell, chosen)?,
             erased: worked_cells(alloc, count, bytes, Work::Erased, lines)?,
             programmed: worked_cells(alloc, count, bytes, Work::Programmed, lines)?,
-        })
+        };
+        cells.in_rows(alloc)
+    }
+
+    /// Puts the cells in rows. An error comes where memory was refused.
+    fn in_rows(mut self, alloc: Global) -> Result<Grid, AllocError>
+        ensures { IfOk result (λ grid. grid ≡ in_rows self) }
+    {
+        let columns = columns_of(&self);
+        let high = high_of(&self, columns);
+        self.tops = tops_of(alloc, &self, columns)?;
+        self.high = high;
+        self.columns = columns;
+        Ok(self)
     }
 
     /// How many cells there are.
@@ -79,15 +99,6 @@ impl Grid {
         ensures { result ≡ self.now.count }
     {
         self.count
-    }
-
-    /// How many cells a row has.
-    pub fn columns(&self) -> u32
-        ensures value { result ≡ self.now.columns }
-        ensures some { 0 < result }
-        ensures few { result ≤ 256 }
-    {
-        self.columns
     }
 
     /// The state of a cell, counted from 0.
@@ -99,10 +110,29 @@ impl Grid {
         State::of(self.chosen[c], self.erased[c], self.programmed[c])
     }
 
-    /// How many units a cell is wide and high, where a full row is 1024 wide.
-    pub fn scale(&self) -> u32
-        ensures { result ≡ scale self.now }
+    /// How many units a cell is wide, where a full row is 1024 wide.
+    pub(crate) fn across(&self) -> u32
+        ensures value { result ≡ across self.now }
+        ensures few { result ≤ 1024 }
     {
         1024 / self.columns
+    }
+
+    /// How many units a cell is high.
+    pub(crate) fn down(&self) -> u32
+        ensures value { result ≡ down self.now }
+        ensures few { result ≤ 32 }
+    {
+        down_for(self.columns)
+    }
+
+    /// Where a row is drawn, in rows from the top; one past the chip, below all.
+    pub(crate) fn top(&self, row: u64) -> u32
+        ensures { result ≡ top self.now row }
+    {
+        match self.tops.get(row as usize) {
+            Some(top) => *top,
+            None => self.high,
+        }
     }
 }

@@ -1,106 +1,13 @@
-//! The cells of a map as they are drawn.
+//! Runs of cells in a state.
 
-ghost use Rattle.std.specs.Prelude.{◌≡◌, ◌<◌, ◌+◌, ◌-◌, ◌^◌, flat_map};
-ghost use Rattle.nor_base.specs.Device.{Writes, Counts};
-ghost use Rattle.nor_map.specs.Runs.{begins, cells, is_in, path, path_begin, row_rest, run_length, segment, segment_at, segments};
+ghost use Rattle.std.specs.Prelude.{◌≡◌, ◌<◌, ◌≤◌, ◌+◌, ◌^◌};
+ghost use Rattle.nor_map.specs.Runs.{begins, is_in, row_rest, run_length};
 
 use crate::grid::Grid;
 use crate::state::State;
-use itoa::Buffer;
-use nor_base::{ByteOut, Failed, put_all, put_parts};
-
-/// Puts the cells, a path for each state.
-#[tactic(auto, unfolding(crate::specs::Runs::cells))]
-pub(crate) fn put_cells<W: ByteOut>(grid: &Grid, out: &mut W) -> Result<(), Failed>
-    requires { W.count out.old < 2 ^ 64 - 1 }
-    ensures bytes { Writes (W.held out.old) (W.held out.new) result (cells grid.now) }
-    ensures count { Counts (W.count out.old) (W.count out.new) result }
-{
-    put_paths(grid, &State::ALL, out)
-}
-
-/// Puts a path for each of these states.
-fn put_paths<W: ByteOut>(grid: &Grid, states: &[State], out: &mut W) -> Result<(), Failed>
-    requires { W.count out.old < 2 ^ 64 - 1 }
-    ensures bytes { Writes (W.held out.old) (W.held out.new) result (flat_map (path grid.now) states.now) }
-    ensures count { Counts (W.count out.old) (W.count out.new) result }
-{
-    for state in states {
-        put_path(grid, *state, out)?;
-    }
-    Ok(())
-}
-
-/// Puts all cells in a state, as one path.
-fn put_path<W: ByteOut>(grid: &Grid, state: State, out: &mut W) -> Result<(), Failed>
-    requires { W.count out.old < 2 ^ 64 - 1 }
-    ensures bytes { Writes (W.held out.old) (W.held out.new) result (path grid.now state) }
-    ensures count { Counts (W.count out.old) (W.count out.new) result }
-{
-    put_path_begin(state, out)?;
-    put_segments(grid, state, out)?;
-    put_all(out, b"\"/>\n")
-}
-
-/// Begins the path of a state.
-fn put_path_begin<W: ByteOut>(state: State, out: &mut W) -> Result<(), Failed>
-    requires { W.count out.old < 2 ^ 64 - 1 }
-    ensures bytes { Writes (W.held out.old) (W.held out.new) result (path_begin state) }
-    ensures count { Counts (W.count out.old) (W.count out.new) result }
-{
-    put_parts(out, &[b"<path class=\"", &[state.letter()], b"\" d=\""])
-}
-
-/// Puts each run of cells in a state.
-fn put_segments<W: ByteOut>(grid: &Grid, state: State, out: &mut W) -> Result<(), Failed>
-    requires { W.count out.old < 2 ^ 64 - 1 }
-    ensures bytes { Writes (W.held out.old) (W.held out.new) result (segments grid.now state) }
-    ensures count { Counts (W.count out.old) (W.count out.new) result }
-{
-    for c in 0..grid.count {
-        put_segment_at(grid, state, c, out)?;
-    }
-    Ok(())
-}
-
-/// Puts the run of cells in a state that begins at a cell, if one does.
-fn put_segment_at<W: ByteOut>(grid: &Grid, state: State, c: u32, out: &mut W) -> Result<(), Failed>
-    requires inside { c < grid.now.count }
-    requires room { W.count out.old < 2 ^ 64 - 1 }
-    ensures bytes { Writes (W.held out.old) (W.held out.new) result (segment_at grid.now state c) }
-    ensures count { Counts (W.count out.old) (W.count out.new) result }
-{
-    if begins(grid, state, c) {
-        put_segment(grid, c, run_length(grid, state, c), out)
-    } else {
-        Ok(())
-    }
-}
-
-/// Puts a run of so many cells.
-fn put_segment<W: ByteOut>(grid: &Grid, c: u32, count: u32, out: &mut W) -> Result<(), Failed>
-    requires { W.count out.old < 2 ^ 64 - 1 }
-    ensures bytes { Writes (W.held out.old) (W.held out.new) result (segment grid.now c count) }
-    ensures count { Counts (W.count out.old) (W.count out.new) result }
-{
-    let mut column = Buffer::new();
-    let mut row = Buffer::new();
-    let mut digits = Buffer::new();
-    put_parts(
-        out,
-        &[
-            b"M",
-            column.format(c % grid.columns).as_bytes(),
-            b" ",
-            row.format(c / grid.columns).as_bytes(),
-            b".5h",
-            digits.format(count).as_bytes(),
-        ],
-    )
-}
 
 /// Whether a cell is the first of a run of cells in a state, in its row.
-fn begins(grid: &Grid, state: State, c: u32) -> bool
+pub(crate) fn begins(grid: &Grid, state: State, c: u32) -> bool
     requires { c < grid.now.count }
     ensures { result ≡ begins grid.now state c }
 {
@@ -108,11 +15,22 @@ fn begins(grid: &Grid, state: State, c: u32) -> bool
 }
 
 /// How many cells from one on are in a state, in its row.
-fn run_length(grid: &Grid, state: State, c: u32) -> u32
+pub(crate) fn run_in_row(grid: &Grid, state: State, c: u32) -> u32
     requires { c < grid.now.count }
     ensures { result ≡ run_length grid.now state c (row_rest grid.now c) }
 {
-    let most = (grid.columns - c % grid.columns).min(grid.count - c);
+    let rest = grid.count - c;
+    let most = rest.min(grid.columns - c % grid.columns);
+    run_from(grid, state, c, most)
+}
+
+/// How many of so many cells from one on are in a state, before the first that isn't.
+pub(crate) fn run_from(grid: &Grid, state: State, c: u32, most: u32) -> u32
+    requires inside { c + most ≤ grid.now.count }
+    requires few { c + most < 2 ^ 32 }
+    ensures value { result ≡ run_length grid.now state c most }
+    ensures few { result ≤ most }
+{
     for n in 0..most {
         if !is_in(grid, state, c + n) {
             return n;

@@ -1,10 +1,11 @@
 //! Outlines of cells, and those of a layout's regions.
 
-ghost use Rattle.std.specs.Prelude.{◌<◌, ◌+◌, ◌/◌, ◌-◌, ◌^◌};
+ghost use Rattle.std.specs.Prelude.{◌≡◌, ◌<◌, ◌≤◌, ◌+◌, ◌/◌, ◌-◌, ◌^◌};
 ghost use Rattle.nor_base.specs.Device.{Writes, Counts};
-ghost use Rattle.nor_map.specs.Shapes.{rectangle, region_shape, region_shapes, shape, span, staircase};
+ghost use Rattle.nor_map.specs.Shapes.{above, below, in_fold, left_of, rectangle, region_shape, region_shapes, right_of, shape, span, staircase};
 
 use crate::grid::Grid;
+use crate::rows::{fold_height, is_plain};
 use itoa::Buffer;
 use nor_base::{ByteOut, Failed, put_parts};
 use nor_layout::Region;
@@ -56,72 +57,97 @@ pub(crate) fn put_span<W: ByteOut>(
 /// Puts the outline of the cells from one to another, both included.
 #[tactic(auto, unfolding(crate::specs::Shapes::shape))]
 fn put_shape<W: ByteOut>(grid: &Grid, first: u64, last: u64, out: &mut W) -> Result<(), Failed>
-    requires first { first < 2 ^ 63 }
-    requires last { last < 2 ^ 63 }
+    requires first { first < 2 ^ 40 }
+    requires last { last < 2 ^ 40 }
     requires room { W.count out.old < 2 ^ 64 - 1 }
     ensures bytes { Writes (W.held out.old) (W.held out.new) result (shape grid.now first last) }
     ensures count { Counts (W.count out.old) (W.count out.new) result }
 {
     let columns = u64::from(grid.columns);
-    let left = first % columns;
-    let top = first / columns;
-    let bottom = last / columns;
-    if top == bottom {
-        put_rectangle(left, top, (last + 1).saturating_sub(first), out)
+    let (begin, end) = (first / columns, last / columns);
+    let (left, right) = (left_of(grid, first), right_of(grid, last));
+    let (high, under) = (above(grid, begin), below(grid, begin));
+    if grid.top(begin) == grid.top(end) {
+        return put_rectangle(left, high, right, under, out);
+    }
+    let wide = columns * u64::from(grid.across());
+    let (bottom, low) = (above(grid, end), below(grid, end));
+    put_staircase(wide, (left, high, under), (right, bottom, low), out)
+}
+
+/// Whether a row is part of a line of plain rows, or past the chip.
+fn in_fold(grid: &Grid, row: u64) -> bool
+    requires { row < 2 ^ 40 }
+    ensures { result ≡ in_fold grid.now row }
+{
+    if u64::from(grid.count) <= row * u64::from(grid.columns) {
+        return true;
+    }
+    is_plain(grid, grid.columns, row as u32)
+}
+
+/// Where the left of a cell is; of a line of plain rows, that of the line.
+fn left_of(grid: &Grid, c: u64) -> u64
+    requires { c < 2 ^ 40 }
+    ensures { result ≡ left_of grid.now c }
+{
+    let columns = u64::from(grid.columns);
+    if in_fold(grid, c / columns) {
+        0
     } else {
-        put_staircase(columns, left, top, last % columns + 1, bottom, out)
+        c % columns * u64::from(grid.across())
     }
 }
 
-/// Puts the outline of so many cells of one row.
-fn put_rectangle<W: ByteOut>(left: u64, top: u64, count: u64, out: &mut W) -> Result<(), Failed>
-    requires { W.count out.old < 2 ^ 64 - 1 }
-    ensures bytes { Writes (W.held out.old) (W.held out.new) result (rectangle left top count) }
-    ensures count { Counts (W.count out.old) (W.count out.new) result }
+/// Where the right of a cell is; of a line of plain rows, that of the line.
+fn right_of(grid: &Grid, c: u64) -> u64
+    requires { c < 2 ^ 40 }
+    ensures { result ≡ right_of grid.now c }
 {
-    let mut x = Buffer::new();
-    let mut y = Buffer::new();
-    let mut wide = Buffer::new();
-    let wide = wide.format(count).as_bytes();
-    put_parts(
-        out,
-        &[
-            b"M",
-            x.format(left).as_bytes(),
-            b" ",
-            y.format(top).as_bytes(),
-            b"h",
-            wide,
-            b"v1h-",
-            wide,
-            b"z",
-        ],
-    )
+    let columns = u64::from(grid.columns);
+    if in_fold(grid, c / columns) {
+        columns * u64::from(grid.across())
+    } else {
+        (c % columns + 1) * u64::from(grid.across())
+    }
 }
 
-/// Puts the outline of cells of several rows of so many columns: from the left of the first, in the top row, to the right of the
-/// last, in the bottom row.
-fn put_staircase<W: ByteOut>(
-    columns: u64,
+/// Where the top of a row is.
+pub(crate) fn above(grid: &Grid, row: u64) -> u64
+    ensures { result ≡ above grid.now row }
+{
+    u64::from(grid.top(row)) * u64::from(grid.down())
+}
+
+/// Where the bottom of the line of a row is.
+fn below(grid: &Grid, row: u64) -> u64
+    requires { row < 2 ^ 40 }
+    ensures { result ≡ below grid.now row }
+{
+    let rows = if in_fold(grid, row) {
+        fold_height(grid.columns)
+    } else {
+        1
+    };
+    (u64::from(grid.top(row)) + u64::from(rows)) * u64::from(grid.down())
+}
+
+/// Puts the outline of cells of one line.
+fn put_rectangle<W: ByteOut>(
     left: u64,
-    top: u64,
+    high: u64,
     right: u64,
-    bottom: u64,
+    low: u64,
     out: &mut W,
 ) -> Result<(), Failed>
-    requires top { top < 2 ^ 63 }
-    requires bottom { bottom < 2 ^ 63 }
-    requires room { W.count out.old < 2 ^ 64 - 1 }
-    ensures bytes { Writes (W.held out.old) (W.held out.new) result (staircase columns left top right bottom) }
+    requires { W.count out.old < 2 ^ 64 - 1 }
+    ensures bytes { Writes (W.held out.old) (W.held out.new) result (rectangle left high right low) }
     ensures count { Counts (W.count out.old) (W.count out.new) result }
 {
     let mut x = Buffer::new();
     let mut y = Buffer::new();
-    let mut wide = Buffer::new();
-    let mut high = Buffer::new();
     let mut x_end = Buffer::new();
     let mut y_end = Buffer::new();
-    let mut y_next = Buffer::new();
     let x = x.format(left).as_bytes();
     put_parts(
         out,
@@ -129,17 +155,55 @@ fn put_staircase<W: ByteOut>(
             b"M",
             x,
             b" ",
-            y.format(top).as_bytes(),
-            b"H",
-            wide.format(columns).as_bytes(),
-            b"V",
-            high.format(bottom).as_bytes(),
+            y.format(high).as_bytes(),
             b"H",
             x_end.format(right).as_bytes(),
             b"V",
-            y_end.format(bottom + 1).as_bytes(),
+            y_end.format(low).as_bytes(),
+            b"H",
+            x,
+            b"z",
+        ],
+    )
+}
+
+/// Puts the outline of cells of several lines, so many units wide: from the left of the first, between its top and bottom, to the
+/// right of the last, between its top and bottom.
+fn put_staircase<W: ByteOut>(
+    wide: u64,
+    first: (u64, u64, u64),
+    last: (u64, u64, u64),
+    out: &mut W,
+) -> Result<(), Failed>
+    requires { W.count out.old < 2 ^ 64 - 1 }
+    ensures bytes { Writes (W.held out.old) (W.held out.new) result (staircase wide first last) }
+    ensures count { Counts (W.count out.old) (W.count out.new) result }
+{
+    let mut x = Buffer::new();
+    let mut y = Buffer::new();
+    let mut x_wide = Buffer::new();
+    let mut bottom = Buffer::new();
+    let mut x_end = Buffer::new();
+    let mut y_end = Buffer::new();
+    let mut under = Buffer::new();
+    let x = x.format(first.0).as_bytes();
+    put_parts(
+        out,
+        &[
+            b"M",
+            x,
+            b" ",
+            y.format(first.1).as_bytes(),
+            b"H",
+            x_wide.format(wide).as_bytes(),
+            b"V",
+            bottom.format(last.1).as_bytes(),
+            b"H",
+            x_end.format(last.0).as_bytes(),
+            b"V",
+            y_end.format(last.2).as_bytes(),
             b"H0V",
-            y_next.format(top + 1).as_bytes(),
+            under.format(first.2).as_bytes(),
             b"H",
             x,
             b"z",

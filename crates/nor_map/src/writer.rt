@@ -3,30 +3,32 @@
 ghost use Rattle.std.specs.Prelude.{◌≡◌, ◌<◌, ◌-◌, ◌^◌};
 ghost use Rattle.nor_base.specs.Device.{Writes, Counts};
 ghost use Rattle.nor_map.specs.Constants.{blocks_legend, legend_of};
-ghost use Rattle.nor_map.specs.Map.{beside, caption, drawing, frame, head, height, map_text, marks};
+ghost use Rattle.nor_map.specs.Map.{addresses, beside, caption, drawing, frame, head, height, line_count, map_text, marks, notes};
 
 use crate::blocks::{are_few, put_few_blocks};
 use crate::constants::{
-    blocks_begin, caption_begin, caption_end, entries_begin, frame_begin, frame_dashes,
-    frame_lines, image_begin, image_end, labels_begin, legend, names_begin, outlined, report_begin,
-    shapes_begin, style, too_many,
+    blocks_begin, caption_begin, entries_begin, folds_begin, frame_begin, image_begin, image_end,
+    labels_begin, legend, names_begin, offsets_begin, outlined, report_begin, shapes_begin, style,
+    title_begin, too_many,
 };
 use crate::grid::Grid;
-use crate::runs::put_cells;
+use crate::paths::put_cells;
+use crate::said::{put_outcome, put_size};
 use crate::shapes::put_region_shapes;
 use crate::text::put_lines;
-use crate::words::{put_entries, put_labels, put_names};
+use crate::words::{put_entries, put_folds, put_labels, put_names, put_offsets};
 use itoa::Buffer;
 use nor_base::{ByteOut, Failed, put_all, put_parts};
 use nor_layout::Region;
 use nor_plan_read::PlanLine;
 
-/// Writes a map as an SVG image (W3C): the cells of a chip by their states, the erased blocks of the plan's lines, each with its lines
-/// of the plan as its title, the regions of a layout, a legend, and the lines of a report. Past 10,000 lines the blocks are left out.
+/// Writes a map as an SVG image (W3C): what the plan does in a sentence, the cells of a chip by their states, a line of text for rows in
+/// which nothing is done, the erased blocks of the plan's lines, each with its lines of the plan as its title, the regions of a layout, a
+/// legend, and the lines of a report. Past 10,000 lines the blocks are left out.
 /// The lines may overlap, stand in any order and lie past the chip.
 /// Names and report may hold any bytes: those that aren't printable ASCII become `?`, and LF begins a line of the report.
 ///
-/// The image has room for 255 regions and some 30 lines of report. It takes no memory. At `Failed` a proper prefix was taken; it comes
+/// The image has room for 255 regions and 255 lines of report. It takes no memory. At `Failed` a proper prefix was taken; it comes
 /// from the writer alone, whose count of failures rose by one.
 pub fn write_map<W: ByteOut>(
     grid: &Grid,
@@ -39,17 +41,29 @@ pub fn write_map<W: ByteOut>(
     ensures bytes { Writes (W.held out.old) (W.held out.new) result (map_text grid.now lines.now regions.now report.now) }
     ensures count { Counts (W.count out.old) (W.count out.new) result }
 {
-    put_head(regions.len(), out)?;
-    put_caption(grid, out)?;
+    put_head(grid, regions.len(), line_count(report), out)?;
+    put_caption(grid, lines, out)?;
     put_drawing(grid, lines, regions, out)?;
     put_marks(grid, regions, out)?;
     put_beside(lines, regions, report, out)
 }
 
+/// How many lines a text has.
+fn line_count(bytes: &[u8]) -> usize
+    ensures { result ≡ line_count bytes.now }
+{
+    bytes.iter().filter(|byte| **byte == b'\n').count()
+}
+
 /// Puts the image's size, and how all is drawn.
-fn put_head<W: ByteOut>(regions: usize, out: &mut W) -> Result<(), Failed>
+fn put_head<W: ByteOut>(
+    grid: &Grid,
+    regions: usize,
+    lines: usize,
+    out: &mut W,
+) -> Result<(), Failed>
     requires { W.count out.old < 2 ^ 64 - 1 }
-    ensures bytes { Writes (W.held out.old) (W.held out.new) result (head regions) }
+    ensures bytes { Writes (W.held out.old) (W.held out.new) result (head grid.now regions lines) }
     ensures count { Counts (W.count out.old) (W.count out.new) result }
 {
     let mut digits = Buffer::new();
@@ -57,37 +71,33 @@ fn put_head<W: ByteOut>(regions: usize, out: &mut W) -> Result<(), Failed>
         out,
         &[
             image_begin(),
-            digits.format(height(regions)).as_bytes(),
+            digits.format(height(grid, regions, lines)).as_bytes(),
             style(),
         ],
     )
 }
 
-/// How high the image is, with a list of so many regions.
-fn height(regions: usize) -> u32
-    ensures { result ≡ height regions }
+/// How high the image is, with a list of so many regions and a report of so many lines.
+fn height(grid: &Grid, regions: usize, lines: usize) -> u64
+    ensures { result ≡ height grid.now regions lines }
 {
-    1120 + 20 * regions.min(255) as u32
+    let cells = u64::from(grid.high) * u64::from(grid.down());
+    let beside = 272 + 24 * lines.min(255) as u64 + 20 * regions.min(255) as u64;
+    128 + cells.max(beside)
 }
 
-/// Puts how many bytes the chip has, and a cell.
-fn put_caption<W: ByteOut>(grid: &Grid, out: &mut W) -> Result<(), Failed>
+/// Puts what the plan does, and how many bytes the chip has, and a cell.
+fn put_caption<W: ByteOut>(grid: &Grid, lines: &[PlanLine], out: &mut W) -> Result<(), Failed>
     requires { W.count out.old < 2 ^ 64 - 1 }
-    ensures bytes { Writes (W.held out.old) (W.held out.new) result (caption grid.now) }
+    ensures bytes { Writes (W.held out.old) (W.held out.new) result (caption grid.now lines.now) }
     ensures count { Counts (W.count out.old) (W.count out.new) result }
 {
-    let mut size = Buffer::new();
-    let mut cell = Buffer::new();
-    put_parts(
-        out,
-        &[
-            caption_begin(),
-            size.format(grid.size).as_bytes(),
-            b" bytes, ",
-            cell.format(grid.cell).as_bytes(),
-            caption_end(),
-        ],
-    )
+    put_all(out, title_begin())?;
+    put_outcome(lines, out)?;
+    put_all(out, caption_begin())?;
+    put_size(u64::from(grid.size), out)?;
+    put_all(out, b", a cell is ")?;
+    put_size(u64::from(grid.cell), out)
 }
 
 /// Puts the cells, the erased blocks and the outlines of the regions.
@@ -109,37 +119,56 @@ fn put_drawing<W: ByteOut>(
     put_region_shapes(grid, regions, out)
 }
 
-/// Puts how large the cells are.
+/// Puts how wide and high a cell is.
 fn put_frame<W: ByteOut>(grid: &Grid, out: &mut W) -> Result<(), Failed>
     requires { W.count out.old < 2 ^ 64 - 1 }
     ensures bytes { Writes (W.held out.old) (W.held out.new) result (frame grid.now) }
     ensures count { Counts (W.count out.old) (W.count out.new) result }
 {
-    let mut scale = Buffer::new();
-    let mut columns = Buffer::new();
-    let columns = columns.format(grid.columns).as_bytes();
+    let mut across = Buffer::new();
+    let mut down = Buffer::new();
     put_parts(
         out,
         &[
             frame_begin(),
-            scale.format(grid.scale()).as_bytes(),
-            frame_lines(),
-            columns,
-            frame_dashes(),
-            columns,
-            b"e-2\">\n",
+            across.format(grid.across()).as_bytes(),
+            b" ",
+            down.format(grid.down()).as_bytes(),
+            b")\">\n",
         ],
     )
 }
 
-/// Puts the addresses of the rows, and the names of the regions.
+/// Puts the addresses, what stands for plain rows, and the names of the regions.
 fn put_marks<W: ByteOut>(grid: &Grid, regions: &[Region<'_>], out: &mut W) -> Result<(), Failed>
     requires { W.count out.old < 2 ^ 64 - 1 }
     ensures bytes { Writes (W.held out.old) (W.held out.new) result (marks grid.now regions.now) }
     ensures count { Counts (W.count out.old) (W.count out.new) result }
 {
+    put_addresses(grid, out)?;
+    put_notes(grid, regions, out)
+}
+
+/// Puts the offsets of the columns and the addresses of the rows.
+fn put_addresses<W: ByteOut>(grid: &Grid, out: &mut W) -> Result<(), Failed>
+    requires { W.count out.old < 2 ^ 64 - 1 }
+    ensures bytes { Writes (W.held out.old) (W.held out.new) result (addresses grid.now) }
+    ensures count { Counts (W.count out.old) (W.count out.new) result }
+{
+    put_all(out, offsets_begin())?;
+    put_offsets(grid, out)?;
     put_all(out, labels_begin())?;
-    put_labels(grid, out)?;
+    put_labels(grid, out)
+}
+
+/// Puts what stands for plain rows, and the names of the regions.
+fn put_notes<W: ByteOut>(grid: &Grid, regions: &[Region<'_>], out: &mut W) -> Result<(), Failed>
+    requires { W.count out.old < 2 ^ 64 - 1 }
+    ensures bytes { Writes (W.held out.old) (W.held out.new) result (notes grid.now regions.now) }
+    ensures count { Counts (W.count out.old) (W.count out.new) result }
+{
+    put_all(out, folds_begin())?;
+    put_folds(grid, out)?;
     put_all(out, names_begin())?;
     put_names(grid, regions, out)
 }

@@ -6,7 +6,7 @@ use Rattle.nor_job.specs.Causes.{LayoutSays}
 use Rattle.nor_job.specs.Task.{Task}
 use Rattle.nor_layout.specs.Chosen.{is_chosen}
 use Rattle.nor_layout.specs.Region.{Region}
-use Rattle.nor_map.specs.Grid.{grid_of}
+use Rattle.nor_map.specs.Rows.{grid_of}
 use Rattle.nor_map.specs.Map.{map_text}
 use Rattle.nor_plan_read.specs.declared.line.PlanLine.{PlanLine}
 use Rattle.norprog_common.specs.declared.faults.Refusal.{Refusal}

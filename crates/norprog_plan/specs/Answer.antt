@@ -11,7 +11,7 @@ use Rattle.nor_job.specs.Task.{Task, Origin, Sfdp, Uniform}
 use Rattle.nor_job.specs.Wanted.{wanted}
 use Rattle.nor_layout.specs.Chosen.{is_chosen}
 use Rattle.nor_layout.specs.Region.{Region}
-use Rattle.nor_map.specs.Grid.{grid_of}
+use Rattle.nor_map.specs.Rows.{grid_of}
 use Rattle.nor_map.specs.Map.{map_text}
 use Rattle.nor_plan_read.specs.declared.line.PlanLine.{PlanLine}
 use Rattle.nor_times.specs.declared.times.Times.{Times}

@@ -7,7 +7,7 @@ ghost use Rattle.nor_hex.specs.Image.{Pairs};
 ghost use Rattle.nor_job.specs.Causes.{HasRegions};
 ghost use Rattle.nor_layout.specs.Chosen.{has};
 ghost use Rattle.nor_layout.specs.Region.{Region as NamedRegion};
-ghost use Rattle.nor_map.specs.Grid.{grid_of};
+ghost use Rattle.nor_map.specs.Rows.{grid_of};
 ghost use Rattle.nor_map.specs.Map.{map_text};
 ghost use Rattle.norprog.specs.declared.report.Report.{Report};
 ghost use Rattle.norprog_plan.specs.Answer.{IsDrawn, IsLines, LacksOutput, read_lines, PutsMap};

@@ -1,6 +1,6 @@
 //! Norprog's commands, by their command lines.
 
-use crate::answers::status_of;
+use crate::answers::{details_into, status_of};
 use crate::files::push_text;
 use crate::line::{line_of, value_of};
 use norprog_options::asked_by;
@@ -44,6 +44,24 @@ pub(crate) fn answer_to(rt: &HostRuntime, line: &str, printed: &mut String) -> i
         push_text(rt, ERRORS, printed)?;
     }
     Ok(status)
+}
+
+/// Takes the words of a refusal that no row can bring about, ` | ` and a command line with `--details`. Found is what that says
+/// of the refusal, or, where parts of it are handed over, each that isn't in it.
+pub(crate) fn refused(
+    rt: &HostRuntime,
+    text: &str,
+    parts: &[&str],
+    found: &mut String,
+) -> io::Result<()> {
+    let (refusal, line) = text.split_once(" | ").unwrap_or((text, ""));
+    let line = line_of(rt.alloc(), line)?;
+    let mut printed = String::new(rt.alloc());
+    if let Ok(asked) = asked_by(rt.alloc(), line.words.as_slice()) {
+        details_into(rt, asked, refusal, fs::create(rt, ERRORS)?);
+        push_text(rt, ERRORS, &mut printed)?;
+    }
+    Ok(tell_printed(printed.as_str(), parts, found)?)
 }
 
 /// Pushes what was printed, or, where parts of it are handed over, tells each that isn't in it.

@@ -22,6 +22,7 @@ impl<'a> Answers for Commands<'a> {
             _ if is_command(word) => commands::command(rt, row.asked, row.given, found),
             "job" => jobs::job(rt, rest, row.given, found),
             "order" => order::order(rt, rest, row.given, found),
+            "refused" => commands::refused(rt, rest, row.given, found),
             _ => files::file_row(rt, word, rest, row.given, found),
         }
     }

@@ -5,4 +5,4 @@ use Rattle.nor_map.proofs.worked.sizes_worked.Goals as goal
 
 pub returns : goal.returns
 unfolding doubled
-returns c = record { a_page = refl; sixteen = refl; one_more = refl; largest = refl; one = refl; eight_kib = refl; square = refl; past_square = refl; half = refl; all = refl }
+returns c = record { a_page = refl; sixteen = refl; one_more = refl; largest = refl }

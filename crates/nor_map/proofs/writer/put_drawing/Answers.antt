@@ -3,7 +3,7 @@ use Rattle.std.proofs.Common.{◌++◌, subst}
 use Rattle.std.specs.Io.KnownBytes.{Appends}
 use Rattle.nor_base.specs.Device.{Cuts}
 use Rattle.nor_base.proofs.DeviceLaws.{Cuts-then, Cuts-more, Writes-then, Writes-cut}
-use Rattle.nor_map.specs.Runs.{cells}
+use Rattle.nor_map.specs.Paths.{cells}
 use Rattle.nor_map.specs.Shapes.{region_shapes}
 use Rattle.nor_map.specs.Blocks.{few_blocks}
 use Rattle.nor_map.specs.Constants.{blocks_begin, shapes_begin}

@@ -1,41 +1,18 @@
--- The addresses of the rows, the names of the regions.
-use Rattle.std.proofs.Common.{◌++◌, subst}
-use Rattle.std.specs.Io.KnownBytes.{Appends}
-use Rattle.nor_base.specs.Device.{Cuts}
-use Rattle.nor_base.proofs.DeviceLaws.{Cuts-then, Cuts-more, Writes-then, Writes-cut}
-use Rattle.nor_map.specs.Words.{labels, names}
-use Rattle.nor_map.specs.Constants.{labels_begin, names_begin}
+-- The addresses, and the notes.
+use Rattle.nor_base.proofs.DeviceLaws.{Cuts-more, Writes-then, Writes-cut}
+use Rattle.nor_map.specs.Map.{addresses, notes}
 use Rattle.nor_map.proofs.writer.put_marks.Goals as goal
 
-pub returns-in_err-put_all-clause-bytes : goal.returns-in_err-put_all-clause-bytes
-returns-in_err-put_all-clause-bytes g c =
-    let rows = labels c.args.grid.now in
-    let named = names c.args.grid.now c.args.regions.now in
+pub returns-in_err-put_addresses-clause-bytes : goal.returns-in_err-put_addresses-clause-bytes
+returns-in_err-put_addresses-clause-bytes g c =
+    let placed = addresses c.args.grid.now in
+    let noted = notes c.args.grid.now c.args.regions.now in
     Writes-cut _ _ _ _ c.from_residual.ensures.0
-    (Cuts-more _ _ labels_begin (rows ++ (names_begin ++ named)) (subst (Cuts _ _) c.labels_begin.ensures c.in_err-put_all.ensures.bytes))
-
-pub returns-in_err-put_labels-clause-bytes : goal.returns-in_err-put_labels-clause-bytes
-returns-in_err-put_labels-clause-bytes g c =
-    let rows = labels c.args.grid.now in
-    let named = names c.args.grid.now c.args.regions.now in
-    Writes-cut _ _ _ _ c.from_residual-in_err-put_labels.ensures.0
-    (Cuts-then _ _ _ labels_begin (rows ++ (names_begin ++ named)) (subst (Appends _ _) c.labels_begin.ensures c.in_ok-put_all.ensures.bytes)
-    (Cuts-more _ _ rows (names_begin ++ named) c.in_err-put_labels.ensures.bytes))
-
-pub returns-in_err-put_all-2-clause-bytes : goal.returns-in_err-put_all-2-clause-bytes
-returns-in_err-put_all-2-clause-bytes g c =
-    let rows = labels c.args.grid.now in
-    let named = names c.args.grid.now c.args.regions.now in
-    Writes-cut _ _ _ _ c.from_residual-in_err-put_all-2.ensures.0
-    (Cuts-then _ _ _ labels_begin (rows ++ (names_begin ++ named)) (subst (Appends _ _) c.labels_begin.ensures c.in_ok-put_all.ensures.bytes)
-    (Cuts-then _ _ _ rows (names_begin ++ named) c.in_ok-put_labels.ensures.bytes
-    (Cuts-more _ _ names_begin named (subst (Cuts _ _) c.names_begin.ensures c.in_err-put_all-2.ensures.bytes))))
+    (Cuts-more _ _ placed noted c.in_err-put_addresses.ensures.bytes)
 
 pub returns-clause-bytes : goal.returns-clause-bytes
 returns-clause-bytes g c =
-    let rows = labels c.args.grid.now in
-    let named = names c.args.grid.now c.args.regions.now in
-    Writes-then _ _ _ _ labels_begin (rows ++ (names_begin ++ named)) (subst (Appends _ _) c.labels_begin.ensures c.in_ok-put_all.ensures.bytes)
-    (Writes-then _ _ _ _ rows (names_begin ++ named) c.in_ok-put_labels.ensures.bytes
-    (Writes-then _ _ _ _ names_begin named (subst (Appends _ _) c.names_begin.ensures c.in_ok-put_all-2.ensures.bytes)
-    c.put_names.ensures.bytes))
+    let placed = addresses c.args.grid.now in
+    let noted = notes c.args.grid.now c.args.regions.now in
+    Writes-then _ _ _ _ placed noted c.in_ok-put_addresses.ensures.bytes
+    c.put_notes.ensures.bytes

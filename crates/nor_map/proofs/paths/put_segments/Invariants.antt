@@ -1,0 +1,13 @@
+-- The first cells were put.
+use Rattle.std.proofs.Common.{◌≡◌, ◌-◌}
+use Rattle.std.specs.Prelude.{flat_map}
+use Rattle.std.specs.List.{range_with_len}
+use Rattle.nor_map.specs.Paths.{segment_at}
+use Rattle.nor_map.proofs.PutLemmas.{IsPut}
+use Rattle.nor_map.proofs.paths.put_segments.Given as goal
+
+abbrev pub invariant-loop-c : goal.invariant-loop-c
+invariant-loop-c g l = record {
+  put : IsPut (g.W.ByteOut.held l.fn.out) (g.W.ByteOut.held l.out) (flat_map (segment_at l.grid l.state) (range_with_len 0 l.grid.count)) (flat_map (segment_at l.grid l.state) (range_with_len l.c (l.grid.count - l.c)));
+  count : g.W.ByteOut.count l.out ≡ g.W.ByteOut.count l.fn.out;
+}
