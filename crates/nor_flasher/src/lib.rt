@@ -8,4 +8,5 @@ mod laws;
 mod steps;
 
 pub use laws::{breaks, closes, doable, halts};
-pub use steps::{Halt, are_doable, do_steps};
+pub use nor_serprog::Halt;
+pub use steps::{are_doable, do_steps};

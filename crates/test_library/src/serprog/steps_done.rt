@@ -112,6 +112,7 @@ fn limits_of(rt: &impl Abort, sent: u32) -> Limits {
     Limits {
         sent,
         asked: 1,
+        ahead: 0,
         pins: false,
     }
 }

@@ -4,7 +4,7 @@ use Rattle.std.specs.Io.KnownBytes.{Appends}
 use Rattle.nor_base.specs.Decoding.{bytes_of_bits}
 use Rattle.nor_base.proofs.DeviceLaws.{Writes-then}
 use Rattle.nor_serprog.specs.Protocol.{head}
-use Rattle.nor_serprog.proofs.follow.put_request.Goals as goal
+use Rattle.nor_serprog.proofs.put.put_request.Goals as goal
 
 pub returns-clause-bytes : goal.returns-clause-bytes
 returns-clause-bytes g c =

@@ -4,7 +4,7 @@ use Rattle.std.specs.List.{slice_range}
 use Rattle.nor_base.specs.Decoding.{bytes_of_bits}
 use Rattle.nor_base.proofs.DeviceLaws.{Writes-cut}
 use Rattle.nor_serprog.proofs.PieceLemmas.{put_more, put_cut, piece_room}
-use Rattle.nor_serprog.proofs.follow.put_sent.Goals as goal
+use Rattle.nor_serprog.proofs.put.put_sent.Goals as goal
 
 pub returns-in_err-put_all-clause-bytes : goal.returns-in_err-put_all-clause-bytes
 returns-in_err-put_all-clause-bytes g c =

@@ -2,7 +2,7 @@
 use Rattle.std.proofs.Common.{◌-◌, ◌≡◌, ◌≤◌, length, take}
 use Rattle.std.specs.Io.KnownBytes.{Appends}
 use Rattle.nor_base.specs.Decoding.{bytes_of_bits}
-use Rattle.nor_serprog.proofs.follow.put_sent.Given as goal
+use Rattle.nor_serprog.proofs.put.put_sent.Given as goal
 
 abbrev pub invariant-loop-done : goal.invariant-loop-done
 invariant-loop-done g l = record {

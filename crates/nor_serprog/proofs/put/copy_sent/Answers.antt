@@ -3,7 +3,7 @@ use Rattle.std.proofs.Common.{arith}
 use Rattle.nor_base.specs.Decoding.{bytes_of_bits}
 use Rattle.nor_serprog.proofs.CarriedLemmas.{length_of_bytes}
 use Rattle.nor_serprog.proofs.PieceLemmas.{copied_more, copied_all}
-use Rattle.nor_serprog.proofs.follow.copy_sent.Goals as goal
+use Rattle.nor_serprog.proofs.put.copy_sent.Goals as goal
 
 pub overflow_add-from : goal.overflow_add-from
 overflow_add-from c = omega (arith, length_of_bytes c.args.bits.now)
