@@ -31,6 +31,7 @@ mod request;
 mod script;
 mod state;
 mod step;
+mod together;
 mod unplayed;
 mod within;
 

@@ -53,6 +53,16 @@ impl Progress {
         }
     }
 
+    /// Each of these steps is done, one after the other.
+    pub(crate) fn steps_done<P: ByteOut>(&mut self, steps: &[Step], out: &mut P)
+        requires { self.old.works ≡ true → P.count out.old < 2 ^ 64 - 1 }
+        ensures { self.new.works ≡ true → P.count out.new < 2 ^ 64 - 1 }
+    {
+        for step in steps {
+            self.step_done(step, out);
+        }
+    }
+
     /// Writes over the line that tells it: `step N of M, B of C bytes`.
     fn tell<P: ByteOut>(&self, out: &mut P) -> Result<(), Failed>
         requires { P.count out.old < 2 ^ 64 - 1 }
