@@ -6,7 +6,7 @@ ghost use Rattle.nor_base.specs.Step.{expected};
 ghost use Rattle.nor_base.specs.declared.step.Step.TheVariants.{Poll};
 ghost use Rattle.nor_serprog.specs.declared.fault.Fault.TheVariants.{Read, Write};
 ghost use Rattle.nor_serprog.specs.Done.{IsDoable, HasDoneAll};
-ghost use Rattle.nor_serprog.specs.Row.{AreAsked, CountsHalt, FitAhead, HasHalted, IsAsked, IsForm, IsRow, StopsAnswers, TakesAnswers};
+ghost use Rattle.nor_serprog.specs.Row.{AreSent, CountsHalt, FitAhead, HasHalted, IsAsked, IsForm, IsRow, IsSent, StopsAnswers, TakesAnswers};
 
 use crate::clocks::bits_sent;
 use crate::done::do_step;
@@ -164,7 +164,7 @@ fn do_ahead<R: ByteIn, W: ByteOut>(
     requires form { All IsDoable row.now }
     requires row { IsRow limits.now row.now }
     requires parts { (row.now ≡ front.now) ⊎ ((wait : List ℕ) × (row.now ≡ front.now ++ Poll wait ∷ [])) }
-    requires asked { (reads : ℕ) → AreAsked limits.now reads front.now requests.items }
+    requires sent { AreSent limits.now front.now requests.items }
     requires fits { length requests.items ≤ limits.now.ahead }
     requires reader { R.count from.old < 2 ^ 64 - 1 }
     requires writer { W.count to.old < 2 ^ 64 - 1 }
@@ -205,7 +205,7 @@ fn before_poll(row: &[Step]) -> &[Step]
 /// The requests of steps that aren't polls, where they fit what the device takes before it answers.
 fn gathered(steps: &[Step], limits: &Limits) -> Option<Requests>
     requires { All IsDoable steps.now }
-    ensures asked { IfSome result (λ requests. (reads : ℕ) → AreAsked limits.now reads steps.now requests.items) }
+    ensures sent { IfSome result (λ requests. AreSent limits.now steps.now requests.items) }
     ensures fits { IfSome result (λ requests. length requests.items ≤ limits.now.ahead) }
 {
     let mut requests = Requests::new();
@@ -223,7 +223,7 @@ fn gathered(steps: &[Step], limits: &Limits) -> Option<Requests>
 /// Adds the request of a step that isn't a poll, where it is one of the device and has room; whether it was added.
 fn add_step(requests: &mut Requests, step: &Step, limits: &Limits) -> bool
     requires { IsDoable step.now }
-    ensures { OnTrue result ((put : List ℕ) × (requests.new.items ≡ requests.old.items ++ put) × ((reads : ℕ) → IsAsked limits.now reads step.now put)) }
+    ensures { OnTrue result ((put : List ℕ) × (requests.new.items ≡ requests.old.items ++ put) × IsSent limits.now step.now put) }
 {
     let asked = match step {
         Step::Send { .. } => 0,
