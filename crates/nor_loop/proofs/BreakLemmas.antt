@@ -1,26 +1,41 @@
 -- Where the work is broken off, at most one unit is in the making.
-use Rattle.std.proofs.Common.{◌≡◌, inl, inr, ℕ, zero, suc, Bool, true, false, if◌then◌else◌, List, [], ◌∷◌, ◌++◌, map, Result, Ok, Err, refl, sym, ◌∙◌, ap, subst, arith}
-use Rattle.std.specs.List.{AllByRecursion}
+use Rattle.std.proofs.Common.{◌≡◌, inl, inr, ℕ, zero, suc, not, ◌&&◌, Bool, true, false, if◌then◌else◌, List, [], ◌∷◌, ◌++◌, length, map, Option, Some, None, Result, Ok, Err, refl, sym, ◌∙◌, ap, subst, append_assoc, arith}
+use Rattle.std.specs.Prelude.{replicate}
+use Rattle.std.specs.List.{AllByRecursion, list_all}
 use Rattle.std.specs.Str.{bytes_eq}
+use Rattle.std.proofs.lemmas.Slice.Eq.{bytes_eq-Decides}
+use Rattle.nor_base.specs.declared.instruction.What.{What}
+use Rattle.nor_base.specs.declared.instruction.What.TheVariants as what
+use Rattle.nor_base.specs.declared.meaning.Start.{Start}
 use Rattle.nor_base.specs.declared.step.Step.{Step}
 use Rattle.nor_base.specs.declared.step.Step.TheVariants.{Send, Poll, Verify}
 use Rattle.nor_base.specs.declared.wrong.Wrong.{Wrong}
 use Rattle.nor_base.specs.declared.wrong.Wrong.TheVariants as wrong
-use Rattle.nor_base.specs.Decoding.{decode, transaction, has_opcode}
-use Rattle.nor_base.specs.Chip.{Setting, Chip, ready}
-use Rattle.nor_base.specs.Effect.{effect}
-use Rattle.nor_base.specs.Planned.{IsInTheMaking, planned_units}
-use Rattle.nor_base.specs.Run.{poll_clocks, is_verify, done, matched, step, step_trail, run, trail, trail_on, trail_after}
-use Rattle.nor_base.specs.Step.{step_clocks}
+use Rattle.nor_base.specs.Parameters.{Parameters}
+use Rattle.nor_base.specs.Clocks.{bits}
+use Rattle.nor_base.specs.Decoding.{Instruction, decode}
+use Rattle.nor_base.specs.Chip.{Setting, Chip, IsChipOf, begins4, ready}
+use Rattle.nor_base.specs.Effect.{needs_latch, after, effect, effect_if}
+use Rattle.nor_base.specs.Planned.{ArePlanned, IsInTheMaking, planned, planned_ops, planned_units}
+use Rattle.nor_base.specs.Run.{poll_clocks, polled, is_verify, done, matched, step, step_trail, run, trail, trail_on, trail_after}
+use Rattle.nor_base.specs.Spelling.{Instr, Spells, seen, IsStepOf, AreStepsOf, mode_after}
+use Rattle.nor_base.specs.Step.{verifies}
+use Rattle.nor_base.specs.Strategies.{strategy}
 use Rattle.nor_base.specs.Units.{WorkUnit}
 use Rattle.nor_base.proofs.OutcomeLaws.{ok_is}
+use Rattle.nor_laws.specs.Spelling.{VerifyKeeps}
+use Rattle.nor_laws.proofs.EffectLaws.{taken}
 use Rattle.nor_laws.proofs.PollLaws.{left_with, read_busy, read_idle}
 use Rattle.nor_plan_laws.specs.Laws.{PlannedDoesTask, OneUnitInTheMaking}
-use Rattle.nor_serprog.specs.Follow.{are_busy}
-use Rattle.nor_loop.specs.Log.{Operation, Explains}
+use Rattle.nor_serprog.specs.Row.{IsForm, enable_clocks}
+use Rattle.nor_loop.specs.Log.{Operation, clocks, Explains}
 use Rattle.nor_loop.specs.Laws.{LoopBreaks}
-use Rattle.nor_loop.specs.Steps.{status_read, IsBegun, AreBegun}
-use Rattle.nor_loop.proofs.FollowLemmas.{in_parts, status_told, first_busy, poll_left, step_same, goes}
+use Rattle.nor_loop.specs.Loop.{DoesSome}
+use Rattle.nor_loop.specs.Steps.{status_read, AreLogOf, IsBegun, IsFirstBegun, next_clocks}
+use Rattle.nor_loop.proofs.EnterLemmas.{plain, seen_06}
+use Rattle.nor_loop.proofs.FollowLemmas.{in_parts, status_clocks, done_same, poll_left, step_same, goes}
+use Rattle.nor_loop.proofs.LatchLemmas.{is_calm, latch_after, lowered_calm, mode_of, latch_of, calm_now, calm_later}
+use Rattle.nor_loop.proofs.SomeLemmas.{sent_by, read_by, poll_by, took, sent_step, read_step, poll_step, same_bytes}
 
 -- what holds of the arrays of some chips
 abbrev AllHold : (List ℕ → Type 0) → List Chip → Type 0
@@ -328,6 +343,16 @@ finds_clear s c (i ∷ more) latched xs are calm clear =
     let by = sent_by s.meaning c.mode4 i i.what enable_clocks refl are.0 in
     clear (calm_now latched i more (enable_seen s.meaning c.mode4 i by.spelled) calm)
 
+sent_same : (s : Setting) (c e f : Chip) (symbols given : List ℕ) → effect s c symbols ≡ Ok (e, given) → step s c (Send symbols) ≡ Ok f → e ≡ f
+unfolding step
+sent_same s c e f symbols given did is = done_same e f given (effect s c symbols) did is
+
+verifying_begun : (row : List Step) (begun : List Operation) → list_all verifies row ≡ true → IsFirstBegun row begun → begun ≡ []
+verifying_begun [] begun all first = absurd first
+verifying_begun (Send symbols ∷ xs) begun all first = first
+verifying_begun (Poll symbols ∷ xs) begun all first = cc
+verifying_begun (Verify symbols expect ∷ xs) begun all first = first
+
 -- some of a row
 row_holds : VerifyKeeps → (P : List ℕ → Type 0) (s : Setting) (d e f : Chip) (reads : ℕ) (row rest : List Step) (begun : List Operation) → IsForm row
     → IsFirstBegun row begun → Reached P s d f (row ++ rest) begun → DoesSome s d (next_clocks reads row) e → P e.array
@@ -366,6 +391,16 @@ row_holds keeps P s d e f reads row rest begun (inr (inr (inr all))) first at so
 -- before the work nothing is in the making
 none_made : (us : List WorkUnit) (have want : List ℕ) → IsInTheMaking us have want have
 none_made us have want = record { low = 0; high = 0; below = λ x h. absurd (omega arith); above = λ x h. refl; between = inl refl }
+
+-- planned steps, on a chip of the meaning and start
+planned_here : (m : Parameters) (start : Start) (verify : Bool) (content goal : List ℕ) (steps : List Step) (s : Setting) → IsChipOf m start s
+    → ArePlanned m start verify content goal steps
+    → AreStepsOf s.meaning (ready s content).mode4 (planned m start verify content goal) steps
+planned_here m start verify content goal steps s is those =
+    let these = planned m start verify content goal in
+    let mode : begins4 m start ≡ begins4 s.meaning s.start = sym (ap (λ (n : Parameters). begins4 n s.start) is.its_meaning ∙ ap (begins4 m) is.its_start) in
+    subst (λ (n : Parameters). AreStepsOf n (begins4 s.meaning s.start) these steps) (sym is.its_meaning)
+    (subst (λ b. AreStepsOf m b these steps) mode those)
 
 pub loop_breaks : PlannedDoesTask → OneUnitInTheMaking → VerifyKeeps → LoopBreaks
 loop_breaks does making keeps m start verify content goal steps first again work at row reads able planned one two begun s held after may =

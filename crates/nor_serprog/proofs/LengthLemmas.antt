@@ -47,7 +47,7 @@ one_sent sent limits asked op =
     let count : asked ≡ 1 = sym (asked_is limits poll_clocks sent asked op) in
     let long : 16 ≡ length (flat_map bits sent) + length (replicate (8 * asked) 0x2E) =
     ap length op.spelled ∙ length-append (flat_map bits sent) (replicate (8 * asked) 0x2E) in
-    omega (arith, count, long, length-all_bits sent, length-replicate (8 * asked) 0x2E)
+    omega (arith, count, long, length-all_bits sent, length-replicate {A = ℕ} (8 * asked) 0x2E)
 
 pub asked_by : (limits : Limits) (x : Step) (sent : List ℕ) (asked bytes : ℕ) → IsDoable x → IsOperation limits (step_clocks x) sent asked → bytes ≡ 7 + length sent
     → (put : List ℕ) × IsAsked limits 1 x put × (length put ≡ bytes)

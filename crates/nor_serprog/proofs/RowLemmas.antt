@@ -1,9 +1,11 @@
 -- Rows: what went out ahead, and what was taken of it.
-use Rattle.std.proofs.Common.{◌≡◌, inl, inr, ℕ, zero, suc, ◌+◌, ◌-◌, ◌<◌, ◌≤◌, ◌⊎◌, Bool, true, false, List, [], ◌∷◌, ◌++◌, length, take, drop, get_or, Option, Result, Ok, Err, refl, sym, ◌∙◌, ap, subst, append-nil, append_assoc, arith, length-append, length-take}
+use Rattle.std.proofs.Common.{◌≡◌, inl, inr, ℕ, zero, suc, ◌+◌, ◌-◌, ◌<◌, ◌≤◌, ◌⊎◌, ◌^◌, Bool, true, false, List, [], ◌∷◌, ◌++◌, length, take, drop, get_or, Option, Result, Ok, Err, refl, sym, ◌∙◌, ap, subst, append-nil, append_assoc, arith, length-append, length-take}
+use Rattle.std.specs.Prelude.{All, max}
 use Rattle.std.specs.List.{list_all}
 use Rattle.std.specs.Io.KnownBytes.{Appends}
 use Rattle.std.proofs.lemmas.Bool.{and_parts}
 use Rattle.std.proofs.lemmas.List.{take-append-drop}
+use Rattle.std.proofs.lemmas.List.Elements.{All-nil, All-cons}
 use Rattle.nor_base.specs.declared.step.Step.{Step}
 use Rattle.nor_base.specs.declared.step.Step.TheVariants.{Send, Poll, Verify}
 use Rattle.nor_base.specs.Device.{Ahead, Gives, Cuts}
@@ -19,7 +21,7 @@ use Rattle.nor_serprog.specs.declared.limits.Limits.{Limits}
 use Rattle.nor_serprog.specs.Protocol.{request, answer}
 use Rattle.nor_serprog.specs.Exchange.{AnswersKnown}
 use Rattle.nor_serprog.specs.Follow.{Waits, status_requests, most_reads}
-use Rattle.nor_serprog.specs.Done.{HasDone, HasStopped, HasDoneAll}
+use Rattle.nor_serprog.specs.Done.{IsDoable, HasDone, HasStopped, HasDoneAll}
 use Rattle.nor_serprog.specs.Row.{IsSent, AreSent, IsAsked, AreAsked, IsForm, FitAhead, IsRow, AreAhead, StopsWithin, CutsRow, HasHalted, HaltInSteps, TakesAnswers, StopsAnswers, enable_clocks}
 use Rattle.nor_serprog.proofs.ExchangeLemmas.{knows_then}
 use Rattle.nor_serprog.proofs.FollowLemmas.{operates_as}
@@ -31,6 +33,68 @@ asked_both : (limits : Limits) (reads : ℕ) (xs ys : List Step) (p q : List ℕ
 asked_both limits reads [] ys p q none more = subst (AreAsked limits reads ys) (sym (ap (λ (l : List ℕ). l ++ q) none)) more
 asked_both limits reads (x ∷ xs) ys p q (first, rest, whole, one, others) more =
     (first, rest ++ q, ap (λ (l : List ℕ). l ++ q) whole ∙ append_assoc first rest q, one, asked_both limits reads xs ys rest q others more)
+
+record AskedParts (limits : Limits) (reads : ℕ) (xs ys : List Step) (put : List ℕ) : Type 0 where
+  first : List ℕ
+  second : List ℕ
+  whole : put ≡ first ++ second
+  front : AreAsked limits reads xs first
+
+asked_split : (limits : Limits) (reads : ℕ) (xs ys : List Step) (put : List ℕ) → AreAsked limits reads (xs ++ ys) put → AskedParts limits reads xs ys put
+asked_split limits reads [] ys put all = record { first = []; second = put; whole = refl; front = refl }
+asked_split limits reads (x ∷ xs) ys put (first, rest, whole, one, others) =
+    let more = asked_split limits reads xs ys rest others in record {
+      first = first ++ more.first;
+      second = more.second;
+      whole = whole ∙ ap (λ (l : List ℕ). first ++ l) more.whole ∙ sym (append_assoc first more.first more.second);
+      front = (first, more.first, refl, one, more.front);
+    }
+
+asked_snoc : (limits : Limits) (reads : ℕ) (xs : List Step) (x : Step) (p q : List ℕ) → AreAsked limits reads xs p → IsAsked limits reads x q
+    → AreAsked limits reads (xs ++ x ∷ []) (p ++ q)
+asked_snoc limits reads xs x p q all one = asked_both limits reads xs (x ∷ []) p q all (q, [], sym (append-nil q), one, refl)
+
+pub asked_next : (limits : Limits) (reads : ℕ) (steps : List Step) (at : ℕ) (x : Step) (p q : List ℕ) → at < length steps → x ≡ get_or steps at x
+    → AreAsked limits reads (take at steps) p → IsAsked limits reads x q → AreAsked limits reads (take (at + 1) steps) (p ++ q)
+asked_next limits reads steps at x p q within is all one =
+    subst (λ (l : List Step). AreAsked limits reads l (p ++ q)) (sym (one_taken steps at x within is)) (asked_snoc limits reads (take at steps) x p q all one)
+
+-- fewer of some steps that fit
+fit_front : (limits : Limits) (xs ys : List Step) → FitAhead limits (xs ++ ys) → FitAhead limits xs
+fit_front limits xs ys fit =
+    let parts = asked_split limits 1 xs ys fit.put fit.asked in
+    let long : length fit.put ≡ length parts.first + length parts.second = ap length parts.whole ∙ length-append parts.first parts.second in
+    record { put = parts.first; asked = parts.front; fits = omega (arith, fit.fits, long); few = omega (arith, fit.few, long) }
+
+front_of_front : (xs : List Step) (k n : ℕ) → k ≤ n → take k (take n xs) ≡ take k xs
+front_of_front [] zero zero few = refl
+front_of_front [] zero (suc n) few = refl
+front_of_front [] (suc k) zero few = refl
+front_of_front [] (suc k) (suc n) few = refl
+front_of_front (x ∷ xs) zero zero few = refl
+front_of_front (x ∷ xs) zero (suc n) few = refl
+front_of_front (x ∷ xs) (suc k) zero few = absurd (omega (arith, few))
+front_of_front (x ∷ xs) (suc k) (suc n) few = ap (λ (l : List Step). x ∷ l) (front_of_front xs k n (omega (arith, few)))
+
+first_alone : (limits : Limits) (steps : List Step) → 0 < length steps → IsRow limits (take 1 steps)
+first_alone limits [] some = absurd (omega (arith, some))
+first_alone limits (x ∷ xs) some = record { some = omega arith; form = inl (x, refl); fit = inl refl }
+
+pub row_of : (limits : Limits) (steps : List Step) (n f r : ℕ) → 0 < length steps → n ≤ length steps → FitAhead limits (take n steps)
+    → f ≤ length (take n steps) → (0 < f → IsForm (take f (take n steps))) → r ≡ max f 1 → IsRow limits (take r steps)
+row_of limits steps n zero r some within fit few form is = subst (λ k. IsRow limits (take k steps)) (sym is) (first_alone limits steps some)
+row_of limits steps n (suc f) r some within fit few form is =
+    let count : r ≡ suc f = is ∙ (omega arith) in
+    let near : suc f ≤ n = omega (arith, few, length-take n steps, within) in
+    let same = front_of_front steps (suc f) n near in
+    let parts : take n steps ≡ take (suc f) (take n steps) ++ drop (suc f) (take n steps) = sym (take-append-drop (suc f) (take n steps)) in
+    let fits = fit_front limits (take (suc f) (take n steps)) (drop (suc f) (take n steps)) (subst (FitAhead limits) parts fit) in
+    subst (λ k. IsRow limits (take k steps)) (sym count)
+    (subst (IsRow limits) same (record {
+      some = omega (arith, few, length-take (suc f) (take n steps));
+      form = form (omega arith);
+      fit = inr fits;
+    }))
 
 record SentParts (limits : Limits) (xs ys : List Step) (put : List ℕ) : Type 0 where
   first : List ℕ
@@ -73,6 +137,17 @@ pub sent_next : (limits : Limits) (steps : List Step) (at : ℕ) (x : Step) (bef
 sent_next limits steps at x before after put within is all more one =
     subst (λ (l : List Step). AreSent limits l after) (sym (one_taken steps at x within is))
     (subst (AreSent limits (take at steps ++ x ∷ [])) (sym more) (sent_snoc limits (take at steps) x before put all one))
+
+-- what is expected is short
+pub sent_few : (limits : Limits) (xs : List Step) (put : List ℕ) → AreSent limits xs put → All (λ (x : Step). length (expected x) < 2 ^ 24) xs
+sent_few limits [] put none = All-nil (λ (x : Step). length (expected x) < 2 ^ 24)
+sent_few limits (x ∷ xs) put (first, rest, whole, one, others) =
+    All-cons (λ (y : Step). length (expected y) < 2 ^ 24) x xs (by x first one) (sent_few limits xs rest others)
+  where
+    by : (x : Step) (first : List ℕ) → IsSent limits x first → length (expected x) < 2 ^ 24
+    by (Send symbols) first one = omega arith
+    by (Poll symbols) first one = absurd one
+    by (Verify symbols expect) first (sent, op, is) = omega (arith, op.few_asked, limits.few_asked)
 
 -- answers, one after the other
 taken_snoc : (a b c : Ahead) (xs : List Step) (x : Step) → TakesAnswers a b xs → Gives b (answer (expected x)) c → TakesAnswers a c (xs ++ x ∷ [])
@@ -209,6 +284,69 @@ single_row limits x = record { some = omega arith; form = inl (x, refl); fit = i
 -- nothing is ahead
 none_ahead : (limits : Limits) (turns : ℕ) → AreAhead limits turns [] []
 none_ahead limits turns = record { reads = 0; few = omega arith; within = omega arith; asked = refl; fits = omega arith }
+
+-- the steps after the front: a poll, or none
+pub record IsTail (limits : Limits) (turns : ℕ) (row front : List Step) (old new : List ℕ) (reads : ℕ) : Type 0 where
+  pub polls : List Step
+  pub whole : row ≡ front ++ polls
+  pub few : reads ≤ most_reads
+  pub within : reads ≤ turns
+  pub asked : AreAsked limits reads polls (status_requests reads)
+  pub put : new ≡ old ++ status_requests reads
+  pub fits : length (old ++ status_requests reads) ≤ limits.ahead
+
+middle : (xs ys : List Step) (x : Step) → get_or (xs ++ (x ∷ ys)) (length xs) x ≡ x
+middle [] ys x = refl
+middle (y ∷ xs) ys x = middle xs ys x
+
+-- the poll that is the last
+pub the_poll : (row front : List Step) → (row ≡ front) ⊎ ((wait : List ℕ) × (row ≡ front ++ Poll wait ∷ [])) → length front < length row → All IsDoable row
+    → (wait : List ℕ) × (row ≡ front ++ Poll wait ∷ []) × (wait ≡ poll_clocks)
+the_poll row front (inl same) fewer form = absurd (omega (arith, fewer, ap length same))
+the_poll row front (inr (wait, whole)) fewer form =
+    let at = middle front [] (Poll wait) in
+    let its : IsDoable (get_or (front ++ Poll wait ∷ []) (length front) (Poll wait)) =
+    subst (λ (l : List Step). IsDoable (get_or l (length front) (Poll wait))) whole (form (length front) (Poll wait) fewer) in
+    (wait, whole, subst IsDoable at its)
+
+no_poll : (row front : List Step) → (row ≡ front) ⊎ ((wait : List ℕ) × (row ≡ front ++ Poll wait ∷ [])) → (length front < length row → ⊥) → row ≡ front
+no_poll row front (inl same) none = same
+no_poll row front (inr (wait, whole)) none =
+    absurd (none (omega (arith, ap length whole, length-append front (Poll wait ∷ []))))
+
+pub tail_some : (limits : Limits) (turns reads : ℕ) (row front : List Step) (old new : List ℕ) → (row ≡ front) ⊎ ((wait : List ℕ) × (row ≡ front ++ Poll wait ∷ []))
+    → length front < length row → All IsDoable row → reads ≤ most_reads → reads ≤ turns → new ≡ old ++ status_requests reads
+    → (length old ≤ limits.ahead → length new ≤ limits.ahead) → length old ≤ limits.ahead → IsTail limits turns row front old new reads
+tail_some limits turns reads row front old new parts fewer form few within put fits fit =
+    let p = the_poll row front parts fewer form in record {
+      polls = Poll p.0 ∷ [];
+      whole = p.1;
+      few = few;
+      within = within;
+      asked = (status_requests reads, [], sym (append-nil (status_requests reads)), (p.2, refl), refl);
+      put = put;
+      fits = subst (λ (l : List ℕ). length l ≤ limits.ahead) put (fits fit);
+    }
+
+pub tail_none : (limits : Limits) (turns : ℕ) (row front : List Step) (old : List ℕ) → (row ≡ front) ⊎ ((wait : List ℕ) × (row ≡ front ++ Poll wait ∷ []))
+    → (length front < length row → ⊥) → length old ≤ limits.ahead → IsTail limits turns row front old old 0
+tail_none limits turns row front old parts none fit = record {
+  polls = [];
+  whole = no_poll row front parts none ∙ sym (append-nil front);
+  few = omega arith;
+  within = omega arith;
+  asked = refl;
+  put = sym (append-nil old);
+  fits = subst (λ (l : List ℕ). length l ≤ limits.ahead) (sym (append-nil old)) fit;
+}
+
+pub all_front : (h h' : Option (List ℕ)) (a b : Ahead) (limits : Limits) (turns : ℕ) (row front : List Step) (put : List ℕ)
+    → (row ≡ front) ⊎ ((wait : List ℕ) × (row ≡ front ++ Poll wait ∷ [])) → (length front < length row → ⊥) → 0 < length row → AreSent limits front put
+    → Appends h h' put → TakesAnswers a b front → HasDoneAll h h' a b limits turns row
+all_front h h' a b limits turns row front put parts none some sent out taken =
+    let same = no_poll row front parts none in
+    subst (λ (l : List Step). HasDoneAll h h' a b limits turns l) (sym same)
+    (front_done h h' a b limits turns front put (subst (λ (l : List Step). 0 < length l) same some) sent out taken)
 
 -- a step stopped before the poll
 pub halts_front : (h h' : Option (List ℕ)) (a a' : Ahead) (limits : Limits) (turns reads : ℕ) (row front polls : List Step) (halt : Halt) (p q : List ℕ)

@@ -2,9 +2,12 @@
 
 ghost use Rattle.std.specs.Bool.{OnTrue};
 ghost use Rattle.std.specs.Prelude.{◌≡◌, ◌≤◌, ◌<◌, ◌⊎◌, ◌+◌, ◌-◌, ◌^◌, ◌++◌, [], ◌∷◌, ℕ, List, All, IfSome, MatchResult, length, take};
+ghost use Rattle.nor_base.specs.Sample.{sampled_count};
 ghost use Rattle.nor_base.specs.Step.{expected};
 ghost use Rattle.nor_base.specs.declared.step.Step.TheVariants.{Poll};
 ghost use Rattle.nor_serprog.specs.declared.fault.Fault.TheVariants.{Read, Write};
+ghost use Rattle.nor_serprog.specs.Carried.{IsOperation};
+ghost use Rattle.nor_serprog.specs.Protocol.{request};
 ghost use Rattle.nor_serprog.specs.Done.{IsDoable, HasDoneAll};
 ghost use Rattle.nor_serprog.specs.Row.{AreSent, CountsHalt, FitAhead, HasHalted, IsAsked, IsForm, IsRow, IsSent, StopsAnswers, TakesAnswers};
 
@@ -225,12 +228,22 @@ fn add_step(requests: &mut Requests, step: &Step, limits: &Limits) -> bool
     requires { IsDoable step.now }
     ensures { OnTrue result ((put : List ℕ) × (requests.new.items ≡ requests.old.items ++ put) × IsSent limits.now step.now put) }
 {
-    let asked = match step {
-        Step::Send { .. } => 0,
-        Step::Verify { expect, .. } => expect.as_slice().len(),
-        Step::Poll { .. } => return false,
-    };
-    match bits_sent(step.clocks(), limits) {
+    match step {
+        Step::Send { clocks } => add_operation(requests, clocks.as_slice(), 0, limits),
+        Step::Verify { clocks, expect } => {
+            add_operation(requests, clocks.as_slice(), expect.as_slice().len(), limits)
+        }
+        Step::Poll { .. } => false,
+    }
+}
+
+/// Adds the request of the operation of these clocks, where it is one of the device and has room; whether it was added.
+fn add_operation(requests: &mut Requests, clocks: &[u8], asked: usize, limits: &Limits) -> bool
+    requires { asked ≡ sampled_count clocks.now }
+    ensures { OnTrue result ((sent : List ℕ) × IsOperation limits.now clocks.now sent asked
+        × (requests.new.items ≡ requests.old.items ++ request sent asked)) }
+{
+    match bits_sent(clocks, limits) {
         Some(bits) => add_request(requests, bits, asked as u32),
         None => false,
     }

@@ -1,11 +1,11 @@
 -- One read more.
-use Rattle.std.proofs.Common.{◌≡◌, ◌≤◌, ◌+◌, [], ◌∷◌, ◌++◌, length, ap, length-append, arith, rules}
+use Rattle.std.proofs.Common.{◌≡◌, ℕ, List, ◌≤◌, ◌+◌, [], ◌∷◌, ◌++◌, length, ap, length-append, arith, rules}
 use Rattle.nor_serprog.proofs.WaitLemmas.{read_added}
 use Rattle.nor_serprog.proofs.put.add_reads.Goals as goal
 
 pub loop-preserved : goal.loop-preserved
 loop-preserved c =
-    let one = 0x13 ∷ 1 ∷ 0 ∷ 0 ∷ 1 ∷ 0 ∷ 0 ∷ 5 ∷ [] in
+    let one : List ℕ = 0x13 ∷ 1 ∷ 0 ∷ 0 ∷ 1 ∷ 0 ∷ 0 ∷ 5 ∷ [] in
     let added : c.try_extend_from_slice.new.self.items ≡ c.loop.requests.items ++ one = search rules in
     let few : length c.loop.requests.items + 8 ≤ c.args.ahead = search rules in
     record {
