@@ -111,18 +111,16 @@ verifies_keep : VerifyKeeps → (s : Setting) (c d f : Chip) (reads : ℕ) (xs r
 verifies_keep keeps s c d f reads [] rest all is same = same
 verifies_keep keeps s c d f reads (Send symbols ∷ xs) rest all is some = cc
 verifies_keep keeps s c d f reads (Poll symbols ∷ xs) rest all is some = cc
-verifies_keep keeps s c d f reads (Verify symbols expect ∷ xs) rest all is some =
+verifies_keep keeps s c d f reads (Verify symbols expect ∷ xs) rest all is (inl passed) =
     let one = goes s c f (Verify symbols expect) (xs ++ rest) is in
     let same : one.next ≡ c = keeps s c one.next symbols expect one.first in
-    let on : run s c (xs ++ rest) ≡ Ok f = subst (λ (e : Chip). run s e (xs ++ rest) ≡ Ok f) same one.rest in
-    by on some
-  where
-    by : run s c (xs ++ rest) ≡ Ok f → DoesSome s c (symbols ∷ next_clocks reads xs) d → d ≡ c
-    by on (inl passed) = verifies_keep keeps s c d f reads xs rest all on passed
-    by on (inr (e, given, did, more)) =
-        let reads_it = verify_reads s c (goes s c f (Verify symbols expect) (xs ++ rest) is).next symbols expect (goes s c f (Verify symbols expect) (xs ++ rest) is).first in
-        let stays : e ≡ c = verify_stays keeps s c e symbols given reads_it did in
-        verifies_keep keeps s c d f reads xs rest all on (subst (λ (g : Chip). DoesSome s g (next_clocks reads xs) d) stays more)
+    verifies_keep keeps s c d f reads xs rest all (subst (λ (e : Chip). run s e (xs ++ rest) ≡ Ok f) same one.rest) passed
+verifies_keep keeps s c d f reads (Verify symbols expect ∷ xs) rest all is (inr (e, given, did, more)) =
+    let one = goes s c f (Verify symbols expect) (xs ++ rest) is in
+    let same : one.next ≡ c = keeps s c one.next symbols expect one.first in
+    let stays : e ≡ c = verify_stays keeps s c e symbols given (verify_reads s c one.next symbols expect one.first) did in
+    verifies_keep keeps s c d f reads xs rest all (subst (λ (g : Chip). run s g (xs ++ rest) ≡ Ok f) same one.rest)
+    (subst (λ (g : Chip). DoesSome s g (next_clocks reads xs) d) stays more)
 
 -- a chip whose latch is clear changes no byte
 unlatched_after : (s : Setting) (c : Chip) (i : Instruction) (w : What) → c.latch ≡ false → needs_latch s.meaning w && not c.latch ≡ false
@@ -158,13 +156,13 @@ sent_holds P s c e symbols given all did = on_trail P e given (effect s c symbol
 -- a change, and then its poll's reads: some of them
 change_some : (P : List ℕ → Type 0) (s : Setting) (n : ℕ) (c d : Chip) (symbols : List ℕ) → P c.array
     → ((e : Chip) (given : List ℕ) → effect s c symbols ≡ Ok (e, given) → P e.array) → DoesSome s c (symbols ∷ (replicate n poll_clocks ++ [])) d → P d.array
-change_some P s n c d symbols now then (inl passed) = subst P (sym (polls_keep s n c d passed)) now
-change_some P s n c d symbols now then (inr (e, given, did, more)) = subst P (sym (polls_keep s n e d more)) (then e given did)
+change_some P s n c d symbols now later (inl passed) = subst P (sym (polls_keep s n c d passed)) now
+change_some P s n c d symbols now later (inr (e, given, did, more)) = subst P (sym (polls_keep s n e d more)) (later e given did)
 
 one_some : (P : List ℕ → Type 0) (s : Setting) (c d : Chip) (symbols : List ℕ) → P c.array
     → ((e : Chip) (given : List ℕ) → effect s c symbols ≡ Ok (e, given) → P e.array) → DoesSome s c (symbols ∷ []) d → P d.array
-one_some P s c d symbols now then (inl same) = subst (λ (f : Chip). P f.array) (sym same) now
-one_some P s c d symbols now then (inr (e, given, did, same)) = subst (λ (f : Chip). P f.array) (sym same) (then e given did)
+one_some P s c d symbols now later (inl same) = subst (λ (f : Chip). P f.array) (sym same) now
+one_some P s c d symbols now later (inr (e, given, did, same)) = subst (λ (f : Chip). P f.array) (sym same) (later e given did)
 
 -- after a step that was done
 done_holds : (P : List ℕ → Type 0) (f : Chip) (r : Result (Chip × List ℕ) Wrong) → AllHold P (trail_on r (λ after. [])) → done r ≡ Ok f → P f.array
@@ -301,6 +299,10 @@ one_holds keeps P s c d e f reads (Verify symbols expect) rest begun is now all 
     let stays = verifies_keep keeps s c e f reads (Verify symbols expect ∷ []) rest refl is (subst (λ (b : Chip). DoesSome s b (symbols ∷ []) e) same some) in
     subst (λ (b : Chip). P b.array) (sym stays) now
 
+sent_same : (s : Setting) (c e f : Chip) (symbols given : List ℕ) → effect s c symbols ≡ Ok (e, given) → step s c (Send symbols) ≡ Ok f → e ≡ f
+unfolding step
+sent_same s c e f symbols given did is = done_same e f given (effect s c symbols) did is
+
 -- a change and its poll
 change_holds : (P : List ℕ → Type 0) (s : Setting) (c e f : Chip) (reads : ℕ) (change wait : List ℕ) (rest : List Step)
     → run s c (Send change ∷ (Poll wait ∷ rest)) ≡ Ok f → P c.array → AllHold P (trail s c (Send change ∷ (Poll wait ∷ rest)))
@@ -342,10 +344,6 @@ finds_clear s c [] latched xs are calm clear = absurd are
 finds_clear s c (i ∷ more) latched xs are calm clear =
     let by = sent_by s.meaning c.mode4 i i.what enable_clocks refl are.0 in
     clear (calm_now latched i more (enable_seen s.meaning c.mode4 i by.spelled) calm)
-
-sent_same : (s : Setting) (c e f : Chip) (symbols given : List ℕ) → effect s c symbols ≡ Ok (e, given) → step s c (Send symbols) ≡ Ok f → e ≡ f
-unfolding step
-sent_same s c e f symbols given did is = done_same e f given (effect s c symbols) did is
 
 verifying_begun : (row : List Step) (begun : List Operation) → list_all verifies row ≡ true → IsFirstBegun row begun → begun ≡ []
 verifying_begun [] begun all first = absurd first
@@ -403,7 +401,7 @@ planned_here m start verify content goal steps s is those =
     (subst (λ b. AreStepsOf m b these steps) mode those)
 
 pub loop_breaks : PlannedDoesTask → OneUnitInTheMaking → VerifyKeeps → LoopBreaks
-loop_breaks does making keeps m start verify content goal steps first again work at row reads able planned one two begun s held after may =
+loop_breaks does making keeps m start verify content goal steps first again work at row reads able those one two begun s held after may =
     let front = in_parts s (ready s held) after first (again ++ work) may.explains in
     let told = one.tells s held front.between (record { is = may.is; size = may.size; explains = front.first }) in
     let back = in_parts s front.between after again work front.second in
@@ -416,12 +414,12 @@ loop_breaks does making keeps m start verify content goal steps first again work
     let on : Explains s (ready s content) work after =
     subst (λ (array : List ℕ). Explains s (ready s array) work after) told.0
     (subst (λ (c : Chip). Explains s c work after) retold.1 back.second) in
-    let its = does m start verify content goal steps able planned s may.is in
+    let its = does m start verify content goal steps able those s may.is in
     let P = IsInTheMaking (planned_units m start content goal) content goal in
     let c = ready s content in
     let tail = row ++ begun.rest in
-    let trails = making m start verify content goal steps able planned s may.is in
-    let are = planned_here m start verify content goal steps s may.is planned in
+    let trails = making m start verify content goal steps able those s may.is in
+    let are = planned_here m start verify content goal steps s may.is those in
     let reached = reach P s c after its.final begun.front tail begun.done begun.begun (planned m start verify content goal) false
     (subst (λ (l : List Step). AreStepsOf s.meaning c.mode4 (planned m start verify content goal) l) begun.those are)
     (lowered_calm m start (strategy m start) (planned_ops m start verify content goal)) (λ none. refl)
