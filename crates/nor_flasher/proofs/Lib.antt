@@ -1,4 +1,3 @@
-mod HaltedLemmas
 mod ApartLemmas
 mod DoableLemmas
 mod LengthLemmas

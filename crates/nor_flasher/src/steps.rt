@@ -8,7 +8,7 @@ ghost use Rattle.nor_serprog.specs.Row.{HasHalted, CountsHalt};
 
 use nor_base::{ByteIn, ByteOut, Step};
 use nor_progress::Progress;
-use nor_serprog::{Halt, Limits, do_row, is_doable, row_length};
+use nor_serprog::{Halt, Limits, do_row, is_doable, row_length, rows};
 
 /// Whether [`do_steps`] takes these steps: each is one that [`do_step`](nor_serprog::do_step) takes.
 pub fn are_doable(steps: &[Step]) -> bool
@@ -42,6 +42,7 @@ pub fn do_steps<R: ByteIn, W: ByteOut, P: ByteOut>(
     ensures reads_room { R.count from.new ≤ R.count from.old + 1 }
     ensures writes_room { W.count to.new ≤ W.count to.old + 1 }
 {
+    rows();
     let mut far = Progress::of(steps);
     let mut rest = steps;
     while !rest.is_empty() {

@@ -19,12 +19,18 @@ use Rattle.nor_serprog.specs.Exchange.{AnswersKnown}
 use Rattle.nor_serprog.specs.Follow.{status_requests, most_reads, CountsReason}
 use Rattle.nor_serprog.specs.Protocol.{request, answer}
 
--- what goes out for a step: the request of its operation; of a poll so many status reads
-abbrev pub IsAsked : Limits → ℕ → Step → List ℕ → Type 0
-IsAsked limits reads (Send symbols) put = (sent : List ℕ) × IsOperation limits symbols sent 0 × (put ≡ request sent 0)
-IsAsked limits reads (Poll symbols) put = (symbols ≡ poll_clocks) × (put ≡ status_requests reads)
-IsAsked limits reads (Verify symbols expect) put =
+-- what goes out for a step that isn't a poll: the request of its operation
+abbrev pub IsSent : Limits → Step → List ℕ → Type 0
+IsSent limits (Send symbols) put = (sent : List ℕ) × IsOperation limits symbols sent 0 × (put ≡ request sent 0)
+IsSent limits (Poll symbols) put = ⊥
+IsSent limits (Verify symbols expect) put =
     (sent : List ℕ) × IsOperation limits symbols sent (length expect) × (put ≡ request sent (length expect))
+
+-- and of a poll so many status reads
+abbrev pub IsAsked : Limits → ℕ → Step → List ℕ → Type 0
+IsAsked limits reads (Send symbols) put = IsSent limits (Send symbols) put
+IsAsked limits reads (Poll symbols) put = (symbols ≡ poll_clocks) × (put ≡ status_requests reads)
+IsAsked limits reads (Verify symbols expect) put = IsSent limits (Verify symbols expect) put
 
 -- for steps, one after the other
 abbrev pub AreAsked : Limits → ℕ → List Step → List ℕ → Type 0
@@ -114,6 +120,12 @@ abbrev pub HaltInSteps : Type 0
 HaltInSteps = (h i j : Option (List ℕ)) (a b c : Ahead) (limits : Limits) (turns : ℕ) (front row rest : List Step) (inner outer : Halt)
     → HasDoneAll h i a b limits turns front → HasHalted i j b c limits turns row inner → outer.step ≡ length front + inner.step
     → outer.why ≡ inner.why → HasHalted h j a c limits turns (front ++ (row ++ rest)) outer
+
+-- the requests of steps that aren't polls, one after the other
+abbrev pub AreSent : Limits → List Step → List ℕ → Type 0
+AreSent limits [] put = put ≡ []
+AreSent limits (x ∷ xs) put =
+    (first : List ℕ) × (rest : List ℕ) × (put ≡ first ++ rest) × IsSent limits x first × AreSent limits xs rest
 
 -- the answers of steps that aren't polls were taken
 abbrev pub TakesAnswers : Ahead → Ahead → List Step → Type 0

@@ -81,7 +81,9 @@ pub(crate) fn wait<R: ByteIn, W: ByteOut>(
     while left > 0 {
         let mut requests = Requests::new();
         let reads = add_reads(&mut requests, ahead, left);
-        put_all(to, requests.as_slice()).map_err(|_| Fault::Write)?;
+        if put_all(to, requests.as_slice()).is_err() {
+            return Err(Reason::Exchange(Fault::Write));
+        }
         if take_statuses(from, reads)? {
             return Ok(());
         }

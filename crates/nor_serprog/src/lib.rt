@@ -4,7 +4,8 @@
 //! [`greet`] begins, [`test_line`] shows that each byte reaches the device as it was sent,
 //! [`operate`] does one SPI operation, [`operate_with`] one whose answer is known, [`is_carried`]
 //! reports which clocks are one. [`do_step`] does a step of a script, [`do_row`] steps whose requests
-//! go out in one write ([`row_length`]); [`carried`] finds a step that can't be done. [`release`] ends. [`Shadowed`] is a [`nor_chip::Port`]: a chip in memory that the
+//! go out in one write ([`row_length`]; [`rows`] is a law of
+//! them); [`carried`] finds a step that can't be done. [`release`] ends. [`Shadowed`] is a [`nor_chip::Port`]: a chip in memory that the
 //! chip behind the device is to go along with.
 #![tactic(auto)]
 
@@ -15,6 +16,7 @@ mod fault;
 mod follow;
 mod halt;
 mod handshake;
+mod laws;
 mod limits;
 mod line;
 mod operation;
@@ -29,6 +31,7 @@ pub use done::{carried, do_step, is_doable};
 pub use fault::{Command, Fault, GreetFault, Reason};
 pub use handshake::greet;
 pub use halt::Halt;
+pub use laws::rows;
 pub use limits::Limits;
 pub use line::test_line;
 pub use operation::{operate, operate_with};

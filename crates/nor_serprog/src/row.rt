@@ -2,11 +2,14 @@
 
 ghost use Rattle.std.specs.Bool.{OnTrue};
 ghost use Rattle.std.specs.Prelude.{◌≡◌, ◌≤◌, ◌<◌, ◌⊎◌, ◌+◌, ◌-◌, ◌^◌, ◌++◌, [], ◌∷◌, ℕ, List, All, IfSome, MatchResult, length, take};
+ghost use Rattle.nor_base.specs.Sample.{sampled_count};
 ghost use Rattle.nor_base.specs.Step.{expected};
 ghost use Rattle.nor_base.specs.declared.step.Step.TheVariants.{Poll};
 ghost use Rattle.nor_serprog.specs.declared.fault.Fault.TheVariants.{Read, Write};
+ghost use Rattle.nor_serprog.specs.Carried.{IsOperation};
+ghost use Rattle.nor_serprog.specs.Protocol.{request};
 ghost use Rattle.nor_serprog.specs.Done.{IsDoable, HasDoneAll};
-ghost use Rattle.nor_serprog.specs.Row.{AreAsked, CountsHalt, FitAhead, HasHalted, IsAsked, IsForm, IsRow, StopsAnswers, TakesAnswers};
+ghost use Rattle.nor_serprog.specs.Row.{AreSent, CountsHalt, FitAhead, HasHalted, IsAsked, IsForm, IsRow, IsSent, StopsAnswers, TakesAnswers};
 
 use crate::clocks::bits_sent;
 use crate::done::do_step;
@@ -164,7 +167,7 @@ fn do_ahead<R: ByteIn, W: ByteOut>(
     requires form { All IsDoable row.now }
     requires row { IsRow limits.now row.now }
     requires parts { (row.now ≡ front.now) ⊎ ((wait : List ℕ) × (row.now ≡ front.now ++ Poll wait ∷ [])) }
-    requires asked { (reads : ℕ) → AreAsked limits.now reads front.now requests.items }
+    requires sent { AreSent limits.now front.now requests.items }
     requires fits { length requests.items ≤ limits.now.ahead }
     requires reader { R.count from.old < 2 ^ 64 - 1 }
     requires writer { W.count to.old < 2 ^ 64 - 1 }
@@ -205,7 +208,7 @@ fn before_poll(row: &[Step]) -> &[Step]
 /// The requests of steps that aren't polls, where they fit what the device takes before it answers.
 fn gathered(steps: &[Step], limits: &Limits) -> Option<Requests>
     requires { All IsDoable steps.now }
-    ensures asked { IfSome result (λ requests. (reads : ℕ) → AreAsked limits.now reads steps.now requests.items) }
+    ensures sent { IfSome result (λ requests. AreSent limits.now steps.now requests.items) }
     ensures fits { IfSome result (λ requests. length requests.items ≤ limits.now.ahead) }
 {
     let mut requests = Requests::new();
@@ -223,14 +226,24 @@ fn gathered(steps: &[Step], limits: &Limits) -> Option<Requests>
 /// Adds the request of a step that isn't a poll, where it is one of the device and has room; whether it was added.
 fn add_step(requests: &mut Requests, step: &Step, limits: &Limits) -> bool
     requires { IsDoable step.now }
-    ensures { OnTrue result ((put : List ℕ) × (requests.new.items ≡ requests.old.items ++ put) × ((reads : ℕ) → IsAsked limits.now reads step.now put)) }
+    ensures { OnTrue result ((put : List ℕ) × (requests.new.items ≡ requests.old.items ++ put) × IsSent limits.now step.now put) }
 {
-    let asked = match step {
-        Step::Send { .. } => 0,
-        Step::Verify { expect, .. } => expect.as_slice().len(),
-        Step::Poll { .. } => return false,
-    };
-    match bits_sent(step.clocks(), limits) {
+    match step {
+        Step::Send { clocks } => add_operation(requests, clocks.as_slice(), 0, limits),
+        Step::Verify { clocks, expect } => {
+            add_operation(requests, clocks.as_slice(), expect.as_slice().len(), limits)
+        }
+        Step::Poll { .. } => false,
+    }
+}
+
+/// Adds the request of the operation of these clocks, where it is one of the device and has room; whether it was added.
+fn add_operation(requests: &mut Requests, clocks: &[u8], asked: usize, limits: &Limits) -> bool
+    requires { asked ≡ sampled_count clocks.now }
+    ensures { OnTrue result ((sent : List ℕ) × IsOperation limits.now clocks.now sent asked
+        × (requests.new.items ≡ requests.old.items ++ request sent asked)) }
+{
+    match bits_sent(clocks, limits) {
         Some(bits) => add_request(requests, bits, asked as u32),
         None => false,
     }

@@ -11,4 +11,4 @@ returns-clause-bytes g c =
     let bytes = bytes_of_bits c.args.bits.now in
     let is : c.head.result ≡ head (length bytes) c.args.asked = search rules in
     Writes-then _ _ _ c.put_sent.result (head (length bytes) c.args.asked) bytes
-    (subst (Appends (g.W.ByteOut.held c.args.to.now) (g.W.ByteOut.held c.put_all.new.writer)) is c.in_ok-put_all.ensures.bytes) c.put_sent.ensures.bytes
+    (subst (Appends (g.W.ByteOut.held c.args.to.now) (g.W.ByteOut.held c.put_all-2.new.writer)) is c.in_ok-put_all.ensures.bytes) c.put_sent.ensures.bytes
