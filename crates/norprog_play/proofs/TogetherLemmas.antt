@@ -1,8 +1,9 @@
 -- Steps that the chip in memory does first, and then the device, all at once.
 use Rattle.std.proofs.Common.{◌≡◌, ℕ, ◌+◌, ◌<◌, ◌≤◌, ◌⊎◌, inl, inr, Bool, true, false, if◌then◌else◌, List, [], ◌∷◌, ◌++◌, take, drop, length, get_or, Option, Some, None, Result, Ok, Err, zero, suc, refl, sym, ◌∙◌, ap, subst, arith, length-append}
+use Rattle.std.proofs.Math.Nat.{min-le_left}
 use Rattle.std.proofs.Math.Seq.{get_or-append_seam}
-use Rattle.std.proofs.lemmas.List.{append_assoc, append-nil, nil_from_length, take_all, take-append-drop}
-use Rattle.std.proofs.lemmas.List.Elements.{All-nil, All-cons, All-get_or}
+use Rattle.std.proofs.lemmas.List.{append_assoc, append-nil, nil_from_length, take_all, take-append-drop, take-append-le, length-take, length-take-le}
+use Rattle.std.proofs.lemmas.List.Elements.{All-nil, All-cons, All-get_or, All-take}
 use Rattle.std.proofs.lemmas.Slice.Eq.{bytes_eq-Decides}
 use Rattle.std.specs.Prelude.{All}
 use Rattle.std.specs.Io.KnownBytes.{Appends}
@@ -32,7 +33,7 @@ use Rattle.nor_serprog.specs.Row.{CutsRow, HasHalted, IsRow, StopsWithin}
 use Rattle.norprog_play.specs.declared.ending.Failure.{Failure}
 use Rattle.norprog_play.specs.Failure.{FailsAs}
 use Rattle.norprog_play.specs.Moment.{Moment, IsTaken, Does, DoesAll, StopsAt, StopsFollowing, StopsStep}
-use Rattle.norprog_play.specs.Together.{AreTaken, GivesExpected, IsPlain, StopsAlone}
+use Rattle.norprog_play.specs.Together.{AreTaken, GivesExpected, IsPlain, MayGoTogether, StopsAlone}
 use Rattle.norprog_play.proofs.FollowedLemmas.{Goes, GoesOn}
 use Rattle.norprog_play.proofs.TakenLemmas.{goes_on}
 
@@ -342,3 +343,24 @@ taken_to_end a b row i all taken = subst (λ (l : List Step). AreTaken a l b) (t
 
 pub one_in : (P : Step → Type 0) (row : List Step) (i : ℕ) (x : Step) → i < length row → x ≡ get_or row i x → All P row → P x
 one_in P row i x within is all = subst P (sym is) (All-get_or P row i x within all)
+
+-- the front of a front
+shorter : (xs : List Step) (n m : ℕ) → n ≤ length (take m xs) → take n (take m xs) ≡ take n xs
+shorter xs n m fits = sym (take-append-le n (take m xs) (drop m xs) fits) ∙ ap (take n) (take-append-drop m xs)
+
+at_most : (xs : List Step) (m : ℕ) → length (take m xs) ≤ m
+at_most xs m = subst (λ n. n ≤ m) (sym (length-take m xs)) (min-le_left m (length xs))
+
+-- fewer of some that are so are so
+pub fewer : (P : Step → Type 0) (steps : List Step) (n m k : ℕ) → n ≤ length (take m steps) → m ≤ length (take k steps) → All P (take m (take k steps)) → All P (take n steps)
+fewer P steps n m k few some all =
+    let most : length (take m steps) ≤ m = at_most steps m in
+    let as_many : length (take m (take k steps)) ≡ m = length-take-le m (take k steps) some in
+    let within : n ≤ length (take m (take k steps)) = omega (arith, few, most, as_many) in
+    let nearer : n ≤ length (take k steps) = omega (arith, few, most, some) in
+    subst (All P) (shorter (take k steps) n m within ∙ shorter steps n k nearer) (All-take P n (take m (take k steps)) all)
+
+-- several that go together are plain
+pub are_plain : (row : List Step) (n : ℕ) → MayGoTogether row → length row ≡ n → (n ≡ 1 → ⊥) → All IsPlain row
+are_plain row n (inl one) as_many several = absurd (several (sym as_many ∙ one))
+are_plain row n (inr plain) as_many several = plain
