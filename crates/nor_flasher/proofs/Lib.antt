@@ -2,3 +2,4 @@ mod ApartLemmas
 mod DoableLemmas
 mod LengthLemmas
 mod BegunLemmas
+mod StepsLemmas

@@ -12,7 +12,6 @@ use Rattle.nor_base.specs.Spelling.{Instr, bytes_to_send, count_to_read}
 use Rattle.nor_serprog.specs.declared.limits.Limits.{Limits}
 use Rattle.nor_serprog.specs.Carried.{operation_clocks}
 use Rattle.nor_base.specs.Chip.{Setting, Chip}
-use Rattle.nor_serprog.specs.Done.{HasDoneAll}
 use Rattle.nor_loop.specs.Log.{Operation, Explains}
 use Rattle.nor_loop.specs.Loop.{EveryChipEnds, EveryChipHoldsPart}
 
@@ -37,11 +36,6 @@ SingleIsOperation = (i : Instr) → is_single i ≡ true
 abbrev pub PlannedIsSingle : Type 0
 PlannedIsSingle = (m : Parameters) (start : Start) (verify : Bool) (have want : List ℕ) → start.quad ≡ false
     → list_all is_single (planned m start verify have want) ≡ true
-
--- what a device did in two parts it did as a whole
-abbrev pub DoneInParts : Type 0
-DoneInParts = (h i j : Option (List ℕ)) (a b c : Ahead) (limits : Limits) (turns : ℕ) (xs ys : List Step)
-    → HasDoneAll h i a b limits turns xs → HasDoneAll i j b c limits turns ys → HasDoneAll h j a c limits turns (xs ++ ys)
 
 -- the chip with the quad setting, or without it
 abbrev pub with_quad : Bool → Setting → Setting

@@ -8,7 +8,7 @@
 pub mod worked;
 
 ghost use Rattle.nor_loop.specs.Four.{FourReadsRead, BothRead};
-ghost use Rattle.nor_loop.specs.Single.{SingleIsOperation, PlannedIsSingle, DoneInParts, QuadUnseen, WhateverQuad, WhateverQuadPart};
+ghost use Rattle.nor_loop.specs.Single.{SingleIsOperation, PlannedIsSingle, QuadUnseen, WhateverQuad, WhateverQuadPart};
 ghost use Rattle.nor_loop.specs.Laws.{ReadsTell, ReadsKeep, LoopCloses, LoopResumes, LoopMends, LoopBreaks, LoopIsExplained, DoneIsLogged, HaltIsLogged, DeviceCloses, DeviceBreaks, OneLog, LogsJoin, EnteredReadsTell, ReadsRead, EnteredReadsRead, ToldLoopCloses};
 
 use nor_laws::{spelling, verifying_reads};
@@ -83,11 +83,10 @@ pub fn device()
 }
 
 /// An instruction on one lane without dummy clocks is one operation of a device; without the quad setting planned work has no other
-/// instruction. What a device did in two parts it did as a whole.
+/// instruction.
 pub fn single()
     ensures operation { SingleIsOperation }
     ensures planned { PlannedIsSingle }
-    ensures parts { DoneInParts }
 {}
 
 /// A log doesn't show the chip's quad setting, so what is promised for one setting is promised for the other. This holds of work that

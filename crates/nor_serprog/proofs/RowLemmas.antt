@@ -22,7 +22,7 @@ use Rattle.nor_serprog.specs.Protocol.{request, answer}
 use Rattle.nor_serprog.specs.Exchange.{AnswersKnown}
 use Rattle.nor_serprog.specs.Follow.{Waits, status_requests, most_reads}
 use Rattle.nor_serprog.specs.Done.{IsDoable, HasDone, HasStopped, HasDoneAll}
-use Rattle.nor_serprog.specs.Row.{IsSent, AreSent, IsAsked, AreAsked, IsForm, FitAhead, IsRow, AreAhead, StopsWithin, CutsRow, HasHalted, HaltInSteps, TakesAnswers, StopsAnswers, enable_clocks}
+use Rattle.nor_serprog.specs.Row.{IsSent, AreSent, IsAsked, AreAsked, IsForm, FitAhead, IsRow, AreAhead, StopsWithin, CutsRow, HasHalted, DoneInParts, HaltInSteps, TakesAnswers, StopsAnswers, enable_clocks}
 use Rattle.nor_serprog.proofs.ExchangeLemmas.{knows_then}
 use Rattle.nor_serprog.proofs.FollowLemmas.{operates_as}
 use Rattle.nor_serprog.proofs.WaitLemmas.{out_split}
@@ -242,11 +242,10 @@ pub done_next : (h i j : Option (List ℕ)) (a b c : Ahead) (limits : Limits) (t
 done_next h i j a b c limits turns steps at x within is all one =
     subst (λ (l : List Step). HasDoneAll h j a c limits turns l) (sym (one_taken steps at x within is)) (done_snoc h i j a b c limits turns (take at steps) x all one)
 
-done_both : (h i j : Option (List ℕ)) (a b c : Ahead) (limits : Limits) (turns : ℕ) (xs ys : List Step) → HasDoneAll h i a b limits turns xs
-    → HasDoneAll i j b c limits turns ys → HasDoneAll h j a c limits turns (xs ++ ys)
-done_both h i j a b c limits turns [] ys (held, ahead) more =
+pub done_in_parts : DoneInParts
+done_in_parts h i j a b c limits turns [] ys (held, ahead) more =
     subst (λ (k : Option (List ℕ)). HasDoneAll k j a c limits turns ys) held (subst (λ (e : Ahead). HasDoneAll i j e c limits turns ys) ahead more)
-done_both h i j a b c limits turns (x ∷ xs) ys (k, e, did, rest) more = (k, e, did, done_both k i j e b c limits turns xs ys rest more)
+done_in_parts h i j a b c limits turns (x ∷ xs) ys (k, e, did, rest) more = (k, e, did, done_in_parts k i j e b c limits turns xs ys rest more)
 
 -- steps with a poll at the end
 pub polled : (h i j : Option (List ℕ)) (a b c : Ahead) (limits : Limits) (turns : ℕ) (row front : List Step) (wait : List ℕ) → row ≡ front ++ Poll wait ∷ []
@@ -467,7 +466,7 @@ halt_in_steps h i j a b c limits turns front row rest inner outer before halted 
       row = halted.row;
       held = halted.held;
       ahead = halted.ahead;
-      before = done_both h i halted.held a b halted.ahead limits turns front halted.done before halted.before;
+      before = done_in_parts h i halted.held a b halted.ahead limits turns front halted.done before halted.before;
       stopped = subst (λ (w : Reason). StopsWithin halted.held j halted.ahead c limits turns w halted.at halted.beyond
           ⊎ CutsRow halted.held j halted.ahead c limits turns w (halted.at ∷ halted.beyond)) (sym why) halted.stopped;
     }

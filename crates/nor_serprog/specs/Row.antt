@@ -115,6 +115,11 @@ abbrev pub CountsHalt : Fault → ℕ → ℕ → Result (Unit {0}) Halt → Typ
 CountsHalt device before after (Ok u) = after ≡ before
 CountsHalt device before after (Err halt) = CountsReason {T = Unit {0}} device before after (Err halt.why)
 
+-- what a device did in two parts it did as a whole
+abbrev pub DoneInParts : Type 0
+DoneInParts = (h i j : Option (List ℕ)) (a b c : Ahead) (limits : Limits) (turns : ℕ) (xs ys : List Step)
+    → HasDoneAll h i a b limits turns xs → HasDoneAll i j b c limits turns ys → HasDoneAll h j a c limits turns (xs ++ ys)
+
 -- a row of steps that halted is a halt of all steps, where those before it were done
 abbrev pub HaltInSteps : Type 0
 HaltInSteps = (h i j : Option (List ℕ)) (a b c : Ahead) (limits : Limits) (turns : ℕ) (front row rest : List Step) (inner outer : Halt)

@@ -1,6 +1,9 @@
--- A halt in a row is one in all steps.
-use Rattle.nor_serprog.proofs.RowLemmas.{halt_in_steps}
+-- Parts of all steps.
+use Rattle.nor_serprog.proofs.RowLemmas.{done_in_parts, halt_in_steps}
 use Rattle.nor_serprog.proofs.laws.rows.Goals as goal
 
-pub returns : goal.returns
-returns c = record { halts = halt_in_steps }
+pub returns-clause-parts : goal.returns-clause-parts
+returns-clause-parts c = done_in_parts
+
+pub returns-clause-halts : goal.returns-clause-halts
+returns-clause-halts c = halt_in_steps
