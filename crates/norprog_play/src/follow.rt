@@ -5,6 +5,7 @@ ghost use Rattle.nor_base.specs.Chip.{Chip as ShownChip};
 ghost use Rattle.nor_base.specs.Run.{played};
 ghost use Rattle.nor_base.specs.Sample.{sampled_count};
 ghost use Rattle.nor_base.specs.Step.{expected, step_clocks};
+ghost use Rattle.nor_progress.specs.Far.{HasRoom};
 ghost use Rattle.nor_serprog.specs.Row.{IsRow};
 ghost use Rattle.norprog_play.specs.Carried.{AreCarried};
 ghost use Rattle.norprog_play.specs.Failure.{FailsAs};
@@ -13,10 +14,10 @@ ghost use Rattle.norprog_play.specs.Together.{MayGoTogether, StopsAlone};
 
 use crate::ending::Failure;
 use crate::failure::failure_of;
-use crate::progress::Progress;
 use crate::together::{expected, row_of, take_row};
 use nor_base::{ByteOut, Meaning, PortFault, Step, sampled};
 use nor_chip::Port;
+use nor_progress::Progress;
 use nor_serprog::{Reason, Shadowed, do_row};
 use std::io::{Read, Write};
 
@@ -65,11 +66,21 @@ pub(crate) fn follow_steps<R: Read + Drop, W: Write + Drop, P: ByteOut>(
             let why = halt.why;
             return Err(Halt { step, why });
         }
-        far.steps_done(&rest[..count], progress);
+        row_done(&rest[..count], &mut far, progress);
         done += count;
     }
     far.end(progress);
     Ok(())
+}
+
+/// These steps of a row were done.
+fn row_done<P: ByteOut>(row: &[Step], far: &mut Progress, progress: &mut P)
+    requires { HasRoom far.old (P.count progress.old) }
+    ensures { HasRoom far.new (P.count progress.new) }
+{
+    for step in row {
+        far.step_done(step, progress);
+    }
 }
 
 /// Has the device do so many of the first steps, which the chip in memory takes, at once.

@@ -25,7 +25,6 @@ mod job;
 mod likeness;
 mod line;
 mod piece;
-mod progress;
 mod rehearsal;
 mod request;
 mod script;

@@ -1,11 +1,11 @@
 -- A step alone, or a row.
-use Rattle.std.proofs.Common.{◌≡◌, ◌<◌, ◌∙◌, List, [], ◌∷◌, take, length, ap, refl, arith}
+use Rattle.std.proofs.Common.{◌≡◌, ◌<◌, ◌∙◌, List, [], ◌∷◌, take, length, ap, subst, sym, refl, arith}
 use Rattle.std.proofs.lemmas.List.{length-take-le}
 use Rattle.std.specs.Prelude.{All}
 use Rattle.nor_base.specs.declared.step.Step.{Step}
 use Rattle.nor_base.specs.Device.{ahead_of}
 use Rattle.nor_base.proofs.ListLaws.{one_taken}
-use Rattle.norprog_play.specs.Moment.{moment}
+use Rattle.norprog_play.specs.Moment.{moment, StopsAt}
 use Rattle.norprog_play.specs.Together.{IsPlain}
 use Rattle.norprog_play.proofs.FollowedLemmas.{takes_next}
 use Rattle.norprog_play.proofs.TogetherLemmas.{are_plain, both_do, halted, stops_alone}
@@ -38,8 +38,9 @@ pub returns-in-Err-do_row-clause-done : goal.returns-in-Err-do_row-clause-done
 returns-in-Err-do_row-clause-done g c =
     let row = take c.args.count c.args.steps.now in
     let plain : All IsPlain row = are_plain row c.args.count c.requires.together (length-take-le c.args.count c.args.steps.now c.requires.within) c.if-count-eq1.false in
-    halted c.args.meaning.now c.args.port.now.limits c.args.port.now.turns row c.args.port.now.chip c.take_row.new.chip (g.W.Write.contents c.args.port.now.to.inner)
+    let after = moment c.take_row.new.chip (g.W.Write.contents c.do_row.new.to.inner) (g.R.Read.remaining c.do_row.new.from.inner) in
+    let before = moment c.args.port.now.chip (g.W.Write.contents c.args.port.now.to.inner) (g.R.Read.remaining c.args.port.now.from.inner) in
+    subst (λ n. StopsAt c.args.meaning.now c.args.port.now.limits c.args.port.now.turns before row n c.failed.result.why after) (sym c.failed.ensures.step)
+    (halted c.args.meaning.now c.args.port.now.limits c.args.port.now.turns row c.args.port.now.chip c.take_row.new.chip (g.W.Write.contents c.args.port.now.to.inner)
     (g.W.Write.contents c.do_row.new.to.inner) (ahead_of (g.R.Read.remaining c.args.port.now.from.inner)) (ahead_of (g.R.Read.remaining c.do_row.new.from.inner))
-    c.in-Err-do_row.halt c.failed.result.why
-    (moment c.take_row.new.chip (g.W.Write.contents c.do_row.new.to.inner) (g.R.Read.remaining c.do_row.new.from.inner)) refl refl c.take_row.ensures.taken plain
-    c.in-Err-do_row.ensures.done c.failed.ensures.why
+    c.in-Err-do_row.halt c.failed.result.why after refl refl c.take_row.ensures.taken plain c.in-Err-do_row.ensures.done c.failed.ensures.why)
