@@ -1,5 +1,5 @@
 -- Steps that the chip in memory does first, and then the device, all at once.
-use Rattle.std.proofs.Common.{◌≡◌, ℕ, ◌+◌, ◌<◌, ◌≤◌, ◌⊎◌, inl, inr, Bool, true, false, if◌then◌else◌, List, [], ◌∷◌, ◌++◌, take, drop, length, get_or, Option, Some, None, Result, Ok, Err, zero, suc, refl, sym, ◌∙◌, ap, subst, arith, length-append}
+use Rattle.std.proofs.Common.{◌≡◌, ℕ, ◌+◌, ◌-◌, ◌<◌, ◌≤◌, ◌⊎◌, inl, inr, Bool, true, false, if◌then◌else◌, List, [], ◌∷◌, ◌++◌, take, drop, length, get_or, Option, Some, None, Result, Ok, Err, zero, suc, refl, sym, ◌∙◌, ap, subst, arith, length-append, length-drop}
 use Rattle.std.proofs.Math.Nat.{min-le_left}
 use Rattle.std.proofs.Math.Seq.{get_or-append_seam}
 use Rattle.std.proofs.lemmas.List.{append_assoc, append-nil, nil_from_length, take_all, take-append-drop, take-append-le, length-take, length-take-le}
@@ -364,3 +364,7 @@ fewer P steps n m k few some all =
 pub are_plain : (row : List Step) (n : ℕ) → MayGoTogether row → length row ≡ n → (n ≡ 1 → ⊥) → All IsPlain row
 are_plain row n (inl one) as_many several = absurd (several (sym as_many ∙ one))
 are_plain row n (inr plain) as_many several = plain
+
+-- what is left over is all behind the front
+pub all_left_over : (n : ℕ) (xs : List Step) → take (length xs - n) (drop n xs) ≡ drop n xs
+all_left_over n xs = let long : length (drop n xs) ≤ length xs - n = omega (arith, length-drop n xs) in take_all (length xs - n) (drop n xs) long

@@ -1,5 +1,5 @@
 -- A row more, or a stop in one.
-use Rattle.std.proofs.Common.{◌≡◌, ◌+◌, ◌∙◌, List, ◌++◌, take, drop, length, drop-drop, ap, subst, sym, arith}
+use Rattle.std.proofs.Common.{◌≡◌, ◌+◌, ◌-◌, ◌≤◌, ◌∙◌, List, ◌++◌, take, drop, length, drop-drop, length-drop, ap, subst, sym, arith}
 use Rattle.std.proofs.Math.Seq.{take-add}
 use Rattle.std.proofs.lemmas.List.{take-append-drop, length-take-le}
 use Rattle.nor_base.specs.declared.step.Step.{Step}
@@ -8,21 +8,22 @@ use Rattle.std.specs.Prelude.{Ok}
 use Rattle.norprog_play.specs.Moment.{moment, DoesAll}
 use Rattle.norprog_play.proofs.CarriedLemmas.{done_bounds, same_bounds}
 use Rattle.norprog_play.proofs.FollowedLemmas.{goes_to_end}
-use Rattle.norprog_play.proofs.TogetherLemmas.{does_append, goes_through, stops_in}
+use Rattle.norprog_play.proofs.TogetherLemmas.{all_left_over, does_append, goes_through, stops_in}
 use Rattle.norprog_play.proofs.follow.follow_steps.Goals as goal
 
 pub returns-in-Err-clause-done : goal.returns-in-Err-clause-done
 returns-in-Err-clause-done g c =
-    let steps = c.args.steps.now in
-    let front = take c.loop-done.done steps in
-    let left = drop c.loop-done.done steps in
-    let row = take c.row_of-count.result left in
-    let rest = drop c.row_of-count.result left in
+    let steps : List Step = c.args.steps.now in
+    let front : List Step = take c.loop-done.done steps in
+    let left : List Step = take (length steps - c.loop-done.done) (drop c.loop-done.done steps) in
+    let whole : left ≡ drop c.loop-done.done steps = all_left_over c.loop-done.done steps in
+    let row : List Step = take c.row_of-count.result left in
+    let rest : List Step = drop c.row_of-count.result left in
     let before = moment c.args.port.now.chip (g.W.Write.contents c.args.port.now.to.inner) (g.R.Read.remaining c.args.port.now.from.inner) in
     let now = moment c.loop-done.port.chip (g.W.Write.contents c.loop-done.port.to.inner) (g.R.Read.remaining c.loop-done.port.from.inner) in
     let after = moment c.follow_row.new.port.chip (g.W.Write.contents c.follow_row.new.port.to.inner) (g.R.Read.remaining c.follow_row.new.port.from.inner) in
     let parts : steps ≡ front ++ (row ++ rest) =
-    sym (ap (λ (l : List Step). front ++ l) (take-append-drop c.row_of-count.result left) ∙ take-append-drop c.loop-done.done steps) in
+    sym (ap (λ (l : List Step). front ++ l) (take-append-drop c.row_of-count.result left ∙ whole) ∙ take-append-drop c.loop-done.done steps) in
     let counted : c.loop-done.done + c.in-Err.halt.step ≡ length front + c.in-Err.halt.step =
     ap (λ n. n + c.in-Err.halt.step) (sym (length-take-le c.loop-done.done steps c.loop-done.invariant.within)) in
     stops_in c.args.meaning.now c.args.port.now.limits c.args.port.now.turns before now after front row rest steps c.in-Err.halt.step
@@ -32,24 +33,30 @@ returns-in-Err-clause-done g c =
 
 pub loop-done-preserved : goal.loop-done-preserved
 loop-done-preserved g c =
-    let steps = c.args.steps.now in
-    let left = drop c.loop-done.done steps in
-    let row = take c.row_of-count.result left in
-    let rest = drop c.row_of-count.result left in
+    let steps : List Step = c.args.steps.now in
+    let left : List Step = take (length steps - c.loop-done.done) (drop c.loop-done.done steps) in
+    let whole : left ≡ drop c.loop-done.done steps = all_left_over c.loop-done.done steps in
+    let row : List Step = take c.row_of-count.result left in
+    let rest : List Step = drop c.row_of-count.result left in
     let before = moment c.args.port.now.chip (g.W.Write.contents c.args.port.now.to.inner) (g.R.Read.remaining c.args.port.now.from.inner) in
     let now = moment c.loop-done.port.chip (g.W.Write.contents c.loop-done.port.to.inner) (g.R.Read.remaining c.loop-done.port.from.inner) in
     let after = moment c.follow_row.new.port.chip (g.W.Write.contents c.follow_row.new.port.to.inner) (g.R.Read.remaining c.follow_row.new.port.from.inner) in
     let one = done_bounds c.args.port.now.limits c.loop-done.port.limits c.args.port.now.turns c.loop-done.port.turns now after row
     c.loop-done.invariant.limits c.loop-done.invariant.turns c.in_default.ensures.done in
+    let few : c.row_of-count.result ≤ length left = c.row_of-count.ensures.within in
+    let long : length left ≡ length steps - c.loop-done.done = ap length whole ∙ length-drop c.loop-done.done steps in
+    let further : c.loop-done.done + c.row_of-count.result ≤ length steps = omega (arith, few, long, c.loop-done.invariant.within) in
+    let same_row : row ≡ take c.row_of-count.result (drop c.loop-done.done steps) = ap (take c.row_of-count.result) whole in
     record {
-      within = omega (arith, c.row_of-count.ensures.within, c.loop-done.invariant.within);
+      within = further;
       does = subst (λ (l : List Step). DoesAll c.args.port.now.limits c.args.port.now.turns before l after)
           (sym (take-add c.loop-done.done c.row_of-count.result steps))
-          (does_append c.args.port.now.limits c.args.port.now.turns before now after (take c.loop-done.done steps) row c.loop-done.invariant.does one);
+          (does_append c.args.port.now.limits c.args.port.now.turns before now after (take c.loop-done.done steps) (take c.row_of-count.result (drop c.loop-done.done steps))
+          c.loop-done.invariant.does (subst (λ (l : List Step). DoesAll c.args.port.now.limits c.args.port.now.turns now l after) same_row one));
       rest = λ d goes.
-          subst (λ (l : List Step). played c.follow_row.new.port.chip.setting 1 c.follow_row.new.port.chip.chip l ≡ Ok d) (drop-drop c.row_of-count.result c.loop-done.done steps)
+          subst (λ (l : List Step). played c.follow_row.new.port.chip.setting 1 c.follow_row.new.port.chip.chip l ≡ Ok d) (ap (drop c.row_of-count.result) whole ∙ drop-drop c.row_of-count.result c.loop-done.done steps)
           (goes_through c.args.port.now.limits c.args.port.now.turns now after row rest d one
-          (subst (λ (l : List Step). played c.loop-done.port.chip.setting 1 c.loop-done.port.chip.chip l ≡ Ok d) (sym (take-append-drop c.row_of-count.result left))
+          (subst (λ (l : List Step). played c.loop-done.port.chip.setting 1 c.loop-done.port.chip.chip l ≡ Ok d) (sym (take-append-drop c.row_of-count.result left ∙ whole))
           (c.loop-done.invariant.rest d goes)));
       fresh = c.in_default.ensures.fresh;
       count = c.in_default.ensures.count ∙ c.loop-done.invariant.count;
