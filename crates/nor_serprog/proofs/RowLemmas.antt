@@ -347,6 +347,10 @@ all_front h h' a b limits turns row front put parts none some sent out taken =
     subst (λ (l : List Step). HasDoneAll h h' a b limits turns l) (sym same)
     (front_done h h' a b limits turns front put (subst (λ (l : List Step). 0 < length l) same some) sent out taken)
 
+-- an answer doesn't fail in the writer
+no_write : (a b : Ahead) (why : Reason) (want : List ℕ) → why ≡ reason.Exchange fault.Write → AnswersKnown a b (Err why) want → ⊥
+no_write a b why want is known = (subst (λ (w : Reason). AnswersKnown a b (Err w) want) is known).2
+
 -- a step stopped before the poll
 pub halts_front : (h h' : Option (List ℕ)) (a a' : Ahead) (limits : Limits) (turns reads : ℕ) (row front polls : List Step) (halt : Halt) (p q : List ℕ)
     → IsRow limits row → row ≡ front ++ polls → reads ≤ most_reads → reads ≤ turns → AreSent limits front p → AreAsked limits reads polls q
@@ -387,6 +391,7 @@ halts_front h h' a a' limits turns reads row front polls halt p q is whole few w
           fits = omega (arith, fits, long);
         };
         out = at.2;
+        last = λ write. absurd (no_write stops.between a' halt.why (expected stops.at) write stops.stop);
       });
     }
 
@@ -405,7 +410,7 @@ halts_last h m h' a b a' limits turns row front x rest halt whole number before 
   held = m;
   ahead = b;
   before = before;
-  stopped = inl (record { held = h'; stopped = stopped; put = []; ahead = none_ahead limits turns; out = Appends-none h' });
+  stopped = inl (record { held = h'; stopped = stopped; put = []; ahead = none_ahead limits turns; out = Appends-none h'; last = λ write. refl });
 }
 
 pub halts_at : (h m h' : Option (List ℕ)) (a b a' : Ahead) (limits : Limits) (turns : ℕ) (row : List Step) (at : ℕ) (x : Step) (halt : Halt)

@@ -83,6 +83,8 @@ pub record StopsWithin (held_before held_after : Option (List ℕ)) (ahead_befor
   pub put : List ℕ
   pub ahead : AreAhead limits turns beyond put
   pub out : Appends held held_after put
+  -- where the writer failed nothing goes out after it
+  pub last : why ≡ reason.Exchange fault.Write → beyond ≡ []
 
 -- or the writer failed in the requests of the step and of those after it, and no answer was taken
 pub record CutsRow (held_before held_after : Option (List ℕ)) (ahead_before ahead_after : Ahead) (limits : Limits) (turns : ℕ)
