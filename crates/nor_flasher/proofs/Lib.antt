@@ -1,5 +1,5 @@
-mod HaltedLemmas
 mod ApartLemmas
 mod DoableLemmas
 mod LengthLemmas
 mod BegunLemmas
+mod StepsLemmas

@@ -1,18 +1,18 @@
 -- Laws of work on a device (this project's).
-use Rattle.std.specs.Prelude.{◌≡◌, ◌⊎◌, ◌<◌, ℕ, Bool, false, List, All, length, Option}
+use Rattle.std.specs.Prelude.{◌≡◌, ◌⊎◌, ◌<◌, ℕ, Bool, false, List, ◌∷◌, All, length, Option}
 use Rattle.nor_base.specs.declared.meaning.Start.{Start}
 use Rattle.nor_base.specs.declared.step.Step.{Step}
 use Rattle.nor_base.specs.Device.{Ahead}
 use Rattle.nor_base.specs.Parameters.{Parameters}
 use Rattle.nor_base.specs.Planned.{ArePlanned, IsWorkable}
 use Rattle.nor_base.specs.Step.{step_clocks}
+use Rattle.nor_serprog.specs.declared.halt.Halt.{Halt}
 use Rattle.nor_serprog.specs.declared.limits.Limits.{Limits}
-use Rattle.nor_serprog.specs.Done.{IsDoable, HasDoneAll, HasStoppedAmong}
+use Rattle.nor_serprog.specs.Done.{IsDoable, HasDoneAll}
 use Rattle.nor_serprog.specs.Carried.{operation_clocks}
+use Rattle.nor_serprog.specs.Row.{HasHalted}
 use Rattle.nor_serprog.specs.Steps.{IsFirstNotCarried}
 use Rattle.nor_loop.specs.Laws.{ReadTwice}
-use Rattle.nor_flasher.specs.declared.steps.Halt.{Halt}
-use Rattle.nor_flasher.specs.Halted.{HasHalted}
 use Rattle.nor_flasher.specs.Apart.{ClosesApart, BreaksApart}
 
 -- a device read a content twice, and later did planned work on it
@@ -28,14 +28,8 @@ abbrev pub Breaks : Type 0
 Breaks = (h0 h1 h2 h3 : Option (List ℕ)) (a0 a1 a2 a3 : Ahead) (limits : Limits) (turns : ℕ) (m : Parameters) (start : Start) (verify : Bool)
     (content goal : List ℕ) (steps : List Step) (halt : Halt)
     → start.quad ≡ false → IsWorkable m start content goal → ArePlanned m start verify content goal steps
-    → ReadTwice h0 h1 a0 a1 m start content → HasHalted h2 h3 a2 a3 limits turns steps halt
-    → BreaksApart h0 h1 a0 a1 h2 a2 m start content goal steps halt.step
-
--- a device that halted stopped among the steps, for the same reason
-abbrev pub HaltedAmong : Type 0
-HaltedAmong = (held_before held_after : Option (List ℕ)) (ahead_before ahead_after : Ahead) (limits : Limits) (turns : ℕ) (steps : List Step)
-    (halt : Halt) → HasHalted held_before held_after ahead_before ahead_after limits turns steps halt
-    → HasStoppedAmong held_before held_after ahead_before ahead_after limits turns halt.why steps
+    → ReadTwice h0 h1 a0 a1 m start content → (halted : HasHalted h2 h3 a2 a3 limits turns steps halt)
+    → BreaksApart h0 h1 a0 a1 h2 a2 m start content goal steps halt.step (halted.at ∷ halted.beyond)
 
 -- each step of planned work can be handed to a device
 abbrev pub PlannedIsDoable : Type 0

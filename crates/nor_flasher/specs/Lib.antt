@@ -1,3 +1,2 @@
-pub mod Halted
 pub mod Apart
 pub mod Laws

@@ -1,9 +1,9 @@
 //! What a device's work says of its chip.
 
-ghost use Rattle.nor_flasher.specs.Laws.{Closes, Breaks, HaltedAmong, PlannedIsDoable, RefusedForLength};
+ghost use Rattle.nor_flasher.specs.Laws.{Closes, Breaks, PlannedIsDoable, RefusedForLength};
 
 use nor_laws::{effects, spelling};
-use nor_loop::{device, loop_breaks, loop_closes, loop_is_explained, quad, single, wire};
+use nor_loop::{device, loop_breaks, loop_closes, loop_is_explained, quad, single};
 use nor_plan_laws::{planned_work, there_is_planned_work};
 
 /// A content was read twice, and later planned work on it was done. Every ready chip that explains both, whatever its quad setting, ends
@@ -20,24 +20,16 @@ pub fn closes()
 
 /// A content was read twice, and later work on it that was planned for one lane halted. Every ready chip that explains both, whatever its
 /// quad setting, held just the content, and at most one unit of the work is in the making. The same holds where the chip did the operation that
-/// came next. Some chip explains both.
+/// came next, or some of its row. Some chip explains both.
 pub fn breaks()
     ensures { Breaks }
 {
     device();
-    wire();
     loop_breaks();
     loop_is_explained();
     quad();
     spelling();
     there_is_planned_work();
-    single();
-}
-
-/// A device that did the steps before one, and stopped at that one, stopped among the steps.
-pub fn halts()
-    ensures { HaltedAmong }
-{
     single();
 }
 

@@ -1,11 +1,12 @@
 //! Work on a chip behind a serprog programmer: [`do_steps`] has the programmer do the steps of a script.
 //!
-//! [`closes`], [`breaks`], [`halts`] and [`doable`] do nothing. Their contracts are laws of content that was read twice and of planned
+//! [`closes`], [`breaks`] and [`doable`] do nothing. Their contracts are laws of content that was read twice and of planned
 //! work that a programmer then did, or broke off.
 #![tactic(auto)]
 
 mod laws;
 mod steps;
 
-pub use laws::{breaks, closes, doable, halts};
-pub use steps::{Halt, are_doable, do_steps};
+pub use laws::{breaks, closes, doable};
+pub use nor_serprog::Halt;
+pub use steps::{are_doable, do_steps};

@@ -3,20 +3,12 @@
 ghost use Rattle.std.specs.Prelude.{◌≡◌, ◌≤◌, ◌<◌, ◌+◌, ◌-◌, ◌^◌, ◌↔◌, All, IsTrue, MatchResult};
 ghost use Rattle.nor_serprog.specs.declared.fault.Fault.TheVariants.{Read, Write};
 ghost use Rattle.nor_serprog.specs.Done.{IsDoable, HasDoneAll};
-ghost use Rattle.nor_flasher.specs.Halted.{HasHalted, CountsHalt};
+ghost use Rattle.nor_progress.specs.Far.{HasRoom};
+ghost use Rattle.nor_serprog.specs.Row.{HasHalted, CountsHalt};
 
 use nor_base::{ByteIn, ByteOut, Step};
 use nor_progress::Progress;
-use nor_serprog::{Limits, Reason, do_step, is_doable};
-
-/// At which step a device stopped, and why.
-#[derive(Clone, Copy, Debug, PartialEq, Eq)]
-pub struct Halt {
-    /// The step, counted from 0. Those before it were done.
-    pub step: u64,
-    /// Why it stopped at it.
-    pub why: Reason,
-}
+use nor_serprog::{Halt, Limits, do_row, is_doable, row_length, rows};
 
 /// Whether [`do_steps`] takes these steps: each is one that [`do_step`](nor_serprog::do_step) takes.
 pub fn are_doable(steps: &[Step]) -> bool
@@ -25,11 +17,10 @@ pub fn are_doable(steps: &[Step]) -> bool
     steps.iter().all(|step| is_doable(step))
 }
 
-/// Has the device do steps, one after the other, each as [`do_step`](nor_serprog::do_step). A poll reads the status
-/// `turns` times at most.
+/// Has the device do steps, one after the other, row by row, as [`do_row`]. A poll reads the status `turns` times at most.
 ///
 /// How far it has come is written to `progress`; where that fails nothing changes. At the first step that can't be done
-/// it stops: the halt has its number, from 0, and the reason that `do_step` returned.
+/// it stops: the halt has its number, from 0, and the reason.
 pub fn do_steps<R: ByteIn, W: ByteOut, P: ByteOut>(
     from: &mut R,
     to: &mut W,
@@ -51,16 +42,30 @@ pub fn do_steps<R: ByteIn, W: ByteOut, P: ByteOut>(
     ensures reads_room { R.count from.new ≤ R.count from.old + 1 }
     ensures writes_room { W.count to.new ≤ W.count to.old + 1 }
 {
+    rows();
     let mut far = Progress::of(steps);
-    let mut number: u64 = 0;
-    for step in steps {
-        if let Err(why) = do_step(from, to, limits, turns, step) {
+    let mut rest = steps;
+    while !rest.is_empty() {
+        let (row, later) = rest.split_at(row_length(rest, limits));
+        if let Err(halt) = do_row(from, to, limits, turns, row) {
+            row_done(&row[..halt.step as usize], &mut far, progress);
             far.end(progress);
-            return Err(Halt { step: number, why });
+            let step = (steps.len() - rest.len()) as u64 + halt.step;
+            return Err(Halt { step, why: halt.why });
         }
-        number += 1;
-        far.step_done(step, progress);
+        row_done(row, &mut far, progress);
+        rest = later;
     }
     far.end(progress);
     Ok(())
+}
+
+/// These steps of a row were done.
+fn row_done<P: ByteOut>(row: &[Step], far: &mut Progress, progress: &mut P)
+    requires { HasRoom far.old (P.count progress.old) }
+    ensures { HasRoom far.new (P.count progress.new) }
+{
+    for step in row {
+        far.step_done(step, progress);
+    }
 }

@@ -1,5 +1,5 @@
 -- What a device did for steps is a log of them.
-use Rattle.std.proofs.Common.{◌≡◌, inl, inr, ℕ, ◌+◌, List, [], ◌∷◌, ◌++◌, length, map, Option, Err, refl, sym, ap, subst, arith, append-nil, append_assoc}
+use Rattle.std.proofs.Common.{◌≡◌, ◌⊎◌, inl, inr, ℕ, true, ◌+◌, List, [], ◌∷◌, ◌++◌, length, map, Option, Err, refl, sym, ap, subst, arith, append-nil, append_assoc}
 use Rattle.std.specs.Prelude.{flat_map}
 use Rattle.std.specs.Io.KnownBytes.{Appends}
 use Rattle.std.specs.List.{AllByRecursion}
@@ -8,19 +8,20 @@ use Rattle.std.proofs.lemmas.List.Folds.{flat_map-map}
 use Rattle.nor_base.specs.declared.step.Step.{Step}
 use Rattle.nor_base.specs.declared.step.Step.TheVariants.{Send, Poll, Verify}
 use Rattle.nor_base.specs.Device.{Ahead, Unknown, Finite, Endless, Gives}
-use Rattle.nor_base.specs.Step.{step_clocks}
 use Rattle.nor_base.proofs.ListLaws.{all_append}
 use Rattle.nor_base.proofs.DeviceLaws.{Appends-none, Appends-append, Gives-append}
 use Rattle.nor_serprog.specs.declared.limits.Limits.{Limits}
 use Rattle.nor_base.specs.Run.{DoesTaskOnEvery}
+use Rattle.nor_serprog.specs.declared.halt.Halt.{Halt}
 use Rattle.nor_serprog.specs.declared.fault.Reason.{Reason}
 use Rattle.nor_serprog.specs.declared.fault.Reason.TheVariants as reason
 use Rattle.nor_plan_laws.specs.Laws.{PlannedDoesTask}
-use Rattle.nor_serprog.specs.Follow.{HasOperated, status_request}
+use Rattle.nor_serprog.specs.Follow.{HasOperated, are_busy, are_idle}
 use Rattle.nor_serprog.specs.Follow as follow
 use Rattle.nor_serprog.specs.Protocol.{request, answer}
-use Rattle.nor_serprog.specs.Done.{HasDone, HasStopped, HasDoneAll, HasStoppedAmong}
-use Rattle.nor_loop.specs.Laws.{DoneIsLogged, StopIsLogged, StoppedIsLogged, ToldLoopCloses, LoopBreaks, LoopIsExplained, DeviceCloses, DeviceBreaks}
+use Rattle.nor_serprog.specs.Done.{HasDone, HasStopped, HasDoneAll}
+use Rattle.nor_serprog.specs.Row.{IsAsked, StopsWithin, CutsRow, HasHalted}
+use Rattle.nor_loop.specs.Laws.{DoneIsLogged, HaltIsLogged, ToldLoopCloses, LoopBreaks, LoopIsExplained, DeviceCloses, DeviceBreaks}
 use Rattle.nor_loop.specs.Log.{Operation, IsShort, HasLogged}
 use Rattle.nor_loop.specs.Steps.{status_read, IsOne, IsWaiting, IsLogOf, IsBegun, AreLogOf, AreBegun}
 
@@ -90,10 +91,10 @@ operated h i a b limits symbols want Holds holds did =
 done_logged : (h i : Option (List ℕ)) (a b : Ahead) (limits : Limits) (turns : ℕ) (x : Step) → HasDone h i a b limits turns x → Logged h i a b (IsLogOf x)
 done_logged h i a b limits turns (Send symbols) did = operated h i a b limits symbols [] _ (λ o is. is) did
 done_logged h i a b limits turns (Poll symbols) (same, waited) =
-    let statuses = waited.busy ++ waited.idle ∷ [] in record {
+    let statuses = waited.busy ++ waited.idle in record {
       log = map status_read statuses;
       wire = statuses_logged h i a b statuses waited.read;
-      is = (same, record { busy = waited.busy; idle = waited.idle; each = waited.each; last = waited.last; those = refl });
+      is = (same, record { busy = waited.busy; idle = waited.idle; some = waited.some; each = waited.each; last = waited.last; those = refl });
     }
 done_logged h i a b limits turns (Verify symbols expect) did = operated h i a b limits symbols expect _ (λ o is. is) did
 
@@ -124,25 +125,26 @@ record StoppedAt (h : Option (List ℕ)) (a : Ahead) (Is : List Operation → Ty
 at_once : (h : Option (List ℕ)) (a : Ahead) (Is : List Operation → Type 0) → Is [] → StoppedAt h a Is
 at_once h a Is is = record { held = h; ahead = a; upto = record { log = []; wire = logged_none h a; is = is } }
 
-waiting : (h i : Option (List ℕ)) (a b : Ahead) (turns : ℕ) (why : Reason) → follow.Waits h i a b (Err why) turns → StoppedAt h a IsWaiting
-waiting h i a b turns reason.Busy stays = record {
+statuses_waiting : (h i : Option (List ℕ)) (a b : Ahead) (busy idle : List ℕ) → are_busy busy ≡ true → are_idle idle ≡ true → follow.HasRead h i a b (busy ++ idle)
+    → StoppedAt h a IsWaiting
+statuses_waiting h i a b busy idle each then_idle read = record {
   held = i;
   ahead = b;
   upto = record {
-    log = map status_read stays.busy;
-    wire = statuses_logged h i a b stays.busy stays.read;
-    is = record { busy = stays.busy; each = stays.each; those = refl };
+    log = map status_read (busy ++ idle);
+    wire = statuses_logged h i a b (busy ++ idle) read;
+    is = record { busy = busy; idle = idle; each = each; then_idle = then_idle; those = refl };
   };
 }
-waiting h i a b turns (reason.Exchange fault) stops = record {
-  held = stops.held;
-  ahead = stops.ahead;
-  upto = record {
-    log = map status_read stops.busy;
-    wire = statuses_logged h stops.held a stops.ahead stops.busy stops.read;
-    is = record { busy = stops.busy; each = stops.each; those = refl };
-  };
-}
+
+waiting : (h i : Option (List ℕ)) (a b : Ahead) (turns : ℕ) (why : Reason) → follow.Waits h i a b (Err why) turns → StoppedAt h a IsWaiting
+waiting h i a b turns reason.Busy (inl stays) =
+    statuses_waiting h i a b stays.busy [] stays.each refl
+    (subst (follow.HasRead h i a b) (sym (append-nil stays.busy)) stays.read)
+waiting h i a b turns reason.Busy (inr again) =
+    statuses_waiting h again.held a again.ahead again.busy again.idle again.each again.then_idle again.read
+waiting h i a b turns (reason.Exchange fault) stops =
+    statuses_waiting h stops.held a stops.ahead stops.busy stops.idle stops.each stops.then_idle stops.read
 waiting h i a b turns reason.Carried none = absurd none
 waiting h i a b turns (reason.Differs place byte) none = absurd none
 
@@ -157,46 +159,58 @@ stopped_logged h i a b limits turns why (Poll symbols) (same, stops) =
     }
 stopped_logged h i a b limits turns why (Verify symbols expect) did = at_once h a (IsBegun (Verify symbols expect)) refl
 
-pub stop_is_logged : StopIsLogged
-stop_is_logged h i a b limits turns why x did =
-    let at = stopped_logged h i a b limits turns why x did in (at.held, at.ahead, at.upto.log, at.upto.wire, at.upto.is)
+-- nothing of a step was done yet
+not_yet : (limits : Limits) (reads : ℕ) (x : Step) (put : List ℕ) → IsAsked limits reads x put → IsBegun x []
+not_yet limits reads (Send symbols) put asked = refl
+not_yet limits reads (Poll symbols) put asked = (asked.0, record { busy = []; idle = []; each = refl; then_idle = refl; those = refl })
+not_yet limits reads (Verify symbols expect) put asked = refl
 
-record StoppedAmong (h : Option (List ℕ)) (a : Ahead) (steps : List Step) : Type 0 where
-  next : List ℕ
-  upto : StoppedAt h a (λ log. AreBegun steps log next)
+-- up to a halt
+record HaltedAt (h : Option (List ℕ)) (a : Ahead) (steps : List Step) (at : ℕ) (row : List Step) : Type 0 where
+  held : Option (List ℕ)
+  ahead : Ahead
+  log : List Operation
+  wire : HasLogged h held a ahead log
+  begun : AreBegun steps at row log
 
-among_logged : (h i : Option (List ℕ)) (a b : Ahead) (limits : Limits) (turns : ℕ) (why : Reason) (steps : List Step)
-    → HasStoppedAmong h i a b limits turns why steps → StoppedAmong h a steps
-among_logged h i a b limits turns why [] none = absurd none
-among_logged h i a b limits turns why (x ∷ xs) (inl stops) =
-    let at = stopped_logged h i a b limits turns why x stops in record {
-      next = step_clocks x;
-      upto = record {
-        held = at.held;
-        ahead = at.ahead;
-        upto = record { log = at.upto.log; wire = at.upto.wire; is = inl (at.upto.is, refl) };
+halt_logged : (h i : Option (List ℕ)) (a b : Ahead) (limits : Limits) (turns : ℕ) (steps : List Step) (halt : Halt)
+    → (halted : HasHalted h i a b limits turns steps halt) → HaltedAt h a steps halt.step (halted.at ∷ halted.beyond)
+halt_logged h i a b limits turns steps halt halted = by halted.stopped
+  where
+    before : Logged h halted.held a halted.ahead (AreLogOf halted.done)
+    before = all_logged h halted.held a halted.ahead limits turns halted.done halted.before
+
+    on : (at : StoppedAt halted.held halted.ahead (IsBegun halted.at)) → HaltedAt h a steps halt.step (halted.at ∷ halted.beyond)
+    on at = record {
+      held = at.held;
+      ahead = at.ahead;
+      log = before.log ++ at.upto.log;
+      wire = logged_both h halted.held at.held a halted.ahead at.ahead before.log at.upto.log before.wire at.upto.wire;
+      begun = record {
+        front = halted.done;
+        rest = halted.rest;
+        those = halted.those;
+        number = halted.number;
+        form = halted.row.form;
+        done = before.log;
+        begun = at.upto.log;
+        joined = refl;
+        logged = before.is;
+        last = at.upto.is;
       };
     }
-among_logged h i a b limits turns why (x ∷ xs) (inr (j, c, did, more)) =
-    let first = done_logged h j a c limits turns x did in
-    let rest = among_logged j i c b limits turns why xs more in
-    let at = rest.upto in record {
-      next = rest.next;
-      upto = record {
-        held = at.held;
-        ahead = at.ahead;
-        upto = record {
-          log = first.log ++ at.upto.log;
-          wire = logged_both h j at.held a c at.ahead first.log at.upto.log first.wire at.upto.wire;
-          is = inr (first.log, at.upto.log, refl, first.is, at.upto.is);
-        };
-      };
-    }
 
-pub stopped_is_logged : StoppedIsLogged
-stopped_is_logged h i a b limits turns why steps did =
-    let among = among_logged h i a b limits turns why steps did in
-    (among.upto.held, among.upto.ahead, among.upto.upto.log, among.next, among.upto.upto.wire, among.upto.upto.is)
+    by : StopsWithin halted.held i halted.ahead b limits turns halt.why halted.at halted.beyond
+        ⊎ CutsRow halted.held i halted.ahead b limits turns halt.why (halted.at ∷ halted.beyond)
+        → HaltedAt h a steps halt.step (halted.at ∷ halted.beyond)
+    by (inl within) = on (stopped_logged halted.held within.held halted.ahead b limits turns halt.why halted.at within.stopped)
+    by (inr cut) =
+        let first = cut.ahead.asked in
+        on (at_once halted.held halted.ahead (IsBegun halted.at) (not_yet limits cut.ahead.reads halted.at first.0 first.3))
+
+pub halt_is_logged : HaltIsLogged
+halt_is_logged h i a b limits turns steps halt halted =
+    let at = halt_logged h i a b limits turns steps halt halted in (at.held, at.ahead, at.log, at.wire, at.begun)
 
 -- planned work does the task, so the loop closes
 pub device_closes : PlannedDoesTask → ToldLoopCloses → LoopIsExplained → DeviceCloses
@@ -213,15 +227,13 @@ device_closes does closes shown h i j a b c limits turns m start verify content 
     }
 
 pub device_breaks : LoopBreaks → DeviceBreaks
-device_breaks breaks h i j a b c limits turns why m start verify content goal steps able planned twice did =
-    let among = among_logged i j b c limits turns why steps did in
-    let at = among.upto in
-    let joined = append_assoc twice.first twice.again at.upto.log in record {
+device_breaks breaks h i j a b c limits turns m start verify content goal steps halt able planned twice halted =
+    let at = halt_logged i j b c limits turns steps halt halted in
+    let joined = append_assoc twice.first twice.again at.log in record {
       held = at.held;
       ahead = at.ahead;
-      log = twice.first ++ (twice.again ++ at.upto.log);
-      wire = subst (HasLogged h at.held a at.ahead) joined
-          (logged_both h i at.held a b at.ahead (twice.first ++ twice.again) at.upto.log twice.wire at.upto.wire);
-      next = among.next;
-      every = breaks m start verify content goal steps twice.first twice.again at.upto.log among.next able planned twice.reads twice.rereads at.upto.is;
+      log = twice.first ++ (twice.again ++ at.log);
+      wire = subst (HasLogged h at.held a at.ahead) joined (logged_both h i at.held a b at.ahead (twice.first ++ twice.again) at.log twice.wire at.wire);
+      every = λ reads. breaks m start verify content goal steps twice.first twice.again at.log halt.step (halted.at ∷ halted.beyond) reads able planned twice.reads
+          twice.rereads at.begun;
     }

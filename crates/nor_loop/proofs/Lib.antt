@@ -11,3 +11,4 @@ pub mod WireLemmas
 pub mod QuadLemmas
 pub mod EnterLemmas
 pub mod FourLemmas
+mod LatchLemmas

@@ -1,5 +1,5 @@
 -- Laws of logs (this project's).
-use Rattle.std.specs.Prelude.{◌≡◌, ◌≤◌, ◌<◌, ◌⊎◌, ℕ, ◌^◌, true, false, Bool, List, ◌++◌, length, Option, Some}
+use Rattle.std.specs.Prelude.{◌≡◌, ◌≤◌, ◌<◌, ◌⊎◌, ℕ, ◌^◌, true, false, Bool, List, ◌∷◌, ◌++◌, length, Option, Some}
 use Rattle.std.specs.List.{AllByRecursion, concat}
 use Rattle.nor_base.specs.declared.meaning.Start.{Start}
 use Rattle.nor_base.specs.declared.step.Step.{Step}
@@ -9,13 +9,14 @@ use Rattle.nor_base.specs.Instructions.{is_there}
 use Rattle.nor_base.specs.Planned.{ArePlanned, IsWorkable}
 use Rattle.nor_base.specs.Run.{DoesTaskOnEvery}
 use Rattle.nor_base.specs.Device.{Ahead, Finite}
-use Rattle.nor_serprog.specs.declared.fault.Reason.{Reason}
+use Rattle.nor_serprog.specs.declared.halt.Halt.{Halt}
 use Rattle.nor_serprog.specs.declared.limits.Limits.{Limits}
-use Rattle.nor_serprog.specs.Done.{HasStopped, HasDoneAll, HasStoppedAmong}
+use Rattle.nor_serprog.specs.Done.{HasDoneAll}
+use Rattle.nor_serprog.specs.Row.{HasHalted}
 use Rattle.nor_loop.specs.Device.{ClosesLoop, BreaksLoop}
 use Rattle.nor_loop.specs.Log.{Operation, Explains, HasLogged}
 use Rattle.nor_loop.specs.Reads.{ReadsAll, EntersAndReads, reads_from}
-use Rattle.nor_loop.specs.Steps.{IsBegun, AreLogOf, AreBegun}
+use Rattle.nor_loop.specs.Steps.{AreLogOf, AreBegun, next_clocks}
 use Rattle.nor_loop.specs.Loop.{MayBe, EndsAs, EveryChipEnds, EveryChipHoldsPart}
 
 -- a chip can be read whole from the mode that it begins in: its addresses fit three bytes, or that mode has four, or it has 13h
@@ -94,9 +95,9 @@ LoopResumes = (m : Parameters) (start : Start) (content dump : List ℕ) (goal :
 -- planned work was broken off: every chip that explains the log held what was read, and at most one unit is in the making
 abbrev pub LoopBreaks : Type 0
 LoopBreaks = (m : Parameters) (start : Start) (verify : Bool) (content goal : List ℕ) (steps : List Step) (first again work : List Operation)
-    (next : List ℕ) → IsWorkable m start content goal → ArePlanned m start verify content goal steps
-    → IsReading m start content first → IsReading m start content again → AreBegun steps work next
-    → EveryChipHoldsPart m start content goal (first ++ (again ++ work)) next
+    (at : ℕ) (row : List Step) (reads : ℕ) → IsWorkable m start content goal → ArePlanned m start verify content goal steps
+    → IsReading m start content first → IsReading m start content again → AreBegun steps at row work
+    → EveryChipHoldsPart m start content goal (first ++ (again ++ work)) (next_clocks reads row)
 
 -- a log begins with reads of the whole chip. Another log, on the chip with whatever it then held, ends with the goal of what these
 -- reads gave. So the chip ends with the goal of what it held before the first log
@@ -119,23 +120,18 @@ LogsJoin = (held_before held held_after : Option (List ℕ)) (ahead_before ahead
     → HasLogged held_before held ahead_before ahead xs → HasLogged held held_after ahead ahead_after ys
     → HasLogged held_before held_after ahead_before ahead_after (xs ++ ys)
 
--- what a device did for steps is a log of them, over its wire; where it stopped, a log of those before, and the next clocks
+-- what a device did for steps is a log of them, over its wire
 abbrev pub DoneIsLogged : Type 0
 DoneIsLogged = (held_before held_after : Option (List ℕ)) (ahead_before ahead_after : Ahead) (limits : Limits) (turns : ℕ) (steps : List Step)
     → HasDoneAll held_before held_after ahead_before ahead_after limits turns steps
     → (log : List Operation) × HasLogged held_before held_after ahead_before ahead_after log × AreLogOf steps log
 
-abbrev pub StoppedIsLogged : Type 0
-StoppedIsLogged = (held_before held_after : Option (List ℕ)) (ahead_before ahead_after : Ahead) (limits : Limits) (turns : ℕ) (why : Reason)
-    (steps : List Step) → HasStoppedAmong held_before held_after ahead_before ahead_after limits turns why steps
-    → (held : Option (List ℕ)) × (ahead : Ahead) × (log : List Operation) × (next : List ℕ) × HasLogged held_before held ahead_before ahead log
-    × AreBegun steps log next
-
--- where it stopped at one step, a log of the reads of a poll that were done; the exchange that stopped is no part of it
-abbrev pub StopIsLogged : Type 0
-StopIsLogged = (held_before held_after : Option (List ℕ)) (ahead_before ahead_after : Ahead) (limits : Limits) (turns : ℕ) (why : Reason)
-    (x : Step) → HasStopped held_before held_after ahead_before ahead_after limits turns why x
-    → (held : Option (List ℕ)) × (ahead : Ahead) × (log : List Operation) × HasLogged held_before held ahead_before ahead log × IsBegun x log
+-- where it halted, a log of the steps before, and of the reads of a poll that were answered; what went out beyond is no part of it
+abbrev pub HaltIsLogged : Type 0
+HaltIsLogged = (held_before held_after : Option (List ℕ)) (ahead_before ahead_after : Ahead) (limits : Limits) (turns : ℕ) (steps : List Step)
+    (halt : Halt) → (halted : HasHalted held_before held_after ahead_before ahead_after limits turns steps halt)
+    → (held : Option (List ℕ)) × (ahead : Ahead) × (log : List Operation) × HasLogged held_before held ahead_before ahead log
+    × AreBegun steps halt.step (halted.at ∷ halted.beyond) log
 
 -- a device read a content twice
 pub record ReadTwice (held_before held_after : Option (List ℕ)) (ahead_before ahead_after : Ahead) (m : Parameters) (start : Start) (content : List ℕ)
@@ -155,11 +151,11 @@ DeviceCloses = (held_before held held_after : Option (List ℕ)) (ahead_before a
     → HasDoneAll held held_after ahead ahead_after limits turns steps
     → ClosesLoop held_before held_after ahead_before ahead_after m start goal
 
--- or it stopped in that work: the loop is broken off
+-- or it halted in that work: the loop is broken off
 abbrev pub DeviceBreaks : Type 0
-DeviceBreaks = (held_before held held_after : Option (List ℕ)) (ahead_before ahead ahead_after : Ahead) (limits : Limits) (turns : ℕ) (why : Reason)
-    (m : Parameters) (start : Start) (verify : Bool) (content goal : List ℕ) (steps : List Step)
+DeviceBreaks = (held_before held held_after : Option (List ℕ)) (ahead_before ahead ahead_after : Ahead) (limits : Limits) (turns : ℕ)
+    (m : Parameters) (start : Start) (verify : Bool) (content goal : List ℕ) (steps : List Step) (halt : Halt)
     → IsWorkable m start content goal → ArePlanned m start verify content goal steps
     → ReadTwice held_before held ahead_before ahead m start content
-    → HasStoppedAmong held held_after ahead ahead_after limits turns why steps
-    → BreaksLoop held_before ahead_before m start content goal
+    → (halted : HasHalted held held_after ahead ahead_after limits turns steps halt)
+    → BreaksLoop held_before ahead_before m start content goal (halted.at ∷ halted.beyond)

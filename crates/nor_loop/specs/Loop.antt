@@ -1,5 +1,5 @@
 -- What is promised of every chip that explains a log (this project's).
-use Rattle.std.specs.Prelude.{◌≡◌, ℕ, true, List, length, Ok}
+use Rattle.std.specs.Prelude.{◌≡◌, ◌⊎◌, ℕ, true, List, [], ◌∷◌, length, Ok}
 use Rattle.nor_base.specs.declared.meaning.Start.{Start}
 use Rattle.nor_base.specs.Parameters.{Parameters}
 use Rattle.nor_base.specs.Chip.{Setting, Chip, IsChipOf, is_settled, ready}
@@ -23,15 +23,20 @@ pub record EndsAs (goal : List ℕ → List ℕ) (s : Setting) (held : List ℕ)
 abbrev pub EveryChipEnds : Parameters → Start → (List ℕ → List ℕ) → List Operation → Type 0
 EveryChipEnds m start goal log = (s : Setting) (held : List ℕ) (after : Chip) → MayBe m start log s held after → EndsAs goal s held after
 
--- a chip held this, and of the work from it to a goal at most one unit is in the making; so too where the chip does one more
--- transaction, of these clocks, whatever it gives
-pub record HoldsPart (m : Parameters) (start : Start) (content goal next : List ℕ) (s : Setting) (held : List ℕ) (after : Chip) : Type 0 where
+-- of these transactions, one after the other, the chip did some or none, whatever it gave; the others passed it over
+abbrev pub DoesSome : Setting → Chip → List (List ℕ) → Chip → Type 0
+DoesSome s c [] d = d ≡ c
+DoesSome s c (clocks ∷ more) d =
+    DoesSome s c more d ⊎ ((e : Chip) × (given : List ℕ) × (effect s c clocks ≡ Ok (e, given)) × DoesSome s e more d)
+
+-- a chip held this, and of the work from it to a goal at most one unit is in the making, also after it did some of the transactions of these
+-- clocks
+pub record HoldsPart (m : Parameters) (start : Start) (content goal : List ℕ) (next : List (List ℕ)) (s : Setting) (held : List ℕ)
+    (after : Chip) : Type 0 where
   pub held_it : held ≡ content
-  pub undone : IsInTheMaking (planned_units m start content goal) content goal after.array
-  pub done : (d : Chip) (given : List ℕ) → effect s after next ≡ Ok (d, given)
-      → IsInTheMaking (planned_units m start content goal) content goal d.array
+  pub part : (d : Chip) → DoesSome s after next d → IsInTheMaking (planned_units m start content goal) content goal d.array
 
 -- every chip that may have been there does
-abbrev pub EveryChipHoldsPart : Parameters → Start → List ℕ → List ℕ → List Operation → List ℕ → Type 0
+abbrev pub EveryChipHoldsPart : Parameters → Start → List ℕ → List ℕ → List Operation → List (List ℕ) → Type 0
 EveryChipHoldsPart m start content goal log next =
     (s : Setting) (held : List ℕ) (after : Chip) → MayBe m start log s held after → HoldsPart m start content goal next s held after

@@ -1,6 +1,6 @@
 -- Instructions on one lane, as operations of a device (this project's).
 use Rattle.std.specs.Prelude.{◌≡◌, ℕ, Bool, true, false, ◌==◌, ◌&&◌, List, ◌++◌, Option}
-use Rattle.std.specs.List.{list_all}
+use Rattle.std.specs.List.{AllByRecursion, list_all}
 use Rattle.nor_base.specs.declared.meaning.Start.{Start}
 use Rattle.nor_base.specs.declared.step.Step.{Step}
 use Rattle.nor_base.specs.Clocks.{head_bytes, clocks_of}
@@ -9,11 +9,9 @@ use Rattle.nor_base.specs.Instructions.{Form, nothing, sends, sends4, samples, s
 use Rattle.nor_base.specs.Parameters.{Parameters}
 use Rattle.nor_base.specs.Planned.{planned}
 use Rattle.nor_base.specs.Spelling.{Instr, bytes_to_send, count_to_read}
-use Rattle.nor_serprog.specs.declared.fault.Reason.{Reason}
 use Rattle.nor_serprog.specs.declared.limits.Limits.{Limits}
 use Rattle.nor_serprog.specs.Carried.{operation_clocks}
 use Rattle.nor_base.specs.Chip.{Setting, Chip}
-use Rattle.nor_serprog.specs.Done.{HasDoneAll, HasStoppedAmong}
 use Rattle.nor_loop.specs.Log.{Operation, Explains}
 use Rattle.nor_loop.specs.Loop.{EveryChipEnds, EveryChipHoldsPart}
 
@@ -39,16 +37,6 @@ abbrev pub PlannedIsSingle : Type 0
 PlannedIsSingle = (m : Parameters) (start : Start) (verify : Bool) (have want : List ℕ) → start.quad ≡ false
     → list_all is_single (planned m start verify have want) ≡ true
 
--- what a device did in two parts it did as a whole
-abbrev pub DoneInParts : Type 0
-DoneInParts = (h i j : Option (List ℕ)) (a b c : Ahead) (limits : Limits) (turns : ℕ) (xs ys : List Step)
-    → HasDoneAll h i a b limits turns xs → HasDoneAll i j b c limits turns ys → HasDoneAll h j a c limits turns (xs ++ ys)
-
--- and where it stopped in the second part it stopped in the whole
-abbrev pub StoppedInParts : Type 0
-StoppedInParts = (h i j : Option (List ℕ)) (a b c : Ahead) (limits : Limits) (turns : ℕ) (why : Reason) (xs ys zs : List Step)
-    → HasDoneAll h i a b limits turns xs → HasStoppedAmong i j b c limits turns why ys → HasStoppedAmong h j a c limits turns why (xs ++ (ys ++ zs))
-
 -- the chip with the quad setting, or without it
 abbrev pub with_quad : Bool → Setting → Setting
 with_quad q s = record s { start = record s.start { quad = q } }
@@ -62,8 +50,12 @@ abbrev pub WhateverQuad : Type 0
 WhateverQuad = (m : Parameters) (start : Start) (goal : List ℕ → List ℕ) (log : List Operation) (p q : Bool)
     → EveryChipEnds m (record start { quad = p }) goal log → EveryChipEnds m (record start { quad = q }) goal log
 
--- so too where work was broken off at an operation
+-- clocks of operations of a device
+abbrev pub AreOperations : List (List ℕ) → Type 0
+AreOperations next = AllByRecursion (λ clocks. (sent : List ℕ) × (asked : ℕ) × (clocks ≡ operation_clocks sent asked)) next
+
+-- so too where work was broken off, and such operations may have come next
 abbrev pub WhateverQuadPart : Type 0
-WhateverQuadPart = (m : Parameters) (start : Start) (content goal : List ℕ) (log : List Operation) (next sent : List ℕ) (asked : ℕ) (p q : Bool)
-    → next ≡ operation_clocks sent asked → EveryChipHoldsPart m (record start { quad = p }) content goal log next
+WhateverQuadPart = (m : Parameters) (start : Start) (content goal : List ℕ) (log : List Operation) (next : List (List ℕ)) (p q : Bool)
+    → AreOperations next → EveryChipHoldsPart m (record start { quad = p }) content goal log next
     → EveryChipHoldsPart m (record start { quad = q }) content goal log next

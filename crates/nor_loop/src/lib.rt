@@ -8,10 +8,10 @@
 pub mod worked;
 
 ghost use Rattle.nor_loop.specs.Four.{FourReadsRead, BothRead};
-ghost use Rattle.nor_loop.specs.Single.{SingleIsOperation, PlannedIsSingle, DoneInParts, StoppedInParts, QuadUnseen, WhateverQuad, WhateverQuadPart};
-ghost use Rattle.nor_loop.specs.Laws.{ReadsTell, ReadsKeep, LoopCloses, LoopResumes, LoopMends, LoopBreaks, LoopIsExplained, DoneIsLogged, StopIsLogged, StoppedIsLogged, DeviceCloses, DeviceBreaks, OneLog, LogsJoin, EnteredReadsTell, ReadsRead, EnteredReadsRead, ToldLoopCloses};
+ghost use Rattle.nor_loop.specs.Single.{SingleIsOperation, PlannedIsSingle, QuadUnseen, WhateverQuad, WhateverQuadPart};
+ghost use Rattle.nor_loop.specs.Laws.{ReadsTell, ReadsKeep, LoopCloses, LoopResumes, LoopMends, LoopBreaks, LoopIsExplained, DoneIsLogged, HaltIsLogged, DeviceCloses, DeviceBreaks, OneLog, LogsJoin, EnteredReadsTell, ReadsRead, EnteredReadsRead, ToldLoopCloses};
 
-use nor_laws::spelling;
+use nor_laws::{spelling, verifying_reads};
 use nor_plan_laws::planned_work;
 
 /// Reads of the whole chip report its content: every chip that explains them held just what came back, and is as it was. This is so
@@ -51,11 +51,12 @@ pub fn loop_closes()
 }
 
 /// A log reads the whole chip twice, and planned work on what was read was broken off. Every chip that explains it held just what was
-/// read, and at most one unit of the work is in the making. The same holds where the chip did the operation that came next.
+/// read, and at most one unit of the work is in the making. The same holds where the chip did the operation that came next, or some of its row.
 pub fn loop_breaks()
     ensures { LoopBreaks }
 {
     planned_work();
+    verifying_reads();
 }
 
 /// Some chip explains a log that reads the whole chip twice and then does planned work on what was read. So what is promised of every
@@ -66,13 +67,12 @@ pub fn loop_is_explained()
     planned_work();
 }
 
-/// What a device did for steps is a log of these steps, and just that log went over its wire; where it stopped, the log of those before.
+/// What a device did for steps is a log of these steps, and just that log went over its wire; where it halted, the log of those before.
 /// Where it read the content of its chip twice, and did planned work on it, every chip that explains the log ends with the goal, and some
-/// chip explains it. Where it stopped in that work, every chip that explains the log has at most one unit in the making.
+/// chip explains it. Where it halted in that work, every chip that explains the log has at most one unit in the making.
 pub fn device()
     ensures logged { DoneIsLogged }
-    ensures stopped { StoppedIsLogged }
-    ensures begun { StopIsLogged }
+    ensures halted { HaltIsLogged }
     ensures closes { DeviceCloses }
     ensures breaks { DeviceBreaks }
 {
@@ -83,12 +83,10 @@ pub fn device()
 }
 
 /// An instruction on one lane without dummy clocks is one operation of a device; without the quad setting planned work has no other
-/// instruction. What a device did in two parts it did as a whole, and so where it stopped in the second.
+/// instruction.
 pub fn single()
     ensures operation { SingleIsOperation }
     ensures planned { PlannedIsSingle }
-    ensures parts { DoneInParts }
-    ensures stops { StoppedInParts }
 {}
 
 /// A log doesn't show the chip's quad setting, so what is promised for one setting is promised for the other. This holds of work that

@@ -1,7 +1,7 @@
 //! Values of the definitions, worked out by hand. The functions do nothing: their contracts are the values, and the gate computes
 //! them.
 
-ghost use Rattle.nor_loop.specs.Worked.{ClocksOfEnable, ClocksOfStatus, ClocksOfRead, RequestOfRead, BytesOfReads, ReadsOfPieces, Counting, OneByteExplained, OneByteLog, AnotherByte, BusyAtRest, AnotherOpcode};
+ghost use Rattle.nor_loop.specs.Worked.{ClocksOfEnable, ClocksOfStatus, ClocksOfRead, RequestOfRead, BytesOfReads, ReadsOfPieces, Counting, OneByteExplained, OneByteLog, AnotherByte, BusyAtRest, AnotherOpcode, ClocksOfARow, ProgramAlone};
 
 /// Operations, their clocks and requests, and what counts of their answers.
 pub fn operations_worked()
@@ -22,4 +22,11 @@ pub fn logs_worked()
     ensures byte { AnotherByte }
     ensures busy { BusyAtRest }
     ensures opcode { AnotherOpcode }
+{}
+
+/// What may have come of a row: the clocks of a program of one byte with its write enable and three status reads, and that program where the
+/// write enable was passed over.
+pub fn rows_worked()
+    ensures clocks { ClocksOfARow }
+    ensures alone { ProgramAlone }
 {}

@@ -9,8 +9,8 @@ use Rattle.nor_base.proofs.DeviceLaws.{Appends-append, Appends-none, Gives-appen
 use Rattle.nor_serprog.specs.declared.fault.Fault.{Fault}
 use Rattle.nor_serprog.specs.Protocol.{request, answer}
 use Rattle.nor_serprog.specs.Exchange.{Talked, Answers, Asks}
-use Rattle.nor_serprog.specs.Follow.{HasRead, are_busy, StaysBusy, StopsWaiting, status_request}
-use Rattle.nor_probe.specs.Status.{ends_wait, HasReadRegister, StopsRegister, HasSettled}
+use Rattle.nor_serprog.specs.Follow.{HasRead, are_busy, StaysBusy, status_request}
+use Rattle.nor_probe.specs.Status.{StopsAtFirst, ends_wait, HasReadRegister, StopsRegister, HasSettled}
 
 -- nothing was talked yet; one more exchange
 pub nothing_talked : (held : Option (List ℕ)) (ahead : Ahead) → Talked held held ahead ahead [] []
@@ -101,18 +101,9 @@ settles_at turn turns status within p q idle =
     record { busy = p.busy; within = omega (arith, p.all); each = p.each; last = idle; read = one_read p.busy status p.read q }
 
 pub waits_fail : {h m h' : Option (List ℕ)} {a b a' : Ahead} (turn turns : ℕ) (why : Fault) → turn < turns → HasWaitedFor h m a b turn → StopsRegister m h' b a' 0x05 why
-    → StopsWaiting h h' a a' turns why
-waits_fail {h} {m} {h'} {a} {b} {a'} turn turns why within p q = record {
-  busy = p.busy;
-  within = omega (arith, p.all);
-  each = p.each;
-  held = m;
-  ahead = b;
-  got = q.got;
-  one = q.one;
-  read = p.read;
-  stop = q.stop;
-}
+    → StopsAtFirst h h' a a' turns why
+waits_fail {h} {m} {h'} {a} {b} {a'} turn turns why within p q =
+    record { busy = p.busy; within = omega (arith, p.all); each = p.each; held = m; ahead = b; read = p.read; stop = q }
 
 pub waits_never : {h h' : Option (List ℕ)} {a a' : Ahead} (turn turns : ℕ) → turn ≡ turns → HasWaitedFor h h' a a' turn → StaysBusy h h' a a' turns
 waits_never turn turns all p = record { busy = p.busy; all = p.all ∙ all; each = p.each; read = p.read }

@@ -15,7 +15,7 @@ use Rattle.nor_serprog.specs.declared.fault.Reason.{Reason}
 use Rattle.nor_serprog.specs.declared.fault.Reason.TheVariants as reason
 use Rattle.nor_serprog.specs.Protocol.{request, answer}
 use Rattle.nor_serprog.specs.Exchange.{Talked, Answers, Asks}
-use Rattle.nor_serprog.specs.Follow.{HasRead, are_busy, StopsWaiting, Waits}
+use Rattle.nor_serprog.specs.Follow.{HasRead, StaysBusy, are_busy}
 
 -- the operation of a register read
 abbrev pub register_request : ℕ → List ℕ
@@ -53,12 +53,27 @@ pub record HasSettled (held_before held_after : Option (List ℕ)) (ahead_before
   pub last : ends_wait status ≡ true
   pub read : HasRead held_before held_after ahead_before ahead_after (busy ++ status ∷ [])
 
+-- some turns said busy, and the exchange of the next one ended so
+pub record StopsAtFirst (held_before held_after : Option (List ℕ)) (ahead_before ahead_after : Ahead) (turns : ℕ) (why : Fault) : Type 0
+  where
+    pub busy : List ℕ
+    pub within : length busy < turns
+    pub each : are_busy busy ≡ true
+    pub held : Option (List ℕ)
+    pub ahead : Ahead
+    pub read : HasRead held_before held ahead_before ahead busy
+    pub stop : StopsRegister held held_after ahead ahead_after 0x05 why
+
 -- what a wait for an idle status says
 abbrev pub Settles : Option (List ℕ) → Option (List ℕ) → Ahead → Ahead → Result ℕ Reason → ℕ → Type 0
 Settles held_before held_after ahead_before ahead_after (Ok status) turns =
     HasSettled held_before held_after ahead_before ahead_after status turns
-Settles held_before held_after ahead_before ahead_after (Err why) turns =
-    Waits held_before held_after ahead_before ahead_after (Err why) turns
+Settles held_before held_after ahead_before ahead_after (Err reason.Busy) turns = StaysBusy held_before held_after ahead_before ahead_after
+    turns
+Settles held_before held_after ahead_before ahead_after (Err (reason.Exchange why)) turns =
+    StopsAtFirst held_before held_after ahead_before ahead_after turns why
+Settles held_before held_after ahead_before ahead_after (Err (reason.Differs place byte)) turns = ⊥
+Settles held_before held_after ahead_before ahead_after (Err reason.Carried) turns = ⊥
 
 -- the last status of a wait is S7 to S0; after it 35h gives S15 to S8, and then 15h S23 to S16
 pub record HasReadAll (held_before held_after : Option (List ℕ)) (ahead_before ahead_after : Ahead) (status turns : ℕ) : Type 0 where
@@ -107,11 +122,11 @@ ReadsStatus Generic held_before held_after ahead_before ahead_after result turns
 ReadsStatus W25q256jv held_before held_after ahead_before ahead_after (Ok status) turns =
     HasReadAll held_before held_after ahead_before ahead_after status turns
 ReadsStatus W25q256jv held_before held_after ahead_before ahead_after (Err (reason.Exchange why)) turns =
-    StopsWaiting held_before held_after ahead_before ahead_after turns why
+    StopsAtFirst held_before held_after ahead_before ahead_after turns why
     ⊎ (StopsAtSecond held_before held_after ahead_before ahead_after turns why
     ⊎ StopsAtThird held_before held_after ahead_before ahead_after turns why)
 ReadsStatus W25q256jv held_before held_after ahead_before ahead_after (Err other) turns =
-    Waits held_before held_after ahead_before ahead_after (Err other) turns
+    Settles held_before held_after ahead_before ahead_after (Err other) turns
 
 -- the reader's count of failures rises by one exactly where the reason is Read, the writer's where it is Write
 abbrev pub CountsReason : {T : Type 0} → Fault → ℕ → ℕ → Result T Reason → Type 0

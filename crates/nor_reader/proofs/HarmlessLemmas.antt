@@ -17,12 +17,12 @@ use Rattle.nor_serprog.specs.declared.fault.Fault.TheVariants as fault
 use Rattle.nor_serprog.specs.declared.fault.Reason.{Reason}
 use Rattle.nor_serprog.specs.declared.fault.Reason.TheVariants as reason
 use Rattle.nor_serprog.specs.Exchange.{Answers, Asks}
-use Rattle.nor_serprog.specs.Follow.{status_request, HasRead, Waits}
+use Rattle.nor_serprog.specs.Follow.{status_request, HasRead}
 use Rattle.nor_serprog.specs.Protocol.{request}
 use Rattle.nor_probe.specs.declared.difference.Difference.{Difference}
 use Rattle.nor_probe.specs.declared.difference.Mismatch.{Mismatch}
 use Rattle.nor_probe.specs.declared.difference.Mismatch.TheVariants.{Exchange, Differs}
-use Rattle.nor_probe.specs.Status.{HasReadRegister, HasSettled, ReadsStatus, StopsRegister}
+use Rattle.nor_probe.specs.Status.{HasReadRegister, HasSettled, Settles, ReadsStatus, StopsRegister}
 use Rattle.nor_loop.specs.Log.{Operation, IsShort, HasLogged}
 use Rattle.nor_loop.specs.Reads.{switch_ops}
 use Rattle.nor_loop.specs.Steps.{status_read}
@@ -300,11 +300,11 @@ register_sends h i a b op why is p =
     (record { short = (omega arith, omega (arith, p.one)); begins = is })
     (subst (λ n. Asks h i a b (Err why) (request (op ∷ []) n) (Answers a b (Err why) p.got)) (sym p.one) p.stop)
 
-waits_sends : (h i : Option (List ℕ)) (a b : Ahead) (why : Reason) (turns : ℕ) → Waits h i a b (Err why) turns → SendsHarmless h i
+waits_sends : (h i : Option (List ℕ)) (a b : Ahead) (why : Reason) (turns : ℕ) → Settles h i a b (Err why) turns → SendsHarmless h i
 waits_sends h i a b reason.Busy turns p = whole_sent h i (statuses_sent h i a b p.busy p.read)
 waits_sends h i a b (reason.Exchange why) turns p =
     then_sends h p.held i (statuses_sent h p.held a p.ahead p.busy p.read)
-    (register_sends p.held i p.ahead b 0x05 why refl (record { got = p.got; one = p.one; stop = p.stop }))
+    (register_sends p.held i p.ahead b 0x05 why refl p.stop)
 waits_sends h i a b reason.Carried turns p = absurd p
 waits_sends h i a b (reason.Differs place byte) turns p = absurd p
 

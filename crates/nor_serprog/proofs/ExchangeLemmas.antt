@@ -16,17 +16,24 @@ use Rattle.nor_serprog.specs.declared.fault.Reason.TheVariants as reason
 use Rattle.nor_serprog.specs.Protocol.{ACK, NAK, answer}
 use Rattle.nor_serprog.specs.Exchange.{Fills, Misses, Meets, other_byte, IsOther, Compares, TakesAsMany, GivesOther, Answers, AnswersKnown, Asks, Knows}
 
--- a command that was put, ACK, and then the bytes of a buffer
-pub asks_then : (held held' : Option (List ℕ)) (a b c : Ahead) (r : Result (Unit {0}) Fault) (command got : List ℕ)
-    → Appends held held' command → Gives a (ACK ∷ []) b → Fills b c r got → Asks held held' a c r command (Answers a c r got)
-asks_then held held' a b c (Ok u) command got put p q = (put, Gives-append a b c (ACK ∷ []) got p q)
-asks_then held held' a b c (Err fault.Silent) command got put p q =
-    (put, (suc q.0, omega (arith, q.1), Gives-append a b c (ACK ∷ []) (take q.0 got) p q.2, q.3))
-asks_then held held' a b c (Err fault.Read) command got put p q =
-    (put, (suc q.0, omega (arith, q.1), Gives-append a b c (ACK ∷ []) (take q.0 got) p q.2))
-asks_then held held' a b c (Err fault.Nak) command got put p q = absurd q
-asks_then held held' a b c (Err fault.Differs) command got put p q = absurd q
-asks_then held held' a b c (Err fault.Write) command got put p q = absurd q
+-- ACK, and then the bytes of a buffer
+pub told_then : (a b c : Ahead) (r : Result (Unit {0}) Fault) (got : List ℕ) → Gives a (ACK ∷ []) b → Fills b c r got → Answers a c r got
+told_then a b c (Ok u) got p q = Gives-append a b c (ACK ∷ []) got p q
+told_then a b c (Err fault.Silent) got p q = (suc q.0, omega (arith, q.1), Gives-append a b c (ACK ∷ []) (take q.0 got) p q.2, q.3)
+told_then a b c (Err fault.Read) got p q = (suc q.0, omega (arith, q.1), Gives-append a b c (ACK ∷ []) (take q.0 got) p q.2)
+told_then a b c (Err fault.Nak) got p q = absurd q
+told_then a b c (Err fault.Differs) got p q = absurd q
+told_then a b c (Err fault.Write) got p q = absurd q
+
+-- a command that was put whole, and its answer
+pub asks_told : (held held' : Option (List ℕ)) (a b : Ahead) (r : Result (Unit {0}) Fault) (command got : List ℕ) → Appends held held' command
+    → Answers a b r got → Asks held held' a b r command (Answers a b r got)
+asks_told held held' a b (Ok u) command got put p = (put, p)
+asks_told held held' a b (Err fault.Silent) command got put p = (put, p)
+asks_told held held' a b (Err fault.Read) command got put p = (put, p)
+asks_told held held' a b (Err fault.Nak) command got put p = (put, p)
+asks_told held held' a b (Err fault.Differs) command got put p = (put, p)
+asks_told held held' a b (Err fault.Write) command got put p = absurd p
 
 -- a place at which the bytes differ, after which they are alike
 pub other_at : (got want : List ℕ) (start i place byte : ℕ) → i < length want → take i got ≡ take i want → place ≡ start + i → byte ≡ get_or got i 0

@@ -1,19 +1,20 @@
 -- A handshake, exchange by exchange.
-use Rattle.std.proofs.Common.{◌≡◌, ℕ, Bool, List, [], ◌∷◌, ◌++◌, length, take, Option, Err, sym, ◌∙◌, ap, subst, append-nil}
+use Rattle.std.proofs.Common.{◌≡◌, ◌≢◌, ℕ, ◌+◌, ◌*◌, Bool, true, false, List, [], ◌∷◌, ◌++◌, length, get_or, take, Option, Some, None, Ok, Err, refl, sym, ◌∙◌, ap, subst, append-nil}
 use Rattle.std.specs.Prelude.{flat_map, replicate}
 use Rattle.std.specs.Io.KnownBytes.{Appends}
 use Rattle.std.proofs.lemmas.Grind.{flat_map-append}
 use Rattle.std.proofs.lemmas.List.{nil_from_length}
 use Rattle.nor_base.specs.Device.{Ahead, Gives}
 use Rattle.nor_serprog.specs.declared.fault.Fault.{Fault}
+use Rattle.nor_serprog.specs.declared.fault.Fault.TheVariants as fault
 use Rattle.nor_serprog.specs.declared.fault.Command.{Command}
 use Rattle.nor_serprog.specs.declared.fault.Command.TheVariants as command
 use Rattle.nor_serprog.specs.declared.fault.GreetFault.{GreetFault}
 use Rattle.nor_serprog.specs.declared.fault.GreetFault.TheVariants as refused
 use Rattle.nor_serprog.specs.Protocol.{ACK, NAK, answer}
-use Rattle.nor_serprog.specs.Exchange.{Talked}
-use Rattle.nor_serprog.specs.Greeting.{Greeting, Exchange, offers, exchange_if, exchanges, place, answer_length, command_bytes, first_version, HasExchanged, HasLearnt, Tells, HasBegun, BeginsGreeting, StopsAt, IsWord, Reaches, Greeted}
-use Rattle.nor_serprog.proofs.FollowLemmas.{talked_more}
+use Rattle.nor_serprog.specs.Exchange.{Talked, Asks, Answers}
+use Rattle.nor_serprog.specs.Greeting.{Greeting, Exchange, offers, exchange_if, told_or_nak, TellsAhead, exchanges, place, answer_length, command_bytes, first_version, HasExchanged, HasLearnt, Tells, HasBegun, BeginsGreeting, StopsAt, IsWord, Reaches, Greeted}
+use Rattle.nor_serprog.proofs.FollowLemmas.{nothing_talked, talked_more}
 
 -- the first exchange of a list
 pub exchanged_one : {h h' : Option (List ℕ)} {a a' : Ahead} (x : Exchange) → Talked h h' a a' x.put x.given → HasExchanged h h' a a' (x ∷ [])
@@ -41,18 +42,21 @@ greeting_of begun version commands sends gives = record {
   late = begun.late;
   version = version;
   commands = commands;
+  buffer = None;
   sends = sends;
   gives = gives;
 }
 
--- and what the most is said to be
-abbrev pub greeting_by : {h h' : Option (List ℕ)} {a a' : Ahead} {commands : List ℕ} → HasLearnt h h' a a' commands → List ℕ → List ℕ → Greeting
-greeting_by {h} {h'} {a} {a'} {commands} known sends gives = record {
+-- and what it takes ahead, and the most is said to be
+abbrev pub greeting_by : {h h' : Option (List ℕ)} {a a' : Ahead} {commands : List ℕ} → HasLearnt h h' a a' commands → Option (List ℕ) → List ℕ → List ℕ
+    → Greeting
+greeting_by {h} {h'} {a} {a'} {commands} known buffer sends gives = record {
   tries = known.tries;
   noise = known.noise;
   late = known.late;
   version = first_version;
   commands = commands;
+  buffer = buffer;
   sends = sends;
   gives = gives;
 }
@@ -63,6 +67,7 @@ begins_not h h' a a' (refused.Command command.SyncNop why) p = p
 begins_not h h' a a' (refused.Command command.QueryInterface why) p = absurd p
 begins_not h h' a a' (refused.Command command.QueryCommands why) p = absurd p
 begins_not h h' a a' (refused.Command command.SetBus why) p = absurd p
+begins_not h h' a a' (refused.Command command.QueryBuffer why) p = absurd p
 begins_not h h' a a' (refused.Command command.QueryWriteMax why) p = absurd p
 begins_not h h' a a' (refused.Command command.QueryReadMax why) p = absurd p
 begins_not h h' a a' (refused.Command command.SetPins why) p = absurd p
@@ -89,6 +94,48 @@ tells_not h m h' a b a' at got (refused.Command here why) g goes word reaches ro
     subst (λ c. Greeted h h' a a' (Err (refused.Command c why))) (sym p.0) stops
 tells_not h m h' a b a' at got refused.Version g goes word reaches room before p = absurd p
 tells_not h m h' a b a' at got refused.NoOperation g goes word reaches room before p = absurd p
+
+-- 04h, of which NAK is an answer
+stops_at_buffer : (h h' : Option (List ℕ)) (a a' : Ahead) (why : Fault) → refused.Command command.QueryBuffer why ≢ refused.Command command.QueryBuffer fault.Nak
+    → StopsAt h h' a a' command.QueryBuffer why → Greeted h h' a a' (Err (refused.Command command.QueryBuffer why))
+stops_at_buffer h h' a a' fault.Nak other p = absurd (other refl)
+stops_at_buffer h h' a a' fault.Read other p = p
+stops_at_buffer h h' a a' fault.Write other p = p
+stops_at_buffer h h' a a' fault.Silent other p = p
+stops_at_buffer h h' a a' fault.Differs other p = p
+
+pub buffer_not : (h m h' : Option (List ℕ)) (a b a' : Ahead) (got : List ℕ) (e : GreetFault) (g : Greeting) → e ≢ refused.Command command.QueryBuffer fault.Nak
+    → IsWord g.tries g.noise g.late → Reaches g command.QueryBuffer → length got ≡ 2 → HasExchanged h m a b (take 4 (exchanges g))
+    → Tells m h' b a' (Err e) command.QueryBuffer got → Greeted h h' a a' (Err e)
+buffer_not h m h' a b a' got (refused.Command here why) g other word reaches room before p =
+    let its = subst (λ (c : Command). refused.Command c why ≢ refused.Command command.QueryBuffer fault.Nak) p.0 other in
+    let stops = stops_at_buffer h h' a a' why its (record {
+      greeting = g;
+      held = m;
+      ahead = b;
+      got = got;
+      word = word;
+      reaches = reaches;
+      room = room;
+      before = before;
+      stop = p.1;
+    }) in
+    subst (λ (c : Command). Greeted h h' a a' (Err (refused.Command c why))) (sym p.0) stops
+buffer_not h m h' a b a' got refused.Version g other word reaches room before p = absurd p
+buffer_not h m h' a b a' got refused.NoOperation g other word reaches room before p = absurd p
+
+pub ahead_none : (h : Option (List ℕ)) (a : Ahead) (offered : Bool) → offered ≡ false → TellsAhead offered h h a a (Ok 0)
+ahead_none h a offered none = rw none (None, tt, refl, nothing_talked h a)
+
+pub ahead_some : (h h' : Option (List ℕ)) (a a' : Ahead) (offered : Bool) (got : List ℕ) (n : ℕ) → offered ≡ true → length got ≡ 2
+    → n ≡ get_or got 0 0 + 256 * get_or got 1 0 → Appends h h' (command_bytes command.QueryBuffer) → Gives a (answer got) a' → TellsAhead offered h h' a a' (Ok n)
+ahead_some h h' a a' offered got n offers_it room is out back = rw offers_it (Some got, room, is, record { out = out; back = back })
+
+pub ahead_nak : (h h' : Option (List ℕ)) (a a' : Ahead) (offered : Bool) (e : Fault) (got : List ℕ) → offered ≡ true → e ≡ fault.Nak
+    → Asks h h' a a' (Err e) (command_bytes command.QueryBuffer) (Answers a a' (Err e) got) → TellsAhead offered h h' a a' (Ok 0)
+ahead_nak h h' a a' offered e got offers_it is p =
+    let its = subst (λ (f : Fault). Asks h h' a a' (Err f) (command_bytes command.QueryBuffer) (Answers a a' (Err f) got)) is p in
+    rw offers_it (None, tt, refl, record { out = its.0; back = its.1 })
 
 -- the exchanges so far, one after another
 pub word_done : {h h' : Option (List ℕ)} {a a' : Ahead} (begun : HasBegun h h' a a') (version commands sends gives : List ℕ)
@@ -119,26 +166,33 @@ bus_done {h} {m} {h'} {a} {b} {a'} g got none p q =
     exchanged_more (take 3 (exchanges g)) (record { put = command_bytes command.SetBus; given = answer [] }) p
     (subst (λ xs. Talked m h' b a' (command_bytes command.SetBus) (answer xs)) nothing q)
 
-pub sends_done : {h m h' : Option (List ℕ)} {a b a' : Ahead} (g : Greeting) (offered : Bool) → offered ≡ offers g.commands 0x08 → HasExchanged h m a b (take 4 (exchanges g))
-    → Talked m h' b a' (exchange_if offered (command_bytes command.QueryWriteMax) (answer g.sends)).put (exchange_if offered (command_bytes command.QueryWriteMax) (answer g.sends)).given
+pub buffer_done : {h m h' : Option (List ℕ)} {a b a' : Ahead} (g : Greeting) (offered : Bool) → offered ≡ offers g.commands 0x04 → HasExchanged h m a b (take 4 (exchanges g))
+    → Talked m h' b a' (exchange_if offered (command_bytes command.QueryBuffer) (told_or_nak g.buffer)).put (exchange_if offered (command_bytes command.QueryBuffer) (told_or_nak g.buffer)).given
     → HasExchanged h h' a a' (take 5 (exchanges g))
+buffer_done {h} {m} {h'} {a} {b} {a'} g offered is p q =
+    let x = λ (o : Bool). exchange_if o (command_bytes command.QueryBuffer) (told_or_nak g.buffer) in
+    exchanged_more (take 4 (exchanges g)) (x (offers g.commands 0x04)) p (subst (λ o. Talked m h' b a' (x o).put (x o).given) is q)
+
+pub sends_done : {h m h' : Option (List ℕ)} {a b a' : Ahead} (g : Greeting) (offered : Bool) → offered ≡ offers g.commands 0x08 → HasExchanged h m a b (take 5 (exchanges g))
+    → Talked m h' b a' (exchange_if offered (command_bytes command.QueryWriteMax) (answer g.sends)).put (exchange_if offered (command_bytes command.QueryWriteMax) (answer g.sends)).given
+    → HasExchanged h h' a a' (take 6 (exchanges g))
 sends_done {h} {m} {h'} {a} {b} {a'} g offered is p q =
     let x = λ (o : Bool). exchange_if o (command_bytes command.QueryWriteMax) (answer g.sends) in
-    exchanged_more (take 4 (exchanges g)) (x (offers g.commands 0x08)) p (subst (λ o. Talked m h' b a' (x o).put (x o).given) is q)
+    exchanged_more (take 5 (exchanges g)) (x (offers g.commands 0x08)) p (subst (λ o. Talked m h' b a' (x o).put (x o).given) is q)
 
-pub gives_done : {h m h' : Option (List ℕ)} {a b a' : Ahead} (g : Greeting) (offered : Bool) → offered ≡ offers g.commands 0x11 → HasExchanged h m a b (take 5 (exchanges g))
+pub gives_done : {h m h' : Option (List ℕ)} {a b a' : Ahead} (g : Greeting) (offered : Bool) → offered ≡ offers g.commands 0x11 → HasExchanged h m a b (take 6 (exchanges g))
     → Talked m h' b a' (exchange_if offered (command_bytes command.QueryReadMax) (answer g.gives)).put (exchange_if offered (command_bytes command.QueryReadMax) (answer g.gives)).given
-    → HasExchanged h h' a a' (take 6 (exchanges g))
+    → HasExchanged h h' a a' (take 7 (exchanges g))
 gives_done {h} {m} {h'} {a} {b} {a'} g offered is p q =
     let x = λ (o : Bool). exchange_if o (command_bytes command.QueryReadMax) (answer g.gives) in
-    exchanged_more (take 5 (exchanges g)) (x (offers g.commands 0x11)) p (subst (λ o. Talked m h' b a' (x o).put (x o).given) is q)
+    exchanged_more (take 6 (exchanges g)) (x (offers g.commands 0x11)) p (subst (λ o. Talked m h' b a' (x o).put (x o).given) is q)
 
 pub pins_done : {h m h' : Option (List ℕ)} {a b a' : Ahead} (g : Greeting) (got : List ℕ) (offered : Bool) → length got ≡ 0 → offered ≡ offers g.commands 0x15
-    → HasExchanged h m a b (take 6 (exchanges g))
+    → HasExchanged h m a b (take 7 (exchanges g))
     → Talked m h' b a' (exchange_if offered (command_bytes command.SetPins) (answer got)).put (exchange_if offered (command_bytes command.SetPins) (answer got)).given
     → HasExchanged h h' a a' (exchanges g)
 pins_done {h} {m} {h'} {a} {b} {a'} g got offered none is p q =
     let nothing : got ≡ [] = nil_from_length got none in
     let x = λ (o : Bool) (xs : List ℕ). exchange_if o (command_bytes command.SetPins) (answer xs) in
     let bare : Talked m h' b a' (x offered []).put (x offered []).given = subst (λ xs. Talked m h' b a' (x offered xs).put (x offered xs).given) nothing q in
-    exchanged_more (take 6 (exchanges g)) (x (offers g.commands 0x15) []) p (subst (λ o. Talked m h' b a' (x o []).put (x o []).given) is bare)
+    exchanged_more (take 7 (exchanges g)) (x (offers g.commands 0x15) []) p (subst (λ o. Talked m h' b a' (x o []).put (x o []).given) is bare)

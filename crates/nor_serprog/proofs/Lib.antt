@@ -6,3 +6,6 @@ mod FollowLemmas
 mod PieceLemmas
 mod LineLemmas
 mod StepLemmas
+mod WaitLemmas
+mod RowLemmas
+mod LengthLemmas

@@ -1,10 +1,10 @@
 -- What a device beside a chip in memory did in one transaction (this project's).
-use Rattle.std.specs.Prelude.{◌≡◌, ◌≢◌, ◌<◌, ◌%◌, ◌==◌, ◌+◌, ℕ, Bool, true, List, [], ◌∷◌, ◌++◌, length, flat_map, Option, Some, None, Result, Ok, Err}
+use Rattle.std.specs.Prelude.{◌≡◌, ◌≢◌, ◌≤◌, ◌<◌, ◌⊎◌, ◌%◌, ◌==◌, ◌+◌, ℕ, zero, suc, Bool, true, false, List, [], ◌∷◌, ◌++◌, length, flat_map, Option, Some, None, Result, Ok, Err}
 use Rattle.std.specs.List.{list_all}
 use Rattle.std.specs.Io.KnownBytes.{Appends}
 use Rattle.nor_base.specs.declared.wrong.PortFault.{PortFault}
 use Rattle.nor_base.specs.declared.wrong.PortFault.TheVariants as port
-use Rattle.nor_base.specs.Device.{Ahead}
+use Rattle.nor_base.specs.Device.{Ahead, Gives}
 use Rattle.nor_base.specs.Port.{Shown, Transacts}
 use Rattle.nor_base.specs.Run.{poll_clocks}
 use Rattle.nor_serprog.specs.declared.fault.Fault.{Fault}
@@ -26,18 +26,31 @@ HasRead held_before held_after ahead_before ahead_after statuses =
     Talked held_before held_after ahead_before ahead_after (flat_map (λ status. status_request) statuses)
     (flat_map (λ status. answer (status ∷ [])) statuses)
 
--- bit 0 of a status, the busy bit, is 1
+-- so many status reads
+abbrev pub status_requests : ℕ → List ℕ
+status_requests zero = []
+status_requests (suc n) = status_request ++ status_requests n
+
+-- bit 0 of each status, the busy bit, is 1; it is 0
 abbrev pub are_busy : List ℕ → Bool
 are_busy statuses = list_all (λ status. status % 2 == 1) statuses
 
--- the status was read until it said idle, which it did within so many turns
+abbrev pub are_idle : List ℕ → Bool
+are_idle statuses = list_all (λ status. status % 2 == 0) statuses
+
+-- most status reads that are sent ahead of the first one's answer
+abbrev pub most_reads : ℕ
+most_reads = 4
+
+-- the status was read until it said idle, which it did within so many turns; reads that had been sent ahead then said so too
 pub record HasWaited (held_before held_after : Option (List ℕ)) (ahead_before ahead_after : Ahead) (turns : ℕ) : Type 0 where
   pub busy : List ℕ
-  pub idle : ℕ
-  pub within : length busy < turns
+  pub idle : List ℕ
+  pub some : 0 < length idle
+  pub within : length (busy ++ idle) ≤ turns
   pub each : are_busy busy ≡ true
-  pub last : idle % 2 ≡ 0
-  pub read : HasRead held_before held_after ahead_before ahead_after (busy ++ idle ∷ [])
+  pub last : are_idle idle ≡ true
+  pub read : HasRead held_before held_after ahead_before ahead_after (busy ++ idle)
 
 -- so many turns all said busy
 pub record StaysBusy (held_before held_after : Option (List ℕ)) (ahead_before ahead_after : Ahead) (turns : ℕ) : Type 0 where
@@ -46,28 +59,94 @@ pub record StaysBusy (held_before held_after : Option (List ℕ)) (ahead_before 
   pub each : are_busy busy ≡ true
   pub read : HasRead held_before held_after ahead_before ahead_after busy
 
--- some turns said busy, and the next one's exchange ended so
+-- some turns said busy and then idle, and the next one busy again; it and more reads had been sent
+pub record IsBusyAgain (held_before held_after : Option (List ℕ)) (ahead_before ahead_after : Ahead) (turns : ℕ) : Type 0 where
+  pub busy : List ℕ
+  pub idle : List ℕ
+  pub again : ℕ
+  pub more : ℕ
+  pub some : 0 < more
+  pub few : more ≤ most_reads
+  pub within : length (busy ++ idle) + more ≤ turns
+  pub each : are_busy busy ≡ true
+  pub then_idle : are_idle idle ≡ true
+  pub odd : again % 2 ≡ 1
+  pub held : Option (List ℕ)
+  pub ahead : Ahead
+  pub read : HasRead held_before held ahead_before ahead (busy ++ idle)
+  pub sent : Appends held held_after (status_requests more)
+  pub back : Gives ahead (answer (again ∷ [])) ahead_after
+
+-- some turns said busy and then perhaps idle, and the next one's exchange ended so; it and more reads had been sent
 pub record StopsWaiting (held_before held_after : Option (List ℕ)) (ahead_before ahead_after : Ahead) (turns : ℕ) (why : Fault) : Type 0
   where
     pub busy : List ℕ
-    pub within : length busy < turns
+    pub idle : List ℕ
+    pub more : ℕ
+    pub some : 0 < more
+    pub few : more ≤ most_reads
+    pub within : length (busy ++ idle) + more ≤ turns
     pub each : are_busy busy ≡ true
+    pub then_idle : are_idle idle ≡ true
     pub held : Option (List ℕ)
     pub ahead : Ahead
     pub got : List ℕ
     pub one : length got ≡ 1
-    pub read : HasRead held_before held ahead_before ahead busy
-    pub stop : Asks held held_after ahead ahead_after (Err why) status_request (Answers ahead ahead_after (Err why) got)
+    pub read : HasRead held_before held ahead_before ahead (busy ++ idle)
+    pub stop : Asks held held_after ahead ahead_after (Err why) (status_requests more) (Answers ahead ahead_after (Err why) got)
 
 -- what a wait says
 abbrev pub Waits : Option (List ℕ) → Option (List ℕ) → Ahead → Ahead → Result (Unit {0}) Reason → ℕ → Type 0
 Waits held_before held_after ahead_before ahead_after (Ok u) turns = HasWaited held_before held_after ahead_before ahead_after turns
-Waits held_before held_after ahead_before ahead_after (Err reason.Busy) turns = StaysBusy held_before held_after ahead_before ahead_after
-    turns
+Waits held_before held_after ahead_before ahead_after (Err reason.Busy) turns =
+    StaysBusy held_before held_after ahead_before ahead_after turns ⊎ IsBusyAgain held_before held_after ahead_before ahead_after turns
 Waits held_before held_after ahead_before ahead_after (Err (reason.Exchange why)) turns =
     StopsWaiting held_before held_after ahead_before ahead_after turns why
 Waits held_before held_after ahead_before ahead_after (Err (reason.Differs place byte)) turns = ⊥
 Waits held_before held_after ahead_before ahead_after (Err reason.Carried) turns = ⊥
+
+-- what comes back for statuses
+abbrev pub told : List ℕ → List ℕ
+told statuses = flat_map (λ status. answer (status ∷ [])) statuses
+
+-- so many statuses came that all said busy
+pub record AllBusy (before after : Ahead) (count : ℕ) : Type 0 where
+  pub busy : List ℕ
+  pub all : length busy ≡ count
+  pub each : are_busy busy ≡ true
+  pub gives : Gives before (told busy) after
+
+-- or busy first, and at last idle
+pub record LastIdle (before after : Ahead) (count : ℕ) : Type 0 where
+  pub busy : List ℕ
+  pub idle : List ℕ
+  pub some : 0 < length idle
+  pub all : length (busy ++ idle) ≡ count
+  pub each : are_busy busy ≡ true
+  pub last : are_idle idle ≡ true
+  pub gives : Gives before (told (busy ++ idle)) after
+
+-- or some said busy and then perhaps idle, and of the next one this is said
+pub record StopsTaking (before after : Ahead) (count : ℕ) (Next : Ahead → Type 0) : Type 0 where
+  pub busy : List ℕ
+  pub idle : List ℕ
+  pub within : length (busy ++ idle) < count
+  pub each : are_busy busy ≡ true
+  pub then_idle : are_idle idle ≡ true
+  pub between : Ahead
+  pub gives : Gives before (told (busy ++ idle)) between
+  pub next : Next between
+
+-- the answers to so many status reads were taken: whether the last said idle
+abbrev pub TakesStatuses : Ahead → Ahead → Result Bool Reason → ℕ → Type 0
+TakesStatuses before after (Ok true) count = LastIdle before after count
+TakesStatuses before after (Ok false) count = AllBusy before after count
+TakesStatuses before after (Err reason.Busy) count =
+    StopsTaking before after count (λ between. (again : ℕ) × (again % 2 ≡ 1) × Gives between (answer (again ∷ [])) after)
+TakesStatuses before after (Err (reason.Exchange why)) count =
+    StopsTaking before after count (λ between. (got : List ℕ) × (length got ≡ 1) × Answers between after (Err why) got)
+TakesStatuses before after (Err (reason.Differs place byte)) count = ⊥
+TakesStatuses before after (Err reason.Carried) count = ⊥
 
 -- the device did the operation of these clocks, and gave these bytes
 pub record HasOperated (held_before held_after : Option (List ℕ)) (ahead_before ahead_after : Ahead) (limits : Limits)
@@ -120,7 +199,7 @@ pub record Follows (held_before held_after : Option (List ℕ)) (ahead_before ah
   pub other : clocks ≢ poll_clocks → Operates held_before held_after ahead_before ahead_after result limits clocks want
 
 -- the reader's count of failures rises by one exactly where the reason is Read, the writer's where it is Write
-abbrev pub CountsReason : Fault → ℕ → ℕ → Result (Unit {0}) Reason → Type 0
+abbrev pub CountsReason : {T : Type 0} → Fault → ℕ → ℕ → Result T Reason → Type 0
 CountsReason device before after (Ok u) = after ≡ before
 CountsReason device before after (Err reason.Busy) = after ≡ before
 CountsReason device before after (Err reason.Carried) = after ≡ before

@@ -1,6 +1,6 @@
 -- The handshake with a serprog device (flashrom's Serial Flasher Protocol Specification, version 1: S_CMD_SYNCNOP 10h, Q_IFACE 01h,
--- Q_CMDMAP 02h, S_BUSTYPE 12h, Q_WRNMAXLEN 08h, Q_RDNMAXLEN 11h, S_PIN_STATE 15h, O_SPIOP 13h).
-use Rattle.std.specs.Prelude.{◌≡◌, ◌≢◌, ◌≤◌, ◌<◌, ℕ, Bool, true, false, ◌+◌, ◌-◌, ◌*◌, ◌/◌, ◌%◌, ◌^◌, ◌==◌, not, ◌&&◌, ◌||◌, if◌then◌else◌, List, [], ◌∷◌, ◌++◌, length, take, replicate, flat_map, slice_index, Option, Some, None, Result, Ok, Err}
+-- Q_CMDMAP 02h, S_BUSTYPE 12h, Q_SERBUF 04h, Q_WRNMAXLEN 08h, Q_RDNMAXLEN 11h, S_PIN_STATE 15h, O_SPIOP 13h).
+use Rattle.std.specs.Prelude.{◌≡◌, ◌≢◌, ◌≤◌, ◌<◌, ℕ, Bool, true, false, ◌+◌, ◌-◌, ◌*◌, ◌/◌, ◌%◌, ◌^◌, ◌==◌, not, ◌&&◌, ◌||◌, if◌then◌else◌, List, [], ◌∷◌, ◌++◌, length, take, replicate, flat_map, slice_index, Option, Some, None, IfSome, Result, Ok, Err}
 use Rattle.std.specs.Io.KnownBytes.{Appends}
 use Rattle.nor_base.specs.Device.{Ahead, Gives, IsAtEnd, Cuts}
 use Rattle.nor_serprog.specs.declared.fault.Fault.{Fault}
@@ -19,6 +19,7 @@ command_bytes command.SyncNop = 0x10 ∷ []
 command_bytes command.QueryInterface = 0x01 ∷ []
 command_bytes command.QueryCommands = 0x02 ∷ []
 command_bytes command.SetBus = 0x12 ∷ 0x08 ∷ []
+command_bytes command.QueryBuffer = 0x04 ∷ []
 command_bytes command.QueryWriteMax = 0x08 ∷ []
 command_bytes command.QueryReadMax = 0x11 ∷ []
 command_bytes command.SetPins = 0x15 ∷ 0x01 ∷ []
@@ -33,9 +34,11 @@ pub record Greeting : Type 0 where
   -- what it gave before that word, and after it for tries that were answered late
   pub noise : List ℕ
   pub late : List ℕ
-  -- its interface's version, the commands that it offers, and the most bytes that an operation sends and gives
+  -- its interface's version, the commands that it offers, how many bytes it takes before it answers, or NAK, and the most bytes that an
+  -- operation sends and gives
   pub version : List ℕ
   pub commands : List ℕ
+  pub buffer : Option (List ℕ)
   pub sends : List ℕ
   pub gives : List ℕ
 
@@ -55,6 +58,11 @@ pub record Exchange : Type 0 where
 abbrev pub exchange_if : Bool → List ℕ → List ℕ → Exchange
 exchange_if offered put given = if offered then record { put = put; given = given } else record { put = []; given = [] }
 
+-- what a device answers that tells something, or NAK
+abbrev pub told_or_nak : Option (List ℕ) → List ℕ
+told_or_nak None = NAK ∷ []
+told_or_nak (Some told) = answer told
+
 -- those of a handshake, in their order
 abbrev pub exchanges : Greeting → List Exchange
 exchanges g =
@@ -62,6 +70,7 @@ exchanges g =
     ∷ record { put = command_bytes command.QueryInterface; given = answer g.version }
     ∷ record { put = command_bytes command.QueryCommands; given = answer g.commands }
     ∷ record { put = command_bytes command.SetBus; given = answer [] }
+    ∷ exchange_if (offers g.commands 0x04) (command_bytes command.QueryBuffer) (told_or_nak g.buffer)
     ∷ exchange_if (offers g.commands 0x08) (command_bytes command.QueryWriteMax) (answer g.sends)
     ∷ exchange_if (offers g.commands 0x11) (command_bytes command.QueryReadMax) (answer g.gives)
     ∷ exchange_if (offers g.commands 0x15) (command_bytes command.SetPins) (answer [])
@@ -73,9 +82,10 @@ place command.SyncNop = 0
 place command.QueryInterface = 1
 place command.QueryCommands = 2
 place command.SetBus = 3
-place command.QueryWriteMax = 4
-place command.QueryReadMax = 5
-place command.SetPins = 6
+place command.QueryBuffer = 4
+place command.QueryWriteMax = 5
+place command.QueryReadMax = 6
+place command.SetPins = 7
 
 abbrev pub HasExchanged : Option (List ℕ) → Option (List ℕ) → Ahead → Ahead → List Exchange → Type 0
 HasExchanged held_before held_after ahead_before ahead_after done =
@@ -91,6 +101,7 @@ Reaches g command.SyncNop = Unit {0}
 Reaches g command.QueryInterface = Unit {0}
 Reaches g command.QueryCommands = g.version ≡ first_version
 Reaches g command.SetBus = (g.version ≡ first_version) × (offers g.commands 0x13 ≡ true)
+Reaches g command.QueryBuffer = (g.version ≡ first_version) × (offers g.commands 0x13 ≡ true) × (offers g.commands 0x04 ≡ true)
 Reaches g command.QueryWriteMax = (g.version ≡ first_version) × (offers g.commands 0x13 ≡ true) × (offers g.commands 0x08 ≡ true)
 Reaches g command.QueryReadMax = (g.version ≡ first_version) × (offers g.commands 0x13 ≡ true) × (offers g.commands 0x11 ≡ true)
 Reaches g command.SetPins = (g.version ≡ first_version) × (offers g.commands 0x13 ≡ true) × (offers g.commands 0x15 ≡ true)
@@ -126,6 +137,11 @@ number_told told = slice_index told 0 + 256 * slice_index told 1 + 65536 * slice
 abbrev pub most : Bool → List ℕ → ℕ
 most offered told = if offered && not (number_told told == 0) then number_told told else 2 ^ 24 - 1
 
+-- how many bytes a device takes before it answers: what two bytes tell, the lower first, where that is offered; else none
+abbrev pub ahead_told : Bool → Option (List ℕ) → ℕ
+ahead_told true (Some told) = slice_index told 0 + 256 * slice_index told 1
+ahead_told offered other = 0
+
 -- the device speaks version 1 and does SPI operations, these are its limits, and it drives the chip's pins or doesn't
 pub record Greets (held_before held_after : Option (List ℕ)) (ahead_before ahead_after : Ahead) (limits : Limits) : Type 0 where
   pub greeting : Greeting
@@ -134,10 +150,12 @@ pub record Greets (held_before held_after : Option (List ℕ)) (ahead_before ahe
   pub version : greeting.version ≡ first_version
   pub operation : offers greeting.commands 0x13 ≡ true
   pub commands : length greeting.commands ≡ 32
+  pub buffer : IfSome greeting.buffer (λ told. length told ≡ 2)
   pub sends : length greeting.sends ≡ 3
   pub gives : length greeting.gives ≡ 3
   pub sent : limits.sent ≡ most (offers greeting.commands 0x08) greeting.sends
   pub asked : limits.asked ≡ most (offers greeting.commands 0x11) greeting.gives
+  pub ahead : limits.ahead ≡ ahead_told (offers greeting.commands 0x04) greeting.buffer
   pub pins : limits.pins ≡ offers greeting.commands 0x15
 
 -- how many bytes come after ACK
@@ -146,6 +164,7 @@ answer_length command.SyncNop = 0
 answer_length command.QueryInterface = 2
 answer_length command.QueryCommands = 32
 answer_length command.SetBus = 0
+answer_length command.QueryBuffer = 2
 answer_length command.QueryWriteMax = 3
 answer_length command.QueryReadMax = 3
 answer_length command.SetPins = 0
@@ -256,11 +275,22 @@ TellsIf offered held_before held_after ahead_before ahead_after (Ok u) at got =
 TellsIf offered held_before held_after ahead_before ahead_after (Err other) at got =
     (offered ≡ true) × Tells held_before held_after ahead_before ahead_after (Err other) at got
 
+-- so was 04h, of which NAK is an answer too
+abbrev pub TellsAhead : Bool → Option (List ℕ) → Option (List ℕ) → Ahead → Ahead → Result ℕ GreetFault → Type 0
+TellsAhead offered held_before held_after ahead_before ahead_after (Ok ahead) =
+    (buffer : Option (List ℕ)) × IfSome buffer (λ told. length told ≡ 2) × (ahead ≡ ahead_told offered buffer)
+    × (let done = exchange_if offered (command_bytes command.QueryBuffer) (told_or_nak buffer) in Talked held_before held_after ahead_before
+    ahead_after done.put done.given)
+TellsAhead offered held_before held_after ahead_before ahead_after (Err other) =
+    (offered ≡ true) × (other ≢ refused.Command command.QueryBuffer fault.Nak)
+    × ((got : List ℕ) × (length got ≡ 2) × Tells held_before held_after ahead_before ahead_after (Err other) command.QueryBuffer got)
+
 -- what an answer of a handshake says
 abbrev pub Greeted : Option (List ℕ) → Option (List ℕ) → Ahead → Ahead → Result Limits GreetFault → Type 0
 Greeted held_before held_after ahead_before ahead_after (Ok limits) = Greets held_before held_after ahead_before ahead_after limits
 Greeted held_before held_after ahead_before ahead_after (Err (refused.Command command.SyncNop why)) =
     StopsWord held_before held_after ahead_before ahead_after why
+Greeted held_before held_after ahead_before ahead_after (Err (refused.Command command.QueryBuffer fault.Nak)) = ⊥
 Greeted held_before held_after ahead_before ahead_after (Err (refused.Command at why)) = StopsAt held_before held_after ahead_before
     ahead_after at why
 Greeted held_before held_after ahead_before ahead_after (Err refused.Version) =
@@ -284,6 +314,7 @@ pub record HasLearnt (held_before held_after : Option (List ℕ)) (ahead_before 
     late = late;
     version = first_version;
     commands = commands;
+    buffer = None;
     sends = [];
     gives = [];
   })))

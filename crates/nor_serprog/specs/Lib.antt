@@ -6,3 +6,4 @@ pub mod Line
 pub mod Follow
 pub mod Done
 pub mod Steps
+pub mod Row

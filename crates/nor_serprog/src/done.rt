@@ -37,7 +37,7 @@ pub fn do_step<R: ByteIn, W: ByteOut>(
 {
     match step {
         Step::Send { clocks } => operate_once(from, to, limits, clocks.as_slice(), &[]),
-        Step::Poll { .. } => wait(from, to, turns),
+        Step::Poll { .. } => wait(from, to, limits, turns),
         Step::Verify { clocks, expect } => {
             operate_once(from, to, limits, clocks.as_slice(), expect.as_slice())
         }

@@ -6,7 +6,8 @@ ghost use Rattle.nor_serprog.specs.Exchange.{Fills, Meets, other_byte, TakesAsMa
 ghost use Rattle.nor_serprog.specs.Follow.{CountsReason};
 
 use crate::fault::{Fault, Reason};
-use nor_base::{ByteIn, ByteOut, fill_from, put_parts};
+use crate::put::put_command;
+use nor_base::{ByteIn, ByteOut, fill_from};
 
 /// The answer of a command that was done.
 pub(crate) const ACK: u8 = 0x06;
@@ -28,7 +29,16 @@ pub(crate) fn ask<R: ByteIn, W: ByteOut>(
     ensures reads { CountsReads (R.count from.old) (R.count from.new) result }
     ensures writes { CountsWrites (W.count to.old) (W.count to.new) result }
 {
-    put_parts(to, command).map_err(|_| Fault::Write)?;
+    put_command(to, command).map_err(|_| Fault::Write)?;
+    told(from, got)
+}
+
+/// Takes an answer: ACK, and the bytes that fill a buffer.
+pub(crate) fn told<R: ByteIn>(from: &mut R, got: &mut [u8]) -> Result<(), Fault>
+    requires { R.count from.old < 2 ^ 64 - 1 }
+    ensures answers { Answers (R.ahead from.old) (R.ahead from.new) result got.new }
+    ensures reads { CountsReads (R.count from.old) (R.count from.new) result }
+{
     acknowledged(from)?;
     filled(from, got)
 }
@@ -145,7 +155,7 @@ pub(crate) fn exchange<R: ByteIn, W: ByteOut>(
     ensures reads { CountsReads (R.count from.old) (R.count from.new) result }
     ensures writes { CountsWrites (W.count to.old) (W.count to.new) result }
 {
-    put_parts(to, command).map_err(|_| Fault::Write)?;
+    put_command(to, command).map_err(|_| Fault::Write)?;
     expect(from, want)
 }
 

@@ -67,6 +67,8 @@ pub enum Command {
     QueryCommands,
     /// 12h: use the SPI bus.
     SetBus,
+    /// 04h: the bytes that the device takes before it answers.
+    QueryBuffer,
     /// 08h: the most bytes that an operation sends.
     QueryWriteMax,
     /// 11h: the most bytes that an operation gives.
@@ -85,6 +87,7 @@ impl Command {
             Command::QueryInterface => b"\x01",
             Command::QueryCommands => b"\x02",
             Command::SetBus => b"\x12\x08",
+            Command::QueryBuffer => b"\x04",
             Command::QueryWriteMax => b"\x08",
             Command::QueryReadMax => b"\x11",
             Command::SetPins => b"\x15\x01",

@@ -2,10 +2,10 @@
 
 ghost use Rattle.std.specs.Prelude.{◌≡◌, ◌<◌, ◌-◌, ◌^◌, ℕ, List, Option};
 ghost use Rattle.nor_base.specs.Device.{Ahead};
-ghost use Rattle.nor_serprog.specs.Greeting.{Greeted, HasLearnt, Learns, BeginsGreeting, Tells, TellsIf, CountsGreetReads, CountsGreetWrites, offers, most};
+ghost use Rattle.nor_serprog.specs.Greeting.{Greeted, HasLearnt, Learns, BeginsGreeting, Tells, TellsAhead, TellsIf, CountsGreetReads, CountsGreetWrites, offers, most};
 
 use crate::exchange::ask;
-use crate::fault::{Command, GreetFault};
+use crate::fault::{Command, Fault, GreetFault};
 use crate::limits::Limits;
 use crate::word::synchronize;
 use nor_base::{ByteIn, ByteOut};
@@ -14,6 +14,8 @@ use nor_base::{ByteIn, ByteOut};
 const O_SPIOP: u8 = 0x13;
 
 /// The commands that are asked only of a device that offers them.
+const Q_SERBUF: u8 = 0x04;
+
 const Q_WRNMAXLEN: u8 = 0x08;
 
 const Q_RDNMAXLEN: u8 = 0x11;
@@ -28,12 +30,13 @@ const MOST: u32 = (1 << 24) - 1;
 ///
 /// It is asked for its first word (10h) until NAK and ACK come, once more at the first silence:
 /// some boards reset when they are opened. Then follow the version of its interface (01h), the
-/// commands that it offers (02h), the SPI bus (12h 08h) and, where it offers them, the most bytes
-/// that an operation sends (08h) and gives (11h), and the chip's pins (15h 01h). A reader that
-/// waits for bytes has to end where the device is silent.
+/// commands that it offers (02h), the SPI bus (12h 08h) and, where it offers them, the bytes that it
+/// takes before it answers (04h), the most that an operation sends (08h) and gives (11h), and the
+/// chip's pins (15h 01h). A reader that waits for bytes has to end where the device is silent.
 ///
 /// On Ok just these bytes went out and just their answers came, except noise before the first word
-/// and a late answer after it. A most that isn't told, or is 0, is taken for 2^24 - 1.
+/// and a late answer after it. A most that isn't told, or is 0, is taken for 2^24 - 1. Of 04h NAK
+/// is an answer too: the device takes nothing ahead.
 ///
 /// `Command` tells the first command whose exchange ended early, and how: the reader or the writer
 /// failed, the device was silent, answered NAK, or another byte than ACK; of the first word
@@ -87,6 +90,7 @@ fn go_on<R: ByteIn, W: ByteOut>(
     ensures writes { CountsGreetWrites (W.count to.old) (W.count to.new) result }
 {
     tell(from, to, Command::SetBus, &mut [])?;
+    let ahead = takes_ahead(from, to, offers(commands, Q_SERBUF))?;
     let mut sends = [0; 3];
     let has_sends = offers(commands, Q_WRNMAXLEN);
     tell_if(from, to, has_sends, Command::QueryWriteMax, &mut sends)?;
@@ -98,6 +102,7 @@ fn go_on<R: ByteIn, W: ByteOut>(
     Ok(Limits {
         sent: most(has_sends, &sends),
         asked: most(has_gives, &gives),
+        ahead,
         pins: has_pins,
     })
 }
@@ -132,6 +137,30 @@ fn tell<R: ByteIn, W: ByteOut>(
 {
     match ask(from, to, &[at.bytes()], got) {
         Ok(()) => Ok(()),
+        Err(why) => Err(GreetFault::Command { at, why }),
+    }
+}
+
+/// How many bytes the device takes before it answers: 0 where it isn't asked, or answers NAK.
+fn takes_ahead<R: ByteIn, W: ByteOut>(
+    from: &mut R,
+    to: &mut W,
+    offered: bool,
+) -> Result<u16, GreetFault>
+    requires reader { R.count from.old < 2 ^ 64 - 1 }
+    requires writer { W.count to.old < 2 ^ 64 - 1 }
+    ensures tells { TellsAhead offered (W.held to.old) (W.held to.new) (R.ahead from.old) (R.ahead from.new) result }
+    ensures reads { CountsGreetReads (R.count from.old) (R.count from.new) result }
+    ensures writes { CountsGreetWrites (W.count to.old) (W.count to.new) result }
+{
+    if !offered {
+        return Ok(0);
+    }
+    let at = Command::QueryBuffer;
+    let mut told = [0; 2];
+    match ask(from, to, &[at.bytes()], &mut told) {
+        Ok(()) => Ok(u16::from_le_bytes(told)),
+        Err(Fault::Nak) => Ok(0),
         Err(why) => Err(GreetFault::Command { at, why }),
     }
 }

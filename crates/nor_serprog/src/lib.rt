@@ -3,8 +3,9 @@
 //!
 //! [`greet`] begins, [`test_line`] shows that each byte reaches the device as it was sent,
 //! [`operate`] does one SPI operation, [`operate_with`] one whose answer is known, [`is_carried`]
-//! reports which clocks are one. [`do_step`] does a step of a script, [`carried`] finds a step that
-//! can't be done. [`release`] ends. [`Shadowed`] is a [`nor_chip::Port`]: a chip in memory that the
+//! reports which clocks are one. [`do_step`] does a step of a script, [`do_row`] steps whose requests
+//! go out in one write ([`row_length`]; [`rows`] is a law of
+//! them); [`carried`] finds a step that can't be done. [`release`] ends. [`Shadowed`] is a [`nor_chip::Port`]: a chip in memory that the
 //! chip behind the device is to go along with.
 #![tactic(auto)]
 
@@ -13,11 +14,15 @@ mod done;
 mod exchange;
 mod fault;
 mod follow;
+mod halt;
 mod handshake;
+mod laws;
 mod limits;
 mod line;
 mod operation;
 mod pins;
+mod put;
+mod row;
 mod shadowed;
 mod word;
 
@@ -25,8 +30,11 @@ pub use clocks::is_carried;
 pub use done::{carried, do_step, is_doable};
 pub use fault::{Command, Fault, GreetFault, Reason};
 pub use handshake::greet;
+pub use halt::Halt;
+pub use laws::rows;
 pub use limits::Limits;
 pub use line::test_line;
 pub use operation::{operate, operate_with};
 pub use pins::release;
+pub use row::{do_row, row_length};
 pub use shadowed::Shadowed;

@@ -8,7 +8,8 @@ ghost use Rattle.nor_serprog.specs.Follow.{CountsReason};
 
 use crate::exchange::{answered, ask};
 use crate::fault::{Fault, Reason};
-use nor_base::{ByteIn, ByteOut, put_parts};
+use crate::put::put_command;
+use nor_base::{ByteIn, ByteOut};
 
 /// The command of an SPI operation.
 const O_SPIOP: u8 = 0x13;
@@ -60,7 +61,7 @@ pub fn operate_with<R: ByteIn, W: ByteOut>(
     ensures writes { CountsReason Write (W.count to.old) (W.count to.new) result }
 {
     let head = head(sent.len() as u32, want.len() as u32);
-    put_parts(to, &[&head, sent]).map_err(|_| Fault::Write)?;
+    put_command(to, &[&head, sent]).map_err(|_| Fault::Write)?;
     answered(from, want)
 }
 

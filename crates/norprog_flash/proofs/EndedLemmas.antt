@@ -1,5 +1,5 @@
 -- How work that was planned ends.
-use Rattle.std.proofs.Common.{◌≡◌, ℕ, inl, inr, true, false, List, Option, refl, sym, subst}
+use Rattle.std.proofs.Common.{◌≡◌, ℕ, inl, inr, true, false, List, ◌∷◌, Option, refl, sym, subst}
 use Rattle.nor_base.specs.declared.step.Step.{Step}
 use Rattle.nor_base.specs.Device.{Ahead}
 use Rattle.nor_flasher.specs.Apart.{BreaksApart}
@@ -45,7 +45,7 @@ module _ (close : Closes) (break : Breaks) (files : FileFacts) (job : Job) (limi
     todo = todo;
     failed = failed;
     every = subst (λ (n : ℕ). BreaksApart planned.read.read.h3 planned.read.read.h4 planned.read.read.a3 planned.read.read.a4 h1 a1 r.meaning
-        (start_of (flash_task job r.tables.items)) r.content.items goal steps n) (sym failed.at)
+        (start_of (flash_task job r.tables.items)) r.content.items goal steps n (failed.halted.at ∷ failed.halted.beyond)) (sym failed.at)
         (every_keeps files job h0 h1 a0 a1 r goal steps o0 o1 planned whole break h2 a2 limits job.ask.turns failed.halt failed.halted);
   }))
   worked_ends h2 a2 by (Failed step why) way (inr missed) = inr (inr (record {

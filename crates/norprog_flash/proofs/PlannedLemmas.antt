@@ -1,18 +1,18 @@
 -- What follows for every chip from a chip that was read, saved and planned for, and from the work on it.
-use Rattle.std.proofs.Common.{◌≡◌, ℕ, Bool, true, false, List, All, Option, Result, Ok, refl, subst}
+use Rattle.std.proofs.Common.{◌≡◌, ◌∷◌, ℕ, Bool, true, false, List, All, Option, Result, Ok, refl, subst}
 use Rattle.nor_base.specs.declared.meaning.Start.{Start}
 use Rattle.nor_base.specs.declared.step.Step.{Step}
 use Rattle.nor_base.specs.Device.{Ahead}
 use Rattle.nor_base.specs.Parameters.{Parameters}
 use Rattle.nor_base.specs.Planned.{ArePlanned, IsWorkable}
-use Rattle.nor_flasher.specs.declared.steps.Halt.{Halt}
 use Rattle.nor_flasher.specs.Apart.{ClosesApart, BreaksApart}
-use Rattle.nor_flasher.specs.Halted.{HasHalted}
 use Rattle.nor_flasher.specs.Laws.{Closes, Breaks, PlannedIsDoable}
 use Rattle.nor_job.specs.Status.{start_of}
 use Rattle.nor_loop.specs.Laws.{ReadTwice}
+use Rattle.nor_serprog.specs.declared.halt.Halt.{Halt}
 use Rattle.nor_serprog.specs.declared.limits.Limits.{Limits}
 use Rattle.nor_serprog.specs.Done.{HasDoneAll, IsDoable}
+use Rattle.nor_serprog.specs.Row.{HasHalted}
 use Rattle.nor_sfdp.specs.declared.fault.SfdpFault.{SfdpFault}
 use Rattle.norprog_common.specs.FileStore.{FileFacts}
 use Rattle.norprog_flash.specs.declared.job.Job.{Job}
@@ -64,9 +64,9 @@ module _ (files : FileFacts) (job : Job) (h0 h1 : Option (List ℕ)) (a0 a1 : Ah
         (subst (λ (w : List ℕ). ArePlanned r.meaning start true r.content.items w steps) planned.work.goal_is steps_planned) twice done
 
     pub every_keeps : Breaks → (h2 : Option (List ℕ)) (a2 : Ahead) (limits : Limits) (turns : ℕ) (halt : Halt)
-        → HasHalted h1 h2 a1 a2 limits turns steps halt
+        → (halted : HasHalted h1 h2 a1 a2 limits turns steps halt)
         → BreaksApart planned.read.read.h3 planned.read.read.h4 planned.read.read.a3 planned.read.read.a4 h1 a1 r.meaning
-        (start_of (flash_task job r.tables.items)) r.content.items goal steps halt.step
+        (start_of (flash_task job r.tables.items)) r.content.items goal steps halt.step (halted.at ∷ halted.beyond)
     every_keeps law h2 a2 limits turns halt halted =
         law _ _ h1 h2 _ _ a1 a2 limits turns r.meaning (start_of (flash_task job r.tables.items)) true r.content.items goal steps halt refl
         workable steps_planned twice halted

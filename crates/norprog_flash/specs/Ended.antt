@@ -1,5 +1,5 @@
 -- How work on the chip behind a device ends (this project's).
-use Rattle.std.specs.Prelude.{◌≡◌, ◌⊎◌, ℕ, true, false, List, length, Option, Ok}
+use Rattle.std.specs.Prelude.{◌≡◌, ◌⊎◌, ℕ, true, false, List, ◌∷◌, length, Option, Ok}
 use Rattle.nor_base.specs.declared.step.Step.{Step}
 use Rattle.nor_base.specs.Device.{Ahead}
 use Rattle.nor_flasher.specs.Apart.{ClosesApart, BreaksApart}
@@ -41,13 +41,15 @@ EveryChipFlashes {job = job} {held = held} {ahead = ahead} todo held_after ahead
     ClosesApart read.h3 read.h4 read.a3 read.a4 held held_after ahead ahead_after todo.reading.meaning (start_of t) todo.reading.content.items
     (goal_of t work.image work.regions (dump_of job)) todo.steps
 
--- or, as far as the work came to a step, only by chips that held what was read, of which at most one unit of the work is in the making
+-- or, as far as the work came to a step, which begins a row, only by chips that held what was read, of which at most one unit of the work
+-- is in the making, also after they did some of the row
 abbrev pub EveryChipKeeps : {files : FileFacts} {job : Job} {held_before held : Option (List ℕ)} {ahead_before ahead : Ahead}
-    {out_before out_after : Option (List ℕ)} → IsToDo files job held_before held ahead_before ahead out_before out_after → ℕ → Type 0
-EveryChipKeeps {job = job} {held = held} {ahead = ahead} todo at =
+    {out_before out_after : Option (List ℕ)} → IsToDo files job held_before held ahead_before ahead out_before out_after → ℕ → List Step
+    → Type 0
+EveryChipKeeps {job = job} {held = held} {ahead = ahead} todo at row =
     let read = todo.planned.read.read in
     BreaksApart read.h3 read.h4 read.a3 read.a4 held ahead todo.reading.meaning (start_of (flash_task job todo.reading.tables.items))
-    todo.reading.content.items todo.goal todo.steps at
+    todo.reading.content.items todo.goal todo.steps at row
 
 -- all was done: each step, and then the chip gave just what it must hold
 pub record HasFlashed (files : FileFacts) (job : Job) (limits : Limits) (held_before held_after : Option (List ℕ))
@@ -76,7 +78,7 @@ pub record HasHaltedFlash (files : FileFacts) (job : Job) (limits : Limits) (hel
   pub ahead : Ahead
   pub todo : IsToDo files job held_before held ahead_before ahead out_before out_after
   pub failed : HasFailedAt held held_after ahead ahead_after limits job.ask.turns todo.reading.meaning todo.steps step why
-  pub every : EveryChipKeeps todo step
+  pub every : EveryChipKeeps todo step (failed.halted.at ∷ failed.halted.beyond)
 
 -- each step was done, but then the chip didn't give what it must hold
 pub record HasMissedFlash (files : FileFacts) (job : Job) (limits : Limits) (held_before held_after : Option (List ℕ))

@@ -4,15 +4,15 @@ use Rattle.nor_base.specs.declared.step.Step.{Step}
 use Rattle.nor_base.specs.Device.{Ahead}
 use Rattle.nor_base.specs.Parameters.{Parameters}
 use Rattle.nor_base.specs.Step.{expected, step_clocks}
-use Rattle.nor_flasher.specs.declared.steps.Halt.{Halt}
-use Rattle.nor_flasher.specs.Halted.{HasHalted}
 use Rattle.nor_probe.specs.declared.difference.Mismatch.{Mismatch}
 use Rattle.nor_reader.specs.declared.by.ReadBy.{ReadBy}
 use Rattle.nor_job.specs.Status.{start_of}
 use Rattle.nor_reader.specs.Laws.{GivesBy}
 use Rattle.nor_reader.specs.Twice.{ReadsWhole}
+use Rattle.nor_serprog.specs.declared.halt.Halt.{Halt}
 use Rattle.nor_serprog.specs.declared.limits.Limits.{Limits}
 use Rattle.nor_serprog.specs.Done.{HasDoneAll}
+use Rattle.nor_serprog.specs.Row.{HasHalted}
 use Rattle.nor_serprog.specs.Steps.{IsFirstNotCarried}
 use Rattle.norprog_failure.specs.declared.failure.Failure.{Failure}
 use Rattle.norprog_failure.specs.declared.failure.Failure.TheVariants.{Carried}

@@ -6,6 +6,7 @@ use Rattle.std.specs.Prelude.{All, IsTrue, ◌↔◌}
 use Rattle.nor_base.specs.declared.step.Step.{Step}
 use Rattle.nor_serprog.specs.Carried.{IsOperation}
 use Rattle.nor_serprog.specs.declared.limits.Limits.{Limits}
+use Rattle.nor_serprog.specs.declared.fault.Fault.TheVariants as fault
 use Rattle.nor_serprog.specs.declared.fault.Reason.{Reason}
 use Rattle.nor_serprog.specs.declared.fault.Reason.TheVariants as reason
 use Rattle.nor_serprog.specs.Follow.{Follows}
@@ -23,7 +24,8 @@ use Rattle.norprog_play.specs.Asked.{Begins}
 use Rattle.norprog_play.specs.Expected.{Expectation}
 use Rattle.norprog_play.specs.Failure.{FailsAs, read_address, other_byte}
 use Rattle.norprog_play.specs.Ending.{EndsComparing, IsUnlikeAfter, MayBegin, failure_by}
-use Rattle.norprog_play.specs.Moment.{Moment, DoesAll, StopsAt}
+use Rattle.norprog_play.specs.Moment.{Moment, DoesAll, StopsAt, StopsStep}
+use Rattle.norprog_play.proofs.TogetherLemmas.{head_of, all_right}
 
 -- all of the steps so far, and one more
 pub all_more : (P : Step → Type 0) (steps : List Step) (at : ℕ) (x : Step) → at < length steps → x ≡ get_or steps at x → All P (take at steps) → P x → All P (take (at + 1) steps)
@@ -55,6 +57,16 @@ not_none m limits turns b c x given (reason.Differs place byte) can follows fail
     by_address (Some start) h = cc
     by_address None h = cc
 
+-- of steps that may be sent none fails as none
+never_stops : (limits : Limits) (turns : ℕ) (m : Parameters) (after : Moment) (steps done beyond rest : List Step) (reached : Moment) (x : Step) (given : List ℕ)
+    (why : Reason) → steps ≡ done ++ (x ∷ (beyond ++ rest)) → AreCarried limits steps → StopsStep limits turns reached x given why beyond after
+    → FailsAs m (step_clocks x) given why failure.Carried → ⊥
+never_stops limits turns m after steps done beyond rest reached x given why those carried (inl stop) fails =
+    let can : IsCarried limits x = head_of (IsCarried limits) x (beyond ++ rest) (all_right (IsCarried limits) done (x ∷ (beyond ++ rest)) (subst (AreCarried limits) those carried)) in
+    not_none m limits turns reached (record { shown = after.shown; held = stop.held; ahead = after.ahead }) x given why can stop.device fails
+never_stops limits turns m after steps done beyond rest reached x given why those carried (inr cut) fails =
+    let bad : failure.Carried ≡ failure.Exchange fault.Write = subst (λ (r : Reason). FailsAs m (step_clocks x) given r failure.Carried) cut.writer fails in cc
+
 -- where a play that began stops
 pub stops : (limits : Limits) (turns : ℕ) (x : Expectation) (m : Parameters) (access : Access) (Wanted : ℕ → Type 0) (Again : List ℕ → ℕ → Type 0) (before between after : Moment) (steps : List Step) (at : ℕ)
     (failed : Failure) → MayBegin limits before steps → Begins x limits turns access Wanted before between → StopsAt m limits turns between steps at failed after
@@ -67,8 +79,7 @@ stops limits turns x m access Wanted Again before between after steps at (failur
 stops limits turns x m access Wanted Again before between after steps at (failure.Gives chip want) may begins stop =
     inl (record { may = may; between = between; begins = begins; stops = stop })
 stops limits turns x m access Wanted Again before between after steps at failure.Carried may begins stop =
-    absurd (not_none m limits turns stop.reached after stop.last stop.stop.given stop.stop.reason
-    (one_of (IsCarried limits) steps at stop.last stop.within stop.is may.carried) stop.stop.device stop.stop.failure)
+    absurd (never_stops limits turns m after steps stop.done stop.beyond stop.rest stop.reached stop.last stop.given stop.reason stop.those may.carried stop.stop stop.failure)
 
 -- and where the last comparison does
 pub stops_after : (limits : Limits) (turns : ℕ) (x : Expectation) (m : Parameters) (access : Access) (Wanted : ℕ → Type 0) (Again : List ℕ → ℕ → Type 0) (before after : Moment) (steps : List Step) (at : ℕ)

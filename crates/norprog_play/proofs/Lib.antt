@@ -1,4 +1,5 @@
 mod TakenLemmas
+mod TogetherLemmas
 mod FollowedLemmas
 mod CarriedLemmas
 mod PieceLemmas

@@ -1,4 +1,5 @@
 pub mod Moment
+pub mod Together
 pub mod Access
 pub mod Expected
 pub mod Tables

@@ -78,9 +78,3 @@ ending_line (Wrong step why) = wrong_line (wrong_number why) step
 ending_line (No step why) = verdict_text (Says step why)
 ending_line (Unlike why) = unlike_line why
 ending_line (Failed step failed) = failure_line step failed
-
--- `step N of M, B of C bytes`, from the line's begin on
-abbrev pub progress_line : ℕ → ℕ → ℕ → ℕ → List ℕ
-progress_line steps all_steps bytes all_bytes =
-    0x0D ∷ (codes "step " ++ (decimal steps ++ (codes " of " ++ (decimal all_steps ++ (codes ", " ++ (decimal bytes ++ (codes " of "
-    ++ (decimal all_bytes ++ codes " bytes"))))))))

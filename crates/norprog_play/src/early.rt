@@ -23,6 +23,7 @@ pub(crate) fn widest() -> Limits
     Limits {
         sent: MOST,
         asked: MOST,
+        ahead: 0,
         pins: false,
     }
 }

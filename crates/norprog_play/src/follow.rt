@@ -1,19 +1,24 @@
 //! Steps done by a device, beside a chip in memory.
 
-ghost use Rattle.std.specs.Prelude.{◌≡◌, ◌≤◌, ◌<◌, ◌+◌, ◌-◌, ◌^◌, None, Ok, length, All, MatchResult, IfOk};
+ghost use Rattle.std.specs.Prelude.{◌≡◌, ◌≤◌, ◌<◌, ◌+◌, ◌-◌, ◌^◌, None, Ok, get_or, length, take, All, MatchResult, IfOk, IfErr};
 ghost use Rattle.nor_base.specs.Chip.{Chip as ShownChip};
 ghost use Rattle.nor_base.specs.Run.{played};
 ghost use Rattle.nor_base.specs.Sample.{sampled_count};
-ghost use Rattle.nor_base.specs.Step.{step_clocks};
+ghost use Rattle.nor_base.specs.Step.{expected, step_clocks};
+ghost use Rattle.nor_progress.specs.Far.{HasRoom};
+ghost use Rattle.nor_serprog.specs.Row.{IsRow};
 ghost use Rattle.norprog_play.specs.Carried.{AreCarried};
-ghost use Rattle.norprog_play.specs.Moment.{moment, Does, DoesAll, Stops, StopsAt, IsTaken};
+ghost use Rattle.norprog_play.specs.Failure.{FailsAs};
+ghost use Rattle.norprog_play.specs.Moment.{moment, Does, DoesAll, StopsAt, IsTaken};
+ghost use Rattle.norprog_play.specs.Together.{MayGoTogether, StopsAlone};
 
 use crate::ending::Failure;
 use crate::failure::failure_of;
-use crate::progress::Progress;
+use crate::together::{expected, row_of, take_row};
 use nor_base::{ByteOut, Meaning, PortFault, Step, sampled};
 use nor_chip::Port;
-use nor_serprog::Shadowed;
+use nor_progress::Progress;
+use nor_serprog::{Reason, Shadowed, do_row};
 use std::io::{Read, Write};
 
 /// Why a device didn't go on, and at which step.
@@ -23,7 +28,8 @@ pub(crate) struct Halt {
     pub(crate) why: Failure,
 }
 
-/// Has the device do steps that go well on the chip in memory, none of which samples more bytes than there is room.
+/// Has the device do steps that go well on the chip in memory, none of which samples more bytes than there is room. Those of a row go
+/// to the device at once.
 ///
 /// How far it has come is told to `progress`; where that fails nothing changes.
 pub(crate) fn follow_steps<R: Read + Drop, W: Write + Drop, P: ByteOut>(
@@ -50,17 +56,90 @@ pub(crate) fn follow_steps<R: Read + Drop, W: Write + Drop, P: ByteOut>(
         steps.now halt.step halt.why (moment port.new.chip (W.contents port.new.to.inner) (R.remaining port.new.from.inner))) }
 {
     let mut far = Progress::of(steps);
-    let mut number: u64 = 0;
-    for step in steps {
-        if let Err(why) = follow_step(meaning, step, port, room) {
+    let mut done = 0;
+    while done < steps.len() {
+        let rest = &steps[done..];
+        let count = row_of(rest, &port.limits);
+        if let Err(halt) = follow_row(meaning, rest, count, port, room) {
             far.end(progress);
-            return Err(Halt { step: number, why });
+            let step = done as u64 + halt.step;
+            let why = halt.why;
+            return Err(Halt { step, why });
         }
-        number += 1;
-        far.step_done(step, progress);
+        row_done(&rest[..count], &mut far, progress);
+        done += count;
     }
     far.end(progress);
     Ok(())
+}
+
+/// These steps of a row were done.
+fn row_done<P: ByteOut>(row: &[Step], far: &mut Progress, progress: &mut P)
+    requires { HasRoom far.old (P.count progress.old) }
+    ensures { HasRoom far.new (P.count progress.new) }
+{
+    for step in row {
+        far.step_done(step, progress);
+    }
+}
+
+/// Has the device do so many of the first steps, which the chip in memory takes, at once.
+fn follow_row<R: Read + Drop, W: Write + Drop>(
+    meaning: &Meaning,
+    steps: &[Step],
+    count: usize,
+    port: &mut Shadowed<'_, R, W>,
+    room: &mut [u8],
+) -> Result<(), Halt>
+    requires some { 0 < count }
+    requires within { count ≤ length steps.now }
+    requires row { IsRow port.old.limits (take count steps.now) }
+    requires together { MayGoTogether (take count steps.now) }
+    requires fresh { port.old.reason ≡ None }
+    requires failures { port.old.failed < 2 ^ 64 - 1 }
+    requires wide { All (λ step. sampled_count (step_clocks step) ≤ length room.old) steps.now }
+    requires goes { (chip : ShownChip) × (played port.old.chip.setting 1 port.old.chip.chip steps.now ≡ Ok chip) }
+    ensures done { MatchResult result
+        (λ _. DoesAll port.old.limits port.old.turns (moment port.old.chip (W.contents port.old.to.inner) (R.remaining port.old.from.inner))
+        (take count steps.now) (moment port.new.chip (W.contents port.new.to.inner) (R.remaining port.new.from.inner)))
+        (λ halt. StopsAt meaning.now port.old.limits port.old.turns (moment port.old.chip (W.contents port.old.to.inner) (R.remaining port.old.from.inner))
+        (take count steps.now) halt.step halt.why (moment port.new.chip (W.contents port.new.to.inner) (R.remaining port.new.from.inner))) }
+    ensures room_left { port.new.failed ≤ port.old.failed + 1 }
+    ensures fresh { IfOk result (λ _. port.new.reason ≡ None) }
+    ensures count { IfOk result (λ _. port.new.failed ≡ port.old.failed) }
+    ensures limits { port.new.limits ≡ port.old.limits }
+    ensures turns { port.new.turns ≡ port.old.turns }
+    ensures room { length room.new ≡ length room.old }
+    ensures within { IfErr result (λ halt. halt.step < count) }
+{
+    if count == 1 {
+        let step = &steps[0];
+        return match follow_step(meaning, step, port, room) {
+            Ok(()) => Ok(()),
+            Err(why) => Err(Halt { step: 0, why }),
+        };
+    }
+    take_row(&mut port.chip, steps, count, room);
+    let row = &steps[..count];
+    match do_row(&mut port.from, &mut port.to, &port.limits, port.turns, row) {
+        Ok(()) => Ok(()),
+        Err(halt) => {
+            port.failed += 1;
+            port.reason = Some(halt.why);
+            Err(failed(meaning, row, halt.step, halt.why))
+        }
+    }
+}
+
+/// How steps that halted so at one of them are reported.
+fn failed(meaning: &Meaning, row: &[Step], step: u64, why: Reason) -> Halt
+    requires { step < length row.now }
+    ensures step { result.step ≡ step }
+    ensures why { (x : Step) → x ≡ get_or row.now step x → FailsAs meaning.now (step_clocks x) (expected x) why result.why }
+{
+    let at = &row[step as usize];
+    let why = failure_of(meaning, at.clocks(), expected(at), why);
+    Halt { step, why }
 }
 
 /// Has the device do a step that the chip in memory takes.
@@ -77,7 +156,7 @@ fn follow_step<R: Read + Drop, W: Write + Drop>(
     ensures done { MatchResult result
         (λ _. Does port.old.limits port.old.turns (moment port.old.chip (W.contents port.old.to.inner) (R.remaining port.old.from.inner))
         (step_clocks step.now) (moment port.new.chip (W.contents port.new.to.inner) (R.remaining port.new.from.inner)))
-        (λ failed. Stops meaning.now port.old.limits port.old.turns (moment port.old.chip (W.contents port.old.to.inner) (R.remaining port.old.from.inner))
+        (λ failed. StopsAlone meaning.now port.old.limits port.old.turns (moment port.old.chip (W.contents port.old.to.inner) (R.remaining port.old.from.inner))
         (step_clocks step.now) failed (moment port.new.chip (W.contents port.new.to.inner) (R.remaining port.new.from.inner))) }
     ensures room_left { port.new.failed ≤ port.old.failed + 1 }
     ensures fresh { IfOk result (λ _. port.new.reason ≡ None) }

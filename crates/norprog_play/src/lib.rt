@@ -25,12 +25,12 @@ mod job;
 mod likeness;
 mod line;
 mod piece;
-mod progress;
 mod rehearsal;
 mod request;
 mod script;
 mod state;
 mod step;
+mod together;
 mod unplayed;
 mod within;
 

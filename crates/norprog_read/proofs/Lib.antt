@@ -4,3 +4,4 @@ mod ReadLemmas
 mod HarmlessLemmas
 mod ServedLemmas
 mod LineLemmas
+mod OpenedLemmas

@@ -8,12 +8,14 @@ use std::alloc::Global;
 use std::process::Abort;
 use std::test::Fail;
 
-/// What a device answers that offers 01h, 02h, 08h, 11h, 12h, 13h and 15h: at most 256 bytes out, and 2^24 in.
-const ANSWERS: &[u8; 48] = b"\x15\x06\
+/// What a device answers that offers 01h, 02h, 04h, 08h, 11h, 12h, 13h and 15h: 300 bytes before it answers, at most 256 bytes out, and
+/// 2^24 in.
+const ANSWERS: &[u8; 51] = b"\x15\x06\
     \x06\x01\x00\
-    \x06\x06\x01\x2e\x00\x00\x00\x00\x00\x00\x00\x00\x00\x00\x00\x00\x00\
+    \x06\x16\x01\x2e\x00\x00\x00\x00\x00\x00\x00\x00\x00\x00\x00\x00\x00\
     \x00\x00\x00\x00\x00\x00\x00\x00\x00\x00\x00\x00\x00\x00\x00\x00\
     \x06\
+    \x06\x2c\x01\
     \x06\x00\x01\x00\
     \x06\x00\x00\x00\
     \x06";
@@ -26,13 +28,14 @@ const BARE: &[u8] = b"\x15\x06\
     \x06";
 
 /// Each command, where its answer begins, how many bytes were put before it, and how many with it.
-static COMMANDS: [(Command, usize, usize, usize); 6] = [
+static COMMANDS: [(Command, usize, usize, usize); 7] = [
     (Command::QueryInterface, 2, 1, 2),
     (Command::QueryCommands, 5, 2, 3),
     (Command::SetBus, 38, 3, 5),
-    (Command::QueryWriteMax, 39, 5, 6),
-    (Command::QueryReadMax, 43, 6, 7),
-    (Command::SetPins, 47, 7, 9),
+    (Command::QueryBuffer, 39, 5, 6),
+    (Command::QueryWriteMax, 42, 6, 7),
+    (Command::QueryReadMax, 46, 7, 8),
+    (Command::SetPins, 50, 8, 10),
 ];
 
 /// What a device answers, where it ends, after some silence; how much it takes.
@@ -70,19 +73,33 @@ const CUT: GreetFault = GreetFault::Command {
     why: Fault::Silent,
 };
 
+/// The same of one that offers 04h besides, and answers NAK to it.
+const REFUSES: &[u8] = b"\x15\x06\
+    \x06\x01\x00\
+    \x06\x10\x00\x0c\x00\x00\x00\x00\x00\x00\x00\x00\x00\x00\x00\x00\x00\
+    \x00\x00\x00\x00\x00\x00\x00\x00\x00\x00\x00\x00\x00\x00\x00\x00\
+    \x06\
+    \x15";
+
 /// Answers after some silence, what is put, and the limits.
-static GREETED: [(&[u8], u32, &[u8], Result<(u32, u32, bool), GreetFault>); 4] = [
+static GREETED: [(&[u8], u32, &[u8], Result<(u32, u32, u16, bool), GreetFault>); 5] = [
     (
         ANSWERS,
         0,
-        b"\x10\x01\x02\x12\x08\x08\x11\x15\x01",
-        Ok((256, 0xFF_FFFF, true)),
+        b"\x10\x01\x02\x12\x08\x04\x08\x11\x15\x01",
+        Ok((256, 0xFF_FFFF, 300, true)),
     ),
     (
         BARE,
         0,
         b"\x10\x01\x02\x12\x08",
-        Ok((0xFF_FFFF, 0xFF_FFFF, false)),
+        Ok((0xFF_FFFF, 0xFF_FFFF, 0, false)),
+    ),
+    (
+        REFUSES,
+        0,
+        b"\x10\x01\x02\x12\x08\x04",
+        Ok((0xFF_FFFF, 0xFF_FFFF, 0, false)),
     ),
     (b"\x15\x06\x15\x06", 1, b"\x10\x10\x01", Err(CUT)),
     (b"\x00\x06\x15\x15\x06", 0, b"\x10\x01", Err(CUT)),
@@ -98,7 +115,7 @@ fn greets_devices(rt: HostRuntime) {
         };
         let (met, held) = greets(rt.alloc(), &row);
         holds(&rt, "what was put", held.as_slice() == *put);
-        let limits = met.map(|limits| (limits.sent, limits.asked, limits.pins));
+        let limits = met.map(|limits| (limits.sent, limits.asked, limits.ahead, limits.pins));
         same(&rt, "the limits", limits, *want);
     }
 }
@@ -151,7 +168,9 @@ fn each_command_is_answered_wrongly(rt: HostRuntime) {
             ..GOOD
         };
         stops(&rt, alloc, &full, fault(Fault::Write), before);
-        stops_with(&rt, alloc, (place, 0x15), fault(Fault::Nak), put);
+        if at != Command::QueryBuffer {
+            stops_with(&rt, alloc, (place, 0x15), fault(Fault::Nak), put);
+        }
         stops_with(&rt, alloc, (place, 0x07), fault(Fault::Differs), put);
     }
 }

@@ -147,6 +147,7 @@ fn tests(rt: &impl Abort, alloc: Global, row: &Row<'_>) -> (Vec<u8>, usize) {
     let limits = Limits {
         sent: row.sent,
         asked: 1,
+        ahead: 0,
         pins: false,
     };
     let met = test_line(&mut from, &mut to, &limits);

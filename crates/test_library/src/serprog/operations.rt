@@ -11,6 +11,7 @@ use std::process::Abort;
 const LIMITS: Limits = Limits {
     sent: 10,
     asked: 2,
+    ahead: 0,
     pins: false,
 };
 

@@ -107,6 +107,7 @@ fn plays_up_to<'a>(
     let limits = Limits {
         sent: row.sent,
         asked: 256,
+        ahead: 0,
         pins: false,
     };
     let mut port = Shadowed::new(chip, from, Held::new(alloc, row.room), limits, row.turns);

@@ -22,7 +22,7 @@ pub(crate) enum Trouble {
     Torn,
 }
 
-/// A device that offers 01h, 02h, 08h, 10h to 13h and 15h, sends 129 bytes in an operation, and gives 65536.
+/// A device that offers 01h, 02h, 04h, 08h, 10h to 13h and 15h, takes 300 bytes before it answers, sends 129 in an operation, and gives 65536.
 #[derive(Drop)]
 pub(crate) struct Programmer {
     pub(crate) chip: Memory,
@@ -144,9 +144,10 @@ fn reply(command: &[u8], chip: &mut Memory, answer: &mut Vec<u8>) -> Result<(), 
         [0x10] => answer.extend_from_slice(b"\x15\x06"),
         [0x01] => answer.extend_from_slice(b"\x06\x01\x00"),
         [0x02] => {
-            answer.extend_from_slice(b"\x06\x06\x01\x2e")?;
+            answer.extend_from_slice(b"\x06\x16\x01\x2e")?;
             answer.extend_from_slice(&[0; 29])
         }
+        [0x04] => answer.extend_from_slice(b"\x06\x2c\x01"),
         [0x08] => answer.extend_from_slice(b"\x06\x81\x00\x00"),
         [0x11] => answer.extend_from_slice(b"\x06\x00\x00\x01"),
         [0x13, _, _, _, low, middle, high, sent @ ..] => {

@@ -5,5 +5,5 @@ use Rattle.nor_flasher.proofs.laws.breaks.Goals as goal
 
 pub returns : goal.returns
 returns c =
-    apart.breaks (planned_is_one c.spelling.ensures.one c.there_is_planned_work.ensures.spelled c.single.ensures.operation c.single.ensures.planned) c.device.ensures.logged
-    c.device.ensures.begun c.wire.ensures.joined c.loop_breaks.ensures c.loop_is_explained.ensures c.quad.ensures.part
+    apart.breaks (planned_is_one c.spelling.ensures.one c.there_is_planned_work.ensures.spelled c.single.ensures.operation c.single.ensures.planned) c.device.ensures.halted
+    c.loop_breaks.ensures c.loop_is_explained.ensures c.quad.ensures.part

@@ -1,41 +1,67 @@
--- Turn by turn.
-use Rattle.std.proofs.Common.{◌≡◌, ◌≢◌, ◌%◌, get_or, length, refl, ◌∙◌, arith}
-use Rattle.nor_serprog.specs.declared.fault.Reason.TheVariants.{Exchange}
-use Rattle.nor_serprog.specs.Follow.{Waits}
+-- Some reads at a time.
+use Rattle.std.proofs.Common.{◌≡◌, ◌+◌, ◌-◌, true, false, inl, refl, ◌∙◌, subst, arith, rules, Ok, Err}
+use Rattle.std.specs.Io.KnownBytes.{Appends}
+use Rattle.nor_base.specs.Device.{Cuts}
 use Rattle.nor_base.proofs.FaultLaws.{answered}
-use Rattle.nor_serprog.proofs.FollowLemmas.{waits_none, waits_on, waits_end, waits_fail, waits_never}
+use Rattle.nor_serprog.specs.declared.fault.Fault.TheVariants.{Write}
+use Rattle.nor_serprog.specs.declared.fault.Reason.TheVariants.{Exchange}
+use Rattle.nor_serprog.specs.Follow.{Waits, TakesStatuses, status_requests}
+use Rattle.nor_serprog.proofs.WaitLemmas.{waits_none, waits_after, waits_more, waits_never, reads_idle, reads_busy, reads_stop, reads_cut}
 use Rattle.nor_serprog.proofs.follow.wait.Goals as goal
 
-pub loop-init : goal.loop-init
-loop-init g c = record { busy = waits_none (g.W.ByteOut.held c.args.to.now) (g.R.ByteIn.ahead c.args.from.now); reads = refl; writes = refl; one = refl }
+pub loop-left-init : goal.loop-left-init
+loop-left-init g c = record { busy = (0, omega arith, waits_none (g.W.ByteOut.held c.args.to.now) (g.R.ByteIn.ahead c.args.from.now)); reads = refl; writes = refl }
 
-pub returns-in_err-operate-clause-waits : goal.returns-in_err-operate-clause-waits
-returns-in_err-operate-clause-waits g c =
-    let one : length c.operate.new.got ≡ 1 = omega (arith, c.loop.invariant.one) in
-    let why = c.in_err-operate.field-0.0 in
+pub returns-then-is_err-clause-waits : goal.returns-then-is_err-clause-waits
+returns-then-is_err-clause-waits g c =
+    let busy = c.loop-left.invariant.busy in
+    let n = c.add_reads-reads.result in
+    let bytes : c.as_slice.result.now ≡ status_requests n = search rules in
+    let cut : Cuts (g.W.ByteOut.held c.loop-left.to) (g.W.ByteOut.held c.put_all.new.writer) c.as_slice.result.now = search rules in
+    waits_after _ _ _ _ _ _ busy.0 c.loop-left.left c.args.turns (Err (Exchange Write)) busy.1 busy.2
+    (reads_cut _ _ (g.R.ByteIn.ahead c.loop-left.from) n c.loop-left.left c.add_reads-reads.ensures.within c.add_reads-reads.ensures.few
+    (subst (Cuts (g.W.ByteOut.held c.loop-left.to) (g.W.ByteOut.held c.put_all.new.writer)) bytes cut))
+
+pub returns-in_err-take_statuses-clause-waits : goal.returns-in_err-take_statuses-clause-waits
+returns-in_err-take_statuses-clause-waits g c =
+    let busy = c.loop-left.invariant.busy in
+    let n = c.add_reads-reads.result in
+    let bytes : c.as_slice.result.now ≡ status_requests n = search rules in
+    let all : Appends (g.W.ByteOut.held c.loop-left.to) (g.W.ByteOut.held c.put_all.new.writer) c.as_slice.result.now = search rules in
+    let out = subst (Appends (g.W.ByteOut.held c.loop-left.to) (g.W.ByteOut.held c.put_all.new.writer)) bytes all in
+    let why = c.in_err-take_statuses.field-0.0 in
     answered c.from_residual.result
-    (λ r. Waits (g.W.ByteOut.held c.args.to.now) (g.W.ByteOut.held c.operate.new.to) (g.R.ByteIn.ahead c.args.from.now) (g.R.ByteIn.ahead c.operate.new.from) r c.args.turns)
-    (Exchange why) (waits_fail c.loop.counter c.args.turns c.operate.new.got _ why c.loop.invariant.one (omega (arith, c.loop-test.true)) one c.loop.invariant.busy c.in_err-operate.ensures.asked)
+    (λ r. Waits (g.W.ByteOut.held c.args.to.now) (g.W.ByteOut.held c.put_all.new.writer) (g.R.ByteIn.ahead c.args.from.now) (g.R.ByteIn.ahead c.take_statuses.new.from) r c.args.turns)
+    why (waits_after _ _ _ _ _ _ busy.0 c.loop-left.left c.args.turns (Err why) busy.1 busy.2
+    (reads_stop _ _ _ _ n c.loop-left.left why c.add_reads-reads.ensures.within c.add_reads-reads.ensures.few out c.in_err-take_statuses.ensures.takes))
     c.from_residual.ensures.1
 
-pub returns-then-status-eq0-clause-waits : goal.returns-then-status-eq0-clause-waits
-returns-then-status-eq0-clause-waits g c =
-    let one : length c.operate.new.got ≡ 1 = omega (arith, c.loop.invariant.one) in
-    let idle : get_or c.operate.new.got 0 0 % 2 ≡ 0 = c.if-status-eq0.true in
-    let ok = c.in_ok-operate.ensures in
-    waits_end c.loop.counter c.args.turns c.operate.new.got _ c.loop.invariant.one (omega (arith, c.loop-test.true)) one c.loop.invariant.busy ok.asked.0 ok.asked.1 idle
+pub returns-then-branch-clause-waits : goal.returns-then-branch-clause-waits
+returns-then-branch-clause-waits g c =
+    let busy = c.loop-left.invariant.busy in
+    let n = c.add_reads-reads.result in
+    let bytes : c.as_slice.result.now ≡ status_requests n = search rules in
+    let all : Appends (g.W.ByteOut.held c.loop-left.to) (g.W.ByteOut.held c.put_all.new.writer) c.as_slice.result.now = search rules in
+    let out = subst (Appends (g.W.ByteOut.held c.loop-left.to) (g.W.ByteOut.held c.put_all.new.writer)) bytes all in
+    let idle = subst (λ b. TakesStatuses (g.R.ByteIn.ahead c.loop-left.from) (g.R.ByteIn.ahead c.take_statuses.new.from) (Ok b) n) c.if-branch.true c.in_ok-take_statuses.ensures.takes in
+    waits_after _ _ _ _ _ _ busy.0 c.loop-left.left c.args.turns (Ok tt) busy.1 busy.2
+    (reads_idle _ _ _ _ n c.loop-left.left c.add_reads-reads.ensures.within out idle)
 
-pub loop-preserved : goal.loop-preserved
-loop-preserved g c =
-    let one : length c.operate.new.got ≡ 1 = omega (arith, c.loop.invariant.one) in
-    let odd : get_or c.operate.new.got 0 0 % 2 ≢ 0 = c.if-status-eq0.false in
-    let ok = c.in_ok-operate.ensures in
+pub loop-left-preserved : goal.loop-left-preserved
+loop-left-preserved g c =
+    let busy = c.loop-left.invariant.busy in
+    let n = c.add_reads-reads.result in
+    let bytes : c.as_slice.result.now ≡ status_requests n = search rules in
+    let all : Appends (g.W.ByteOut.held c.loop-left.to) (g.W.ByteOut.held c.put_all.new.writer) c.as_slice.result.now = search rules in
+    let out = subst (Appends (g.W.ByteOut.held c.loop-left.to) (g.W.ByteOut.held c.put_all.new.writer)) bytes all in
+    let more = subst (λ b. TakesStatuses (g.R.ByteIn.ahead c.loop-left.from) (g.R.ByteIn.ahead c.take_statuses.new.from) (Ok b) n) c.if-branch.false c.in_ok-take_statuses.ensures.takes in
     record {
-      busy = waits_on c.loop.counter c.operate.new.got _ c.loop.invariant.one one c.loop.invariant.busy ok.asked.0 ok.asked.1 odd;
-      reads = ok.reads ∙ c.loop.invariant.reads;
-      writes = ok.writes ∙ c.loop.invariant.writes;
-      one = one;
+      busy = (busy.0 + n, omega (arith, busy.1, c.add_reads-reads.ensures.within), waits_more _ _ _ _ _ _ busy.0 n busy.2 (reads_busy _ _ _ _ n out more));
+      reads = c.in_ok-take_statuses.ensures.reads ∙ c.loop-left.invariant.reads;
+      writes = search rules;
     }
 
 pub returns-clause-waits : goal.returns-clause-waits
-returns-clause-waits g c = waits_never c.loop.counter c.args.turns (omega (arith, c.loop-test.false)) c.loop.invariant.busy
+returns-clause-waits g c =
+    let busy = c.loop-left.invariant.busy in
+    inl (waits_never _ _ _ _ busy.0 c.args.turns (omega (arith, busy.1, c.loop-left-test.false)) busy.2)

@@ -1,36 +1,71 @@
--- One step more.
-use Rattle.std.proofs.Common.{◌+◌, ◌∙◌, ap, arith}
-use Rattle.nor_base.specs.Step.{step_clocks}
-use Rattle.norprog_play.specs.Moment.{moment}
-use Rattle.norprog_play.proofs.FollowedLemmas.{takes_next, bounded, does_next, goes_next, goes_to_end}
+-- A row more, or a stop in one.
+use Rattle.std.proofs.Common.{◌≡◌, ◌+◌, ◌-◌, ◌≤◌, ◌∙◌, List, ◌++◌, take, drop, length, drop-drop, length-drop, ap, subst, sym, arith}
+use Rattle.std.proofs.Math.Seq.{take-add}
+use Rattle.std.proofs.lemmas.List.{take-append-drop, length-take-le}
+use Rattle.nor_base.specs.declared.step.Step.{Step}
+use Rattle.nor_base.specs.Run.{played}
+use Rattle.std.specs.Prelude.{Ok}
+use Rattle.norprog_play.specs.Moment.{moment, DoesAll}
+use Rattle.norprog_play.proofs.CarriedLemmas.{done_bounds, same_bounds}
+use Rattle.norprog_play.proofs.FollowedLemmas.{goes_to_end}
+use Rattle.norprog_play.proofs.TogetherLemmas.{all_left_over, does_append, goes_through, stops_in}
 use Rattle.norprog_play.proofs.follow.follow_steps.Goals as goal
 
-pub follow_step-requires-clause-taken : goal.follow_step-requires-clause-taken
-follow_step-requires-clause-taken g c =
-    takes_next c.args.port.now.chip c.loop-step.port.chip c.args.steps.now c.loop-step.step-index c.step-item.result c.loop-step-test.true c.step-item.is c.requires.goes
-    c.loop-step.invariant.rest
-
-pub loop-step-preserved : goal.loop-step-preserved
-loop-step-preserved g c =
+pub returns-in-Err-clause-done : goal.returns-in-Err-clause-done
+returns-in-Err-clause-done g c =
+    let steps : List Step = c.args.steps.now in
+    let front : List Step = take c.loop-done.done steps in
+    let left : List Step = take (length steps - c.loop-done.done) (drop c.loop-done.done steps) in
+    let whole : left ≡ drop c.loop-done.done steps = all_left_over c.loop-done.done steps in
+    let row : List Step = take c.row_of-count.result left in
+    let rest : List Step = drop c.row_of-count.result left in
     let before = moment c.args.port.now.chip (g.W.Write.contents c.args.port.now.to.inner) (g.R.Read.remaining c.args.port.now.from.inner) in
-    let now = moment c.loop-step.port.chip (g.W.Write.contents c.loop-step.port.to.inner) (g.R.Read.remaining c.loop-step.port.from.inner) in
-    let after = moment c.follow_step.new.port.chip (g.W.Write.contents c.follow_step.new.port.to.inner) (g.R.Read.remaining c.follow_step.new.port.from.inner) in
-    let one = bounded c.args.port.now.limits c.loop-step.port.limits c.args.port.now.turns c.loop-step.port.turns now after (step_clocks c.step-item.result)
-    c.loop-step.invariant.limits c.loop-step.invariant.turns c.in_default.ensures.done in
+    let now = moment c.loop-done.port.chip (g.W.Write.contents c.loop-done.port.to.inner) (g.R.Read.remaining c.loop-done.port.from.inner) in
+    let after = moment c.follow_row.new.port.chip (g.W.Write.contents c.follow_row.new.port.to.inner) (g.R.Read.remaining c.follow_row.new.port.from.inner) in
+    let parts : steps ≡ front ++ (row ++ rest) =
+    sym (ap (λ (l : List Step). front ++ l) (take-append-drop c.row_of-count.result left ∙ whole) ∙ take-append-drop c.loop-done.done steps) in
+    let counted : c.loop-done.done + c.in-Err.halt.step ≡ length front + c.in-Err.halt.step =
+    ap (λ n. n + c.in-Err.halt.step) (sym (length-take-le c.loop-done.done steps c.loop-done.invariant.within)) in
+    stops_in c.args.meaning.now c.args.port.now.limits c.args.port.now.turns before now after front row rest steps c.in-Err.halt.step
+    (c.loop-done.done + c.in-Err.halt.step) c.in-Err.halt.why parts counted c.loop-done.invariant.does
+    (same_bounds c.args.meaning.now c.args.port.now.limits c.loop-done.port.limits c.args.port.now.turns c.loop-done.port.turns now after row
+    c.in-Err.halt.step c.in-Err.halt.why c.loop-done.invariant.limits c.loop-done.invariant.turns c.in-Err.ensures.done)
+
+pub loop-done-preserved : goal.loop-done-preserved
+loop-done-preserved g c =
+    let steps : List Step = c.args.steps.now in
+    let left : List Step = take (length steps - c.loop-done.done) (drop c.loop-done.done steps) in
+    let whole : left ≡ drop c.loop-done.done steps = all_left_over c.loop-done.done steps in
+    let row : List Step = take c.row_of-count.result left in
+    let rest : List Step = drop c.row_of-count.result left in
+    let before = moment c.args.port.now.chip (g.W.Write.contents c.args.port.now.to.inner) (g.R.Read.remaining c.args.port.now.from.inner) in
+    let now = moment c.loop-done.port.chip (g.W.Write.contents c.loop-done.port.to.inner) (g.R.Read.remaining c.loop-done.port.from.inner) in
+    let after = moment c.follow_row.new.port.chip (g.W.Write.contents c.follow_row.new.port.to.inner) (g.R.Read.remaining c.follow_row.new.port.from.inner) in
+    let one = done_bounds c.args.port.now.limits c.loop-done.port.limits c.args.port.now.turns c.loop-done.port.turns now after row
+    c.loop-done.invariant.limits c.loop-done.invariant.turns c.in_default.ensures.done in
+    let few : c.row_of-count.result ≤ length left = c.row_of-count.ensures.within in
+    let long : length left ≡ length steps - c.loop-done.done = ap length whole ∙ length-drop c.loop-done.done steps in
+    let further : c.loop-done.done + c.row_of-count.result ≤ length steps = omega (arith, few, long, c.loop-done.invariant.within) in
+    let same_row : row ≡ take c.row_of-count.result (drop c.loop-done.done steps) = ap (take c.row_of-count.result) whole in
     record {
-      does = does_next c.args.port.now.limits c.args.port.now.turns before now after c.args.steps.now c.loop-step.step-index c.step-item.result c.loop-step-test.true c.step-item.is
-          c.loop-step.invariant.does one;
-      rest = goes_next c.args.port.now.limits c.args.port.now.turns c.args.port.now.chip now after c.args.steps.now c.loop-step.step-index c.step-item.result c.loop-step-test.true
-          c.step-item.is c.loop-step.invariant.rest one;
+      within = further;
+      does = subst (λ (l : List Step). DoesAll c.args.port.now.limits c.args.port.now.turns before l after)
+          (sym (take-add c.loop-done.done c.row_of-count.result steps))
+          (does_append c.args.port.now.limits c.args.port.now.turns before now after (take c.loop-done.done steps) (take c.row_of-count.result (drop c.loop-done.done steps))
+          c.loop-done.invariant.does (subst (λ (l : List Step). DoesAll c.args.port.now.limits c.args.port.now.turns now l after) same_row one));
+      rest = λ d goes.
+          subst (λ (l : List Step). played c.follow_row.new.port.chip.setting 1 c.follow_row.new.port.chip.chip l ≡ Ok d) (ap (drop c.row_of-count.result) whole ∙ drop-drop c.row_of-count.result c.loop-done.done steps)
+          (goes_through c.args.port.now.limits c.args.port.now.turns now after row rest d one
+          (subst (λ (l : List Step). played c.loop-done.port.chip.setting 1 c.loop-done.port.chip.chip l ≡ Ok d) (sym (take-append-drop c.row_of-count.result left ∙ whole))
+          (c.loop-done.invariant.rest d goes)));
       fresh = c.in_default.ensures.fresh;
-      count = c.in_default.ensures.count ∙ c.loop-step.invariant.count;
-      limits = c.in_default.ensures.limits ∙ c.loop-step.invariant.limits;
-      turns = c.in_default.ensures.turns ∙ c.loop-step.invariant.turns;
-      room = c.in_default.ensures.room ∙ c.loop-step.invariant.room;
-      number = ap (λ n. n + 1) c.loop-step.invariant.number;
-      told = c.step_done.ensures;
+      count = c.in_default.ensures.count ∙ c.loop-done.invariant.count;
+      limits = c.in_default.ensures.limits ∙ c.loop-done.invariant.limits;
+      turns = c.in_default.ensures.turns ∙ c.loop-done.invariant.turns;
+      room = c.in_default.ensures.room ∙ c.loop-done.invariant.room;
+      told = c.row_done.ensures;
     }
 
 pub returns-clause-chip : goal.returns-clause-chip
 returns-clause-chip g c =
-    goes_to_end c.args.port.now.chip c.loop-step.port.chip c.args.steps.now c.loop-step.step-index (omega (arith, c.loop-step-test.false)) c.requires.goes c.loop-step.invariant.rest
+    goes_to_end c.args.port.now.chip c.loop-done.port.chip c.args.steps.now c.loop-done.done c.loop-done-test.false c.requires.goes c.loop-done.invariant.rest
