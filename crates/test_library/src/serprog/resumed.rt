@@ -71,11 +71,7 @@ impl Counts {
 fn job_for<'a>(older: &'a [u8]) -> Job<'a>
     ensures whole { result.ask.content ≡ true }
 {
-    let old = if older.is_empty() {
-        None
-    } else {
-        Some(older)
-    };
+    let old = if older.is_empty() { None } else { Some(older) };
     Job {
         ask: Ask {
             known: Known::Uniform(8192),
