@@ -65,7 +65,11 @@ fn status_into(rt: &HostRuntime, line: Result<Line<'_>, Refusal>, out: File, err
 /// Tells what `--details`, if it is asked for, says of a refusal.
 pub(crate) fn details_into(rt: &HostRuntime, line: Line<'_>, refusal: &str, err: File) {
     let mut err = IntoWrite::new(err);
-    if let Some(typed) = line.details {
+    let Line {
+        asked: _asked,
+        details,
+    } = line;
+    if let Some(typed) = details {
         let files = SystemFiles::new(rt);
         let refusal = refusal.as_bytes();
         write_details(rt.alloc(), &files, typed.as_line(), refusal, &mut err);
