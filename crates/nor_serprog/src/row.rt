@@ -71,11 +71,12 @@ fn form_length(steps: &[Step]) -> usize
     ensures form { 0 < result → IsForm (take result steps.now) }
 {
     match steps {
-        [Step::Send { clocks }, Step::Send { .. }, Step::Poll { .. }, ..]
-            if clocks.as_slice() == ENABLE.as_slice() =>
-        {
-            3
-        }
+        [
+            Step::Send { clocks },
+            Step::Send { .. },
+            Step::Poll { .. },
+            ..
+        ] if clocks.as_slice() == ENABLE.as_slice() => { 3 }
         [Step::Send { .. }, Step::Poll { .. }, ..] => 2,
         _ => verify_count(steps),
     }
@@ -178,7 +179,11 @@ fn do_ahead<R: ByteIn, W: ByteOut>(
 {
     let mut requests = requests;
     let polls = front.len() < row.len();
-    let reads = if polls { add_reads(&mut requests, limits.ahead, turns) } else { 0 };
+    let reads = if polls {
+        add_reads(&mut requests, limits.ahead, turns)
+    } else {
+        0
+    };
     if put_all(to, requests.as_slice()).is_err() {
         let why = Reason::Exchange(Fault::Write);
         return Err(Halt { step: 0, why });
