@@ -35,14 +35,17 @@ goes_on (Poll symbols) log one (same, waiting) =
     ap (λ (l : List Operation). l ++ status_read 0 ∷ []) waiting.those ∙ sym (map-append status_read (waiting.busy ++ waiting.idle) (0 ∷ [])) ∙ ap (map status_read) longer in
     record {
       rest = status_read 0 ∷ [];
-      is = (same, record {
-        busy = waiting.busy;
-        idle = waiting.idle ++ 0 ∷ [];
-        some = omega (arith, length-append waiting.idle (0 ∷ []));
-        each = waiting.each;
-        last = list_all-append (λ status. status % 2 == 0) waiting.idle (0 ∷ []) ∙ (rw waiting.then_idle refl);
-        those = those;
-      });
+      is = (
+        same,
+        record {
+          busy = waiting.busy;
+          idle = waiting.idle ++ 0 ∷ [];
+          some = omega (arith, length-append waiting.idle (0 ∷ []));
+          each = waiting.each;
+          last = list_all-append (λ status. status % 2 == 0) waiting.idle (0 ∷ []) ∙ (rw waiting.then_idle refl);
+          those = those;
+        },
+      );
     }
 goes_on (Verify symbols expect) log one none =
     let spelled : symbols ≡ operation_clocks one.sent (length expect) = subst (λ n. symbols ≡ operation_clocks one.sent n) one.fits one.spelled in
@@ -92,9 +95,11 @@ ends steps at row log all begun =
     let whole = subst (AllByRecursion IsOne) begun.those all in
     let more = row_ends row begun.rest begun.begun (all_after begun.front tail whole) begun.last in
     let joined : begun.done ++ (begun.begun ++ more.0) ≡ log ++ more.0 =
-    sym (append_assoc begun.done begun.begun more.0) ∙ ap (λ (l : List Operation). l ++ more.0) (sym begun.joined) in
-    (more.0, subst (λ (l : List Step). AreLogOf l (log ++ more.0)) (sym begun.those)
-    (subst (AreLogOf (begun.front ++ tail)) joined (log_both begun.front tail begun.done (begun.begun ++ more.0) begun.logged more.1)))
+    sym (append_assoc begun.done begun.begun more.0) ∙ ap (λ (l : List Operation). l ++ more.0) (sym begun.joined) in (
+      more.0,
+      subst (λ (l : List Step). AreLogOf l (log ++ more.0)) (sym begun.those)
+          (subst (AreLogOf (begun.front ++ tail)) joined (log_both begun.front tail begun.done (begun.begun ++ more.0) begun.logged more.1)),
+    )
 
 -- the clocks of steps are operations
 often : (n : ℕ) (symbols sent : List ℕ) (asked : ℕ) (more : List (List ℕ)) → symbols ≡ operation_clocks sent asked → AreOperations more

@@ -51,7 +51,10 @@ pub fn do_steps<R: ByteIn, W: ByteOut, P: ByteOut>(
             row_done(&row[..halt.step as usize], &mut far, progress);
             far.end(progress);
             let step = (steps.len() - rest.len()) as u64 + halt.step;
-            return Err(Halt { step, why: halt.why });
+            return Err(Halt {
+                step,
+                why: halt.why,
+            });
         }
         row_done(row, &mut far, progress);
         rest = later;

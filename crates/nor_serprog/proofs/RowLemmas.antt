@@ -224,9 +224,12 @@ front_done h h' a b limits turns (x ∷ []) put some (first, more, whole, one, n
     let all : put ≡ first = whole ∙ ap (λ (l : List ℕ). first ++ l) none ∙ append-nil first in
     (h', between, says_done h h' a between limits turns x first one (subst (Appends h h') all out) gives, (refl, same))
 front_done h h' a b limits turns (x ∷ (y ∷ ys)) put some (first, more, whole, one, others) out (between, gives, taken) =
-    let parts = out_split h h' first more (subst (Appends h h') whole out) in
-    (parts.0, between, says_done h parts.0 a between limits turns x first one parts.1 gives,
-    front_done parts.0 h' between b limits turns (y ∷ ys) more (omega arith) others parts.2 taken)
+    let parts = out_split h h' first more (subst (Appends h h') whole out) in (
+      parts.0,
+      between,
+      says_done h parts.0 a between limits turns x first one parts.1 gives,
+      front_done parts.0 h' between b limits turns (y ∷ ys) more (omega arith) others parts.2 taken,
+    )
 
 -- one step more
 done_snoc : (h i j : Option (List ℕ)) (a b c : Ahead) (limits : Limits) (turns : ℕ) (xs : List Step) (x : Step)

@@ -134,6 +134,12 @@ AreSent limits [] put = put ≡ []
 AreSent limits (x ∷ xs) put =
     (first : List ℕ) × (rest : List ℕ) × (put ≡ first ++ rest) × IsSent limits x first × AreSent limits xs rest
 
+-- the steps of a row except for a poll that is the last, and their requests, no more than the device takes before it answers
+pub record AreFront (limits : Limits) (row front : List Step) (put : List ℕ) : Type 0 where
+  pub parts : (row ≡ front) ⊎ ((wait : List ℕ) × (row ≡ front ++ Poll wait ∷ []))
+  pub sent : AreSent limits front put
+  pub fits : length put ≤ limits.ahead
+
 -- the answers of steps that aren't polls were taken
 abbrev pub TakesAnswers : Ahead → Ahead → List Step → Type 0
 TakesAnswers before after [] = after ≡ before

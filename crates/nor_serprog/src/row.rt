@@ -9,7 +9,7 @@ ghost use Rattle.nor_serprog.specs.declared.fault.Fault.TheVariants.{Read, Write
 ghost use Rattle.nor_serprog.specs.Carried.{IsOperation};
 ghost use Rattle.nor_serprog.specs.Protocol.{request};
 ghost use Rattle.nor_serprog.specs.Done.{IsDoable, HasDoneAll};
-ghost use Rattle.nor_serprog.specs.Row.{AreSent, CountsHalt, FitAhead, HasHalted, IsAsked, IsForm, IsRow, IsSent, StopsAnswers, TakesAnswers};
+ghost use Rattle.nor_serprog.specs.Row.{AreFront, AreSent, CountsHalt, FitAhead, HasHalted, IsAsked, IsForm, IsRow, IsSent, StopsAnswers, TakesAnswers};
 
 use crate::clocks::bits_sent;
 use crate::done::do_step;
@@ -71,11 +71,12 @@ fn form_length(steps: &[Step]) -> usize
     ensures form { 0 < result → IsForm (take result steps.now) }
 {
     match steps {
-        [Step::Send { clocks }, Step::Send { .. }, Step::Poll { .. }, ..]
-            if clocks.as_slice() == ENABLE.as_slice() =>
-        {
-            3
-        }
+        [
+            Step::Send { clocks },
+            Step::Send { .. },
+            Step::Poll { .. },
+            ..
+        ] if clocks.as_slice() == ENABLE.as_slice() => { 3 }
         [Step::Send { .. }, Step::Poll { .. }, ..] => 2,
         _ => verify_count(steps),
     }
@@ -154,7 +155,7 @@ fn do_each<R: ByteIn, W: ByteOut>(
     Ok(())
 }
 
-/// Has the device do a row whose requests before a poll are these.
+/// Has the device do a row. The requests are those of the steps in front, before its poll.
 fn do_ahead<R: ByteIn, W: ByteOut>(
     from: &mut R,
     to: &mut W,
@@ -166,9 +167,7 @@ fn do_ahead<R: ByteIn, W: ByteOut>(
 ) -> Result<(), Halt>
     requires form { All IsDoable row.now }
     requires row { IsRow limits.now row.now }
-    requires parts { (row.now ≡ front.now) ⊎ ((wait : List ℕ) × (row.now ≡ front.now ++ Poll wait ∷ [])) }
-    requires sent { AreSent limits.now front.now requests.items }
-    requires fits { length requests.items ≤ limits.now.ahead }
+    requires front { AreFront limits.now row.now front.now requests.items }
     requires reader { R.count from.old < 2 ^ 64 - 1 }
     requires writer { W.count to.old < 2 ^ 64 - 1 }
     ensures done { MatchResult result
@@ -180,7 +179,11 @@ fn do_ahead<R: ByteIn, W: ByteOut>(
 {
     let mut requests = requests;
     let polls = front.len() < row.len();
-    let reads = if polls { add_reads(&mut requests, limits.ahead, turns) } else { 0 };
+    let reads = if polls {
+        add_reads(&mut requests, limits.ahead, turns)
+    } else {
+        0
+    };
     if put_all(to, requests.as_slice()).is_err() {
         let why = Reason::Exchange(Fault::Write);
         return Err(Halt { step: 0, why });

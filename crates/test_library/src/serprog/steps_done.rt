@@ -53,7 +53,7 @@ static ROWS: [Row; 8] = [
         ahead: 36,
         sent: 5,
         turns: 3,
-        answers: b"\x06\x06\x06\x03\x06\x01\x06\x15",
+        answers: b"\x06\x06\x06\x03\x06\x01\x15",
         ended: Err(Halt {
             step: 2,
             why: Reason::Exchange(Fault::Nak),

@@ -18,19 +18,19 @@ returns-then-is_err-clause-done g c =
     elim c.if-polls.branch [
       | then-polls w ↦ rw (w.requests-is, w.reads-is)
           (tail_some c.args.limits.now c.args.turns w.add_reads-reads.result c.args.row.now c.args.front.now c.args.requests.items w.add_reads-reads.new.requests.items
-          c.requires.parts w.if-polls.true c.requires.form w.add_reads-reads.ensures.few w.add_reads-reads.ensures.within w.add_reads-reads.ensures.added
-          w.add_reads-reads.ensures.fits c.requires.fits)
+          c.requires.front.parts w.if-polls.true c.requires.form w.add_reads-reads.ensures.few w.add_reads-reads.ensures.within w.add_reads-reads.ensures.added
+          w.add_reads-reads.ensures.fits c.requires.front.fits)
       | else-polls w ↦ rw (w.requests-is, w.reads-is)
-          (tail_none c.args.limits.now c.args.turns c.args.row.now c.args.front.now c.args.requests.items c.requires.parts (λ h. absurd (omega (arith, h, w.if-polls.false)))
-          c.requires.fits)
+          (tail_none c.args.limits.now c.args.turns c.args.row.now c.args.front.now c.args.requests.items c.requires.front.parts (λ h. absurd (omega (arith, h, w.if-polls.false)))
+          c.requires.front.fits)
     ] in
     let some_of_it : Cuts (g.W.ByteOut.held c.args.to.now) (g.W.ByteOut.held c.put_all.new.writer) c.as_slice.result.now = search rules in
     let cut = subst (Cuts (g.W.ByteOut.held c.args.to.now) (g.W.ByteOut.held c.put_all.new.writer)) (c.as_slice.ensures.value ∙ tail.put) some_of_it in
     halts_cut _ _ _ c.args.limits.now c.args.turns c.if-polls.reads c.args.row.now c.args.front.now tail.polls _ c.args.requests.items (status_requests c.if-polls.reads)
-    c.requires.row tail.whole tail.few tail.within c.requires.sent tail.asked tail.fits cut refl refl
+    c.requires.row tail.whole tail.few tail.within c.requires.front.sent tail.asked tail.fits cut refl refl
 
 pub take_answers-requires-clause-few : goal.take_answers-requires-clause-few
-take_answers-requires-clause-few g c = sent_few c.args.limits.now c.args.front.now c.args.requests.items c.requires.sent
+take_answers-requires-clause-few g c = sent_few c.args.limits.now c.args.front.now c.args.requests.items c.requires.front.sent
 
 pub returns-in_err-take_answers-clause-done : goal.returns-in_err-take_answers-clause-done
 returns-in_err-take_answers-clause-done g c =
@@ -38,11 +38,11 @@ returns-in_err-take_answers-clause-done g c =
     elim c.if-polls.branch [
       | then-polls w ↦ rw (w.requests-is, w.reads-is)
           (tail_some c.args.limits.now c.args.turns w.add_reads-reads.result c.args.row.now c.args.front.now c.args.requests.items w.add_reads-reads.new.requests.items
-          c.requires.parts w.if-polls.true c.requires.form w.add_reads-reads.ensures.few w.add_reads-reads.ensures.within w.add_reads-reads.ensures.added
-          w.add_reads-reads.ensures.fits c.requires.fits)
+          c.requires.front.parts w.if-polls.true c.requires.form w.add_reads-reads.ensures.few w.add_reads-reads.ensures.within w.add_reads-reads.ensures.added
+          w.add_reads-reads.ensures.fits c.requires.front.fits)
       | else-polls w ↦ rw (w.requests-is, w.reads-is)
-          (tail_none c.args.limits.now c.args.turns c.args.row.now c.args.front.now c.args.requests.items c.requires.parts (λ h. absurd (omega (arith, h, w.if-polls.false)))
-          c.requires.fits)
+          (tail_none c.args.limits.now c.args.turns c.args.row.now c.args.front.now c.args.requests.items c.requires.front.parts (λ h. absurd (omega (arith, h, w.if-polls.false)))
+          c.requires.front.fits)
     ] in
     let put = c.as_slice.ensures.value ∙ tail.put in
     let all : Appends (g.W.ByteOut.held c.args.to.now) (g.W.ByteOut.held c.put_all.new.writer) c.as_slice.result.now = search rules in
@@ -55,7 +55,7 @@ returns-in_err-take_answers-clause-done g c =
     (λ h. HasHalted (g.W.ByteOut.held c.args.to.now) (g.W.ByteOut.held c.put_all.new.writer) (g.R.ByteIn.ahead c.args.from.now) (g.R.ByteIn.ahead c.take_answers.new.from) c.args.limits.now
     c.args.turns c.args.row.now h))
     halt (halts_front _ _ _ _ c.args.limits.now c.args.turns c.if-polls.reads c.args.row.now c.args.front.now tail.polls halt c.args.requests.items (status_requests c.if-polls.reads)
-    c.requires.row tail.whole tail.few tail.within c.requires.sent tail.asked tail.fits out c.in_err-take_answers.ensures.done) c.from_residual.ensures.1
+    c.requires.row tail.whole tail.few tail.within c.requires.front.sent tail.asked tail.fits out c.in_err-take_answers.ensures.done) c.from_residual.ensures.1
 
 pub returns-in-Err-clause-done : goal.returns-in-Err-clause-done
 returns-in-Err-clause-done g c =
@@ -63,17 +63,17 @@ returns-in-Err-clause-done g c =
     elim c.if-polls.branch [
       | then-polls w ↦ rw (w.requests-is, w.reads-is)
           (tail_some c.args.limits.now c.args.turns w.add_reads-reads.result c.args.row.now c.args.front.now c.args.requests.items w.add_reads-reads.new.requests.items
-          c.requires.parts w.if-polls.true c.requires.form w.add_reads-reads.ensures.few w.add_reads-reads.ensures.within w.add_reads-reads.ensures.added
-          w.add_reads-reads.ensures.fits c.requires.fits)
+          c.requires.front.parts w.if-polls.true c.requires.form w.add_reads-reads.ensures.few w.add_reads-reads.ensures.within w.add_reads-reads.ensures.added
+          w.add_reads-reads.ensures.fits c.requires.front.fits)
       | else-polls w ↦ rw (w.requests-is, w.reads-is)
-          (tail_none c.args.limits.now c.args.turns c.args.row.now c.args.front.now c.args.requests.items c.requires.parts (λ h. absurd (omega (arith, h, w.if-polls.false)))
-          c.requires.fits)
+          (tail_none c.args.limits.now c.args.turns c.args.row.now c.args.front.now c.args.requests.items c.requires.front.parts (λ h. absurd (omega (arith, h, w.if-polls.false)))
+          c.requires.front.fits)
     ] in
     let put = c.as_slice.ensures.value ∙ tail.put in
     let all : Appends (g.W.ByteOut.held c.args.to.now) (g.W.ByteOut.held c.put_all.new.writer) c.as_slice.result.now = search rules in
     let out = subst (Appends (g.W.ByteOut.held c.args.to.now) (g.W.ByteOut.held c.put_all.new.writer)) put all in
-    let p = the_poll c.args.row.now c.args.front.now c.requires.parts c.if-polls-2.true c.requires.form in
-    let upto = done_upto _ _ _ _ c.args.limits.now c.args.turns c.args.front.now c.args.requests.items (status_requests c.if-polls.reads) c.requires.sent out
+    let p = the_poll c.args.row.now c.args.front.now c.requires.front.parts c.if-polls-2.true c.requires.form in
+    let upto = done_upto _ _ _ _ c.args.limits.now c.args.turns c.args.front.now c.args.requests.items (status_requests c.if-polls.reads) c.requires.front.sent out
     c.in_ok-take_answers.ensures.done in
     halts_last _ upto.held _ _ _ _ c.args.limits.now c.args.turns c.args.row.now c.args.front.now (Poll p.0) [] _ p.1 refl upto.done
     (p.2, c.in-Err.ensures.waits upto.held upto.out)
@@ -84,17 +84,17 @@ returns-in_default-clause-done g c =
     elim c.if-polls.branch [
       | then-polls w ↦ rw (w.requests-is, w.reads-is)
           (tail_some c.args.limits.now c.args.turns w.add_reads-reads.result c.args.row.now c.args.front.now c.args.requests.items w.add_reads-reads.new.requests.items
-          c.requires.parts w.if-polls.true c.requires.form w.add_reads-reads.ensures.few w.add_reads-reads.ensures.within w.add_reads-reads.ensures.added
-          w.add_reads-reads.ensures.fits c.requires.fits)
+          c.requires.front.parts w.if-polls.true c.requires.form w.add_reads-reads.ensures.few w.add_reads-reads.ensures.within w.add_reads-reads.ensures.added
+          w.add_reads-reads.ensures.fits c.requires.front.fits)
       | else-polls w ↦ rw (w.requests-is, w.reads-is)
-          (tail_none c.args.limits.now c.args.turns c.args.row.now c.args.front.now c.args.requests.items c.requires.parts (λ h. absurd (omega (arith, h, w.if-polls.false)))
-          c.requires.fits)
+          (tail_none c.args.limits.now c.args.turns c.args.row.now c.args.front.now c.args.requests.items c.requires.front.parts (λ h. absurd (omega (arith, h, w.if-polls.false)))
+          c.requires.front.fits)
     ] in
     let put = c.as_slice.ensures.value ∙ tail.put in
     let all : Appends (g.W.ByteOut.held c.args.to.now) (g.W.ByteOut.held c.put_all.new.writer) c.as_slice.result.now = search rules in
     let out = subst (Appends (g.W.ByteOut.held c.args.to.now) (g.W.ByteOut.held c.put_all.new.writer)) put all in
-    let p = the_poll c.args.row.now c.args.front.now c.requires.parts c.if-polls-2.true c.requires.form in
-    let upto = done_upto _ _ _ _ c.args.limits.now c.args.turns c.args.front.now c.args.requests.items (status_requests c.if-polls.reads) c.requires.sent out
+    let p = the_poll c.args.row.now c.args.front.now c.requires.front.parts c.if-polls-2.true c.requires.form in
+    let upto = done_upto _ _ _ _ c.args.limits.now c.args.turns c.args.front.now c.args.requests.items (status_requests c.if-polls.reads) c.requires.front.sent out
     c.in_ok-take_answers.ensures.done in
     polled _ upto.held _ _ _ _ c.args.limits.now c.args.turns c.args.row.now c.args.front.now p.0 p.1 p.2 upto.done (c.in_default.ensures.waits upto.held upto.out)
 
@@ -107,5 +107,5 @@ returns-else-polls-2-clause-done g c =
     ] in
     let all : Appends (g.W.ByteOut.held c.args.to.now) (g.W.ByteOut.held c.put_all.new.writer) c.as_slice.result.now = search rules in
     let out = subst (Appends (g.W.ByteOut.held c.args.to.now) (g.W.ByteOut.held c.put_all.new.writer)) (c.as_slice.ensures.value ∙ same) all in
-    all_front _ _ _ _ c.args.limits.now c.args.turns c.args.row.now c.args.front.now c.args.requests.items c.requires.parts
-    (λ h. absurd (omega (arith, h, c.if-polls-2.false))) c.requires.row.some c.requires.sent out c.in_ok-take_answers.ensures.done
+    all_front _ _ _ _ c.args.limits.now c.args.turns c.args.row.now c.args.front.now c.args.requests.items c.requires.front.parts
+    (λ h. absurd (omega (arith, h, c.if-polls-2.false))) c.requires.row.some c.requires.front.sent out c.in_ok-take_answers.ensures.done
