@@ -161,8 +161,8 @@ fn stops(
         same(rt, "without a trouble", stop, Stop::Done);
         return Ok(None);
     }
-    let Bench { device, saved, .. } = bench;
-    resumes(rt, alloc, device.chip.array, saved.as_slice())?;
+    let array = bench.device.chip.array.clone()?;
+    resumes(rt, alloc, array, bench.saved.as_slice())?;
     Ok(Some(stop))
 }
 
