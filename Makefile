@@ -41,9 +41,11 @@ edits:
 refusals:
 	tools/refused-growths
 
-# norprog beside flashrom and sigrok-cli, over the device of tools/serprog-device; it proves nothing, and says what it needs
+# norprog beside flashrom and sigrok-cli, over the device of tools/serprog-device, and then as wire has it; it proves nothing, and says
+# what it needs
 peers:
 	@tools/peers
+	@tools/wire
 
 # norprog and flashrom on a programmer of which a round trip takes 1 ms; it proves nothing
 wire:
