@@ -1,7 +1,7 @@
 //! The symbols of a clock list, and what the four lanes do at each.
 //!
-//! SPI mode 0, as the W25Q256JV datasheet draws it: the chip samples its inputs at the rising clock. One symbol of a
-//! clock list stands for one clock.
+//! SPI mode 0, as the W25Q256JV datasheet draws it: the chip samples its inputs at the rising
+//! clock. One symbol of a clock list stands for one clock.
 
 ghost use Rattle.std.specs.Prelude.{◌≡◌, ◌≤◌, ◌==◌, length, count_by};
 ghost use Rattle.nor_base.specs.Sample.{symbol, sample, clock_at, sampled_count};
@@ -13,7 +13,8 @@ pub enum Clock {
     Zero,
     /// `1`: a 1 is sent on IO0; IO2 and IO3 are held high.
     One,
-    /// `a`: the nibble 0 is sent on all four lanes, IO3 the highest bit; the next ones go on up to 15 at `p`.
+    /// `a`: the nibble 0 is sent on all four lanes, IO3 the highest bit; the next ones go on up to
+    /// 15 at `p`.
     Nibble0,
     /// `b`
     Nibble1,
@@ -184,7 +185,8 @@ fn nibble_sample(level: u8) -> Sample
     }
 }
 
-/// How many bytes the clocks sample: a byte for each eight of `.`, and one for each two of `=`, both rounded down.
+/// How many bytes the clocks sample: a byte for each eight of `.`, and one for each two of `=`,
+/// both rounded down.
 pub fn sampled(clocks: &[u8]) -> usize
     ensures { result ≡ sampled_count clocks.now }
 {

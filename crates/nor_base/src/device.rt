@@ -1,5 +1,5 @@
-//! Devices that give and take bytes: the content of a chip comes through a [`ByteIn`], a script goes out through a
-//! [`ByteOut`].
+//! Devices that give and take bytes: the content of a chip comes through a [`ByteIn`], a script
+//! goes out through a [`ByteOut`].
 
 ghost use Rattle.std.specs.Prelude.{◌≡◌, ◌<◌, ◌^◌, ◌-◌, ℕ, Option, List, length};
 ghost use Rattle.nor_base.specs.Device.{Ahead, Takes, Puts, Counts};
@@ -19,7 +19,8 @@ pub trait ByteIn {
     /// How often it has failed.
     ghost count: { Self → ℕ };
 
-    /// Takes the next bytes into the front of `out`, and answers how many. 0 in a buffer that isn't empty is the end.
+    /// Takes the next bytes into the front of `out`, and answers how many. 0 in a buffer that isn't
+    /// empty is the end.
     ///
     /// `Failed` took none, and the count of failures rose by one.
     fn take(&mut self, out: &mut [u8]) -> Result<usize, Failed>
@@ -40,8 +41,8 @@ pub trait ByteOut {
     /// How often it has failed.
     ghost count: { Self → ℕ };
 
-    /// Puts bytes, of which there are some, at the end of what it holds. It takes the first so many, at least one, and
-    /// answers how many.
+    /// Puts bytes, of which there are some, at the end of what it holds. It takes the first so
+    /// many, at least one, and answers how many.
     ///
     /// `Failed` took none, and the count of failures rose by one.
     fn put(&mut self, bytes: &[u8]) -> Result<usize, Failed>

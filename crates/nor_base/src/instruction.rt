@@ -1,6 +1,7 @@
 //! The instructions that a chip knows.
 
-/// What a transaction is to a chip: a row of the instruction table, or a known opcode in no row's form.
+/// What a transaction is to a chip: a row of the instruction table, or a known opcode in no row's
+/// form.
 #[derive(Clone, Copy, Debug)]
 pub enum What {
     /// Write enable (06h): sets the latch.

@@ -6,7 +6,8 @@ ghost use Rattle.nor_base.specs.Device.{CountsWrite};
 use crate::device::{ByteOut, Failed};
 use std::io::{self, Write};
 
-/// A standard writer as a [`ByteOut`]. Any error is a failure, `Interrupted` too, and so is a write of 0 bytes.
+/// A standard writer as a [`ByteOut`]. Any error is a failure, `Interrupted` too, and so is a write
+/// of 0 bytes.
 #[derive(Drop)]
 pub struct IntoWrite<W: Drop> {
     /// The writer.

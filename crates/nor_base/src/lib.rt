@@ -1,6 +1,6 @@
-//! What every crate of norprog speaks of: symbols and the lane samples that they mean, steps of a bus script, what a
-//! chip's SFDP parameters say of it, devices that give and take bytes, and, in `specs/`, the definitions that the
-//! whole project is proved against.
+//! What every crate of norprog speaks of: symbols and the lane samples that they mean, steps of a
+//! bus script, what a chip's SFDP parameters say of it, devices that give and take bytes, and, in
+//! `specs/`, the definitions that the whole project is proved against.
 #![tactic(auto)]
 
 pub mod bytes;

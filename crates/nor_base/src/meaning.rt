@@ -114,14 +114,16 @@ pub struct Meaning {
     pub size: u32,
     /// Bytes of a page: a power of two from 16 to 4096.
     pub page: u32,
-    /// The page is only known to be that large or larger: a chip's own may be each power of two from it to 4096.
+    /// The page is only known to be that large or larger: a chip's own may be each power of two
+    /// from it to 4096.
     pub open_page: bool,
     /// Address bytes of the legacy opcodes.
     pub width: Width,
-    /// The erase kinds 1 to 4; a present kind's size is a power of two from 256 to 16 MiB, and not below the page.
+    /// The erase kinds 1 to 4; a present kind's size is a power of two from 256 to 16 MiB, and not
+    /// below the page.
     pub erases: [Option<Erase>; 4],
-    /// The regions of the sector map from address 0 on: 1 to 256, none empty, each a multiple of 256 bytes with a mask
-    /// below 16, which add up to the size.
+    /// The regions of the sector map from address 0 on: 1 to 256, none empty, each a multiple of
+    /// 256 bytes with a mask below 16, which add up to the size.
     pub regions: ArrayVec<Region, 256>,
     /// How four-byte address mode is entered (B7h); not absent only with [`Width::Both`].
     pub enter: Switch,
@@ -139,7 +141,8 @@ pub struct Meaning {
     pub quad4: bool,
     /// The quad program by 32h.
     pub quad3: bool,
-    /// Bytes are programmed only where they are FFh: the profile that a user asks for (no SFDP tells it).
+    /// Bytes are programmed only where they are FFh: the profile that a user asks for (no SFDP
+    /// tells it).
     pub erased_only: bool,
 }
 
@@ -159,8 +162,8 @@ impl Model for Meaning {
 }
 
 impl Meaning {
-    /// A chip of one region with 4 KiB sectors erased by 20h, a page of 256 bytes, three address bytes and nothing
-    /// else. `None` unless the size is a multiple of 4096 from 4096 to 16 MiB.
+    /// A chip of one region with 4 KiB sectors erased by 20h, a page of 256 bytes, three address
+    /// bytes and nothing else. `None` unless the size is a multiple of 4096 from 4096 to 16 MiB.
     pub fn uniform(size: u32) -> Option<Meaning>
         ensures when { IsSome result ↔ IsUniformSize size }
         ensures value { IfSome result (λ meaning. meaning ≡ uniform_of size) }
@@ -194,7 +197,8 @@ impl Meaning {
         })
     }
 
-    /// The erase kind of a number, 1 to 4, where it is present; `None` for an absent kind and every other number.
+    /// The erase kind of a number, 1 to 4, where it is present; `None` for an absent kind and every
+    /// other number.
     pub fn erase_kind(&self, kind: u8) -> Option<Erase>
         ensures kind { result ≡ erase_kind self.now kind }
         ensures number { IfSome result (λ _. kind ≤ 4) }
@@ -207,7 +211,8 @@ impl Meaning {
         self.erases[usize::from(kind - 1)]
     }
 
-    /// Bytes of a block of the erase kind of a number; 0 for an absent kind and every other number than 1 to 4.
+    /// Bytes of a block of the erase kind of a number; 0 for an absent kind and every other number
+    /// than 1 to 4.
     pub fn block_size(&self, kind: u8) -> u32
         ensures { result ≡ block_size self.now kind }
     {
@@ -217,15 +222,16 @@ impl Meaning {
         }
     }
 
-    /// Whether some region allows the erase kind of a number, 1 to 4, be it present or not; no other kind is allowed.
+    /// Whether some region allows the erase kind of a number, 1 to 4, be it present or not; no
+    /// other kind is allowed.
     pub fn is_allowed(&self, kind: u8) -> bool
         ensures { result ≡ list_any (λ region. allows region kind) self.now.regions }
     {
         self.regions.iter().any(|region| region.allows(kind))
     }
 
-    /// Whether a chip of this meaning may have a page of so many bytes: the meaning's own or, where that is only the
-    /// least, any power of two from it to 4096.
+    /// Whether a chip of this meaning may have a page of so many bytes: the meaning's own or, where
+    /// that is only the least, any power of two from it to 4096.
     pub fn may_page(&self, page: u32) -> bool
         ensures { result ≡ may_page self.now page }
     {
@@ -242,7 +248,8 @@ impl Meaning {
         }
     }
 
-    /// Whether a chip that begins so begins in four-byte address mode: the start says so, or it has no other mode.
+    /// Whether a chip that begins so begins in four-byte address mode: the start says so, or it has
+    /// no other mode.
     pub fn begins4(&self, start: &Start) -> bool
         ensures { result ≡ begins4 self.now start.now }
     {

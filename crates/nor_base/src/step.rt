@@ -8,8 +8,8 @@ ghost use Rattle.nor_base.specs.Step.{is_step as passes, are_clocks, step_clocks
 use crate::bytes::Bytes;
 use crate::clock::clock_of;
 
-/// One step of a bus script. Its clocks are those of one transaction: chip select falls before the first and rises
-/// after the last.
+/// One step of a bus script. Its clocks are those of one transaction: chip select falls before the
+/// first and rises after the last.
 #[derive(Drop)]
 pub enum Step {
     /// The transaction, once.
@@ -44,8 +44,8 @@ impl Step {
     }
 }
 
-/// Whether a step has a line in a script: its clocks are symbols and not none, and so are the bytes that a
-/// [`Step::Verify`] expects.
+/// Whether a step has a line in a script: its clocks are symbols and not none, and so are the bytes
+/// that a [`Step::Verify`] expects.
 pub fn is_step(step: &Step) -> bool
     ensures { result ≡ passes step.now }
 {

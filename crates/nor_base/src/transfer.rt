@@ -7,7 +7,8 @@ use crate::device::{ByteIn, ByteOut, Failed};
 
 /// Puts all of `bytes`, in as many calls as the writer needs; an empty string makes none.
 ///
-/// At `Failed` a proper prefix was taken. It comes from the writer alone, whose count of failures rose by one.
+/// At `Failed` a proper prefix was taken. It comes from the writer alone, whose count of failures
+/// rose by one.
 pub fn put_all<W: ByteOut>(writer: &mut W, bytes: &[u8]) -> Result<(), Failed>
     requires { W.count writer.old < 2 ^ 64 - 1 }
     ensures bytes { Writes (W.held writer.old) (W.held writer.new) result bytes.now }
@@ -22,11 +23,12 @@ pub fn put_all<W: ByteOut>(writer: &mut W, bytes: &[u8]) -> Result<(), Failed>
 
 /// Puts all of the parts, one after another.
 ///
-/// At `Failed` a proper prefix of the parts joined was taken. It comes from the writer alone, whose count of failures
-/// rose by one.
+/// At `Failed` a proper prefix of the parts joined was taken. It comes from the writer alone, whose
+/// count of failures rose by one.
 pub fn put_parts<W: ByteOut>(writer: &mut W, parts: &[&[u8]]) -> Result<(), Failed>
     requires { W.count writer.old < 2 ^ 64 - 1 }
-    ensures bytes { Writes (W.held writer.old) (W.held writer.new) result (flat_map (λ part. part.now) parts.now) }
+    ensures bytes { Writes (W.held writer.old) (W.held writer.new) result
+        (flat_map (λ part. part.now) parts.now) }
     ensures count { Counts (W.count writer.old) (W.count writer.new) result }
 {
     for part in parts {
@@ -35,11 +37,11 @@ pub fn put_parts<W: ByteOut>(writer: &mut W, parts: &[&[u8]]) -> Result<(), Fail
     Ok(())
 }
 
-/// Takes bytes until `buffer` is full or the reader ends, and answers how many came. Fewer than the buffer has room for
-/// is the end; what stands past them in the buffer says nothing.
+/// Takes bytes until `buffer` is full or the reader ends, and answers how many came. Fewer than the
+/// buffer has room for is the end; what stands past them in the buffer says nothing.
 ///
-/// At `Failed` fewer than the buffer has room for came. It comes from the reader alone, whose count of failures rose by
-/// one.
+/// At `Failed` fewer than the buffer has room for came. It comes from the reader alone, whose count
+/// of failures rose by one.
 pub fn fill_from<R: ByteIn>(reader: &mut R, buffer: &mut [u8]) -> Result<usize, Failed>
     requires { R.count reader.old < 2 ^ 64 - 1 }
     ensures bytes { Fills (R.ahead reader.old) (R.ahead reader.new) result buffer.new }

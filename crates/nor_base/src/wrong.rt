@@ -5,14 +5,17 @@ use thiserror::Error;
 /// Why a chip didn't do what a script asks of it.
 #[derive(Clone, Copy, Debug, PartialEq, Eq, Drop)]
 pub enum Wrong {
-    /// The chip ignores the instruction: it is broken or comes while the chip is busy, without the latch or without the
-    /// quad setting.
+    /// The chip ignores the instruction: it is broken or comes while the chip is busy, without the
+    /// latch or without the quad setting.
     Ignored = 1,
-    /// The chip knows no such instruction, or a poll or a verifying read has clocks that none may have.
+    /// The chip knows no such instruction, or a poll or a verifying read has clocks that none may
+    /// have.
     Unknown = 2,
-    /// A program has a 1 where the array has a 0, on a chip where bytes that aren't erased may be programmed.
+    /// A program has a 1 where the array has a 0, on a chip where bytes that aren't erased may be
+    /// programmed.
     Raised = 3,
-    /// An address or a read past the chip's size, or an erase that starts no legal block of its kind.
+    /// An address or a read past the chip's size, or an erase that starts no legal block of its
+    /// kind.
     OutOfRange = 4,
     /// The bytes sampled aren't those expected.
     Mismatch = 5,

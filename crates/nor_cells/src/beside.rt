@@ -1,17 +1,20 @@
 //! The held cells beside those that steps touch.
 
-ghost use Rattle.std.specs.Prelude.{◌≡◌, ◌↔◌, ℕ, ◌+◌, ◌*◌, ◌/◌, ◌^◌, ◌<◌, ◌≤◌, true, false, length, get_or, IsTrue};
+ghost use Rattle.std.specs.Prelude.{◌≡◌, ◌↔◌, ℕ, ◌+◌, ◌*◌, ◌/◌, ◌^◌, ◌<◌, ◌≤◌, true, false, length};
+ghost use Rattle.std.specs.Prelude.{get_or, IsTrue};
 ghost use Rattle.nor_cells.specs.Beside.{IsHeld, IsGap, IsBesideCell};
 ghost use Rattle.nor_cells.specs.Marks.{MarkedBy, IsMarkedCell};
 
 use crate::edges::BLANK;
 use crate::touched::{CELL, mark};
 
-/// Marks the held cells that aren't touched and have nothing but blank ones between them and a touched cell.
+/// Marks the held cells that aren't touched and have nothing but blank ones between them and a
+/// touched cell.
 pub(crate) fn mark_beside(marks: &mut [bool], touched: &[bool], content: &[u8])
     requires cells { length content.now ≡ 256 * length touched.now }
     requires small { length content.now ≤ 2 ^ 32 }
-    ensures { MarkedBy (λ a. IsBesideCell (IsMarkedCell touched.now) content.now (a / 256)) marks.old marks.new }
+    ensures { MarkedBy (λ a. IsBesideCell (IsMarkedCell touched.now) content.now (a / 256))
+        marks.old marks.new }
 {
     for c in 0..touched.len() {
         mark_if_beside(marks, touched, content, c);
@@ -23,14 +26,16 @@ fn mark_if_beside(marks: &mut [bool], touched: &[bool], content: &[u8], c: usize
     requires cells { length content.now ≡ 256 * length touched.now }
     requires small { length content.now ≤ 2 ^ 32 }
     requires inside { c < length touched.now }
-    ensures { MarkedBy (λ a. (a / 256 ≡ c) × IsBesideCell (IsMarkedCell touched.now) content.now (a / 256)) marks.old marks.new }
+    ensures { MarkedBy (λ a. (a / 256 ≡ c) × IsBesideCell (IsMarkedCell touched.now) content.now
+        (a / 256)) marks.old marks.new }
 {
     if is_beside(touched, content, c) {
         mark(marks, c * CELL, c * CELL + 1);
     }
 }
 
-/// Whether a cell holds something, isn't touched, and has nothing but blank ones between it and a touched one.
+/// Whether a cell holds something, isn't touched, and has nothing but blank ones between it and a
+/// touched one.
 fn is_beside(touched: &[bool], content: &[u8], c: usize) -> bool
     requires cells { length content.now ≡ 256 * length touched.now }
     requires small { length content.now ≤ 2 ^ 32 }

@@ -1,8 +1,8 @@
-//! The cells of 256 bytes of a chip that are compared with a content, before steps and after them: so
-//! that a chip that isn't the one of the content shows.
+//! The cells of 256 bytes of a chip that are compared with a content, before steps and after them:
+//! so that a chip that isn't the one of the content shows.
 //!
-//! [`compared_cells`] marks those to compare before the steps, [`mark_wraps`] adds those that only the
-//! content after them shows, and [`next_piece`] goes through the marked addresses.
+//! [`compared_cells`] marks those to compare before the steps, [`mark_wraps`] adds those that only
+//! the content after them shows, and [`next_piece`] goes through the marked addresses.
 #![tactic(auto)]
 
 mod beside;

@@ -1,6 +1,7 @@
 //! Which cells of a chip hold a byte that steps touch.
 
-ghost use Rattle.std.specs.Prelude.{◌≡◌, ◌<◌, ◌≤◌, ◌⊎◌, ◌+◌, ◌*◌, ◌/◌, ◌^◌, IfOk, false, true, length, replicate};
+ghost use Rattle.std.specs.Prelude.{◌≡◌, ◌<◌, ◌≤◌, ◌⊎◌, ◌+◌, ◌*◌, ◌/◌, ◌^◌, IfOk, false, true};
+ghost use Rattle.std.specs.Prelude.{length, replicate};
 ghost use Rattle.nor_base.specs.Chip.{begins4};
 ghost use Rattle.nor_base.specs.Effect.{is_program};
 ghost use Rattle.nor_base.specs.Spelling.{mode_after};
@@ -9,7 +10,8 @@ ghost use Rattle.nor_cells.specs.Beside.{IsBesideCell};
 ghost use Rattle.nor_cells.specs.Compared.{IsAsked};
 ghost use Rattle.nor_cells.specs.Edges.{IsEdge};
 ghost use Rattle.nor_cells.specs.Marks.{IsMarkedCell, MarkedBy, AreMarks};
-ghost use Rattle.nor_cells.specs.Touched.{LiesBetween, Changes, Programs, Touches, IsTouched, mode_past};
+ghost use Rattle.nor_cells.specs.Touched.{LiesBetween, Changes, Programs, Touches, IsTouched};
+ghost use Rattle.nor_cells.specs.Touched.{mode_past};
 ghost use Rattle.nor_cells.specs.Wrap.{ShowsWrap};
 
 use crate::beside::mark_beside;
@@ -23,9 +25,10 @@ use std::alloc::{AllocError, Global};
 /// Bytes of a cell: no erase block is smaller.
 pub const CELL: usize = 256;
 
-/// Of each cell of a chip whether it is to be compared with a content before steps: some step erases or programs a byte in it, in
-/// the address mode that the steps before leave; it has the first or the last byte of the content that isn't FFh; it holds
-/// something and nothing but blank cells lies between it and one that steps touch; or a smaller chip shows by one of its bytes
+/// Of each cell of a chip whether it is to be compared with a content before steps: some step
+/// erases or programs a byte in it, in the address mode that the steps before leave; it has the
+/// first or the last byte of the content that isn't FFh; it holds something and nothing but blank
+/// cells lies between it and one that steps touch; or a smaller chip shows by one of its bytes
 /// ([`mark_wraps`]).
 ///
 /// Memory is taken for two marks of each cell.
@@ -37,7 +40,9 @@ pub fn compared_cells(
     steps: &[Step],
 ) -> Result<Vec<bool>, AllocError>
     requires { length content.now ≡ meaning.now.size }
-    ensures { IfOk result (λ marks. AreMarks (IsAsked (IsTouched meaning.now (begins4 meaning.now start.now) steps.now) content.now)
+    ensures { IfOk result
+        (λ marks. AreMarks (IsAsked
+        (IsTouched meaning.now (begins4 meaning.now start.now) steps.now) content.now)
         (meaning.now.size / 256) marks.items) }
 {
     let cells = meaning.size as usize / CELL;
@@ -66,7 +71,8 @@ fn mark_compared(
     requires size { length content.now ≡ meaning.now.size }
     requires touched { touched.old ≡ replicate (meaning.now.size / 256) false }
     requires marks { length marks.old ≡ meaning.now.size / 256 }
-    ensures { AreMarks (IsAsked (IsTouched meaning.now mode4 steps.now) content.now) (meaning.now.size / 256) marks.new }
+    ensures { AreMarks (IsAsked (IsTouched meaning.now mode4 steps.now) content.now)
+        (meaning.now.size / 256) marks.new }
 {
     meaning.acceptance();
     mark_steps(touched, meaning, mode4, steps);
@@ -74,12 +80,13 @@ fn mark_compared(
     mark_others(marks, touched, content);
 }
 
-/// Marks the cells beside those that are touched, those of the first and the last byte that aren't FFh, and those by which a smaller
-/// chip shows.
+/// Marks the cells beside those that are touched, those of the first and the last byte that aren't
+/// FFh, and those by which a smaller chip shows.
 fn mark_others(marks: &mut [bool], touched: &[bool], content: &[u8])
     requires cells { length content.now ≡ 256 * length touched.now }
     requires small { length content.now ≤ 2 ^ 32 }
-    ensures { MarkedBy (λ a. IsEdge content.now a ⊎ (IsBesideCell (IsMarkedCell touched.now) content.now (a / 256) ⊎ ShowsWrap content.now a))
+    ensures { MarkedBy (λ a. IsEdge content.now a
+        ⊎ (IsBesideCell (IsMarkedCell touched.now) content.now (a / 256) ⊎ ShowsWrap content.now a))
         marks.old marks.new }
 {
     mark_edges(marks, content);
@@ -124,7 +131,8 @@ fn mode_after(what: What, mode4: bool) -> bool
 
 /// Marks the cells of the bytes that an instruction erases or programs.
 fn mark_seen(marks: &mut [bool], meaning: &Meaning, seen: &Seen<'_>)
-    ensures { MarkedBy (Changes meaning.now (instruction_of seen.now) seen.now.what) marks.old marks.new }
+    ensures { MarkedBy (Changes meaning.now (instruction_of seen.now) seen.now.what) marks.old
+        marks.new }
 {
     match seen.what {
         What::Erase(kind) => {

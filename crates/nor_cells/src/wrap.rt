@@ -6,8 +6,9 @@ ghost use Rattle.nor_cells.specs.Wrap.{IsFirstUnlike, Repeats, TellsApart, Shows
 
 use crate::touched::mark;
 
-/// Marks, for each smaller size from 4 KiB on that is a power of two, the cells of the first two bytes of a
-/// content that lie so far apart and aren't alike. A chip of that size gives the same byte at both addresses.
+/// Marks, for each smaller size from 4 KiB on that is a power of two, the cells of the first two
+/// bytes of a content that lie so far apart and aren't alike. A chip of that size gives the same
+/// byte at both addresses.
 pub fn mark_wraps(marks: &mut [bool], content: &[u8])
     requires small { length content.now ≤ 2 ^ 32 }
     ensures { MarkedBy (ShowsWrap content.now) marks.old marks.new }

@@ -1,6 +1,7 @@
 //! The checker.
 
-ghost use Rattle.std.specs.Prelude.{◌≡◌, ◌↔◌, ℕ, ◌<◌, ◌+◌, ◌-◌, ◌^◌, ◌==◌, ◌∷◌, [], List, length, IfOk, OnErr};
+ghost use Rattle.std.specs.Prelude.{◌≡◌, ◌↔◌, ℕ, ◌<◌, ◌+◌, ◌-◌, ◌^◌, ◌==◌, ◌∷◌, [], List, length};
+ghost use Rattle.std.specs.Prelude.{IfOk, OnErr};
 ghost use Rattle.nor_base.specs.Chip.{IsPossible};
 ghost use Rattle.nor_base.specs.Run.{DoesTaskOnEvery};
 ghost use Rattle.nor_base.specs.declared.step.Step.{Step};
@@ -20,11 +21,13 @@ use nor_laws::{effects, polls, verifying_reads};
 use std::alloc::Global;
 use std::marker::Model;
 
-/// A checker that is fed with the steps of a script, one after another, and says at their end what [`check`] says of them
-/// all. Its clauses speak of the verdict to come: what it will say at the end, if some steps come and then the end.
+/// A checker that is fed with the steps of a script, one after another, and says at their end what
+/// [`check`] says of them all. Its clauses speak of the verdict to come: what it will say at the
+/// end, if some steps come and then the end.
 ///
-/// It holds no step. Its memory is one array of the meaning's size; where the page is only known to be so large or larger,
-/// and from the first program on that leaves the least page, one for each page that may be.
+/// It holds no step. Its memory is one array of the meaning's size; where the page is only known to
+/// be so large or larger, and from the first program on that leaves the least page, one for each
+/// page that may be.
 #[derive(Drop)]
 pub struct StepChecker<'a> {
     chips: AllPages<'a>,
@@ -43,15 +46,23 @@ impl<'a> Model for StepChecker<'a> {
     ghost use Rattle.std.specs.Prelude.{◌≡◌, ◌≤◌, length, None};
     ghost use Rattle.nor_check.specs.Pages.{HaveSize};
 
-    ghost view = { λ c. record { target = c.want.now; number = c.number; chips = c.chips; stopped = c.stopped; page = c.page; reads = c.reads } };
+    ghost view = { λ c. record {
+      target = c.want.now;
+      number = c.number;
+      chips = c.chips;
+      stopped = c.stopped;
+      page = c.page;
+      reads = c.reads;
+    } };
 
-    ghost invariant = { λ c. (c.stopped ≡ None → HaveSize (length c.want.now) c.chips) × (c.reads ≤ c.number) };
+    ghost invariant = { λ c. (c.stopped ≡ None → HaveSize (length c.want.now) c.chips)
+        × (c.reads ≤ c.number) };
 }
 
 impl<'a> StepChecker<'a> {
-    /// A checker before the first step: of the scripts on ready chips of a meaning and a start that hold `have` and, at the
-    /// end, are to hold `want`. Both go as for [`check`], and what it says of steps to come is what that says. It asks for
-    /// no memory: `have` becomes its array.
+    /// A checker before the first step: of the scripts on ready chips of a meaning and a start that
+    /// hold `have` and, at the end, are to hold `want`. Both go as for [`check`], and what it says
+    /// of steps to come is what that says. It asks for no memory: `have` becomes its array.
     pub fn new(
         alloc: Global,
         meaning: &'a Meaning,
@@ -62,11 +73,16 @@ impl<'a> StepChecker<'a> {
         requires have { length have.items ≡ meaning.now.size }
         requires want { length want.now ≡ meaning.now.size }
         requires mode { IsPossible meaning.now start }
-        ensures worst { (steps : List Step) → IsWorst meaning.now start have.items want.now steps (to_come result steps) }
-        ensures yes { (steps : List Step) → (to_come result steps ≡ Yes) ↔ DoesTaskOnEvery meaning.now start have.items want.now steps }
-        ensures shown { (steps : List Step) (step : ℕ) (why : Why) (page reads : ℕ) → IsShown result steps step why page reads
-            → (n : ℕ) → reads < n → Witnesses meaning.now start have.items want.now steps step why n (step == length steps) page }
-        ensures counted { (steps : List Step) (step : ℕ) (why : Why) (page reads : ℕ) → IsShown result steps step why page reads
+        ensures worst { (steps : List Step) → IsWorst meaning.now start have.items want.now steps
+            (to_come result steps) }
+        ensures yes { (steps : List Step) → (to_come result steps ≡ Yes)
+            ↔ DoesTaskOnEvery meaning.now start have.items want.now steps }
+        ensures shown { (steps : List Step) (step : ℕ) (why : Why) (page reads : ℕ)
+            → IsShown result steps step why page reads
+            → (n : ℕ) → reads < n → Witnesses meaning.now start have.items want.now steps step why n
+            (step == length steps) page }
+        ensures counted { (steps : List Step) (step : ℕ) (why : Why) (page reads : ℕ)
+            → IsShown result steps step why page reads
             → reads ≡ reads_before step steps }
         ensures number { result.number ≡ 0 }
     {
@@ -90,13 +106,16 @@ impl<'a> StepChecker<'a> {
         self.number
     }
 
-    /// Takes the next step: the verdict to come is then what it was with this step in front of those that follow. `Memory`
-    /// where a growth is refused, which only the first step asks for that tells chips of different pages apart; the step
-    /// isn't taken then, and may be given again.
+    /// Takes the next step: the verdict to come is then what it was with this step in front of
+    /// those that follow. `Memory` where a growth is refused, which only the first step asks for
+    /// that tells chips of different pages apart; the step isn't taken then, and may be given
+    /// again.
     pub fn step(&mut self, alloc: Global, step: &Step) -> Result<(), CheckFault>
         requires { self.old.number < 2 ^ 64 - 1 }
-        ensures fed { IfOk result (λ _. (more : List Step) → to_come self.new more ≡ to_come self.old (step.now ∷ more)) }
-        ensures shown { IfOk result (λ _. (more : List Step) (at : ℕ) (why : Why) (page reads : ℕ) → IsShown self.new more at why page reads
+        ensures fed { IfOk result (λ _. (more : List Step)
+            → to_come self.new more ≡ to_come self.old (step.now ∷ more)) }
+        ensures shown { IfOk result (λ _. (more : List Step) (at : ℕ) (why : Why) (page reads : ℕ)
+            → IsShown self.new more at why page reads
             → IsShown self.old (step.now ∷ more) at why page reads) }
         ensures number { IfOk result (λ _. self.new.number ≡ self.old.number + 1) }
         ensures refused { OnErr result (self.new ≡ self.old) }
@@ -107,8 +126,10 @@ impl<'a> StepChecker<'a> {
     /// Takes a Send of these clocks as the next step, as [`StepChecker::step`] takes it.
     pub fn send(&mut self, alloc: Global, clocks: &[u8]) -> Result<(), CheckFault>
         requires { self.old.number < 2 ^ 64 - 1 }
-        ensures fed { IfOk result (λ _. (more : List Step) → to_come self.new more ≡ to_come self.old (Send clocks.now ∷ more)) }
-        ensures shown { IfOk result (λ _. (more : List Step) (step : ℕ) (why : Why) (page reads : ℕ) → IsShown self.new more step why page reads
+        ensures fed { IfOk result (λ _. (more : List Step)
+            → to_come self.new more ≡ to_come self.old (Send clocks.now ∷ more)) }
+        ensures shown { IfOk result (λ _. (more : List Step) (step : ℕ) (why : Why) (page reads : ℕ)
+            → IsShown self.new more step why page reads
             → IsShown self.old (Send clocks.now ∷ more) step why page reads) }
         ensures number { IfOk result (λ _. self.new.number ≡ self.old.number + 1) }
         ensures refused { OnErr result (self.new ≡ self.old) }
@@ -119,8 +140,10 @@ impl<'a> StepChecker<'a> {
     /// Takes a Poll of these clocks as the next step, as [`StepChecker::step`] takes it.
     pub fn poll(&mut self, alloc: Global, clocks: &[u8]) -> Result<(), CheckFault>
         requires { self.old.number < 2 ^ 64 - 1 }
-        ensures fed { IfOk result (λ _. (more : List Step) → to_come self.new more ≡ to_come self.old (Poll clocks.now ∷ more)) }
-        ensures shown { IfOk result (λ _. (more : List Step) (step : ℕ) (why : Why) (page reads : ℕ) → IsShown self.new more step why page reads
+        ensures fed { IfOk result (λ _. (more : List Step)
+            → to_come self.new more ≡ to_come self.old (Poll clocks.now ∷ more)) }
+        ensures shown { IfOk result (λ _. (more : List Step) (step : ℕ) (why : Why) (page reads : ℕ)
+            → IsShown self.new more step why page reads
             → IsShown self.old (Poll clocks.now ∷ more) step why page reads) }
         ensures number { IfOk result (λ _. self.new.number ≡ self.old.number + 1) }
         ensures refused { OnErr result (self.new ≡ self.old) }
@@ -128,12 +151,14 @@ impl<'a> StepChecker<'a> {
         self.feed(alloc, StepView::Poll(clocks))
     }
 
-    /// Takes a Verify of these clocks and bytes as the next step, as [`StepChecker::step`] takes it.
+    /// Takes a Verify of these clocks and bytes as the next step, as [`StepChecker::step`] takes
+    /// it.
     pub fn verify(&mut self, alloc: Global, clocks: &[u8], expect: &[u8]) -> Result<(), CheckFault>
         requires { self.old.number < 2 ^ 64 - 1 }
         ensures fed { IfOk result (λ _. (more : List Step) →
             to_come self.new more ≡ to_come self.old (Verify clocks.now expect.now ∷ more)) }
-        ensures shown { IfOk result (λ _. (more : List Step) (step : ℕ) (why : Why) (page reads : ℕ) → IsShown self.new more step why page reads
+        ensures shown { IfOk result (λ _. (more : List Step) (step : ℕ) (why : Why) (page reads : ℕ)
+            → IsShown self.new more step why page reads
             → IsShown self.old (Verify clocks.now expect.now ∷ more) step why page reads) }
         ensures number { IfOk result (λ _. self.new.number ≡ self.old.number + 1) }
         ensures refused { OnErr result (self.new ≡ self.old) }
@@ -144,8 +169,10 @@ impl<'a> StepChecker<'a> {
     /// Takes the next step.
     fn feed(&mut self, alloc: Global, step: StepView<'_>) -> Result<(), CheckFault>
         requires { self.old.number < 2 ^ 64 - 1 }
-        ensures fed { IfOk result (λ _. (more : List Step) → to_come self.new more ≡ to_come self.old (step_of step.entry ∷ more)) }
-        ensures shown { IfOk result (λ _. (more : List Step) (at : ℕ) (why : Why) (page reads : ℕ) → IsShown self.new more at why page reads
+        ensures fed { IfOk result (λ _. (more : List Step)
+            → to_come self.new more ≡ to_come self.old (step_of step.entry ∷ more)) }
+        ensures shown { IfOk result (λ _. (more : List Step) (at : ℕ) (why : Why) (page reads : ℕ)
+            → IsShown self.new more at why page reads
             → IsShown self.old (step_of step.entry ∷ more) at why page reads) }
         ensures number { IfOk result (λ _. self.new.number ≡ self.old.number + 1) }
         ensures refused { OnErr result (self.new ≡ self.old) }
@@ -173,7 +200,8 @@ impl<'a> StepChecker<'a> {
 
     /// A chip that shows the verdict if no step follows, where that is a no.
     pub fn witness(&self) -> Witness
-        ensures { (step : ℕ) (why : Why) → to_come self.now [] ≡ No step why → IsShown self.now [] step why result.page result.reads }
+        ensures { (step : ℕ) (why : Why) → to_come self.now [] ≡ No step why
+            → IsShown self.now [] step why result.page result.reads }
     {
         let page = match self.stopped {
             Some(_) => self.page,
@@ -199,7 +227,8 @@ fn verdict_at(step: u64, answer: Result<(), Wrong>) -> Option<Verdict>
     }
 }
 
-/// How many status reads were sent in a row after a step that was answered so: one that goes wrong isn't counted.
+/// How many status reads were sent in a row after a step that was answered so: one that goes wrong
+/// isn't counted.
 fn reads_after(reads: u64, step: StepView<'_>, answer: Result<(), Wrong>) -> u64
     requires { reads < 2 ^ 64 - 1 }
     ensures { result ≡ reads_after reads (step_of step.entry) answer }
@@ -210,20 +239,24 @@ fn reads_after(reads: u64, step: StepView<'_>, answer: Result<(), Wrong>) -> u64
     }
 }
 
-/// Whether the steps, from anybody, do the task on every chip of a meaning and a start: a run of them on a ready chip that
-/// holds `have` has nothing wrong, and leaves it settled and holding `want`.
+/// Whether the steps, from anybody, do the task on every chip of a meaning and a start: a run of
+/// them on a ready chip that holds `have` has nothing wrong, and leaves it settled and holding
+/// `want`.
 ///
-/// Every chip means each page that may be ([`Meaning::may_page`]), all busy times, and both answers to whether the chip
-/// keeps a set write enable latch where the address mode changes. `have` and `want` hold the bytes from address 0 on, as
-/// many as the meaning's size. A chip that has three address bytes alone doesn't begin in four-byte mode.
+/// Every chip means each page that may be ([`Meaning::may_page`]), all busy times, and both answers
+/// to whether the chip keeps a set write enable latch where the address mode changes. `have` and
+/// `want` hold the bytes from address 0 on, as many as the meaning's size. A chip that has three
+/// address bytes alone doesn't begin in four-byte mode.
 ///
-/// It answers `Yes` exactly where they do. `No` names the first step, counted from 0, at which some chip goes wrong and,
-/// of the causes there, the first in the order `Unknown`, `Ignored`, `OutOfRange`, `Raised` or `NotErased`, `Mismatch`; the
-/// number of steps where none does and some chip isn't idle at the end (`NotIdleAtEnd`) or, else, holds another byte than
-/// `want` (`Differs`, at the lowest address). `Memory` where a growth is refused.
+/// It answers `Yes` exactly where they do. `No` names the first step, counted from 0, at which some
+/// chip goes wrong and, of the causes there, the first in the order `Unknown`, `Ignored`,
+/// `OutOfRange`, `Raised` or `NotErased`, `Mismatch`; the number of steps where none does and some
+/// chip isn't idle at the end (`NotIdleAtEnd`) or, else, holds another byte than `want` (`Differs`,
+/// at the lowest address). `Memory` where a growth is refused.
 ///
-/// It runs no chip. It takes time proportional to the steps and the size, and memory for one array; where the page is only
-/// known to be so large or larger, and a program leaves the least page, from there on both for each page that may be.
+/// It runs no chip. It takes time proportional to the steps and the size, and memory for one array;
+/// where the page is only known to be so large or larger, and a program leaves the least page, from
+/// there on both for each page that may be.
 pub fn check(
     alloc: Global,
     steps: &[Step],
@@ -235,8 +268,10 @@ pub fn check(
     requires have { length have.now ≡ meaning.now.size }
     requires want { length want.now ≡ meaning.now.size }
     requires mode { IsPossible meaning.now start.now }
-    ensures worst { IfOk result (λ verdict. IsWorst meaning.now start.now have.now want.now steps.now verdict) }
-    ensures yes { IfOk result (λ verdict. (verdict ≡ Yes) ↔ DoesTaskOnEvery meaning.now start.now have.now want.now steps.now) }
+    ensures worst { IfOk result
+        (λ verdict. IsWorst meaning.now start.now have.now want.now steps.now verdict) }
+    ensures yes { IfOk result (λ verdict. (verdict ≡ Yes)
+        ↔ DoesTaskOnEvery meaning.now start.now have.now want.now steps.now) }
 {
     let array = Vec::from_slice(alloc, have)?;
     let mut checker = StepChecker::new(alloc, meaning, *start, array, want);
@@ -246,8 +281,9 @@ pub fn check(
     Ok(checker.verdict())
 }
 
-/// What [`check`] answers and, where that is a no, a chip that shows it: a run of the steps on that chip, from `have` on, goes
-/// wrong just at that step and so; at the end, where no step does, it isn't settled, or holds another byte there.
+/// What [`check`] answers and, where that is a no, a chip that shows it: a run of the steps on that
+/// chip, from `have` on, goes wrong just at that step and so; at the end, where no step does, it
+/// isn't settled, or holds another byte there.
 pub fn check_shown(
     alloc: Global,
     steps: &[Step],
@@ -259,9 +295,12 @@ pub fn check_shown(
     requires have { length have.now ≡ meaning.now.size }
     requires want { length want.now ≡ meaning.now.size }
     requires mode { IsPossible meaning.now start.now }
-    ensures worst { IfOk result (λ answer. IsWorst meaning.now start.now have.now want.now steps.now answer.0) }
-    ensures shown { IfOk result (λ answer. (step : ℕ) (why : Why) → answer.0 ≡ No step why → (n : ℕ) → answer.1.reads < n
-        → Witnesses meaning.now start.now have.now want.now steps.now step why n (step == length steps.now) answer.1.page) }
+    ensures worst { IfOk result
+        (λ answer. IsWorst meaning.now start.now have.now want.now steps.now answer.0) }
+    ensures shown { IfOk result (λ answer. (step : ℕ) (why : Why) → answer.0 ≡ No step why → (n : ℕ)
+        → answer.1.reads < n
+        → Witnesses meaning.now start.now have.now want.now steps.now step why n
+        (step == length steps.now) answer.1.page) }
 {
     let array = Vec::from_slice(alloc, have)?;
     let mut checker = StepChecker::new(alloc, meaning, *start, array, want);

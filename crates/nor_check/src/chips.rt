@@ -1,6 +1,7 @@
 //! All chips of one page together.
 
-ghost use Rattle.std.specs.Prelude.{◌≡◌, ◌<◌, ◌≤◌, ◌+◌, true, false, [], length, slice_range, None, IfOk};
+ghost use Rattle.std.specs.Prelude.{◌≡◌, ◌<◌, ◌≤◌, ◌+◌, true, false, [], length, slice_range, None};
+ghost use Rattle.std.specs.Prelude.{IfOk};
 ghost use Rattle.std.specs.Str.{bytes_eq};
 ghost use Rattle.nor_base.specs.declared.step.Step.TheVariants.{Send, Poll, Verify};
 ghost use Rattle.nor_base.specs.Accepted.{IsAccepted};
@@ -9,7 +10,8 @@ ghost use Rattle.nor_base.specs.Chip.{is_busy, is_settled, may_page};
 ghost use Rattle.nor_base.specs.Parameters.{block_size};
 ghost use Rattle.nor_base.specs.Effect.{answer, erased, programmed, is_program, is_status};
 ghost use Rattle.nor_chip.specs.Sent.{instruction_of, sent};
-ghost use Rattle.nor_check.specs.Chips.{one_like, latch_of, some_left, least_able, last_settled, switched, begun};
+ghost use Rattle.nor_check.specs.Chips.{one_like, latch_of, some_left, least_able, last_settled};
+ghost use Rattle.nor_check.specs.Chips.{switched, begun};
 ghost use Rattle.nor_check.specs.declared.chips.Latches.TheVariants.{Clear};
 ghost use Rattle.nor_check.specs.Judged.{StepsAll, all_does, all_refusal, accepted, is_other_page};
 ghost use Rattle.nor_check.specs.Outcome.{at_end, first_difference};
@@ -42,8 +44,9 @@ pub(crate) enum Latches {
 
 /// All chips of a meaning and a start with one page, after some steps: what they have in common.
 ///
-/// It acts on its vector in place, asks for no memory, and takes time proportional to a transaction's clocks and the
-/// bytes that it touches; an erase also looks at the regions of the meaning.
+/// It acts on its vector in place, asks for no memory, and takes time proportional to a
+/// transaction's clocks and the bytes that it touches; an erase also looks at the regions of the
+/// meaning.
 #[derive(Drop)]
 pub(crate) struct AllChips<'a> {
     meaning: &'a Meaning,
@@ -69,7 +72,8 @@ impl<'a> Model for AllChips<'a> {
       chips = record { array = c.array.items; mode4 = c.mode4; busy = c.busy; latches = c.latches };
     } };
 
-    ghost invariant = { λ c. (length c.array.items ≡ c.meaning.now.size) × (may_page c.meaning.now c.page ≡ true) };
+    ghost invariant = { λ c. (length c.array.items ≡ c.meaning.now.size)
+        × (may_page c.meaning.now c.page ≡ true) };
 }
 
 impl<'a> AllChips<'a> {
@@ -160,7 +164,8 @@ impl<'a> AllChips<'a> {
     /// Does an instruction that each chip takes.
     fn take(&mut self, seen: &Seen<'_>)
         requires taken { all_refusal self.old.kind self.old.chips (instruction_of seen.now) ≡ None }
-        ensures chips { self.new.chips ≡ all_does self.old.kind self.old.chips (instruction_of seen.now) seen.now.what }
+        ensures chips { self.new.chips ≡ all_does self.old.kind self.old.chips
+            (instruction_of seen.now) seen.now.what }
         ensures stays { self.new.kind ≡ self.old.kind }
     {
         let _ = &self.meaning;
@@ -186,9 +191,11 @@ impl<'a> AllChips<'a> {
         self.latches = latches;
     }
 
-    /// Enters or leaves the four-byte address mode (B7h, E9h): a set latch stays just where it is kept.
+    /// Enters or leaves the four-byte address mode (B7h, E9h): a set latch stays just where it is
+    /// kept.
     fn switch_mode(&mut self, mode4: bool)
-        ensures chips { self.new.chips ≡ record self.old.chips { mode4 = mode4; latches = switched self.old.chips.latches } }
+        ensures chips { self.new.chips ≡ record self.old.chips
+            { mode4 = mode4; latches = switched self.old.chips.latches } }
         ensures stays { self.new.kind ≡ self.old.kind }
     {
         self.mode4 = mode4;
@@ -201,7 +208,8 @@ impl<'a> AllChips<'a> {
     fn erase(&mut self, kind: u8, start: u32)
         requires { is_legal_block self.old.kind.meaning kind start ≡ true }
         ensures chips { self.new.chips
-            ≡ accepted self.old.chips (erased start (block_size self.old.kind.meaning kind) self.old.chips.array) }
+            ≡ accepted self.old.chips
+            (erased start (block_size self.old.kind.meaning kind) self.old.chips.array) }
         ensures stays { self.new.kind ≡ self.old.kind }
     {
         let meaning = self.meaning;
@@ -216,7 +224,9 @@ impl<'a> AllChips<'a> {
         requires program { is_program seen.now.what ≡ true }
         requires inside { seen.now.address < length self.old.chips.array }
         ensures chips { self.new.chips
-            ≡ accepted self.old.chips (programmed self.old.kind.page seen.now.address (sent seen.now) self.old.chips.array) }
+            ≡ accepted self.old.chips
+            (programmed self.old.kind.page seen.now.address (sent seen.now)
+            self.old.chips.array) }
         ensures stays { self.new.kind ≡ self.old.kind }
     {
         let meaning = self.meaning;
@@ -234,11 +244,14 @@ impl<'a> AllChips<'a> {
         self.busy = true;
     }
 
-    /// Whether an instruction other than a status read, which each chip takes, gives just these bytes.
+    /// Whether an instruction other than a status read, which each chip takes, gives just these
+    /// bytes.
     fn gives(&self, seen: &Seen<'_>, expect: &[u8]) -> bool
         requires taken { all_refusal self.now.kind self.now.chips (instruction_of seen.now) ≡ None }
         requires quiet { is_status seen.now.what ≡ false }
-        ensures { result ≡ bytes_eq (answer (least_able self.now.chips) (instruction_of seen.now) seen.now.what) expect.now }
+        ensures { result ≡ bytes_eq
+            (answer (least_able self.now.chips) (instruction_of seen.now) seen.now.what)
+            expect.now }
     {
         let _ = &self.meaning;
         match seen.what {
@@ -250,15 +263,18 @@ impl<'a> AllChips<'a> {
     /// Whether so many bytes from an address on are these.
     fn holds(&self, address: u32, count: usize, expect: &[u8]) -> bool
         requires { address + count ≤ length self.now.chips.array }
-        ensures { result ≡ bytes_eq (slice_range self.now.chips.array address (address + count)) expect.now }
+        ensures { result ≡ bytes_eq (slice_range self.now.chips.array address (address + count))
+            expect.now }
     {
         let from = address as usize;
         &self.array[from..from + count] == expect
     }
 
-    /// Whether a step has a program that leaves the meaning's page: chips with a larger one may do otherwise.
+    /// Whether a step has a program that leaves the meaning's page: chips with a larger one may do
+    /// otherwise.
     pub(crate) fn tells_apart(&self, step: StepView<'_>) -> bool
-        ensures apart { result ≡ tells_apart self.now.kind.meaning self.now.chips.mode4 (step_of step.entry) }
+        ensures apart { result ≡ tells_apart self.now.kind.meaning self.now.chips.mode4
+            (step_of step.entry) }
         ensures accepted { IsAccepted self.now.kind.meaning }
     {
         let meaning = self.meaning;
@@ -271,7 +287,8 @@ impl<'a> AllChips<'a> {
 
     /// Whether clocks are a program that leaves the meaning's page.
     fn leaves_page(&self, clocks: &[u8]) -> bool
-        ensures { result ≡ leaves_page self.now.kind.meaning.page (decode_of self.now.kind.meaning self.now.chips.mode4 clocks.now) }
+        ensures { result ≡ leaves_page self.now.kind.meaning.page
+            (decode_of self.now.kind.meaning self.now.chips.mode4 clocks.now) }
     {
         let meaning = self.meaning;
         meaning.acceptance();
@@ -346,7 +363,8 @@ impl<'a> AllChips<'a> {
     /// The verdict after so many steps, none of which went wrong on any chip.
     pub(crate) fn verdict(&self, steps: u64, target: &[u8]) -> Verdict
         requires { length target.now ≡ self.now.kind.meaning.size }
-        ensures { result ≡ at_end (one_like self.now.kind [] true) target.now steps (last_settled self.now.chips) }
+        ensures { result ≡ at_end (one_like self.now.kind [] true) target.now steps
+            (last_settled self.now.chips) }
     {
         if !self.settled() {
             let why = Why::Wrong(Wrong::NotIdleAtEnd);
@@ -364,7 +382,8 @@ impl<'a> AllChips<'a> {
     /// Whether each chip is idle, with its latch clear, in its first address mode.
     #[tactic(auto, unfolding(nor_base::specs::Chip::is_settled))]
     fn settled(&self) -> bool
-        ensures { result ≡ is_settled (one_like self.now.kind [] true) (last_settled self.now.chips) }
+        ensures { result ≡ is_settled (one_like self.now.kind [] true)
+            (last_settled self.now.chips) }
     {
         let meaning = self.meaning;
         let first = meaning.begins4(&self.start);

@@ -5,7 +5,8 @@ ghost use Rattle.nor_base.specs.Chip.{page_sizes};
 ghost use Rattle.nor_check.specs.Chips.{one_like, last_settled};
 ghost use Rattle.nor_check.specs.Outcome.{at_end};
 ghost use Rattle.nor_check.specs.Order.{earlier};
-ghost use Rattle.nor_check.specs.Pages.{others, with_page, begun_each, StepsEach, IsToldBy, IsJudgedBy, worst_of, HaveSize};
+ghost use Rattle.nor_check.specs.Pages.{others, with_page, begun_each, StepsEach, IsToldBy};
+ghost use Rattle.nor_check.specs.Pages.{IsJudgedBy, worst_of, HaveSize};
 ghost use Rattle.nor_check.specs.View.{step_of};
 
 use crate::chips::AllChips;
@@ -20,8 +21,9 @@ const PAGES: [u32; 9] = [16, 32, 64, 128, 256, 512, 1024, 2048, 4096];
 
 /// All chips of a meaning and a start after some steps, of each page that may be.
 ///
-/// A page tells nothing until a program leaves it. So where it is only known to be so large or larger, one array serves all
-/// pages until a program leaves the least, and then each page has its own.
+/// A page tells nothing until a program leaves it. So where it is only known to be so large or
+/// larger, one array serves all pages until a program leaves the least, and then each page has its
+/// own.
 #[derive(Drop)]
 pub(crate) struct AllPages<'a> {
     /// Those of the meaning's own page; while they are alike they stand for all.
@@ -62,17 +64,19 @@ impl<'a> AllPages<'a> {
         }
     }
 
-    /// One step of all of them; why some don't take it, by the first cause. It asks for memory just where it is the first
-    /// that tells chips of different pages apart; where that is refused, nothing was done. Where some don't take it, `told` is then
-    /// the page of such chips.
+    /// One step of all of them; why some don't take it, by the first cause. It asks for memory just
+    /// where it is the first that tells chips of different pages apart; where that is refused,
+    /// nothing was done. Where some don't take it, `told` is then the page of such chips.
     pub(crate) fn step(
         &mut self,
         alloc: Global,
         step: StepView<'_>,
         told: &mut u32,
     ) -> Result<Result<(), Wrong>, AllocError>
-        ensures step { IfOk result (λ answer. StepsEach self.old self.new answer (step_of step.entry)) }
-        ensures told { IfOk result (λ answer. IsToldBy self.old answer (step_of step.entry) told.new) }
+        ensures step { IfOk result (λ answer.
+            StepsEach self.old self.new answer (step_of step.entry)) }
+        ensures told { IfOk result (λ answer.
+            IsToldBy self.old answer (step_of step.entry) told.new) }
         ensures refused { OnErr result (self.new ≡ self.old) }
         ensures untold { OnErr result (told.new ≡ told.old) }
     {
@@ -92,7 +96,9 @@ impl<'a> AllPages<'a> {
     /// The verdict after so many steps, none of which went wrong on any chip.
     pub(crate) fn verdict(&self, steps: u64, target: &[u8]) -> Verdict
         requires { HaveSize (length target.now) self.now }
-        ensures { result ≡ worst_of (λ t. at_end (one_like t.kind [] true) target.now steps (last_settled t.chips)) self.now }
+        ensures { result ≡ worst_of
+            (λ t. at_end (one_like t.kind [] true) target.now steps (last_settled t.chips))
+            self.now }
     {
         let own = self.own.verdict(steps, target);
         if self.alike {
@@ -104,8 +110,10 @@ impl<'a> AllPages<'a> {
     /// The page of chips that have this verdict.
     pub(crate) fn page(&self, steps: u64, target: &[u8]) -> u32
         requires { HaveSize (length target.now) self.now }
-        ensures { IsJudgedBy (λ t. at_end (one_like t.kind [] true) target.now steps (last_settled t.chips)) self.now
-            (worst_of (λ t. at_end (one_like t.kind [] true) target.now steps (last_settled t.chips)) self.now) result }
+        ensures { IsJudgedBy
+            (λ t. at_end (one_like t.kind [] true) target.now steps (last_settled t.chips)) self.now
+            (worst_of (λ t. at_end (one_like t.kind [] true) target.now steps
+            (last_settled t.chips)) self.now) result }
     {
         if self.alike {
             return self.own.page();
@@ -116,7 +124,8 @@ impl<'a> AllPages<'a> {
 
 /// The same chips with each other page that may be.
 fn on_other_pages<'a>(alloc: Global, chips: &AllChips<'a>) -> Result<Vec<AllChips<'a>>, AllocError>
-    ensures { IfOk result (λ all. all.items ≡ map (with_page chips.now) (others chips.now.kind.meaning page_sizes)) }
+    ensures { IfOk result
+        (λ all. all.items ≡ map (with_page chips.now) (others chips.now.kind.meaning page_sizes)) }
 {
     let mut all = Vec::new(alloc);
     for page in &PAGES {
@@ -135,7 +144,8 @@ fn step_apart<'a>(
     told: &mut u32,
 ) -> Result<(), Wrong>
     ensures told { IsToldBy (own.old ∷ others.old.items) result (step_of step.entry) told.new }
-    ensures step { StepsEach (own.old ∷ others.old.items) (own.new ∷ others.new.items) result (step_of step.entry) }
+    ensures step { StepsEach (own.old ∷ others.old.items) (own.new ∷ others.new.items) result
+        (step_of step.entry) }
     ensures stays { own.new.kind ≡ own.old.kind }
 {
     *told = own.page();
@@ -153,7 +163,9 @@ fn step_apart<'a>(
 fn earliest(own: Verdict, all: &[AllChips<'_>], steps: u64, target: &[u8]) -> Verdict
     requires { HaveSize (length target.now) all.now }
     ensures { result
-        ≡ earlier own (worst_of (λ t. at_end (one_like t.kind [] true) target.now steps (last_settled t.chips)) all.now) }
+        ≡ earlier own (worst_of
+        (λ t. at_end (one_like t.kind [] true) target.now steps (last_settled t.chips))
+        all.now) }
 {
     let mut worst = own;
     for chips in all {
@@ -165,8 +177,11 @@ fn earliest(own: Verdict, all: &[AllChips<'_>], steps: u64, target: &[u8]) -> Ve
 /// The page of chips that have the earliest verdict at the end.
 fn page_of_earliest(own: &AllChips<'_>, all: &[AllChips<'_>], steps: u64, target: &[u8]) -> u32
     requires { HaveSize (length target.now) (own.now ∷ all.now) }
-    ensures { IsJudgedBy (λ t. at_end (one_like t.kind [] true) target.now steps (last_settled t.chips)) (own.now ∷ all.now)
-        (worst_of (λ t. at_end (one_like t.kind [] true) target.now steps (last_settled t.chips)) (own.now ∷ all.now)) result }
+    ensures { IsJudgedBy
+        (λ t. at_end (one_like t.kind [] true) target.now steps (last_settled t.chips))
+        (own.now ∷ all.now)
+        (worst_of (λ t. at_end (one_like t.kind [] true) target.now steps (last_settled t.chips))
+        (own.now ∷ all.now)) result }
 {
     let mut worst = own.verdict(steps, target);
     let mut page = own.page();

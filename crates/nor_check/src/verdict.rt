@@ -32,9 +32,9 @@ pub enum Why {
     Differs(u32),
 }
 
-/// A chip that shows a no. Beside these numbers it has the meaning and the start of the check, each of its programs and erases
-/// is busy for one number of status reads, any above `reads`, and it keeps a set latch just where the step of the verdict is the
-/// number of steps.
+/// A chip that shows a no. Beside these numbers it has the meaning and the start of the check, each
+/// of its programs and erases is busy for one number of status reads, any above `reads`, and it
+/// keeps a set latch just where the step of the verdict is the number of steps.
 #[derive(Clone, Copy, PartialEq, Eq, Drop)]
 pub struct Witness {
     /// How many status reads are sent right before the step, in a row.
@@ -120,7 +120,8 @@ fn is_sooner(next: Result<(), Wrong>, answer: Result<(), Wrong>) -> bool
     }
 }
 
-/// Whether the first verdict tells of an earlier step than the second or, at the same one, of an earlier cause.
+/// Whether the first verdict tells of an earlier step than the second or, at the same one, of an
+/// earlier cause.
 fn is_before(first: Verdict, second: Verdict) -> bool
     ensures { result ≡ is_before first second }
 {

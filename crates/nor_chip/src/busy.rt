@@ -3,7 +3,8 @@
 ghost use Rattle.std.specs.Prelude.{◌≡◌, ◌<◌, length, slice_index};
 ghost use Rattle.nor_chip.specs.Busy.{times_of};
 
-/// For how many status reads each program and each erase that a chip takes keeps it busy, in their order.
+/// For how many status reads each program and each erase that a chip takes keeps it busy, in their
+/// order.
 #[derive(Drop)]
 pub enum BusyTimes {
     /// For these, and for none past their end.

@@ -1,11 +1,13 @@
 //! A chip in memory, which answers as the definition of an instruction's effect says.
 
-ghost use Rattle.std.specs.Prelude.{◌≡◌, ◌<◌, ◌≤◌, ◌+◌, ⊤, pred, true, length, replicate, slice_range, None, Ok, OnErr};
+ghost use Rattle.std.specs.Prelude.{◌≡◌, ◌<◌, ◌≤◌, ◌+◌, ⊤, pred, true, length, replicate};
+ghost use Rattle.std.specs.Prelude.{slice_range, None, Ok, OnErr};
 ghost use Rattle.nor_base.specs.Sample.{sampled_count};
 ghost use Rattle.nor_base.specs.Chip.{chip_of, may_page, is_settled, IsPossible};
 ghost use Rattle.nor_base.specs.Blocks.{is_legal as is_legal_block};
 ghost use Rattle.nor_base.specs.Parameters.{block_size};
-ghost use Rattle.nor_base.specs.Effect.{effect_of, wrong_of, is_program, programmed, erased, accepting, switching, status};
+ghost use Rattle.nor_base.specs.Effect.{effect_of, wrong_of, is_program, programmed, erased};
+ghost use Rattle.nor_base.specs.Effect.{accepting, switching, status};
 ghost use Rattle.nor_base.specs.Port.{Shown, Transacts, CountsTransact};
 ghost use Rattle.nor_chip.specs.Busy.{times_of};
 ghost use Rattle.nor_chip.specs.Ready.{paged, ready_chip};
@@ -22,9 +24,10 @@ use std::marker::Model;
 
 /// A chip: its meaning, start and page, what it holds, and its state.
 ///
-/// It is to software what the W25Q256JV datasheet and JESD216B say of a chip with that meaning. It acts on its vector in
-/// place, asks for no memory, and takes time proportional to a transaction's clocks and the bytes that it changes or
-/// gives, never to its size; an erase also looks at the regions of its meaning.
+/// It is to software what the W25Q256JV datasheet and JESD216B say of a chip with that meaning. It
+/// acts on its vector in place, asks for no memory, and takes time proportional to a transaction's
+/// clocks and the bytes that it changes or gives, never to its size; an erase also looks at the
+/// regions of its meaning.
 #[derive(Drop)]
 pub struct Chip<'a> {
     meaning: &'a Meaning,
@@ -49,20 +52,36 @@ impl<'a> Model for Chip<'a> {
     ghost use Rattle.nor_chip.specs.Busy.{times_of};
 
     ghost view = { λ c. record {
-      setting = record { meaning = c.meaning.now; start = c.start; page = c.page; busy = times_of c.busy; keeps = c.keeps };
-      chip = record { array = c.array.items; latch = c.latch; mode4 = c.mode4; left = c.left; to_come = drop c.next (times_of c.busy) };
+      setting = record {
+        meaning = c.meaning.now;
+        start = c.start;
+        page = c.page;
+        busy = times_of
+            c.busy;
+        keeps = c.keeps;
+      };
+      chip = record {
+        array = c.array.items;
+        latch = c.latch;
+        mode4 = c.mode4;
+        left = c.left;
+        to_come = drop c.next (times_of c.busy);
+      };
     } };
 
-    ghost invariant = { λ c. (length c.array.items ≡ c.meaning.now.size) × ((c.next ≤ length (times_of c.busy)) × (may_page c.meaning.now c.page ≡ true)) };
+    ghost invariant = { λ c. (length c.array.items ≡ c.meaning.now.size)
+        × ((c.next ≤ length (times_of c.busy)) × (may_page c.meaning.now c.page ≡ true)) };
 }
 
 impl<'a> Chip<'a> {
-    /// A ready chip with the meaning's own page: idle, with the latch clear, in its first address mode.
+    /// A ready chip with the meaning's own page: idle, with the latch clear, in its first address
+    /// mode.
     ///
-    /// `content` holds the bytes from address 0 on, as many as the meaning's size. Each program and each erase that it
-    /// takes keeps it busy for the next number of status reads in `busy`, and for none past the list's end. `keeps` is
-    /// whether a set write enable latch stays set where the address mode is entered or left. A chip that has three address
-    /// bytes alone doesn't begin in four-byte mode.
+    /// `content` holds the bytes from address 0 on, as many as the meaning's size. Each program and
+    /// each erase that it takes keeps it busy for the next number of status reads in `busy`, and
+    /// for none past the list's end. `keeps` is whether a set write enable latch stays set where
+    /// the address mode is entered or left. A chip that has three address bytes alone doesn't begin
+    /// in four-byte mode.
     pub fn new(
         meaning: &'a Meaning,
         start: Start,
@@ -79,8 +98,9 @@ impl<'a> Chip<'a> {
         Chip::with_page(meaning, start, content, busy, keeps, page)
     }
 
-    /// The same with a page of so many bytes, one that [`Meaning::may_page`] allows: a chip whose SFDP is that of the
-    /// first JESD216 may have a larger one than the meaning's, which is only the least.
+    /// The same with a page of so many bytes, one that [`Meaning::may_page`] allows: a chip whose
+    /// SFDP is that of the first JESD216 may have a larger one than the meaning's, which is only
+    /// the least.
     pub fn with_page(
         meaning: &'a Meaning,
         start: Start,
@@ -92,7 +112,8 @@ impl<'a> Chip<'a> {
         requires size { length content.items ≡ meaning.now.size }
         requires mode { IsPossible meaning.now start }
         requires page { may_page meaning.now page ≡ true }
-        ensures { result ≡ ready_chip (paged (chip_of meaning.now start (times_of busy) keeps) page) content.items }
+        ensures { result ≡ ready_chip (paged (chip_of meaning.now start (times_of busy) keeps) page)
+            content.items }
     {
         Chip {
             meaning,
@@ -117,7 +138,8 @@ impl<'a> Chip<'a> {
 
     /// Why the chip doesn't take an instruction, by the first rule that applies.
     fn refusal(&self, seen: &Seen<'_>) -> Option<Wrong>
-        ensures { result ≡ wrong_of (effect_of self.now.setting self.now.chip (instruction_of seen.now)) }
+        ensures { result ≡ wrong_of
+            (effect_of self.now.setting self.now.chip (instruction_of seen.now)) }
     {
         let state = State {
             meaning: self.meaning,
@@ -132,9 +154,11 @@ impl<'a> Chip<'a> {
 
     /// Does an instruction that the chip takes, and fills `out` with the bytes that it gives.
     fn take(&mut self, seen: &Seen<'_>, out: &mut [u8])
-        requires taken { wrong_of (effect_of self.old.setting self.old.chip (instruction_of seen.now)) ≡ None }
+        requires taken { wrong_of
+            (effect_of self.old.setting self.old.chip (instruction_of seen.now)) ≡ None }
         requires room { length out.old ≡ (instruction_of seen.now).asked }
-        ensures effect { effect_of self.old.setting self.old.chip (instruction_of seen.now) ≡ Ok (self.new.chip, out.new) }
+        ensures effect { effect_of self.old.setting self.old.chip (instruction_of seen.now)
+            ≡ Ok (self.new.chip, out.new) }
         ensures stays { self.new.setting ≡ self.old.setting }
     {
         let _ = &self.meaning;
@@ -198,7 +222,8 @@ impl<'a> Chip<'a> {
     fn erase(&mut self, kind: u8, start: u32)
         requires { is_legal_block self.old.setting.meaning kind start ≡ true }
         ensures chip { self.new.chip
-            ≡ accepting self.old.setting self.old.chip (erased start (block_size self.old.setting.meaning kind) self.old.chip.array) }
+            ≡ accepting self.old.setting self.old.chip
+            (erased start (block_size self.old.setting.meaning kind) self.old.chip.array) }
         ensures stays { self.new.setting ≡ self.old.setting }
     {
         let meaning = self.meaning;
@@ -213,7 +238,9 @@ impl<'a> Chip<'a> {
         requires program { is_program seen.now.what ≡ true }
         requires inside { seen.now.address < length self.old.chip.array }
         ensures chip { self.new.chip
-            ≡ accepting self.old.setting self.old.chip (programmed self.old.setting.page seen.now.address (sent seen.now) self.old.chip.array) }
+            ≡ accepting self.old.setting self.old.chip
+            (programmed self.old.setting.page seen.now.address (sent seen.now)
+            self.old.chip.array) }
         ensures stays { self.new.setting ≡ self.old.setting }
     {
         let meaning = self.meaning;
@@ -224,7 +251,8 @@ impl<'a> Chip<'a> {
 
     /// The latch is clear, and the chip is busy for the next of its busy times.
     fn accept(&mut self)
-        ensures chip { self.new.chip ≡ accepting self.old.setting self.old.chip self.old.chip.array }
+        ensures chip { self.new.chip ≡ accepting self.old.setting self.old.chip
+            self.old.chip.array }
         ensures stays { self.new.setting ≡ self.old.setting }
     {
         self.latch = false;
@@ -236,8 +264,8 @@ impl<'a> Chip<'a> {
     }
 }
 
-/// It never fails: each transaction is done, or refused with the [`Wrong`] of the first rule that applies, and then
-/// neither the chip nor `out` is changed.
+/// It never fails: each transaction is done, or refused with the [`Wrong`] of the first rule that
+/// applies, and then neither the chip nor `out` is changed.
 impl<'a> Port for Chip<'a> {
     ghost shown = { λ chip. chip };
 

@@ -1,8 +1,8 @@
 //! A chip in memory, and what every device that shows a chip promises.
 //!
-//! A [`Port`] does one transaction at a time, given by its clocks. [`Chip`] is such a port: it takes an instruction, or
-//! refuses it with the [`Wrong`] that applies first, exactly as the definitions of `nor_base` say (W25Q256JV datasheet,
-//! JESD216B).
+//! A [`Port`] does one transaction at a time, given by its clocks. [`Chip`] is such a port: it
+//! takes an instruction, or refuses it with the [`Wrong`] that applies first, exactly as the
+//! definitions of `nor_base` say (W25Q256JV datasheet, JESD216B).
 #![tactic(auto)]
 
 mod busy;

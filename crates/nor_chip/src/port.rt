@@ -17,15 +17,17 @@ pub trait Port {
     /// How often it has failed.
     ghost count: { Self → ℕ };
 
-    /// That it was asked for so many transactions. A port that keeps no count may let every number hold.
+    /// That it was asked for so many transactions. A port that keeps no count may let every number
+    /// hold.
     ghost asked: { Self → ℕ → Type 0 };
 
     /// Does one transaction: select, the clocks, deselect.
     ///
-    /// `clocks` are symbols of clocks, one byte each, and `out` has as many bytes as they sample. On Ok the chip and `out`
-    /// are what the instruction's effect says. On Wrong the instruction was refused for that reason, and the chip is as
-    /// before. On Failed the device failed, the count rose by one, and nothing is promised of the chip. However it ends, it is
-    /// one transaction more that the port was asked for.
+    /// `clocks` are symbols of clocks, one byte each, and `out` has as many bytes as they sample.
+    /// On Ok the chip and `out` are what the instruction's effect says. On Wrong the instruction
+    /// was refused for that reason, and the chip is as before. On Failed the device failed, the
+    /// count rose by one, and nothing is promised of the chip. However it ends, it is one
+    /// transaction more that the port was asked for.
     fn transact(&mut self, clocks: &[u8], out: &mut [u8]) -> Result<(), PortFault>
         requires out { length out.old ≡ sampled_count clocks.now }
         requires room { count self.old < 2 ^ 64 - 1 }
@@ -33,10 +35,11 @@ pub trait Port {
         ensures count { CountsTransact (count self.old) (count self.new) result }
         ensures asked { AsksMore (asked self.old) (asked self.new) 1 };
 
-    /// Reads the status while the chip says busy, at most `most` times, and returns how often: each of these reads said busy.
+    /// Reads the status while the chip says busy, at most `most` times, and returns how often: each
+    /// of these reads said busy.
     ///
-    /// It may stop before the chip is idle. A device that doesn't say how does none, so that a poll goes turn by turn; a chip in
-    /// memory does all at once.
+    /// It may stop before the chip is idle. A device that doesn't say how does none, so that a poll
+    /// goes turn by turn; a chip in memory does all at once.
     fn wait_busy(&mut self, most: u64) -> u64
         ensures waited { WaitsBusy (shown self.old) (shown self.new) most result }
         ensures count { count self.new ≡ count self.old }

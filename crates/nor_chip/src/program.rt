@@ -1,7 +1,8 @@
 //! What a program does to the array.
 
 ghost use Rattle.std.specs.Prelude.{◌≡◌, ◌<◌, ◌≤◌, ◌+◌, ◌-◌, ◌%◌, length, slice_index, true};
-ghost use Rattle.nor_base.specs.Effect.{is_program, place as place_of, may_program, is_barred as is_barred_of, barred, programmed, page_start};
+ghost use Rattle.nor_base.specs.Effect.{is_program, place as place_of, may_program};
+ghost use Rattle.nor_base.specs.Effect.{is_barred as is_barred_of, barred, programmed, page_start};
 ghost use Rattle.nor_chip.specs.Sent.{sent};
 
 use nor_base::{Meaning, Wrong};
@@ -17,7 +18,8 @@ pub fn place(page: u32, address: u32, index: usize) -> usize
     place_in(page, address - offset, offset, index)
 }
 
-/// Where byte `index` goes in the page that starts at `start`, in which the first one goes to byte `offset`.
+/// Where byte `index` goes in the page that starts at `start`, in which the first one goes to byte
+/// `offset`.
 fn place_in(page: u32, start: u32, offset: u32, index: usize) -> usize
     requires { 0 < page }
     ensures value { result ≡ start + (offset + index) % page }
@@ -36,7 +38,8 @@ fn remainder(number: usize, page: usize) -> usize
     if number < page { number } else { number % page }
 }
 
-/// Of so many bytes the first that isn't overwritten by a later one: a page has room for the last ones.
+/// Of so many bytes the first that isn't overwritten by a later one: a page has room for the last
+/// ones.
 fn first_kept(page: u32, count: usize) -> usize
     ensures { result ≡ count - page }
 {
@@ -53,8 +56,9 @@ fn count_sent(seen: &Seen<'_>) -> usize
 
 /// Whether a byte may be programmed over the one that the array has there.
 ///
-/// A program only clears bits, so not where the byte has a 1 and the array a 0 (W25Q256JV datasheet, Page Program). Under
-/// the profile that programs erased bytes alone it may be done over FFh, whatever the byte, and over nothing else.
+/// A program only clears bits, so not where the byte has a 1 and the array a 0 (W25Q256JV
+/// datasheet, Page Program). Under the profile that programs erased bytes alone it may be done over
+/// FFh, whatever the byte, and over nothing else.
 pub fn may_program(meaning: &Meaning, old: u8, byte: u8) -> bool
     ensures { result ≡ may_program meaning.now old byte }
 {

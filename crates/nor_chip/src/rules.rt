@@ -2,7 +2,9 @@
 
 ghost use Rattle.std.specs.Prelude.{◌≡◌, ◌+◌, ◌^◌, ◌&&◌, nat_lt, min, length, true};
 ghost use Rattle.nor_base.specs.Chip.{Setting, Chip, may_page};
-ghost use Rattle.nor_base.specs.Effect.{effect_of, wrong_of, has_address, is_broken, is_status, is_read, starts_no_block, needs_latch, is_out_of_range, is_program, is_quad};
+ghost use Rattle.nor_base.specs.Effect.{effect_of, wrong_of, has_address, is_broken, is_status};
+ghost use Rattle.nor_base.specs.Effect.{is_read, starts_no_block, needs_latch, is_out_of_range};
+ghost use Rattle.nor_base.specs.Effect.{is_program, is_quad};
 ghost use Rattle.nor_chip.specs.Sent.{instruction_of};
 ghost use Rattle.nor_chip.specs.State.{IsIn};
 
@@ -28,18 +30,21 @@ pub struct State<'a> {
     pub array: &'a [u8],
 }
 
-/// Why a chip in this state doesn't take an instruction, by the first rule that applies (W25Q256JV datasheet).
+/// Why a chip in this state doesn't take an instruction, by the first rule that applies (W25Q256JV
+/// datasheet).
 ///
-/// `Ignored` where its clocks are broken; where the chip is busy, but for a status read; where it needs four lanes, and the
-/// quad enable bit is clear; where it needs the write enable latch, and that is clear. Then `OutOfRange` where its address or
-/// a byte that it reads is past the last one, or where no legal block starts. Then `Raised`, or `NotErased` under the profile
-/// that programs erased bytes alone, where a program covers a byte that it may not be done over. The array has as many bytes
-/// as the meaning's size, and the page is one that [`Meaning::may_page`] allows.
+/// `Ignored` where its clocks are broken; where the chip is busy, but for a status read; where it
+/// needs four lanes, and the quad enable bit is clear; where it needs the write enable latch, and
+/// that is clear. Then `OutOfRange` where its address or a byte that it reads is past the last one,
+/// or where no legal block starts. Then `Raised`, or `NotErased` under the profile that programs
+/// erased bytes alone, where a program covers a byte that it may not be done over. The array has as
+/// many bytes as the meaning's size, and the page is one that [`Meaning::may_page`] allows.
 #[tactic(auto, unfolding(nor_base::specs::Effect::effect_of))]
 pub fn refusal(state: &State<'_>, seen: &Seen<'_>) -> Option<Wrong>
     requires size { length state.now.array.now ≡ state.now.meaning.now.size }
     requires page { may_page state.now.meaning.now state.now.page ≡ true }
-    ensures { (s : Setting) → (c : Chip) → IsIn state.now s c → result ≡ wrong_of (effect_of s c (instruction_of seen.now)) }
+    ensures { (s : Setting) → (c : Chip) → IsIn state.now s c
+        → result ≡ wrong_of (effect_of s c (instruction_of seen.now)) }
 {
     let meaning = state.meaning;
     if is_broken(seen.what) {
@@ -141,7 +146,8 @@ fn count_asked(seen: &Seen<'_>) -> u64
 
 /// A byte is read past the size.
 fn reads_past(size: u32, seen: &Seen<'_>) -> bool
-    ensures { result ≡ is_read seen.now.what && nat_lt size (seen.now.address + (instruction_of seen.now).asked) }
+    ensures { result ≡ is_read seen.now.what && nat_lt size
+        (seen.now.address + (instruction_of seen.now).asked) }
 {
     is_read(seen.what) && u64::from(size) < u64::from(seen.address) + count_asked(seen)
 }

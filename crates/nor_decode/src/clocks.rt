@@ -1,9 +1,11 @@
-//! What the lanes do at each of some clocks, by the symbols alone: a look at one is a compare or two, since a script has
-//! millions of them. A test of all of them has no branch, so that many symbols are looked at at once.
+//! What the lanes do at each of some clocks, by the symbols alone: a look at one is a compare or
+//! two, since a script has millions of them. A test of all of them has no branch, so that many
+//! symbols are looked at at once.
 
 ghost use Rattle.std.specs.Prelude.{◌≡◌, ◌||◌, ◌<◌, ◌≤◌, ◌^◌, length};
 ghost use Rattle.std.specs.List.{list_all};
-ghost use Rattle.nor_base.specs.Decoding.{is_bit_sent, is_nibble_sent, is_bit_sampled, is_nibble_sampled, is_idle, level_at, bit, number};
+ghost use Rattle.nor_base.specs.Decoding.{is_bit_sent, is_nibble_sent, is_bit_sampled};
+ghost use Rattle.nor_base.specs.Decoding.{is_nibble_sampled, is_idle, level_at, bit, number};
 ghost use Rattle.nor_base.specs.Run.{samples_some, is_verify};
 
 use std::simd::prelude::*;
@@ -11,7 +13,8 @@ use std::simd::prelude::*;
 /// The clocks of a poll: read status (05h), and one byte sampled.
 pub const POLL: &[u8; 16] = b"00000101........";
 
-/// Whether a verify may have these clocks: they sample something, and don't begin with the opcode of a status read (05h).
+/// Whether a verify may have these clocks: they sample something, and don't begin with the opcode
+/// of a status read (05h).
 #[tactic(auto, unfolding(nor_base::specs::Run::is_verify))]
 pub fn is_verify(clocks: &[u8]) -> bool
     ensures { result ≡ is_verify clocks.now }

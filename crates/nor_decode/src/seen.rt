@@ -21,7 +21,8 @@ pub struct Seen<'a> {
 impl<'a> Seen<'a> {
     /// The number of data bytes sent or sampled: eight clocks for a byte on one lane, two on four.
     pub fn count(&self) -> usize
-        ensures { result ≡ length (instruction (transaction_of self.now)).sent + (instruction (transaction_of self.now)).asked }
+        ensures { result ≡ length (instruction (transaction_of self.now)).sent
+            + (instruction (transaction_of self.now)).asked }
     {
         match self.what {
             What::Program | What::Status | What::Read => self.body.len() / 8,
@@ -30,8 +31,8 @@ impl<'a> Seen<'a> {
         }
     }
 
-    /// The data byte `i` of a program, below its count: on one lane the first of its eight bits is the highest, on four
-    /// the first of its two nibbles.
+    /// The data byte `i` of a program, below its count: on one lane the first of its eight bits is
+    /// the highest, on four the first of its two nibbles.
     pub fn byte(&self, i: usize) -> u8
         requires { i < length (instruction (transaction_of self.now)).sent }
         ensures { result ≡ slice_index (instruction (transaction_of self.now)).sent i }

@@ -1,7 +1,9 @@
-//! The instruction table (W25Q256JV datasheet, "Instruction Set Table"; JESD216B for what is a chip's own).
+//! The instruction table (W25Q256JV datasheet, "Instruction Set Table"; JESD216B for what is a
+//! chip's own).
 
 ghost use Rattle.std.specs.Prelude.{◌≡◌, ◌≤◌, ◌==◌, ◌&&◌, [], ◌∷◌, find, is_some, true};
-ghost use Rattle.nor_base.specs.Instructions.{row, by_mode, row_of, common_rows, quad_read_row, erase_rows};
+ghost use Rattle.nor_base.specs.Instructions.{row, by_mode, row_of, common_rows, quad_read_row};
+ghost use Rattle.nor_base.specs.Instructions.{erase_rows};
 ghost use Rattle.nor_decode.specs.Table.{rows_by};
 
 use nor_base::{Erase, Meaning, Switch, What};
@@ -26,7 +28,13 @@ impl Model for Row {
 
     ghost Value = { Row };
 
-    ghost view = { λ r. record { opcode = r.opcode; offered = true; what = r.what; width = r.width; dummies = r.dummies } };
+    ghost view = { λ r. record {
+      opcode = r.opcode;
+      offered = true;
+      what = r.what;
+      width = r.width;
+      dummies = r.dummies;
+    } };
 
     ghost invariant = { λ r. r.width ≤ 4 };
 }
@@ -45,7 +53,8 @@ pub(crate) fn row_of(opcode: u8, meaning: &Meaning, mode4: bool) -> Option<Row>
 
 /// The row of an opcode that is the same on every chip.
 fn common_row(opcode: u8, meaning: &Meaning, mode4: bool) -> Option<Row>
-    ensures { result ≡ find (λ r. (opcode == r.opcode) && r.offered) (common_rows meaning.now mode4) }
+    ensures { result ≡ find (λ r. (opcode == r.opcode) && r.offered)
+        (common_rows meaning.now mode4) }
 {
     match opcode {
         0x06 => Some(plain(opcode, What::Enable, 0)),
@@ -94,7 +103,8 @@ fn by_mode(mode4: bool) -> u8
 
 /// The row of the 1-1-4 fast read by the chip's own opcode.
 fn quad_read_row(opcode: u8, meaning: &Meaning, mode4: bool) -> Option<Row>
-    ensures { result ≡ find (λ r. (opcode == r.opcode) && r.offered) (quad_read_row meaning.now mode4 ∷ []) }
+    ensures { result ≡ find (λ r. (opcode == r.opcode) && r.offered)
+        (quad_read_row meaning.now mode4 ∷ []) }
 {
     match meaning.quad_read {
         Some(quad_read) if quad_read.op == opcode => {
@@ -111,7 +121,8 @@ fn quad_read_row(opcode: u8, meaning: &Meaning, mode4: bool) -> Option<Row>
 
 /// The row of an erase kind, by its legacy or its dedicated opcode, where some region allows it.
 fn erase_row(opcode: u8, meaning: &Meaning, mode4: bool, kind: u8) -> Option<Row>
-    ensures { result ≡ find (λ r. (opcode == r.opcode) && r.offered) (erase_rows meaning.now mode4 kind) }
+    ensures { result ≡ find (λ r. (opcode == r.opcode) && r.offered)
+        (erase_rows meaning.now mode4 kind) }
 {
     let row = row_of_kind(opcode, meaning.erase_kind(kind), mode4, kind)?;
     if meaning.is_allowed(kind) {
@@ -123,7 +134,8 @@ fn erase_row(opcode: u8, meaning: &Meaning, mode4: bool, kind: u8) -> Option<Row
 
 /// The row of an erase kind, were it live.
 fn row_of_kind(opcode: u8, erase: Option<Erase>, mode4: bool, kind: u8) -> Option<Row>
-    ensures { result ≡ find (λ r. (opcode == r.opcode) && r.offered) (rows_by (is_some erase) erase mode4 kind) }
+    ensures { result ≡ find (λ r. (opcode == r.opcode) && r.offered)
+        (rows_by (is_some erase) erase mode4 kind) }
 {
     let erase = erase?;
     let what = What::Erase(kind);

@@ -2,7 +2,8 @@
 
 ghost use Rattle.std.specs.Prelude.{◌≡◌, ◌+◌, ◌*◌, ◌<◌, ◌≤◌, IsTrue, length, option_map};
 ghost use Rattle.nor_base.specs.Instructions.{form_of};
-ghost use Rattle.nor_base.specs.Decoding.{transaction, by_row, is_form, is_data, are_groups, broken};
+ghost use Rattle.nor_base.specs.Decoding.{transaction, by_row, is_form, is_data, are_groups};
+ghost use Rattle.nor_base.specs.Decoding.{broken};
 ghost use Rattle.nor_decode.specs.Seen.{transaction_of};
 
 use crate::clocks::{
@@ -12,8 +13,9 @@ use crate::seen::Seen;
 use crate::table::{Row, row_of};
 use nor_base::{Meaning, What};
 
-/// The instruction that the clocks of a transaction are on a chip in an address mode: `None` where they have no opcode
-/// that the chip knows, and `Broken` where what follows the opcode isn't exactly its row's form.
+/// The instruction that the clocks of a transaction are on a chip in an address mode: `None` where
+/// they have no opcode that the chip knows, and `Broken` where what follows the opcode isn't
+/// exactly its row's form.
 ///
 /// Each clock is looked at a bounded number of times, and none is copied.
 #[tactic(auto, unfolding(nor_base::specs::Decoding::transaction, nor_base::specs::Decoding::has_opcode))]

@@ -3,7 +3,8 @@
 ghost use Rattle.std.specs.Prelude.{◌≡◌, ◌≤◌, ◌<◌, ◌+◌, ◌-◌, ℕ, false, length, zip, MatchOption};
 ghost use Rattle.std.specs.List.{list_any};
 ghost use Rattle.nor_base.specs.Need.{is_due};
-ghost use Rattle.nor_erase.specs.Bytes.{any_pair, raises_bit, is_kept, is_due_over, IsFirstDue, NoneDue};
+ghost use Rattle.nor_erase.specs.Bytes.{any_pair, raises_bit, is_kept, is_due_over, IsFirstDue};
+ghost use Rattle.nor_erase.specs.Bytes.{NoneDue};
 
 use crate::lanes::{dirty_lanes, is_due_lanes, rises_lanes};
 use nor_base::Meaning;
@@ -38,8 +39,8 @@ fn rises_rest(have: &[u8], want: &[u8]) -> bool
     have.iter().zip(want).any(|(old, new)| *old & *new != *new)
 }
 
-/// Whether some byte differs and isn't FFh in `have`: where only erased bytes may be programmed, an erase must come
-/// first.
+/// Whether some byte differs and isn't FFh in `have`: where only erased bytes may be programmed, an
+/// erase must come first.
 pub fn dirty(have: &[u8], want: &[u8]) -> bool
     requires { length have.now ≡ length want.now }
     ensures { result ≡ list_any (λ pair. is_kept pair.0 pair.1) (zip have.now want.now) }
@@ -76,7 +77,8 @@ fn dirty_rest(have: &[u8], want: &[u8]) -> bool
 pub fn first_due(meaning: &Meaning, at: u32, have: &[u8], want: &[u8]) -> Option<u32>
     requires lengths { length have.now ≡ length want.now }
     requires inside { at + length have.now ≤ meaning.now.size }
-    ensures { MatchOption result (NoneDue meaning.now have.now want.now at at) (IsFirstDue meaning.now have.now want.now at at) }
+    ensures { MatchOption result (NoneDue meaning.now have.now want.now at at)
+        (IsFirstDue meaning.now have.now want.now at at) }
 {
     next_due(meaning, at, have, want, at)
 }
@@ -92,7 +94,8 @@ pub(crate) fn next_due(
     requires lengths { length have.now ≡ length want.now }
     requires inside { at + length have.now ≤ meaning.now.size }
     requires from { at ≤ from }
-    ensures { MatchOption result (NoneDue meaning.now have.now want.now at from) (IsFirstDue meaning.now have.now want.now at from) }
+    ensures { MatchOption result (NoneDue meaning.now have.now want.now at from)
+        (IsFirstDue meaning.now have.now want.now at from) }
 {
     meaning.acceptance();
     let quiet = skip_quiet(meaning, have, want, (from - at) as usize);
@@ -104,13 +107,14 @@ pub(crate) fn next_due(
     None
 }
 
-/// A place from `start` on before which, from there on, no byte is due: the first 32 bytes that hold one begin there, or
-/// fewer bytes are left.
+/// A place from `start` on before which, from there on, no byte is due: the first 32 bytes that
+/// hold one begin there, or fewer bytes are left.
 fn skip_quiet(meaning: &Meaning, have: &[u8], want: &[u8], start: usize) -> usize
     requires { length have.now ≡ length want.now }
     ensures low { start ≤ result }
     ensures high { start ≤ length have.now → result ≤ length have.now }
-    ensures quiet { (k : ℕ) → start ≤ k → k < result → is_due meaning.now have.now want.now k ≡ false }
+    ensures quiet { (k : ℕ) → start ≤ k → k < result
+        → is_due meaning.now have.now want.now k ≡ false }
 {
     let mut i = start;
     while i < have.len() && have.len() - i >= 32 {

@@ -11,13 +11,14 @@ use nor_base::{Meaning, Strategy};
 use nor_geometry::{FAR, PlanFault, PlanUnit, smallest};
 use std::alloc::Global;
 
-/// The units that start in a window of a chip, rising: `have` is what it holds from `at` on, `want` what it must hold. A
-/// window begins at a multiple of [`window_size`](nor_geometry::window_size), and has that length or ends with the chip;
-/// the strategy is that of some start. What the rest of the chip holds and must hold is open.
+/// The units that start in a window of a chip, rising: `have` is what it holds from `at` on, `want`
+/// what it must hold. A window begins at a multiple of [`window_size`](nor_geometry::window_size),
+/// and has that length or ends with the chip; the strategy is that of some start. What the rest of
+/// the chip holds and must hold is open.
 ///
-/// Units come only where no address of the window is at fault: each byte that has to change is in reach, and each that no
-/// program may change lies in a legal block. `NoErase` and `Unreachable` name the lowest address at fault, by its cause;
-/// `Memory` comes where a growth is refused.
+/// Units come only where no address of the window is at fault: each byte that has to change is in
+/// reach, and each that no program may change lies in a legal block. `NoErase` and `Unreachable`
+/// name the lowest address at fault, by its cause; `Memory` comes where a growth is refused.
 pub fn plan(
     alloc: Global,
     meaning: &Meaning,
@@ -28,7 +29,8 @@ pub fn plan(
 ) -> Result<Vec<PlanUnit>, PlanFault>
     requires lengths { length have.now ≡ length want.now }
     requires window { IsWindow meaning.now strategy at (length have.now) }
-    ensures plan { IfOk result (λ units. IsPlan meaning.now strategy at have.now want.now units.items) }
+    ensures plan { IfOk result
+        (λ units. IsPlan meaning.now strategy at have.now want.now units.items) }
     ensures fault { IfErr result (Refuses meaning.now strategy at have.now want.now) }
 {
     meaning.acceptance();
@@ -61,7 +63,8 @@ fn first_beyond(strategy: Strategy, at: u32, have: &[u8], want: &[u8]) -> Option
     requires lengths { length have.now ≡ length want.now }
     requires inside { at + length have.now ≤ 2 ^ 28 }
     requires edge { at < 2 ^ 24 → at + length have.now ≤ 2 ^ 24 }
-    ensures { MatchOption result (NoneBeyond strategy have.now want.now at) (IsFirstBeyond strategy have.now want.now at) }
+    ensures { MatchOption result (NoneBeyond strategy have.now want.now at)
+        (IsFirstBeyond strategy have.now want.now at) }
 {
     if !is_beyond(strategy, at) {
         return None;

@@ -1,14 +1,15 @@
 //! The blocks of a run, and the pages of a gap.
 
-ghost use Rattle.std.specs.Prelude.{◌≡◌, ◌≤◌, ◌+◌, ◌-◌, ◌%◌, ◌==◌, ◌&&◌, length, nat_le, IfOk, MatchOption};
+ghost use Rattle.std.specs.Prelude.{◌≡◌, ◌≤◌, ◌+◌, ◌-◌, ◌%◌, ◌==◌, ◌&&◌, length, nat_le, IfOk};
+ghost use Rattle.std.specs.Prelude.{MatchOption};
 ghost use Rattle.nor_erase.specs.Tiles.{IsLargestAt, NoneFits, AddsTiles, AddsPages, differs_from};
 
 use nor_base::{Meaning, Strategy};
 use nor_geometry::{Block, PlanUnit, legal};
 use std::alloc::AllocError;
 
-/// Appends the blocks that tile a stretch from its low end: each the largest of the strategy that starts there and ends
-/// in the stretch.
+/// Appends the blocks that tile a stretch from its low end: each the largest of the strategy that
+/// starts there and ends in the stretch.
 pub(crate) fn push_blocks(
     meaning: &Meaning,
     strategy: Strategy,
@@ -16,7 +17,8 @@ pub(crate) fn push_blocks(
     high: u32,
     units: &mut Vec<PlanUnit>,
 ) -> Result<(), AllocError>
-    ensures { IfOk result (λ _. AddsTiles meaning.now strategy low high units.old.items units.new.items) }
+    ensures { IfOk result
+        (λ _. AddsTiles meaning.now strategy low high units.old.items units.new.items) }
 {
     let mut start = low;
     while let Some(block) = largest(meaning, strategy, start, high) {
@@ -26,10 +28,11 @@ pub(crate) fn push_blocks(
     Ok(())
 }
 
-/// The largest of the strategy's blocks that start at an address and end by another; of those of its size the one of the
-/// lowest kind.
+/// The largest of the strategy's blocks that start at an address and end by another; of those of
+/// its size the one of the lowest kind.
 fn largest(meaning: &Meaning, strategy: Strategy, start: u32, end: u32) -> Option<Block>
-    ensures { MatchOption result (NoneFits meaning.now strategy start end) (IsLargestAt meaning.now strategy start end) }
+    ensures { MatchOption result (NoneFits meaning.now strategy start end)
+        (IsLargestAt meaning.now strategy start end) }
 {
     meaning.acceptance();
     let mut best = None;
@@ -58,7 +61,9 @@ pub(crate) fn push_pages(
     requires high { high ≤ at + length have.now }
     requires low_page { low % meaning.now.page ≡ 0 }
     requires high_page { high % meaning.now.page ≡ 0 }
-    ensures { IfOk result (λ _. AddsPages have.now want.now at meaning.now.page low high units.old.items units.new.items) }
+    ensures { IfOk result
+        (λ _. AddsPages have.now want.now at meaning.now.page low high units.old.items
+        units.new.items) }
 {
     meaning.acceptance();
     let mut start = low;
@@ -82,7 +87,8 @@ fn differs_from(have: &[u8], want: &[u8], from: usize, count: usize) -> bool
 
 /// Whether a block starts at an address and ends by another.
 fn fits(block: &Block, start: u32, end: u32) -> bool
-    ensures { result ≡ ((block.now.start == start) && nat_le (block.now.start + block.now.size) end) }
+    ensures { result ≡ ((block.now.start == start)
+        && nat_le (block.now.start + block.now.size) end) }
 {
     block.start == start && u64::from(block.start) + u64::from(block.size) <= u64::from(end)
 }

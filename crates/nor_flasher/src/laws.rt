@@ -6,8 +6,9 @@ use nor_laws::{effects, spelling};
 use nor_loop::{device, loop_breaks, loop_closes, loop_is_explained, quad, single};
 use nor_plan_laws::{planned_work, there_is_planned_work};
 
-/// A content was read twice, and later planned work on it was done. Every ready chip that explains both, whatever its quad setting, ends
-/// with the goal of what it held, and some chip explains them. Of what went over the wire between the two nothing is said.
+/// A content was read twice, and later planned work on it was done. Every ready chip that explains
+/// both, whatever its quad setting, ends with the goal of what it held, and some chip explains
+/// them. Of what went over the wire between the two nothing is said.
 pub fn closes()
     ensures { Closes }
 {
@@ -18,9 +19,10 @@ pub fn closes()
     quad();
 }
 
-/// A content was read twice, and later work on it that was planned for one lane halted. Every ready chip that explains both, whatever its
-/// quad setting, held just the content, and at most one unit of the work is in the making. The same holds where the chip did the operation that
-/// came next, or some of its row. Some chip explains both.
+/// A content was read twice, and later work on it that was planned for one lane halted. Every ready
+/// chip that explains both, whatever its quad setting, held just the content, and at most one unit
+/// of the work is in the making. The same holds where the chip did the operation that came next, or
+/// some of its row. Some chip explains both.
 pub fn breaks()
     ensures { Breaks }
 {
@@ -33,8 +35,9 @@ pub fn breaks()
     single();
 }
 
-/// Each step of planned work is one that [`do_steps`](crate::do_steps) takes: what it sends and what it samples fit its kind. Where the
-/// work is planned without the quad setting, a device can't do a step only where the step is too long for its limits.
+/// Each step of planned work is one that [`do_steps`](crate::do_steps) takes: what it sends and
+/// what it samples fit its kind. Where the work is planned without the quad setting, a device can't
+/// do a step only where the step is too long for its limits.
 pub fn doable()
     ensures doable { PlannedIsDoable }
     ensures refused { RefusedForLength }

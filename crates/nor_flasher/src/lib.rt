@@ -1,7 +1,8 @@
-//! Work on a chip behind a serprog programmer: [`do_steps`] has the programmer do the steps of a script.
+//! Work on a chip behind a serprog programmer: [`do_steps`] has the programmer do the steps of a
+//! script.
 //!
-//! [`closes`], [`breaks`] and [`doable`] do nothing. Their contracts are laws of content that was read twice and of planned
-//! work that a programmer then did, or broke off.
+//! [`closes`], [`breaks`] and [`doable`] do nothing. Their contracts are laws of content that was
+//! read twice and of planned work that a programmer then did, or broke off.
 #![tactic(auto)]
 
 mod laws;

@@ -10,17 +10,19 @@ use nor_base::{ByteIn, ByteOut, Step};
 use nor_progress::Progress;
 use nor_serprog::{Halt, Limits, do_row, is_doable, row_length, rows};
 
-/// Whether [`do_steps`] takes these steps: each is one that [`do_step`](nor_serprog::do_step) takes.
+/// Whether [`do_steps`] takes these steps: each is one that [`do_step`](nor_serprog::do_step)
+/// takes.
 pub fn are_doable(steps: &[Step]) -> bool
     ensures { IsTrue result ↔ All IsDoable steps.now }
 {
     steps.iter().all(|step| is_doable(step))
 }
 
-/// Has the device do steps, one after the other, row by row, as [`do_row`]. A poll reads the status `turns` times at most.
+/// Has the device do steps, one after the other, row by row, as [`do_row`]. A poll reads the status
+/// `turns` times at most.
 ///
-/// How far it has come is written to `progress`; where that fails nothing changes. At the first step that can't be done
-/// it stops: the halt has its number, from 0, and the reason.
+/// How far it has come is written to `progress`; where that fails nothing changes. At the first
+/// step that can't be done it stops: the halt has its number, from 0, and the reason.
 pub fn do_steps<R: ByteIn, W: ByteOut, P: ByteOut>(
     from: &mut R,
     to: &mut W,
@@ -34,8 +36,10 @@ pub fn do_steps<R: ByteIn, W: ByteOut, P: ByteOut>(
     requires writer { W.count to.old < 2 ^ 64 - 1 }
     requires told { P.count progress.old < 2 ^ 64 - 1 }
     ensures done { MatchResult result
-        (λ _. HasDoneAll (W.held to.old) (W.held to.new) (R.ahead from.old) (R.ahead from.new) limits.now turns steps.now)
-        (λ halt. HasHalted (W.held to.old) (W.held to.new) (R.ahead from.old) (R.ahead from.new) limits.now turns steps.now
+        (λ _. HasDoneAll (W.held to.old) (W.held to.new) (R.ahead from.old) (R.ahead from.new)
+        limits.now turns steps.now)
+        (λ halt. HasHalted (W.held to.old) (W.held to.new) (R.ahead from.old) (R.ahead from.new)
+        limits.now turns steps.now
         halt) }
     ensures reads { CountsHalt Read (R.count from.old) (R.count from.new) result }
     ensures writes { CountsHalt Write (W.count to.old) (W.count to.new) result }

@@ -11,7 +11,8 @@ use crate::strategies::takes;
 use arrayvec::ArrayVec;
 use nor_base::{Meaning, Region, Strategy};
 
-/// The strategy's legal blocks that hold the address, rising in size; of those of one size the one of the lowest kind.
+/// The strategy's legal blocks that hold the address, rising in size; of those of one size the one
+/// of the lowest kind.
 ///
 /// It takes time proportional to the number of regions.
 pub fn legal(meaning: &Meaning, strategy: Strategy, at: u32) -> ArrayVec<Block, 4>
@@ -27,18 +28,19 @@ pub fn legal(meaning: &Meaning, strategy: Strategy, at: u32) -> ArrayVec<Block, 
     blocks
 }
 
-/// The smallest of the strategy's legal blocks that hold the address, of those of its size the one of the lowest kind:
-/// the first of [`legal`]. `None` where there is none.
+/// The smallest of the strategy's legal blocks that hold the address, of those of its size the one
+/// of the lowest kind: the first of [`legal`]. `None` where there is none.
 pub fn smallest(meaning: &Meaning, strategy: Strategy, at: u32) -> Option<Block>
-    ensures { MatchOption result ((b : PlannedBlock) → IsReachedAt meaning.now strategy at b → ⊥) (IsSmallestAt meaning.now strategy at) }
+    ensures { MatchOption result ((b : PlannedBlock) → IsReachedAt meaning.now strategy at b → ⊥)
+        (IsSmallestAt meaning.now strategy at) }
 {
     legal(meaning, strategy, at).first().copied()
 }
 
 /// Whether a legal block of the erase kind starts at the address (bytes from 0 on).
 ///
-/// Kinds count from 1 to 4; 0, a number above 4 and a kind that is absent have no block. A block that would end past
-/// 2^32 lies in no region. It takes time proportional to the number of regions.
+/// Kinds count from 1 to 4; 0, a number above 4 and a kind that is absent have no block. A block
+/// that would end past 2^32 lies in no region. It takes time proportional to the number of regions.
 #[tactic(auto, unfolding(nor_base::specs::Blocks::is_legal))]
 pub fn is_legal(meaning: &Meaning, kind: u8, start: u32) -> bool
     ensures { result ≡ is_legal meaning.now kind start }
@@ -85,8 +87,8 @@ fn add(blocks: &mut ArrayVec<Block, 4>, block: Block)
     blocks.push(block);
 }
 
-/// Whether `size` bytes from `start` on lie in one of the regions, the first of which begins at 0, and it allows the
-/// kind.
+/// Whether `size` bytes from `start` on lie in one of the regions, the first of which begins at 0,
+/// and it allows the kind.
 fn lies_in_one(regions: &[Region], kind: u8, start: u32, size: u32) -> bool
     requires { length regions.now ≤ 256 }
     ensures { result ≡ lies_in_one 0 regions.now kind start size }

@@ -3,7 +3,8 @@
 ghost use Rattle.std.specs.Prelude.{◌≡◌, ◌*◌, ◌&&◌, nat_lt, is_some};
 ghost use Rattle.std.specs.List.{list_any};
 ghost use Rattle.nor_base.specs.Parameters.{block_size};
-ghost use Rattle.nor_base.specs.Strategies.{strategy, are_dedicated, is_dedicated, erases_in, is_least};
+ghost use Rattle.nor_base.specs.Strategies.{strategy, are_dedicated, is_dedicated, erases_in};
+ghost use Rattle.nor_base.specs.Strategies.{is_least};
 ghost use Rattle.nor_base.specs.Instructions.{dedicated, is_there};
 ghost use Rattle.nor_geometry.specs.Takes.{takes, is_least_dedicated};
 
@@ -15,10 +16,11 @@ pub(crate) const KINDS: [u8; 4] = [1, 2, 3, 4];
 
 /// The strategy of a chip that begins so: the first that applies.
 ///
-/// `S1` where the chip begins in four-byte mode; `S2` where three address bytes reach all of it; `S3` where it programs
-/// and reads by opcodes with four address bytes (12h and 13h, FF84h) and, in each region that reaches past 2^24, some
-/// kind of the least size has such an opcode, or the region has no kind; `S4` where four-byte mode can be entered and
-/// left (FF00h DWORD 16); otherwise `S5`.
+/// `S1` where the chip begins in four-byte mode; `S2` where three address bytes reach all of it;
+/// `S3` where it programs and reads by opcodes with four address bytes (12h and 13h, FF84h) and, in
+/// each region that reaches past 2^24, some kind of the least size has such an opcode, or the
+/// region has no kind; `S4` where four-byte mode can be entered and left (FF00h DWORD 16);
+/// otherwise `S5`.
 #[tactic(auto, unfolding(nor_base::specs::Strategies::strategy))]
 pub fn strategy(meaning: &Meaning, start: &Start) -> Strategy
     ensures { result ≡ strategy meaning.now start.now }
@@ -58,7 +60,8 @@ fn are_dedicated(meaning: &Meaning) -> bool
     true
 }
 
-/// Whether some kind of the region's least size has an opcode with four address bytes, or the region has no kind.
+/// Whether some kind of the region's least size has an opcode with four address bytes, or the
+/// region has no kind.
 fn is_dedicated(meaning: &Meaning, region: &Region) -> bool
     ensures { result ≡ is_dedicated meaning.now region.now }
 {
@@ -72,7 +75,8 @@ fn some_erases(meaning: &Meaning, region: &Region, kinds: &[u8]) -> bool
     kinds.iter().any(|kind| erases_in(meaning, region, *kind))
 }
 
-/// Whether one of some kinds is of the region's least size and has an opcode with four address bytes.
+/// Whether one of some kinds is of the region's least size and has an opcode with four address
+/// bytes.
 fn some_is_dedicated(meaning: &Meaning, region: &Region, kinds: &[u8]) -> bool
     ensures { result ≡ list_any (is_least_dedicated meaning.now region.now) kinds.now }
 {
@@ -104,7 +108,8 @@ fn is_least(meaning: &Meaning, region: &Region, kind: u8) -> bool
 
 /// Whether one of some kinds is one of the region's and its blocks have fewer bytes.
 fn some_is_smaller(meaning: &Meaning, region: &Region, kinds: &[u8], size: u32) -> bool
-    ensures { result ≡ list_any (λ kind. erases_in meaning.now region.now kind && nat_lt (block_size meaning.now kind) size) kinds.now }
+    ensures { result ≡ list_any (λ kind. erases_in meaning.now region.now kind
+        && nat_lt (block_size meaning.now kind) size) kinds.now }
 {
     kinds
         .iter()
@@ -113,7 +118,8 @@ fn some_is_smaller(meaning: &Meaning, region: &Region, kinds: &[u8], size: u32) 
 
 /// Whether the kind is one of the region's and its blocks have fewer bytes.
 fn is_smaller(meaning: &Meaning, region: &Region, kind: u8, size: u32) -> bool
-    ensures { result ≡ (erases_in meaning.now region.now kind && nat_lt (block_size meaning.now kind) size) }
+    ensures { result ≡ (erases_in meaning.now region.now kind
+        && nat_lt (block_size meaning.now kind) size) }
 {
     erases_in(meaning, region, kind) && meaning.block_size(kind) < size
 }
@@ -128,7 +134,8 @@ fn has_op4(meaning: &Meaning, kind: u8) -> bool
     }
 }
 
-/// Whether the strategy has an erase for an address by a kind with or without an opcode of four address bytes.
+/// Whether the strategy has an erase for an address by a kind with or without an opcode of four
+/// address bytes.
 pub(crate) fn takes(strategy: Strategy, has_op4: bool, start: u32) -> bool
     ensures { result ≡ takes strategy has_op4 start }
 {

@@ -8,8 +8,8 @@ use nor_base::Strategy;
 /// The first address that three bytes can't say.
 pub const FAR: u32 = 1 << 24;
 
-/// Whether an address takes an opcode that has four address bytes in each mode (12h, 13h and their like; FF84h): in `S3`
-/// from [`FAR`] on.
+/// Whether an address takes an opcode that has four address bytes in each mode (12h, 13h and their
+/// like; FF84h): in `S3` from [`FAR`] on.
 pub fn takes_dedicated(strategy: Strategy, address: u32) -> bool
     ensures { result ≡ takes_dedicated strategy address }
 {

@@ -10,14 +10,17 @@ use nor_base::Meaning;
 /// The least window.
 const LEAST: u32 = 4096;
 
-/// Bytes of a window: the greatest size of a live erase kind, and at least 4096. It is a power of two up to 2^24.
+/// Bytes of a window: the greatest size of a live erase kind, and at least 4096. It is a power of
+/// two up to 2^24.
 ///
 /// Windows begin at its multiples; no legal block lies across the border of two, and no page.
 pub fn window_size(meaning: &Meaning) -> u32
     ensures size { IsWindowSize meaning.now result }
     ensures power { IsPowerOfTwo 12 24 result }
-    ensures blocks { (border : ℕ) → border % result ≡ 0 → (b : Block) → IsLegalBlock meaning.now b → IsUncrossed border b.start b.size }
-    ensures pages { (border start : ℕ) → border % result ≡ 0 → start % meaning.now.page ≡ 0 → IsUncrossed border start meaning.now.page }
+    ensures blocks { (border : ℕ) → border % result ≡ 0 → (b : Block) → IsLegalBlock meaning.now b
+        → IsUncrossed border b.start b.size }
+    ensures pages { (border start : ℕ) → border % result ≡ 0 → start % meaning.now.page ≡ 0
+        → IsUncrossed border start meaning.now.page }
 {
     meaning.acceptance();
     let mut window = LEAST;

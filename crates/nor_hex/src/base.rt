@@ -31,9 +31,11 @@ pub(crate) fn address(base: Base, offset: u16, index: usize) -> u32
 pub(crate) fn room(base: Base, offset: u16) -> usize
     ensures some { 0 < result }
     ensures fits { address_of base (offset + 0) + result ≤ 2 ^ 32 }
-    ensures straight { (i : ℕ) → i < result → address_of base (offset + i) ≡ address_of base (offset + 0) + i }
+    ensures straight { (i : ℕ) → i < result → address_of base (offset + i)
+        ≡ address_of base (offset + 0) + i }
     ensures rest_fits { address_of base (offset + result) + 255 ≤ 2 ^ 32 }
-    ensures wrapped { (i : ℕ) → i < 255 → address_of base (offset + (result + i)) ≡ address_of base (offset + result) + i }
+    ensures wrapped { (i : ℕ) → i < 255 → address_of base (offset + (result + i))
+        ≡ address_of base (offset + result) + i }
 {
     let offset = usize::from(offset);
     match base {

@@ -1,6 +1,7 @@
 //! Bytes as pairs of hexadecimal digits.
 
-ghost use Rattle.std.specs.Prelude.{◌≡◌, ◌<◌, ◌≤◌, ◌/◌, ◌%◌, IsTrue, length, take, slice_index, sum};
+ghost use Rattle.std.specs.Prelude.{◌≡◌, ◌<◌, ◌≤◌, ◌/◌, ◌%◌, IsTrue, length, take, slice_index};
+ghost use Rattle.std.specs.Prelude.{sum};
 ghost use Rattle.std.specs.List.{list_all};
 ghost use Rattle.hex.specs.Hex.{is_hex_digit};
 ghost use Rattle.nor_hex.specs.Record.{pair_bytes};

@@ -42,7 +42,8 @@ impl Image {
     /// next address that has none or up to FFFFFFFFh, with that lowest address; None where no
     /// address from `from` on has a byte. It takes no memory.
     pub fn run_from(&self, from: u32) -> Option<(u32, &[u8])>
-        ensures { MatchOption result (HasNoneFrom self.now from) (λ run. IsRunFrom self.now from run.0 run.1.now) }
+        ensures { MatchOption result (HasNoneFrom self.now from)
+            (λ run. IsRunFrom self.now from run.0 run.1.now) }
     {
         let segment = next_segment(&self.segments.list, from)?;
         let at = segment.first.max(from);
@@ -66,7 +67,8 @@ impl Image {
         ensures rising { IsStrictlyIncreasing (addresses self.now) }
         ensures below { HasNoneFrom self.now (2 ^ 32) }
         ensures few { length self.now < 2 ^ 63 }
-        ensures given { (address byte : ℕ) → (byte_at self.now address ≡ Some byte) ↔ Contains self.now (address, byte) }
+        ensures given { (address byte : ℕ) → (byte_at self.now address ≡ Some byte)
+            ↔ Contains self.now (address, byte) }
     {
         ImageIter {
             segments: self.segments.list.as_slice(),

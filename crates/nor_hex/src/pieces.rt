@@ -1,10 +1,12 @@
 //! The bytes that records gave so far.
 
-ghost use Rattle.std.specs.Prelude.{◌≡◌, ◌≢◌, ℕ, ◌+◌, ◌-◌, ◌^◌, ◌<◌, ◌≤◌, length, take, drop, OnOk, IfOk, IfErr, MatchOption};
+ghost use Rattle.std.specs.Prelude.{◌≡◌, ◌≢◌, ℕ, ◌+◌, ◌-◌, ◌^◌, ◌<◌, ◌≤◌, length, take, drop, OnOk};
+ghost use Rattle.std.specs.Prelude.{IfOk, IfErr, MatchOption};
 ghost use Rattle.std.specs.Ordering.{nat_cmp};
 ghost use Rattle.std.specs.BTreeMap.{get};
 ghost use Rattle.nor_hex.specs.declared.fault.HexFault.TheVariants.{Conflict, Memory};
-ghost use Rattle.nor_hex.specs.Pieces.{Gives, IsPieces, IsFree, IsNext, HasNoNext, AddsRun, ClashesRun, DiffersIn, Opens};
+ghost use Rattle.nor_hex.specs.Pieces.{Gives, IsPieces, IsFree, IsNext, HasNoNext, AddsRun};
+ghost use Rattle.nor_hex.specs.Pieces.{ClashesRun, DiffersIn, Opens};
 
 use crate::fault::HexFault;
 use std::alloc::Allocator;
@@ -34,12 +36,15 @@ pub(crate) fn add_run<A: Allocator + Clone>(
 ) -> Result<(), HexFault>
     requires fits { address + length bytes.now ≤ 2 ^ 32 }
     requires pieces { IsPieces (get nat_cmp pieces.old.by_last) pieces.old.bytes.items }
-    ensures pieces { OnOk result (IsPieces (get nat_cmp pieces.new.by_last) pieces.new.bytes.items) }
-    ensures added { OnOk result (AddsRun (Gives (get nat_cmp pieces.old.by_last) pieces.old.bytes.items)
+    ensures pieces { OnOk result
+        (IsPieces (get nat_cmp pieces.new.by_last) pieces.new.bytes.items) }
+    ensures added { OnOk result
+        (AddsRun (Gives (get nat_cmp pieces.old.by_last) pieces.old.bytes.items)
         (Gives (get nat_cmp pieces.new.by_last) pieces.new.bytes.items) address bytes.now) }
     ensures line { IfErr result (λ fault. fault ≢ Memory → fault ≡ Conflict line) }
     ensures clash { IfErr result (λ fault. fault ≢ Memory
-        → ClashesRun (Gives (get nat_cmp pieces.old.by_last) pieces.old.bytes.items) address bytes.now) }
+        → ClashesRun (Gives (get nat_cmp pieces.old.by_last) pieces.old.bytes.items) address
+        bytes.now) }
 {
     let mut done = 0;
     while done < bytes.len() {
@@ -61,12 +66,16 @@ fn add_part<A: Allocator + Clone>(
     requires pieces { IsPieces (get nat_cmp pieces.old.by_last) pieces.old.bytes.items }
     ensures some { IfOk result (λ count. 0 < count) }
     ensures fits { IfOk result (λ count. count ≤ length bytes.now) }
-    ensures pieces { OnOk result (IsPieces (get nat_cmp pieces.new.by_last) pieces.new.bytes.items) }
-    ensures added { IfOk result (λ count. AddsRun (Gives (get nat_cmp pieces.old.by_last) pieces.old.bytes.items)
-        (Gives (get nat_cmp pieces.new.by_last) pieces.new.bytes.items) address (take count bytes.now)) }
+    ensures pieces { OnOk result
+        (IsPieces (get nat_cmp pieces.new.by_last) pieces.new.bytes.items) }
+    ensures added { IfOk result
+        (λ count. AddsRun (Gives (get nat_cmp pieces.old.by_last) pieces.old.bytes.items)
+        (Gives (get nat_cmp pieces.new.by_last) pieces.new.bytes.items) address
+        (take count bytes.now)) }
     ensures line { IfErr result (λ fault. fault ≢ Memory → fault ≡ Conflict line) }
     ensures clash { IfErr result (λ fault. fault ≢ Memory
-        → ClashesRun (Gives (get nat_cmp pieces.old.by_last) pieces.old.bytes.items) address bytes.now) }
+        → ClashesRun (Gives (get nat_cmp pieces.old.by_last) pieces.old.bytes.items) address
+        bytes.now) }
 {
     let count = match free_from(pieces, address, bytes.len()) {
         Ok(count) => count,
@@ -96,7 +105,8 @@ fn free_from<A: Allocator>(
     ensures some { IfOk result (λ count. 0 < count) }
     ensures fits { IfOk result (λ count. count ≤ len) }
     ensures free { IfOk result (λ count. IsFree (get nat_cmp pieces.now.by_last) address count) }
-    ensures next { IfErr result (λ found. IsNext (get nat_cmp pieces.now.by_last) address found.0 found.1) }
+    ensures next { IfErr result
+        (λ found. IsNext (get nat_cmp pieces.now.by_last) address found.0 found.1) }
     ensures from { IfErr result (λ found. found.1.first ≤ address) }
 {
     match next_piece(&pieces.by_last, address) {
@@ -132,10 +142,14 @@ fn repeat_part(
     requires to { address ≤ last }
     requires inside { piece.place + (last - piece.first) < length given.now }
     ensures some { IfOk result (λ count. 0 < count) }
-    ensures fits { IfOk result (λ count. (count ≤ length bytes.now) × (address + count ≤ last + 1)) }
-    ensures same { IfOk result (λ count. take count (drop (piece.place + (address - piece.first)) given.now) ≡ take count bytes.now) }
+    ensures fits { IfOk result (λ count. (count ≤ length bytes.now)
+        × (address + count ≤ last + 1)) }
+    ensures same { IfOk result
+        (λ count. take count (drop (piece.place + (address - piece.first)) given.now)
+        ≡ take count bytes.now) }
     ensures clash { IfErr result (λ fault. (fault ≡ Conflict line)
-        × DiffersIn (drop (piece.place + (address - piece.first)) given.now) bytes.now (last + 1 - address)) }
+        × DiffersIn (drop (piece.place + (address - piece.first)) given.now) bytes.now
+        (last + 1 - address)) }
 {
     let count = bytes.len().min((last - address) as usize + 1);
     let place = piece.place as usize + (address - piece.first) as usize;
@@ -153,7 +167,8 @@ fn open_piece<A: Allocator + Clone>(
     place: u32,
     address: u32,
 ) -> Piece
-    requires { (last : ℕ) (piece : Piece) → get nat_cmp by_last.old last ≡ Some piece → piece.first ≤ last }
+    requires { (last : ℕ) (piece : Piece) → get nat_cmp by_last.old last ≡ Some piece
+        → piece.first ≤ last }
     ensures { Opens (get nat_cmp by_last.old) (get nat_cmp by_last.new) place address result }
 {
     if let Some(last) = address.checked_sub(1)

@@ -56,8 +56,8 @@ pub fn read(alloc: Global, text: &[u8]) -> Result<Image, HexFault>
 }
 
 /// Adds what a record with these data bytes says, and answers the base after it: of a data record a
-/// run up to where the addresses wrap, and one from there on. A byte for an address that has another
-/// byte is `Conflict`.
+/// run up to where the addresses wrap, and one from there on. A byte for an address that has
+/// another byte is `Conflict`.
 fn add_record<A: Allocator + Clone>(
     pieces: &mut Pieces<A>,
     base: Base,
@@ -68,8 +68,10 @@ fn add_record<A: Allocator + Clone>(
     requires few { length bytes.now ≤ 255 }
     requires pieces { IsPieces (get nat_cmp pieces.old.by_last) pieces.old.bytes.items }
     ensures base { IfOk result (λ next. next ≡ base_past base line.now) }
-    ensures pieces { OnOk result (IsPieces (get nat_cmp pieces.new.by_last) pieces.new.bytes.items) }
-    ensures bytes { OnOk result (AddsRecord base line.now (Gives (get nat_cmp pieces.old.by_last) pieces.old.bytes.items)
+    ensures pieces { OnOk result
+        (IsPieces (get nat_cmp pieces.new.by_last) pieces.new.bytes.items) }
+    ensures bytes { OnOk result
+        (AddsRecord base line.now (Gives (get nat_cmp pieces.old.by_last) pieces.old.bytes.items)
         (Gives (get nat_cmp pieces.new.by_last) pieces.new.bytes.items)) }
     ensures line { IfErr result (λ fault. fault ≢ Memory → fault ≡ Conflict line.now.line) }
     ensures clash { IfErr result (λ fault. fault ≢ Memory

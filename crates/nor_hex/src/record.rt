@@ -1,9 +1,11 @@
 //! One record.
 
-ghost use Rattle.std.specs.Prelude.{◌≡◌, ◌+◌, ◌*◌, ◌<◌, ◌≤◌, true, IsTrue, IfOk, length, take, drop, slice_index};
+ghost use Rattle.std.specs.Prelude.{◌≡◌, ◌+◌, ◌*◌, ◌<◌, ◌≤◌, true, IsTrue, IfOk, length, take};
+ghost use Rattle.std.specs.Prelude.{drop, slice_index};
 ghost use Rattle.std.specs.List.{list_all};
 ghost use Rattle.hex.specs.Hex.{is_hex_digit};
-ghost use Rattle.nor_hex.specs.Record.{record_of, pair_bytes, has_length, fits_type, length_field, offset_field, data_field};
+ghost use Rattle.nor_hex.specs.Record.{record_of, pair_bytes, has_length, fits_type, length_field};
+ghost use Rattle.nor_hex.specs.Record.{offset_field, data_field};
 
 use crate::digits::{are_digits, decode, pair};
 use crate::fault::HexFault;
@@ -27,7 +29,8 @@ impl<'a> Model for HexLine<'a> {
 
     ghost Value = { Record };
 
-    ghost view = { λ s. record { kind = s.kind; offset = s.offset; bytes = pair_bytes s.digits.now; line = s.line } };
+    ghost view = { λ s. record
+        { kind = s.kind; offset = s.offset; bytes = pair_bytes s.digits.now; line = s.line } };
 
     ghost invariant = { λ s. IsComplete s.kind s.digits.now };
 }

@@ -1,16 +1,19 @@
 //! Bytes at rising addresses, in segments.
 
-ghost use Rattle.std.specs.Prelude.{◌≡◌, ℕ, List, slice_get, Some, ◌+◌, ◌++◌, ◌<◌, ◌≤◌, length, OnOk, IfOk, IfSome, MatchOption};
+ghost use Rattle.std.specs.Prelude.{◌≡◌, ℕ, List, slice_get, Some, ◌+◌, ◌++◌, ◌<◌, ◌≤◌, length};
+ghost use Rattle.std.specs.Prelude.{OnOk, IfOk, IfSome, MatchOption};
 ghost use Rattle.std.specs.Ordering.{nat_cmp};
 ghost use Rattle.std.specs.BTreeMap.{get};
 ghost use Rattle.nor_hex.specs.declared.segments.Segment.{Segment};
 ghost use Rattle.nor_hex.specs.Pieces.{Gives, IsPieces, IsNext, HasNoNext};
-ghost use Rattle.nor_hex.specs.Segments.{Holds, IsSegments, AreBelow, EndsAt, total, SameBytes, IsOnly, IsJoined, IsNextSegment};
+ghost use Rattle.nor_hex.specs.Segments.{Holds, IsSegments, AreBelow, EndsAt, total, SameBytes};
+ghost use Rattle.nor_hex.specs.Segments.{IsOnly, IsJoined, IsNextSegment};
 
 use crate::pieces::{Piece, Pieces, next_piece};
 use std::alloc::{AllocError, Allocator};
 
-/// Bytes at gapless addresses: the lowest and the highest of these, and the place of the first byte.
+/// Bytes at gapless addresses: the lowest and the highest of these, and the place of the first
+/// byte.
 #[derive(Clone, Copy)]
 pub(crate) struct Segment {
     pub(crate) first: u32,
@@ -33,7 +36,8 @@ pub(crate) fn joined<A: Allocator + Clone>(
     pieces: Pieces<A>,
 ) -> Result<Segments<A>, AllocError>
     requires { IsPieces (get nat_cmp pieces.by_last) pieces.bytes.items }
-    ensures { IfOk result (λ segments. SameBytes (Gives (get nat_cmp pieces.by_last) pieces.bytes.items)
+    ensures { IfOk result
+        (λ segments. SameBytes (Gives (get nat_cmp pieces.by_last) pieces.bytes.items)
         (Holds segments.list.items segments.bytes.items)) }
 {
     if let Some(segment) = only_segment(&pieces) {
@@ -53,7 +57,8 @@ fn joined_anew<A: Allocator + Clone>(
     pieces: &Pieces<A>,
 ) -> Result<Segments<A>, AllocError>
     requires { IsPieces (get nat_cmp pieces.now.by_last) pieces.now.bytes.items }
-    ensures { IfOk result (λ segments. SameBytes (Gives (get nat_cmp pieces.now.by_last) pieces.now.bytes.items)
+    ensures { IfOk result
+        (λ segments. SameBytes (Gives (get nat_cmp pieces.now.by_last) pieces.now.bytes.items)
         (Holds segments.list.items segments.bytes.items)) }
 {
     let mut list = Vec::new(alloc.clone()?);
@@ -81,7 +86,9 @@ fn piece_from<A: Allocator>(pieces: &Pieces<A>, from: u64) -> Option<(u32, Piece
 /// The one piece as a segment, where it has all bytes.
 fn only_segment<A: Allocator>(pieces: &Pieces<A>) -> Option<Segment>
     requires { IsPieces (get nat_cmp pieces.now.by_last) pieces.now.bytes.items }
-    ensures { IfSome result (λ segment. IsOnly (get nat_cmp pieces.now.by_last) (length pieces.now.bytes.items) segment) }
+    ensures { IfSome result
+        (λ segment. IsOnly (get nat_cmp pieces.now.by_last) (length pieces.now.bytes.items)
+        segment) }
 {
     let (last, piece) = piece_from(pieces, 0)?;
     if piece.place == 0
@@ -108,7 +115,8 @@ fn add_segment<A: Allocator + Clone>(
     requires rises { first ≤ last }
     requires below { AreBelow first list.old.items }
     requires place { EndsAt list.old.items place }
-    ensures { OnOk result ((bytes run : List ℕ) → IsSegments list.old.items bytes → length bytes ≡ place
+    ensures { OnOk result ((bytes run : List ℕ) → IsSegments list.old.items bytes
+        → length bytes ≡ place
         → first + length run ≡ last + 1
         → IsJoined list.old.items bytes list.new.items (bytes ++ run) first run) }
 {
@@ -126,9 +134,11 @@ fn add_segment<A: Allocator + Clone>(
 
 /// The first segment that ends at an address or past it.
 pub(crate) fn next_segment(list: &[Segment], from: u32) -> Option<Segment>
-    requires { (i : ℕ) (s : Segment) (j : ℕ) (t : Segment) → slice_get list.now i ≡ Some s → slice_get list.now j ≡ Some t
+    requires { (i : ℕ) (s : Segment) (j : ℕ) (t : Segment) → slice_get list.now i ≡ Some s
+        → slice_get list.now j ≡ Some t
         → i ≤ j → s.last ≤ t.last }
-    ensures { MatchOption result (AreBelow from list.now) (λ segment. IsNextSegment list.now from segment) }
+    ensures { MatchOption result (AreBelow from list.now)
+        (λ segment. IsNextSegment list.now from segment) }
 {
     list.get(list.partition_point(|segment| segment.last < from))
         .copied()

@@ -9,7 +9,8 @@ ghost use Rattle.nor_hex_out.specs.Laws.{GivesJust, PartsJoin, NoneHaveNone, Wri
 use nor_hex::{HexFault, Image, read, records};
 use std::alloc::Global;
 
-/// The records of bytes are those of their parts, where each part except the first begins a segment.
+/// The records of bytes are those of their parts, where each part except the first begins a
+/// segment.
 pub fn parts_join()
     ensures join { PartsJoin }
     ensures none { NoneHaveNone }
@@ -18,9 +19,11 @@ pub fn parts_join()
 /// Reads a text. What was written for bytes is no fault, and gives just these bytes at their
 /// addresses; `Memory` comes only where a growth is refused.
 pub fn read_back(alloc: Global, text: &[u8]) -> Result<Image, HexFault>
-    ensures just { (at : ℕ) (bytes : List ℕ) → are_bytes bytes ≡ true → at + length bytes ≤ 2 ^ 32 → text.now ≡ hex_text at bytes
+    ensures just { (at : ℕ) (bytes : List ℕ) → are_bytes bytes ≡ true → at + length bytes ≤ 2 ^ 32
+        → text.now ≡ hex_text at bytes
         → IfOk result (GivesJust at bytes) }
-    ensures read { (at : ℕ) (bytes : List ℕ) → are_bytes bytes ≡ true → at + length bytes ≤ 2 ^ 32 → text.now ≡ hex_text at bytes
+    ensures read { (at : ℕ) (bytes : List ℕ) → are_bytes bytes ≡ true → at + length bytes ≤ 2 ^ 32
+        → text.now ≡ hex_text at bytes
         → IfErr result (λ fault. fault ≡ Memory) }
 {
     let _records = records(text);

@@ -1,6 +1,7 @@
 //! One record.
 
-ghost use Rattle.std.specs.Prelude.{◌≡◌, ◌+◌, ◌-◌, ◌<◌, ◌≤◌, ◌%◌, ◌^◌, ◌∷◌, ◌++◌, [], length, sum, slice_index};
+ghost use Rattle.std.specs.Prelude.{◌≡◌, ◌+◌, ◌-◌, ◌<◌, ◌≤◌, ◌%◌, ◌^◌, ◌∷◌, ◌++◌, [], length, sum};
+ghost use Rattle.std.specs.Prelude.{slice_index};
 ghost use Rattle.arrayvec.specs.ArrayVec.{array_vec_len};
 ghost use Rattle.hex.specs.Hex.{encode_upper, upper_digits};
 ghost use Rattle.nor_base.specs.Device.{Writes, Counts};
@@ -43,7 +44,8 @@ pub(crate) fn put_record<W: ByteOut>(
 /// The bytes of a record.
 fn bytes_of(kind: u8, offset: u16, data: &[u8]) -> ArrayVec<u8, MOST_BYTES>
     requires { length data.now ≤ 32 }
-    ensures bytes { result.items ≡ record_bytes (record { kind = kind; offset = offset; bytes = data.now }) }
+    ensures bytes { result.items ≡ record_bytes
+        (record { kind = kind; offset = offset; bytes = data.now }) }
     ensures few { length result.items ≤ 37 }
 {
     let mut bytes = fields_of(kind, offset, data);
@@ -55,7 +57,8 @@ fn bytes_of(kind: u8, offset: u16, data: &[u8]) -> ArrayVec<u8, MOST_BYTES>
 /// The bytes before the checksum.
 fn fields_of(kind: u8, offset: u16, data: &[u8]) -> ArrayVec<u8, MOST_BYTES>
     requires { length data.now ≤ 32 }
-    ensures bytes { result.items ≡ fields (record { kind = kind; offset = offset; bytes = data.now }) }
+    ensures bytes { result.items
+        ≡ fields (record { kind = kind; offset = offset; bytes = data.now }) }
     ensures few { array_vec_len result ≤ 36 }
 {
     let mut bytes = ArrayVec::new();

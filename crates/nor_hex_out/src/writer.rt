@@ -47,7 +47,8 @@ fn room(at: u32) -> usize
 pub fn write_data<W: ByteOut>(at: u32, bytes: &[u8], out: &mut W) -> Result<(), Failed>
     requires inside { at % 65536 + length bytes.now ≤ 65536 }
     requires room { W.count out.old < 2 ^ 64 - 1 }
-    ensures bytes { Writes (W.held out.old) (W.held out.new) result (text_of (image_records at bytes.now)) }
+    ensures bytes { Writes (W.held out.old) (W.held out.new) result
+        (text_of (image_records at bytes.now)) }
     ensures count { Counts (W.count out.old) (W.count out.new) result }
 {
     if bytes.is_empty() {
@@ -66,7 +67,8 @@ pub fn write_data<W: ByteOut>(at: u32, bytes: &[u8], out: &mut W) -> Result<(), 
 fn put_rows<W: ByteOut>(offset: u16, bytes: &[u8], out: &mut W) -> Result<(), Failed>
     requires inside { offset + length bytes.now ≤ 65536 }
     requires room { W.count out.old < 2 ^ 64 - 1 }
-    ensures bytes { Writes (W.held out.old) (W.held out.new) result (text_of (rows offset bytes.now)) }
+    ensures bytes { Writes (W.held out.old) (W.held out.new) result
+        (text_of (rows offset bytes.now)) }
     ensures count { Counts (W.count out.old) (W.count out.new) result }
 {
     for number in 0..bytes.len().div_ceil(ROW) {

@@ -9,7 +9,8 @@ use nor_base::{ByteIn, fill_from};
 
 /// Fills an array with the content's next bytes.
 ///
-/// `ContentShort` where the reader ends before the array does, `Read` where it fails. It takes no memory.
+/// `ContentShort` where the reader ends before the array does, `Read` where it fails. It takes no
+/// memory.
 pub fn fill_window<R: ByteIn>(content: &mut R, window: &mut [u8]) -> Result<(), BuildFault>
     requires { R.count content.old < 2 ^ 64 - 1 }
     ensures bytes { FillsWindow (R.ahead content.old) (R.ahead content.new) result window.new }

@@ -55,8 +55,9 @@ impl<'a> Model for Inputs<'a> {
     ghost view = { task_of };
 }
 
-/// The first contradiction of the inputs, by its number: 1 regions are named without a layout; 2 a status with part
-/// Generic; 3 a status together with `mode4` or `quad`; 4 a uniform chip of part W25q256jv.
+/// The first contradiction of the inputs, by its number: 1 regions are named without a layout; 2 a
+/// status with part Generic; 3 a status together with `mode4` or `quad`; 4 a uniform chip of part
+/// W25q256jv.
 #[tactic(auto, unfolding(crate::specs::Task::contradiction))]
 pub fn contradiction(inputs: &Inputs<'_>) -> Option<u8>
     ensures { result ≡ contradiction inputs.now }

@@ -35,15 +35,17 @@ pub struct Job {
     pub verify: bool,
 }
 
-/// What the inputs ask for, of a chip whose content has `len` bytes. It looks at them in the order of the faults up to
-/// `ContentSize`: the one told is the first that they have.
+/// What the inputs ask for, of a chip whose content has `len` bytes. It looks at them in the order
+/// of the faults up to `ContentSize`: the one told is the first that they have.
 ///
-/// `Contradiction`, `Hex`, `Layout` (its text, then the names), `Sfdp`, `Status`, `ModeImpossible` and `ContentSize`
-/// have their causes at [`BuildFault`]; `Memory` where a growth was refused; accepted inputs are refused for that alone.
+/// `Contradiction`, `Hex`, `Layout` (its text, then the names), `Sfdp`, `Status`, `ModeImpossible`
+/// and `ContentSize` have their causes at [`BuildFault`]; `Memory` where a growth was refused;
+/// accepted inputs are refused for that alone.
 pub fn job_of(alloc: Global, inputs: &Inputs<'_>, len: u64) -> Result<Job, BuildFault>
     ensures job { IfOk result (IsJob inputs.now len) }
     ensures refused { IfErr result (RefusesInputs inputs.now len) }
-    ensures only_memory { (image : Pairs) (regions : List Region) (m : Parameters) → AreAccepted inputs.now len image regions m
+    ensures only_memory { (image : Pairs) (regions : List Region) (m : Parameters)
+        → AreAccepted inputs.now len image regions m
         → IfErr result (λ fault. fault ≡ Memory) }
 {
     consistent(inputs)?;
@@ -74,11 +76,14 @@ fn consistent(inputs: &Inputs<'_>) -> Result<(), BuildFault>
 
 /// The chosen addresses; without a layout no region is named, and the whole chip is chosen.
 ///
-/// `Layout` tells the layout's first fault, or the first name that no region has; `Memory` where a growth was refused.
+/// `Layout` tells the layout's first fault, or the first name that no region has; `Memory` where a
+/// growth was refused.
 fn choose(alloc: Global, inputs: &Inputs<'_>) -> Result<Chosen, BuildFault>
     requires { (image : Pairs) × HasImage inputs.now image }
-    ensures chosen { (image : Pairs) → HasImage inputs.now image → IfOk result (λ chosen. (regions : List Region)
-        × HasRegions inputs.now image regions × ((a : ℕ) → has chosen a ≡ is_chosen regions inputs.now.regions a)) }
+    ensures chosen { (image : Pairs) → HasImage inputs.now image
+        → IfOk result (λ chosen. (regions : List Region)
+        × HasRegions inputs.now image regions
+        × ((a : ℕ) → has chosen a ≡ is_chosen regions inputs.now.regions a)) }
     ensures refused { IfErr result (λ fault. (len : ℕ) → RefusesInputs inputs.now len fault) }
     ensures accepted { (image : Pairs) (regions : List Region) → HasRegions inputs.now image regions
         → IfErr result (λ fault. fault ≡ Memory) }
@@ -91,15 +96,17 @@ fn choose(alloc: Global, inputs: &Inputs<'_>) -> Result<Chosen, BuildFault>
     Ok(layout.choose(alloc, inputs.regions)?)
 }
 
-/// The chip and how it begins. `Sfdp`, `Status` and `ModeImpossible` as [`chip_of`] tells them; else `ContentSize` where
-/// the content's length isn't the chip's size.
+/// The chip and how it begins. `Sfdp`, `Status` and `ModeImpossible` as [`chip_of`] tells them;
+/// else `ContentSize` where the content's length isn't the chip's size.
 fn sized_chip(inputs: &Inputs<'_>, len: u64) -> Result<(Meaning, Start), BuildFault>
-    requires named { (image : Pairs) × (regions : List Region) × HasRegions inputs.now image regions }
+    requires named { (image : Pairs) × (regions : List Region)
+        × HasRegions inputs.now image regions }
     ensures chip { (image : Pairs) (regions : List Region) → HasRegions inputs.now image regions
         → IfOk result (λ chip. AreAccepted inputs.now len image regions chip.0) }
     ensures start { IfOk result (λ chip. chip.1 ≡ start_of inputs.now) }
     ensures refused { IfErr result (RefusesInputs inputs.now len) }
-    ensures accepted { (image : Pairs) (regions : List Region) (m : Parameters) → AreAccepted inputs.now len image regions m
+    ensures accepted { (image : Pairs) (regions : List Region) (m : Parameters)
+        → AreAccepted inputs.now len image regions m
         → IsOk result }
 {
     let (meaning, start) = chip_of(inputs)?;

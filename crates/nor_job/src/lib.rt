@@ -1,6 +1,8 @@
-//! What a build is asked for, in which order its inputs are refused, and what has to be done once they are accepted.
+//! What a build is asked for, in which order its inputs are refused, and what has to be done once
+//! they are accepted.
 //!
-//! [`job_of`] looks at all of them; [`contradiction`] and [`chip_of`] look at the parts that need neither image nor layout.
+//! [`job_of`] looks at all of them; [`contradiction`] and [`chip_of`] look at the parts that need
+//! neither image nor layout.
 #![tactic(auto)]
 
 mod chip;

@@ -16,7 +16,8 @@ use nor_layout::Region;
 use nor_target::first_empty;
 use std::alloc::Global;
 
-/// The chosen regions of the inputs' layout, in the order of their names; where none is named the whole chip, of `size` bytes.
+/// The chosen regions of the inputs' layout, in the order of their names; where none is named the
+/// whole chip, of `size` bytes.
 ///
 /// `Layout` where the layout is refused; `Memory` where a growth is.
 pub fn chosen_regions<'a>(
@@ -27,7 +28,8 @@ pub fn chosen_regions<'a>(
     requires { 0 < size }
     ensures regions { (regions : List NamedRegion) → LayoutSays inputs.now.layout regions
         → IfOk result (λ chosen. chosen.items ≡ chosen_regions regions inputs.now.regions size) }
-    ensures only_memory { (regions : List NamedRegion) → LayoutSays inputs.now.layout regions → IfErr result (λ fault. fault ≡ Memory) }
+    ensures only_memory { (regions : List NamedRegion) → LayoutSays inputs.now.layout regions
+        → IfErr result (λ fault. fault ≡ Memory) }
 {
     let Some(text) = inputs.layout else {
         let none: &[Region<'a>] = &[];
@@ -37,8 +39,9 @@ pub fn chosen_regions<'a>(
     Ok(nor_target::chosen_regions(alloc, layout.regions(), inputs.regions, size)?)
 }
 
-/// The index, from 0, of the first chosen region to which the image gives no byte, of inputs that a build accepts whose content
-/// has `len` bytes. Where no region is named, the whole chip is the only one.
+/// The index, from 0, of the first chosen region to which the image gives no byte, of inputs that a
+/// build accepts whose content has `len` bytes. Where no region is named, the whole chip is the
+/// only one.
 ///
 /// Each fault that [`job_of`] has.
 pub fn empty_region(
@@ -47,9 +50,11 @@ pub fn empty_region(
     len: u64,
 ) -> Result<Option<usize>, BuildFault>
     ensures found { IfOk result (HasFirstEmpty inputs.now len) }
-    ensures only { (index : Option ℕ) → HasFirstEmpty inputs.now len index → IfOk result (λ found. found ≡ index) }
+    ensures only { (index : Option ℕ) → HasFirstEmpty inputs.now len index
+        → IfOk result (λ found. found ≡ index) }
     ensures refused { IfErr result (RefusesInputs inputs.now len) }
-    ensures only_memory { (image : Pairs) (regions : List NamedRegion) (m : Parameters) → AreAccepted inputs.now len image regions m
+    ensures only_memory { (image : Pairs) (regions : List NamedRegion) (m : Parameters)
+        → AreAccepted inputs.now len image regions m
         → IfErr result (λ fault. fault ≡ Memory) }
 {
     let job = job_of(alloc, inputs, len)?;

@@ -29,8 +29,8 @@ pub(crate) fn start_of(inputs: &Inputs<'_>) -> Start
     }
 }
 
-/// Why a chip of this status isn't idle and unprotected, by its number: 1 busy, 2 latched, 3 suspended, 4 protected, the
-/// first of these.
+/// Why a chip of this status isn't idle and unprotected, by its number: 1 busy, 2 latched, 3
+/// suspended, 4 protected, the first of these.
 #[tactic(auto, unfolding(crate::specs::Status::status_fault))]
 pub(crate) fn status_fault(status: Option<u32>) -> Option<u8>
     ensures { result ≡ status_fault status }

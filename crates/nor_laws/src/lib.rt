@@ -1,19 +1,30 @@
-//! Laws of the definitions that the whole project is proved against, and values of them worked out by hand. Each
-//! function does nothing: its contract is the law, and the gate proves it.
+//! Laws of the definitions that the whole project is proved against, and values of them worked out
+//! by hand. Each function does nothing: its contract is the law, and the gate proves it.
 #![tactic(auto)]
 
 pub mod worked;
 
-ghost use Rattle.nor_laws.specs.Spelling.{HasSpelling, OneSpelling, SameSpelling, PollIsFixed, VerifyKeeps};
-ghost use Rattle.nor_laws.specs.Laws.{SymbolsFound, SamplesApart, OneText, OneList, TextsApart, NoProperPrefix, OneRow, FindsRow, RowFound, LegalInRegion, LegalOnChip, RegionLegal, BlocksNest, KeepsSize, AsksSampled, GivesSampled, PollEnds, PollCount, PollNeedsAll, BoundedIsRun, EventsAreTrail, RunEndsTrail, ProgramPutsByte, RaisedForByte, NotErasedForByte, ProgramKeepsOthers, ProgramJudgedByPage, EraseFills, EraseKeepsOthers, EraseNeverJudged, TargetKeeps, TargetGives, FirstInParts, GivesInParts};
+ghost use Rattle.nor_laws.specs.Spelling.{HasSpelling, OneSpelling, SameSpelling, PollIsFixed};
+ghost use Rattle.nor_laws.specs.Spelling.{VerifyKeeps};
+ghost use Rattle.nor_laws.specs.Laws.{SymbolsFound, SamplesApart, OneText, OneList, TextsApart};
+ghost use Rattle.nor_laws.specs.Laws.{NoProperPrefix, OneRow, FindsRow, RowFound, LegalInRegion};
+ghost use Rattle.nor_laws.specs.Laws.{LegalOnChip, RegionLegal, BlocksNest, KeepsSize, AsksSampled};
+ghost use Rattle.nor_laws.specs.Laws.{GivesSampled, PollEnds, PollCount, PollNeedsAll};
+ghost use Rattle.nor_laws.specs.Laws.{BoundedIsRun, EventsAreTrail, RunEndsTrail, ProgramPutsByte};
+ghost use Rattle.nor_laws.specs.Laws.{RaisedForByte, NotErasedForByte, ProgramKeepsOthers};
+ghost use Rattle.nor_laws.specs.Laws.{ProgramJudgedByPage, EraseFills, EraseKeepsOthers};
+ghost use Rattle.nor_laws.specs.Laws.{EraseNeverJudged, TargetKeeps, TargetGives, FirstInParts};
+ghost use Rattle.nor_laws.specs.Laws.{GivesInParts};
 
-/// A clock is found by its symbol, and no two clocks have the same lanes: a list of samples means its instruction.
+/// A clock is found by its symbol, and no two clocks have the same lanes: a list of samples means
+/// its instruction.
 pub fn symbols()
     ensures found { SymbolsFound }
     ensures apart { SamplesApart }
 {}
 
-/// A list of steps has one text, a text has one list of steps, and no script text is a proper prefix of another.
+/// A list of steps has one text, a text has one list of steps, and no script text is a proper
+/// prefix of another.
 pub fn script_texts()
     ensures one_text { OneText }
     ensures one_list { OneList }
@@ -21,15 +32,16 @@ pub fn script_texts()
     ensures no_proper_prefix { NoProperPrefix }
 {}
 
-/// In an accepted meaning an opcode has at most one row of the instruction table, and the first match is that row.
+/// In an accepted meaning an opcode has at most one row of the instruction table, and the first
+/// match is that row.
 pub fn instruction_rows()
     ensures one { OneRow }
     ensures found { FindsRow }
     ensures finds { RowFound }
 {}
 
-/// A block is legal exactly where it is aligned and lies in one region that allows its kind. In an accepted meaning it lies
-/// on the chip, and two legal blocks are disjoint, or one holds the other.
+/// A block is legal exactly where it is aligned and lies in one region that allows its kind. In an
+/// accepted meaning it lies on the chip, and two legal blocks are disjoint, or one holds the other.
 pub fn legal_blocks()
     ensures region { LegalInRegion }
     ensures legal { RegionLegal }
@@ -37,15 +49,16 @@ pub fn legal_blocks()
     ensures nest { BlocksNest }
 {}
 
-/// A transaction keeps the size of the array, and on an array of the chip's size it gives as many bytes as its clocks
-/// sample.
+/// A transaction keeps the size of the array, and on an array of the chip's size it gives as many
+/// bytes as its clocks sample.
 pub fn effects()
     ensures keeps { KeepsSize }
     ensures asks { AsksSampled }
     ensures gives { GivesSampled }
 {}
 
-/// A poll on a chip with n status reads left makes n + 1 of them, no fewer, ends idle and changes nothing else.
+/// A poll on a chip with n status reads left makes n + 1 of them, no fewer, ends idle and changes
+/// nothing else.
 pub fn polls()
     ensures ends { PollEnds }
     ensures count { PollCount }
@@ -57,14 +70,15 @@ pub fn run_events()
     ensures { EventsAreTrail }
 {}
 
-/// With a bound on polls above all that is left busy, now and later, a run is the run without a bound.
+/// With a bound on polls above all that is left busy, now and later, a run is the run without a
+/// bound.
 pub fn bounded_runs()
     ensures { BoundedIsRun }
 {}
 
-/// A program clears the bits that its bytes say. It is Raised just for a byte that would set one or, under the profile of
-/// erased bytes, NotErased just for a byte over one that isn't FFh. It changes no byte outside its page, and isn't refused
-/// for bytes elsewhere.
+/// A program clears the bits that its bytes say. It is Raised just for a byte that would set one
+/// or, under the profile of erased bytes, NotErased just for a byte over one that isn't FFh. It
+/// changes no byte outside its page, and isn't refused for bytes elsewhere.
 pub fn programs()
     ensures puts { ProgramPutsByte }
     ensures raised { RaisedForByte }
@@ -91,14 +105,15 @@ pub fn targets()
     ensures gives { TargetGives }
 {}
 
-/// What a reader gives in two parts it gives, and what is ahead of it is what it gives first and then the rest.
+/// What a reader gives in two parts it gives, and what is ahead of it is what it gives first and
+/// then the rest.
 pub fn readers()
     ensures parts { GivesInParts }
     ensures first { FirstInParts }
 {}
 
-/// An instruction whose opcode has a row of the table that agrees with it, and that fits its clocks, is spelled by them, and by
-/// no others. A poll has just its clocks on every chip.
+/// An instruction whose opcode has a row of the table that agrees with it, and that fits its
+/// clocks, is spelled by them, and by no others. A poll has just its clocks on every chip.
 pub fn spelling()
     ensures has { HasSpelling }
     ensures one { OneSpelling }
@@ -106,7 +121,8 @@ pub fn spelling()
     ensures poll { PollIsFixed }
 {}
 
-/// A verifying read leaves the chip as it was: what samples and isn't a status read is a read of the array.
+/// A verifying read leaves the chip as it was: what samples and isn't a status read is a read of
+/// the array.
 pub fn verifying_reads()
     ensures { VerifyKeeps }
 {}

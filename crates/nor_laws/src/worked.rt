@@ -1,11 +1,29 @@
-//! Values of the definitions, worked out by hand. Each function does nothing: its contract is the values, and the gate
-//! computes them.
+//! Values of the definitions, worked out by hand. Each function does nothing: its contract is the
+//! values, and the gate computes them.
 
 ghost use Rattle.std.specs.Prelude.{true, false};
-ghost use Rattle.nor_laws.specs.Worked.{EnableSetsLatch, ProgramWrites, PollWaits, PollCountsThree, TimesInTurn, NoTimeLeft, BusyIgnores, ProgramWraps, LastByteCounts, RaiseIsWrong, NoLatchIgnores, EnterPlain, EnterLatched, LeaveLatched, EnterNeedsLatch, QuadProgramsAndReads, DedicatedErase, EraseInMidBlock, BrokenIsIgnored, UnknownOpcode, SevenClocks, ReadsLastByte, ReadPastEnd, OneByteText, OneByteTextLength, OneByteRun, WidestIsAccepted, BlocksOfMap, NoBlocksOfMap, TargetOfOne, TargetAtTheEnd, IgnoredOfFour};
-ghost use Rattle.nor_laws.specs.Stops.{ReadsAnother, LongPollIdle, LongPollBusy, VerifiesStatus, VerifiesNothing, NineClocks, LatchIsLeft, BusyIsLeft, QuadOff, LatchFirst, StatusOfLatch, StatusOfBusy, CoversKept, CoversKeptElsewhere, RoundInLeast, OnInLarger};
+ghost use Rattle.nor_laws.specs.Worked.{EnableSetsLatch, ProgramWrites, PollWaits, PollCountsThree};
+ghost use Rattle.nor_laws.specs.Worked.{TimesInTurn, NoTimeLeft, BusyIgnores, ProgramWraps};
+ghost use Rattle.nor_laws.specs.Worked.{LastByteCounts, RaiseIsWrong, NoLatchIgnores, EnterPlain};
+ghost use Rattle.nor_laws.specs.Worked.{EnterLatched, LeaveLatched, EnterNeedsLatch};
+ghost use Rattle.nor_laws.specs.Worked.{QuadProgramsAndReads, DedicatedErase, EraseInMidBlock};
+ghost use Rattle.nor_laws.specs.Worked.{BrokenIsIgnored, UnknownOpcode, SevenClocks, ReadsLastByte};
+ghost use Rattle.nor_laws.specs.Worked.{ReadPastEnd, OneByteText, OneByteTextLength, OneByteRun};
+ghost use Rattle.nor_laws.specs.Worked.{WidestIsAccepted, BlocksOfMap, NoBlocksOfMap, TargetOfOne};
+ghost use Rattle.nor_laws.specs.Worked.{TargetAtTheEnd, IgnoredOfFour};
+ghost use Rattle.nor_laws.specs.Stops.{ReadsAnother, LongPollIdle, LongPollBusy, VerifiesStatus};
+ghost use Rattle.nor_laws.specs.Stops.{VerifiesNothing, NineClocks, LatchIsLeft, BusyIsLeft};
+ghost use Rattle.nor_laws.specs.Stops.{QuadOff, LatchFirst, StatusOfLatch, StatusOfBusy};
+ghost use Rattle.nor_laws.specs.Stops.{CoversKept, CoversKeptElsewhere, RoundInLeast, OnInLarger};
 ghost use Rattle.nor_laws.specs.Seen.{StepsSeen, SecondErased, UnreadIsNotVerified};
-ghost use Rattle.nor_laws.specs.Planning.{EraseRestores, PageOutside, LowerOfTwoKinds, BorderParts, TwoErased, OneInTheMaking, BothErasedFirst, SecondMadeFirst, SpansPage, VerifiesBlock, VerifiesNone, VerifiesPage, Reached, NoBlockIsFault, CutAtKept, ErasedOnlyIsDue, Strategies, InMode, ThreeBytes, DedicatedFar, EntersAndLeaves, EntersLatched, NothingToDo, BeyondReach, ErasesAndReads, QuadDedicated, QuadLegacy};
+ghost use Rattle.nor_laws.specs.Planning.{EraseRestores, PageOutside, LowerOfTwoKinds, BorderParts};
+ghost use Rattle.nor_laws.specs.Planning.{TwoErased, OneInTheMaking, BothErasedFirst};
+ghost use Rattle.nor_laws.specs.Planning.{SecondMadeFirst, SpansPage, VerifiesBlock, VerifiesNone};
+ghost use Rattle.nor_laws.specs.Planning.{VerifiesPage, Reached, NoBlockIsFault, CutAtKept};
+ghost use Rattle.nor_laws.specs.Planning.{ErasedOnlyIsDue, Strategies, InMode, ThreeBytes};
+ghost use Rattle.nor_laws.specs.Planning.{DedicatedFar, EntersAndLeaves, EntersLatched};
+ghost use Rattle.nor_laws.specs.Planning.{NothingToDo, BeyondReach, ErasesAndReads, QuadDedicated};
+ghost use Rattle.nor_laws.specs.Planning.{QuadLegacy};
 
 /// An enable, programs, polls and what is refused while busy, without the latch or over a 0.
 pub fn programs_worked()
@@ -44,8 +62,8 @@ pub fn instructions_worked()
     ensures past { ReadPastEnd }
 {}
 
-/// The script that programs one byte of the 8 KiB chip: its text, and its run on chips that stay busy for no, one and
-/// two status reads.
+/// The script that programs one byte of the 8 KiB chip: its text, and its run on chips that stay
+/// busy for no, one and two status reads.
 pub fn script_worked()
     ensures text { OneByteText }
     ensures length { OneByteTextLength }
@@ -72,8 +90,8 @@ pub fn targets_worked()
     ensures ignored { IgnoredOfFour }
 {}
 
-/// A verifying read of another byte, polls and reads of other forms, what is left set or busy, the order of what is looked at,
-/// the status, the profile of erased bytes, and pages of two sizes.
+/// A verifying read of another byte, polls and reads of other forms, what is left set or busy, the
+/// order of what is looked at, the status, the profile of erased bytes, and pages of two sizes.
 pub fn stops_worked()
     ensures mismatch { ReadsAnother }
     ensures idle { LongPollIdle }
@@ -93,15 +111,16 @@ pub fn stops_worked()
     ensures larger { OnInLarger }
 {}
 
-/// The transactions of a run with their steps, the addresses that an erase erased, and a program that nothing reads later.
+/// The transactions of a run with their steps, the addresses that an erase erased, and a program
+/// that nothing reads later.
 pub fn events_worked()
     ensures steps { StepsSeen }
     ensures erased { SecondErased }
     ensures unread { UnreadIsNotVerified }
 {}
 
-/// Units of small contents: an erase with what it takes along, a page outside, two kinds of one size, a border, an address
-/// without a block, and the profile of erased bytes.
+/// Units of small contents: an erase with what it takes along, a page outside, two kinds of one
+/// size, a border, an address without a block, and the profile of erased bytes.
 pub fn units_worked()
     ensures restore { EraseRestores }
     ensures page { PageOutside }
@@ -117,8 +136,8 @@ pub fn units_worked()
     ensures due { ErasedOnlyIsDue }
 {}
 
-/// Two blocks to be erased: the first erased is one unit in the making; both erased before either is programmed isn't, nor the
-/// second made before the first.
+/// Two blocks to be erased: the first erased is one unit in the making; both erased before either
+/// is programmed isn't, nor the second made before the first.
 pub fn making_worked()
     ensures units { TwoErased }
     ensures one { OneInTheMaking }
@@ -126,7 +145,8 @@ pub fn making_worked()
     ensures second { SecondMadeFirst }
 {}
 
-/// The five strategies, and the instructions of programs, erases and reads by each, on one lane and on four.
+/// The five strategies, and the instructions of programs, erases and reads by each, on one lane and
+/// on four.
 pub fn strategies_worked()
     ensures strategies { Strategies }
     ensures in_mode { InMode }

@@ -1,7 +1,8 @@
 //! A choice of addresses.
 
 ghost use Rattle.std.specs.Prelude.{◌≡◌, ℕ, Some, None, IfOk, IfErr, MatchOption};
-ghost use Rattle.nor_layout.specs.Chosen.{has, is_named, lies_in, lies_in_named, is_before, HasNoneChosen, IsChosenRun};
+ghost use Rattle.nor_layout.specs.Chosen.{has, is_named, lies_in, lies_in_named, is_before};
+ghost use Rattle.nor_layout.specs.Chosen.{HasNoneChosen, IsChosenRun};
 ghost use Rattle.nor_layout.specs.declared.fault.LayoutFault.TheVariants.{Memory};
 
 use crate::fault::LayoutFault;
@@ -51,11 +52,12 @@ impl Chosen {
         }
     }
 
-    /// The lowest chosen address at or past `from`, with the last of some addresses from there on that
-    /// are all chosen; None where no address from `from` on is chosen. The one after the last may be
-    /// chosen too. It takes no memory, and its time grows with the number of regions chosen.
+    /// The lowest chosen address at or past `from`, with the last of some addresses from there on
+    /// that are all chosen; None where no address from `from` on is chosen. The one after the last
+    /// may be chosen too. It takes no memory, and its time grows with the number of regions chosen.
     pub fn next_run(&self, from: u32) -> Option<(u32, u32)>
-        ensures { MatchOption result (HasNoneChosen (has self.now) from) (λ run. IsChosenRun (has self.now) from run.0 run.1) }
+        ensures { MatchOption result (HasNoneChosen (has self.now) from)
+            (λ run. IsChosenRun (has self.now) from run.0 run.1) }
     {
         match &self.intervals {
             None => Some((from, u32::MAX)),
@@ -111,7 +113,8 @@ pub(crate) fn intervals_of(
     regions: &[Region<'_>],
     names: &[Bytes],
 ) -> Result<Vec<Interval>, LayoutFault>
-    ensures chosen { IfOk result (λ intervals. (a : ℕ) → lies_in intervals.items a ≡ lies_in_named regions.now names.now a) }
+    ensures chosen { IfOk result (λ intervals. (a : ℕ)
+        → lies_in intervals.items a ≡ lies_in_named regions.now names.now a) }
     ensures refused { IfErr result (λ fault. fault ≡ Memory) }
 {
     let mut intervals = Vec::new(alloc);

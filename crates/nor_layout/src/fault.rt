@@ -10,7 +10,8 @@ use thiserror::Error;
 /// count too.
 #[derive(Clone, Copy, Debug, PartialEq, Eq, Error)]
 pub enum LayoutFault {
-    /// A line isn't two fields separated by blanks or tabs, or its first field hasn't exactly one `:`.
+    /// A line isn't two fields separated by blanks or tabs, or its first field hasn't exactly one
+    /// `:`.
     #[error("layout line {0}: not start:end name")]
     BadLine(u64),
     /// A number isn't 1 to 8 hexadecimal digits after an optional `0x` or `0X`.

@@ -27,7 +27,8 @@ pub(crate) fn two_fields(line: &[u8]) -> Option<(&[u8], &[u8])>
 
 /// What stands on either side of the colon, where a field has exactly one.
 pub(crate) fn two_offsets(field: &[u8]) -> Option<(&[u8], &[u8])>
-    ensures { option_map (λ x. (x.0.now, x.1.now)) result ≡ exactly_two (slice_split is_colon field.now) }
+    ensures { option_map (λ x. (x.0.now, x.1.now)) result
+        ≡ exactly_two (slice_split is_colon field.now) }
 {
     let mut offsets = field.split(|byte| *byte == b':');
     match (offsets.next(), offsets.next(), offsets.next()) {

@@ -36,14 +36,16 @@ impl<'a> Layout<'a> {
         self.regions.as_slice()
     }
 
-    /// The addresses that lie in some region of these names, byte for byte: the union of the regions.
-    /// With no name every address is chosen, and no memory is taken. A name given twice counts once.
+    /// The addresses that lie in some region of these names, byte for byte: the union of the
+    /// regions. With no name every address is chosen, and no memory is taken. A name given twice
+    /// counts once.
     ///
-    /// `UnknownRegion` tells the index of the first name that no region has, as an empty name always
-    /// is. `Memory` where a growth is refused, and then each name is known.
+    /// `UnknownRegion` tells the index of the first name that no region has, as an empty name
+    /// always is. `Memory` where a growth is refused, and then each name is known.
     pub fn choose(&self, alloc: Global, names: &[Bytes]) -> Result<Chosen, LayoutFault>
         ensures known { IfOk result (λ _. first_unknown self.now names.now ≡ None) }
-        ensures chosen { IfOk result (λ chosen. (a : ℕ) → has chosen a ≡ is_chosen self.now names.now a) }
+        ensures chosen { IfOk result (λ chosen. (a : ℕ)
+            → has chosen a ≡ is_chosen self.now names.now a) }
         ensures refused { IfErr result (RefusesChoice self.now names.now) }
         ensures whole { names.now ≡ [] → IsOk result }
         ensures empty_name { Contains names.now [] → IsErr result }

@@ -1,8 +1,8 @@
 //! Reads a layout, the text by which flashrom names regions of a flash chip, and chooses the
 //! addresses of some of its regions.
 //!
-//! A line is `start:end name`, as flashrom's manual page has it: both numbers are hexadecimal offsets
-//! in the chip, and both ends belong to the region.
+//! A line is `start:end name`, as flashrom's manual page has it: both numbers are hexadecimal
+//! offsets in the chip, and both ends belong to the region.
 #![tactic(auto)]
 
 mod cause;

@@ -21,13 +21,14 @@ pub(crate) fn region_below<'a>(
     number: u64,
     line: &'a [u8],
 ) -> Result<Option<Region<'a>>, LayoutFault>
-    ensures { MatchResult (line_below above.now line.now) (λ said. result ≡ Ok said) (λ cause. result ≡ Err (fault_of cause number)) }
+    ensures { MatchResult (line_below above.now line.now) (λ said. result ≡ Ok said)
+        (λ cause. result ≡ Err (fault_of cause number)) }
 {
     added_by(above, line).map_err(|cause| cause.at(number))
 }
 
-/// The region that a line adds to those above it, None where the line is skipped, or why the line is
-/// refused.
+/// The region that a line adds to those above it, None where the line is skipped, or why the line
+/// is refused.
 fn added_by<'a>(above: &[Region<'a>], line: &'a [u8]) -> Result<Option<Region<'a>>, Cause>
     ensures { result ≡ line_below above.now line.now }
 {

@@ -9,7 +9,8 @@ ghost use Rattle.nor_layout.specs.Number.{digits_of, number_of};
 /// As many digits as a number of 32 bits has.
 const MOST_DIGITS: usize = 8;
 
-/// The value of 1 to 8 hexadecimal digits of either case, after an optional `0x` or `0X`. Else None.
+/// The value of 1 to 8 hexadecimal digits of either case, after an optional `0x` or `0X`. Else
+/// None.
 pub(crate) fn number(text: &[u8]) -> Option<u32>
     ensures { result ≡ number_of text.now }
 {
@@ -33,7 +34,8 @@ fn without_prefix(text: &[u8]) -> &[u8]
 /// The value of hexadecimal digits, or None where a byte is none.
 fn value_of(digits: &[u8]) -> Option<u32>
     requires { length digits.now ≤ 8 }
-    ensures { result ≡ (if list_all (λ c. is_digit c 16) digits.now then Some (digits_value 16 digits.now) else None) }
+    ensures { result ≡ (if list_all (λ c. is_digit c 16) digits.now
+        then Some (digits_value 16 digits.now) else None) }
 {
     let mut value: u32 = 0;
     for byte in digits {

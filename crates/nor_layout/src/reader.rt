@@ -12,13 +12,15 @@ use std::alloc::Global;
 
 /// Reads a layout: its regions in the order of their lines, with names that borrow the text.
 ///
-/// A line is `start:end name`, as flashrom's manual page has it. Both numbers are hexadecimal offsets
-/// in the chip of 1 to 8 digits of either case, an optional `0x` or `0X` before them, and both ends
-/// belong to the region. LF ends a line, and the last LF may be missing. Blanks, tabs and CR at either
-/// end of a line are dropped; a line that is empty then or begins with `#` is skipped, but counted.
+/// A line is `start:end name`, as flashrom's manual page has it. Both numbers are hexadecimal
+/// offsets in the chip of 1 to 8 digits of either case, an optional `0x` or `0X` before them, and
+/// both ends belong to the region. LF ends a line, and the last LF may be missing. Blanks, tabs and
+/// CR at either end of a line are dropped; a line that is empty then or begins with `#` is skipped,
+/// but counted.
 ///
 /// The first line at fault is told by its number, counted from 1, and of its causes the first of:
-/// - `BadLine`: not exactly two fields separated by blanks or tabs, or not exactly one `:` in the first.
+/// - `BadLine`: not exactly two fields separated by blanks or tabs, or not exactly one `:` in the
+///   first.
 /// - `BadNumber`: a number that isn't 1 to 8 digits.
 /// - `EndBeforeStart`: the end lies before the start.
 /// - `RepeatedName`: a region above has the same name, byte for byte.

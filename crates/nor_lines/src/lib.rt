@@ -1,13 +1,14 @@
 //! The lines of a text, cut and trimmed, with their numbers.
 //!
-//! A line feed ends a line, and the last one may be missing; a line feed at the text's end starts no
-//! further line. Blanks are spaces, tabs and carriage returns. No public standard speaks of this:
-//! these rules are this project's, for each text that it reads.
+//! A line feed ends a line, and the last one may be missing; a line feed at the text's end starts
+//! no further line. Blanks are spaces, tabs and carriage returns. No public standard speaks of
+//! this: these rules are this project's, for each text that it reads.
 #![tactic(auto)]
 
 ghost use Rattle.std.specs.Prelude.{◌≡◌, ℕ, ◌+◌, ◌^◌, ◌<◌, List, length};
 ghost use Rattle.std.specs.Iterator.{YieldsFirstBy, item_count};
-ghost use Rattle.nor_lines.specs.Lines.{is_blank, without_first_blanks, trimmed, lines_of_text, filled_from, filled_lines};
+ghost use Rattle.nor_lines.specs.Lines.{is_blank, without_first_blanks, trimmed, lines_of_text};
+ghost use Rattle.nor_lines.specs.Lines.{filled_from, filled_lines};
 
 use bstr::{ByteSlice, Lines};
 use std::marker::Model;

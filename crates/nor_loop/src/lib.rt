@@ -1,22 +1,29 @@
-//! Laws of logs. A log has each operation that went over the wire of a device that speaks serprog, and the bytes that came back. A chip
-//! explains it where it does each operation and gives these bytes. What is promised speaks of every chip that explains a log.
+//! Laws of logs. A log has each operation that went over the wire of a device that speaks serprog,
+//! and the bytes that came back. A chip explains it where it does each operation and gives these
+//! bytes. What is promised speaks of every chip that explains a log.
 //!
-//! The functions do nothing: their contracts are the laws, and the gate proves them. `nor_flasher` has what follows for
-//! a command that reads and programs a chip.
+//! The functions do nothing: their contracts are the laws, and the gate proves them. `nor_flasher`
+//! has what follows for a command that reads and programs a chip.
 #![tactic(auto)]
 
 pub mod worked;
 
 ghost use Rattle.nor_loop.specs.Four.{FourReadsRead, BothRead};
-ghost use Rattle.nor_loop.specs.Single.{SingleIsOperation, PlannedIsSingle, QuadUnseen, WhateverQuad, WhateverQuadPart};
-ghost use Rattle.nor_loop.specs.Laws.{ReadsTell, ReadsKeep, LoopCloses, LoopResumes, LoopMends, LoopBreaks, LoopIsExplained, DoneIsLogged, HaltIsLogged, DeviceCloses, DeviceBreaks, OneLog, LogsJoin, EnteredReadsTell, ReadsRead, EnteredReadsRead, ToldLoopCloses};
+ghost use Rattle.nor_loop.specs.Single.{SingleIsOperation, PlannedIsSingle, QuadUnseen};
+ghost use Rattle.nor_loop.specs.Single.{WhateverQuad, WhateverQuadPart};
+ghost use Rattle.nor_loop.specs.Laws.{ReadsTell, ReadsKeep, LoopCloses, LoopResumes, LoopMends};
+ghost use Rattle.nor_loop.specs.Laws.{LoopBreaks, LoopIsExplained, DoneIsLogged, HaltIsLogged};
+ghost use Rattle.nor_loop.specs.Laws.{DeviceCloses, DeviceBreaks, OneLog, LogsJoin};
+ghost use Rattle.nor_loop.specs.Laws.{EnteredReadsTell, ReadsRead, EnteredReadsRead};
+ghost use Rattle.nor_loop.specs.Laws.{ToldLoopCloses};
 
 use nor_laws::{spelling, verifying_reads};
 use nor_plan_laws::planned_work;
 
-/// Reads of the whole chip report its content: every chip that explains them held just what came back, and is as it was. This is so
-/// too where four-byte mode is entered for the reads and left after them. Each chip with that content explains them. Reads of only a
-/// part leave a chip as it was.
+/// Reads of the whole chip report its content: every chip that explains them held just what came
+/// back, and is as it was. This is so too where four-byte mode is entered for the reads and left
+/// after them. Each chip with that content explains them. Reads of only a part leave a chip as it
+/// was.
 pub fn reads()
     ensures tell { ReadsTell }
     ensures keep { ReadsKeep }
@@ -27,8 +34,9 @@ pub fn reads()
     spelling();
 }
 
-/// Reads of the whole chip by 13h, which has four address bytes in either mode, read its content too, where it has that opcode. Two
-/// readings of a content one after the other are one reading of it.
+/// Reads of the whole chip by 13h, which has four address bytes in either mode, read its content
+/// too, where it has that opcode. Two readings of a content one after the other are one reading of
+/// it.
 pub fn four_reads()
     ensures four { FourReadsRead }
     ensures both { BothRead }
@@ -36,11 +44,12 @@ pub fn four_reads()
     spelling();
 }
 
-/// A log reads the whole chip twice, and then does the task for what was read. Every chip that explains it ends with the goal of what
-/// it held at first, or with the goal of an older dump where that was the task. It ends settled.
+/// A log reads the whole chip twice, and then does the task for what was read. Every chip that
+/// explains it ends with the goal of what it held at first, or with the goal of an older dump where
+/// that was the task. It ends settled.
 ///
-/// Where such work was broken off, and a later log ends every chip with the goal of the first reading, the chip ends with the goal of
-/// what it held before the first log.
+/// Where such work was broken off, and a later log ends every chip with the goal of the first
+/// reading, the chip ends with the goal of what it held before the first log.
 pub fn loop_closes()
     ensures closes { LoopCloses }
     ensures resumes { LoopResumes }
@@ -50,8 +59,9 @@ pub fn loop_closes()
     reads();
 }
 
-/// A log reads the whole chip twice, and planned work on what was read was broken off. Every chip that explains it held just what was
-/// read, and at most one unit of the work is in the making. The same holds where the chip did the operation that came next, or some of its row.
+/// A log reads the whole chip twice, and planned work on what was read was broken off. Every chip
+/// that explains it held just what was read, and at most one unit of the work is in the making. The
+/// same holds where the chip did the operation that came next, or some of its row.
 pub fn loop_breaks()
     ensures { LoopBreaks }
 {
@@ -59,17 +69,19 @@ pub fn loop_breaks()
     verifying_reads();
 }
 
-/// Some chip explains a log that reads the whole chip twice and then does planned work on what was read. So what is promised of every
-/// such chip isn't empty.
+/// Some chip explains a log that reads the whole chip twice and then does planned work on what was
+/// read. So what is promised of every such chip isn't empty.
 pub fn loop_is_explained()
     ensures { LoopIsExplained }
 {
     planned_work();
 }
 
-/// What a device did for steps is a log of these steps, and just that log went over its wire; where it halted, the log of those before.
-/// Where it read the content of its chip twice, and did planned work on it, every chip that explains the log ends with the goal, and some
-/// chip explains it. Where it halted in that work, every chip that explains the log has at most one unit in the making.
+/// What a device did for steps is a log of these steps, and just that log went over its wire; where
+/// it halted, the log of those before. Where it read the content of its chip twice, and did planned
+/// work on it, every chip that explains the log ends with the goal, and some chip explains it.
+/// Where it halted in that work, every chip that explains the log has at most one unit in the
+/// making.
 pub fn device()
     ensures logged { DoneIsLogged }
     ensures halted { HaltIsLogged }
@@ -82,23 +94,23 @@ pub fn device()
     loop_is_explained();
 }
 
-/// An instruction on one lane without dummy clocks is one operation of a device; without the quad setting planned work has no other
-/// instruction.
+/// An instruction on one lane without dummy clocks is one operation of a device; without the quad
+/// setting planned work has no other instruction.
 pub fn single()
     ensures operation { SingleIsOperation }
     ensures planned { PlannedIsSingle }
 {}
 
-/// A log doesn't show the chip's quad setting, so what is promised for one setting is promised for the other. This holds of work that
-/// was done, and of work that was broken off.
+/// A log doesn't show the chip's quad setting, so what is promised for one setting is promised for
+/// the other. This holds of work that was done, and of work that was broken off.
 pub fn quad()
     ensures unseen { QuadUnseen }
     ensures whatever { WhateverQuad }
     ensures part { WhateverQuadPart }
 {}
 
-/// Where writer and reader report their bytes, a wire has just one log, so nobody can choose one that suits. Logs of two stretches, one
-/// after the other, are one log.
+/// Where writer and reader report their bytes, a wire has just one log, so nobody can choose one
+/// that suits. Logs of two stretches, one after the other, are one log.
 pub fn wire()
     ensures one { OneLog }
     ensures joined { LogsJoin }

@@ -2,7 +2,8 @@
 
 ghost use Rattle.std.specs.Prelude.{◌≡◌, ◌<◌, ◌-◌, ◌^◌};
 ghost use Rattle.nor_base.specs.Device.{Writes, Counts};
-ghost use Rattle.nor_map.specs.Blocks.{are_few, block, block_at, block_shape, blocks, few_blocks, reasons};
+ghost use Rattle.nor_map.specs.Blocks.{are_few, block, block_at, block_shape, blocks, few_blocks};
+ghost use Rattle.nor_map.specs.Blocks.{reasons};
 
 use crate::grid::Grid;
 use crate::shapes::put_span;
@@ -26,7 +27,8 @@ pub(crate) fn put_few_blocks<W: ByteOut>(
     out: &mut W,
 ) -> Result<(), Failed>
     requires { W.count out.old < 2 ^ 64 - 1 }
-    ensures bytes { Writes (W.held out.old) (W.held out.new) result (few_blocks grid.now lines.now) }
+    ensures bytes { Writes (W.held out.old) (W.held out.new) result
+        (few_blocks grid.now lines.now) }
     ensures count { Counts (W.count out.old) (W.count out.new) result }
 {
     if are_few(lines) {
@@ -56,7 +58,8 @@ fn put_block_at<W: ByteOut>(
     out: &mut W,
 ) -> Result<(), Failed>
     requires { W.count out.old < 2 ^ 64 - 1 }
-    ensures bytes { Writes (W.held out.old) (W.held out.new) result (block_at grid.now line rest.now) }
+    ensures bytes { Writes (W.held out.old) (W.held out.new) result
+        (block_at grid.now line rest.now) }
     ensures count { Counts (W.count out.old) (W.count out.new) result }
 {
     match line {
@@ -79,7 +82,8 @@ fn put_block<W: ByteOut>(
     out: &mut W,
 ) -> Result<(), Failed>
     requires { W.count out.old < 2 ^ 64 - 1 }
-    ensures bytes { Writes (W.held out.old) (W.held out.new) result (block grid.now start size opcode rest.now) }
+    ensures bytes { Writes (W.held out.old) (W.held out.new) result
+        (block grid.now start size opcode rest.now) }
     ensures count { Counts (W.count out.old) (W.count out.new) result }
 {
     put_all(out, b"<path d=\"")?;
@@ -103,7 +107,8 @@ fn put_block_shape<W: ByteOut>(
     out: &mut W,
 ) -> Result<(), Failed>
     requires { W.count out.old < 2 ^ 64 - 1 }
-    ensures bytes { Writes (W.held out.old) (W.held out.new) result (block_shape grid.now start size) }
+    ensures bytes { Writes (W.held out.old) (W.held out.new) result
+        (block_shape grid.now start size) }
     ensures count { Counts (W.count out.old) (W.count out.new) result }
 {
     let start = u64::from(start);

@@ -53,7 +53,8 @@ pub(crate) fn worked_cells(
     lines: &[PlanLine],
 ) -> Result<Vec<bool>, AllocError>
     requires { 0 < cell }
-    ensures { IfOk result (λ marks. marks.items ≡ some_bytes cell count (is_worked work lines.now)) }
+    ensures { IfOk result (λ marks. marks.items
+        ≡ some_bytes cell count (is_worked work lines.now)) }
 {
     let mut marks = unmarked(alloc, count)?;
     mark_lines(&mut marks, cell, work, lines);

@@ -1,7 +1,10 @@
 //! The parts of a map's text that are the same in each map.
 
 ghost use Rattle.std.specs.Prelude.{◌≡◌};
-ghost use Rattle.nor_map.specs.Constants.{blocks_begin, caption_begin, entries_begin, folds_begin, frame_begin, image_begin, image_end, labels_begin, legend, names_begin, offsets_begin, outlined, report_begin, shapes_begin, style, title_begin, too_many};
+ghost use Rattle.nor_map.specs.Constants.{blocks_begin, caption_begin, entries_begin, folds_begin};
+ghost use Rattle.nor_map.specs.Constants.{frame_begin, image_begin, image_end, labels_begin};
+ghost use Rattle.nor_map.specs.Constants.{legend, names_begin, offsets_begin, outlined};
+ghost use Rattle.nor_map.specs.Constants.{report_begin, shapes_begin, style, title_begin, too_many};
 ghost use Rattle.nor_map.specs.Words.{entry_line, next_line};
 
 /// How all is drawn: a pattern and a colour for each state.
@@ -24,11 +27,25 @@ path{fill:none}
 .g{stroke:#000;stroke-dasharray:6 4}
 </style>
 <defs>
-<pattern id=\"U\" width=\"1\" height=\"1\" patternUnits=\"userSpaceOnUse\"><rect width=\".95\" height=\".95\" fill=\"#eee\"/></pattern>
-<pattern id=\"C\" width=\"1\" height=\"1\" patternUnits=\"userSpaceOnUse\"><rect width=\".95\" height=\".95\" fill=\"#d5e8f7\"/><rect x=\".4\" y=\".4\" width=\".16\" height=\".16\" fill=\"#246\"/></pattern>
-<pattern id=\"P\" width=\"1\" height=\"1\" patternUnits=\"userSpaceOnUse\"><rect width=\".95\" height=\".95\" fill=\"#6bb0e8\"/><path d=\"M.2.75.75.2\" stroke=\"#024\" stroke-width=\".12\"/></pattern>
-<pattern id=\"E\" width=\"1\" height=\"1\" patternUnits=\"userSpaceOnUse\"><rect width=\".95\" height=\".95\" fill=\"#001a4d\"/><path d=\"M.2.75.75.2M.2.2.75.75\" stroke=\"#fff\" stroke-width=\".12\"/></pattern>
-<pattern id=\"R\" width=\"1\" height=\"1\" patternUnits=\"userSpaceOnUse\"><rect width=\".95\" height=\".95\" fill=\"#ffd24d\"/><path d=\"M.15.475h.65\" stroke=\"#420\" stroke-width=\".16\"/></pattern>
+<pattern id=\"U\" width=\"1\" height=\"1\" patternUnits=\"userSpaceOnUse\">\
+    <rect width=\".95\" height=\".95\" fill=\"#eee\"/>\
+    </pattern>
+<pattern id=\"C\" width=\"1\" height=\"1\" patternUnits=\"userSpaceOnUse\">\
+    <rect width=\".95\" height=\".95\" fill=\"#d5e8f7\"/>\
+    <rect x=\".4\" y=\".4\" width=\".16\" height=\".16\" fill=\"#246\"/>\
+    </pattern>
+<pattern id=\"P\" width=\"1\" height=\"1\" patternUnits=\"userSpaceOnUse\">\
+    <rect width=\".95\" height=\".95\" fill=\"#6bb0e8\"/>\
+    <path d=\"M.2.75.75.2\" stroke=\"#024\" stroke-width=\".12\"/>\
+    </pattern>
+<pattern id=\"E\" width=\"1\" height=\"1\" patternUnits=\"userSpaceOnUse\">\
+    <rect width=\".95\" height=\".95\" fill=\"#001a4d\"/>\
+    <path d=\"M.2.75.75.2M.2.2.75.75\" stroke=\"#fff\" stroke-width=\".12\"/>\
+    </pattern>
+<pattern id=\"R\" width=\"1\" height=\"1\" patternUnits=\"userSpaceOnUse\">\
+    <rect width=\".95\" height=\".95\" fill=\"#ffd24d\"/>\
+    <path d=\"M.15.475h.65\" stroke=\"#420\" stroke-width=\".16\"/>\
+    </pattern>
 </defs>
 <rect width=\"100%\" height=\"100%\" fill=\"#fff\"/>
 ";
@@ -151,7 +168,8 @@ pub(crate) fn legend() -> &'static [u8]
 pub(crate) fn outlined() -> &'static [u8]
     ensures { result.now ≡ outlined }
 {
-    b"<g class=\"b\"><path d=\"M1 169h38v18h-38z\"/></g>\n<text x=\"56\" y=\"183\">an erased block; its title says why</text>\n"
+    b"<g class=\"b\"><path d=\"M1 169h38v18h-38z\"/></g>\n\
+        <text x=\"56\" y=\"183\">an erased block; its title says why</text>\n"
 }
 
 /// That erased blocks aren't outlined.

@@ -14,7 +14,8 @@ use nor_plan_read::PlanLine;
 use std::alloc::{AllocError, Global};
 use std::marker::Model;
 
-/// The cells of a chip in rows, at most 65,536 of them in rows of 16 to 256, and what a plan does to each.
+/// The cells of a chip in rows, at most 65,536 of them in rows of 16 to 256, and what a plan does
+/// to each.
 #[derive(Drop)]
 pub struct Grid {
     pub(crate) size: u32,
@@ -45,17 +46,19 @@ impl Model for Grid {
       programmed = g.programmed.items;
     } };
 
-    ghost invariant = { λ g. IsGrid g.cell g.count g.columns g.high g.chosen.items g.erased.items g.programmed.items };
+    ghost invariant = { λ g. IsGrid g.cell g.count g.columns g.high g.chosen.items g.erased.items
+        g.programmed.items };
 }
 
 impl Grid {
-    /// The grid of a chip of `size` bytes and this page, under a plan of these lines, with what is chosen of it. The lines may
-    /// overlap, stand in any order and lie past the chip. A cell has as many bytes as a page, doubled until 65,536 cells hold the
-    /// chip. Rows in which nothing is done are drawn as one line; a row has the least power of two of cells, from 16 to 256, for
+    /// The grid of a chip of `size` bytes and this page, under a plan of these lines, with what is
+    /// chosen of it. The lines may overlap, stand in any order and lie past the chip. A cell has as
+    /// many bytes as a page, doubled until 65,536 cells hold the chip. Rows in which nothing is
+    /// done are drawn as one line; a row has the least power of two of cells, from 16 to 256, for
     /// which all lines are at most 1152 units high.
     ///
-    /// Its time grows with the number of lines and of the cells that each touches, and of cells times regions chosen. An error comes
-    /// where memory was refused.
+    /// Its time grows with the number of lines and of the cells that each touches, and of cells
+    /// times regions chosen. An error comes where memory was refused.
     pub fn of(
         alloc: Global,
         size: u32,

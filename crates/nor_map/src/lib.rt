@@ -1,7 +1,9 @@
-//! What a plan does to the cells of a chip, and the map of it: an image for any browser. `docs/FORMATS.md`, "Map", has them.
+//! What a plan does to the cells of a chip, and the map of it: an image for any browser.
+//! `docs/FORMATS.md`, "Map", has them.
 //!
-//! [`Grid::of`] says what a plan does to each cell; [`write_map`] writes the image, and takes no memory. [`laws`] says that each cell
-//! is drawn by its state, and [`worked`] has values of both, worked out by hand.
+//! [`Grid::of`] says what a plan does to each cell; [`write_map`] writes the image, and takes no
+//! memory. [`laws`] says that each cell is drawn by its state, and [`worked`] has values of both,
+//! worked out by hand.
 #![tactic(auto)]
 
 mod blocks;

@@ -2,7 +2,8 @@
 
 ghost use Rattle.std.specs.Prelude.{◌≡◌, ◌<◌, ◌-◌, ◌^◌, flat_map};
 ghost use Rattle.nor_base.specs.Device.{Writes, Counts};
-ghost use Rattle.nor_map.specs.Paths.{cells, is_plain_row, is_quiet, path, path_begin, segment, segment_at, segment_of, segments};
+ghost use Rattle.nor_map.specs.Paths.{cells, is_plain_row, is_quiet, path, path_begin, segment};
+ghost use Rattle.nor_map.specs.Paths.{segment_at, segment_of, segments};
 
 use crate::grid::Grid;
 use crate::runs::{begins, run_in_row};
@@ -23,7 +24,8 @@ pub(crate) fn put_cells<W: ByteOut>(grid: &Grid, out: &mut W) -> Result<(), Fail
 /// Puts a path for each of these states.
 fn put_paths<W: ByteOut>(grid: &Grid, states: &[State], out: &mut W) -> Result<(), Failed>
     requires { W.count out.old < 2 ^ 64 - 1 }
-    ensures bytes { Writes (W.held out.old) (W.held out.new) result (flat_map (path grid.now) states.now) }
+    ensures bytes { Writes (W.held out.old) (W.held out.new) result
+        (flat_map (path grid.now) states.now) }
     ensures count { Counts (W.count out.old) (W.count out.new) result }
 {
     for state in states {
@@ -88,7 +90,8 @@ fn put_segment_of<W: ByteOut>(
 ) -> Result<(), Failed>
     requires inside { c < grid.now.count }
     requires room { W.count out.old < 2 ^ 64 - 1 }
-    ensures bytes { Writes (W.held out.old) (W.held out.new) result (segment_of grid.now state c count) }
+    ensures bytes { Writes (W.held out.old) (W.held out.new) result
+        (segment_of grid.now state c count) }
     ensures count { Counts (W.count out.old) (W.count out.new) result }
 {
     if is_plain_row(grid, state, c, count) {

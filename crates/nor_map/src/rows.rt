@@ -2,7 +2,8 @@
 
 ghost use Rattle.std.specs.Prelude.{◌≡◌, ◌<◌, ◌≤◌, ◌+◌, ◌*◌, ◌^◌, IfOk};
 ghost use Rattle.nor_map.specs.Grid.{down_for};
-ghost use Rattle.nor_map.specs.Rows.{all_in, are_in, columns_of, fold_height, goes_on, high_of, is_low, is_plain, row_height, rows, tops_of};
+ghost use Rattle.nor_map.specs.Rows.{all_in, are_in, columns_of, fold_height, goes_on, high_of};
+ghost use Rattle.nor_map.specs.Rows.{is_low, is_plain, row_height, rows, tops_of};
 
 use crate::grid::Grid;
 use crate::runs::run_from;
@@ -135,7 +136,8 @@ fn is_low(grid: &Grid, columns: u32) -> bool
     u64::from(high_of(grid, columns)) * u64::from(down_for(columns)) <= MOST_HIGH
 }
 
-/// The cells of a row: the least power of two from 16 on for which the rows are so low, 256 at most.
+/// The cells of a row: the least power of two from 16 on for which the rows are so low, 256 at
+/// most.
 pub(crate) fn columns_of(grid: &Grid) -> u32
     ensures value { result ≡ columns_of grid.now }
     ensures some { 16 ≤ result }

@@ -2,13 +2,15 @@
 
 ghost use Rattle.std.specs.Prelude.{◌≡◌, ◌<◌, ◌-◌, ◌^◌, count_by, decimal};
 ghost use Rattle.nor_base.specs.Device.{Writes, Counts};
-ghost use Rattle.nor_map.specs.Said.{erases, in_unit, many_said, more_said, number_said, outcome, programs, size_said, tenths, three};
+ghost use Rattle.nor_map.specs.Said.{erases, in_unit, many_said, more_said, number_said, outcome};
+ghost use Rattle.nor_map.specs.Said.{programs, size_said, tenths, three};
 
 use itoa::Buffer;
 use nor_base::{ByteOut, Failed, put_all, put_parts};
 use nor_plan_read::PlanLine;
 
-/// Puts a number of bytes: in MiB from one on, in KiB from one on, with a tenth where it isn't whole.
+/// Puts a number of bytes: in MiB from one on, in KiB from one on, with a tenth where it isn't
+/// whole.
 pub(crate) fn put_size<W: ByteOut>(bytes: u64, out: &mut W) -> Result<(), Failed>
     requires { W.count out.old < 2 ^ 64 - 1 }
     ensures bytes { Writes (W.held out.old) (W.held out.new) result (size_said bytes) }

@@ -2,7 +2,8 @@
 
 ghost use Rattle.std.specs.Prelude.{◌≡◌, ◌<◌, ◌≤◌, ◌+◌, ◌/◌, ◌-◌, ◌^◌};
 ghost use Rattle.nor_base.specs.Device.{Writes, Counts};
-ghost use Rattle.nor_map.specs.Shapes.{above, below, in_fold, left_of, rectangle, region_shape, region_shapes, right_of, shape, span, staircase};
+ghost use Rattle.nor_map.specs.Shapes.{above, below, in_fold, left_of, rectangle, region_shape};
+ghost use Rattle.nor_map.specs.Shapes.{region_shapes, right_of, shape, span, staircase};
 
 use crate::grid::Grid;
 use crate::rows::{fold_height, is_plain};
@@ -17,7 +18,8 @@ pub(crate) fn put_region_shapes<W: ByteOut>(
     out: &mut W,
 ) -> Result<(), Failed>
     requires { W.count out.old < 2 ^ 64 - 1 }
-    ensures bytes { Writes (W.held out.old) (W.held out.new) result (region_shapes grid.now regions.now) }
+    ensures bytes { Writes (W.held out.old) (W.held out.new) result
+        (region_shapes grid.now regions.now) }
     ensures count { Counts (W.count out.old) (W.count out.new) result }
 {
     for region in regions {
@@ -29,7 +31,8 @@ pub(crate) fn put_region_shapes<W: ByteOut>(
 /// Puts the outline of a region.
 fn put_region_shape<W: ByteOut>(grid: &Grid, region: &Region<'_>, out: &mut W) -> Result<(), Failed>
     requires { W.count out.old < 2 ^ 64 - 1 }
-    ensures bytes { Writes (W.held out.old) (W.held out.new) result (region_shape grid.now region.now) }
+    ensures bytes { Writes (W.held out.old) (W.held out.new) result
+        (region_shape grid.now region.now) }
     ensures count { Counts (W.count out.old) (W.count out.new) result }
 {
     let start = u64::from(region.start);
@@ -141,7 +144,8 @@ fn put_rectangle<W: ByteOut>(
     out: &mut W,
 ) -> Result<(), Failed>
     requires { W.count out.old < 2 ^ 64 - 1 }
-    ensures bytes { Writes (W.held out.old) (W.held out.new) result (rectangle left high right low) }
+    ensures bytes { Writes (W.held out.old) (W.held out.new) result
+        (rectangle left high right low) }
     ensures count { Counts (W.count out.old) (W.count out.new) result }
 {
     let mut x = Buffer::new();
@@ -167,8 +171,8 @@ fn put_rectangle<W: ByteOut>(
     )
 }
 
-/// Puts the outline of cells of several lines, so many units wide: from the left of the first, between its top and bottom, to the
-/// right of the last, between its top and bottom.
+/// Puts the outline of cells of several lines, so many units wide: from the left of the first,
+/// between its top and bottom, to the right of the last, between its top and bottom.
 fn put_staircase<W: ByteOut>(
     wide: u64,
     first: (u64, u64, u64),

@@ -5,7 +5,11 @@ ghost use Rattle.std.specs.List.{list_any, range_with_len};
 ghost use Rattle.nor_base.specs.Device.{Writes, Counts};
 ghost use Rattle.nor_map.specs.Rows.{all_in};
 ghost use Rattle.nor_map.specs.declared.state.State.TheVariants.{Untouched};
-ghost use Rattle.nor_map.specs.Words.{begins_line, bytes_of, entries, entry, entry_begin, fold, fold_at, fold_begin, fold_of, fold_words, folds, is_labelled, is_named_at, label, label_at, labels, name, name_in, names, names_at, names_begin_at, names_in, names_of, offset, offset_at, offsets, slot, stretch};
+ghost use Rattle.nor_map.specs.Words.{begins_line, bytes_of, entries, entry, entry_begin, fold};
+ghost use Rattle.nor_map.specs.Words.{fold_at, fold_begin, fold_of, fold_words, folds, is_labelled};
+ghost use Rattle.nor_map.specs.Words.{is_named_at, label, label_at, labels, name, name_in, names};
+ghost use Rattle.nor_map.specs.Words.{names_at, names_begin_at, names_in, names_of, offset};
+ghost use Rattle.nor_map.specs.Words.{offset_at, offsets, slot, stretch};
 
 use crate::constants::entry_line;
 use crate::grid::Grid;
@@ -211,7 +215,8 @@ fn put_fold_of<W: ByteOut>(
 ) -> Result<(), Failed>
     requires inside { c < grid.now.count }
     requires room { W.count out.old < 2 ^ 64 - 1 }
-    ensures bytes { Writes (W.held out.old) (W.held out.new) result (fold_of grid.now state words.now c) }
+    ensures bytes { Writes (W.held out.old) (W.held out.new) result
+        (fold_of grid.now state words.now c) }
     ensures count { Counts (W.count out.old) (W.count out.new) result }
 {
     put_size(stretch_bytes(grid, state, c), out)?;
@@ -271,7 +276,8 @@ fn put_slots<W: ByteOut>(
     out: &mut W,
 ) -> Result<(), Failed>
     requires { W.count out.old < 2 ^ 64 - 1 }
-    ensures bytes { Writes (W.held out.old) (W.held out.new) result (flat_map (names_at grid.now regions.now) (range_with_len 0 slots)) }
+    ensures bytes { Writes (W.held out.old) (W.held out.new) result
+        (flat_map (names_at grid.now regions.now) (range_with_len 0 slots)) }
     ensures count { Counts (W.count out.old) (W.count out.new) result }
 {
     for t in 0..slots {
@@ -288,7 +294,8 @@ fn put_names_at<W: ByteOut>(
     out: &mut W,
 ) -> Result<(), Failed>
     requires { W.count out.old < 2 ^ 64 - 1 }
-    ensures bytes { Writes (W.held out.old) (W.held out.new) result (names_at grid.now regions.now t) }
+    ensures bytes { Writes (W.held out.old) (W.held out.new) result
+        (names_at grid.now regions.now t) }
     ensures count { Counts (W.count out.old) (W.count out.new) result }
 {
     if is_some_named(grid, regions, t) {
@@ -306,7 +313,8 @@ fn put_names_of<W: ByteOut>(
     out: &mut W,
 ) -> Result<(), Failed>
     requires { W.count out.old < 2 ^ 64 - 1 }
-    ensures bytes { Writes (W.held out.old) (W.held out.new) result (names_of grid.now regions.now t) }
+    ensures bytes { Writes (W.held out.old) (W.held out.new) result
+        (names_of grid.now regions.now t) }
     ensures count { Counts (W.count out.old) (W.count out.new) result }
 {
     put_names_begin(grid, t, out)?;
@@ -354,7 +362,8 @@ fn put_names_in<W: ByteOut>(
     out: &mut W,
 ) -> Result<(), Failed>
     requires { W.count out.old < 2 ^ 64 - 1 }
-    ensures bytes { Writes (W.held out.old) (W.held out.new) result (names_in grid.now regions.now t) }
+    ensures bytes { Writes (W.held out.old) (W.held out.new) result
+        (names_in grid.now regions.now t) }
     ensures count { Counts (W.count out.old) (W.count out.new) result }
 {
     for region in regions {
@@ -371,7 +380,8 @@ fn put_name_in<W: ByteOut>(
     out: &mut W,
 ) -> Result<(), Failed>
     requires { W.count out.old < 2 ^ 64 - 1 }
-    ensures bytes { Writes (W.held out.old) (W.held out.new) result (name_in grid.now t region.now) }
+    ensures bytes { Writes (W.held out.old) (W.held out.new) result
+        (name_in grid.now t region.now) }
     ensures count { Counts (W.count out.old) (W.count out.new) result }
 {
     if is_named_at(grid, t, region) {

@@ -1,7 +1,9 @@
-//! Values of the grid and of the map's text, worked out by hand. Each function does nothing: its contract is the values, and the gate computes them.
+//! Values of the grid and of the map's text, worked out by hand. Each function does nothing: its
+//! contract is the values, and the gate computes them.
 
 ghost use Rattle.nor_map.specs.Worked.{AreSizes, BlockErased, NothingDone, NothingTouched};
-ghost use Rattle.nor_map.specs.TextWorked.{AreOutlines, AreRows, AreRuns, AreSaid, AreTexts, AreWords, BlockDrawn};
+ghost use Rattle.nor_map.specs.TextWorked.{AreOutlines, AreRows, AreRuns, AreSaid, AreTexts};
+ghost use Rattle.nor_map.specs.TextWorked.{AreWords, BlockDrawn};
 
 /// The states of the cells of small chips.
 pub fn states_worked()

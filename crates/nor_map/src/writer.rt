@@ -3,7 +3,8 @@
 ghost use Rattle.std.specs.Prelude.{◌≡◌, ◌<◌, ◌-◌, ◌^◌};
 ghost use Rattle.nor_base.specs.Device.{Writes, Counts};
 ghost use Rattle.nor_map.specs.Constants.{blocks_legend, legend_of};
-ghost use Rattle.nor_map.specs.Map.{addresses, beside, caption, drawing, frame, head, height, line_count, map_text, marks, notes};
+ghost use Rattle.nor_map.specs.Map.{addresses, beside, caption, drawing, frame, head, height};
+ghost use Rattle.nor_map.specs.Map.{line_count, map_text, marks, notes};
 
 use crate::blocks::{are_few, put_few_blocks};
 use crate::constants::{
@@ -22,14 +23,15 @@ use nor_base::{ByteOut, Failed, put_all, put_parts};
 use nor_layout::Region;
 use nor_plan_read::PlanLine;
 
-/// Writes a map as an SVG image (W3C): what the plan does in a sentence, the cells of a chip by their states, a line of text for rows in
-/// which nothing is done, the erased blocks of the plan's lines, each with its lines of the plan as its title, the regions of a layout, a
-/// legend, and the lines of a report. Past 10,000 lines the blocks are left out.
-/// The lines may overlap, stand in any order and lie past the chip.
-/// Names and report may hold any bytes: those that aren't printable ASCII become `?`, and LF begins a line of the report.
+/// Writes a map as an SVG image (W3C): what the plan does in a sentence, the cells of a chip by
+/// their states, a line of text for rows in which nothing is done, the erased blocks of the plan's
+/// lines, each with its lines of the plan as its title, the regions of a layout, a legend, and the
+/// lines of a report. Past 10,000 lines the blocks are left out. The lines may overlap, stand in
+/// any order and lie past the chip. Names and report may hold any bytes: those that aren't
+/// printable ASCII become `?`, and LF begins a line of the report.
 ///
-/// The image has room for 255 regions and 255 lines of report. It takes no memory. At `Failed` a proper prefix was taken; it comes
-/// from the writer alone, whose count of failures rose by one.
+/// The image has room for 255 regions and 255 lines of report. It takes no memory. At `Failed` a
+/// proper prefix was taken; it comes from the writer alone, whose count of failures rose by one.
 pub fn write_map<W: ByteOut>(
     grid: &Grid,
     lines: &[PlanLine],
@@ -38,7 +40,8 @@ pub fn write_map<W: ByteOut>(
     out: &mut W,
 ) -> Result<(), Failed>
     requires { W.count out.old < 2 ^ 64 - 1 }
-    ensures bytes { Writes (W.held out.old) (W.held out.new) result (map_text grid.now lines.now regions.now report.now) }
+    ensures bytes { Writes (W.held out.old) (W.held out.new) result
+        (map_text grid.now lines.now regions.now report.now) }
     ensures count { Counts (W.count out.old) (W.count out.new) result }
 {
     put_head(grid, regions.len(), line_count(report), out)?;
@@ -108,7 +111,8 @@ fn put_drawing<W: ByteOut>(
     out: &mut W,
 ) -> Result<(), Failed>
     requires { W.count out.old < 2 ^ 64 - 1 }
-    ensures bytes { Writes (W.held out.old) (W.held out.new) result (drawing grid.now lines.now regions.now) }
+    ensures bytes { Writes (W.held out.old) (W.held out.new) result
+        (drawing grid.now lines.now regions.now) }
     ensures count { Counts (W.count out.old) (W.count out.new) result }
 {
     put_frame(grid, out)?;
@@ -181,7 +185,8 @@ fn put_beside<W: ByteOut>(
     out: &mut W,
 ) -> Result<(), Failed>
     requires { W.count out.old < 2 ^ 64 - 1 }
-    ensures bytes { Writes (W.held out.old) (W.held out.new) result (beside lines.now regions.now report.now) }
+    ensures bytes { Writes (W.held out.old) (W.held out.new) result
+        (beside lines.now regions.now report.now) }
     ensures count { Counts (W.count out.old) (W.count out.new) result }
 {
     put_legend(lines, out)?;

@@ -6,7 +6,8 @@ ghost use Rattle.nor_base.specs.Operations.{erasing};
 use nor_base::{Meaning, Strategy};
 use nor_geometry::{Block, takes_dedicated};
 
-/// The opcode that erases a block: its kind's own, or the one with four address bytes where the strategy takes that.
+/// The opcode that erases a block: its kind's own, or the one with four address bytes where the
+/// strategy takes that.
 pub(crate) fn erase_opcode(meaning: &Meaning, strategy: Strategy, block: Block) -> u8
     ensures { result ≡ (erasing meaning.now strategy block).op }
 {

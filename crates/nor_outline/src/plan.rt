@@ -12,7 +12,8 @@ use nor_steps::{StepWriter, StepsFault, Tally, Unwritten, WorkWriter};
 use std::alloc::Global;
 use std::marker::Model;
 
-/// Writes the lines that tell the plan of the work, window after window. Its steps are counted and not written.
+/// Writes the lines that tell the plan of the work, window after window. Its steps are counted and
+/// not written.
 #[derive(Drop)]
 pub struct PlanWriter<'m> {
     steps: StepWriter<'m>,
@@ -27,8 +28,8 @@ impl<'m> Model for PlanWriter<'m> {
 }
 
 impl<'m> PlanWriter<'m> {
-    /// One for a chip, the start that it has and the strategy by which it is driven. `verify` asks for a read of what was
-    /// written. It takes no memory.
+    /// One for a chip, the start that it has and the strategy by which it is driven. `verify` asks
+    /// for a read of what was written. It takes no memory.
     pub fn new(
         alloc: Global,
         meaning: &'m Meaning,

@@ -11,8 +11,8 @@ use nor_geometry::{Block, smallest};
 use nor_plan_laws::blocks;
 use nor_plan_read::{PlanLine, write_line};
 
-/// Puts a line for each smallest block of a block, rising, in which a byte is due: `have` and `want` are the block's
-/// bytes.
+/// Puts a line for each smallest block of a block, rising, in which a byte is due: `have` and
+/// `want` are the block's bytes.
 pub(crate) fn put_reasons<W: ByteOut>(
     meaning: &Meaning,
     strategy: Strategy,
@@ -26,7 +26,8 @@ pub(crate) fn put_reasons<W: ByteOut>(
     requires block { MayErase meaning.now strategy block }
     requires room { W.count out.old < 2 ^ 64 - 1 }
     ensures bytes { Writes (W.held out.old) (W.held out.new) result
-        (reasons meaning.now (due_in meaning.now have.now want.now block.start) block.start block.size) }
+        (reasons meaning.now (due_in meaning.now have.now want.now block.start) block.start
+        block.size) }
     ensures count { Counts (W.count out.old) (W.count out.new) result }
 {
     meaning.acceptance();

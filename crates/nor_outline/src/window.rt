@@ -16,11 +16,12 @@ use nor_plan_laws::erased_blocks;
 use nor_steps::{StepsFault, bounds};
 use std::alloc::Global;
 
-/// Plans the units that start in a window of the chip (one that [`plan`] takes), and writes their lines: `have` is what it
-/// holds from `at` on, `want` what it must hold.
+/// Plans the units that start in a window of the chip (one that [`plan`] takes), and writes their
+/// lines: `have` is what it holds from `at` on, `want` what it must hold.
 ///
-/// `Plan` where an address of the window is at fault: it names the lowest, and nothing was written then. `Write` where
-/// the writer fails, `Memory` where a growth is refused: at most a beginning of these lines was written then.
+/// `Plan` where an address of the window is at fault: it names the lowest, and nothing was written
+/// then. `Write` where the writer fails, `Memory` where a growth is refused: at most a beginning of
+/// these lines was written then.
 pub fn write_window<W: ByteOut>(
     alloc: Global,
     meaning: &Meaning,
@@ -33,8 +34,11 @@ pub fn write_window<W: ByteOut>(
     requires lengths { length have.now ≡ length want.now }
     requires window { IsWindow meaning.now strategy at (length have.now) }
     requires writer { W.count out.old < 2 ^ 64 - 1 }
-    ensures told { IfOk result (λ _. TellsStretch meaning.now strategy (W.held out.old) (W.held out.new) at have.now want.now) }
-    ensures stopped { IfErr result (StopsTelling meaning.now strategy (W.held out.old) (W.held out.new) at have.now want.now) }
+    ensures told { IfOk result
+        (λ _. TellsStretch meaning.now strategy (W.held out.old) (W.held out.new) at have.now
+        want.now) }
+    ensures stopped { IfErr result
+        (StopsTelling meaning.now strategy (W.held out.old) (W.held out.new) at have.now want.now) }
     ensures count { CountsSteps (W.count out.old) (W.count out.new) result }
 {
     erased_blocks();
@@ -56,8 +60,11 @@ fn tell_units<W: ByteOut>(
 ) -> Result<(), StepsFault>
     requires planned { IsWindowPlan meaning.now strategy at have.now want.now units.now }
     requires writer { W.count out.old < 2 ^ 64 - 1 }
-    ensures told { IfOk result (λ _. TellsStretch meaning.now strategy (W.held out.old) (W.held out.new) at have.now want.now) }
-    ensures stopped { IfErr result (StopsTelling meaning.now strategy (W.held out.old) (W.held out.new) at have.now want.now) }
+    ensures told { IfOk result
+        (λ _. TellsStretch meaning.now strategy (W.held out.old) (W.held out.new) at have.now
+        want.now) }
+    ensures stopped { IfErr result
+        (StopsTelling meaning.now strategy (W.held out.old) (W.held out.new) at have.now want.now) }
     ensures count { CountsSteps (W.count out.old) (W.count out.new) result }
 {
     for unit in units {
@@ -75,7 +82,8 @@ fn tell_units<W: ByteOut>(
     Ok(())
 }
 
-/// Writes the lines of a unit. `have` and `want` are its bytes: what the chip holds there and what it must hold.
+/// Writes the lines of a unit. `have` and `want` are its bytes: what the chip holds there and what
+/// it must hold.
 fn tell_unit<W: ByteOut>(
     alloc: Global,
     meaning: &Meaning,
@@ -89,7 +97,8 @@ fn tell_unit<W: ByteOut>(
     requires unit { IsUnit meaning.now unit.now (length want.now) }
     requires planned { IsPlanned meaning.now strategy unit.now (length want.now) }
     requires writer { W.count out.old < 2 ^ 64 - 1 }
-    ensures told { TellsUnit meaning.now strategy (W.held out.old) (W.held out.new) unit.now have.now want.now result }
+    ensures told { TellsUnit meaning.now strategy (W.held out.old) (W.held out.new) unit.now
+        have.now want.now result }
     ensures count { CountsSteps (W.count out.old) (W.count out.new) result }
     ensures why { IfErr result IsOfWriting }
 {

@@ -13,16 +13,18 @@ use nor_geometry::{Block, PlanUnit};
 use nor_pages::Run;
 use nor_plan_read::{PlanLine, write_line};
 
-/// Writes the lines of a unit, each closed by LF: where a block is erased `erase SSSSSSSS ZZZZZZZZ OO`, its start, its
-/// size and the opcode that is sent, and for each smallest legal block in it that has a byte which is due, rising,
-/// `because SSSSSSSS AAAAAAAA`, the start of that and the lowest address in it that is due; then `program SSSSSSSS n` for
-/// each run, its start and, in decimal, its bytes. All other numbers are in lower-case hexadecimal digits. It takes no
-/// memory.
+/// Writes the lines of a unit, each closed by LF: where a block is erased `erase SSSSSSSS ZZZZZZZZ
+/// OO`, its start, its size and the opcode that is sent, and for each smallest legal block in it
+/// that has a byte which is due, rising, `because SSSSSSSS AAAAAAAA`, the start of that and the
+/// lowest address in it that is due; then `program SSSSSSSS n` for each run, its start and, in
+/// decimal, its bytes. All other numbers are in lower-case hexadecimal digits. It takes no memory.
 ///
-/// `have` and `want` are the unit's bytes, what the chip holds there and what it must hold; `runs` are its runs, each of
-/// which lies in it, as [`split`](nor_pages::split) gives them. A block is one that a strategy may erase.
+/// `have` and `want` are the unit's bytes, what the chip holds there and what it must hold; `runs`
+/// are its runs, each of which lies in it, as [`split`](nor_pages::split) gives them. A block is
+/// one that a strategy may erase.
 ///
-/// At `Failed` a proper prefix was taken; it comes from the writer alone, whose count of failures rose by one.
+/// At `Failed` a proper prefix was taken; it comes from the writer alone, whose count of failures
+/// rose by one.
 pub fn write_unit<W: ByteOut>(
     meaning: &Meaning,
     strategy: Strategy,
@@ -34,9 +36,11 @@ pub fn write_unit<W: ByteOut>(
 ) -> Result<(), Failed>
     requires lengths { length have.now ≡ length want.now }
     requires planned { IsPlanned meaning.now strategy unit.now (length want.now) }
-    requires runs { AreBetween (unit_start unit.now) (unit_start unit.now + length want.now) (length want.now) runs.now }
+    requires runs { AreBetween (unit_start unit.now) (unit_start unit.now + length want.now)
+        (length want.now) runs.now }
     requires room { W.count out.old < 2 ^ 64 - 1 }
-    ensures bytes { (text : List ℕ) × IsOutline meaning.now strategy unit.now runs.now have.now want.now text
+    ensures bytes { (text : List ℕ) × IsOutline meaning.now strategy unit.now runs.now have.now
+        want.now text
         × Writes (W.held out.old) (W.held out.new) result text }
     ensures count { Counts (W.count out.old) (W.count out.new) result }
 {
@@ -57,7 +61,8 @@ fn put_unit<W: ByteOut>(
     requires lengths { length have.now ≡ length want.now }
     requires planned { IsPlanned meaning.now strategy unit.now (length want.now) }
     requires room { W.count out.old < 2 ^ 64 - 1 }
-    ensures bytes { Writes (W.held out.old) (W.held out.new) result (part_text meaning.now strategy unit.now runs.now have.now want.now) }
+    ensures bytes { Writes (W.held out.old) (W.held out.new) result
+        (part_text meaning.now strategy unit.now runs.now have.now want.now) }
     ensures count { Counts (W.count out.old) (W.count out.new) result }
 {
     match unit {
@@ -80,7 +85,8 @@ fn put_block<W: ByteOut>(
     requires count { length want.now ≡ block.size }
     requires block { MayErase meaning.now strategy block }
     requires room { W.count out.old < 2 ^ 64 - 1 }
-    ensures bytes { Writes (W.held out.old) (W.held out.new) result (block_text meaning.now strategy block runs.now have.now want.now) }
+    ensures bytes { Writes (W.held out.old) (W.held out.new) result
+        (block_text meaning.now strategy block runs.now have.now want.now) }
     ensures count { Counts (W.count out.old) (W.count out.new) result }
 {
     put_erase(meaning, strategy, block, out)?;
@@ -96,7 +102,8 @@ fn put_erase<W: ByteOut>(
     out: &mut W,
 ) -> Result<(), Failed>
     requires { W.count out.old < 2 ^ 64 - 1 }
-    ensures bytes { Writes (W.held out.old) (W.held out.new) result (erase_line meaning.now strategy block) }
+    ensures bytes { Writes (W.held out.old) (W.held out.new) result
+        (erase_line meaning.now strategy block) }
     ensures count { Counts (W.count out.old) (W.count out.new) result }
 {
     let line = PlanLine::Erase {

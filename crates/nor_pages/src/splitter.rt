@@ -1,7 +1,10 @@
 //! The runs of a unit.
 
-ghost use Rattle.std.specs.Prelude.{◌≡◌, ◌≤◌, ◌<◌, ◌+◌, ◌/◌, ◌^◌, ◌++◌, ◌==◌, ◌&&◌, not, length, false, IfOk, MatchOption};
-ghost use Rattle.nor_pages.specs.Runs.{IsUnit, IsSplit, AreBetween, unit_start, page_runs, old_over, extended, reaches_back, some_run, ended, onward, pages_runs, LacksRun, BeginsRun, IsRun};
+ghost use Rattle.std.specs.Prelude.{◌≡◌, ◌≤◌, ◌<◌, ◌+◌, ◌/◌, ◌^◌, ◌++◌, ◌==◌, ◌&&◌, not, length};
+ghost use Rattle.std.specs.Prelude.{false, IfOk, MatchOption};
+ghost use Rattle.nor_pages.specs.Runs.{IsUnit, IsSplit, AreBetween, unit_start, page_runs};
+ghost use Rattle.nor_pages.specs.Runs.{old_over, extended, reaches_back, some_run, ended, onward};
+ghost use Rattle.nor_pages.specs.Runs.{pages_runs, LacksRun, BeginsRun, IsRun};
 
 use crate::fault::PagesFault;
 use crate::run::Run;
@@ -9,8 +12,9 @@ use nor_base::Meaning;
 use nor_geometry::PlanUnit;
 use std::alloc::{AllocError, Allocator, Global};
 
-/// The runs of a unit, rising: `have` and `want` are its bytes, what the chip holds there and what it must hold, whole
-/// pages of one length on the chip. Each lies within the unit, and there are no more of them than bytes.
+/// The runs of a unit, rising: `have` and `want` are its bytes, what the chip holds there and what
+/// it must hold, whole pages of one length on the chip. Each lies within the unit, and there are no
+/// more of them than bytes.
 ///
 /// `Memory` where a growth is refused.
 pub fn split(
@@ -22,9 +26,11 @@ pub fn split(
 ) -> Result<Vec<Run>, PagesFault>
     requires lengths { length have.now ≡ length want.now }
     requires unit { IsUnit meaning.now unit.now (length want.now) }
-    ensures split { IfOk result (λ runs. IsSplit meaning.now unit.now have.now want.now runs.items) }
+    ensures split { IfOk result
+        (λ runs. IsSplit meaning.now unit.now have.now want.now runs.items) }
     ensures within { IfOk result (λ runs.
-        AreBetween (unit_start unit.now) (unit_start unit.now + length want.now) (length want.now) runs.items) }
+        AreBetween (unit_start unit.now) (unit_start unit.now + length want.now) (length want.now)
+        runs.items) }
 {
     meaning.acceptance();
     match unit {
@@ -45,7 +51,8 @@ fn split_pages<A: Allocator>(
     requires lengths { length have.now ≡ length want.now }
     requires inside { start + length want.now ≤ 2 ^ 28 }
     ensures { IfOk result (λ runs. runs.items
-        ≡ pages_runs blank meaning.now.erased_only meaning.now.page have.now want.now start (length want.now / meaning.now.page)) }
+        ≡ pages_runs blank meaning.now.erased_only meaning.now.page have.now want.now start
+        (length want.now / meaning.now.page)) }
 {
     meaning.acceptance();
     let mut runs = Vec::new(alloc);
@@ -75,7 +82,8 @@ fn push_page<A: Allocator>(
 ) -> Result<(), AllocError>
     requires lengths { length have.now ≡ length want.now }
     requires inside { at + length want.now ≤ 2 ^ 28 }
-    ensures { IfOk result (λ _. runs.new.items ≡ runs.old.items ++ page_runs blank erased_only have.now want.now at) }
+    ensures { IfOk result (λ _. runs.new.items
+        ≡ runs.old.items ++ page_runs blank erased_only have.now want.now at) }
 {
     if !erased_only {
         return push_run(runs, span(at, blank, have, want));
@@ -89,7 +97,8 @@ fn push_page<A: Allocator>(
     push_run(runs, run)
 }
 
-/// The run of a page of which each byte may be programmed: from the first that has to change to the last.
+/// The run of a page of which each byte may be programmed: from the first that has to change to the
+/// last.
 // most pages change at both ends, so few bytes are looked at
 fn span(at: u32, blank: bool, have: &[u8], want: &[u8]) -> Option<Run>
     requires lengths { length have.now ≡ length want.now }
@@ -107,7 +116,8 @@ fn span(at: u32, blank: bool, have: &[u8], want: &[u8]) -> Option<Run>
 /// The place of the first byte that has to change.
 fn first_differing(blank: bool, have: &[u8], want: &[u8]) -> Option<usize>
     requires { length have.now ≡ length want.now }
-    ensures { MatchOption result (LacksRun blank have.now want.now) (BeginsRun blank have.now want.now) }
+    ensures { MatchOption result (LacksRun blank have.now want.now)
+        (BeginsRun blank have.now want.now) }
 {
     for i in 0..want.len() {
         if differs(old_over(blank, have[i]), want[i]) {

@@ -1,27 +1,33 @@
-//! The law behind the whole project: planned work does the task on every chip, and no script erases less. Each function
-//! does nothing: its contract is the law, and the gate proves it. A law of planned work is of an accepted meaning and each
-//! start, so of each strategy, and of a content and a target of the chip's size, the target of bytes, without an address at
-//! fault.
+//! The law behind the whole project: planned work does the task on every chip, and no script erases
+//! less. Each function does nothing: its contract is the law, and the gate proves it. A law of
+//! planned work is of an accepted meaning and each start, so of each strategy, and of a content and
+//! a target of the chip's size, the target of bytes, without an address at fault.
 #![tactic(auto)]
 
 ghost use Rattle.nor_plan_laws.specs.Laws.{PlannedDoesTask, OneUnitInTheMaking};
 ghost use Rattle.nor_plan_laws.specs.Able.{OperationIsDone, SmallestAgree, BlocksStay, PagesStay};
-ghost use Rattle.nor_plan_laws.specs.Exists.{PlannedCanBeSpelled, ThereIsPlannedWork, OnePlannedWork};
-ghost use Rattle.nor_plan_laws.specs.Least.{ErasesNeeded, ErasesBlocks, ErasesApart, ErasesLargest, UnitsJoin, NoScriptErasesLess};
-ghost use Rattle.nor_plan_laws.specs.Fewest.{NoScriptProgramsLess, NoneOnEveryChip, OneServesTwo, NoScriptHasFewerErases};
-ghost use Rattle.nor_plan_laws.specs.Runs.{PlannedErasesNeeded, ErasesOnce, ErasesCounted, ProgramsCounted, PlannedIsVerified, NoneVerifies, ErasedBytes};
+ghost use Rattle.nor_plan_laws.specs.Exists.{PlannedCanBeSpelled, ThereIsPlannedWork};
+ghost use Rattle.nor_plan_laws.specs.Exists.{OnePlannedWork};
+ghost use Rattle.nor_plan_laws.specs.Least.{ErasesNeeded, ErasesBlocks, ErasesApart, ErasesLargest};
+ghost use Rattle.nor_plan_laws.specs.Least.{UnitsJoin, NoScriptErasesLess};
+ghost use Rattle.nor_plan_laws.specs.Fewest.{NoScriptProgramsLess, NoneOnEveryChip, OneServesTwo};
+ghost use Rattle.nor_plan_laws.specs.Fewest.{NoScriptHasFewerErases};
+ghost use Rattle.nor_plan_laws.specs.Runs.{PlannedErasesNeeded, ErasesOnce, ErasesCounted};
+ghost use Rattle.nor_plan_laws.specs.Runs.{ProgramsCounted, PlannedIsVerified, NoneVerifies};
+ghost use Rattle.nor_plan_laws.specs.Runs.{ErasedBytes};
 ghost use Rattle.nor_plan_laws.specs.Small.{SmallIsWorkable, SmallWorkErases};
 
 use nor_laws::{instruction_rows, spelling};
 
-/// Planned work does the task on every chip, and after each of its transactions at most one unit is in the making.
+/// Planned work does the task on every chip, and after each of its transactions at most one unit is
+/// in the making.
 pub fn planned_work()
     ensures done { PlannedDoesTask }
     ensures making { OneUnitInTheMaking }
 {}
 
-/// The chip has each planned instruction, in the mode at its place, and each fits its clocks. So there are steps that are the
-/// planned work, and only one list of them.
+/// The chip has each planned instruction, in the mode at its place, and each fits its clocks. So
+/// there are steps that are the planned work, and only one list of them.
 pub fn there_is_planned_work()
     ensures spelled { PlannedCanBeSpelled }
     ensures some { ThereIsPlannedWork }
@@ -31,8 +37,9 @@ pub fn there_is_planned_work()
     spelling();
 }
 
-/// An address is erased exactly where it is needed. The erased blocks are legal and reached, two of them are apart or one,
-/// and each legal block that the strategy reaches inside the needed area lies in one of them.
+/// An address is erased exactly where it is needed. The erased blocks are legal and reached, two of
+/// them are apart or one, and each legal block that the strategy reaches inside the needed area
+/// lies in one of them.
 pub fn erased_blocks()
     ensures needed { ErasesNeeded }
     ensures blocks { ErasesBlocks }
@@ -40,14 +47,14 @@ pub fn erased_blocks()
     ensures largest { ErasesLargest }
 {}
 
-/// On a chip at rest, which can do it over what the array holds, the instructions of an operation do what it does to the array,
-/// and leave the chip at rest.
+/// On a chip at rest, which can do it over what the array holds, the instructions of an operation
+/// do what it does to the array, and leave the chip at rest.
 pub fn operations()
     ensures { OperationIsDone }
 {}
 
-/// The smallest block that the strategy reaches at an address, where it reaches that, is the smallest legal one there, but for its
-/// kind. No legal block and no page lies across 2^24.
+/// The smallest block that the strategy reaches at an address, where it reaches that, is the
+/// smallest legal one there, but for its kind. No legal block and no page lies across 2^24.
 pub fn blocks()
     ensures smallest { SmallestAgree }
     ensures blocks { BlocksStay }
@@ -64,22 +71,25 @@ pub fn least_erasure()
     ensures { NoScriptErasesLess }
 {}
 
-/// No script has fewer programs: whatever does the task, on a chip with the meaning's own page, programs as often as the planned
-/// work at least. That is so without the profile of erased bytes; with it one program may go round a page and serve two pieces.
+/// No script has fewer programs: whatever does the task, on a chip with the meaning's own page,
+/// programs as often as the planned work at least. That is so without the profile of erased bytes;
+/// with it one program may go round a page and serve two pieces.
 pub fn fewest_programs()
     ensures fewest { NoScriptProgramsLess }
     ensures every { NoneOnEveryChip }
     ensures wraps { OneServesTwo }
 {}
 
-/// No script that erases just the needed area has fewer erases, where each is one that the strategy has.
+/// No script that erases just the needed area has fewer erases, where each is one that the strategy
+/// has.
 pub fn fewest_erases()
     ensures { NoScriptHasFewerErases }
 {}
 
-/// What a run of planned work shows, on every chip. It erases just the needed area, each address once, and it erases and
-/// programs as often as the units do. Where the work is verified each address that it erases or programs is read later,
-/// against the target; else no step verifies, also where an address is at fault.
+/// What a run of planned work shows, on every chip. It erases just the needed area, each address
+/// once, and it erases and programs as often as the units do. Where the work is verified each
+/// address that it erases or programs is read later, against the target; else no step verifies,
+/// also where an address is at fault.
 pub fn planned_runs()
     ensures exact { PlannedErasesNeeded }
     ensures once { ErasesOnce }
@@ -96,8 +106,8 @@ pub fn erased_bytes()
     there_is_planned_work();
 }
 
-/// Of 8 KiB in sectors of 4 KiB, with one byte that must rise: the laws' premise holds, and there is planned work, which does
-/// the task on every chip and erases the first sector and no more.
+/// Of 8 KiB in sectors of 4 KiB, with one byte that must rise: the laws' premise holds, and there
+/// is planned work, which does the task on every chip and erases the first sector and no more.
 pub fn small_work()
     ensures workable { SmallIsWorkable }
     ensures erases { SmallWorkErases }

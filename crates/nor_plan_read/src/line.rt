@@ -11,7 +11,8 @@ use crate::number::value_of;
 pub enum PlanLine {
     /// A block is erased: its start and its size in bytes, and the opcode that is sent.
     Erase { start: u32, size: u32, opcode: u8 },
-    /// Why: the start of a smallest block in it, and the lowest address in that which must be erased.
+    /// Why: the start of a smallest block in it, and the lowest address in that which must be
+    /// erased.
     Because { start: u32, cause: u32 },
     /// A run is programmed: its first address, and its bytes.
     Program { start: u32, count: u32 },
@@ -23,7 +24,8 @@ const HEXADECIMAL: u32 = 16;
 /// Radix of a number of bytes.
 const DECIMAL: u32 = 10;
 
-/// Reads a line of a plan, without its LF. Where it is one, just that is answered; of other texts nothing is said.
+/// Reads a line of a plan, without its LF. Where it is one, just that is answered; of other texts
+/// nothing is said.
 pub fn read_line(line: &[u8]) -> Option<PlanLine>
     ensures { ReadsLine line.now result }
 {

@@ -26,13 +26,15 @@ impl<T: Drop> From<AllocFailed<T>> for PlanFault {
     }
 }
 
-/// Reads the text of a plan's lines, each closed by LF, without the report that stands behind them. Of the text of lines just
-/// these are answered; of other texts nothing is said.
+/// Reads the text of a plan's lines, each closed by LF, without the report that stands behind them.
+/// Of the text of lines just these are answered; of other texts nothing is said.
 ///
 /// `NoPlan` comes only where the text is no plan's, `Memory` where a growth is refused.
 pub fn read_plan(alloc: Global, text: &[u8]) -> Result<Vec<PlanLine>, PlanFault>
-    ensures read { (lines : List Line) → IsText text.now lines → IfOk result (λ read. read.items ≡ lines) }
-    ensures refused { (lines : List Line) → IsText text.now lines → IfErr result (λ why. why ≡ Memory) }
+    ensures read { (lines : List Line) → IsText text.now lines
+        → IfOk result (λ read. read.items ≡ lines) }
+    ensures refused { (lines : List Line) → IsText text.now lines
+        → IfErr result (λ why. why ≡ Memory) }
 {
     let mut lines = Vec::new(alloc);
     let mut rest = text;

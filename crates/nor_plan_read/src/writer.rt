@@ -11,11 +11,13 @@ use itoa::Buffer;
 use nor_base::{ByteOut, Failed, put_parts};
 use nor_script::{hex_number, hex_pair};
 
-/// Writes a line of a plan, closed by LF: `erase SSSSSSSS ZZZZZZZZ OO`, `because SSSSSSSS AAAAAAAA` or
-/// `program SSSSSSSS n`. The number of bytes of a program is in decimal, all other numbers are in lower-case hexadecimal
-/// digits. Without its LF it is a text of which [`read_line`](crate::read_line) reads just this line. It takes no memory.
+/// Writes a line of a plan, closed by LF: `erase SSSSSSSS ZZZZZZZZ OO`, `because SSSSSSSS AAAAAAAA`
+/// or `program SSSSSSSS n`. The number of bytes of a program is in decimal, all other numbers are
+/// in lower-case hexadecimal digits. Without its LF it is a text of which
+/// [`read_line`](crate::read_line) reads just this line. It takes no memory.
 ///
-/// At `Failed` a proper prefix was taken; it comes from the writer alone, whose count of failures rose by one.
+/// At `Failed` a proper prefix was taken; it comes from the writer alone, whose count of failures
+/// rose by one.
 pub fn write_line<W: ByteOut>(line: PlanLine, out: &mut W) -> Result<(), Failed>
     requires { W.count out.old < 2 ^ 64 - 1 }
     ensures bytes { Writes (W.held out.old) (W.held out.new) result (line_text line) }
@@ -36,7 +38,8 @@ pub fn write_line<W: ByteOut>(line: PlanLine, out: &mut W) -> Result<(), Failed>
 /// Puts the line of a block that is erased.
 fn put_erase<W: ByteOut>(start: u32, size: u32, opcode: u8, out: &mut W) -> Result<(), Failed>
     requires { W.count out.old < 2 ^ 64 - 1 }
-    ensures bytes { Writes (W.held out.old) (W.held out.new) result (line_text (Erase start size opcode)) }
+    ensures bytes { Writes (W.held out.old) (W.held out.new) result
+        (line_text (Erase start size opcode)) }
     ensures count { Counts (W.count out.old) (W.count out.new) result }
 {
     put_parts(
@@ -56,7 +59,8 @@ fn put_erase<W: ByteOut>(start: u32, size: u32, opcode: u8, out: &mut W) -> Resu
 /// Puts the line that says why.
 fn put_because<W: ByteOut>(start: u32, cause: u32, out: &mut W) -> Result<(), Failed>
     requires { W.count out.old < 2 ^ 64 - 1 }
-    ensures bytes { Writes (W.held out.old) (W.held out.new) result (line_text (Because start cause)) }
+    ensures bytes { Writes (W.held out.old) (W.held out.new) result
+        (line_text (Because start cause)) }
     ensures count { Counts (W.count out.old) (W.count out.new) result }
 {
     put_parts(
@@ -74,7 +78,8 @@ fn put_because<W: ByteOut>(start: u32, cause: u32, out: &mut W) -> Result<(), Fa
 /// Puts the line of a run that is programmed.
 fn put_program<W: ByteOut>(start: u32, count: u32, out: &mut W) -> Result<(), Failed>
     requires { W.count out.old < 2 ^ 64 - 1 }
-    ensures bytes { Writes (W.held out.old) (W.held out.new) result (line_text (Program start count)) }
+    ensures bytes { Writes (W.held out.old) (W.held out.new) result
+        (line_text (Program start count)) }
     ensures count { Counts (W.count out.old) (W.count out.new) result }
 {
     let mut digits = Buffer::new();

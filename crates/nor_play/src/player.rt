@@ -17,14 +17,16 @@ use std::marker::Model;
 
 /// Plays steps on a port, and answers how many transactions there were.
 ///
-/// A poll is tried at most `limit` times, which is 1 or more. Steps count from 0; a fault at the end has the number of
-/// steps. `Wrong` tells how the chip goes wrong, and at which step: as the chip itself says, or `Unknown` for the clocks of
-/// a poll or a verify that none may have, `Mismatch` for other bytes than those expected, `PollNever` where `limit` turns of
-/// one poll all said busy, `NotIdleAtEnd` where the chip is busy at the end, or has its latch set, or isn't in its first
-/// address mode. `PortFailed` tells the step whose transaction failed. `Memory` where a growth is refused.
+/// A poll is tried at most `limit` times, which is 1 or more. Steps count from 0; a fault at the
+/// end has the number of steps. `Wrong` tells how the chip goes wrong, and at which step: as the
+/// chip itself says, or `Unknown` for the clocks of a poll or a verify that none may have,
+/// `Mismatch` for other bytes than those expected, `PollNever` where `limit` turns of one poll all
+/// said busy, `NotIdleAtEnd` where the chip is busy at the end, or has its latch set, or isn't in
+/// its first address mode. `PortFailed` tells the step whose transaction failed. `Memory` where a
+/// growth is refused.
 ///
-/// The port is left as the transactions done so far left it, and is asked for none besides these and the one that failed. What
-/// is fixed with its chip stays, but for `PortFailed`.
+/// The port is left as the transactions done so far left it, and is asked for none besides these
+/// and the one that failed. What is fixed with its chip stays, but for `PortFailed`.
 pub fn play<P: Port>(
     alloc: Global,
     steps: &[Step],
@@ -35,7 +37,8 @@ pub fn play<P: Port>(
     requires room { P.count port.old < 2 ^ 64 - 1 }
     ensures played { Plays (P.shown port.old) (P.shown port.new) limit steps.now result }
     ensures count { CountsPlay (P.count port.old) (P.count port.new) result }
-    ensures asked { AsksPlay (P.shown port.old) (P.asked port.old) (P.asked port.new) limit steps.now result }
+    ensures asked { AsksPlay (P.shown port.old) (P.asked port.old) (P.asked port.new) limit
+        steps.now result }
 {
     let mut player = StepPlayer::new(limit);
     for step in steps {
@@ -46,9 +49,10 @@ pub fn play<P: Port>(
 
 /// Plays steps that come one after another, as [`play`] plays a list of them: no list is held.
 ///
-/// [`StepPlayer::send`], [`StepPlayer::poll`] or [`StepPlayer::verify`] for each step, and [`StepPlayer::end`] after the last.
-/// The first fault is that of the play, whatever steps follow; these aren't to be played. A port that is used for nothing else
-/// meanwhile is left, and was asked, as by a play of the list of the steps fed (the laws of `proofs/FedLaws.antt`).
+/// [`StepPlayer::send`], [`StepPlayer::poll`] or [`StepPlayer::verify`] for each step, and
+/// [`StepPlayer::end`] after the last. The first fault is that of the play, whatever steps follow;
+/// these aren't to be played. A port that is used for nothing else meanwhile is left, and was
+/// asked, as by a play of the list of the steps fed (the laws of `proofs/FedLaws.antt`).
 #[derive(Drop)]
 pub struct StepPlayer {
     limit: u64,
@@ -81,11 +85,11 @@ impl StepPlayer {
         }
     }
 
-    /// Plays a step that sends these clocks, and answers how many transactions it took: 1. The bytes that the clocks sample are
-    /// dropped; where they sample none, no memory is taken.
+    /// Plays a step that sends these clocks, and answers how many transactions it took: 1. The
+    /// bytes that the clocks sample are dropped; where they sample none, no memory is taken.
     ///
-    /// Fewer than 2^64 - 1 steps were played before. The faults are those of [`play`], with the number of the step. After one the
-    /// player is as it was.
+    /// Fewer than 2^64 - 1 steps were played before. The faults are those of [`play`], with the
+    /// number of the step. After one the player is as it was.
     pub fn send<P: Port>(
         &mut self,
         alloc: Global,
@@ -95,36 +99,40 @@ impl StepPlayer {
         requires number { self.old.number < 2 ^ 64 - 1 }
         requires room { P.count port.old < 2 ^ 64 - 1 }
         ensures player { self.new ≡ past self.old result }
-        ensures played { PlaysNumbered (P.shown port.old) (P.shown port.new) self.old.limit self.old.number (Send clocks.now) result }
+        ensures played { PlaysNumbered (P.shown port.old) (P.shown port.new) self.old.limit
+            self.old.number (Send clocks.now) result }
         ensures count { CountsPlay (P.count port.old) (P.count port.new) result }
-        ensures asked { AsksNumbered (P.shown port.old) (P.asked port.old) (P.asked port.new) self.old.limit (Send clocks.now) result }
+        ensures asked { AsksNumbered (P.shown port.old) (P.asked port.old) (P.asked port.new)
+            self.old.limit (Send clocks.now) result }
     {
         let answer = send(alloc, clocks, port, self.limit);
         self.count(answer)
     }
 
-    /// Plays a step that polls with these clocks until the chip says idle, and answers how many transactions it took. No memory
-    /// is taken.
+    /// Plays a step that polls with these clocks until the chip says idle, and answers how many
+    /// transactions it took. No memory is taken.
     ///
-    /// Fewer than 2^64 - 1 steps were played before. The faults are those of [`play`], with the number of the step. After one the
-    /// player is as it was.
+    /// Fewer than 2^64 - 1 steps were played before. The faults are those of [`play`], with the
+    /// number of the step. After one the player is as it was.
     pub fn poll<P: Port>(&mut self, clocks: &[u8], port: &mut P) -> Result<u64, PlayFault>
         requires number { self.old.number < 2 ^ 64 - 1 }
         requires room { P.count port.old < 2 ^ 64 - 1 }
         ensures player { self.new ≡ past self.old result }
-        ensures played { PlaysNumbered (P.shown port.old) (P.shown port.new) self.old.limit self.old.number (Poll clocks.now) result }
+        ensures played { PlaysNumbered (P.shown port.old) (P.shown port.new) self.old.limit
+            self.old.number (Poll clocks.now) result }
         ensures count { CountsPlay (P.count port.old) (P.count port.new) result }
-        ensures asked { AsksNumbered (P.shown port.old) (P.asked port.old) (P.asked port.new) self.old.limit (Poll clocks.now) result }
+        ensures asked { AsksNumbered (P.shown port.old) (P.asked port.old) (P.asked port.new)
+            self.old.limit (Poll clocks.now) result }
     {
         let answer = poll(clocks, port, self.limit);
         self.count(answer)
     }
 
-    /// Plays a step that sends these clocks and compares the bytes that they sample, and answers how many transactions it
-    /// took: 1.
+    /// Plays a step that sends these clocks and compares the bytes that they sample, and answers
+    /// how many transactions it took: 1.
     ///
-    /// Fewer than 2^64 - 1 steps were played before. The faults are those of [`play`], with the number of the step. After one the
-    /// player is as it was.
+    /// Fewer than 2^64 - 1 steps were played before. The faults are those of [`play`], with the
+    /// number of the step. After one the player is as it was.
     pub fn verify<P: Port>(
         &mut self,
         alloc: Global,
@@ -135,10 +143,12 @@ impl StepPlayer {
         requires number { self.old.number < 2 ^ 64 - 1 }
         requires room { P.count port.old < 2 ^ 64 - 1 }
         ensures player { self.new ≡ past self.old result }
-        ensures played { PlaysNumbered (P.shown port.old) (P.shown port.new) self.old.limit self.old.number
+        ensures played { PlaysNumbered (P.shown port.old) (P.shown port.new) self.old.limit
+            self.old.number
             (Verify clocks.now expect.now) result }
         ensures count { CountsPlay (P.count port.old) (P.count port.new) result }
-        ensures asked { AsksNumbered (P.shown port.old) (P.asked port.old) (P.asked port.new) self.old.limit
+        ensures asked { AsksNumbered (P.shown port.old) (P.asked port.old) (P.asked port.new)
+            self.old.limit
             (Verify clocks.now expect.now) result }
     {
         let answer = verify(alloc, clocks, expect, port, self.limit);
@@ -147,7 +157,8 @@ impl StepPlayer {
 
     /// Ends the play, and answers how many transactions there were.
     ///
-    /// `Wrong` of `NotIdleAtEnd`, with the number of steps, where the chip isn't settled. The port is asked for no transaction.
+    /// `Wrong` of `NotIdleAtEnd`, with the number of steps, where the chip isn't settled. The port
+    /// is asked for no transaction.
     pub fn end<P: Port>(&self, port: &P) -> Result<u128, PlayFault>
         ensures { result ≡ ending self.now (P.shown port.now) }
     {
@@ -166,9 +177,11 @@ impl StepPlayer {
         requires number { self.old.number < 2 ^ 64 - 1 }
         requires room { P.count port.old < 2 ^ 64 - 1 }
         ensures player { self.new ≡ past self.old result }
-        ensures played { PlaysNumbered (P.shown port.old) (P.shown port.new) self.old.limit self.old.number step.now result }
+        ensures played { PlaysNumbered (P.shown port.old) (P.shown port.new) self.old.limit
+            self.old.number step.now result }
         ensures count { CountsPlay (P.count port.old) (P.count port.new) result }
-        ensures asked { AsksNumbered (P.shown port.old) (P.asked port.old) (P.asked port.new) self.old.limit step.now result }
+        ensures asked { AsksNumbered (P.shown port.old) (P.asked port.old) (P.asked port.new)
+            self.old.limit step.now result }
     {
         match step {
             Step::Send { clocks } => self.send(alloc, clocks.as_slice(), port),
@@ -179,11 +192,13 @@ impl StepPlayer {
         }
     }
 
-    /// What a step answered, its halt told with the step's number; a step that was played is counted.
+    /// What a step answered, its halt told with the step's number; a step that was played is
+    /// counted.
     fn count(&mut self, answer: Result<u64, Halt>) -> Result<u64, PlayFault>
         requires number { self.old.number < 2 ^ 64 - 1 }
         requires few { IfOk answer (λ turns. turns ≤ self.old.limit) }
-        ensures told { MatchResult answer (λ turns. result ≡ Ok turns) (λ halt. result ≡ Err (play_fault halt self.old.number)) }
+        ensures told { MatchResult answer (λ turns. result ≡ Ok turns)
+            (λ halt. result ≡ Err (play_fault halt self.old.number)) }
         ensures player { self.new ≡ past self.old result }
     {
         match answer {

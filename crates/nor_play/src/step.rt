@@ -23,9 +23,11 @@ pub(crate) fn send<P: Port>(
 ) -> Result<u64, Halt>
     requires limit { 0 < limit }
     requires room { P.count port.old < 2 ^ 64 - 1 }
-    ensures played { PlaysStep (P.shown port.old) (P.shown port.new) limit (Send clocks.now) result }
+    ensures played { PlaysStep (P.shown port.old) (P.shown port.new) limit (Send clocks.now)
+        result }
     ensures count { CountsHalt (P.count port.old) (P.count port.new) result }
-    ensures asked { AsksStep (P.shown port.old) (P.asked port.old) (P.asked port.new) limit (Send clocks.now) result }
+    ensures asked { AsksStep (P.shown port.old) (P.asked port.old) (P.asked port.new) limit
+        (Send clocks.now) result }
 {
     let _bytes = transact(alloc, clocks, port)?;
     Ok(1)
@@ -41,9 +43,11 @@ pub(crate) fn verify<P: Port>(
 ) -> Result<u64, Halt>
     requires limit { 0 < limit }
     requires room { P.count port.old < 2 ^ 64 - 1 }
-    ensures played { PlaysStep (P.shown port.old) (P.shown port.new) limit (Verify clocks.now expect.now) result }
+    ensures played { PlaysStep (P.shown port.old) (P.shown port.new) limit
+        (Verify clocks.now expect.now) result }
     ensures count { CountsHalt (P.count port.old) (P.count port.new) result }
-    ensures asked { AsksStep (P.shown port.old) (P.asked port.old) (P.asked port.new) limit (Verify clocks.now expect.now) result }
+    ensures asked { AsksStep (P.shown port.old) (P.asked port.old) (P.asked port.new) limit
+        (Verify clocks.now expect.now) result }
 {
     // so a chip whose bytes differ is as it was
     verifying_reads();
@@ -61,9 +65,11 @@ pub(crate) fn verify<P: Port>(
 pub(crate) fn poll<P: Port>(clocks: &[u8], port: &mut P, limit: u64) -> Result<u64, Halt>
     requires limit { 0 < limit }
     requires room { P.count port.old < 2 ^ 64 - 1 }
-    ensures played { PlaysStep (P.shown port.old) (P.shown port.new) limit (Poll clocks.now) result }
+    ensures played { PlaysStep (P.shown port.old) (P.shown port.new) limit (Poll clocks.now)
+        result }
     ensures count { CountsHalt (P.count port.old) (P.count port.new) result }
-    ensures asked { AsksStep (P.shown port.old) (P.asked port.old) (P.asked port.new) limit (Poll clocks.now) result }
+    ensures asked { AsksStep (P.shown port.old) (P.asked port.old) (P.asked port.new) limit
+        (Poll clocks.now) result }
 {
     if clocks != POLL.as_slice() {
         return Err(Halt::Wrong(Wrong::Unknown));

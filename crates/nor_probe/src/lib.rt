@@ -2,8 +2,9 @@
 //! datasheet) and its SFDP tables (JESD216), asked for over [`nor_serprog::operate`].
 //!
 //! [`idle_status`] waits until the chip is idle, [`chip_status`] reads its status registers, and
-//! [`suits`] says whether a job can begin on them. [`tables_reach`] says how far SFDP tables reach, [`table_end`] where one of them ends,
-//! and [`compare_tables`] compares the chip's with bytes that are known.
+//! [`suits`] says whether a job can begin on them. [`tables_reach`] says how far SFDP tables reach,
+//! [`table_end`] where one of them ends, and [`compare_tables`] compares the chip's with bytes that
+//! are known.
 #![tactic(auto)]
 
 mod difference;

@@ -5,7 +5,8 @@ ghost use Rattle.std.specs.Prelude.{◌≡◌, ◌<◌, ◌-◌, ◌^◌};
 ghost use Rattle.nor_sfdp.specs.Bits.{is_set};
 ghost use Rattle.nor_serprog.specs.declared.fault.Fault.TheVariants.{Read, Write};
 ghost use Rattle.nor_serprog.specs.Exchange.{CountsReads, CountsWrites};
-ghost use Rattle.nor_probe.specs.Status.{ends_wait, ReadsRegister, Settles, ReadsStatus, CountsReason};
+ghost use Rattle.nor_probe.specs.Status.{ends_wait, ReadsRegister, Settles, ReadsStatus};
+ghost use Rattle.nor_probe.specs.Status.{CountsReason};
 ghost use Rattle.nor_probe.specs.Status.{is_closed, is_faulty, starts_so, suits};
 
 use nor_base::{ByteIn, ByteOut, Part, Start};
@@ -20,7 +21,8 @@ const READ_STATUS_2: u8 = 0x35;
 /// The one that reads S23 to S16.
 const READ_STATUS_3: u8 = 0x15;
 
-/// What an open line gives in place of a status. A chip that sets all these bits is protected, so nothing is lost by not waiting.
+/// What an open line gives in place of a status. A chip that sets all these bits is protected, so
+/// nothing is lost by not waiting.
 const OPEN_LINE: u8 = 0xFF;
 
 /// Bit S16, ADS: four-byte address mode.

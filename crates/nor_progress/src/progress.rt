@@ -2,7 +2,8 @@
 
 ghost use Rattle.std.specs.Prelude.{◌≡◌, ◌<◌, ◌-◌, ◌^◌};
 ghost use Rattle.nor_base.specs.Device.{Writes, Counts};
-ghost use Rattle.nor_progress.specs.Far.{begun, bus_bytes, is_due, line_of, HasRoom, StepTold, Ended};
+ghost use Rattle.nor_progress.specs.Far.{begun, bus_bytes, is_due, line_of, HasRoom, StepTold};
+ghost use Rattle.nor_progress.specs.Far.{Ended};
 
 use itoa::Buffer;
 use nor_base::{ByteOut, Failed, Step, put_all, put_parts};
@@ -10,7 +11,8 @@ use nor_base::{ByteOut, Failed, Step, put_all, put_parts};
 /// After how many steps it is reported again.
 const EVERY: u64 = 100;
 
-/// How many steps are done, and how many bytes of theirs went over the bus, of all. Numbers past 2^64 - 1 stay there.
+/// How many steps are done, and how many bytes of theirs went over the bus, of all. Numbers past
+/// 2^64 - 1 stay there.
 #[derive(Drop)]
 pub struct Progress {
     steps: u64,
@@ -42,10 +44,12 @@ impl Progress {
         }
     }
 
-    /// One more step is done. A line is written after each hundred and at the end, until the writer fails.
+    /// One more step is done. A line is written after each hundred and at the end, until the writer
+    /// fails.
     pub fn step_done<P: ByteOut>(&mut self, step: &Step, out: &mut P)
         requires { HasRoom self.old (P.count out.old) }
-        ensures done { StepTold self.old self.new step.now (P.held out.old) (P.held out.new) (P.count out.old)
+        ensures done { StepTold self.old self.new step.now (P.held out.old) (P.held out.new)
+            (P.count out.old)
             (P.count out.new) }
         ensures room { HasRoom self.new (P.count out.new) }
     {

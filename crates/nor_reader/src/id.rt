@@ -10,13 +10,15 @@ use nor_serprog::{Fault, operate};
 /// The instruction that reads it.
 const READ_ID: u8 = 0x9F;
 
-/// Reads the identification of the chip behind a device (9Fh): the manufacturer's byte and two of the device.
+/// Reads the identification of the chip behind a device (9Fh): the manufacturer's byte and two of
+/// the device.
 ///
 /// An error where the exchange ended early, as of [`operate`].
 pub fn read_id<R: ByteIn, W: ByteOut>(from: &mut R, to: &mut W) -> Result<[u8; 3], Fault>
     requires reader { R.count from.old < 2 ^ 64 - 1 }
     requires writer { W.count to.old < 2 ^ 64 - 1 }
-    ensures identifies { Identifies (W.held to.old) (W.held to.new) (R.ahead from.old) (R.ahead from.new) result }
+    ensures identifies { Identifies (W.held to.old) (W.held to.new) (R.ahead from.old)
+        (R.ahead from.new) result }
     ensures reads { CountsReads (R.count from.old) (R.count from.new) result }
     ensures writes { CountsWrites (W.count to.old) (W.count to.new) result }
 {

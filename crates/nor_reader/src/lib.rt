@@ -1,8 +1,10 @@
-//! What the chip of a serprog device says and holds, each byte read twice: its identification (JEDEC 9Fh), its SFDP tables (JESD216B
-//! 5Ah), and its content (W25Q256JV datasheet 03h, 13h). Nothing is sent that changes what a chip holds.
+//! What the chip of a serprog device says and holds, each byte read twice: its identification
+//! (JEDEC 9Fh), its SFDP tables (JESD216B 5Ah), and its content (W25Q256JV datasheet 03h, 13h).
+//! Nothing is sent that changes what a chip holds.
 //!
-//! [`read_id`] reads the first, [`read_tables`] the second, [`read_content`] the third. [`twice_knows`] is the law that a content
-//! which came twice alike is that of every chip that would have given these answers.
+//! [`read_id`] reads the first, [`read_tables`] the second, [`read_content`] the third.
+//! [`twice_knows`] is the law that a content which came twice alike is that of every chip that
+//! would have given these answers.
 #![tactic(auto)]
 
 mod by;

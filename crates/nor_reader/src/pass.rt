@@ -6,7 +6,8 @@ ghost use Rattle.nor_serprog.specs.declared.fault.Fault.TheVariants.{Read, Write
 ghost use Rattle.nor_serprog.specs.Exchange.{CountsReads, CountsWrites};
 ghost use Rattle.nor_reader.specs.Again.{ReadsAgain};
 ghost use Rattle.nor_reader.specs.Reads.{HasReadOn, StopsOn};
-ghost use Rattle.nor_reader.specs.Twice.{HasReadWhole, ReadTwice, ReadsWhole, StopsFirst, StopsTwice};
+ghost use Rattle.nor_reader.specs.Twice.{HasReadWhole, ReadTwice, ReadsWhole, StopsFirst};
+ghost use Rattle.nor_reader.specs.Twice.{StopsTwice};
 
 use crate::by::{ReadBy, enter_of, leave_of};
 use crate::piece::{compare_piece, read_piece};
@@ -15,12 +16,13 @@ use nor_base::{ByteIn, ByteOut};
 use nor_probe::Mismatch;
 use nor_serprog::{Fault, Limits};
 
-/// Has the device read as many bytes of its chip as there is room for, from address 0 on, as many at once as it can give; and then
-/// again, by an instruction that may be another, and compares them with the first. No memory is taken.
+/// Has the device read as many bytes of its chip as there is room for, from address 0 on, as many
+/// at once as it can give; and then again, by an instruction that may be another, and compares them
+/// with the first. No memory is taken.
 ///
-/// On Ok just these two readings went out, and both gave the bytes. `Differs` names the lowest address whose byte came otherwise the
-/// second time; no more was read, and four-byte mode was left where it was entered. `Exchange` where an exchange ended early, after
-/// which nothing was sent.
+/// On Ok just these two readings went out, and both gave the bytes. `Differs` names the lowest
+/// address whose byte came otherwise the second time; no more was read, and four-byte mode was left
+/// where it was entered. `Exchange` where an exchange ended early, after which nothing was sent.
 pub fn read_content<R: ByteIn, W: ByteOut>(
     from: &mut R,
     to: &mut W,
@@ -33,8 +35,10 @@ pub fn read_content<R: ByteIn, W: ByteOut>(
     requires reader { R.count from.old < 2 ^ 64 - 1 }
     requires writer { W.count to.old < 2 ^ 64 - 1 }
     ensures twice { MatchResult result
-        (λ _. ReadTwice (W.held to.old) (W.held to.new) (R.ahead from.old) (R.ahead from.new) by again content.new)
-        (StopsTwice (W.held to.old) (W.held to.new) (R.ahead from.old) (R.ahead from.new) by again content.new) }
+        (λ _. ReadTwice (W.held to.old) (W.held to.new) (R.ahead from.old) (R.ahead from.new) by
+        again content.new)
+        (StopsTwice (W.held to.old) (W.held to.new) (R.ahead from.old) (R.ahead from.new) by again
+        content.new) }
     ensures reads { CountsMismatch Read (R.count from.old) (R.count from.new) result }
     ensures writes { CountsMismatch Write (W.count to.old) (W.count to.new) result }
 {
@@ -44,7 +48,8 @@ pub fn read_content<R: ByteIn, W: ByteOut>(
     read_again(from, to, limits, again, content)
 }
 
-/// Has the device read its chip from address 0 on, as far as there is room, in four-byte mode where that is the way.
+/// Has the device read its chip from address 0 on, as far as there is room, in four-byte mode where
+/// that is the way.
 fn read_first<R: ByteIn, W: ByteOut>(
     from: &mut R,
     to: &mut W,
@@ -56,8 +61,10 @@ fn read_first<R: ByteIn, W: ByteOut>(
     requires reader { R.count from.old < 2 ^ 64 - 1 }
     requires writer { W.count to.old < 2 ^ 64 - 1 }
     ensures read { MatchResult result
-        (λ _. HasReadWhole (W.held to.old) (W.held to.new) (R.ahead from.old) (R.ahead from.new) by bytes.new)
-        (StopsFirst (W.held to.old) (W.held to.new) (R.ahead from.old) (R.ahead from.new) by bytes.new) }
+        (λ _. HasReadWhole (W.held to.old) (W.held to.new) (R.ahead from.old) (R.ahead from.new) by
+        bytes.new)
+        (StopsFirst (W.held to.old) (W.held to.new) (R.ahead from.old) (R.ahead from.new) by
+        bytes.new) }
     ensures reads { CountsReads (R.count from.old) (R.count from.new) result }
     ensures writes { CountsWrites (W.count to.old) (W.count to.new) result }
 {
@@ -70,11 +77,12 @@ fn read_first<R: ByteIn, W: ByteOut>(
     switch_mode(from, to, leave_of(by), LEAVE)
 }
 
-/// Has the device read its chip from address 0 on, in four-byte mode where that is the way, and compares what comes with bytes, as many
-/// at once as it can give. No memory is taken.
+/// Has the device read its chip from address 0 on, in four-byte mode where that is the way, and
+/// compares what comes with bytes, as many at once as it can give. No memory is taken.
 ///
-/// `Differs` names the lowest address whose byte is another; no more was read, and four-byte mode was left where it was entered.
-/// `Exchange` where an exchange ended early, after which nothing was sent.
+/// `Differs` names the lowest address whose byte is another; no more was read, and four-byte mode
+/// was left where it was entered. `Exchange` where an exchange ended early, after which nothing was
+/// sent.
 pub fn read_again<R: ByteIn, W: ByteOut>(
     from: &mut R,
     to: &mut W,
@@ -85,7 +93,8 @@ pub fn read_again<R: ByteIn, W: ByteOut>(
     requires size { length bytes.now ≤ 2 ^ 32 }
     requires reader { R.count from.old < 2 ^ 64 - 1 }
     requires writer { W.count to.old < 2 ^ 64 - 1 }
-    ensures again { ReadsWhole (W.held to.old) (W.held to.new) (R.ahead from.old) (R.ahead from.new) result by bytes.now }
+    ensures again { ReadsWhole (W.held to.old) (W.held to.new) (R.ahead from.old) (R.ahead from.new)
+        result by bytes.now }
     ensures reads { CountsMismatch Read (R.count from.old) (R.count from.new) result }
     ensures writes { CountsMismatch Write (W.count to.old) (W.count to.new) result }
 {
@@ -105,7 +114,8 @@ pub fn read_again<R: ByteIn, W: ByteOut>(
     }
 }
 
-/// Has the device read its chip from an address on, as far as there is room. The bytes before that address stay.
+/// Has the device read its chip from an address on, as far as there is room. The bytes before that
+/// address stay.
 pub(crate) fn read_on<R: ByteIn, W: ByteOut>(
     from: &mut R,
     to: &mut W,
@@ -119,8 +129,10 @@ pub(crate) fn read_on<R: ByteIn, W: ByteOut>(
     requires reader { R.count from.old < 2 ^ 64 - 1 }
     requires writer { W.count to.old < 2 ^ 64 - 1 }
     ensures read { MatchResult result
-        (λ _. HasReadOn (W.held to.old) (W.held to.new) (R.ahead from.old) (R.ahead from.new) by (take start bytes.old) bytes.new)
-        (StopsOn (W.held to.old) (W.held to.new) (R.ahead from.old) (R.ahead from.new) by (take start bytes.old)) }
+        (λ _. HasReadOn (W.held to.old) (W.held to.new) (R.ahead from.old) (R.ahead from.new) by
+        (take start bytes.old) bytes.new)
+        (StopsOn (W.held to.old) (W.held to.new) (R.ahead from.old) (R.ahead from.new) by
+        (take start bytes.old)) }
     ensures size { length bytes.new ≡ length bytes.old }
     ensures reads { CountsReads (R.count from.old) (R.count from.new) result }
     ensures writes { CountsWrites (W.count to.old) (W.count to.new) result }
@@ -149,7 +161,8 @@ pub(crate) fn compare_all<R: ByteIn, W: ByteOut>(
     requires size { length bytes.now ≤ 2 ^ 32 }
     requires reader { R.count from.old < 2 ^ 64 - 1 }
     requires writer { W.count to.old < 2 ^ 64 - 1 }
-    ensures again { ReadsAgain (W.held to.old) (W.held to.new) (R.ahead from.old) (R.ahead from.new) result by bytes.now }
+    ensures again { ReadsAgain (W.held to.old) (W.held to.new) (R.ahead from.old) (R.ahead from.new)
+        result by bytes.now }
     ensures reads { CountsMismatch Read (R.count from.old) (R.count from.new) result }
     ensures writes { CountsMismatch Write (W.count to.old) (W.count to.new) result }
 {

@@ -27,8 +27,10 @@ pub(crate) fn read_piece<R: ByteIn, W: ByteOut>(
     requires reader { R.count from.old < 2 ^ 64 - 1 }
     requires writer { W.count to.old < 2 ^ 64 - 1 }
     ensures read { MatchResult result
-        (λ _. HasLogged (W.held to.old) (W.held to.new) (R.ahead from.old) (R.ahead from.new) (read_op by address piece.new ∷ []))
-        (StopsPiece (W.held to.old) (W.held to.new) (R.ahead from.old) (R.ahead from.new) by address piece.new) }
+        (λ _. HasLogged (W.held to.old) (W.held to.new) (R.ahead from.old) (R.ahead from.new)
+        (read_op by address piece.new ∷ []))
+        (StopsPiece (W.held to.old) (W.held to.new) (R.ahead from.old) (R.ahead from.new) by address
+        piece.new) }
     ensures reads { CountsReads (R.count from.old) (R.count from.new) result }
     ensures writes { CountsWrites (W.count to.old) (W.count to.new) result }
 {
@@ -46,8 +48,10 @@ fn ask_piece<R: ByteIn, W: ByteOut>(
     requires size { length piece.old < 2 ^ 24 }
     requires reader { R.count from.old < 2 ^ 64 - 1 }
     requires writer { W.count to.old < 2 ^ 64 - 1 }
-    ensures asked { Asks (W.held to.old) (W.held to.new) (R.ahead from.old) (R.ahead from.new) result
-        (request (sent_by by address (length piece.new)) (length piece.new)) (Answers (R.ahead from.old) (R.ahead from.new) result piece.new) }
+    ensures asked { Asks (W.held to.old) (W.held to.new) (R.ahead from.old) (R.ahead from.new)
+        result
+        (request (sent_by by address (length piece.new)) (length piece.new))
+        (Answers (R.ahead from.old) (R.ahead from.new) result piece.new) }
     ensures reads { CountsReads (R.count from.old) (R.count from.new) result }
     ensures writes { CountsWrites (W.count to.old) (W.count to.new) result }
 {
@@ -80,7 +84,8 @@ pub(crate) fn compare_piece<R: ByteIn, W: ByteOut>(
     requires end { address + length piece.now < 2 ^ 32 + 1 }
     requires reader { R.count from.old < 2 ^ 64 - 1 }
     requires writer { W.count to.old < 2 ^ 64 - 1 }
-    ensures read { ReadsPiece (W.held to.old) (W.held to.new) (R.ahead from.old) (R.ahead from.new) result by address piece.now }
+    ensures read { ReadsPiece (W.held to.old) (W.held to.new) (R.ahead from.old) (R.ahead from.new)
+        result by address piece.now }
     ensures reads { CountsMismatch Read (R.count from.old) (R.count from.new) result }
     ensures writes { CountsMismatch Write (W.count to.old) (W.count to.new) result }
 {
@@ -107,7 +112,8 @@ fn expect_piece<R: ByteIn, W: ByteOut>(
     requires size { length piece.now < 2 ^ 24 }
     requires reader { R.count from.old < 2 ^ 64 - 1 }
     requires writer { W.count to.old < 2 ^ 64 - 1 }
-    ensures known { Knows (W.held to.old) (W.held to.new) (R.ahead from.old) (R.ahead from.new) result
+    ensures known { Knows (W.held to.old) (W.held to.new) (R.ahead from.old) (R.ahead from.new)
+        result
         (request (sent_by by address (length piece.now)) (length piece.now)) piece.now }
     ensures reads { CountsReason Read (R.count from.old) (R.count from.new) result }
     ensures writes { CountsReason Write (W.count to.old) (W.count to.new) result }

@@ -27,7 +27,8 @@ pub(crate) fn switch_mode<R: ByteIn, W: ByteOut>(
 ) -> Result<(), Fault>
     requires reader { R.count from.old < 2 ^ 64 - 1 }
     requires writer { W.count to.old < 2 ^ 64 - 1 }
-    ensures switches { Operates (W.held to.old) (W.held to.new) (R.ahead from.old) (R.ahead from.new) result (switch_ops switch opcode) }
+    ensures switches { Operates (W.held to.old) (W.held to.new) (R.ahead from.old)
+        (R.ahead from.new) result (switch_ops switch opcode) }
     ensures reads { CountsReads (R.count from.old) (R.count from.new) result }
     ensures writes { CountsWrites (W.count to.old) (W.count to.new) result }
 {
@@ -46,7 +47,8 @@ pub(crate) fn switch_mode<R: ByteIn, W: ByteOut>(
 fn send<R: ByteIn, W: ByteOut>(from: &mut R, to: &mut W, opcode: u8) -> Result<(), Fault>
     requires reader { R.count from.old < 2 ^ 64 - 1 }
     requires writer { W.count to.old < 2 ^ 64 - 1 }
-    ensures sends { Operates (W.held to.old) (W.held to.new) (R.ahead from.old) (R.ahead from.new) result (bare opcode ∷ []) }
+    ensures sends { Operates (W.held to.old) (W.held to.new) (R.ahead from.old) (R.ahead from.new)
+        result (bare opcode ∷ []) }
     ensures reads { CountsReads (R.count from.old) (R.count from.new) result }
     ensures writes { CountsWrites (W.count to.old) (W.count to.new) result }
 {

@@ -1,9 +1,11 @@
 //! The SFDP tables of the chip behind a device.
 
-ghost use Rattle.std.specs.Prelude.{◌≡◌, ◌↔◌, ◌≤◌, ◌<◌, ◌+◌, ◌-◌, ◌*◌, ◌^◌, true, length, MatchResult};
+ghost use Rattle.std.specs.Prelude.{◌≡◌, ◌↔◌, ◌≤◌, ◌<◌, ◌+◌, ◌-◌, ◌*◌, ◌^◌, true, length};
+ghost use Rattle.std.specs.Prelude.{MatchResult};
 ghost use Rattle.nor_reader.specs.declared.tables.TablesFault.TheVariants.{Memory};
 ghost use Rattle.nor_serprog.specs.declared.fault.Fault.TheVariants.{Read, Write};
-ghost use Rattle.nor_reader.specs.Tables.{CountsTables, Grows, HasReadTables, HasSignature, StopsTables, headers_end, tables_size};
+ghost use Rattle.nor_reader.specs.Tables.{CountsTables, Grows, HasReadTables, HasSignature};
+ghost use Rattle.nor_reader.specs.Tables.{StopsTables, headers_end, tables_size};
 
 use crate::by::ReadBy;
 use crate::pass::{compare_all, read_on};
@@ -37,11 +39,12 @@ impl From<AllocError> for TablesFault {
     }
 }
 
-/// Has the device read the SFDP tables of its chip, from address 0 on as far as the headers and the tables that they point at reach,
-/// as many bytes at once as it can give; and then again, and compares them. Memory is taken for them.
+/// Has the device read the SFDP tables of its chip, from address 0 on as far as the headers and the
+/// tables that they point at reach, as many bytes at once as it can give; and then again, and
+/// compares them. Memory is taken for them.
 ///
-/// `NoSignature` where the first four bytes aren't `SFDP`; no more than the header was read. `Unread` where they didn't come twice
-/// alike. `Memory` where a growth is refused.
+/// `NoSignature` where the first four bytes aren't `SFDP`; no more than the header was read.
+/// `Unread` where they didn't come twice alike. `Memory` where a growth is refused.
 pub fn read_tables<R: ByteIn, W: ByteOut>(
     alloc: Global,
     from: &mut R,
@@ -51,7 +54,8 @@ pub fn read_tables<R: ByteIn, W: ByteOut>(
     requires reader { R.count from.old < 2 ^ 64 - 1 }
     requires writer { W.count to.old < 2 ^ 64 - 1 }
     ensures tables { MatchResult result
-        (λ bytes. HasReadTables (W.held to.old) (W.held to.new) (R.ahead from.old) (R.ahead from.new) bytes.items)
+        (λ bytes. HasReadTables (W.held to.old) (W.held to.new) (R.ahead from.old)
+        (R.ahead from.new) bytes.items)
         (StopsTables (W.held to.old) (W.held to.new) (R.ahead from.old) (R.ahead from.new)) }
     ensures reads { CountsTables Read (R.count from.old) (R.count from.new) result }
     ensures writes { CountsTables Write (W.count to.old) (W.count to.new) result }
@@ -89,7 +93,8 @@ fn grow<R: ByteIn, W: ByteOut>(
     requires end { end ≤ 2 ^ 24 }
     requires reader { R.count from.old < 2 ^ 64 - 1 }
     requires writer { W.count to.old < 2 ^ 64 - 1 }
-    ensures grows { Grows (W.held to.old) (W.held to.new) (R.ahead from.old) (R.ahead from.new) result bytes.old.items bytes.new.items end }
+    ensures grows { Grows (W.held to.old) (W.held to.new) (R.ahead from.old) (R.ahead from.new)
+        result bytes.old.items bytes.new.items end }
     ensures reads { CountsTables Read (R.count from.old) (R.count from.new) result }
     ensures writes { CountsTables Write (W.count to.old) (W.count to.new) result }
 {
@@ -126,7 +131,8 @@ fn headers_end(header: &[u8]) -> usize
     8 + 8 * (usize::from(header[6]) + 1)
 }
 
-/// Where the tables end that the parameter headers point at, or these, within what three address bytes reach.
+/// Where the tables end that the parameter headers point at, or these, within what three address
+/// bytes reach.
 fn tables_size(headers: &[u8]) -> usize
     requires { length headers.now ≡ headers_end headers.now }
     ensures is { result ≡ tables_size headers.now }

@@ -14,7 +14,8 @@ pub enum ScriptFault {
     /// The first line isn't `norscript 1` with its LF.
     #[error("script line {0}: not the header")]
     Header(u64),
-    /// A line has none of the forms of a step, or the digits of a verify aren't pairs of lower-case ones.
+    /// A line has none of the forms of a step, or the digits of a verify aren't pairs of lower-case
+    /// ones.
     #[error("script line {0}: not the line of a step")]
     BadLine(u64),
     /// A byte among clocks is no symbol.

@@ -1,6 +1,7 @@
 //! Numbers and bytes in lower-case hexadecimal digits.
 
-ghost use Rattle.std.specs.Prelude.{◌≡◌, ◌*◌, ◌<◌, ◌-◌, ◌/◌, ◌^◌, true, length, flat_map, IfErr, OnOk};
+ghost use Rattle.std.specs.Prelude.{◌≡◌, ◌*◌, ◌<◌, ◌-◌, ◌/◌, ◌^◌, true, length, flat_map, IfErr};
+ghost use Rattle.std.specs.Prelude.{OnOk};
 ghost use Rattle.nor_base.specs.Device.{Writes, Counts};
 ghost use Rattle.nor_base.specs.Script.{hex_digit, hex_pair};
 ghost use Rattle.nor_script.specs.declared.fault.ScriptFault.TheVariants.{Memory};
@@ -35,7 +36,8 @@ pub fn hex_number(number: u32) -> [u8; 8]
 
 /// Puts two lower-case digits for each byte.
 ///
-/// At `Failed` a proper prefix of them was taken; it comes from the writer alone, whose count of failures rose by one.
+/// At `Failed` a proper prefix of them was taken; it comes from the writer alone, whose count of
+/// failures rose by one.
 pub fn put_hexadecimal<W: ByteOut>(bytes: &[u8], out: &mut W) -> Result<(), Failed>
     requires { W.count out.old < 2 ^ 64 - 1 }
     ensures bytes { Writes (W.held out.old) (W.held out.new) result (flat_map hex_pair bytes.now) }
@@ -53,7 +55,8 @@ pub fn put_hexadecimal<W: ByteOut>(bytes: &[u8], out: &mut W) -> Result<(), Fail
     Ok(())
 }
 
-/// The bytes that pairs of lower-case digits spell, in a buffer that is used again; `Memory` where a growth is refused.
+/// The bytes that pairs of lower-case digits spell, in a buffer that is used again; `Memory` where
+/// a growth is refused.
 pub(crate) fn decode(digits: &[u8], bytes: &mut Vec<u8>) -> Result<(), ScriptFault>
     requires { are_pairs digits.now ≡ true }
     ensures read { OnOk result (SpellsBytes digits.now bytes.new.items) }

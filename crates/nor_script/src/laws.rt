@@ -1,4 +1,5 @@
-//! What follows from the definitions. The function asks for laws of theirs and does nothing else: its contract is the law.
+//! What follows from the definitions. The function asks for laws of theirs and does nothing else:
+//! its contract is the law.
 
 ghost use Rattle.nor_script.specs.Laws.{ScriptsAreFaultless};
 

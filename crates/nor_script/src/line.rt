@@ -1,9 +1,11 @@
 //! What one line of a script says.
 
-ghost use Rattle.std.specs.Prelude.{◌≡◌, ◌<◌, ◌^◌, ◌==◌, position, true, false, [], IfOk, IfErr, MatchOption, count_by, Some};
+ghost use Rattle.std.specs.Prelude.{◌≡◌, ◌<◌, ◌^◌, ◌==◌, position, true, false, [], IfOk, IfErr};
+ghost use Rattle.std.specs.Prelude.{MatchOption, count_by, Some};
 ghost use Rattle.std.specs.List.{list_all};
 ghost use Rattle.nor_base.specs.Sample.{is_symbol};
-ghost use Rattle.nor_script.specs.Line.{clocks_fault, is_blank, are_two_parts, is_lower_digit, are_pairs, verify_fault, step_fault, count_fault};
+ghost use Rattle.nor_script.specs.Line.{clocks_fault, is_blank, are_two_parts, is_lower_digit};
+ghost use Rattle.nor_script.specs.Line.{are_pairs, verify_fault, step_fault, count_fault};
 ghost use Rattle.nor_script.specs.Parts.{AreParts, AreVerifyParts, IsOnlyBlank, or_fault};
 ghost use Rattle.nor_script.specs.LineParts.{AreOfLine};
 
@@ -31,7 +33,8 @@ pub(crate) struct LineParts<'a> {
 
 /// The parts of a line that is no end line, or why it is that of no step.
 pub(crate) fn parts_on(number: u64, line: &[u8]) -> Result<LineParts<'_>, ScriptFault>
-    ensures read { IfOk result (λ parts. AreOfLine line.now parts.kind parts.clocks.now parts.digits.now) }
+    ensures read { IfOk result
+        (λ parts. AreOfLine line.now parts.kind parts.clocks.now parts.digits.now) }
     ensures refused { IfErr result (λ fault. step_fault number line.now ≡ Some fault) }
 {
     let [letter, b' ', rest @ ..] = line else {
@@ -115,7 +118,8 @@ fn verify_parts(number: u64, rest: &[u8]) -> Result<(&[u8], &[u8]), ScriptFault>
 
 /// The two parts around the only blank, where neither is empty.
 fn two_parts(rest: &[u8]) -> Option<(&[u8], &[u8])>
-    ensures { MatchOption result (are_two_parts rest.now ≡ false) (λ parts. AreParts rest.now parts.0.now parts.1.now) }
+    ensures { MatchOption result (are_two_parts rest.now ≡ false)
+        (λ parts. AreParts rest.now parts.0.now parts.1.now) }
 {
     let Some(blank) = only_blank(rest) else {
         return None;
@@ -137,7 +141,8 @@ pub(crate) fn place_of(wanted: u8, bytes: &[u8]) -> Option<usize>
 
 /// Where the only blank stands.
 fn only_blank(rest: &[u8]) -> Option<usize>
-    ensures { MatchOption result ((count_by is_blank rest.now == 1) ≡ false) (IsOnlyBlank rest.now) }
+    ensures { MatchOption result ((count_by is_blank rest.now == 1) ≡ false)
+        (IsOnlyBlank rest.now) }
 {
     let Some(blank) = place_of(b' ', rest) else {
         return None;

@@ -1,11 +1,13 @@
 //! Lines out of a device, in a buffer that is used again.
 
-ghost use Rattle.std.specs.Prelude.{◌≡◌, ◌<◌, ◌≤◌, ◌-◌, ◌+◌, ◌^◌, false, [], length, take, drop, IfOk, OnOk};
+ghost use Rattle.std.specs.Prelude.{◌≡◌, ◌<◌, ◌≤◌, ◌-◌, ◌+◌, ◌^◌, false, [], length, take, drop};
+ghost use Rattle.std.specs.Prelude.{IfOk, OnOk};
 ghost use Rattle.std.specs.List.{list_any};
 ghost use Rattle.nor_base.specs.Device.{Counts};
 ghost use Rattle.nor_script.specs.Faults.{is_line_feed};
 ghost use Rattle.nor_script.specs.Stream.{reading, CountsRead};
-ghost use Rattle.nor_script.specs.Lines.{FillsPast, FindsLine, IsFirstLine, LooksBehind, Marks, Pulls, ReadsHeader, SkipsHeader};
+ghost use Rattle.nor_script.specs.Lines.{FillsPast, FindsLine, IsFirstLine, LooksBehind, Marks};
+ghost use Rattle.nor_script.specs.Lines.{Pulls, ReadsHeader, SkipsHeader};
 
 use crate::fault::ReadFault;
 use crate::line::place_of;
@@ -21,7 +23,8 @@ const HEADER: usize = 12;
 
 /// A buffer of the bytes that came out of a device and are not read yet.
 ///
-/// It has room for at least [`PART`] bytes, and grows to twice its size where a line fills more than half of it.
+/// It has room for at least [`PART`] bytes, and grows to twice its size where a line fills more
+/// than half of it.
 #[derive(Drop)]
 pub(crate) struct LineBuffer {
     buffer: Vec<u8>,
@@ -44,7 +47,8 @@ impl Model for LineBuffer {
       room = length s.buffer.items - s.upto;
     } };
 
-    ghost invariant = { λ s. (s.from ≤ s.upto) × (s.upto ≤ length s.buffer.items) × (s.line ≤ s.end) × (s.end ≤ length s.buffer.items) };
+    ghost invariant = { λ s. (s.from ≤ s.upto) × (s.upto ≤ length s.buffer.items) × (s.line ≤ s.end)
+        × (s.end ≤ length s.buffer.items) };
 }
 
 impl LineBuffer {
@@ -75,7 +79,8 @@ impl LineBuffer {
         &self.buffer[self.from..self.upto]
     }
 
-    /// Finds the next line, for which it takes as many bytes as it needs. `false` where no LF is left.
+    /// Finds the next line, for which it takes as many bytes as it needs. `false` where no LF is
+    /// left.
     pub(crate) fn find_line<R: ByteIn>(&mut self, source: &mut R) -> Result<bool, ReadFault>
         requires { R.count source.old < 2 ^ 64 - 1 }
         ensures lines { FindsLine (reading (R.ahead source.old) self.old.held)
@@ -104,7 +109,8 @@ impl LineBuffer {
     /// Reads the header. `false` where the text doesn't begin with it.
     pub(crate) fn read_header<R: ByteIn>(&mut self, source: &mut R) -> Result<bool, ReadFault>
         requires { R.count source.old < 2 ^ 64 - 1 }
-        ensures bytes { ReadsHeader (reading (R.ahead source.old) self.old.held) (reading (R.ahead source.new) self.new.held) result }
+        ensures bytes { ReadsHeader (reading (R.ahead source.old) self.old.held)
+            (reading (R.ahead source.new) self.new.held) result }
         ensures count { CountsRead (R.count source.old) (R.count source.new) result }
     {
         while self.held().len() < HEADER {
@@ -167,7 +173,8 @@ impl LineBuffer {
     /// Takes more bytes; 0 is the end.
     pub(crate) fn pull<R: ByteIn>(&mut self, source: &mut R) -> Result<usize, ReadFault>
         requires { R.count source.old < 2 ^ 64 - 1 }
-        ensures bytes { Pulls (reading (R.ahead source.old) self.old.held) (reading (R.ahead source.new) self.new.held) result }
+        ensures bytes { Pulls (reading (R.ahead source.old) self.old.held)
+            (reading (R.ahead source.new) self.new.held) result }
         ensures count { CountsRead (R.count source.old) (R.count source.new) result }
         ensures bound { OnOk result (length self.new.held < 2 ^ 63) }
     {
@@ -179,7 +186,8 @@ impl LineBuffer {
     fn take<R: ByteIn>(&mut self, source: &mut R) -> Result<usize, ReadFault>
         requires room { 0 < self.old.room }
         requires count { R.count source.old < 2 ^ 64 - 1 }
-        ensures bytes { Pulls (reading (R.ahead source.old) self.old.held) (reading (R.ahead source.new) self.new.held) result }
+        ensures bytes { Pulls (reading (R.ahead source.old) self.old.held)
+            (reading (R.ahead source.new) self.new.held) result }
         ensures count { CountsRead (R.count source.old) (R.count source.new) result }
         ensures bound { OnOk result (length self.new.held < 2 ^ 63) }
     {
@@ -188,7 +196,8 @@ impl LineBuffer {
         Ok(given)
     }
 
-    /// Sees that there is room behind the bytes held: these move to the front, or the buffer grows to twice its size.
+    /// Sees that there is room behind the bytes held: these move to the front, or the buffer grows
+    /// to twice its size.
     fn make_room(&mut self) -> Result<(), AllocError>
         ensures same { self.new.held ≡ self.old.held }
         ensures room { IfOk result (λ _. 0 < self.new.room) }
@@ -213,7 +222,8 @@ impl LineBuffer {
 fn fill_past<R: ByteIn>(source: &mut R, buffer: &mut [u8], upto: usize) -> Result<usize, Failed>
     requires upto { upto ≤ length buffer.old }
     requires count { R.count source.old < 2 ^ 64 - 1 }
-    ensures bytes { FillsPast (R.ahead source.old) (R.ahead source.new) buffer.old buffer.new upto result }
+    ensures bytes { FillsPast (R.ahead source.old) (R.ahead source.new) buffer.old buffer.new upto
+        result }
     ensures count { Counts (R.count source.old) (R.count source.new) result }
 {
     source.take(&mut buffer[upto..])

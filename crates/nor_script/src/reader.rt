@@ -11,13 +11,15 @@ use crate::owned::step_on;
 use nor_base::Step;
 use std::alloc::Global;
 
-/// Reads a script: exactly the texts that [`crate::begin`], [`crate::write_step`] and [`crate::finish`] write.
+/// Reads a script: exactly the texts that [`crate::begin`], [`crate::write_step`] and
+/// [`crate::finish`] write.
 ///
 /// The first fault is told with its line, counted from 1:
 /// - `Header`: the first line isn't `norscript 1` with its LF.
-/// - `NoEnd`: the text ends before an end line is closed by LF; before the other faults of that line.
-/// - `BadLine`: a line that is none of `x CLOCKS`, `p CLOCKS`, `v CLOCKS HEX` and `end N`, with one blank between two
-///   parts and nothing else, or a HEX that isn't pairs of lower-case digits.
+/// - `NoEnd`: the text ends before an end line is closed by LF; before the other faults of that
+///   line.
+/// - `BadLine`: a line that is none of `x CLOCKS`, `p CLOCKS`, `v CLOCKS HEX` and `end N`, with one
+///   blank between two parts and nothing else, or a HEX that isn't pairs of lower-case digits.
 /// - `BadSymbol`: a byte of CLOCKS that is no symbol; it is told before a fault of HEX.
 /// - `BadCount`: N isn't the number of steps in decimal without leading zeros.
 /// - `AfterEnd`: a byte after the end line.
@@ -32,9 +34,9 @@ pub fn read(alloc: Global, text: &[u8]) -> Result<Vec<Step>, ScriptFault>
     Ok(steps)
 }
 
-/// Reads a script as [`read`] does, and keeps the steps above the first fault: those whose lines stand whole above its line. So
-/// `Header` comes with none, and `AfterEnd` with all steps of the script that something follows. Of the steps that come with
-/// `Memory` nothing is said.
+/// Reads a script as [`read`] does, and keeps the steps above the first fault: those whose lines
+/// stand whole above its line. So `Header` comes with none, and `AfterEnd` with all steps of the
+/// script that something follows. Of the steps that come with `Memory` nothing is said.
 pub fn read_until_fault(alloc: Global, text: &[u8]) -> (Vec<Step>, Result<(), ScriptFault>)
     ensures read { IfOk result.1 (λ _. IsScript text.now result.0.items) }
     ensures refused { IfErr result.1 (Refuses text.now) }
@@ -72,9 +74,11 @@ fn read_steps(alloc: Global, text: &[u8], steps: &mut Vec<Step>) -> Result<(), S
     Err(ScriptFault::NoEnd(steps.len() as u64 + 2))
 }
 
-/// The first line of a text, without the LF that closes it, and what stands after that; None where no LF stands in the text.
+/// The first line of a text, without the LF that closes it, and what stands after that; None where
+/// no LF stands in the text.
 pub fn first_line(text: &[u8]) -> Option<(&[u8], &[u8])>
-    ensures { MatchOption result (list_any is_line_feed text.now ≡ false) (λ cut. BeginsWith text.now cut.0.now cut.1.now) }
+    ensures { MatchOption result (list_any is_line_feed text.now ≡ false)
+        (λ cut. BeginsWith text.now cut.0.now cut.1.now) }
 {
     let Some(end) = place_of(b'\n', text) else {
         return None;

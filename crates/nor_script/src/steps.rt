@@ -5,7 +5,8 @@ ghost use Rattle.nor_script.specs.View.{step_of};
 ghost use Rattle.nor_script.specs.Line.{step_fault};
 ghost use Rattle.nor_script.specs.Lines.{IsFirstLine, ReadsEnd, ReadsStep};
 ghost use Rattle.nor_script.specs.Parts.{TellsFault};
-ghost use Rattle.nor_script.specs.Stream.{reading, Advances, Begins, CountsRead, CountsStep, HadText, IsScriptOf, StopsReader, TellsScript};
+ghost use Rattle.nor_script.specs.Stream.{reading, Advances, Begins, CountsRead, CountsStep};
+ghost use Rattle.nor_script.specs.Stream.{HadText, IsScriptOf, StopsReader, TellsScript};
 ghost use Rattle.nor_script.specs.declared.fault.ScriptFault.TheVariants.{Memory};
 
 use crate::fault::{ReadFault, ScriptFault};
@@ -22,8 +23,9 @@ const MOST: u64 = 1 << 62;
 
 /// Reads a script out of a device, step by step, in a buffer that it uses again.
 ///
-/// The buffer has room for 256 KiB at first, and grows to twice its size where a line fills half of it or more; so a line of
-/// any length is read. A step's clocks are borrowed from the buffer, and the bytes that it expects from a second one.
+/// The buffer has room for 256 KiB at first, and grows to twice its size where a line fills half of
+/// it or more; so a line of any length is read. A step's clocks are borrowed from the buffer, and
+/// the bytes that it expects from a second one.
 #[derive(Drop)]
 pub struct StepReader {
     lines: LineBuffer,
@@ -48,14 +50,15 @@ impl Model for StepReader {
       steps = s.steps;
     } };
 
-    ghost invariant = { λ s. (s.from ≤ s.upto) × (s.upto ≤ length s.lines.line) × (s.steps ≤ 2 ^ 62) };
+    ghost invariant = { λ s. (s.from ≤ s.upto) × (s.upto ≤ length s.lines.line)
+        × (s.steps ≤ 2 ^ 62) };
 }
 
 impl StepReader {
     /// Begins to read: the header line.
     ///
-    /// `Header`, line 1, where the text doesn't begin with it; `Device` where the device failed; `Memory` where a growth is
-    /// refused.
+    /// `Header`, line 1, where the text doesn't begin with it; `Device` where the device failed;
+    /// `Memory` where a growth is refused.
     pub fn begin<R: ByteIn>(alloc: Global, source: &mut R) -> Result<StepReader, ReadFault>
         requires { R.count source.old < 2 ^ 64 - 1 }
         ensures begun { Begins (R.ahead source.old) (R.ahead source.new) result }
@@ -75,15 +78,17 @@ impl StepReader {
         })
     }
 
-    /// Goes on to the next step, which [`StepReader::view`] shows then; it is one that a script may have. `false` where the end
-    /// line came with the right number, and the device is at its end.
+    /// Goes on to the next step, which [`StepReader::view`] shows then; it is one that a script may
+    /// have. `false` where the end line came with the right number, and the device is at its end.
     ///
-    /// A fault is that which [`crate::read`] tells of the whole text. `Device` where the device failed. `Memory` where a growth
-    /// is refused, or 2^62 steps were read and a further one comes. After each of them the reader stands where it stood, before
-    /// the line, with the bytes that came; so a call after `Device` tries again. After the end no line is left: `NoEnd`.
+    /// A fault is that which [`crate::read`] tells of the whole text. `Device` where the device
+    /// failed. `Memory` where a growth is refused, or 2^62 steps were read and a further one comes.
+    /// After each of them the reader stands where it stood, before the line, with the bytes that
+    /// came; so a call after `Device` tries again. After the end no line is left: `NoEnd`.
     pub fn advance<R: ByteIn>(&mut self, source: &mut R) -> Result<bool, ReadFault>
         requires { R.count source.old < 2 ^ 64 - 1 }
-        ensures step { Advances (reading (R.ahead source.old) self.old.held) (reading (R.ahead source.new) self.new.held)
+        ensures step { Advances (reading (R.ahead source.old) self.old.held)
+            (reading (R.ahead source.new) self.new.held)
             self.old.steps self.new.step result }
         ensures number { CountsStep self.old.steps self.new.steps result }
         ensures bound { self.new.steps ≤ 2 ^ 62 }
@@ -129,15 +134,17 @@ impl StepReader {
     }
 }
 
-/// Whether all that a device has ahead is a script: the number of its steps. Of a device that doesn't tell its bytes this is said
-/// of some text.
+/// Whether all that a device has ahead is a script: the number of its steps. Of a device that
+/// doesn't tell its bytes this is said of some text.
 ///
-/// Else its first fault, as [`crate::read`] tells it; `Device` where the device failed; `Memory` where a growth is refused, or
-/// the script has more than 2^62 steps.
+/// Else its first fault, as [`crate::read`] tells it; `Device` where the device failed; `Memory`
+/// where a growth is refused, or the script has more than 2^62 steps.
 pub fn count_steps<R: ByteIn>(alloc: Global, source: &mut R) -> Result<u64, ReadFault>
     requires { R.count source.old < 2 ^ 64 - 1 }
     ensures text { TellsScript (R.ahead source.old) (R.ahead source.new) result }
-    ensures read { IfOk result (λ count. HadText (R.ahead source.old) (R.ahead source.new) (λ text. IsScriptOf text count)) }
+    ensures read { IfOk result
+        (λ count. HadText (R.ahead source.old) (R.ahead source.new)
+        (λ text. IsScriptOf text count)) }
     ensures stopped { IfErr result (StopsReader (R.ahead source.old) (R.ahead source.new)) }
     ensures count { CountsRead (R.count source.old) (R.count source.new) result }
 {
@@ -155,7 +162,8 @@ fn read_end<R: ByteIn>(
     requires steps { steps ≤ 2 ^ 62 }
     requires line { IsFirstLine lines.old }
     requires count { R.count source.old < 2 ^ 64 - 1 }
-    ensures bytes { ReadsEnd (reading (R.ahead source.old) lines.old.held) (reading (R.ahead source.new) lines.new.held)
+    ensures bytes { ReadsEnd (reading (R.ahead source.old) lines.old.held)
+        (reading (R.ahead source.new) lines.new.held)
         lines.old.line steps result }
     ensures count { CountsRead (R.count source.old) (R.count source.new) result }
 {
@@ -166,7 +174,8 @@ fn read_end<R: ByteIn>(
     Ok(false)
 }
 
-/// Reads the line found, which is no end line: the kind of its step, and where its clocks end, which begin behind two bytes.
+/// Reads the line found, which is no end line: the kind of its step, and where its clocks end,
+/// which begin behind two bytes.
 fn read_step(
     lines: &mut LineBuffer,
     expect: &mut Vec<u8>,
@@ -174,9 +183,11 @@ fn read_step(
 ) -> Result<(Kind, usize), ScriptFault>
     requires steps { steps ≤ 2 ^ 62 }
     requires line { IsFirstLine lines.old }
-    ensures read { IfOk result (λ read. ReadsStep lines.old lines.new read.0 read.1 expect.new.items) }
+    ensures read { IfOk result
+        (λ read. ReadsStep lines.old lines.new read.0 read.1 expect.new.items) }
     ensures more { IfOk result (λ _. steps < 2 ^ 62) }
-    ensures refused { IfErr result (λ fault. (lines.new ≡ lines.old) × TellsFault (step_fault (steps + 2) lines.old.line) fault) }
+    ensures refused { IfErr result (λ fault. (lines.new ≡ lines.old)
+        × TellsFault (step_fault (steps + 2) lines.old.line) fault) }
 {
     if steps == MOST {
         return Err(ScriptFault::Memory);

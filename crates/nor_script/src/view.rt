@@ -1,6 +1,7 @@
 //! A step that borrows its clocks.
 
-/// A step that borrows its clocks. The specifications name the [`nor_base::Step`] that it shows by `step_of`.
+/// A step that borrows its clocks. The specifications name the [`nor_base::Step`] that it shows by
+/// `step_of`.
 #[derive(Clone, Copy, Drop)]
 pub enum StepView<'a> {
     /// As [`nor_base::Step::Send`].

@@ -12,7 +12,8 @@ use nor_base::{ByteOut, Failed, Step, put_all, put_parts};
 
 /// Writes the header line.
 ///
-/// At `Failed` a proper prefix of it was taken; it comes from the writer alone, whose count of failures rose by one.
+/// At `Failed` a proper prefix of it was taken; it comes from the writer alone, whose count of
+/// failures rose by one.
 pub fn begin<W: ByteOut>(writer: &mut W) -> Result<(), Failed>
     requires { W.count writer.old < 2 ^ 64 - 1 }
     ensures bytes { Writes (W.held writer.old) (W.held writer.new) result header }
@@ -21,13 +22,16 @@ pub fn begin<W: ByteOut>(writer: &mut W) -> Result<(), Failed>
     put_all(writer, b"norscript 1\n")
 }
 
-/// Writes the line of a step that a script may have ([`nor_base::is_step`]): `x CLOCKS`, `p CLOCKS` or `v CLOCKS HEX`.
+/// Writes the line of a step that a script may have ([`nor_base::is_step`]): `x CLOCKS`, `p CLOCKS`
+/// or `v CLOCKS HEX`.
 ///
-/// At `Failed` a proper prefix of it was taken; it comes from the writer alone, whose count of failures rose by one.
+/// At `Failed` a proper prefix of it was taken; it comes from the writer alone, whose count of
+/// failures rose by one.
 pub fn write_step<W: ByteOut>(step: &Step, writer: &mut W) -> Result<(), Failed>
     requires step { is_step step.now ≡ true }
     requires room { W.count writer.old < 2 ^ 64 - 1 }
-    ensures bytes { Writes (W.held writer.old) (W.held writer.new) result (closed (step_line step.now)) }
+    ensures bytes { Writes (W.held writer.old) (W.held writer.new) result
+        (closed (step_line step.now)) }
     ensures count { Counts (W.count writer.old) (W.count writer.new) result }
 {
     match step {
@@ -41,33 +45,40 @@ pub fn write_step<W: ByteOut>(step: &Step, writer: &mut W) -> Result<(), Failed>
 
 /// Writes the line of clocks that are sent: `x CLOCKS`. They are some symbols.
 ///
-/// At `Failed` a proper prefix of it was taken; it comes from the writer alone, whose count of failures rose by one.
+/// At `Failed` a proper prefix of it was taken; it comes from the writer alone, whose count of
+/// failures rose by one.
 pub fn write_send<W: ByteOut>(clocks: &[u8], writer: &mut W) -> Result<(), Failed>
     requires { W.count writer.old < 2 ^ 64 - 1 }
-    ensures bytes { Writes (W.held writer.old) (W.held writer.new) result (closed (step_line (Send clocks.now))) }
+    ensures bytes { Writes (W.held writer.old) (W.held writer.new) result
+        (closed (step_line (Send clocks.now))) }
     ensures count { Counts (W.count writer.old) (W.count writer.new) result }
 {
     put_parts(writer, &[b"x ", clocks, b"\n"])
 }
 
-/// Writes the line of clocks that are sent until the chip is idle: `p CLOCKS`. They are some symbols.
+/// Writes the line of clocks that are sent until the chip is idle: `p CLOCKS`. They are some
+/// symbols.
 ///
-/// At `Failed` a proper prefix of it was taken; it comes from the writer alone, whose count of failures rose by one.
+/// At `Failed` a proper prefix of it was taken; it comes from the writer alone, whose count of
+/// failures rose by one.
 pub fn write_poll<W: ByteOut>(clocks: &[u8], writer: &mut W) -> Result<(), Failed>
     requires { W.count writer.old < 2 ^ 64 - 1 }
-    ensures bytes { Writes (W.held writer.old) (W.held writer.new) result (closed (step_line (Poll clocks.now))) }
+    ensures bytes { Writes (W.held writer.old) (W.held writer.new) result
+        (closed (step_line (Poll clocks.now))) }
     ensures count { Counts (W.count writer.old) (W.count writer.new) result }
 {
     put_parts(writer, &[b"p ", clocks, b"\n"])
 }
 
-/// Writes the line of clocks that read, and of the bytes that they are to read: `v CLOCKS HEX`. They are some symbols, and
-/// some bytes.
+/// Writes the line of clocks that read, and of the bytes that they are to read: `v CLOCKS HEX`.
+/// They are some symbols, and some bytes.
 ///
-/// At `Failed` a proper prefix of it was taken; it comes from the writer alone, whose count of failures rose by one.
+/// At `Failed` a proper prefix of it was taken; it comes from the writer alone, whose count of
+/// failures rose by one.
 pub fn write_verify<W: ByteOut>(clocks: &[u8], expect: &[u8], writer: &mut W) -> Result<(), Failed>
     requires { W.count writer.old < 2 ^ 64 - 1 }
-    ensures bytes { Writes (W.held writer.old) (W.held writer.new) result (closed (step_line (Verify clocks.now expect.now))) }
+    ensures bytes { Writes (W.held writer.old) (W.held writer.new) result
+        (closed (step_line (Verify clocks.now expect.now))) }
     ensures count { Counts (W.count writer.old) (W.count writer.new) result }
 {
     put_parts(writer, &[b"v ", clocks, b" "])?;
@@ -77,7 +88,8 @@ pub fn write_verify<W: ByteOut>(clocks: &[u8], expect: &[u8], writer: &mut W) ->
 
 /// Writes the end line with the number of steps.
 ///
-/// At `Failed` a proper prefix of it was taken; it comes from the writer alone, whose count of failures rose by one.
+/// At `Failed` a proper prefix of it was taken; it comes from the writer alone, whose count of
+/// failures rose by one.
 pub fn finish<W: ByteOut>(steps: u64, writer: &mut W) -> Result<(), Failed>
     requires { W.count writer.old < 2 ^ 64 - 1 }
     ensures bytes { Writes (W.held writer.old) (W.held writer.new) result (end_line steps) }

@@ -39,7 +39,8 @@ pub struct Instr<'a> {
 impl<'a> Instr<'a> {
     /// An opcode alone.
     pub(crate) fn bare(op: u8) -> Instr<'a>
-        ensures { coded_of result ≡ record { op = op; address = 0; width = 0; dummies = 0; load = plain } }
+        ensures { coded_of result
+            ≡ record { op = op; address = 0; width = 0; dummies = 0; load = plain } }
     {
         Instr {
             op,

@@ -1,9 +1,10 @@
-//! Which instructions do an operation: its opcode, address bytes and dummy clocks by the strategy (opcodes as in the
-//! W25Q256JV datasheet, "Instruction Set Table", and JESD216B's four-byte address instructions).
+//! Which instructions do an operation: its opcode, address bytes and dummy clocks by the strategy
+//! (opcodes as in the W25Q256JV datasheet, "Instruction Set Table", and JESD216B's four-byte
+//! address instructions).
 //!
-//! [`lower`] gives the instructions of all operations at once; a [`Lowerer`] takes them in parts. An erase or a program is
-//! a write enable, the instruction and a poll. In strategy S4 four-byte mode is entered before the first operation and
-//! left after the last.
+//! [`lower`] gives the instructions of all operations at once; a [`Lowerer`] takes them in parts.
+//! An erase or a program is a write enable, the instruction and a poll. In strategy S4 four-byte
+//! mode is entered before the first operation and left after the last.
 #![tactic(auto)]
 
 mod fault;

@@ -20,8 +20,9 @@ const ENTER: u8 = 0xB7;
 /// The opcode that leaves it.
 const LEAVE: u8 = 0xE9;
 
-/// The instructions that do the operations, in their order, and nothing else. In strategy S4, where there is an operation,
-/// they begin with those that enter four-byte mode and end with those that leave it.
+/// The instructions that do the operations, in their order, and nothing else. In strategy S4, where
+/// there is an operation, they begin with those that enter four-byte mode and end with those that
+/// leave it.
 ///
 /// `Memory` where a growth is refused.
 pub fn lower<'a>(
@@ -31,7 +32,9 @@ pub fn lower<'a>(
     start: &Start,
     strategy: Strategy,
 ) -> Result<Vec<Instr<'a>>, SelectFault>
-    ensures { IfOk result (λ instrs. AreCoded instrs.items (lowered meaning.now start.now strategy (map op_of ops.now))) }
+    ensures { IfOk result
+        (λ instrs. AreCoded instrs.items
+        (lowered meaning.now start.now strategy (map op_of ops.now))) }
 {
     let mut instrs = Vec::new(alloc);
     if ops.is_empty() {
@@ -43,8 +46,8 @@ pub fn lower<'a>(
     Ok(instrs)
 }
 
-/// Gives the instructions of operations that come in parts. What its calls give, one after the other, is what [`lower`]
-/// gives for all the operations.
+/// Gives the instructions of operations that come in parts. What its calls give, one after the
+/// other, is what [`lower`] gives for all the operations.
 #[derive(Drop)]
 pub struct Lowerer<'m> {
     meaning: &'m Meaning,
@@ -58,13 +61,15 @@ impl<'m> Model for Lowerer<'m> {
 
     ghost Value = { Streaming };
 
-    ghost view = { λ l. record { meaning = l.meaning.now; start = l.start; by = l.strategy; started = l.started } };
+    ghost view = { λ l. record
+        { meaning = l.meaning.now; start = l.start; by = l.strategy; started = l.started } };
 }
 
 impl<'m> Lowerer<'m> {
     /// One that has seen no operation. It takes no memory.
     pub fn new(meaning: &'m Meaning, start: &Start, strategy: Strategy) -> Lowerer<'m>
-        ensures { result ≡ record { meaning = meaning.now; start = start.now; by = strategy; started = false } }
+        ensures { result ≡ record
+            { meaning = meaning.now; start = start.now; by = strategy; started = false } }
     {
         Lowerer {
             meaning,
@@ -88,12 +93,13 @@ impl<'m> Lowerer<'m> {
         self.strategy
     }
 
-    /// The instructions of the next operations; before the first operation of all those that enter the mode that the
-    /// strategy needs.
+    /// The instructions of the next operations; before the first operation of all those that enter
+    /// the mode that the strategy needs.
     ///
     /// `Memory` where a growth is refused; it is as before then.
     pub fn more<'a>(&mut self, alloc: Global, ops: &[Op<'a>]) -> Result<Vec<Instr<'a>>, SelectFault>
-        ensures instrs { IfOk result (λ instrs. AreCoded instrs.items (next self.old (map op_of ops.now))) }
+        ensures instrs { IfOk result (λ instrs.
+            AreCoded instrs.items (next self.old (map op_of ops.now))) }
         ensures started { IfOk result (λ _. self.new ≡ onward self.old (map op_of ops.now)) }
         ensures stays { IfErr result (λ _. self.new ≡ self.old) }
     {
@@ -123,8 +129,8 @@ impl<'m> Lowerer<'m> {
     }
 }
 
-/// What a [`Lowerer`] gives for the parts of some operations, one after the other, is what [`lower`] gives for all of them. It
-/// does nothing: its contract is the law.
+/// What a [`Lowerer`] gives for the parts of some operations, one after the other, is what
+/// [`lower`] gives for all of them. It does nothing: its contract is the law.
 pub fn parts_join()
     ensures { PartsJoin }
 {}
@@ -135,7 +141,8 @@ fn append_entering<'a, A: Allocator>(
     meaning: &Meaning,
     strategy: Strategy,
 ) -> Result<(), AllocError>
-    ensures { IfOk result (λ _. Adds instrs.old.items (entering meaning.now strategy) instrs.new.items) }
+    ensures { IfOk result
+        (λ _. Adds instrs.old.items (entering meaning.now strategy) instrs.new.items) }
 {
     match strategy {
         Strategy::S4 => append_switch(instrs, meaning.enter, ENTER),
@@ -149,7 +156,8 @@ fn append_leaving<'a, A: Allocator>(
     meaning: &Meaning,
     strategy: Strategy,
 ) -> Result<(), AllocError>
-    ensures { IfOk result (λ _. Adds instrs.old.items (leaving meaning.now strategy) instrs.new.items) }
+    ensures { IfOk result
+        (λ _. Adds instrs.old.items (leaving meaning.now strategy) instrs.new.items) }
 {
     match strategy {
         Strategy::S4 => append_switch(instrs, meaning.leave, LEAVE),
@@ -157,13 +165,15 @@ fn append_leaving<'a, A: Allocator>(
     }
 }
 
-/// Appends a change of the address mode, between write enable and write disable where the chip asks for it.
+/// Appends a change of the address mode, between write enable and write disable where the chip asks
+/// for it.
 fn append_switch<'a, A: Allocator>(
     instrs: &mut Vec<Instr<'a>, A>,
     switch: Switch,
     op: u8,
 ) -> Result<(), AllocError>
-    ensures { IfOk result (λ _. Adds instrs.old.items (switching_by switch Enter op) instrs.new.items) }
+    ensures { IfOk result
+        (λ _. Adds instrs.old.items (switching_by switch Enter op) instrs.new.items) }
 {
     match switch {
         Switch::Absent => {}

@@ -27,7 +27,9 @@ pub(crate) fn append_ops<'a, A: Allocator>(
     start: &Start,
     strategy: Strategy,
 ) -> Result<(), AllocError>
-    ensures { IfOk result (λ _. Adds instrs.old.items (flat_map (instructions meaning.now start.now strategy) (map op_of ops.now))
+    ensures { IfOk result
+        (λ _. Adds instrs.old.items
+        (flat_map (instructions meaning.now start.now strategy) (map op_of ops.now))
         instrs.new.items) }
 {
     for op in ops {
@@ -77,7 +79,9 @@ fn programming<'a>(
     at: u32,
     bytes: &'a [u8],
 ) -> Instr<'a>
-    ensures { coded_of result ≡ coded (programming meaning.now start.now strategy (record { at = at; bytes = bytes.now })) }
+    ensures { coded_of result
+        ≡ coded (programming meaning.now start.now strategy
+        (record { at = at; bytes = bytes.now })) }
 {
     if start.quad && meaning.quad4 {
         return Instr {
@@ -105,7 +109,8 @@ fn reading<'a>(
     at: u32,
     bytes: &'a [u8],
 ) -> Instr<'a>
-    ensures { coded_of result ≡ coded (reading meaning.now start.now strategy (record { at = at; bytes = bytes.now })) }
+    ensures { coded_of result
+        ≡ coded (reading meaning.now start.now strategy (record { at = at; bytes = bytes.now })) }
 {
     if let (true, Some(quad)) = (start.quad, meaning.quad_read) {
         if meaning.quad_read4 {
@@ -129,7 +134,8 @@ fn reading<'a>(
 
 /// An instruction with four address bytes in each mode, without data.
 fn with_four<'a>(op: u8, dummies: u8, address: u32) -> Instr<'a>
-    ensures { coded_of result ≡ record { op = op; address = address; width = 4; dummies = dummies; load = plain } }
+    ensures { coded_of result
+        ≡ record { op = op; address = address; width = 4; dummies = dummies; load = plain } }
 {
     Instr {
         op,

@@ -3,21 +3,25 @@
 ghost use Rattle.std.specs.Prelude.{◌≡◌, ◌↔◌, ◌++◌, ℕ, List, IsTrue, IfSome, IfNone, length};
 ghost use Rattle.std.specs.List.{list_all, position, position_or_len};
 ghost use Rattle.nor_base.specs.Decoding.{bytes_of_bits};
-ghost use Rattle.nor_serprog.specs.Carried.{IsOperation, IsNoOperation, is_bit, is_sample, are_bytes_sent, are_bytes_sampled, fits};
+ghost use Rattle.nor_serprog.specs.Carried.{IsOperation, IsNoOperation, is_bit, is_sample};
+ghost use Rattle.nor_serprog.specs.Carried.{are_bytes_sent, are_bytes_sampled, fits};
 
 use crate::limits::Limits;
 
-/// Whether the clocks are one operation of a device with these limits: whole bytes sent on one lane, at least one, and then
-/// whole bytes sampled from one lane (`([01]{8})+(\.{8})*`), no more of either than it can.
+/// Whether the clocks are one operation of a device with these limits: whole bytes sent on one
+/// lane, at least one, and then whole bytes sampled from one lane (`([01]{8})+(\.{8})*`), no more
+/// of either than it can.
 pub fn is_carried(clocks: &[u8], limits: &Limits) -> bool
-    ensures carried { IsTrue result ↔ ((sent : List ℕ) × (asked : ℕ) × IsOperation limits.now clocks.now sent asked) }
+    ensures carried { IsTrue result
+        ↔ ((sent : List ℕ) × (asked : ℕ) × IsOperation limits.now clocks.now sent asked) }
 {
     bits_sent(clocks, limits).is_some()
 }
 
 /// The clocks that send, where the clocks are one operation.
 pub(crate) fn bits_sent<'a>(clocks: &'a [u8], limits: &Limits) -> Option<&'a [u8]>
-    ensures carried { IfSome result (λ bits. (asked : ℕ) × IsOperation limits.now clocks.now (bytes_of_bits bits.now) asked) }
+    ensures carried { IfSome result (λ bits. (asked : ℕ)
+        × IsOperation limits.now clocks.now (bytes_of_bits bits.now) asked) }
     ensures other { IfNone result (IsNoOperation limits.now clocks.now) }
 {
     let (bits, samples) = split(clocks);
@@ -43,7 +47,8 @@ fn first_sample(clocks: &[u8]) -> Option<usize>
     clocks.iter().position(|symbol| is_sample(*symbol))
 }
 
-/// Whether clocks send whole bytes on one lane and others sample whole bytes, no more of either than the device can.
+/// Whether clocks send whole bytes on one lane and others sample whole bytes, no more of either
+/// than the device can.
 fn fits(limits: &Limits, sent: &[u8], sampled: &[u8]) -> bool
     ensures { result ≡ fits limits.now sent.now sampled.now }
 {

@@ -13,11 +13,13 @@ use crate::limits::Limits;
 use nor_base::{ByteIn, ByteOut, Step, sampled};
 use nor_decode::POLL;
 
-/// Has the device do a step: a [`Step::Send`] is one operation that gives nothing, a [`Step::Poll`] reads the status
-/// until it says idle, `turns` times at most, a [`Step::Verify`] is one operation that gives what is expected.
+/// Has the device do a step: a [`Step::Send`] is one operation that gives nothing, a [`Step::Poll`]
+/// reads the status until it says idle, `turns` times at most, a [`Step::Verify`] is one operation
+/// that gives what is expected.
 ///
-/// `Busy` where each status said busy, `Carried` where the clocks are no operation within the limits, and then nothing
-/// is asked; `Differs` and `Exchange` as [`operate_with`](crate::operate_with).
+/// `Busy` where each status said busy, `Carried` where the clocks are no operation within the
+/// limits, and then nothing is asked; `Differs` and `Exchange` as
+/// [`operate_with`](crate::operate_with).
 pub fn do_step<R: ByteIn, W: ByteOut>(
     from: &mut R,
     to: &mut W,
@@ -29,8 +31,10 @@ pub fn do_step<R: ByteIn, W: ByteOut>(
     requires reader { R.count from.old < 2 ^ 64 - 1 }
     requires writer { W.count to.old < 2 ^ 64 - 1 }
     ensures done { MatchResult result
-        (λ _. HasDone (W.held to.old) (W.held to.new) (R.ahead from.old) (R.ahead from.new) limits.now turns step.now)
-        (λ why. HasStopped (W.held to.old) (W.held to.new) (R.ahead from.old) (R.ahead from.new) limits.now turns why
+        (λ _. HasDone (W.held to.old) (W.held to.new) (R.ahead from.old) (R.ahead from.new)
+        limits.now turns step.now)
+        (λ why. HasStopped (W.held to.old) (W.held to.new) (R.ahead from.old) (R.ahead from.new)
+        limits.now turns why
         step.now) }
     ensures reads { CountsReason Read (R.count from.old) (R.count from.new) result }
     ensures writes { CountsReason Write (W.count to.old) (W.count to.new) result }
@@ -44,8 +48,8 @@ pub fn do_step<R: ByteIn, W: ByteOut>(
     }
 }
 
-/// Whether [`do_step`] takes a step: a [`Step::Send`] samples nothing, a [`Step::Poll`] has the clocks of a status read,
-/// and a [`Step::Verify`] expects as many bytes as its clocks sample.
+/// Whether [`do_step`] takes a step: a [`Step::Send`] samples nothing, a [`Step::Poll`] has the
+/// clocks of a status read, and a [`Step::Verify`] expects as many bytes as its clocks sample.
 pub fn is_doable(step: &Step) -> bool
     ensures { IsTrue result ↔ IsDoable step.now }
 {
@@ -56,10 +60,11 @@ pub fn is_doable(step: &Step) -> bool
     }
 }
 
-/// Whether the clocks of each step are one operation of a device with these limits. At Err the first step whose clocks
-/// aren't, counted from 0.
+/// Whether the clocks of each step are one operation of a device with these limits. At Err the
+/// first step whose clocks aren't, counted from 0.
 pub fn carried(steps: &[Step], limits: &Limits) -> Result<(), u64>
-    ensures { MatchResult result (λ _. AreCarried limits.now steps.now) (IsFirstNotCarried limits.now steps.now) }
+    ensures { MatchResult result (λ _. AreCarried limits.now steps.now)
+        (IsFirstNotCarried limits.now steps.now) }
 {
     let mut number: u64 = 0;
     for step in steps {

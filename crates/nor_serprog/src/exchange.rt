@@ -2,7 +2,9 @@
 
 ghost use Rattle.std.specs.Prelude.{◌≡◌, ◌<◌, ◌+◌, ◌-◌, ◌^◌, [], length, flat_map, IfOk, IfErr};
 ghost use Rattle.nor_serprog.specs.declared.fault.Fault.TheVariants.{Read};
-ghost use Rattle.nor_serprog.specs.Exchange.{Fills, Meets, other_byte, TakesAsMany, Compares, Answers, AnswersKnown, Asks, CountsReads, CountsWrites};
+ghost use Rattle.nor_serprog.specs.Exchange.{Fills, Meets, other_byte, TakesAsMany, Compares};
+ghost use Rattle.nor_serprog.specs.Exchange.{Answers, AnswersKnown, Asks, CountsReads};
+ghost use Rattle.nor_serprog.specs.Exchange.{CountsWrites};
 ghost use Rattle.nor_serprog.specs.Follow.{CountsReason};
 
 use crate::fault::{Fault, Reason};
@@ -24,8 +26,10 @@ pub(crate) fn ask<R: ByteIn, W: ByteOut>(
 ) -> Result<(), Fault>
     requires reader { R.count from.old < 2 ^ 64 - 1 }
     requires writer { W.count to.old < 2 ^ 64 - 1 }
-    ensures asked { Asks (W.held to.old) (W.held to.new) (R.ahead from.old) (R.ahead from.new) result
-        (flat_map (λ part. part.now) command.now) (Answers (R.ahead from.old) (R.ahead from.new) result got.new) }
+    ensures asked { Asks (W.held to.old) (W.held to.new) (R.ahead from.old) (R.ahead from.new)
+        result
+        (flat_map (λ part. part.now) command.now)
+        (Answers (R.ahead from.old) (R.ahead from.new) result got.new) }
     ensures reads { CountsReads (R.count from.old) (R.count from.new) result }
     ensures writes { CountsWrites (W.count to.old) (W.count to.new) result }
 {
@@ -150,8 +154,10 @@ pub(crate) fn exchange<R: ByteIn, W: ByteOut>(
 ) -> Result<(), Fault>
     requires reader { R.count from.old < 2 ^ 64 - 1 }
     requires writer { W.count to.old < 2 ^ 64 - 1 }
-    ensures asked { Asks (W.held to.old) (W.held to.new) (R.ahead from.old) (R.ahead from.new) result
-        (flat_map (λ part. part.now) command.now) (Meets (R.ahead from.old) (R.ahead from.new) result want.now) }
+    ensures asked { Asks (W.held to.old) (W.held to.new) (R.ahead from.old) (R.ahead from.new)
+        result
+        (flat_map (λ part. part.now) command.now)
+        (Meets (R.ahead from.old) (R.ahead from.new) result want.now) }
     ensures reads { CountsReads (R.count from.old) (R.count from.new) result }
     ensures writes { CountsWrites (W.count to.old) (W.count to.new) result }
 {

@@ -32,7 +32,8 @@ pub enum Reason {
     /// The exchange with the device ended early.
     #[error("{0}")]
     Exchange(Fault),
-    /// A byte of the answer is another than that of the chip in memory: the first such, counted from 0, and what came.
+    /// A byte of the answer is another than that of the chip in memory: the first such, counted
+    /// from 0, and what came.
     #[error("byte {place} of the answer is another: {byte}")]
     Differs {
         /// Its place in the answer, after ACK.

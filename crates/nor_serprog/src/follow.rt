@@ -6,7 +6,8 @@ ghost use Rattle.nor_base.specs.Decoding.{bytes_of_bits};
 ghost use Rattle.nor_base.specs.Sample.{sampled_count};
 ghost use Rattle.nor_serprog.specs.declared.fault.Fault.TheVariants.{Read, Write};
 ghost use Rattle.nor_serprog.specs.Exchange.{Knows};
-ghost use Rattle.nor_serprog.specs.Follow.{Follows, Operates, TakesStatuses, Waits, CountsReason, most_reads, status_requests};
+ghost use Rattle.nor_serprog.specs.Follow.{Follows, Operates, TakesStatuses, Waits, CountsReason};
+ghost use Rattle.nor_serprog.specs.Follow.{most_reads, status_requests};
 ghost use Rattle.nor_serprog.specs.Protocol.{request};
 
 use crate::clocks::bits_sent;
@@ -17,8 +18,8 @@ use crate::put::{Requests, add_reads, put_request};
 use nor_base::{ByteIn, ByteOut, put_all};
 use nor_decode::POLL;
 
-/// Has the device do the transaction of these clocks, which is to give these bytes. A poll is read again until it says
-/// idle, so many times at most.
+/// Has the device do the transaction of these clocks, which is to give these bytes. A poll is read
+/// again until it says idle, so many times at most.
 pub(crate) fn follow<R: ByteIn, W: ByteOut>(
     from: &mut R,
     to: &mut W,
@@ -30,7 +31,8 @@ pub(crate) fn follow<R: ByteIn, W: ByteOut>(
     requires want { length want.now ≡ sampled_count clocks.now }
     requires reader { R.count from.old < 2 ^ 64 - 1 }
     requires writer { W.count to.old < 2 ^ 64 - 1 }
-    ensures follows { Follows (W.held to.old) (W.held to.new) (R.ahead from.old) (R.ahead from.new) result limits.now turns
+    ensures follows { Follows (W.held to.old) (W.held to.new) (R.ahead from.old) (R.ahead from.new)
+        result limits.now turns
         clocks.now want.now }
     ensures reads { CountsReason Read (R.count from.old) (R.count from.new) result }
     ensures writes { CountsReason Write (W.count to.old) (W.count to.new) result }
@@ -52,7 +54,8 @@ pub(crate) fn operate_once<R: ByteIn, W: ByteOut>(
     requires want { length want.now ≡ sampled_count clocks.now }
     requires reader { R.count from.old < 2 ^ 64 - 1 }
     requires writer { W.count to.old < 2 ^ 64 - 1 }
-    ensures operates { Operates (W.held to.old) (W.held to.new) (R.ahead from.old) (R.ahead from.new) result limits.now
+    ensures operates { Operates (W.held to.old) (W.held to.new) (R.ahead from.old)
+        (R.ahead from.new) result limits.now
         clocks.now want.now }
     ensures reads { CountsReason Read (R.count from.old) (R.count from.new) result }
     ensures writes { CountsReason Write (W.count to.old) (W.count to.new) result }
@@ -63,7 +66,8 @@ pub(crate) fn operate_once<R: ByteIn, W: ByteOut>(
     }
 }
 
-/// Reads the status of the chip behind the device until it says idle, so many times at most, up to four times ahead of the first answer.
+/// Reads the status of the chip behind the device until it says idle, so many times at most, up to
+/// four times ahead of the first answer.
 pub(crate) fn wait<R: ByteIn, W: ByteOut>(
     from: &mut R,
     to: &mut W,
@@ -72,7 +76,8 @@ pub(crate) fn wait<R: ByteIn, W: ByteOut>(
 ) -> Result<(), Reason>
     requires reader { R.count from.old < 2 ^ 64 - 1 }
     requires writer { W.count to.old < 2 ^ 64 - 1 }
-    ensures waits { Waits (W.held to.old) (W.held to.new) (R.ahead from.old) (R.ahead from.new) result turns }
+    ensures waits { Waits (W.held to.old) (W.held to.new) (R.ahead from.old) (R.ahead from.new)
+        result turns }
     ensures reads { CountsReason Read (R.count from.old) (R.count from.new) result }
     ensures writes { CountsReason Write (W.count to.old) (W.count to.new) result }
 {
@@ -115,7 +120,8 @@ pub(crate) fn wait_on<R: ByteIn, W: ByteOut>(
     wait(from, to, limits, turns - reads)
 }
 
-/// Takes the answers to so many status reads: whether the last said idle. `Busy` at one that says busy after one that said idle.
+/// Takes the answers to so many status reads: whether the last said idle. `Busy` at one that says
+/// busy after one that said idle.
 fn take_statuses<R: ByteIn>(from: &mut R, reads: u64) -> Result<bool, Reason>
     requires { R.count from.old < 2 ^ 64 - 1 }
     ensures takes { TakesStatuses (R.ahead from.old) (R.ahead from.new) result reads }
@@ -134,7 +140,8 @@ fn take_statuses<R: ByteIn>(from: &mut R, reads: u64) -> Result<bool, Reason>
     Ok(was_idle)
 }
 
-/// Has the device do the operation of the bytes that these clocks send, which is to give these bytes.
+/// Has the device do the operation of the bytes that these clocks send, which is to give these
+/// bytes.
 fn operate_as<R: ByteIn, W: ByteOut>(
     from: &mut R,
     to: &mut W,
@@ -145,7 +152,8 @@ fn operate_as<R: ByteIn, W: ByteOut>(
     requires asked { length want.now < 2 ^ 24 }
     requires reader { R.count from.old < 2 ^ 64 - 1 }
     requires writer { W.count to.old < 2 ^ 64 - 1 }
-    ensures known { Knows (W.held to.old) (W.held to.new) (R.ahead from.old) (R.ahead from.new) result
+    ensures known { Knows (W.held to.old) (W.held to.new) (R.ahead from.old) (R.ahead from.new)
+        result
         (request (bytes_of_bits bits.now) (length want.now)) want.now }
     ensures reads { CountsReason Read (R.count from.old) (R.count from.new) result }
     ensures writes { CountsReason Write (W.count to.old) (W.count to.new) result }

@@ -2,7 +2,9 @@
 
 ghost use Rattle.std.specs.Prelude.{◌≡◌, ◌<◌, ◌-◌, ◌^◌, ℕ, List, Option};
 ghost use Rattle.nor_base.specs.Device.{Ahead};
-ghost use Rattle.nor_serprog.specs.Greeting.{Greeted, HasLearnt, Learns, BeginsGreeting, Tells, TellsAhead, TellsIf, CountsGreetReads, CountsGreetWrites, offers, most};
+ghost use Rattle.nor_serprog.specs.Greeting.{Greeted, HasLearnt, Learns, BeginsGreeting, Tells};
+ghost use Rattle.nor_serprog.specs.Greeting.{TellsAhead, TellsIf, CountsGreetReads};
+ghost use Rattle.nor_serprog.specs.Greeting.{CountsGreetWrites, offers, most};
 
 use crate::exchange::ask;
 use crate::fault::{Command, Fault, GreetFault};
@@ -30,9 +32,9 @@ const MOST: u32 = (1 << 24) - 1;
 ///
 /// It is asked for its first word (10h) until NAK and ACK come, once more at the first silence:
 /// some boards reset when they are opened. Then follow the version of its interface (01h), the
-/// commands that it offers (02h), the SPI bus (12h 08h) and, where it offers them, the bytes that it
-/// takes before it answers (04h), the most that an operation sends (08h) and gives (11h), and the
-/// chip's pins (15h 01h). A reader that waits for bytes has to end where the device is silent.
+/// commands that it offers (02h), the SPI bus (12h 08h) and, where it offers them, the bytes that
+/// it takes before it answers (04h), the most that an operation sends (08h) and gives (11h), and
+/// the chip's pins (15h 01h). A reader that waits for bytes has to end where the device is silent.
 ///
 /// On Ok just these bytes went out and just their answers came, except noise before the first word
 /// and a late answer after it. A most that isn't told, or is 0, is taken for 2^24 - 1. Of 04h NAK
@@ -45,7 +47,8 @@ const MOST: u32 = (1 << 24) - 1;
 pub fn greet<R: ByteIn, W: ByteOut>(from: &mut R, to: &mut W) -> Result<Limits, GreetFault>
     requires reader { R.count from.old < 2 ^ 64 - 1 }
     requires writer { W.count to.old < 2 ^ 64 - 1 }
-    ensures greeted { Greeted (W.held to.old) (W.held to.new) (R.ahead from.old) (R.ahead from.new) result }
+    ensures greeted { Greeted (W.held to.old) (W.held to.new) (R.ahead from.old) (R.ahead from.new)
+        result }
     ensures reads { CountsGreetReads (R.count from.old) (R.count from.new) result }
     ensures writes { CountsGreetWrites (W.count to.old) (W.count to.new) result }
 {
@@ -57,7 +60,8 @@ pub fn greet<R: ByteIn, W: ByteOut>(from: &mut R, to: &mut W) -> Result<Limits, 
 fn learn<R: ByteIn, W: ByteOut>(from: &mut R, to: &mut W) -> Result<[u8; 32], GreetFault>
     requires reader { R.count from.old < 2 ^ 64 - 1 }
     requires writer { W.count to.old < 2 ^ 64 - 1 }
-    ensures learns { Learns (W.held to.old) (W.held to.new) (R.ahead from.old) (R.ahead from.new) result }
+    ensures learns { Learns (W.held to.old) (W.held to.new) (R.ahead from.old) (R.ahead from.new)
+        result }
     ensures reads { CountsGreetReads (R.count from.old) (R.count from.new) result }
     ensures writes { CountsGreetWrites (W.count to.old) (W.count to.new) result }
 {
@@ -111,7 +115,8 @@ fn go_on<R: ByteIn, W: ByteOut>(
 fn begin<R: ByteIn, W: ByteOut>(from: &mut R, to: &mut W) -> Result<(), GreetFault>
     requires reader { R.count from.old < 2 ^ 64 - 1 }
     requires writer { W.count to.old < 2 ^ 64 - 1 }
-    ensures begins { BeginsGreeting (W.held to.old) (W.held to.new) (R.ahead from.old) (R.ahead from.new) result }
+    ensures begins { BeginsGreeting (W.held to.old) (W.held to.new) (R.ahead from.old)
+        (R.ahead from.new) result }
     ensures reads { CountsGreetReads (R.count from.old) (R.count from.new) result }
     ensures writes { CountsGreetWrites (W.count to.old) (W.count to.new) result }
 {
@@ -131,7 +136,8 @@ fn tell<R: ByteIn, W: ByteOut>(
 ) -> Result<(), GreetFault>
     requires reader { R.count from.old < 2 ^ 64 - 1 }
     requires writer { W.count to.old < 2 ^ 64 - 1 }
-    ensures tells { Tells (W.held to.old) (W.held to.new) (R.ahead from.old) (R.ahead from.new) result at got.new }
+    ensures tells { Tells (W.held to.old) (W.held to.new) (R.ahead from.old) (R.ahead from.new)
+        result at got.new }
     ensures reads { CountsGreetReads (R.count from.old) (R.count from.new) result }
     ensures writes { CountsGreetWrites (W.count to.old) (W.count to.new) result }
 {
@@ -149,7 +155,8 @@ fn takes_ahead<R: ByteIn, W: ByteOut>(
 ) -> Result<u16, GreetFault>
     requires reader { R.count from.old < 2 ^ 64 - 1 }
     requires writer { W.count to.old < 2 ^ 64 - 1 }
-    ensures tells { TellsAhead offered (W.held to.old) (W.held to.new) (R.ahead from.old) (R.ahead from.new) result }
+    ensures tells { TellsAhead offered (W.held to.old) (W.held to.new) (R.ahead from.old)
+        (R.ahead from.new) result }
     ensures reads { CountsGreetReads (R.count from.old) (R.count from.new) result }
     ensures writes { CountsGreetWrites (W.count to.old) (W.count to.new) result }
 {
@@ -175,7 +182,8 @@ fn tell_if<R: ByteIn, W: ByteOut>(
 ) -> Result<(), GreetFault>
     requires reader { R.count from.old < 2 ^ 64 - 1 }
     requires writer { W.count to.old < 2 ^ 64 - 1 }
-    ensures tells { TellsIf offered (W.held to.old) (W.held to.new) (R.ahead from.old) (R.ahead from.new) result at got.new }
+    ensures tells { TellsIf offered (W.held to.old) (W.held to.new) (R.ahead from.old)
+        (R.ahead from.new) result at got.new }
     ensures reads { CountsGreetReads (R.count from.old) (R.count from.new) result }
     ensures writes { CountsGreetWrites (W.count to.old) (W.count to.new) result }
 {
@@ -193,7 +201,8 @@ fn offers(commands: &[u8; 32], command: u8) -> bool
     commands[usize::from(command / 8)] >> (command % 8) & 1 == 1
 }
 
-/// The most bytes of an operation, by what a device tells: 0 stands for 2^24, of which a request has room for one less.
+/// The most bytes of an operation, by what a device tells: 0 stands for 2^24, of which a request
+/// has room for one less.
 fn most(offered: bool, told: &[u8; 3]) -> u32
     ensures most { result ≡ most offered told.now }
     ensures some { 0 < result }

@@ -3,10 +3,10 @@
 //!
 //! [`greet`] begins, [`test_line`] shows that each byte reaches the device as it was sent,
 //! [`operate`] does one SPI operation, [`operate_with`] one whose answer is known, [`is_carried`]
-//! reports which clocks are one. [`do_step`] does a step of a script, [`do_row`] steps whose requests
-//! go out in one write ([`row_length`]; [`rows`] is a law of
-//! them); [`carried`] finds a step that can't be done. [`release`] ends. [`Shadowed`] is a [`nor_chip::Port`]: a chip in memory that the
-//! chip behind the device is to go along with.
+//! reports which clocks are one. [`do_step`] does a step of a script, [`do_row`] steps whose
+//! requests go out in one write ([`row_length`]; [`rows`] is a law of them); [`carried`] finds a
+//! step that can't be done. [`release`] ends. [`Shadowed`] is a [`nor_chip::Port`]: a chip in
+//! memory that the chip behind the device is to go along with.
 #![tactic(auto)]
 
 mod clocks;

@@ -2,7 +2,8 @@
 
 ghost use Rattle.std.specs.Prelude.{◌≡◌, ◌<◌, ◌≤◌, ◌+◌, ◌-◌, ◌^◌, [], ◌∷◌, length};
 ghost use Rattle.nor_serprog.specs.Exchange.{CountsReads, CountsWrites};
-ghost use Rattle.nor_serprog.specs.Line.{Exchanges, SendsValues, TestsLine, all_values, end_test, ignored, lengths_test, zeros_if};
+ghost use Rattle.nor_serprog.specs.Line.{Exchanges, SendsValues, TestsLine, all_values, end_test};
+ghost use Rattle.nor_serprog.specs.Line.{ignored, lengths_test, zeros_if};
 
 use crate::exchange::{ACK, NAK, exchange};
 use crate::fault::{Command, Fault};
@@ -36,7 +37,8 @@ pub fn test_line<R: ByteIn, W: ByteOut>(
 ) -> Result<(), Fault>
     requires reader { R.count from.old < 2 ^ 64 - 1 }
     requires writer { W.count to.old < 2 ^ 64 - 1 }
-    ensures tests { TestsLine (W.held to.old) (W.held to.new) (R.ahead from.old) (R.ahead from.new) result limits.now }
+    ensures tests { TestsLine (W.held to.old) (W.held to.new) (R.ahead from.old) (R.ahead from.new)
+        result limits.now }
     ensures reads { CountsReads (R.count from.old) (R.count from.new) result }
     ensures writes { CountsWrites (W.count to.old) (W.count to.new) result }
 {
@@ -53,7 +55,8 @@ fn send_values<R: ByteIn, W: ByteOut>(
 ) -> Result<(), Fault>
     requires reader { R.count from.old < 2 ^ 64 - 1 }
     requires writer { W.count to.old < 2 ^ 64 - 1 }
-    ensures sends { SendsValues (W.held to.old) (W.held to.new) (R.ahead from.old) (R.ahead from.new) result limits.now.sent }
+    ensures sends { SendsValues (W.held to.old) (W.held to.new) (R.ahead from.old)
+        (R.ahead from.new) result limits.now.sent }
     ensures reads { CountsReads (R.count from.old) (R.count from.new) result }
     ensures writes { CountsWrites (W.count to.old) (W.count to.new) result }
 {
@@ -69,7 +72,8 @@ fn send_pieces<R: ByteIn, W: ByteOut>(from: &mut R, to: &mut W, room: usize) -> 
     requires few { room < 2 ^ 24 - 1 }
     requires reader { R.count from.old < 2 ^ 64 - 1 }
     requires writer { W.count to.old < 2 ^ 64 - 1 }
-    ensures sends { SendsValues (W.held to.old) (W.held to.new) (R.ahead from.old) (R.ahead from.new) result (room + 1) }
+    ensures sends { SendsValues (W.held to.old) (W.held to.new) (R.ahead from.old)
+        (R.ahead from.new) result (room + 1) }
     ensures reads { CountsReads (R.count from.old) (R.count from.new) result }
     ensures writes { CountsWrites (W.count to.old) (W.count to.new) result }
 {
@@ -98,7 +102,8 @@ fn all_values() -> [u8; 256]
 fn send_lengths<R: ByteIn, W: ByteOut>(from: &mut R, to: &mut W, sent: u32) -> Result<(), Fault>
     requires reader { R.count from.old < 2 ^ 64 - 1 }
     requires writer { W.count to.old < 2 ^ 64 - 1 }
-    ensures does { Exchanges (W.held to.old) (W.held to.new) (R.ahead from.old) (R.ahead from.new) result (lengths_test sent) }
+    ensures does { Exchanges (W.held to.old) (W.held to.new) (R.ahead from.old) (R.ahead from.new)
+        result (lengths_test sent) }
     ensures reads { CountsReads (R.count from.old) (R.count from.new) result }
     ensures writes { CountsWrites (W.count to.old) (W.count to.new) result }
 {
@@ -118,7 +123,8 @@ fn send_zeros<R: ByteIn, W: ByteOut>(
     requires few { count ≤ 128 }
     requires reader { R.count from.old < 2 ^ 64 - 1 }
     requires writer { W.count to.old < 2 ^ 64 - 1 }
-    ensures does { Exchanges (W.held to.old) (W.held to.new) (R.ahead from.old) (R.ahead from.new) result (zeros_if sent count) }
+    ensures does { Exchanges (W.held to.old) (W.held to.new) (R.ahead from.old) (R.ahead from.new)
+        result (zeros_if sent count) }
     ensures reads { CountsReads (R.count from.old) (R.count from.new) result }
     ensures writes { CountsWrites (W.count to.old) (W.count to.new) result }
 {
@@ -134,7 +140,8 @@ fn send_ignored<R: ByteIn, W: ByteOut>(from: &mut R, to: &mut W, bytes: &[u8]) -
     requires few { length bytes.now < 2 ^ 24 - 1 }
     requires reader { R.count from.old < 2 ^ 64 - 1 }
     requires writer { W.count to.old < 2 ^ 64 - 1 }
-    ensures does { Exchanges (W.held to.old) (W.held to.new) (R.ahead from.old) (R.ahead from.new) result (ignored bytes.now ∷ []) }
+    ensures does { Exchanges (W.held to.old) (W.held to.new) (R.ahead from.old) (R.ahead from.new)
+        result (ignored bytes.now ∷ []) }
     ensures reads { CountsReads (R.count from.old) (R.count from.new) result }
     ensures writes { CountsWrites (W.count to.old) (W.count to.new) result }
 {
@@ -146,7 +153,8 @@ fn send_ignored<R: ByteIn, W: ByteOut>(from: &mut R, to: &mut W, bytes: &[u8]) -
 fn end<R: ByteIn, W: ByteOut>(from: &mut R, to: &mut W) -> Result<(), Fault>
     requires reader { R.count from.old < 2 ^ 64 - 1 }
     requires writer { W.count to.old < 2 ^ 64 - 1 }
-    ensures does { Exchanges (W.held to.old) (W.held to.new) (R.ahead from.old) (R.ahead from.new) result end_test }
+    ensures does { Exchanges (W.held to.old) (W.held to.new) (R.ahead from.old) (R.ahead from.new)
+        result end_test }
     ensures reads { CountsReads (R.count from.old) (R.count from.new) result }
     ensures writes { CountsWrites (W.count to.old) (W.count to.new) result }
 {

@@ -14,12 +14,14 @@ use nor_base::{ByteIn, ByteOut};
 /// The command of an SPI operation.
 const O_SPIOP: u8 = 0x13;
 
-/// Has the device send bytes and then take bytes, under one chip select (O_SPIOP, 13h). Of both there are less than 2^24.
+/// Has the device send bytes and then take bytes, under one chip select (O_SPIOP, 13h). Of both
+/// there are less than 2^24.
 ///
-/// On Ok just that request went out, and just ACK and the bytes in `got` came. `Write` where the writer failed in the
-/// request, of which a proper prefix went out; else it went out whole. `Nak` and `Differs` where the first byte that came
-/// was NAK, or neither NAK nor ACK; `Silent` and `Read` where the reader ended or failed before all came. Of these `Nak`
-/// alone leaves known where in its answers the device is.
+/// On Ok just that request went out, and just ACK and the bytes in `got` came. `Write` where the
+/// writer failed in the request, of which a proper prefix went out; else it went out whole. `Nak`
+/// and `Differs` where the first byte that came was NAK, or neither NAK nor ACK; `Silent` and
+/// `Read` where the reader ended or failed before all came. Of these `Nak` alone leaves known where
+/// in its answers the device is.
 pub fn operate<R: ByteIn, W: ByteOut>(
     from: &mut R,
     to: &mut W,
@@ -30,8 +32,10 @@ pub fn operate<R: ByteIn, W: ByteOut>(
     requires asked { length got.old < 2 ^ 24 }
     requires reader { R.count from.old < 2 ^ 64 - 1 }
     requires writer { W.count to.old < 2 ^ 64 - 1 }
-    ensures asked { Asks (W.held to.old) (W.held to.new) (R.ahead from.old) (R.ahead from.new) result
-        (request sent.now (length got.old)) (Answers (R.ahead from.old) (R.ahead from.new) result got.new) }
+    ensures asked { Asks (W.held to.old) (W.held to.new) (R.ahead from.old) (R.ahead from.new)
+        result
+        (request sent.now (length got.old))
+        (Answers (R.ahead from.old) (R.ahead from.new) result got.new) }
     ensures reads { CountsReads (R.count from.old) (R.count from.new) result }
     ensures writes { CountsWrites (W.count to.old) (W.count to.new) result }
 {
@@ -55,7 +59,8 @@ pub fn operate_with<R: ByteIn, W: ByteOut>(
     requires asked { length want.now < 2 ^ 24 }
     requires reader { R.count from.old < 2 ^ 64 - 1 }
     requires writer { W.count to.old < 2 ^ 64 - 1 }
-    ensures known { Knows (W.held to.old) (W.held to.new) (R.ahead from.old) (R.ahead from.new) result
+    ensures known { Knows (W.held to.old) (W.held to.new) (R.ahead from.old) (R.ahead from.new)
+        result
         (request sent.now (length want.now)) want.now }
     ensures reads { CountsReason Read (R.count from.old) (R.count from.new) result }
     ensures writes { CountsReason Write (W.count to.old) (W.count to.new) result }

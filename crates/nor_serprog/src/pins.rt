@@ -20,7 +20,8 @@ const RELEASE: [u8; 2] = [0x15, 0x00];
 pub fn release<R: ByteIn, W: ByteOut>(from: &mut R, to: &mut W) -> Result<(), Fault>
     requires reader { R.count from.old < 2 ^ 64 - 1 }
     requires writer { W.count to.old < 2 ^ 64 - 1 }
-    ensures asked { Asks (W.held to.old) (W.held to.new) (R.ahead from.old) (R.ahead from.new) result
+    ensures asked { Asks (W.held to.old) (W.held to.new) (R.ahead from.old) (R.ahead from.new)
+        result
         release_bytes (Answers (R.ahead from.old) (R.ahead from.new) result []) }
     ensures reads { CountsReads (R.count from.old) (R.count from.new) result }
     ensures writes { CountsWrites (W.count to.old) (W.count to.new) result }

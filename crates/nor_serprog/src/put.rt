@@ -1,7 +1,8 @@
 //! Requests, each of which goes out in one write where it has room on the stack.
 
 ghost use Rattle.std.specs.Bool.{OnTrue};
-ghost use Rattle.std.specs.Prelude.{◌≡◌, ◌≤◌, ◌<◌, ◌+◌, ◌-◌, ◌^◌, ◌++◌, length, flat_map, slice_index, slice_range, IfSome};
+ghost use Rattle.std.specs.Prelude.{◌≡◌, ◌≤◌, ◌<◌, ◌+◌, ◌-◌, ◌^◌, ◌++◌, length, flat_map};
+ghost use Rattle.std.specs.Prelude.{slice_index, slice_range, IfSome};
 ghost use Rattle.nor_base.specs.Decoding.{bytes_of_bits};
 ghost use Rattle.nor_base.specs.Device.{Counts, Writes};
 ghost use Rattle.nor_serprog.specs.Follow.{most_reads, status_request, status_requests};
@@ -27,7 +28,8 @@ const STATUS: [u8; 8] = [0x13, 1, 0, 0, 1, 0, 0, 0x05];
 /// Puts a command, in parts: in one write where they have room together.
 pub(crate) fn put_command<W: ByteOut>(to: &mut W, parts: &[&[u8]]) -> Result<(), Failed>
     requires { W.count to.old < 2 ^ 64 - 1 }
-    ensures bytes { Writes (W.held to.old) (W.held to.new) result (flat_map (λ part. part.now) parts.now) }
+    ensures bytes { Writes (W.held to.old) (W.held to.new) result
+        (flat_map (λ part. part.now) parts.now) }
     ensures count { Counts (W.count to.old) (W.count to.new) result }
 {
     match joined(parts) {
@@ -49,12 +51,14 @@ fn joined(parts: &[&[u8]]) -> Option<Requests>
     Some(command)
 }
 
-/// Puts the request of an operation that sends the bytes of these clocks: in one write where it has room.
+/// Puts the request of an operation that sends the bytes of these clocks: in one write where it has
+/// room.
 pub(crate) fn put_request<W: ByteOut>(to: &mut W, bits: &[u8], asked: u32) -> Result<(), Failed>
     requires sent { length (bytes_of_bits bits.now) < 2 ^ 24 }
     requires asked { asked < 2 ^ 24 }
     requires writer { W.count to.old < 2 ^ 64 - 1 }
-    ensures bytes { Writes (W.held to.old) (W.held to.new) result (request (bytes_of_bits bits.now) asked) }
+    ensures bytes { Writes (W.held to.old) (W.held to.new) result
+        (request (bytes_of_bits bits.now) asked) }
     ensures count { Counts (W.count to.old) (W.count to.new) result }
 {
     let mut requests = Requests::new();
@@ -65,11 +69,13 @@ pub(crate) fn put_request<W: ByteOut>(to: &mut W, bits: &[u8], asked: u32) -> Re
     put_sent(to, bits)
 }
 
-/// Adds the request of an operation that sends the bytes of these clocks, where it has room; whether it had.
+/// Adds the request of an operation that sends the bytes of these clocks, where it has room;
+/// whether it had.
 pub(crate) fn add_request(requests: &mut Requests, bits: &[u8], asked: u32) -> bool
     requires sent { length (bytes_of_bits bits.now) < 2 ^ 24 }
     requires asked { asked < 2 ^ 24 }
-    ensures { OnTrue result (requests.new.items ≡ requests.old.items ++ request (bytes_of_bits bits.now) asked) }
+    ensures { OnTrue result (requests.new.items
+        ≡ requests.old.items ++ request (bytes_of_bits bits.now) asked) }
 {
     let head = head(count_sent(bits) as u32, asked);
     requests.try_extend_from_slice(&head).is_ok() && add_sent(requests, bits)
@@ -87,13 +93,15 @@ fn add_sent(requests: &mut Requests, bits: &[u8]) -> bool
     true
 }
 
-/// Adds status reads: at most four, no more than these turns, and as many as fit so many bytes with what is there. How many.
+/// Adds status reads: at most four, no more than these turns, and as many as fit so many bytes with
+/// what is there. How many.
 pub(crate) fn add_reads(requests: &mut Requests, ahead: u16, turns: u64) -> u64
     ensures added { requests.new.items ≡ requests.old.items ++ status_requests result }
     ensures few { result ≤ most_reads }
     ensures within { result ≤ turns }
     ensures fits { length requests.old.items ≤ ahead → length requests.new.items ≤ ahead }
-    ensures some { 0 < turns → length requests.old.items + 8 ≤ ahead → length requests.old.items + 8 ≤ 1024 → 0 < result }
+    ensures some { 0 < turns → length requests.old.items + 8 ≤ ahead
+        → length requests.old.items + 8 ≤ 1024 → 0 < result }
 {
     let mut reads = 0;
     for _ in 0..turns.min(MOST_READS) {

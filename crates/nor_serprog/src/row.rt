@@ -1,7 +1,8 @@
 //! Steps whose requests go out in one write, before any of their answers is taken.
 
 ghost use Rattle.std.specs.Bool.{OnTrue};
-ghost use Rattle.std.specs.Prelude.{◌≡◌, ◌≤◌, ◌<◌, ◌⊎◌, ◌+◌, ◌-◌, ◌^◌, ◌++◌, [], ◌∷◌, ℕ, List, All, IfSome, MatchResult, length, take};
+ghost use Rattle.std.specs.Prelude.{◌≡◌, ◌≤◌, ◌<◌, ◌⊎◌, ◌+◌, ◌-◌, ◌^◌, ◌++◌, [], ◌∷◌, ℕ, List, All};
+ghost use Rattle.std.specs.Prelude.{IfSome, MatchResult, length, take};
 ghost use Rattle.nor_base.specs.Sample.{sampled_count};
 ghost use Rattle.nor_base.specs.Step.{expected};
 ghost use Rattle.nor_base.specs.declared.step.Step.TheVariants.{Poll};
@@ -9,7 +10,8 @@ ghost use Rattle.nor_serprog.specs.declared.fault.Fault.TheVariants.{Read, Write
 ghost use Rattle.nor_serprog.specs.Carried.{IsOperation};
 ghost use Rattle.nor_serprog.specs.Protocol.{request};
 ghost use Rattle.nor_serprog.specs.Done.{IsDoable, HasDoneAll};
-ghost use Rattle.nor_serprog.specs.Row.{AreFront, AreSent, CountsHalt, FitAhead, HasHalted, IsAsked, IsForm, IsRow, IsSent, StopsAnswers, TakesAnswers};
+ghost use Rattle.nor_serprog.specs.Row.{AreFront, AreSent, CountsHalt, FitAhead, HasHalted};
+ghost use Rattle.nor_serprog.specs.Row.{IsAsked, IsForm, IsRow, IsSent, StopsAnswers, TakesAnswers};
 
 use crate::clocks::bits_sent;
 use crate::done::do_step;
@@ -27,8 +29,8 @@ const ENABLE: &[u8; 8] = b"00000110";
 /// The bytes of a request before those that the operation sends.
 const HEAD: usize = 7;
 
-/// How many of the first steps make a row: a change and its poll, with its write enable or without, or verifying reads, as many as
-/// the device takes before it answers; else one step.
+/// How many of the first steps make a row: a change and its poll, with its write enable or without,
+/// or verifying reads, as many as the device takes before it answers; else one step.
 pub fn row_length(steps: &[Step], limits: &Limits) -> usize
     requires some { 0 < length steps.now }
     requires form { All IsDoable steps.now }
@@ -59,7 +61,8 @@ fn ahead_count(steps: &[Step], limits: &Limits) -> usize
 /// The bytes of a step's request, where its clocks are an operation of the device.
 fn request_length(step: &Step, limits: &Limits) -> Option<usize>
     requires { IsDoable step.now }
-    ensures { IfSome result (λ bytes. (put : List ℕ) × IsAsked limits.now 1 step.now put × (length put ≡ bytes)) }
+    ensures { IfSome result (λ bytes. (put : List ℕ) × IsAsked limits.now 1 step.now put
+        × (length put ≡ bytes)) }
 {
     let bits = bits_sent(step.clocks(), limits)?;
     Some(HEAD + count_sent(bits))
@@ -95,11 +98,13 @@ fn verify_count(steps: &[Step]) -> usize
     steps.len()
 }
 
-/// Has the device do the steps of a row, each as [`do_step`](crate::do_step): their requests go out in one write, and then the answers
-/// are taken, one by one. Of a poll up to four status reads go out so, as many as fit; where all say busy, further ones follow.
+/// Has the device do the steps of a row, each as [`do_step`](crate::do_step): their requests go out
+/// in one write, and then the answers are taken, one by one. Of a poll up to four status reads go
+/// out so, as many as fit; where all say busy, further ones follow.
 ///
-/// At the first step that isn't done it stops, and takes no answer after that one's: the halt has its number in the row, from 0, and the reason.
-/// Where the writer failed in the requests that is 0.
+/// At the first step that isn't done it stops, and takes no answer after that one's: the halt has
+/// its number in the row, from 0, and the reason. Where the writer failed in the requests that is
+/// 0.
 pub fn do_row<R: ByteIn, W: ByteOut>(
     from: &mut R,
     to: &mut W,
@@ -112,8 +117,10 @@ pub fn do_row<R: ByteIn, W: ByteOut>(
     requires reader { R.count from.old < 2 ^ 64 - 1 }
     requires writer { W.count to.old < 2 ^ 64 - 1 }
     ensures done { MatchResult result
-        (λ _. HasDoneAll (W.held to.old) (W.held to.new) (R.ahead from.old) (R.ahead from.new) limits.now turns row.now)
-        (λ halt. HasHalted (W.held to.old) (W.held to.new) (R.ahead from.old) (R.ahead from.new) limits.now turns row.now
+        (λ _. HasDoneAll (W.held to.old) (W.held to.new) (R.ahead from.old) (R.ahead from.new)
+        limits.now turns row.now)
+        (λ halt. HasHalted (W.held to.old) (W.held to.new) (R.ahead from.old) (R.ahead from.new)
+        limits.now turns row.now
         halt) }
     ensures reads { CountsHalt Read (R.count from.old) (R.count from.new) result }
     ensures writes { CountsHalt Write (W.count to.old) (W.count to.new) result }
@@ -139,8 +146,10 @@ fn do_each<R: ByteIn, W: ByteOut>(
     requires reader { R.count from.old < 2 ^ 64 - 1 }
     requires writer { W.count to.old < 2 ^ 64 - 1 }
     ensures done { MatchResult result
-        (λ _. HasDoneAll (W.held to.old) (W.held to.new) (R.ahead from.old) (R.ahead from.new) limits.now turns row.now)
-        (λ halt. HasHalted (W.held to.old) (W.held to.new) (R.ahead from.old) (R.ahead from.new) limits.now turns row.now
+        (λ _. HasDoneAll (W.held to.old) (W.held to.new) (R.ahead from.old) (R.ahead from.new)
+        limits.now turns row.now)
+        (λ halt. HasHalted (W.held to.old) (W.held to.new) (R.ahead from.old) (R.ahead from.new)
+        limits.now turns row.now
         halt) }
     ensures reads { CountsHalt Read (R.count from.old) (R.count from.new) result }
     ensures writes { CountsHalt Write (W.count to.old) (W.count to.new) result }
@@ -171,8 +180,10 @@ fn do_ahead<R: ByteIn, W: ByteOut>(
     requires reader { R.count from.old < 2 ^ 64 - 1 }
     requires writer { W.count to.old < 2 ^ 64 - 1 }
     ensures done { MatchResult result
-        (λ _. HasDoneAll (W.held to.old) (W.held to.new) (R.ahead from.old) (R.ahead from.new) limits.now turns row.now)
-        (λ halt. HasHalted (W.held to.old) (W.held to.new) (R.ahead from.old) (R.ahead from.new) limits.now turns row.now
+        (λ _. HasDoneAll (W.held to.old) (W.held to.new) (R.ahead from.old) (R.ahead from.new)
+        limits.now turns row.now)
+        (λ halt. HasHalted (W.held to.old) (W.held to.new) (R.ahead from.old) (R.ahead from.new)
+        limits.now turns row.now
         halt) }
     ensures reads { CountsHalt Read (R.count from.old) (R.count from.new) result }
     ensures writes { CountsHalt Write (W.count to.old) (W.count to.new) result }
@@ -200,7 +211,8 @@ fn do_ahead<R: ByteIn, W: ByteOut>(
 
 /// The steps before a poll that is the last; all where none is.
 fn before_poll(row: &[Step]) -> &[Step]
-    ensures { (row.now ≡ result.now) ⊎ ((wait : List ℕ) × (row.now ≡ result.now ++ Poll wait ∷ [])) }
+    ensures { (row.now ≡ result.now)
+        ⊎ ((wait : List ℕ) × (row.now ≡ result.now ++ Poll wait ∷ [])) }
 {
     match row {
         [front @ .., Step::Poll { .. }] => front,
@@ -226,10 +238,12 @@ fn gathered(steps: &[Step], limits: &Limits) -> Option<Requests>
     Some(requests)
 }
 
-/// Adds the request of a step that isn't a poll, where it is one of the device and has room; whether it was added.
+/// Adds the request of a step that isn't a poll, where it is one of the device and has room;
+/// whether it was added.
 fn add_step(requests: &mut Requests, step: &Step, limits: &Limits) -> bool
     requires { IsDoable step.now }
-    ensures { OnTrue result ((put : List ℕ) × (requests.new.items ≡ requests.old.items ++ put) × IsSent limits.now step.now put) }
+    ensures { OnTrue result ((put : List ℕ) × (requests.new.items ≡ requests.old.items ++ put)
+        × IsSent limits.now step.now put) }
 {
     match step {
         Step::Send { clocks } => add_operation(requests, clocks.as_slice(), 0, limits),
@@ -240,7 +254,8 @@ fn add_step(requests: &mut Requests, step: &Step, limits: &Limits) -> bool
     }
 }
 
-/// Adds the request of the operation of these clocks, where it is one of the device and has room; whether it was added.
+/// Adds the request of the operation of these clocks, where it is one of the device and has room;
+/// whether it was added.
 fn add_operation(requests: &mut Requests, clocks: &[u8], asked: usize, limits: &Limits) -> bool
     requires { asked ≡ sampled_count clocks.now }
     ensures { OnTrue result ((sent : List ℕ) × IsOperation limits.now clocks.now sent asked
@@ -256,7 +271,8 @@ fn add_operation(requests: &mut Requests, clocks: &[u8], asked: usize, limits: &
 fn take_answers<R: ByteIn>(from: &mut R, steps: &[Step]) -> Result<(), Halt>
     requires few { All (λ x. length (expected x) < 2 ^ 24) steps.now }
     requires reader { R.count from.old < 2 ^ 64 - 1 }
-    ensures done { MatchResult result (λ _. TakesAnswers (R.ahead from.old) (R.ahead from.new) steps.now)
+    ensures done { MatchResult result
+        (λ _. TakesAnswers (R.ahead from.old) (R.ahead from.new) steps.now)
         (StopsAnswers (R.ahead from.old) (R.ahead from.new) steps.now) }
     ensures reads { CountsHalt Read (R.count from.old) (R.count from.new) result }
 {

@@ -15,9 +15,10 @@ use std::io::{Read, Write};
 
 /// A chip in memory, and a device that is to do the same transactions.
 ///
-/// What the chip refuses is never sent. Where the device answers other bytes than the chip, or none, or can't do the clocks,
-/// the port has failed, and fails from then on, without asking the device: `reason` tells why. The device's busy time is
-/// waited out inside a poll, so the chip in memory is to have none; of the status a poll looks at the busy bit alone.
+/// What the chip refuses is never sent. Where the device answers other bytes than the chip, or
+/// none, or can't do the clocks, the port has failed, and fails from then on, without asking the
+/// device: `reason` tells why. The device's busy time is waited out inside a poll, so the chip in
+/// memory is to have none; of the status a poll looks at the busy bit alone.
 #[derive(Drop)]
 pub struct Shadowed<'a, R: Read + Drop, W: Write + Drop> {
     /// The chip in memory.
@@ -73,8 +74,10 @@ impl<'a, R: Read + Drop, W: Write + Drop> Port for Shadowed<'a, R, W> {
         requires room { self.old.failed < 2 ^ 64 - 1 }
         ensures effect { Transacts self.old.chip self.new.chip result clocks.now out.new }
         ensures count { CountsTransact self.old.failed self.new.failed result }
-        ensures device { Accompanies self.old.chip self.new.chip (W.contents self.old.to.inner) (W.contents self.new.to.inner)
-            (ahead_of (R.remaining self.old.from.inner)) (ahead_of (R.remaining self.new.from.inner)) self.old.reason self.new.reason
+        ensures device { Accompanies self.old.chip self.new.chip (W.contents self.old.to.inner)
+            (W.contents self.new.to.inner)
+            (ahead_of (R.remaining self.old.from.inner))
+            (ahead_of (R.remaining self.new.from.inner)) self.old.reason self.new.reason
             result self.old.limits self.old.turns clocks.now out.new }
         ensures limits { self.new.limits ≡ self.old.limits }
         ensures turns { self.new.turns ≡ self.old.turns }

@@ -17,11 +17,13 @@ const TRIES: usize = 2;
 /// comes before it.
 const NOISE: usize = 65536;
 
-/// Asks the device for its first word until it comes, again at each silence, and takes what comes late after it.
+/// Asks the device for its first word until it comes, again at each silence, and takes what comes
+/// late after it.
 pub(crate) fn synchronize<R: ByteIn, W: ByteOut>(from: &mut R, to: &mut W) -> Result<(), Fault>
     requires reader { R.count from.old < 2 ^ 64 - 1 }
     requires writer { W.count to.old < 2 ^ 64 - 1 }
-    ensures word { Begins (W.held to.old) (W.held to.new) (R.ahead from.old) (R.ahead from.new) result }
+    ensures word { Begins (W.held to.old) (W.held to.new) (R.ahead from.old) (R.ahead from.new)
+        result }
     ensures reads { CountsReads (R.count from.old) (R.count from.new) result }
     ensures writes { CountsWrites (W.count to.old) (W.count to.new) result }
 {
@@ -35,7 +37,8 @@ pub(crate) fn synchronize<R: ByteIn, W: ByteOut>(from: &mut R, to: &mut W) -> Re
 fn find_word<R: ByteIn, W: ByteOut>(from: &mut R, to: &mut W) -> Result<usize, Fault>
     requires reader { R.count from.old < 2 ^ 64 - 1 }
     requires writer { W.count to.old < 2 ^ 64 - 1 }
-    ensures word { Finds (W.held to.old) (W.held to.new) (R.ahead from.old) (R.ahead from.new) result }
+    ensures word { Finds (W.held to.old) (W.held to.new) (R.ahead from.old) (R.ahead from.new)
+        result }
     ensures reads { CountsReads (R.count from.old) (R.count from.new) result }
     ensures writes { CountsWrites (W.count to.old) (W.count to.new) result }
 {

@@ -4,7 +4,8 @@ ghost use Rattle.std.specs.Prelude.{◌≡◌, ◌≢◌, ◌<◌, ◌≤◌, �
 ghost use Rattle.nor_base.specs.Accepted.{IsPowerOfTwo};
 ghost use Rattle.nor_base.specs.declared.meaning.Switch.TheVariants.{Absent};
 ghost use Rattle.nor_base.specs.declared.meaning.Width.TheVariants.{Both};
-ghost use Rattle.nor_sfdp.specs.Basic.{size_in_bytes, size_of, width_of, page_of, switch_of, quad_read_of};
+ghost use Rattle.nor_sfdp.specs.Basic.{size_in_bytes, size_of, width_of, page_of, switch_of};
+ghost use Rattle.nor_sfdp.specs.Basic.{quad_read_of};
 
 use crate::fault::SfdpFault;
 use crate::fields::{bits, is_set};
@@ -95,8 +96,8 @@ pub(crate) fn page_in(dwords: usize, dword1: u32, dword11: u32) -> Result<Page, 
     })
 }
 
-/// How four-byte address mode is entered or left on a chip of a width, by two bits of DWORD 16: by the opcode alone, and
-/// after a write enable.
+/// How four-byte address mode is entered or left on a chip of a width, by two bits of DWORD 16: by
+/// the opcode alone, and after a write enable.
 #[tactic(auto, unfolding(crate::specs::Basic::switch_of))]
 pub(crate) fn switch(width: Width, plain: bool, latched: bool) -> Switch
     ensures switch { result ≡ switch_of width plain latched }

@@ -2,8 +2,8 @@
 
 use thiserror::Error;
 
-/// Why SFDP bytes give no meaning that is accepted. The first cause in the order of looking is told, which isn't that
-/// of the numbers.
+/// Why SFDP bytes give no meaning that is accepted. The first cause in the order of looking is
+/// told, which isn't that of the numbers.
 #[derive(Clone, Copy, Debug, PartialEq, Eq, Error)]
 pub enum SfdpFault {
     /// 1: the bytes don't begin with `SFDP`.
@@ -21,8 +21,8 @@ pub enum SfdpFault {
     /// 5: FF00h has fewer than nine DWORDs, or FF84h fewer than two.
     #[error("a table is too short")]
     ShortTable,
-    /// 6: the size isn't a whole number of bytes, is 0, isn't a multiple of 4096, or is over 256 MiB (of a uniform chip,
-    /// over 16 MiB).
+    /// 6: the size isn't a whole number of bytes, is 0, isn't a multiple of 4096, or is over 256
+    /// MiB (of a uniform chip, over 16 MiB).
     #[error("the size is not one that is accepted")]
     Density,
     /// 7: the number of address bytes is the reserved one.
@@ -34,8 +34,8 @@ pub enum SfdpFault {
     /// 9: an erase kind isn't from 256 bytes to 16 MiB, or is smaller than the page.
     #[error("the size of an erase kind is not one that is accepted")]
     EraseSize,
-    /// 10: a descriptor of the sector map ends past the table, a command follows a map, or there are more than eight
-    /// commands.
+    /// 10: a descriptor of the sector map ends past the table, a command follows a map, or there
+    /// are more than eight commands.
     #[error("the sector map is malformed")]
     MapForm,
     /// 11: the configuration bits aren't as many `0` and `1` as the sector map has commands.
@@ -47,7 +47,8 @@ pub enum SfdpFault {
     /// 13: the regions of the map don't add up to the size.
     #[error("the regions do not add up to the size")]
     MapSize,
-    /// 14: an opcode of an erase kind that some region allows is that of another instruction, or of another such kind.
+    /// 14: an opcode of an erase kind that some region allows is that of another instruction, or of
+    /// another such kind.
     #[error("an opcode stands for two instructions")]
     Opcode,
 }

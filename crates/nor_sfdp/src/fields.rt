@@ -3,7 +3,8 @@
 ghost use Rattle.std.specs.Prelude.{◌≡◌, ◌+◌, ◌-◌, ◌<◌, ◌≤◌, ◌^◌};
 ghost use Rattle.nor_sfdp.specs.Bits.{bits, is_set};
 
-/// Bits `high` to `low` of a DWORD, which JESD216 counts from 0: a number of `high` + 1 - `low` bits.
+/// Bits `high` to `low` of a DWORD, which JESD216 counts from 0: a number of `high` + 1 - `low`
+/// bits.
 pub fn bits(dword: u32, high: u32, low: u32) -> u32
     requires order { low ≤ high }
     requires width { high < low + 31 }

@@ -1,7 +1,8 @@
 //! The SFDP header and the parameter headers.
 
 ghost use Rattle.std.specs.Prelude.{◌≡◌, ◌+◌, ◌*◌, ◌≤◌, ◌<◌, length, IfOk};
-ghost use Rattle.nor_sfdp.specs.Headers.{header_count_of, header_at, headers_of, newest, is_signed, newer, is_header_of};
+ghost use Rattle.nor_sfdp.specs.Headers.{header_count_of, header_at, headers_of, newest, is_signed};
+ghost use Rattle.nor_sfdp.specs.Headers.{newer, is_header_of};
 
 use crate::fault::SfdpFault;
 
@@ -73,7 +74,8 @@ fn header_at(bytes: &[u8], i: usize) -> Header
     }
 }
 
-/// The header taken for an ID: of those of major revision 1 the first with the greatest minor revision.
+/// The header taken for an ID: of those of major revision 1 the first with the greatest minor
+/// revision.
 pub(crate) fn newest(bytes: &[u8], count: usize, id: u16) -> Option<Header>
     requires { 8 + 8 * count ≤ length bytes.now }
     ensures { result ≡ newest id (headers_of bytes.now count) }

@@ -1,5 +1,6 @@
-//! Reads Serial Flash Discoverable Parameters (JEDEC JESD216B): what a SPI NOR flash chip says of its size, page, erase
-//! kinds, sector map and instructions, or the first reason why that isn't accepted.
+//! Reads Serial Flash Discoverable Parameters (JEDEC JESD216B): what a SPI NOR flash chip says of
+//! its size, page, erase kinds, sector map and instructions, or the first reason why that isn't
+//! accepted.
 #![tactic(auto)]
 
 mod basic;

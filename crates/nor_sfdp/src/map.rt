@@ -1,11 +1,15 @@
 //! The sector map FF81h.
 
-ghost use Rattle.std.specs.Prelude.{◌≡◌, ◌+◌, ◌*◌, ◌<◌, ◌≤◌, ◌%◌, ◌^◌, [], ◌∷◌, length, Ok, Err, IfOk, IfSome, IsTrue, MatchResult};
+ghost use Rattle.std.specs.Prelude.{◌≡◌, ◌+◌, ◌*◌, ◌<◌, ◌≤◌, ◌%◌, ◌^◌, [], ◌∷◌, length, Ok, Err};
+ghost use Rattle.std.specs.Prelude.{IfOk, IfSome, IsTrue, MatchResult};
 ghost use Rattle.std.specs.List.{list_all, AllByRecursion};
 ghost use Rattle.std.specs.Option.{option_map};
 ghost use Rattle.nor_base.specs.Accepted.{IsRegion};
 ghost use Rattle.nor_sfdp.specs.Bits.{dword_count};
-ghost use Rattle.nor_sfdp.specs.SectorMap.{is_command, command_count_of, checked_map, found_or, first_map_of, is_binary_digit, bit_of, id_of, wanted_id, region_of, bytes_of, regions_at, mapped_regions, regions_of};
+ghost use Rattle.nor_sfdp.specs.SectorMap.{is_command, command_count_of, checked_map, found_or};
+ghost use Rattle.nor_sfdp.specs.SectorMap.{first_map_of, is_binary_digit, bit_of, id_of, wanted_id};
+ghost use Rattle.nor_sfdp.specs.SectorMap.{region_of, bytes_of, regions_at, mapped_regions};
+ghost use Rattle.nor_sfdp.specs.SectorMap.{regions_of};
 
 use crate::fault::SfdpFault;
 use crate::fields::{bits, is_set};
@@ -83,14 +87,15 @@ fn found_or(found: Option<SectorMap>, map: SectorMap, id: u32) -> Option<SectorM
     }
 }
 
-/// The first map with an ID, of those that stand from a DWORD on. Each of them is looked at, up to the one that says it
-/// is the last.
+/// The first map with an ID, of those that stand from a DWORD on. Each of them is looked at, up to
+/// the one that says it is the last.
 fn first_map(table: &SfdpTable<'_>, from: usize, id: u32) -> Result<Option<SectorMap>, SfdpFault>
     requires low { 1 ≤ from }
     requires high { from ≤ dword_count table.now + 1 }
     ensures map { result ≡ first_map_of table.now from id }
     ensures count { IfOk result (λ found. IfSome found (λ m. m.count ≤ 256)) }
-    ensures within { IfOk result (λ found. IfSome found (λ m. m.first + m.count ≤ dword_count table.now + 1)) }
+    ensures within { IfOk result
+        (λ found. IfSome found (λ m. m.first + m.count ≤ dword_count table.now + 1)) }
 {
     let dwords = table.len();
     let mut found = None;
@@ -168,7 +173,8 @@ fn regions_at(
 ) -> Result<ArrayVec<Region, 256>, SfdpFault>
     requires few { map.count ≤ 256 }
     requires within { map.first + map.count ≤ dword_count table.now + 1 }
-    ensures regions { let told = regions_at table.now map size in MatchResult result (λ v. Ok v.items ≡ told) (λ fault. Err fault ≡ told) }
+    ensures regions { let told = regions_at table.now map size in MatchResult result
+        (λ v. Ok v.items ≡ told) (λ fault. Err fault ≡ told) }
     ensures few { IfOk result (λ v. length v.items ≤ 256) }
     ensures form { IfOk result (λ v. AllByRecursion IsRegion v.items) }
     ensures fill { IfOk result (λ v. bytes_of v.items ≡ size) }
@@ -217,8 +223,8 @@ fn mapped_regions(
     }
 }
 
-/// The regions of a chip of a size, under configuration bits: those of its sector map or, where it has none, one region
-/// that allows all kinds.
+/// The regions of a chip of a size, under configuration bits: those of its sector map or, where it
+/// has none, one region that allows all kinds.
 pub(crate) fn regions(
     sectors: Option<&SfdpTable<'_>>,
     config: &[u8],
@@ -226,7 +232,8 @@ pub(crate) fn regions(
 ) -> Result<ArrayVec<Region, 256>, SfdpFault>
     requires whole { size % 256 ≡ 0 }
     requires some { 0 < size }
-    ensures regions { let told = regions_of (option_map (λ t. t.now) sectors.entry) config.now size in
+    ensures regions { let told = regions_of (option_map (λ t. t.now) sectors.entry) config.now size
+        in
         MatchResult result (λ v. Ok v.items ≡ told) (λ fault. Err fault ≡ told) }
     ensures few { IfOk result (λ v. length v.items ≤ 256) }
     ensures form { IfOk result (λ v. AllByRecursion IsRegion v.items) }

@@ -1,6 +1,7 @@
 //! What SFDP bytes say of a chip.
 
-ghost use Rattle.std.specs.Prelude.{◌≡◌, ◌<◌, ◌≤◌, ◌%◌, ◌^◌, ◌==◌, ◌&&◌, false, IfSome, IsSome, IsTrue, is_some, length};
+ghost use Rattle.std.specs.Prelude.{◌≡◌, ◌<◌, ◌≤◌, ◌%◌, ◌^◌, ◌==◌, ◌&&◌, false, IfSome, IsSome};
+ghost use Rattle.std.specs.Prelude.{IsTrue, is_some, length};
 ghost use Rattle.std.specs.List.{AllByRecursion, list_any};
 ghost use Rattle.nor_base.specs.Accepted.{IsPowerOfTwo, IsRegion};
 ghost use Rattle.nor_sfdp.specs.Kinds.{IsKind};
@@ -17,12 +18,13 @@ use crate::tables::{Tables, tables_in, word_in};
 use arrayvec::ArrayVec;
 use nor_base::{Erase, Meaning, Part, QuadRead, Region, Width};
 
-/// What a chip's SFDP bytes say of it (JESD216B), under the configuration bits of its sector map, a `0` or `1` for each
-/// detection command, and for its part.
+/// What a chip's SFDP bytes say of it (JESD216B), under the configuration bits of its sector map, a
+/// `0` or `1` for each detection command, and for its part.
 ///
-/// The first of these is told: `Signature`; `Truncated` (header or parameter headers); `Major`; `NoBasic`; `ShortTable`;
-/// `Truncated` (a table); `Density`; `AddressBytes`; `PageSize`; `EraseSize`; `MapForm`; `ConfigBits`; `NoMap`;
-/// `MapSize`; `Opcode`. Each has its cause at [`SfdpFault`].
+/// The first of these is told: `Signature`; `Truncated` (header or parameter headers); `Major`;
+/// `NoBasic`; `ShortTable`; `Truncated` (a table); `Density`; `AddressBytes`; `PageSize`;
+/// `EraseSize`; `MapForm`; `ConfigBits`; `NoMap`; `MapSize`; `Opcode`. Each has its cause at
+/// [`SfdpFault`].
 #[tactic(auto, unfolding(crate::specs::Reading::meaning_of))]
 pub fn read(bytes: &[u8], bits: &str, part: Part) -> Result<Meaning, SfdpFault>
     ensures { result ≡ meaning_of bytes.now bits.now part }

@@ -1,7 +1,8 @@
 //! The steps of the work, as text: a window of a chip at a time, unit after unit.
 //!
-//! A [`StepWriter`] takes what a window holds and what it must hold, plans its units and writes the lines of their steps. A
-//! unit's steps go out as they are made: the clocks of one step at a time are held, in memory that is used again.
+//! A [`StepWriter`] takes what a window holds and what it must hold, plans its units and writes the
+//! lines of their steps. A unit's steps go out as they are made: the clocks of one step at a time
+//! are held, in memory that is used again.
 #![tactic(auto)]
 
 mod fault;

@@ -20,9 +20,11 @@ pub trait InstrOut {
     /// How often it failed.
     ghost count: { Self → ℕ };
 
-    /// Takes instructions, in their order. `clocks` is memory for one step's clocks, which is used again.
+    /// Takes instructions, in their order. `clocks` is memory for one step's clocks, which is used
+    /// again.
     ///
-    /// `Write` where it fails, `Memory` where a growth is refused; a proper prefix of the lines was taken then.
+    /// `Write` where it fails, `Memory` where a growth is refused; a proper prefix of the lines was
+    /// taken then.
     fn take(&mut self, instrs: &[Instr<'_>], clocks: &mut Vec<u8>) -> Result<(), StepsFault>
         requires narrow { AreNarrow instrs.now }
         requires room { count self.old < 2 ^ 64 - 1 }
@@ -44,7 +46,8 @@ impl<W: ByteOut> InstrOut for W {
     }
 }
 
-/// For instructions that are counted alone: it makes no clocks of them and no lines, and never fails.
+/// For instructions that are counted alone: it makes no clocks of them and no lines, and never
+/// fails.
 #[derive(Clone, Copy)]
 pub struct Unwritten;
 
@@ -66,7 +69,8 @@ fn write_instr<W: ByteOut>(
 ) -> Result<(), StepsFault>
     requires narrow { IsNarrow (coded_of instr.now) }
     requires writer { W.count out.old < 2 ^ 64 - 1 }
-    ensures lines { Writes (W.held out.old) (W.held out.new) result (coded_line (coded_of instr.now)) }
+    ensures lines { Writes (W.held out.old) (W.held out.new) result
+        (coded_line (coded_of instr.now)) }
     ensures count { CountsSteps (W.count out.old) (W.count out.new) result }
     ensures why { IfErr result IsOfWriting }
 {

@@ -5,7 +5,8 @@ ghost use Rattle.std.specs.List.{AllByRecursion};
 ghost use Rattle.nor_pages.specs.Runs.{IsUnit, LiesBetween, AreBetween};
 ghost use Rattle.nor_select.specs.Streamed.{next};
 ghost use Rattle.nor_steps.specs.Faults.{CountsSteps, IsOfWriting};
-ghost use Rattle.nor_steps.specs.Units.{run_ops, page_reads, block_reads, block_ops, Writes, WritesUnit};
+ghost use Rattle.nor_steps.specs.Units.{run_ops, page_reads, block_reads, block_ops, Writes};
+ghost use Rattle.nor_steps.specs.Units.{WritesUnit};
 ghost use Rattle.nor_steps.specs.Writing.{Adds, next_lines, written_on};
 
 use crate::fault::StepsFault;
@@ -18,8 +19,9 @@ use nor_select::Op;
 use std::alloc::Global;
 
 impl<'m> StepWriter<'m> {
-    /// Writes the steps of a unit. `have` and `want` are its bytes: what the chip holds there and what it must hold. Of a
-    /// page they are a program of each run, and, where it is verified, a read of each.
+    /// Writes the steps of a unit. `have` and `want` are its bytes: what the chip holds there and
+    /// what it must hold. Of a page they are a program of each run, and, where it is verified, a
+    /// read of each.
     pub(crate) fn write_unit<W: InstrOut>(
         &mut self,
         alloc: Global,
@@ -32,7 +34,8 @@ impl<'m> StepWriter<'m> {
         requires unit { IsUnit self.old.streaming.meaning unit.now (length want.now) }
         requires few { length want.now ≤ 2 ^ 24 }
         requires writer { W.count out.old < 2 ^ 64 - 1 }
-        ensures written { WritesUnit self.old self.new (W.held out.old) (W.held out.new) unit.now have.now want.now result }
+        ensures written { WritesUnit self.old self.new (W.held out.old) (W.held out.new) unit.now
+            have.now want.now result }
         ensures count { CountsSteps (W.count out.old) (W.count out.new) result }
         ensures why { IfErr result IsOfWriting }
     {
@@ -57,7 +60,8 @@ impl<'m> StepWriter<'m> {
         })
     }
 
-    /// Writes the steps of a block: its erase, a program of each run, and, where it is verified, a read of each page.
+    /// Writes the steps of a block: its erase, a program of each run, and, where it is verified, a
+    /// read of each page.
     fn write_block<W: InstrOut>(
         &mut self,
         alloc: Global,
@@ -66,12 +70,14 @@ impl<'m> StepWriter<'m> {
         want: &[u8],
         out: &mut W,
     ) -> Result<Tally, StepsFault>
-        requires between { AreBetween block.start (block.start + length want.now) (length want.now) runs.now }
+        requires between { AreBetween block.start (block.start + length want.now) (length want.now)
+            runs.now }
         requires inside { block.start + length want.now ≤ 2 ^ 28 }
         requires size { block.size ≡ length want.now }
         requires few { length want.now ≤ 2 ^ 24 }
         requires writer { W.count out.old < 2 ^ 64 - 1 }
-        ensures written { Writes self.old self.new (W.held out.old) (W.held out.new) 1 (block_ops self.old block runs.now want.now) result }
+        ensures written { Writes self.old self.new (W.held out.old) (W.held out.new) 1
+            (block_ops self.old block runs.now want.now) result }
         ensures count { CountsSteps (W.count out.old) (W.count out.new) result }
         ensures why { IfErr result IsOfWriting }
     {
@@ -86,7 +92,8 @@ impl<'m> StepWriter<'m> {
         })
     }
 
-    /// Writes the steps of a read of each page of a block, where the work is verified, and answers how many they are.
+    /// Writes the steps of a read of each page of a block, where the work is verified, and answers
+    /// how many they are.
     fn verify_block<W: InstrOut>(
         &mut self,
         alloc: Global,
@@ -97,10 +104,13 @@ impl<'m> StepWriter<'m> {
         requires inside { start + length want.now ≤ 2 ^ 28 }
         requires few { length want.now ≤ 2 ^ 24 }
         requires writer { W.count out.old < 2 ^ 64 - 1 }
-        ensures lines { Adds (W.held out.old) (W.held out.new) result (next_lines self.old (block_reads self.old start want.now)) }
-        ensures steps { IfOk result (λ steps. steps ≡ length (next self.old.streaming (block_reads self.old start want.now))) }
+        ensures lines { Adds (W.held out.old) (W.held out.new) result
+            (next_lines self.old (block_reads self.old start want.now)) }
+        ensures steps { IfOk result (λ steps.
+            steps ≡ length (next self.old.streaming (block_reads self.old start want.now))) }
         ensures few { IfOk result (λ steps. steps ≤ 6 * length want.now) }
-        ensures onward { IfOk result (λ _. self.new ≡ written_on self.old (block_reads self.old start want.now)) }
+        ensures onward { IfOk result (λ _. self.new
+            ≡ written_on self.old (block_reads self.old start want.now)) }
         ensures count { CountsSteps (W.count out.old) (W.count out.new) result }
         ensures why { IfErr result IsOfWriting }
     {
@@ -113,8 +123,8 @@ impl<'m> StepWriter<'m> {
         self.write_reads(alloc, page, start, want, out)
     }
 
-    /// Writes the steps of a program of each run, or of a read, and answers how many they are. `want` is what the bytes
-    /// from `start` on must be.
+    /// Writes the steps of a program of each run, or of a read, and answers how many they are.
+    /// `want` is what the bytes from `start` on must be.
     fn write_runs<W: InstrOut>(
         &mut self,
         alloc: Global,
@@ -127,10 +137,13 @@ impl<'m> StepWriter<'m> {
         requires between { AllByRecursion (LiesBetween start (start + length want.now)) runs.now }
         requires few { length runs.now ≤ 2 ^ 24 }
         requires writer { W.count out.old < 2 ^ 64 - 1 }
-        ensures lines { Adds (W.held out.old) (W.held out.new) result (next_lines self.old (run_ops read start want.now runs.now)) }
-        ensures steps { IfOk result (λ steps. steps ≡ length (next self.old.streaming (run_ops read start want.now runs.now))) }
+        ensures lines { Adds (W.held out.old) (W.held out.new) result
+            (next_lines self.old (run_ops read start want.now runs.now)) }
+        ensures steps { IfOk result (λ steps.
+            steps ≡ length (next self.old.streaming (run_ops read start want.now runs.now))) }
         ensures few { IfOk result (λ steps. steps ≤ 6 * length runs.now) }
-        ensures onward { IfOk result (λ _. self.new ≡ written_on self.old (run_ops read start want.now runs.now)) }
+        ensures onward { IfOk result (λ _. self.new
+            ≡ written_on self.old (run_ops read start want.now runs.now)) }
         ensures count { CountsSteps (W.count out.old) (W.count out.new) result }
         ensures why { IfErr result IsOfWriting }
     {
@@ -149,8 +162,8 @@ impl<'m> StepWriter<'m> {
         Ok(steps)
     }
 
-    /// Writes the steps of a read of each page of a block, and answers how many they are. `want` is what its bytes must
-    /// be.
+    /// Writes the steps of a read of each page of a block, and answers how many they are. `want` is
+    /// what its bytes must be.
     fn write_reads<W: InstrOut>(
         &mut self,
         alloc: Global,
@@ -163,10 +176,13 @@ impl<'m> StepWriter<'m> {
         requires inside { start + length want.now ≤ 2 ^ 28 }
         requires few { length want.now ≤ 2 ^ 24 }
         requires writer { W.count out.old < 2 ^ 64 - 1 }
-        ensures lines { Adds (W.held out.old) (W.held out.new) result (next_lines self.old (page_reads start page want.now)) }
-        ensures steps { IfOk result (λ steps. steps ≡ length (next self.old.streaming (page_reads start page want.now))) }
+        ensures lines { Adds (W.held out.old) (W.held out.new) result
+            (next_lines self.old (page_reads start page want.now)) }
+        ensures steps { IfOk result (λ steps.
+            steps ≡ length (next self.old.streaming (page_reads start page want.now))) }
         ensures few { IfOk result (λ steps. steps ≤ 6 * length want.now) }
-        ensures onward { IfOk result (λ _. self.new ≡ written_on self.old (page_reads start page want.now)) }
+        ensures onward { IfOk result (λ _. self.new
+            ≡ written_on self.old (page_reads start page want.now)) }
         ensures count { CountsSteps (W.count out.old) (W.count out.new) result }
         ensures why { IfErr result IsOfWriting }
     {

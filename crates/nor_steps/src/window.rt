@@ -17,12 +17,13 @@ use nor_plan_laws::erased_blocks;
 use std::alloc::Global;
 
 impl<'m> StepWriter<'m> {
-    /// Plans the units that start in a window of the chip (one that [`plan`] takes), and writes their steps: `have` is what
-    /// it holds from `at` on, `want` what it must hold. Answers how much these steps are, no number above 2^30 for each byte
-    /// of the window.
+    /// Plans the units that start in a window of the chip (one that [`plan`] takes), and writes
+    /// their steps: `have` is what it holds from `at` on, `want` what it must hold. Answers how
+    /// much these steps are, no number above 2^30 for each byte of the window.
     ///
-    /// `Plan` where an address of the window is at fault: it names the lowest, and nothing was written then. `Write` where
-    /// the writer fails, `Memory` where a growth is refused: at most a beginning of these steps was written then.
+    /// `Plan` where an address of the window is at fault: it names the lowest, and nothing was
+    /// written then. `Write` where the writer fails, `Memory` where a growth is refused: at most a
+    /// beginning of these steps was written then.
     pub fn more<W: InstrOut>(
         &mut self,
         alloc: Global,
@@ -32,10 +33,14 @@ impl<'m> StepWriter<'m> {
         out: &mut W,
     ) -> Result<Tally, StepsFault>
         requires lengths { length have.now ≡ length want.now }
-        requires window { IsWindow self.old.streaming.meaning self.old.streaming.by at (length have.now) }
+        requires window { IsWindow self.old.streaming.meaning self.old.streaming.by at
+            (length have.now) }
         requires writer { W.count out.old < 2 ^ 64 - 1 }
-        ensures written { IfOk result (WroteStretch self.old self.new (W.held out.old) (W.held out.new) at have.now want.now) }
-        ensures stopped { IfErr result (StopsStretch self.old (W.held out.old) (W.held out.new) at have.now want.now) }
+        ensures written { IfOk result
+            (WroteStretch self.old self.new (W.held out.old) (W.held out.new) at have.now
+            want.now) }
+        ensures stopped { IfErr result
+            (StopsStretch self.old (W.held out.old) (W.held out.new) at have.now want.now) }
         ensures count { CountsSteps (W.count out.old) (W.count out.new) result }
     {
         erased_blocks();
@@ -57,8 +62,11 @@ impl<'m> StepWriter<'m> {
     ) -> Result<Tally, StepsFault>
         requires planned { IsPlanned self.old at have.now want.now units.now }
         requires writer { W.count out.old < 2 ^ 64 - 1 }
-        ensures written { IfOk result (WroteStretch self.old self.new (W.held out.old) (W.held out.new) at have.now want.now) }
-        ensures stopped { IfErr result (StopsStretch self.old (W.held out.old) (W.held out.new) at have.now want.now) }
+        ensures written { IfOk result
+            (WroteStretch self.old self.new (W.held out.old) (W.held out.new) at have.now
+            want.now) }
+        ensures stopped { IfErr result
+            (StopsStretch self.old (W.held out.old) (W.held out.new) at have.now want.now) }
         ensures count { CountsSteps (W.count out.old) (W.count out.new) result }
     {
         let page = self.lowerer.meaning().page;
@@ -72,7 +80,8 @@ impl<'m> StepWriter<'m> {
     }
 }
 
-/// The first byte of a unit and the one past its last, among those of a window that begins at an address.
+/// The first byte of a unit and the one past its last, among those of a window that begins at an
+/// address.
 pub fn bounds(unit: &PlanUnit, at: u32, page: u32) -> (usize, usize)
     requires from { at ≤ unit_start unit.now }
     requires small { unit_start unit.now + unit_size page unit.now < 2 ^ 32 }

@@ -13,21 +13,23 @@ use crate::writer::StepWriter;
 use nor_base::ByteOut;
 use std::alloc::Global;
 
-/// Writes a text of the work on a chip, window after window, and tells how much its steps are: the steps themselves
-/// ([`StepWriter`]), or what a plan says of them.
+/// Writes a text of the work on a chip, window after window, and tells how much its steps are: the
+/// steps themselves ([`StepWriter`]), or what a plan says of them.
 pub trait WorkWriter {
     /// How far the work is.
     ghost writing: { Self → Writing };
 
-    /// The text of a unit of the work on a content and its target, by how far the work is before it.
+    /// The text of a unit of the work on a content and its target, by how far the work is before
+    /// it.
     ghost unit_text: { Self → Writing → List ℕ → List ℕ → WorkUnit → List ℕ };
 
-    /// Writes the text of the units that start in a window of the chip (one that [`plan`](nor_erase::plan) takes): `have` is
-    /// what it holds from `at` on, `want` what it must hold. Answers how much their steps are, no number above 2^30 for each
-    /// byte of the window.
+    /// Writes the text of the units that start in a window of the chip (one that
+    /// [`plan`](nor_erase::plan) takes): `have` is what it holds from `at` on, `want` what it must
+    /// hold. Answers how much their steps are, no number above 2^30 for each byte of the window.
     ///
-    /// `Plan` where an address of the window is at fault: it names the lowest, and nothing was written then. `Write` where
-    /// the writer fails, `Memory` where a growth is refused: at most a beginning of this text was written then.
+    /// `Plan` where an address of the window is at fault: it names the lowest, and nothing was
+    /// written then. `Write` where the writer fails, `Memory` where a growth is refused: at most a
+    /// beginning of this text was written then.
     fn write_window<W: ByteOut>(
         &mut self,
         alloc: Global,
@@ -37,11 +39,14 @@ pub trait WorkWriter {
         out: &mut W,
     ) -> Result<Tally, StepsFault>
         requires lengths { length have.now ≡ length want.now }
-        requires window { IsWindow (writing self.old).streaming.meaning (writing self.old).streaming.by at (length have.now) }
+        requires window { IsWindow (writing self.old).streaming.meaning
+            (writing self.old).streaming.by at (length have.now) }
         requires room { W.count out.old < 2 ^ 64 - 1 }
-        ensures written { IfOk result (WroteText (unit_text self.old) (writing self.old) (writing self.new)
+        ensures written { IfOk result
+            (WroteText (unit_text self.old) (writing self.old) (writing self.new)
             (W.held out.old) (W.held out.new) at have.now want.now) }
-        ensures stopped { IfErr result (StopsText (unit_text self.old) (writing self.old) (W.held out.old) (W.held out.new)
+        ensures stopped { IfErr result
+            (StopsText (unit_text self.old) (writing self.old) (W.held out.old) (W.held out.new)
             at have.now want.now) }
         ensures text { unit_text self.new ≡ unit_text self.old }
         ensures count { CountsSteps (W.count out.old) (W.count out.new) result };

@@ -30,8 +30,8 @@ impl<'m> Model for StepWriter<'m> {
 }
 
 impl<'m> StepWriter<'m> {
-    /// One for a chip, the start that it has and the strategy by which it is driven. `verify` asks for a read of what was
-    /// written. It takes no memory.
+    /// One for a chip, the start that it has and the strategy by which it is driven. `verify` asks
+    /// for a read of what was written. It takes no memory.
     pub fn new(
         alloc: Global,
         meaning: &'m Meaning,
@@ -70,8 +70,10 @@ impl<'m> StepWriter<'m> {
         out: &mut W,
     ) -> Result<u64, StepsFault>
         requires { W.count out.old < 2 ^ 64 - 1 }
-        ensures lines { Adds (W.held out.old) (W.held out.new) result (next_lines self.old (map op_of ops.now)) }
-        ensures steps { IfOk result (λ steps. steps ≡ length (next self.old.streaming (map op_of ops.now))) }
+        ensures lines { Adds (W.held out.old) (W.held out.new) result
+            (next_lines self.old (map op_of ops.now)) }
+        ensures steps { IfOk result (λ steps.
+            steps ≡ length (next self.old.streaming (map op_of ops.now))) }
         ensures few { IfOk result (λ steps. steps ≤ 3 + 3 * length ops.now) }
         ensures onward { IfOk result (λ _. self.new ≡ written_on self.old (map op_of ops.now)) }
         ensures count { CountsSteps (W.count out.old) (W.count out.new) result }
@@ -82,12 +84,15 @@ impl<'m> StepWriter<'m> {
         Ok(instrs.len() as u64)
     }
 
-    /// Writes the steps that leave the mode that was entered, and answers how many they are, at most three.
+    /// Writes the steps that leave the mode that was entered, and answers how many they are, at
+    /// most three.
     ///
-    /// `Write` where the writer fails, `Memory` where a growth is refused: a beginning of these steps was written then.
+    /// `Write` where the writer fails, `Memory` where a growth is refused: a beginning of these
+    /// steps was written then.
     pub fn close<W: InstrOut>(self, alloc: Global, out: &mut W) -> Result<u64, StepsFault>
         requires { W.count out.old < 2 ^ 64 - 1 }
-        ensures lines { Adds (W.held out.old) (W.held out.new) result (lines_of (last self.entry.streaming)) }
+        ensures lines { Adds (W.held out.old) (W.held out.new) result
+            (lines_of (last self.entry.streaming)) }
         ensures steps { IfOk result (λ steps. steps ≡ length (last self.entry.streaming)) }
         ensures few { IfOk result (λ steps. steps ≤ 3) }
         ensures count { CountsSteps (W.count out.old) (W.count out.new) result }

@@ -1,11 +1,12 @@
-//! The bytes that a chip must hold in the end: where the image of an Intel HEX text gives a chosen address a byte, that
-//! byte; elsewhere the byte that was there.
+//! The bytes that a chip must hold in the end: where the image of an Intel HEX text gives a chosen
+//! address a byte, that byte; elsewhere the byte that was there.
 //!
-//! Chip address a takes the image's byte at `base + a`, and nothing is taken from 2^32 on: such a sum doesn't begin
-//! again at 0. These rules are this project's; no public standard speaks of them.
+//! Chip address a takes the image's byte at `base + a`, and nothing is taken from 2^32 on: such a
+//! sum doesn't begin again at 0. These rules are this project's; no public standard speaks of them.
 #![tactic(auto)]
 
-ghost use Rattle.std.specs.Prelude.{◌≡◌, ◌↔◌, ℕ, true, ◌+◌, ◌^◌, ◌≤◌, List, length, map, slice_range, count_by, MatchOption};
+ghost use Rattle.std.specs.Prelude.{◌≡◌, ◌↔◌, ℕ, true, ◌+◌, ◌^◌, ◌≤◌, List, length, map};
+ghost use Rattle.std.specs.Prelude.{slice_range, count_by, MatchOption};
 ghost use Rattle.std.specs.List.{enumerate_from};
 ghost use Rattle.std.specs.List.Sorted.{IsStrictlyIncreasing};
 ghost use Rattle.nor_base.specs.Target.{target, target_byte, is_ignored};
@@ -20,17 +21,22 @@ pub use nor_hex::Image;
 pub use nor_layout::Chosen;
 pub use shares::{Share, chosen_regions, first_empty, share_of};
 
-/// Fills `want` with the target of the chip's addresses from `at` on, where `have` is what the chip holds there.
+/// Fills `want` with the target of the chip's addresses from `at` on, where `have` is what the chip
+/// holds there.
 ///
-/// `want[i]` becomes the image's byte at `base + at + i`, where `at + i` is chosen, that sum is below 2^32 and the image
-/// gives it a byte; else it becomes `have[i]`. So it is this part of the target of any content that holds `have` there.
-/// Both slices have one length, and `at` plus it is at most 2^32. It takes no memory.
+/// `want[i]` becomes the image's byte at `base + at + i`, where `at + i` is chosen, that sum is
+/// below 2^32 and the image gives it a byte; else it becomes `have[i]`. So it is this part of the
+/// target of any content that holds `have` there. Both slices have one length, and `at` plus it is
+/// at most 2^32. It takes no memory.
 pub fn fill(image: &Image, base: u32, chosen: &Chosen, at: u32, have: &[u8], want: &mut [u8])
     requires lengths { length have.now ≡ length want.old }
     requires inside { at + length have.now ≤ 2 ^ 32 }
-    ensures bytes { want.new ≡ map (λ p. target_byte (byte_at image.now) base (has chosen.now) p.0 p.1) (enumerate_from at have.now) }
+    ensures bytes { want.new
+        ≡ map (λ p. target_byte (byte_at image.now) base (has chosen.now) p.0 p.1)
+        (enumerate_from at have.now) }
     ensures part { (content : List ℕ) → slice_range content at (at + length have.now) ≡ have.now
-        → want.new ≡ slice_range (target (byte_at image.now) base (has chosen.now) content) at (at + length have.now) }
+        → want.new ≡ slice_range (target (byte_at image.now) base (has chosen.now) content) at
+        (at + length have.now) }
 {
     want.copy_from_slice(have);
     let mut done = 0;
@@ -40,12 +46,13 @@ pub fn fill(image: &Image, base: u32, chosen: &Chosen, at: u32, have: &[u8], wan
     }
 }
 
-/// The next chosen places from `done` on and below `len`, the first and the one past the last. Place 0 is the chip's
-/// address `at`.
+/// The next chosen places from `done` on and below `len`, the first and the one past the last.
+/// Place 0 is the chip's address `at`.
 fn next_chosen(chosen: &Chosen, at: u32, done: usize, len: usize) -> Option<(usize, usize)>
     requires done { done ≤ len }
     requires inside { at + len ≤ 2 ^ 32 }
-    ensures { MatchOption result (HasNoChosen (has chosen.now) at done len) (λ p. IsNextChosen (has chosen.now) at done len p.0 p.1) }
+    ensures { MatchOption result (HasNoChosen (has chosen.now) at done len)
+        (λ p. IsNextChosen (has chosen.now) at done len p.0 p.1) }
 {
     let address = u32::try_from(u64::from(at) + done as u64).ok()?;
     let (first, last) = chosen.next_run(address)?;
@@ -57,7 +64,8 @@ fn next_chosen(chosen: &Chosen, at: u32, done: usize, len: usize) -> Option<(usi
     Some((begin, end.min(len)))
 }
 
-/// Lays the image's bytes over the places from `begin` on and below `end`. Place 0 is the chip's address `at`.
+/// Lays the image's bytes over the places from `begin` on and below `end`. Place 0 is the chip's
+/// address `at`.
 fn lay(want: &mut [u8], image: &Image, base: u32, at: u32, begin: usize, end: usize)
     requires order { begin ≤ end }
     requires within { end ≤ length want.old }
@@ -89,12 +97,14 @@ fn next_run(image: &Image, base: u32, at: u32, done: usize, len: usize) -> Optio
     Some((begin, &run[..run.len().min(len - begin)]))
 }
 
-/// How many addresses of the image are `base + a` for no chosen address a below `size` (bytes of the chip). It takes no
-/// memory.
+/// How many addresses of the image are `base + a` for no chosen address a below `size` (bytes of
+/// the chip). It takes no memory.
 pub fn ignored(image: &Image, base: u32, chosen: &Chosen, size: u32) -> u64
-    ensures count { result ≡ count_by (λ pair. is_ignored base (has chosen.now) size pair.0) image.now }
+    ensures count { result ≡ count_by (λ pair. is_ignored base (has chosen.now) size pair.0)
+        image.now }
     ensures each_once { IsStrictlyIncreasing (addresses image.now) }
-    ensures which { (at : ℕ) → (is_ignored base (has chosen.now) size at ≡ true) ↔ HasNoPlace base (has chosen.now) size at }
+    ensures which { (at : ℕ) → (is_ignored base (has chosen.now) size at ≡ true)
+        ↔ HasNoPlace base (has chosen.now) size at }
 {
     // Called for what it promises: the addresses rise, and none is past FFFFFFFFh.
     let _ = image.iter();
@@ -107,13 +117,15 @@ pub fn ignored(image: &Image, base: u32, chosen: &Chosen, size: u32) -> u64
     left
 }
 
-/// How many addresses of the image are `base + a` for an address a of the chip from `begin` on and below `end`.
+/// How many addresses of the image are `base + a` for an address a of the chip from `begin` on and
+/// below `end`.
 fn given(image: &Image, base: u32, begin: usize, end: usize) -> u64
     requires order { begin ≤ end }
     requires inside { end ≤ 2 ^ 32 }
     requires rising { IsStrictlyIncreasing (addresses image.now) }
     requires below { HasNoneFrom image.now (2 ^ 32) }
-    ensures { result + ignored_below image.now base (λ _. true) end ≡ ignored_below image.now base (λ _. true) begin }
+    ensures { result + ignored_below image.now base (λ _. true) end
+        ≡ ignored_below image.now base (λ _. true) begin }
 {
     let mut count = 0;
     let mut done = begin;

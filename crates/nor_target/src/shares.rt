@@ -3,7 +3,8 @@
 ghost use Rattle.std.specs.Prelude.{◌≡◌, ◌<◌, ◌≤◌, ◌^◌, IfOk, IfErr, filter_map};
 ghost use Rattle.nor_hex.specs.Image.{byte_at};
 ghost use Rattle.nor_layout.specs.declared.fault.LayoutFault.TheVariants.{Memory};
-ghost use Rattle.nor_target.specs.Shares.{share, share_in, given_between, region_named, whole_chip, chosen_regions, first_empty};
+ghost use Rattle.nor_target.specs.Shares.{share, share_in, given_between, region_named, whole_chip};
+ghost use Rattle.nor_target.specs.Shares.{chosen_regions, first_empty};
 
 use crate::{given, next_run};
 use nor_base::Bytes;
@@ -20,8 +21,8 @@ pub struct Share {
     pub first: u32,
 }
 
-/// What the image gives the addresses of a region below `size` (bytes of the chip); None where it gives them no byte. Chip
-/// address a takes the image's byte at `base + a`. It takes no memory.
+/// What the image gives the addresses of a region below `size` (bytes of the chip); None where it
+/// gives them no byte. Chip address a takes the image's byte at `base + a`. It takes no memory.
 pub fn share_of(image: &Image, base: u32, size: u32, region: &Region<'_>) -> Option<Share>
     ensures { result ≡ share_in (byte_at image.now) base size region.now }
 {
@@ -46,7 +47,8 @@ fn share_between(image: &Image, base: u32, begin: usize, end: usize) -> Option<S
     })
 }
 
-/// The regions of these names, in the order of the names. Where there is no name, the whole chip as a region `chip`.
+/// The regions of these names, in the order of the names. Where there is no name, the whole chip as
+/// a region `chip`.
 ///
 /// A name that no region has is left out. `Memory` where a growth is refused.
 pub fn chosen_regions<'a>(
@@ -56,7 +58,8 @@ pub fn chosen_regions<'a>(
     size: u32,
 ) -> Result<Vec<Region<'a>>, LayoutFault>
     requires { 0 < size }
-    ensures regions { IfOk result (λ chosen. chosen.items ≡ chosen_regions regions.now names.now size) }
+    ensures regions { IfOk result (λ chosen. chosen.items
+        ≡ chosen_regions regions.now names.now size) }
     ensures refused { IfErr result (λ fault. fault ≡ Memory) }
 {
     if names.is_empty() {
@@ -83,7 +86,8 @@ fn named_regions<'a>(
     regions: &[Region<'a>],
     names: &[Bytes],
 ) -> Result<Vec<Region<'a>>, LayoutFault>
-    ensures regions { IfOk result (λ chosen. chosen.items ≡ filter_map (region_named regions.now) names.now) }
+    ensures regions { IfOk result (λ chosen. chosen.items
+        ≡ filter_map (region_named regions.now) names.now) }
     ensures refused { IfErr result (λ fault. fault ≡ Memory) }
 {
     let mut chosen = Vec::new(alloc);

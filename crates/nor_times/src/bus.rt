@@ -2,7 +2,8 @@
 
 ghost use Rattle.std.specs.Prelude.{◌≡◌, ◌≤◌, ◌<◌, ◌+◌, ◌^◌, if◌then◌else◌};
 ghost use Rattle.std.specs.List.{list_any};
-ghost use Rattle.nor_times.specs.Bus.{Doing, block_clocks, bus_of, done_clocks, is_work, lines_clocks, mode_clocks, run_clocks};
+ghost use Rattle.nor_times.specs.Bus.{Doing, block_clocks, bus_of, done_clocks, is_work};
+ghost use Rattle.nor_times.specs.Bus.{lines_clocks, mode_clocks, run_clocks};
 
 use crate::clocks::{change_clocks, head_clocks, mode_clocks, program_clocks, read_clocks};
 use nor_base::{Meaning, Start, Strategy};
@@ -25,15 +26,16 @@ impl<'m> Model for Job<'m> {
 
     ghost Value = { Doing };
 
-    ghost view = { λ j. record { meaning = j.meaning.now; start = j.start; by = j.strategy; verify = j.verify } };
+    ghost view = { λ j. record
+        { meaning = j.meaning.now; start = j.start; by = j.strategy; verify = j.verify } };
 }
 
-/// The clocks of the script that does a plan's lines, each poll once, as `build` writes it for a chip that begins so: the exact
-/// sum.
+/// The clocks of the script that does a plan's lines, each poll once, as `build` writes it for a
+/// chip that begins so: the exact sum.
 ///
-/// Each erase and each program has a write enable, its instruction and a poll. With `verify` each page of a block that is
-/// erased is read, and each program past the block that was erased last. Where a line tells an instruction, the mode that the
-/// strategy needs is entered and left.
+/// Each erase and each program has a write enable, its instruction and a poll. With `verify` each
+/// page of a block that is erased is read, and each program past the block that was erased last.
+/// Where a line tells an instruction, the mode that the strategy needs is entered and left.
 #[tactic(auto, unfolding(crate::specs::Bus::bus_of))]
 pub fn bus_clocks(meaning: &Meaning, start: &Start, verify: bool, lines: &[PlanLine]) -> u128
     ensures { result ≡ bus_of meaning.now start.now verify lines.now }
@@ -57,7 +59,8 @@ impl<'m> Job<'m> {
 
     /// The clocks of the mode that lines need.
     fn mode_clocks(&self, lines: &[PlanLine]) -> u64
-        ensures value { result ≡ (if list_any is_work lines.now then mode_clocks self.now.meaning self.now.by else 0) }
+        ensures value { result ≡ (if list_any is_work lines.now
+            then mode_clocks self.now.meaning self.now.by else 0) }
         ensures small { result ≤ 48 }
     {
         if !has_work(lines) {
@@ -103,7 +106,8 @@ impl<'m> Job<'m> {
                 * read_clocks(self.meaning, &self.start, self.strategy, start, page)
     }
 
-    /// The clocks of a program and, with `verify`, of its read, unless it lies below the end of the block that was erased last.
+    /// The clocks of a program and, with `verify`, of its read, unless it lies below the end of the
+    /// block that was erased last.
     fn run_clocks(&self, end: u64, start: u32, count: u32) -> u64
         ensures value { result ≡ run_clocks self.now end start count }
         ensures small { result < 2 ^ 50 }

@@ -2,7 +2,8 @@
 
 ghost use Rattle.std.specs.Prelude.{◌≡◌, ◌≤◌, ◌<◌, ◌+◌, ◌*◌, ◌-◌, find, IfSome};
 ghost use Rattle.nor_base.specs.Blocks.{kinds};
-ghost use Rattle.nor_times.specs.Busy.{busy_of, is_named, program_time, time_of, typical_of, worst_of};
+ghost use Rattle.nor_times.specs.Busy.{busy_of, is_named, program_time, time_of, typical_of};
+ghost use Rattle.nor_times.specs.Busy.{worst_of};
 
 use crate::times::Times;
 use nor_base::Meaning;
@@ -17,11 +18,13 @@ pub struct Busy {
     pub worst: u128,
 }
 
-/// How long a chip is busy with the erases and programs of a plan's lines: the exact sums. Polls and clocks add nothing.
+/// How long a chip is busy with the erases and programs of a plan's lines: the exact sums. Polls
+/// and clocks add nothing.
 ///
-/// An erase takes the time of the live kind that its opcode, `op` or `op4`, names; in a plan for the chip it names one, and
-/// no more than one. Where it names none it takes no time. A program takes the lesser of a page's time and that of its
-/// bytes, the first and each further one; one of no bytes takes no time. The worst time is the typical one by its factor.
+/// An erase takes the time of the live kind that its opcode, `op` or `op4`, names; in a plan for
+/// the chip it names one, and no more than one. Where it names none it takes no time. A program
+/// takes the lesser of a page's time and that of its bytes, the first and each further one; one of
+/// no bytes takes no time. The worst time is the typical one by its factor.
 #[tactic(auto, unfolding(crate::specs::Busy::busy_of))]
 pub fn busy_time(times: &Times, meaning: &Meaning, lines: &[PlanLine]) -> Busy
     ensures { result ≡ busy_of times.now meaning.now lines.now }

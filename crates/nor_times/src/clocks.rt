@@ -1,7 +1,8 @@
 //! The clocks of instructions.
 
 ghost use Rattle.std.specs.Prelude.{◌≡◌, ◌≤◌, ◌*◌, ◌+◌};
-ghost use Rattle.nor_times.specs.Bus.{change_clocks, head_clocks, mode_clocks, program_clocks, read_clocks, switch_clocks};
+ghost use Rattle.nor_times.specs.Bus.{change_clocks, head_clocks, mode_clocks, program_clocks};
+ghost use Rattle.nor_times.specs.Bus.{read_clocks, switch_clocks};
 
 use nor_base::{Meaning, Start, Strategy, Switch};
 use nor_geometry::{legacy_width, takes_dedicated};

@@ -1,8 +1,9 @@
-//! How long a plan takes: the chip's own busy time of its erases and programs, by the basic flash parameter table (JEDEC
-//! JESD216B), and the clocks of its script on the bus. `docs/FORMATS.md`, section 15, has the sums and the lines.
+//! How long a plan takes: the chip's own busy time of its erases and programs, by the basic flash
+//! parameter table (JEDEC JESD216B), and the clocks of its script on the bus. `docs/FORMATS.md`,
+//! section 15, has the sums and the lines.
 //!
-//! [`read_times`] reads what the table tells, [`busy_time`] and [`bus_clocks`] add up over a plan's lines, [`write_times`]
-//! writes the two lines. They take no memory.
+//! [`read_times`] reads what the table tells, [`busy_time`] and [`bus_clocks`] add up over a plan's
+//! lines, [`write_times`] writes the two lines. They take no memory.
 #![tactic(auto)]
 
 mod bus;

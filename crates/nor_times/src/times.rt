@@ -1,14 +1,16 @@
 //! What a chip's basic table tells of its times.
 
 ghost use Rattle.std.specs.Prelude.{◌≡◌, ◌≤◌, ◌<◌, Option};
-ghost use Rattle.nor_times.specs.Times.{byte_time, erase_time, erase_unit, page_time, byte_unit, page_unit, factor, times_by, times_in, times_of};
+ghost use Rattle.nor_times.specs.Times.{byte_time, erase_time, erase_unit, page_time, byte_unit};
+ghost use Rattle.nor_times.specs.Times.{page_unit, factor, times_by, times_in, times_of};
 
 use nor_sfdp::{SfdpTable, bits, is_set, table};
 
 /// The ID of the basic flash parameter table.
 const BASIC: u16 = 0xFF00;
 
-/// How long a chip is busy with its erases and programs (JESD216B, FF00h DWORDs 10 and 11), in microseconds.
+/// How long a chip is busy with its erases and programs (JESD216B, FF00h DWORDs 10 and 11), in
+/// microseconds.
 #[derive(Clone, Copy)]
 pub struct Times {
     /// A block's typical erase, by its kind, 1 to 4. Of an absent kind it says nothing.

@@ -1,6 +1,8 @@
-//! Values worked out by hand. Each function does nothing: its contract is the values, and the gate computes them.
+//! Values worked out by hand. Each function does nothing: its contract is the values, and the gate
+//! computes them.
 
-ghost use Rattle.nor_times.specs.Worked.{IsTableRead, IsTableAtEnds, AreSumsWorked, AreProgramsWorked, AreClocksWorked, AreLinesWorked};
+ghost use Rattle.nor_times.specs.Worked.{IsTableRead, IsTableAtEnds, AreSumsWorked};
+ghost use Rattle.nor_times.specs.Worked.{AreProgramsWorked, AreClocksWorked, AreLinesWorked};
 
 /// What DWORDs 10 and 11 tell: of a chip of 4, 32 and 64 KiB, and at the ends of each field.
 pub fn table_worked()

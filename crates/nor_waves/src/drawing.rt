@@ -32,7 +32,8 @@ impl Drawing {
         out: &mut W,
     ) -> Result<Drawing, Failed>
         requires { W.count out.old < 2 ^ 64 - 1 }
-        ensures bytes { Writes (W.held out.old) (W.held out.new) result (drawn self (flat_map step_ticks steps.now)) }
+        ensures bytes { Writes (W.held out.old) (W.held out.new) result
+            (drawn self (flat_map step_ticks steps.now)) }
         ensures drawn { IfOk result (λ at. at ≡ after self (flat_map step_ticks steps.now)) }
         ensures count { Counts (W.count out.old) (W.count out.new) result }
     {
@@ -46,7 +47,8 @@ impl Drawing {
     /// Draws a step and the gap before it.
     fn put_step<W: ByteOut>(self, step: &Step, out: &mut W) -> Result<Drawing, Failed>
         requires { W.count out.old < 2 ^ 64 - 1 }
-        ensures bytes { Writes (W.held out.old) (W.held out.new) result (drawn self (step_ticks step.now)) }
+        ensures bytes { Writes (W.held out.old) (W.held out.new) result
+            (drawn self (step_ticks step.now)) }
         ensures drawn { IfOk result (λ at. at ≡ after self (step_ticks step.now)) }
         ensures count { Counts (W.count out.old) (W.count out.new) result }
     {
@@ -72,7 +74,8 @@ impl Drawing {
         out: &mut W,
     ) -> Result<Drawing, Failed>
         requires { W.count out.old < 2 ^ 64 - 1 }
-        ensures bytes { Writes (W.held out.old) (W.held out.new) result (drawn self (clocks_ticks expect.now 0 clocks.now)) }
+        ensures bytes { Writes (W.held out.old) (W.held out.new) result
+            (drawn self (clocks_ticks expect.now 0 clocks.now)) }
         ensures drawn { IfOk result (λ at. at ≡ after self (clocks_ticks expect.now 0 clocks.now)) }
         ensures count { Counts (W.count out.old) (W.count out.new) result }
     {

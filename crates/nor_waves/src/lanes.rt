@@ -1,7 +1,8 @@
 //! What is on the wires at a clock.
 
 ghost use Rattle.std.specs.Prelude.{◌≡◌, ◌<◌, ◌≤◌, ◌^◌};
-ghost use Rattle.nor_waves.specs.Ticks.{is_set, level_of, lanes_in, bit_expected, lane, levels_at, clock_ticks, sample_at};
+ghost use Rattle.nor_waves.specs.Ticks.{is_set, level_of, lanes_in, bit_expected, lane, levels_at};
+ghost use Rattle.nor_waves.specs.Ticks.{clock_ticks, sample_at};
 
 use crate::wires::{Level, Levels};
 use nor_base::{Clock, Sample, clock_of, sample_of};
@@ -21,7 +22,8 @@ pub(crate) fn lanes_in(mask: u8) -> u8
     mask % 2 + mask / 2 % 2 + mask / 4 % 2 + mask / 8 % 2
 }
 
-/// The wires while the clock is low, and while it is high. Before it `place` bits of those expected were sampled.
+/// The wires while the clock is low, and while it is high. Before it `place` bits of those expected
+/// were sampled.
 pub(crate) fn clock_ticks(expect: &[u8], place: u128, sample: Sample) -> [Levels; 2]
     requires { place < 2 ^ 127 }
     ensures { result ≡ clock_ticks expect.now place sample }

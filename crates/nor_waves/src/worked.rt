@@ -1,6 +1,10 @@
-//! Values of the waveform, worked out by hand. Each function does nothing: its contract is the values, and the gate computes them.
+//! Values of the waveform, worked out by hand. Each function does nothing: its contract is the
+//! values, and the gate computes them.
 
-ghost use Rattle.nor_waves.specs.Worked.{EnableTimed, EnableDriven, ReadTimed, ReadDriven, PollDriven, QuadTimed, QuadDriven, QuadReadTimed, QuadReadDriven, StrangeDriven, NothingDrawn, BitDrawn, BitsDrawn};
+ghost use Rattle.nor_waves.specs.Worked.{EnableTimed, EnableDriven, ReadTimed, ReadDriven};
+ghost use Rattle.nor_waves.specs.Worked.{PollDriven, QuadTimed, QuadDriven, QuadReadTimed};
+ghost use Rattle.nor_waves.specs.Worked.{QuadReadDriven, StrangeDriven, NothingDrawn, BitDrawn};
+ghost use Rattle.nor_waves.specs.Worked.{BitsDrawn};
 
 /// One lane: 06h sent, A5h to be read, a poll.
 pub fn one_lane_worked()

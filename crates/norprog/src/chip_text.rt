@@ -2,23 +2,29 @@
 
 ghost use Rattle.std.specs.Prelude.{◌≡◌, ◌<◌, ◌-◌, ◌^◌, flat_map};
 ghost use Rattle.nor_base.specs.Device.{Writes, Counts};
-ghost use Rattle.norprog.specs.ChipText.{hex_digit, hex_byte, page_end, width_text, front_text, op4_text, erase_text, kind_text, erases_text, switch_text, read_text, quad_read_text, offered_text, dedicated_text, modes_text, region_text, meaning_text};
+ghost use Rattle.norprog.specs.ChipText.{hex_digit, hex_byte, page_end, width_text, front_text};
+ghost use Rattle.norprog.specs.ChipText.{op4_text, erase_text, kind_text, erases_text, switch_text};
+ghost use Rattle.norprog.specs.ChipText.{read_text, quad_read_text, offered_text, dedicated_text};
+ghost use Rattle.norprog.specs.ChipText.{modes_text, region_text, meaning_text};
 
 use itoa::Buffer;
 use nor_base::{
     ByteOut, Erase, Failed, Meaning, QuadRead, Region, Switch, Width, put_all, put_parts,
 };
 
-/// Writes what a meaning says, a line each, closed by LF: `size n`, `page n` (` up` behind it where the page is only
-/// known to be that large or larger), `address three`, `both` or `four`; `erase K n OO PP` for each present kind (its
-/// opcode and its dedicated one, `--` where there is none); `enter W`, `leave W` with W `absent`, `plain` or `latched`;
-/// `quadread OO n` or `quadread none`; `dedicated` and those of 13, 6c, 12, 34 that are offered; `region n k` for each
-/// region, k the mask of its kinds. Opcodes are in hexadecimal, all else in decimal. It takes no memory.
+/// Writes what a meaning says, a line each, closed by LF: `size n`, `page n` (` up` behind it where
+/// the page is only known to be that large or larger), `address three`, `both` or `four`; `erase K
+/// n OO PP` for each present kind (its opcode and its dedicated one, `--` where there is none);
+/// `enter W`, `leave W` with W `absent`, `plain` or `latched`; `quadread OO n` or `quadread none`;
+/// `dedicated` and those of 13, 6c, 12, 34 that are offered; `region n k` for each region, k the
+/// mask of its kinds. Opcodes are in hexadecimal, all else in decimal. It takes no memory.
 ///
-/// At `Failed` a proper prefix was taken; it comes from the writer alone, whose count of failures rose by one.
+/// At `Failed` a proper prefix was taken; it comes from the writer alone, whose count of failures
+/// rose by one.
 pub fn sfdp_text<W: ByteOut>(meaning: &Meaning, writer: &mut W) -> Result<(), Failed>
     requires { W.count writer.old < 2 ^ 64 - 1 }
-    ensures bytes { Writes (W.held writer.old) (W.held writer.new) result (meaning_text meaning.now) }
+    ensures bytes { Writes (W.held writer.old) (W.held writer.new) result
+        (meaning_text meaning.now) }
     ensures count { Counts (W.count writer.old) (W.count writer.new) result }
 {
     put_front(meaning, writer)?;
@@ -100,7 +106,8 @@ fn op4_digits(op4: Option<u8>) -> [u8; 2]
 /// The present kinds.
 fn put_erases<W: ByteOut>(meaning: &Meaning, writer: &mut W) -> Result<(), Failed>
     requires { W.count writer.old < 2 ^ 64 - 1 }
-    ensures bytes { Writes (W.held writer.old) (W.held writer.new) result (erases_text meaning.now) }
+    ensures bytes { Writes (W.held writer.old) (W.held writer.new) result
+        (erases_text meaning.now) }
     ensures count { Counts (W.count writer.old) (W.count writer.new) result }
 {
     put_kind(meaning, 1, writer)?;
@@ -112,7 +119,8 @@ fn put_erases<W: ByteOut>(meaning: &Meaning, writer: &mut W) -> Result<(), Faile
 /// The kind of a number, where it is present.
 fn put_kind<W: ByteOut>(meaning: &Meaning, kind: u8, writer: &mut W) -> Result<(), Failed>
     requires { W.count writer.old < 2 ^ 64 - 1 }
-    ensures bytes { Writes (W.held writer.old) (W.held writer.new) result (kind_text meaning.now kind) }
+    ensures bytes { Writes (W.held writer.old) (W.held writer.new) result
+        (kind_text meaning.now kind) }
     ensures count { Counts (W.count writer.old) (W.count writer.new) result }
 {
     put_erase(kind, meaning.erase_kind(kind), writer)
@@ -207,7 +215,8 @@ fn put_read<W: ByteOut>(read: QuadRead, writer: &mut W) -> Result<(), Failed>
 /// The four-byte address instructions that are offered.
 fn put_dedicated<W: ByteOut>(meaning: &Meaning, writer: &mut W) -> Result<(), Failed>
     requires { W.count writer.old < 2 ^ 64 - 1 }
-    ensures bytes { Writes (W.held writer.old) (W.held writer.new) result (dedicated_text meaning.now) }
+    ensures bytes { Writes (W.held writer.old) (W.held writer.new) result
+        (dedicated_text meaning.now) }
     ensures count { Counts (W.count writer.old) (W.count writer.new) result }
 {
     put_parts(
@@ -233,7 +242,8 @@ fn where_offered(offered: bool, opcode: &'static [u8]) -> &'static [u8]
 /// The regions of the sector map.
 fn put_regions<W: ByteOut>(regions: &[Region], writer: &mut W) -> Result<(), Failed>
     requires { W.count writer.old < 2 ^ 64 - 1 }
-    ensures bytes { Writes (W.held writer.old) (W.held writer.new) result (flat_map region_text regions.now) }
+    ensures bytes { Writes (W.held writer.old) (W.held writer.new) result
+        (flat_map region_text regions.now) }
     ensures count { Counts (W.count writer.old) (W.count writer.new) result }
 {
     for region in regions {

@@ -1,8 +1,10 @@
-//! Programs a SPI NOR flash chip by a bus script: from an Intel HEX image, a layout with chosen regions and what the
-//! chip holds now to the text of a script in which every clock of every transaction stands.
+//! Programs a SPI NOR flash chip by a bus script: from an Intel HEX image, a layout with chosen
+//! regions and what the chip holds now to the text of a script in which every clock of every
+//! transaction stands.
 //!
-//! [`build`] writes the script. Its contract says what running it on the chip does. [`plan`] writes lines that tell what
-//! that script erases, why, and what it programs. [`sfdp_text`] writes lines that say what a chip's tables mean.
+//! [`build`] writes the script. Its contract says what running it on the chip does. [`plan`] writes
+//! lines that tell what that script erases, why, and what it programs. [`sfdp_text`] writes lines
+//! that say what a chip's tables mean.
 #![tactic(auto)]
 
 pub mod builder;

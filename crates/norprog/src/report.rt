@@ -25,10 +25,11 @@ pub struct Report {
     pub ignored: u64,
 }
 
-/// Writes a report: `strategy S2`, `steps n`, `erases n`, `erased n`, `programs n`, `ignored n`, a line each, closed by
-/// LF; numbers in decimal. It takes no memory.
+/// Writes a report: `strategy S2`, `steps n`, `erases n`, `erased n`, `programs n`, `ignored n`, a
+/// line each, closed by LF; numbers in decimal. It takes no memory.
 ///
-/// At `Failed` a proper prefix was taken; it comes from the writer alone, whose count of failures rose by one.
+/// At `Failed` a proper prefix was taken; it comes from the writer alone, whose count of failures
+/// rose by one.
 pub fn write_report<W: ByteOut>(report: &Report, writer: &mut W) -> Result<(), Failed>
     requires { W.count writer.old < 2 ^ 64 - 1 }
     ensures bytes { Writes (W.held writer.old) (W.held writer.new) result (report_text report.now) }

@@ -5,7 +5,8 @@ ghost use Rattle.nor_base.specs.Accepted.{IsAccepted};
 ghost use Rattle.nor_base.specs.Strategies.{strategy as driven_by};
 ghost use Rattle.nor_geometry.specs.Plan.{IsWindow};
 ghost use Rattle.nor_geometry.specs.Window.{IsWindowSize};
-ghost use Rattle.norprog.specs.Windows.{first_writing, lifted_steps, StopsWindow, IsDone, IsAllDone, IsKnown, IsCut};
+ghost use Rattle.norprog.specs.Windows.{first_writing, lifted_steps, StopsWindow, IsDone};
+ghost use Rattle.norprog.specs.Windows.{IsAllDone, IsKnown, IsCut};
 ghost use Rattle.nor_job.specs.Written.{CountsReader, CountsWriter};
 
 use nor_base::{ByteIn, ByteOut};
@@ -22,12 +23,13 @@ pub(crate) fn room(alloc: Global, window: usize) -> Result<(Vec<u8>, Vec<u8>), A
     Ok((vec![in alloc; 0; window]?, vec![in alloc; 0; window]?))
 }
 
-/// Reads the content, and has the text of each window written as soon as it is read. Answers how much the steps of all
-/// windows are.
+/// Reads the content, and has the text of each window written as soon as it is read. Answers how
+/// much the steps of all windows are.
 ///
-/// `have` and `want` have room for a window of the chip each. `ContentShort` where the reader ends before the chip's
-/// size, `Read` and `Write` where that device fails, `Plan` where an address of a window that was read is at fault,
-/// `Memory` where a growth is refused: the first of these that the work meets.
+/// `have` and `want` have room for a window of the chip each. `ContentShort` where the reader ends
+/// before the chip's size, `Read` and `Write` where that device fails, `Plan` where an address of a
+/// window that was read is at fault, `Memory` where a growth is refused: the first of these that
+/// the work meets.
 pub(crate) fn write_windows<T: WorkWriter, R: ByteIn, W: ByteOut>(
     alloc: Global,
     job: &Job,
@@ -71,7 +73,8 @@ pub(crate) fn write_windows<T: WorkWriter, R: ByteIn, W: ByteOut>(
     Ok(told)
 }
 
-/// Reads a window of the content that begins at an address, and has its text written. Answers how much its steps are.
+/// Reads a window of the content that begins at an address, and has its text written. Answers how
+/// much its steps are.
 ///
 /// Its faults are those of [`write_windows`].
 fn write_window<T: WorkWriter, R: ByteIn, W: ByteOut>(
@@ -87,13 +90,17 @@ fn write_window<T: WorkWriter, R: ByteIn, W: ByteOut>(
     requires lengths { length want.old ≡ length have.old }
     requires meaning { (T.writing writer.old).streaming.meaning ≡ job.now.meaning }
     requires by { (T.writing writer.old).streaming.by ≡ driven_by job.now.meaning job.now.start }
-    requires window { IsWindow job.now.meaning (driven_by job.now.meaning job.now.start) at (length have.old) }
+    requires window { IsWindow job.now.meaning (driven_by job.now.meaning job.now.start) at
+        (length have.old) }
     requires inside { at + length have.old ≤ 2 ^ 32 }
     requires reader { R.count content.old < 2 ^ 64 - 1 }
     requires out { W.count out.old < 2 ^ 64 - 1 }
-    ensures done { IfOk result (IsDone (T.unit_text writer.old) job.now (T.writing writer.old) (T.writing writer.new) at (length have.old)
+    ensures done { IfOk result
+        (IsDone (T.unit_text writer.old) job.now (T.writing writer.old) (T.writing writer.new) at
+        (length have.old)
         (R.ahead content.old) (R.ahead content.new) (W.held out.old) (W.held out.new)) }
-    ensures stopped { IfErr result (StopsWindow (T.unit_text writer.old) job.now (T.writing writer.old) at (length have.old)
+    ensures stopped { IfErr result
+        (StopsWindow (T.unit_text writer.old) job.now (T.writing writer.old) at (length have.old)
         (R.ahead content.old) (R.ahead content.new) (W.held out.old) (W.held out.new)) }
     ensures text { T.unit_text writer.new ≡ T.unit_text writer.old }
     ensures reads { CountsReader (R.count content.old) (R.count content.new) result }

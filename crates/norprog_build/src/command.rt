@@ -3,7 +3,8 @@
 ghost use Rattle.std.specs.Prelude.{◌≡◌, ◌<◌, ◌≤◌, ◌-◌, ◌^◌, Some, true, IfOk, IfErr};
 ghost use Rattle.norprog_common.specs.Told.{OrUsage};
 ghost use Rattle.norprog_build.specs.Served.{asks_build, ServesBuild};
-ghost use Rattle.norprog_build.specs.Answer.{IsBuildReport, RefusesBuild, PrintsReport, CutsReport, AnswersBuild, done};
+ghost use Rattle.norprog_build.specs.Answer.{IsBuildReport, RefusesBuild, PrintsReport, CutsReport};
+ghost use Rattle.norprog_build.specs.Answer.{AnswersBuild, done};
 ghost use Rattle.norprog_common.specs.Served.{IsJobOf};
 ghost use Rattle.norprog_common.specs.Strict.{Filled};
 
@@ -15,9 +16,9 @@ use norprog_common::{
 };
 use std::alloc::Global;
 
-/// Does what the texts of a command line ask for. It opens the files that they name, writes the report to `out` and a
-/// refusal to `err` (docs/FORMATS.md, section 9), and answers the status: 0 done, 1 refused, 2 usage. The script's file is
-/// made as none of the files that are read.
+/// Does what the texts of a command line ask for. It opens the files that they name, writes the
+/// report to `out` and a refusal to `err` (docs/FORMATS.md, section 9), and answers the status: 0
+/// done, 1 refused, 2 usage. The script's file is made as none of the files that are read.
 ///
 /// Usage is told where the texts ask for no build.
 pub fn build<S: FileStore, O: ByteOut, E: ByteOut>(
@@ -31,7 +32,8 @@ pub fn build<S: FileStore, O: ByteOut, E: ByteOut>(
     requires err { E.count err.old < 2 ^ 64 - 1 }
     ensures status { result ≤ 2 }
     ensures quiet { result ≡ 0 → err.new ≡ err.old }
-    ensures answer { AnswersBuild (S.facts store.now) given.entry (O.held out.old) (O.held out.new) (err.new ≡ err.old)
+    ensures answer { AnswersBuild (S.facts store.now) given.entry (O.held out.old) (O.held out.new)
+        (err.new ≡ err.old)
         (E.count err.new ≡ E.count err.old) (E.held err.old) (E.held err.new) result }
 {
     answered(report_build(alloc, store, given, out), err)
@@ -46,12 +48,18 @@ fn report_build<S: FileStore, O: ByteOut>(
 ) -> Result<u8, Refusal>
     requires { O.count out.old < 2 ^ 64 - 1 }
     ensures status { IfOk result (λ status. status ≡ 0) }
-    ensures printed { IfOk result (λ _. PrintsReport (Filled given.entry.job.strict (ServesBuild (S.facts store.now) given.entry))
+    ensures printed { IfOk result
+        (λ _. PrintsReport (Filled given.entry.job.strict
+        (ServesBuild (S.facts store.now) given.entry))
         (S.facts store.now).flushed (O.held out.old) (O.held out.new)) }
-    ensures unprinted { IfErr result (λ _. CutsReport (Filled given.entry.job.strict (ServesBuild (S.facts store.now) given.entry))
+    ensures unprinted { IfErr result
+        (λ _. CutsReport (Filled given.entry.job.strict
+        (ServesBuild (S.facts store.now) given.entry))
         (S.facts store.now).flushed (O.held out.old) (O.held out.new)) }
     ensures asked { IfOk result (λ _. asks_build given.entry ≡ true) }
-    ensures first { IfErr result (OrUsage (asks_build given.entry) (RefusesBuild given.entry.job.strict (S.facts store.now).lacked
+    ensures first { IfErr result
+        (OrUsage (asks_build given.entry)
+        (RefusesBuild given.entry.job.strict (S.facts store.now).lacked
         (ServesBuild (S.facts store.now) given.entry))) }
 {
     let request = request_of(given.job).ok_or(Refusal::Usage)?;
@@ -70,7 +78,9 @@ fn run_build<S: FileStore>(
     request: &Request<'_>,
     path: &str,
 ) -> Result<Report, Refusal>
-    ensures built { IfOk result (IsBuildReport (Filled request.now.strict (IsJobOf (S.facts store.now) request.now (Some path.now)))
+    ensures built { IfOk result
+        (IsBuildReport (Filled request.now.strict
+        (IsJobOf (S.facts store.now) request.now (Some path.now)))
         (S.facts store.now).flushed) }
     ensures refused { IfErr result (RefusesBuild request.now.strict (S.facts store.now).lacked
         (IsJobOf (S.facts store.now) request.now (Some path.now))) }

@@ -9,7 +9,9 @@ ghost use Rattle.norprog_common.specs.Told.{OrScript, OrUsage};
 ghost use Rattle.norprog_check.specs.Served.{asks_check, ServesCheck, ServesScript};
 ghost use Rattle.norprog_common.specs.Served.{job_with, Is, IsJobOf};
 ghost use Rattle.norprog_common.specs.Strict.{Filled};
-ghost use Rattle.norprog_check.specs.Answer.{verdict_status, stop_refusal, stream_refusal, IsCheckFinding, RefusesCheck, RefusesAsked, CutsVerdict, AnswersCheck};
+ghost use Rattle.norprog_check.specs.Answer.{verdict_status, stop_refusal, stream_refusal};
+ghost use Rattle.norprog_check.specs.Answer.{IsCheckFinding, RefusesCheck, RefusesAsked};
+ghost use Rattle.norprog_check.specs.Answer.{CutsVerdict, AnswersCheck};
 
 use crate::checker::check_script;
 use crate::fault::{CheckStop, StreamStop};
@@ -25,8 +27,9 @@ use norprog_common::{
 };
 use std::alloc::Global;
 
-/// Writes to `out` whether a script does the job on a command line and, where it is asked for, a chip that shows a no; or a refusal to `err` (docs/FORMATS.md, section 9), and
-/// answers the status: 0 it does, 1 it doesn't or is refused, 2 usage.
+/// Writes to `out` whether a script does the job on a command line and, where it is asked for, a
+/// chip that shows a no; or a refusal to `err` (docs/FORMATS.md, section 9), and answers the
+/// status: 0 it does, 1 it doesn't or is refused, 2 usage.
 ///
 /// Usage is told where the texts ask for no check.
 pub fn check<S: FileStore, O: ByteOut, E: ByteOut>(
@@ -40,7 +43,8 @@ pub fn check<S: FileStore, O: ByteOut, E: ByteOut>(
     requires err { E.count err.old < 2 ^ 64 - 1 }
     ensures status { result ≤ 2 }
     ensures quiet { result ≡ 0 → err.new ≡ err.old }
-    ensures answer { AnswersCheck (S.facts store.now) given.entry (O.held out.old) (O.held out.new) (err.new ≡ err.old)
+    ensures answer { AnswersCheck (S.facts store.now) given.entry (O.held out.old) (O.held out.new)
+        (err.new ≡ err.old)
         (E.count err.new ≡ E.count err.old) (E.held err.old) (E.held err.new) result }
 {
     match report_check(alloc, store, given, out) {
@@ -67,14 +71,23 @@ fn report_check<S: FileStore, O: ByteOut>(
     out: &mut O,
 ) -> Result<Finding, Refusal>
     requires { O.count out.old < 2 ^ 64 - 1 }
-    ensures checked { IfOk result (IsCheckFinding (Filled given.entry.job.strict (ServesCheck (S.facts store.now) given.entry))
+    ensures checked { IfOk result
+        (IsCheckFinding (Filled given.entry.job.strict
+        (ServesCheck (S.facts store.now) given.entry))
         (ServesScript (S.facts store.now) given.entry)) }
-    ensures printed { IfOk result (λ found. Appends (O.held out.old) (O.held out.new) (finding_text given.entry.witness found)) }
-    ensures unprinted { IfErr result (λ _. CutsVerdict given.entry.witness (Filled given.entry.job.strict (ServesCheck (S.facts store.now) given.entry))
+    ensures printed { IfOk result
+        (λ found. Appends (O.held out.old) (O.held out.new)
+        (finding_text given.entry.witness found)) }
+    ensures unprinted { IfErr result
+        (λ _. CutsVerdict given.entry.witness
+        (Filled given.entry.job.strict (ServesCheck (S.facts store.now) given.entry))
         (ServesScript (S.facts store.now) given.entry) (O.held out.old) (O.held out.new)) }
     ensures asked { IfOk result (λ _. asks_check given.entry ≡ true) }
-    ensures first { IfErr result (OrUsage (asks_check given.entry) (RefusesAsked given.entry.job.strict (OrScript (S.facts store.now).lacked)
-        (ServesCheck (S.facts store.now) given.entry) (ServesScript (S.facts store.now) given.entry))) }
+    ensures first { IfErr result
+        (OrUsage (asks_check given.entry)
+        (RefusesAsked given.entry.job.strict (OrScript (S.facts store.now).lacked)
+        (ServesCheck (S.facts store.now) given.entry)
+        (ServesScript (S.facts store.now) given.entry))) }
 {
     let request = request_of(given.job).ok_or(Refusal::Usage)?;
     let path = given.script.ok_or(Refusal::Usage)?;
@@ -92,9 +105,11 @@ fn run_check<S: FileStore>(
     request: &Request<'_>,
     path: &str,
 ) -> Result<Finding, Refusal>
-    ensures checked { IfOk result (IsCheckFinding (Filled request.now.strict (IsJobOf (S.facts store.now) request.now None))
+    ensures checked { IfOk result
+        (IsCheckFinding (Filled request.now.strict (IsJobOf (S.facts store.now) request.now None))
         (IsTextIn (S.facts store.now) path.now)) }
-    ensures refused { IfErr result (RefusesAsked request.now.strict (OrScript (S.facts store.now).lacked)
+    ensures refused { IfErr result
+        (RefusesAsked request.now.strict (OrScript (S.facts store.now).lacked)
         (IsJobOf (S.facts store.now) request.now None) (IsTextIn (S.facts store.now) path.now)) }
 {
     let mut places = Vec::new(alloc);
@@ -115,7 +130,9 @@ fn check_file<F: ByteIn + Drop, R: ByteIn>(
 ) -> Result<Finding, Refusal>
     requires script { DoNotFail F.count script }
     requires count { R.count content.old < 2 ^ 64 - 1 }
-    ensures checked { IfOk result (IsCheckFinding (Is (job_with inputs.now (R.ahead content.old) len None)) (IsTextOfFile F.ahead script)) }
+    ensures checked { IfOk result
+        (IsCheckFinding (Is (job_with inputs.now (R.ahead content.old) len None))
+        (IsTextOfFile F.ahead script)) }
     ensures refused { IfErr result (RefusesCheck (λ told. told ≡ Script)
         (Is (job_with inputs.now (R.ahead content.old) len None)) (IsTextOfFile F.ahead script)) }
 {

@@ -11,16 +11,19 @@ use std::alloc::Global;
 
 /// What the chip of a job holds, by the reader, and what it must hold.
 ///
-/// `ContentShort` where the reader ends before the chip's size, `Read` where it fails, `Memory` where a growth is refused,
-/// before anything is read.
+/// `ContentShort` where the reader ends before the chip's size, `Read` where it fails, `Memory`
+/// where a growth is refused, before anything is read.
 pub(crate) fn read_content<R: ByteIn>(
     alloc: Global,
     job: &Job,
     content: &mut R,
 ) -> Result<(Vec<u8>, Vec<u8>), BuildFault>
     requires { R.count content.old < 2 ^ 64 - 1 }
-    ensures read { IfOk result (λ held. IsRead job.now (R.ahead content.old) (R.ahead content.new) held.0.items held.1.items) }
-    ensures stopped { IfErr result (StopsRead job.now.meaning.size (R.ahead content.old) (R.ahead content.new)) }
+    ensures read { IfOk result
+        (λ held. IsRead job.now (R.ahead content.old) (R.ahead content.new) held.0.items
+        held.1.items) }
+    ensures stopped { IfErr result
+        (StopsRead job.now.meaning.size (R.ahead content.old) (R.ahead content.new)) }
     ensures count { CountsRead (R.count content.old) (R.count content.new) result }
 {
     let size = job.meaning.size as usize;

@@ -12,11 +12,12 @@ use nor_job::BuildFault;
 use nor_script::ScriptFault;
 use thiserror::Error;
 
-/// Why there is no verdict. Want of memory, also that of the script's reader, is `Build` of `BuildFault::Memory`.
+/// Why there is no verdict. Want of memory, also that of the script's reader, is `Build` of
+/// `BuildFault::Memory`.
 #[derive(Clone, Copy, Debug, PartialEq, Eq, Error)]
 pub enum CheckStop {
-    /// The inputs are refused as a build refuses them; or the content ended early or couldn't be read; or a growth of
-    /// memory was refused.
+    /// The inputs are refused as a build refuses them; or the content ended early or couldn't be
+    /// read; or a growth of memory was refused.
     #[error(transparent)]
     Build(BuildFault),
     /// The text is no script: its first fault, never `Memory`.
@@ -54,7 +55,8 @@ impl From<CheckFault> for CheckStop {
 /// Why there is no verdict on a script that devices tell.
 #[derive(Clone, Copy, Debug, PartialEq, Eq, Error)]
 pub enum StreamStop {
-    /// As it is told of a script in memory: the inputs, the first fault of a text, the content, or want of memory.
+    /// As it is told of a script in memory: the inputs, the first fault of a text, the content, or
+    /// want of memory.
     #[error(transparent)]
     Check(CheckStop),
     /// The device of the first reading failed.

@@ -1,8 +1,10 @@
-//! `norprog check`: whether a script, from anybody, does the job of a build's inputs on every chip that they describe.
+//! `norprog check`: whether a script, from anybody, does the job of a build's inputs on every chip
+//! that they describe.
 //!
-//! [`check`] does what the texts of a command line ask for; whoever reads one hands them over as [`CheckArgs`].
-//! [`check_script`] answers it from the bytes of inputs, script and content; [`check_streams`] of a script that two devices tell,
-//! which is never held; [`write_finding`] writes the lines of what they return.
+//! [`check`] does what the texts of a command line ask for; whoever reads one hands them over as
+//! [`CheckArgs`]. [`check_script`] answers it from the bytes of inputs, script and content;
+//! [`check_streams`] of a script that two devices tell, which is never held; [`write_finding`]
+//! writes the lines of what they return.
 #![tactic(auto)]
 
 mod checker;

@@ -4,7 +4,8 @@ ghost use Rattle.std.specs.Prelude.{◌≡◌, ◌<◌, ◌-◌, ◌^◌};
 ghost use Rattle.nor_base.specs.Device.{Writes, Counts};
 ghost use Rattle.nor_check.specs.declared.verdict.Verdict.TheVariants.{No};
 ghost use Rattle.nor_check.specs.declared.verdict.Why.TheVariants as why;
-ghost use Rattle.norprog_check.specs.Line.{verdict_text, chip_text, finding_text, number_text, keep_text, limit_beside};
+ghost use Rattle.norprog_check.specs.Line.{verdict_text, chip_text, finding_text, number_text};
+ghost use Rattle.norprog_check.specs.Line.{keep_text, limit_beside};
 
 use crate::finding::{Finding, ShowingChip};
 use itoa::Buffer;
@@ -13,11 +14,12 @@ use nor_check::{Verdict, Why};
 use nor_script::hex_number;
 use norprog_common::wrong_number;
 
-/// Writes a verdict's line, closed by LF: `yes`; or `no at K wrong N`, where K is the step, counted from 0, and N the number
-/// of what goes wrong there ([`Wrong`]), both in decimal; or `no at K differs A`, where A is the address in eight lower-case
-/// hexadecimal digits. It takes no memory.
+/// Writes a verdict's line, closed by LF: `yes`; or `no at K wrong N`, where K is the step, counted
+/// from 0, and N the number of what goes wrong there ([`Wrong`]), both in decimal; or `no at K
+/// differs A`, where A is the address in eight lower-case hexadecimal digits. It takes no memory.
 ///
-/// At `Failed` a proper prefix was taken; it comes from the writer alone, whose count of failures rose by one.
+/// At `Failed` a proper prefix was taken; it comes from the writer alone, whose count of failures
+/// rose by one.
 #[tactic(auto, unfolding(crate::specs::Line::verdict_text))]
 pub fn write_verdict<W: ByteOut>(verdict: &Verdict, out: &mut W) -> Result<(), Failed>
     requires { W.count out.old < 2 ^ 64 - 1 }
@@ -36,7 +38,8 @@ pub fn write_verdict<W: ByteOut>(verdict: &Verdict, out: &mut W) -> Result<(), F
 /// Writes the line of a step that goes wrong on some chip.
 fn write_wrong<W: ByteOut>(step: u64, wrong: Wrong, out: &mut W) -> Result<(), Failed>
     requires { W.count out.old < 2 ^ 64 - 1 }
-    ensures bytes { Writes (W.held out.old) (W.held out.new) result (verdict_text (No step (why.Wrong wrong))) }
+    ensures bytes { Writes (W.held out.old) (W.held out.new) result
+        (verdict_text (No step (why.Wrong wrong))) }
     ensures count { Counts (W.count out.old) (W.count out.new) result }
 {
     let mut place = Buffer::new();
@@ -56,7 +59,8 @@ fn write_wrong<W: ByteOut>(step: u64, wrong: Wrong, out: &mut W) -> Result<(), F
 /// Writes the line of an address that some chip doesn't hold right at the end.
 fn write_differs<W: ByteOut>(step: u64, address: u32, out: &mut W) -> Result<(), Failed>
     requires { W.count out.old < 2 ^ 64 - 1 }
-    ensures bytes { Writes (W.held out.old) (W.held out.new) result (verdict_text (No step (why.Differs address))) }
+    ensures bytes { Writes (W.held out.old) (W.held out.new) result
+        (verdict_text (No step (why.Differs address))) }
     ensures count { Counts (W.count out.old) (W.count out.new) result }
 {
     let mut place = Buffer::new();
@@ -76,13 +80,15 @@ fn write_differs<W: ByteOut>(step: u64, address: u32, out: &mut W) -> Result<(),
 /// As many status reads as a poll of `run` makes where no limit is given.
 const DEFAULT_LIMIT: u32 = 1_000_000;
 
-/// Writes the verdict's line, as [`write_verdict`] does, and where it is asked for that of the chip that shows a no: `shown by norprog
-/// run --each-busy N`, ` --keep`, ` --page P`, and ` --limit` N + 1 where the default limit of 1000000 isn't above N. Each ends with LF.
+/// Writes the verdict's line, as [`write_verdict`] does, and where it is asked for that of the chip
+/// that shows a no: `shown by norprog run --each-busy N`, ` --keep`, ` --page P`, and ` --limit` N
+/// + 1 where the default limit of 1000000 isn't above N. Each ends with LF.
 ///
 /// At `Failed` a proper prefix was taken; it comes from the writer.
 pub fn write_finding<W: ByteOut>(found: &Finding, witness: bool, out: &mut W) -> Result<(), Failed>
     requires { W.count out.old < 2 ^ 64 - 1 }
-    ensures bytes { Writes (W.held out.old) (W.held out.new) result (finding_text witness found.now) }
+    ensures bytes { Writes (W.held out.old) (W.held out.new) result
+        (finding_text witness found.now) }
     ensures count { Counts (W.count out.old) (W.count out.new) result }
 {
     write_verdict(&found.verdict, out)?;
@@ -129,7 +135,8 @@ fn keep_words(keep: bool) -> &'static [u8]
     if keep { b" --keep" } else { b"" }
 }
 
-/// The limit that a play needs on a chip that is busy for so many status reads, where that isn't the default one.
+/// The limit that a play needs on a chip that is busy for so many status reads, where that isn't
+/// the default one.
 fn limit_for(each_busy: u32) -> Option<u64>
     ensures { result ≡ limit_beside each_busy }
 {

@@ -27,8 +27,8 @@ pub(crate) struct Said {
 
 /// What a checker says that is fed with the steps of a script, each as it comes.
 ///
-/// A fault of the text, or of its device, is told as [`StepReader::advance`] tells it; `Memory` also where the checker is
-/// refused a growth.
+/// A fault of the text, or of its device, is told as [`StepReader::advance`] tells it; `Memory`
+/// also where the checker is refused a growth.
 pub(crate) fn feed_script<A: ByteIn>(
     alloc: Global,
     checker: StepChecker<'_>,
@@ -36,7 +36,8 @@ pub(crate) fn feed_script<A: ByteIn>(
 ) -> Result<Said, ReadFault>
     requires begins { checker.number ≡ 0 }
     requires count { A.count script.old < 2 ^ 64 - 1 }
-    ensures told { IfOk result (λ said. HadText (A.ahead script.old) (A.ahead script.new) (IsSaidOf checker.entry said)) }
+    ensures told { IfOk result
+        (λ said. HadText (A.ahead script.old) (A.ahead script.new) (IsSaidOf checker.entry said)) }
     ensures stopped { IfErr result (StopsReader (A.ahead script.old) (A.ahead script.new)) }
     ensures count { CountsRead (A.count script.old) (A.count script.new) result }
 {
@@ -55,8 +56,10 @@ pub(crate) fn feed_script<A: ByteIn>(
 /// Gives a checker the next step; `Memory` where a growth is refused.
 fn feed(alloc: Global, checker: &mut StepChecker<'_>, step: StepView<'_>) -> Result<(), ReadFault>
     requires { checker.old.number < 2 ^ 64 - 1 }
-    ensures fed { IfOk result (λ _. (more : List Step) → to_come checker.new more ≡ to_come checker.old (step_of step.entry ∷ more)) }
-    ensures shown { IfOk result (λ _. (more : List Step) (at : ℕ) (why : Why) (page reads : ℕ) → IsShown checker.new more at why page reads
+    ensures fed { IfOk result (λ _. (more : List Step)
+        → to_come checker.new more ≡ to_come checker.old (step_of step.entry ∷ more)) }
+    ensures shown { IfOk result (λ _. (more : List Step) (at : ℕ) (why : Why) (page reads : ℕ)
+        → IsShown checker.new more at why page reads
         → IsShown checker.old (step_of step.entry ∷ more) at why page reads) }
     ensures number { IfOk result (λ _. checker.new.number ≡ checker.old.number + 1) }
     ensures refused { IfErr result (λ fault. fault ≡ Script Memory) }

@@ -8,8 +8,12 @@ ghost use Rattle.nor_job.specs.Causes.{AreAccepted};
 ghost use Rattle.nor_job.specs.Wanted.{ReadsWithin};
 ghost use Rattle.nor_layout.specs.Region.{Region};
 ghost use Rattle.nor_script.specs.Stream.{HadText, IsSpelled};
-ghost use Rattle.norprog_check.specs.Readings.{IsSaidOf, first_stop as told_first, again_stop as told_again};
-ghost use Rattle.norprog_check.specs.Streams.{ChecksText, ReadingCause, FeedingCause, RefusesTask, StopsReading, StopsAtContent, StopsFeeding, IsLateStop, IsOfDevices, CountsStop, of_first, of_again, of_content};
+ghost use Rattle.norprog_check.specs.Readings.{IsSaidOf, first_stop as told_first};
+ghost use Rattle.norprog_check.specs.Readings.{again_stop as told_again};
+ghost use Rattle.norprog_check.specs.Streams.{ChecksText, ReadingCause, FeedingCause, RefusesTask};
+ghost use Rattle.norprog_check.specs.Streams.{StopsReading, StopsAtContent, StopsFeeding};
+ghost use Rattle.norprog_check.specs.Streams.{IsLateStop, IsOfDevices, CountsStop, of_first};
+ghost use Rattle.norprog_check.specs.Streams.{of_again, of_content};
 
 use crate::content::read_content;
 use crate::fault::{CheckStop, StreamStop};
@@ -21,20 +25,24 @@ use nor_job::{Inputs, job_of};
 use nor_script::{ReadFault, count_steps, faultless_scripts};
 use std::alloc::Global;
 
-/// Whether the text of a script, from anybody, does the job of the inputs on every chip that they describe and that holds what
-/// the reader gives: [`crate::check_script`] of a script that is read twice and never held. `first` and `again` tell it, the
-/// one for its faults, before any content is read, the other for its steps.
+/// Whether the text of a script, from anybody, does the job of the inputs on every chip that they
+/// describe and that holds what the reader gives: [`crate::check_script`] of a script that is read
+/// twice and never held. `first` and `again` tell it, the one for its faults, before any content is
+/// read, the other for its steps.
 ///
-/// The finding is of the text that `again` had. Memory is taken for the inputs as [`nor_job::job_of`] takes it, for one reader
-/// of steps at a time ([`nor_script::StepReader`]: 256 KiB, more for a longer line), and for twice the chip's size; where a
-/// script tells chips of different pages apart, more ([`StepChecker`]).
+/// The finding is of the text that `again` had. Memory is taken for the inputs as
+/// [`nor_job::job_of`] takes it, for one reader of steps at a time ([`nor_script::StepReader`]: 256
+/// KiB, more for a longer line), and for twice the chip's size; where a script tells chips of
+/// different pages apart, more ([`StepChecker`]).
 ///
-/// The first of these is told: `Build` of a refusal of the inputs, as [`nor_job::job_of`] orders them, from `Contradiction` to
-/// `ContentSize`, with nothing read; `Script` with the first fault of the text that `first` had, or `First` where `first`
-/// fails, and neither `again` nor the content is read; `Build` of `ContentShort` where the reader ends before `len` bytes, of
-/// `Read` where it fails, which is final, and `again` isn't read; `Script` with the first fault of the text that `again` had,
-/// where that is another one, or `Again` where `again` fails. `Build` of `Memory` comes where a growth is refused. Where both
-/// tell the same text and don't fail, this is what [`crate::check_script`] tells of it.
+/// The first of these is told: `Build` of a refusal of the inputs, as [`nor_job::job_of`] orders
+/// them, from `Contradiction` to `ContentSize`, with nothing read; `Script` with the first fault of
+/// the text that `first` had, or `First` where `first` fails, and neither `again` nor the content
+/// is read; `Build` of `ContentShort` where the reader ends before `len` bytes, of `Read` where it
+/// fails, which is final, and `again` isn't read; `Script` with the first fault of the text that
+/// `again` had, where that is another one, or `Again` where `again` fails. `Build` of `Memory`
+/// comes where a growth is refused. Where both tell the same text and don't fail, this is what
+/// [`crate::check_script`] tells of it.
 pub fn check_streams<F: ByteIn, A: ByteIn, R: ByteIn>(
     alloc: Global,
     inputs: &Inputs<'_>,
@@ -46,19 +54,27 @@ pub fn check_streams<F: ByteIn, A: ByteIn, R: ByteIn>(
     requires first { F.count first.old < 2 ^ 64 - 1 }
     requires again { A.count again.old < 2 ^ 64 - 1 }
     requires content { R.count content.old < 2 ^ 64 - 1 }
-    ensures checked { IfOk result (ChecksText inputs.now len (F.ahead first.old) (F.ahead first.new) (A.ahead again.old) (A.ahead again.new)
+    ensures checked { IfOk result
+        (ChecksText inputs.now len (F.ahead first.old) (F.ahead first.new) (A.ahead again.old)
+        (A.ahead again.new)
         (R.ahead content.old) (R.ahead content.new)) }
     ensures refused { IfErr result (λ why.
-        (RefusesTask inputs.now len why × (first.new ≡ first.old) × (again.new ≡ again.old) × (content.new ≡ content.old))
-        ⊎ ((StopsReading inputs.now len (F.ahead first.old) (F.ahead first.new) why × (again.new ≡ again.old) × (content.new ≡ content.old))
-        ⊎ ((StopsAtContent inputs.now len (F.ahead first.old) (F.ahead first.new) (R.ahead content.old) (R.ahead content.new) why
+        (RefusesTask inputs.now len why × (first.new ≡ first.old) × (again.new ≡ again.old)
+        × (content.new ≡ content.old))
+        ⊎ ((StopsReading inputs.now len (F.ahead first.old) (F.ahead first.new) why
+        × (again.new ≡ again.old) × (content.new ≡ content.old))
+        ⊎ ((StopsAtContent inputs.now len (F.ahead first.old) (F.ahead first.new)
+        (R.ahead content.old) (R.ahead content.new) why
         × (again.new ≡ again.old))
-        ⊎ StopsFeeding inputs.now len (F.ahead first.old) (F.ahead first.new) (A.ahead again.old) (A.ahead again.new)
+        ⊎ StopsFeeding inputs.now len (F.ahead first.old) (F.ahead first.new) (A.ahead again.old)
+        (A.ahead again.new)
         (R.ahead content.old) (R.ahead content.new) why))) }
-    ensures accepted { (image : Pairs) (regions : List Region) (m : Parameters) → AreAccepted inputs.now len image regions m
+    ensures accepted { (image : Pairs) (regions : List Region) (m : Parameters)
+        → AreAccepted inputs.now len image regions m
         → IfErr result IsLateStop }
     ensures spelled { (image : Pairs) (regions : List Region) (m : Parameters) (one other : List ℕ)
-        → AreAccepted inputs.now len image regions m → F.ahead first.old ≡ Finite one → IsSpelled one
+        → AreAccepted inputs.now len image regions m → F.ahead first.old ≡ Finite one
+        → IsSpelled one
         → A.ahead again.old ≡ Finite other → IsSpelled other → IfErr result IsOfDevices }
     ensures within { ReadsWithin len (R.ahead content.old) (R.ahead content.new) }
     ensures reads { CountsStop of_content (R.count content.old) (R.count content.new) result }
@@ -76,10 +92,12 @@ pub fn check_streams<F: ByteIn, A: ByteIn, R: ByteIn>(
 
 /// Reads a script for its faults.
 ///
-/// `Script` with the first fault of its text; `First` where its device fails; `Build` of `Memory` where a growth is refused.
+/// `Script` with the first fault of its text; `First` where its device fails; `Build` of `Memory`
+/// where a growth is refused.
 fn read_first<F: ByteIn>(alloc: Global, first: &mut F) -> Result<(), StreamStop>
     requires { F.count first.old < 2 ^ 64 - 1 }
-    ensures readable { IfOk result (λ _. HadText (F.ahead first.old) (F.ahead first.new) IsSpelled) }
+    ensures readable { IfOk result
+        (λ _. HadText (F.ahead first.old) (F.ahead first.new) IsSpelled) }
     ensures stopped { IfErr result (ReadingCause (F.ahead first.old) (F.ahead first.new)) }
     ensures count { CountsStop of_first (F.count first.old) (F.count first.new) result }
 {
@@ -91,7 +109,8 @@ fn read_first<F: ByteIn>(alloc: Global, first: &mut F) -> Result<(), StreamStop>
 
 /// Reads a script for its steps, with which it feeds a checker, and returns what that one says.
 ///
-/// `Script` with the first fault of its text; `Again` where its device fails; `Build` of `Memory` where a growth is refused.
+/// `Script` with the first fault of its text; `Again` where its device fails; `Build` of `Memory`
+/// where a growth is refused.
 fn read_again<A: ByteIn>(
     alloc: Global,
     checker: StepChecker<'_>,
@@ -99,7 +118,8 @@ fn read_again<A: ByteIn>(
 ) -> Result<Said, StreamStop>
     requires begins { checker.number ≡ 0 }
     requires count { A.count again.old < 2 ^ 64 - 1 }
-    ensures told { IfOk result (λ said. HadText (A.ahead again.old) (A.ahead again.new) (IsSaidOf checker.entry said)) }
+    ensures told { IfOk result
+        (λ said. HadText (A.ahead again.old) (A.ahead again.new) (IsSaidOf checker.entry said)) }
     ensures stopped { IfErr result (FeedingCause (A.ahead again.old) (A.ahead again.new)) }
     ensures count { CountsStop of_again (A.count again.old) (A.count again.new) result }
 {

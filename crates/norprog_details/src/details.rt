@@ -3,7 +3,9 @@
 ghost use Rattle.std.specs.Prelude.{◌≡◌, ◌<◌, ◌-◌, ◌^◌, map, option_map, string_bytes};
 ghost use Rattle.nor_base.specs.Device.{Writes, Counts};
 ghost use Rattle.norprog_details.specs.Passage.{passage_of};
-ghost use Rattle.norprog_details.specs.Details.{about_lines, option_line, region_line, passage_lines, text_lines, words_after, IsHeld, IsParagraph, WritesSome, AreFacts, TellsDetails};
+ghost use Rattle.norprog_details.specs.Details.{about_lines, option_line, region_line};
+ghost use Rattle.norprog_details.specs.Details.{passage_lines, text_lines, words_after, IsHeld};
+ghost use Rattle.norprog_details.specs.Details.{IsParagraph, WritesSome, AreFacts, TellsDetails};
 
 use crate::passage::{passage_of, write_passage};
 use crate::seems::write_advice;
@@ -18,12 +20,14 @@ use std::alloc::Global;
 /// Writes what more there is to say of the line of a refusal, without its LF, of a command line:
 ///
 /// - after `usage`, which values aren't of their form and which options don't go together;
-/// - else the option that the refusal is about, with its value, and what the system says of a file that it doesn't open;
+/// - else the option that the refusal is about, with its value, and what the system says of a file
+///   that it doesn't open;
 /// - the name of the region that it counts;
 /// - the line of the file at which it is, and the command that converts a file of another kind;
 /// - the paragraph of `explain`.
 ///
-/// Where `err` fails the rest is left out. So is the file's line where the file can't be read again.
+/// Where `err` fails the rest is left out. So is the file's line where the file can't be read
+/// again.
 pub fn write_details<S: FileStore, E: ByteOut>(
     alloc: Global,
     store: &S,
@@ -32,7 +36,8 @@ pub fn write_details<S: FileStore, E: ByteOut>(
     err: &mut E,
 )
     requires { E.count err.old < 2 ^ 64 - 1 }
-    ensures told { TellsDetails (S.facts store.now) line.entry refusal.now (E.count err.new ≡ E.count err.old)
+    ensures told { TellsDetails (S.facts store.now) line.entry refusal.now
+        (E.count err.new ≡ E.count err.old)
         (E.held err.old) (E.held err.new) }
 {
     if write_facts(alloc, store, line, refusal, err).is_ok() {
@@ -71,7 +76,8 @@ fn write_facts<S: FileStore, E: ByteOut>(
     err: &mut E,
 ) -> Result<(), Failed>
     requires { E.count err.old < 2 ^ 64 - 1 }
-    ensures bytes { WritesSome (AreFacts (S.facts store.now) line.entry refusal.now) (E.held err.old) (E.held err.new) result }
+    ensures bytes { WritesSome (AreFacts (S.facts store.now) line.entry refusal.now)
+        (E.held err.old) (E.held err.new) result }
     ensures count { Counts (E.count err.old) (E.count err.new) result }
 {
     if refusal == b"norprog: usage".as_slice() {
@@ -85,7 +91,8 @@ fn write_facts<S: FileStore, E: ByteOut>(
     write_about(option, trouble, text.as_slice(), line.regions, refusal, err)
 }
 
-/// Writes an option that a refusal is about, the region that it counts, and what of the option's file there is to say.
+/// Writes an option that a refusal is about, the region that it counts, and what of the option's
+/// file there is to say.
 fn write_about<E: ByteOut>(
     option: Typed<'_>,
     trouble: Option<String>,
@@ -96,7 +103,8 @@ fn write_about<E: ByteOut>(
 ) -> Result<(), Failed>
     requires { E.count err.old < 2 ^ 64 - 1 }
     ensures bytes { Writes (E.held err.old) (E.held err.new) result
-        (about_lines (option.entry.name.now, option.entry.value.now) (option_map string_bytes trouble) text.now
+        (about_lines (option.entry.name.now, option.entry.value.now)
+        (option_map string_bytes trouble) text.now
         (map (λ name. name.now) regions.now) refusal.now) }
     ensures count { Counts (E.count err.old) (E.count err.new) result }
 {
@@ -139,7 +147,9 @@ fn write_option<E: ByteOut>(
     err: &mut E,
 ) -> Result<(), Failed>
     requires { E.count err.old < 2 ^ 64 - 1 }
-    ensures bytes { Writes (E.held err.old) (E.held err.new) result (option_line (option.entry.name.now, option.entry.value.now) (option_map string_bytes trouble)) }
+    ensures bytes { Writes (E.held err.old) (E.held err.new) result
+        (option_line (option.entry.name.now, option.entry.value.now)
+        (option_map string_bytes trouble)) }
     ensures count { Counts (E.count err.old) (E.count err.new) result }
 {
     let name = option.name.as_bytes();
@@ -156,7 +166,8 @@ fn write_option<E: ByteOut>(
 /// Writes the name of the region that the line of a refusal counts.
 fn write_region<E: ByteOut>(regions: &[&str], refusal: &[u8], err: &mut E) -> Result<(), Failed>
     requires { E.count err.old < 2 ^ 64 - 1 }
-    ensures bytes { Writes (E.held err.old) (E.held err.new) result (region_line (map (λ name. name.now) regions.now) refusal.now) }
+    ensures bytes { Writes (E.held err.old) (E.held err.new) result
+        (region_line (map (λ name. name.now) regions.now) refusal.now) }
     ensures count { Counts (E.count err.old) (E.count err.new) result }
 {
     match region_of(regions, refusal) {
@@ -165,7 +176,8 @@ fn write_region<E: ByteOut>(regions: &[&str], refusal: &[u8], err: &mut E) -> Re
     }
 }
 
-/// Writes the line of a text at which a refusal is, and the command that converts a text of another kind.
+/// Writes the line of a text at which a refusal is, and the command that converts a text of another
+/// kind.
 fn write_text<E: ByteOut>(
     option: Typed<'_>,
     refusal: &[u8],
@@ -173,7 +185,8 @@ fn write_text<E: ByteOut>(
     err: &mut E,
 ) -> Result<(), Failed>
     requires { E.count err.old < 2 ^ 64 - 1 }
-    ensures bytes { Writes (E.held err.old) (E.held err.new) result (text_lines (option.entry.name.now, option.entry.value.now) refusal.now text.now) }
+    ensures bytes { Writes (E.held err.old) (E.held err.new) result
+        (text_lines (option.entry.name.now, option.entry.value.now) refusal.now text.now) }
     ensures count { Counts (E.count err.old) (E.count err.new) result }
 {
     write_line(refusal, text, err)?;
@@ -183,7 +196,8 @@ fn write_text<E: ByteOut>(
 /// Writes the line of a text at which a refusal is, if it is at one.
 fn write_line<E: ByteOut>(refusal: &[u8], text: &[u8], err: &mut E) -> Result<(), Failed>
     requires { E.count err.old < 2 ^ 64 - 1 }
-    ensures bytes { Writes (E.held err.old) (E.held err.new) result (passage_lines (passage_of refusal.now text.now)) }
+    ensures bytes { Writes (E.held err.old) (E.held err.new) result
+        (passage_lines (passage_of refusal.now text.now)) }
     ensures count { Counts (E.count err.old) (E.count err.new) result }
 {
     match passage_of(refusal, text) {

@@ -23,7 +23,8 @@ struct Line {
 impl Line {
     /// Takes the next byte of a text: after an LF it begins another line.
     fn take(&mut self, byte: u8)
-        ensures { (self.new.bytes.items, self.new.closed) ≡ heard_one (self.old.bytes.items, self.old.closed) byte }
+        ensures { (self.new.bytes.items, self.new.closed)
+            ≡ heard_one (self.old.bytes.items, self.old.closed) byte }
     {
         if self.closed {
             self.bytes.clear();

@@ -1,7 +1,9 @@
-//! What `--details` writes after the line of a refusal: the option that it is about and the form of its value, the file's line, what
-//! the file seems to be, and the paragraph of `explain` (docs/FORMATS.md, section 9).
+//! What `--details` writes after the line of a refusal: the option that it is about and the form of
+//! its value, the file's line, what the file seems to be, and the paragraph of `explain`
+//! (docs/FORMATS.md, section 9).
 //!
-//! [`write_details`] writes it. [`Heard`] is a writer that keeps the last line that went through it, which [`write_details`] takes.
+//! [`write_details`] writes it. [`Heard`] is a writer that keeps the last line that went through
+//! it, which [`write_details`] takes.
 #![tactic(auto)]
 
 mod details;

@@ -15,7 +15,8 @@ const COLUMNS: usize = 80;
 
 /// The line of a text at which the line of a refusal is, with its number, from 1 on.
 pub(crate) fn passage_of<'a>(refusal: &[u8], text: &'a [u8]) -> Option<(u64, &'a [u8])>
-    ensures { option_map (λ found. (found.0, found.1.now)) result ≡ passage_of refusal.now text.now }
+    ensures { option_map (λ found. (found.0, found.1.now)) result
+        ≡ passage_of refusal.now text.now }
 {
     let mut number: u64 = 0;
     for line in text.lines() {
@@ -27,10 +28,12 @@ pub(crate) fn passage_of<'a>(refusal: &[u8], text: &'a [u8]) -> Option<(u64, &'a
     None
 }
 
-/// Writes a line with its number: its first 80 bytes, with a full stop for each that is no printable ASCII.
+/// Writes a line with its number: its first 80 bytes, with a full stop for each that is no
+/// printable ASCII.
 pub(crate) fn write_passage<E: ByteOut>(number: u64, line: &[u8], err: &mut E) -> Result<(), Failed>
     requires { E.count err.old < 2 ^ 64 - 1 }
-    ensures bytes { Writes (E.held err.old) (E.held err.new) result (passage_line (number, line.now)) }
+    ensures bytes { Writes (E.held err.old) (E.held err.new) result
+        (passage_line (number, line.now)) }
     ensures count { Counts (E.count err.old) (E.count err.new) result }
 {
     let mut digits = Buffer::new();

@@ -2,7 +2,8 @@
 
 ghost use Rattle.std.specs.Prelude.{◌≡◌, ◌<◌, ◌-◌, ◌^◌};
 ghost use Rattle.nor_base.specs.Device.{Writes, Counts};
-ghost use Rattle.norprog_details.specs.Seems.{seems, is_raw, is_odd, is_s_record, for_hex, for_layout, advice_line};
+ghost use Rattle.norprog_details.specs.Seems.{seems, is_raw, is_odd, is_s_record, for_hex};
+ghost use Rattle.norprog_details.specs.Seems.{for_layout, advice_line};
 
 use crate::passage::front;
 use nor_base::{ByteOut, Failed, put_all, put_parts};
@@ -76,7 +77,8 @@ fn is_odd(byte: u8) -> bool
     byte >= 0x7F || (byte < 0x20 && byte != 9 && byte != 10 && byte != 13)
 }
 
-/// Writes the command that makes what an option takes of its file, where it seems to be of another kind.
+/// Writes the command that makes what an option takes of its file, where it seems to be of another
+/// kind.
 pub(crate) fn write_advice<E: ByteOut>(
     name: &str,
     value: &str,
@@ -84,7 +86,8 @@ pub(crate) fn write_advice<E: ByteOut>(
     err: &mut E,
 ) -> Result<(), Failed>
     requires { E.count err.old < 2 ^ 64 - 1 }
-    ensures bytes { Writes (E.held err.old) (E.held err.new) result (advice_line name.now value.now text.now) }
+    ensures bytes { Writes (E.held err.old) (E.held err.new) result
+        (advice_line name.now value.now text.now) }
     ensures count { Counts (E.count err.old) (E.count err.new) result }
 {
     match name {

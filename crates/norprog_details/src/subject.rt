@@ -56,7 +56,8 @@ fn words_for(name: &str) -> Option<&'static str>
 
 /// The name of the region that the line of a refusal counts, from 0 on.
 pub(crate) fn region_of<'a>(regions: &[&'a str], refusal: &[u8]) -> Option<&'a str>
-    ensures { option_map (λ name. name.now) result ≡ region_of (map (λ name. name.now) regions.now) refusal.now }
+    ensures { option_map (λ name. name.now) result
+        ≡ region_of (map (λ name. name.now) regions.now) refusal.now }
 {
     let mut number: u64 = 0;
     for name in regions {

@@ -2,7 +2,8 @@
 
 ghost use Rattle.std.specs.Prelude.{◌≡◌, ◌<◌, ◌-◌, ◌^◌, flat_map, option_map};
 ghost use Rattle.nor_base.specs.Device.{Writes, Counts};
-ghost use Rattle.norprog_details.specs.Usage.{usage_lines, misfit_line, form_line, pair_line, chip_line, outputs_line, are_same, wants_chip};
+ghost use Rattle.norprog_details.specs.Usage.{usage_lines, misfit_line, form_line, pair_line};
+ghost use Rattle.norprog_details.specs.Usage.{chip_line, outputs_line, are_same, wants_chip};
 
 use crate::form::{fits, form_of, form_words};
 use crate::typed::{CommandLine, Typed, is_typed, value_of};
@@ -20,7 +21,8 @@ const NO_CHIP: &[u8] = b"--sfdp or --uniform is missing: the chip\n";
 
 const ONE_FILE: &[u8] = b"--tables and --out name one file\n";
 
-/// Writes a line for each value that isn't of its form, and one for each rule on options that a command line breaks.
+/// Writes a line for each value that isn't of its form, and one for each rule on options that a
+/// command line breaks.
 pub(crate) fn write_usage<E: ByteOut>(line: CommandLine<'_>, err: &mut E) -> Result<(), Failed>
     requires { E.count err.old < 2 ^ 64 - 1 }
     ensures bytes { Writes (E.held err.old) (E.held err.new) result (usage_lines line.entry) }
@@ -44,7 +46,8 @@ pub(crate) fn write_usage<E: ByteOut>(line: CommandLine<'_>, err: &mut E) -> Res
 /// Writes, for each value that isn't of its form, that form.
 fn write_misfits<E: ByteOut>(typed: &[Typed<'_>], err: &mut E) -> Result<(), Failed>
     requires { E.count err.old < 2 ^ 64 - 1 }
-    ensures bytes { Writes (E.held err.old) (E.held err.new) result (flat_map misfit_line typed.now) }
+    ensures bytes { Writes (E.held err.old) (E.held err.new) result
+        (flat_map misfit_line typed.now) }
     ensures count { Counts (E.count err.old) (E.count err.new) result }
 {
     for option in typed {
@@ -70,7 +73,8 @@ fn write_misfit<E: ByteOut>(option: Typed<'_>, err: &mut E) -> Result<(), Failed
 /// Writes an option with its value, and a form in words.
 fn write_form<E: ByteOut>(option: Typed<'_>, form: &str, err: &mut E) -> Result<(), Failed>
     requires { E.count err.old < 2 ^ 64 - 1 }
-    ensures bytes { Writes (E.held err.old) (E.held err.new) result (form_line option.entry form.now) }
+    ensures bytes { Writes (E.held err.old) (E.held err.new) result
+        (form_line option.entry form.now) }
     ensures count { Counts (E.count err.old) (E.count err.new) result }
 {
     let name = option.name.as_bytes();
@@ -127,7 +131,8 @@ fn outputs_line(typed: &[Typed<'_>]) -> &'static [u8]
 
 /// Whether two values are there, and the same.
 fn are_same(one: Option<&str>, other: Option<&str>) -> bool
-    ensures { result ≡ are_same (option_map (λ t. t.now) one.entry) (option_map (λ t. t.now) other.entry) }
+    ensures { result ≡ are_same (option_map (λ t. t.now) one.entry)
+        (option_map (λ t. t.now) other.entry) }
 {
     match (one, other) {
         (Some(one), Some(other)) => one == other,

@@ -1,7 +1,8 @@
 //! What the commands have in common that ask a serprog device (docs/FORMATS.md, section 14).
 //!
-//! [`open_port`] opens the device of a name, [`let_go`] lets the pins of its chip go. [`DeviceFault`] says why it can't be used,
-//! [`refuse_device`] writes that, and [`word`] is the word of an exchange that ended early.
+//! [`open_port`] opens the device of a name, [`let_go`] lets the pins of its chip go.
+//! [`DeviceFault`] says why it can't be used, [`refuse_device`] writes that, and [`word`] is the
+//! word of an exchange that ended early.
 #![tactic(auto)]
 
 mod fault;

@@ -9,20 +9,23 @@ use crate::fault::DeviceFault;
 use nor_base::{ByteOut, Failed, put_parts};
 use nor_serprog::{Fault, GreetFault};
 
-/// Writes why a device can't be used, and returns the status, 1. Where `err` fails a part of the text is lost, and nothing more is
-/// written.
+/// Writes why a device can't be used, and returns the status, 1. Where `err` fails a part of the
+/// text is lost, and nothing more is written.
 pub fn refuse_device<E: ByteOut>(fault: DeviceFault, err: &mut E) -> u8
     requires { E.count err.old < 2 ^ 64 - 1 }
     ensures status { result ≡ 1 }
-    ensures told { E.count err.new ≡ E.count err.old → Appends (E.held err.old) (E.held err.new) (device_line fault) }
+    ensures told { E.count err.new ≡ E.count err.old
+        → Appends (E.held err.old) (E.held err.new) (device_line fault) }
 {
     let _ = write_device(fault, err);
     1
 }
 
-/// Writes `norprog: device WHY`, where WHY is `read`, `write`, `silent`, `nak`, `differs`, `version`, `operation` or `line`.
+/// Writes `norprog: device WHY`, where WHY is `read`, `write`, `silent`, `nak`, `differs`,
+/// `version`, `operation` or `line`.
 ///
-/// At `Failed` a proper prefix was taken; it comes only from the writer, whose count of failures rose by one.
+/// At `Failed` a proper prefix was taken; it comes only from the writer, whose count of failures
+/// rose by one.
 pub fn write_device<E: ByteOut>(fault: DeviceFault, err: &mut E) -> Result<(), Failed>
     requires { E.count err.old < 2 ^ 64 - 1 }
     ensures bytes { Writes (E.held err.old) (E.held err.new) result (device_line fault) }

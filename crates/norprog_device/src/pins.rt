@@ -6,12 +6,14 @@ ghost use Rattle.norprog_device.specs.Opened.{LetsGo};
 use nor_base::{ByteIn, ByteOut};
 use nor_serprog::release;
 
-/// Has a device drive the pins of its chip no more, where it does, as [`nor_serprog::Limits`] says; what it answers changes nothing.
+/// Has a device drive the pins of its chip no more, where it does, as [`nor_serprog::Limits`] says;
+/// what it answers changes nothing.
 #[tactic(auto, using(crate::proofs::RoomLemmas::reads_room, crate::proofs::RoomLemmas::writes_room))]
 pub fn let_go<R: ByteIn, W: ByteOut>(from: &mut R, to: &mut W, pins: bool)
     requires reader { R.count from.old < 2 ^ 64 - 1 }
     requires writer { W.count to.old < 2 ^ 64 - 1 }
-    ensures goes { LetsGo (W.held to.old) (W.held to.new) (R.ahead from.old) (R.ahead from.new) pins }
+    ensures goes { LetsGo (W.held to.old) (W.held to.new) (R.ahead from.old) (R.ahead from.new)
+        pins }
     ensures reads_room { R.count from.new ≤ R.count from.old + 1 }
     ensures writes_room { W.count to.new ≤ W.count to.old + 1 }
 {

@@ -9,15 +9,19 @@ use norprog_common::{FileStore, Refusal};
 use std::alloc::Global;
 use std::io::BufReader;
 
-/// The device of this name, opened, with a buffer before its reader. Memory is taken for the buffer.
+/// The device of this name, opened, with a buffer before its reader. Memory is taken for the
+/// buffer.
 ///
-/// `File` of `Device` and `Memory`, as [`FileStore::open_device`] returns them; `Memory` too where the buffer's growth is refused.
+/// `File` of `Device` and `Memory`, as [`FileStore::open_device`] returns them; `Memory` too where
+/// the buffer's growth is refused.
 pub fn open_port<S: FileStore>(
     alloc: Global,
     store: &S,
     device: &str,
 ) -> Result<(BufReader<S::FromDevice>, S::ToDevice), Refusal>
-    ensures opened { IfOk result (λ port. (S.facts store.now).device device.now (reader_remaining S.FromDevice.remaining port.0)
+    ensures opened { IfOk result
+        (λ port. (S.facts store.now).device device.now
+        (reader_remaining S.FromDevice.remaining port.0)
         (S.ToDevice.contents port.1)) }
     ensures refused { IfErr result (RefusesFile Device) }
     ensures lacked { IfErr result (TellsFile (S.facts store.now).lacked) }

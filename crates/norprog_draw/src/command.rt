@@ -12,9 +12,10 @@ use nor_base::{ByteOut, Failed};
 use norprog_common::{DrawArgs, FileName, FileStore, Refusal, answered};
 use std::alloc::Global;
 
-/// Draws the script on a command line into the file that it names, or writes a refusal to `err` (docs/FORMATS.md, section 9), and
-/// answers the status: 0 done, 1 refused, 2 usage. Nothing is printed where it is done. That file is made as another one than the
-/// script's, and only where the script has the first step that is asked for.
+/// Draws the script on a command line into the file that it names, or writes a refusal to `err`
+/// (docs/FORMATS.md, section 9), and answers the status: 0 done, 1 refused, 2 usage. Nothing is
+/// printed where it is done. That file is made as another one than the script's, and only where the
+/// script has the first step that is asked for.
 ///
 /// Usage is told where the texts ask for no waveform.
 pub fn draw<S: FileStore, E: ByteOut>(
@@ -51,7 +52,8 @@ fn run_draw<S: FileStore>(alloc: Global, store: &S, request: DrawRequest<'_>) ->
     ensures status { IfOk result (λ status. status ≡ 0) }
     ensures drawn { IfOk result (λ _. IsDrawing (IsTaskOf (S.facts store.now) request.entry)
         (IsMadeFor (S.facts store.now) request.entry) (S.facts store.now).flushed) }
-    ensures refused { IfErr result (RefusesDraw (S.facts store.now).lacked (IsTaskOf (S.facts store.now) request.entry)
+    ensures refused { IfErr result
+        (RefusesDraw (S.facts store.now).lacked (IsTaskOf (S.facts store.now) request.entry)
         (IsMadeFor (S.facts store.now) request.entry)) }
 {
     let (script, place) = store.read(alloc, request.script, FileName::Script)?;

@@ -17,7 +17,8 @@ pub struct DrawRequest<'a> {
     pub count: Option<u64>,
 }
 
-/// The request that the values spell. None where one isn't of its form, or one that has to be there isn't.
+/// The request that the values spell. None where one isn't of its form, or one that has to be there
+/// isn't.
 pub fn request_of<'a>(given: DrawArgs<'a>) -> Option<DrawRequest<'a>>
     ensures forms { is_some result ≡ is_well_formed given.entry }
     ensures values { IfSome result (λ request. AsksFor given.entry request) }

@@ -13,8 +13,8 @@ use std::alloc::Global;
 
 /// The steps that a script's text spells, of which step `from` is one, or is 0. Steps count from 0.
 ///
-/// The first fault is reported: `Script` where the text is none; `Steps` where the script has no step `from`, with the number of
-/// those that it has. `Memory` comes where a growth is refused.
+/// The first fault is reported: `Script` where the text is none; `Steps` where the script has no
+/// step `from`, with the number of those that it has. `Memory` comes where a growth is refused.
 pub fn steps_of(alloc: Global, script: &[u8], from: u64) -> Result<Vec<Step>, Refusal>
     ensures steps { IfOk result (λ steps. IsScript script.now steps.items) }
     ensures there { IfOk result (λ steps. IsThere from steps.items) }
@@ -28,8 +28,8 @@ pub fn steps_of(alloc: Global, script: &[u8], from: u64) -> Result<Vec<Step>, Re
     Ok(steps)
 }
 
-/// Writes the waveform of `count` steps from step `from` on, or of all from there on where no number is given; of as many as
-/// there are. It takes no memory.
+/// Writes the waveform of `count` steps from step `from` on, or of all from there on where no
+/// number is given; of as many as there are. It takes no memory.
 ///
 /// At `Failed` a proper prefix was taken.
 pub fn draw_steps<W: ByteOut>(
@@ -39,7 +39,8 @@ pub fn draw_steps<W: ByteOut>(
     out: &mut W,
 ) -> Result<(), Failed>
     requires { W.count out.old < 2 ^ 64 - 1 }
-    ensures bytes { Writes (W.held out.old) (W.held out.new) result (waves (part from count steps.now)) }
+    ensures bytes { Writes (W.held out.old) (W.held out.new) result
+        (waves (part from count steps.now)) }
     ensures count { Counts (W.count out.old) (W.count out.new) result }
 {
     write_waves(part(steps, from, count), out)

@@ -1,7 +1,8 @@
-//! Why a device didn't do a step of a script, and the line that reports it (docs/FORMATS.md, section 14).
+//! Why a device didn't do a step of a script, and the line that reports it (docs/FORMATS.md,
+//! section 14).
 //!
-//! [`failure_of`] has the failure of a step from what the exchange with the device gave, [`failure_by`] that of a read after all steps.
-//! [`write_failure`] writes its line.
+//! [`failure_of`] has the failure of a step from what the exchange with the device gave,
+//! [`failure_by`] that of a read after all steps. [`write_failure`] writes its line.
 #![tactic(auto)]
 
 mod failure;

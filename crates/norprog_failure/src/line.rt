@@ -13,10 +13,12 @@ use nor_script::{hex_number, hex_pair};
 use nor_serprog::Fault;
 use norprog_common::wrong_number;
 
-/// Writes why a step isn't done, in a line: `failed at K WHY`, with the step in decimal, counted from 0; a device that stays busy is the
-/// wrong of a poll that never ends, `wrong 6 at K`. It takes no memory.
+/// Writes why a step isn't done, in a line: `failed at K WHY`, with the step in decimal, counted
+/// from 0; a device that stays busy is the wrong of a poll that never ends, `wrong 6 at K`. It
+/// takes no memory.
 ///
-/// At `Failed` a proper prefix was taken; it comes only from the writer, whose count of failures rose by one.
+/// At `Failed` a proper prefix was taken; it comes only from the writer, whose count of failures
+/// rose by one.
 pub fn write_failure<W: ByteOut>(step: u64, why: Failure, writer: &mut W) -> Result<(), Failed>
     requires { W.count writer.old < 2 ^ 64 - 1 }
     ensures bytes { Writes (W.held writer.old) (W.held writer.new) result (failure_line step why) }
@@ -34,7 +36,8 @@ pub fn write_failure<W: ByteOut>(step: u64, why: Failure, writer: &mut W) -> Res
 /// Writes `failed at K differs at AAAAAAAA chip HH want HH`.
 fn write_other<W: ByteOut>(step: u64, d: Difference, writer: &mut W) -> Result<(), Failed>
     requires { W.count writer.old < 2 ^ 64 - 1 }
-    ensures bytes { Writes (W.held writer.old) (W.held writer.new) result (failure_line step (Differs d)) }
+    ensures bytes { Writes (W.held writer.old) (W.held writer.new) result
+        (failure_line step (Differs d)) }
     ensures count { Counts (W.count writer.old) (W.count writer.new) result }
 {
     let mut place = Buffer::new();
@@ -57,7 +60,8 @@ fn write_other<W: ByteOut>(step: u64, d: Difference, writer: &mut W) -> Result<(
 /// Writes `failed at K differs chip HH want HH`.
 fn write_gives<W: ByteOut>(step: u64, chip: u8, want: u8, writer: &mut W) -> Result<(), Failed>
     requires { W.count writer.old < 2 ^ 64 - 1 }
-    ensures bytes { Writes (W.held writer.old) (W.held writer.new) result (failure_line step (Gives chip want)) }
+    ensures bytes { Writes (W.held writer.old) (W.held writer.new) result
+        (failure_line step (Gives chip want)) }
     ensures count { Counts (W.count writer.old) (W.count writer.new) result }
 {
     let mut place = Buffer::new();
@@ -98,7 +102,8 @@ fn write_wrong<W: ByteOut>(number: u8, step: u64, writer: &mut W) -> Result<(), 
 /// Writes `failed at K WHY`.
 fn write_failed<W: ByteOut>(step: u64, why: &[u8], writer: &mut W) -> Result<(), Failed>
     requires { W.count writer.old < 2 ^ 64 - 1 }
-    ensures bytes { Writes (W.held writer.old) (W.held writer.new) result (failed_line step why.now) }
+    ensures bytes { Writes (W.held writer.old) (W.held writer.new) result
+        (failed_line step why.now) }
     ensures count { Counts (W.count writer.old) (W.count writer.new) result }
 {
     let mut place = Buffer::new();

@@ -2,7 +2,8 @@
 
 ghost use Rattle.std.specs.Prelude.{◌≡◌, get_or, option_map};
 ghost use Rattle.nor_decode.specs.Seen.{transaction_of};
-ghost use Rattle.norprog_failure.specs.Reported.{FailsAs, address_of, read_address, other_byte, failure_by};
+ghost use Rattle.norprog_failure.specs.Reported.{FailsAs, address_of, read_address, other_byte};
+ghost use Rattle.norprog_failure.specs.Reported.{failure_by};
 
 use crate::failure::Failure;
 use nor_base::{Meaning, What};
@@ -10,8 +11,8 @@ use nor_decode::{Seen, decode};
 use nor_probe::{Difference, Mismatch};
 use nor_serprog::Reason;
 
-/// Why a step of these clocks isn't done that was to give these bytes. A byte that is another is reported with its address where the
-/// clocks read the chip's bytes.
+/// Why a step of these clocks isn't done that was to give these bytes. A byte that is another is
+/// reported with its address where the clocks read the chip's bytes.
 pub fn failure_of(meaning: &Meaning, clocks: &[u8], want: &[u8], why: Reason) -> Failure
     ensures { FailsAs meaning.now clocks.now want.now why result }
 {
@@ -25,7 +26,8 @@ pub fn failure_of(meaning: &Meaning, clocks: &[u8], want: &[u8], why: Reason) ->
 
 /// How a byte that came at a place of a step's answer is another.
 fn other_byte(meaning: &Meaning, clocks: &[u8], want: &[u8], place: u32, chip: u8) -> Failure
-    ensures { result ≡ other_byte (read_address meaning.now clocks.now) place chip (get_or want.now place 0) }
+    ensures { result ≡ other_byte (read_address meaning.now clocks.now) place chip
+        (get_or want.now place 0) }
 {
     let want = byte_at(want, place);
     match read_address(meaning, clocks) {

@@ -15,9 +15,10 @@ use std::alloc::Global;
 /// Past the last address.
 const PAST: u64 = 1 << 32;
 
-/// Writes the raw image on a command line as Intel HEX into the file that it names, or a refusal to `err` (docs/FORMATS.md,
-/// section 9), and returns the status: 0 done, 1 refused, 2 usage. Nothing is printed where it is done. That file is made as
-/// another one than the image's, and only once the image is known to fit.
+/// Writes the raw image on a command line as Intel HEX into the file that it names, or a refusal to
+/// `err` (docs/FORMATS.md, section 9), and returns the status: 0 done, 1 refused, 2 usage. Nothing
+/// is printed where it is done. That file is made as another one than the image's, and only once
+/// the image is known to fit.
 pub fn hex<S: FileStore, E: ByteOut>(
     alloc: Global,
     store: &S,
@@ -36,10 +37,13 @@ pub fn hex<S: FileStore, E: ByteOut>(
 /// Writes what is asked for.
 fn converted_in<S: FileStore>(alloc: Global, store: &S, given: HexArgs<'_>) -> Result<u8, Refusal>
     ensures status { IfOk result (λ status. status ≡ 0) }
-    ensures written { IfOk result (λ _. ForAsked HexTask (Serves (S.facts store.now) given.entry) (IsWritten (S.facts store.now).flushed)) }
+    ensures written { IfOk result
+        (λ _. ForAsked HexTask (Serves (S.facts store.now) given.entry)
+        (IsWritten (S.facts store.now).flushed)) }
     ensures asked { IfOk result (λ _. is_well_formed given.entry ≡ true) }
     ensures first { IfErr result (OrUsage (is_well_formed given.entry)
-        (RefusesHex (S.facts store.now) (ServesBin (S.facts store.now) given.entry) (Serves (S.facts store.now) given.entry))) }
+        (RefusesHex (S.facts store.now) (ServesBin (S.facts store.now) given.entry)
+        (Serves (S.facts store.now) given.entry))) }
 {
     let request = request_of(given).ok_or(Refusal::Usage)?;
     run_hex(alloc, store, request)
@@ -48,8 +52,11 @@ fn converted_in<S: FileStore>(alloc: Global, store: &S, given: HexArgs<'_>) -> R
 /// Opens the raw image of a request, and has it written where it fits.
 fn run_hex<S: FileStore>(alloc: Global, store: &S, request: HexRequest<'_>) -> Result<u8, Refusal>
     ensures status { IfOk result (λ status. status ≡ 0) }
-    ensures written { IfOk result (λ _. ForAsked HexTask (IsTaskOf (S.facts store.now) request.entry) (IsWritten (S.facts store.now).flushed)) }
-    ensures refused { IfErr result (RefusesHex (S.facts store.now) (IsBinOf (S.facts store.now) request.entry)
+    ensures written { IfOk result
+        (λ _. ForAsked HexTask (IsTaskOf (S.facts store.now) request.entry)
+        (IsWritten (S.facts store.now).flushed)) }
+    ensures refused { IfErr result
+        (RefusesHex (S.facts store.now) (IsBinOf (S.facts store.now) request.entry)
         (IsTaskOf (S.facts store.now) request.entry)) }
 {
     let (mut bin, place, len) = store.open(request.bin, FileName::Bin)?;

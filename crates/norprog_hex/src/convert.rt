@@ -1,13 +1,15 @@
 //! From the bytes of a raw image to its HEX text.
 
-ghost use Rattle.std.specs.Prelude.{◌≡◌, ◌+◌, ◌-◌, ◌<◌, ◌≤◌, ◌%◌, ◌^◌, List, ℕ, length, IfOk, IfErr, OnOk};
+ghost use Rattle.std.specs.Prelude.{◌≡◌, ◌+◌, ◌-◌, ◌<◌, ◌≤◌, ◌%◌, ◌^◌, List, ℕ, length, IfOk};
+ghost use Rattle.std.specs.Prelude.{IfErr, OnOk};
 ghost use Rattle.std.specs.Io.KnownBytes.{Appends};
 ghost use Rattle.nor_base.specs.Device.{Gives, IsAtEnd};
 ghost use Rattle.nor_hex_out.specs.Segments.{image_records, text_of};
 ghost use Rattle.norprog_common.specs.declared.faults.FileName.TheVariants.{Bin};
 ghost use Rattle.norprog_common.specs.declared.faults.Refusal.TheVariants.{File, Build};
 ghost use Rattle.nor_job.specs.declared.fault.BuildFault.TheVariants.{Memory};
-ghost use Rattle.norprog_hex.specs.Converted.{WasConverted, WasRead, StopsConverting, StopsPart, FallsShort, BreaksOff, complete, written};
+ghost use Rattle.norprog_hex.specs.Converted.{WasConverted, WasRead, StopsConverting, StopsPart};
+ghost use Rattle.norprog_hex.specs.Converted.{FallsShort, BreaksOff, complete, written};
 
 use nor_base::{ByteIn, ByteOut, Failed, fill_from};
 use nor_hex_out::{parts_join, write_data, write_end};
@@ -17,10 +19,12 @@ use std::alloc::Global;
 /// How many bytes are read before they are written: those of a segment.
 const SEGMENT: usize = 1 << 16;
 
-/// Writes the HEX text of the bytes of a reader, of which there are `len`, from the address `at` on. It takes memory for 64 KiB.
+/// Writes the HEX text of the bytes of a reader, of which there are `len`, from the address `at`
+/// on. It takes memory for 64 KiB.
 ///
-/// `File` of `Bin` where the reader fails, or gives fewer bytes or more; the text has no end record then. `Write` where `out`
-/// fails, which has taken a proper prefix then; `Memory` where a growth is refused, with `out` as it was.
+/// `File` of `Bin` where the reader fails, or gives fewer bytes or more; the text has no end record
+/// then. `Write` where `out` fails, which has taken a proper prefix then; `Memory` where a growth
+/// is refused, with `out` as it was.
 pub fn write_bin<R: ByteIn, W: ByteOut>(
     alloc: Global,
     bin: &mut R,
@@ -31,8 +35,11 @@ pub fn write_bin<R: ByteIn, W: ByteOut>(
     requires fits { at + len ≤ 2 ^ 32 }
     requires reader { R.count bin.old < 2 ^ 64 - 1 }
     requires writer { W.count out.old < 2 ^ 64 - 1 }
-    ensures converted { IfOk result (λ _. WasConverted at len (R.ahead bin.old) (R.ahead bin.new) (W.held out.old) (W.held out.new)) }
-    ensures stopped { IfErr result (StopsConverting at (R.ahead bin.old) (W.held out.old) (W.held out.new)) }
+    ensures converted { IfOk result
+        (λ _. WasConverted at len (R.ahead bin.old) (R.ahead bin.new) (W.held out.old)
+        (W.held out.new)) }
+    ensures stopped { IfErr result
+        (StopsConverting at (R.ahead bin.old) (W.held out.old) (W.held out.new)) }
     ensures cause { IfErr result (λ why. why ≡ File Bin
         → BreaksOff (R.count bin.old) (R.count bin.new) len (R.ahead bin.old) (R.ahead bin.new)) }
 {
@@ -62,9 +69,13 @@ fn write_parts<R: ByteIn, W: ByteOut>(
     requires buffer { length buffer.old ≡ 65536 }
     requires reader { R.count bin.old < 2 ^ 64 - 1 }
     requires writer { W.count out.old < 2 ^ 64 - 1 }
-    ensures read { IfOk result (λ _. WasRead at len (R.ahead bin.old) (R.ahead bin.new) (W.held out.old) (W.held out.new)) }
-    ensures counts { OnOk result ((R.count bin.new ≡ R.count bin.old) × (W.count out.new ≡ W.count out.old)) }
-    ensures stopped { IfErr result (StopsConverting at (R.ahead bin.old) (W.held out.old) (W.held out.new)) }
+    ensures read { IfOk result
+        (λ _. WasRead at len (R.ahead bin.old) (R.ahead bin.new) (W.held out.old)
+        (W.held out.new)) }
+    ensures counts { OnOk result ((R.count bin.new ≡ R.count bin.old)
+        × (W.count out.new ≡ W.count out.old)) }
+    ensures stopped { IfErr result
+        (StopsConverting at (R.ahead bin.old) (W.held out.old) (W.held out.new)) }
     ensures cause { IfErr result (λ why. why ≡ File Bin
         → FallsShort (R.count bin.old) (R.count bin.new) len (R.ahead bin.old) (R.ahead bin.new)) }
 {
@@ -96,11 +107,17 @@ fn write_part<R: ByteIn, W: ByteOut>(
     requires inside { at % 65536 + length part.old ≤ 65536 }
     requires reader { R.count bin.old < 2 ^ 64 - 1 }
     requires writer { W.count out.old < 2 ^ 64 - 1 }
-    ensures read { IfOk result (λ _. WasRead at (length part.old) (R.ahead bin.old) (R.ahead bin.new) (W.held out.old) (W.held out.new)) }
-    ensures counts { OnOk result ((R.count bin.new ≡ R.count bin.old) × (W.count out.new ≡ W.count out.old)) }
-    ensures stopped { IfErr result (StopsPart at (length part.old) (R.ahead bin.old) (R.ahead bin.new) (W.held out.old) (W.held out.new)) }
+    ensures read { IfOk result
+        (λ _. WasRead at (length part.old) (R.ahead bin.old) (R.ahead bin.new) (W.held out.old)
+        (W.held out.new)) }
+    ensures counts { OnOk result ((R.count bin.new ≡ R.count bin.old)
+        × (W.count out.new ≡ W.count out.old)) }
+    ensures stopped { IfErr result
+        (StopsPart at (length part.old) (R.ahead bin.old) (R.ahead bin.new) (W.held out.old)
+        (W.held out.new)) }
     ensures cause { IfErr result (λ why. why ≡ File Bin
-        → FallsShort (R.count bin.old) (R.count bin.new) (length part.old) (R.ahead bin.old) (R.ahead bin.new)) }
+        → FallsShort (R.count bin.old) (R.count bin.new) (length part.old) (R.ahead bin.old)
+        (R.ahead bin.new)) }
 {
     complete(fill_from(bin, part), part.len())?;
     written(write_data(at, part, out))

@@ -1,6 +1,7 @@
 //! `norprog hex`: a raw image as Intel HEX (docs/FORMATS.md, section 17).
 //!
-//! [`hex`] does what the texts of a command line ask for. [`write_bin`] does the work, from a reader to a writer.
+//! [`hex`] does what the texts of a command line ask for. [`write_bin`] does the work, from a
+//! reader to a writer.
 #![tactic(auto)]
 
 mod command;

@@ -1,7 +1,8 @@
-//! Values of what texts and tables say, worked out by hand. Each function does nothing: its contract is the values, and the gate
-//! computes them.
+//! Values of what texts and tables say, worked out by hand. Each function does nothing: its
+//! contract is the values, and the gate computes them.
 
-ghost use Rattle.norprog_laws.specs.Read.{AreRecords, AreLinesRead, AreAddresses, AreRegionsRead, AreMeanings, ArePlain, AreStates};
+ghost use Rattle.norprog_laws.specs.Read.{AreRecords, AreLinesRead, AreAddresses, AreRegionsRead};
+ghost use Rattle.norprog_laws.specs.Read.{AreMeanings, ArePlain, AreStates};
 
 /// Records of Intel HEX, and the addresses of their bytes.
 pub fn hex_worked()

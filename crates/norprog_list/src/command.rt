@@ -12,9 +12,9 @@ use nor_base::ByteOut;
 use norprog_common::{FileName, FileStore, ListArgs, Refusal, answered, setup_inputs, tables_of};
 use std::alloc::Global;
 
-/// Writes to `out` the listing of the script on a command line, by the chip that it names, or a refusal to `err`
-/// (docs/FORMATS.md, section 9), and answers the status: 0 done, 1 refused, 2 usage. Where the script is refused, the lines of the
-/// steps above its fault may stand in `out`.
+/// Writes to `out` the listing of the script on a command line, by the chip that it names, or a
+/// refusal to `err` (docs/FORMATS.md, section 9), and answers the status: 0 done, 1 refused, 2
+/// usage. Where the script is refused, the lines of the steps above its fault may stand in `out`.
 ///
 /// Usage is told where the texts ask for no listing.
 pub fn list<S: FileStore, O: ByteOut, E: ByteOut>(
@@ -28,7 +28,8 @@ pub fn list<S: FileStore, O: ByteOut, E: ByteOut>(
     requires err { E.count err.old < 2 ^ 64 - 1 }
     ensures status { result ≤ 2 }
     ensures quiet { result ≡ 0 → err.new ≡ err.old }
-    ensures answer { AnswersList (S.facts store.now) given.entry (O.held out.old) (O.held out.new) (err.new ≡ err.old)
+    ensures answer { AnswersList (S.facts store.now) given.entry (O.held out.old) (O.held out.new)
+        (err.new ≡ err.old)
         (E.count err.new ≡ E.count err.old) (E.held err.old) (E.held err.new) result }
 {
     answered(listed_in(alloc, store, given, out), err)
@@ -43,10 +44,15 @@ fn listed_in<S: FileStore, O: ByteOut>(
 ) -> Result<u8, Refusal>
     requires { O.count out.old < 2 ^ 64 - 1 }
     ensures status { IfOk result (λ status. status ≡ 0) }
-    ensures printed { IfOk result (λ _. PrintsListing (Serves (S.facts store.now) given.entry) (O.held out.old) (O.held out.new)) }
-    ensures unprinted { IfErr result (λ _. CutsListing (Serves (S.facts store.now) given.entry) (O.held out.old) (O.held out.new)) }
+    ensures printed { IfOk result
+        (λ _. PrintsListing (Serves (S.facts store.now) given.entry) (O.held out.old)
+        (O.held out.new)) }
+    ensures unprinted { IfErr result
+        (λ _. CutsListing (Serves (S.facts store.now) given.entry) (O.held out.old)
+        (O.held out.new)) }
     ensures asked { IfOk result (λ _. is_well_formed given.entry ≡ true) }
-    ensures first { IfErr result (OrUsage (is_well_formed given.entry) (RefusesList (S.facts store.now).lacked
+    ensures first { IfErr result
+        (OrUsage (is_well_formed given.entry) (RefusesList (S.facts store.now).lacked
         (Serves (S.facts store.now) given.entry) (O.held out.old) (O.held out.new))) }
 {
     let request = request_of(given).ok_or(Refusal::Usage)?;
@@ -62,8 +68,12 @@ fn run_list<S: FileStore, O: ByteOut>(
     out: &mut O,
 ) -> Result<(), Refusal>
     requires { O.count out.old < 2 ^ 64 - 1 }
-    ensures printed { IfOk result (λ _. PrintsListing (IsTaskOf (S.facts store.now) request.entry) (O.held out.old) (O.held out.new)) }
-    ensures unprinted { IfErr result (λ _. CutsListing (IsTaskOf (S.facts store.now) request.entry) (O.held out.old) (O.held out.new)) }
+    ensures printed { IfOk result
+        (λ _. PrintsListing (IsTaskOf (S.facts store.now) request.entry) (O.held out.old)
+        (O.held out.new)) }
+    ensures unprinted { IfErr result
+        (λ _. CutsListing (IsTaskOf (S.facts store.now) request.entry) (O.held out.old)
+        (O.held out.new)) }
     ensures refused { IfErr result (RefusesList (S.facts store.now).lacked
         (IsTaskOf (S.facts store.now) request.entry) (O.held out.old) (O.held out.new)) }
 {

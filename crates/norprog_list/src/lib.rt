@@ -1,7 +1,8 @@
 //! `norprog list`: tells a script to a person, step by step (docs/FORMATS.md, sections 9 and 12).
 //!
-//! [`list`] does what the texts of a command line ask for. [`list_script`] does the work, from the bytes of the inputs to the
-//! lines. Whoever reads a command line hands its texts over as [`ListArgs`].
+//! [`list`] does what the texts of a command line ask for. [`list_script`] does the work, from the
+//! bytes of the inputs to the lines. Whoever reads a command line hands its texts over as
+//! [`ListArgs`].
 #![tactic(auto)]
 
 mod command;

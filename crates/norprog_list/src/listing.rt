@@ -12,15 +12,17 @@ use nor_script::{ReadFault, ScriptFault};
 use norprog_common::{FileName, Refusal, known_chip};
 use std::alloc::Global;
 
-/// Writes the listing of the steps of a script, by the chip of the inputs and the address mode that it begins in, each line as its
-/// step comes. But for contradictions the image, the layout's regions, the base and the verifying of the inputs have no part in it.
-/// Memory is taken for the longest line.
+/// Writes the listing of the steps of a script, by the chip of the inputs and the address mode that
+/// it begins in, each line as its step comes. But for contradictions the image, the layout's
+/// regions, the base and the verifying of the inputs have no part in it. Memory is taken for the
+/// longest line.
 ///
-/// The first fault is told: `Contradiction`, `Sfdp`, `Status` and `ModeImpossible` as a build tells them, which leave `script` and
-/// `out` as they were. Then, of the lines in their order, `Script` where the text is none, after the listing, without its end line,
-/// of the steps whose lines stand above the fault's; `Write` where `out` fails, which has then taken a proper prefix of the listing,
-/// or of the lines of the first steps, whatever follows these; `File` of `Script` where `script` fails, and `Memory` where a growth
-/// is refused, after the lines of the first steps.
+/// The first fault is told: `Contradiction`, `Sfdp`, `Status` and `ModeImpossible` as a build tells
+/// them, which leave `script` and `out` as they were. Then, of the lines in their order, `Script`
+/// where the text is none, after the listing, without its end line, of the steps whose lines stand
+/// above the fault's; `Write` where `out` fails, which has then taken a proper prefix of the
+/// listing, or of the lines of the first steps, whatever follows these; `File` of `Script` where
+/// `script` fails, and `Memory` where a growth is refused, after the lines of the first steps.
 pub fn list_script<R: ByteIn, W: ByteOut>(
     alloc: Global,
     inputs: &Inputs<'_>,
@@ -29,8 +31,12 @@ pub fn list_script<R: ByteIn, W: ByteOut>(
 ) -> Result<(), Refusal>
     requires script { R.count script.old < 2 ^ 64 - 1 }
     requires out { W.count out.old < 2 ^ 64 - 1 }
-    ensures listed { IfOk result (λ _. ListsText inputs.now (R.ahead script.old) (R.ahead script.new) (W.held out.old) (W.held out.new)) }
-    ensures refused { IfErr result (RefusesText inputs.now (R.ahead script.old) (R.ahead script.new) (W.held out.old) (W.held out.new)) }
+    ensures listed { IfOk result
+        (λ _. ListsText inputs.now (R.ahead script.old) (R.ahead script.new) (W.held out.old)
+        (W.held out.new)) }
+    ensures refused { IfErr result
+        (RefusesText inputs.now (R.ahead script.old) (R.ahead script.new) (W.held out.old)
+        (W.held out.new)) }
     ensures unread { IfErr result (λ why. may_print why ≡ false → script.new ≡ script.old) }
     ensures unwritten { IfErr result (λ why. may_print why ≡ false → out.new ≡ out.old) }
     ensures source { CountsSource (R.count script.old) (R.count script.new) result }

@@ -12,7 +12,8 @@ pub struct ListRequest<'a> {
     pub script: &'a str,
 }
 
-/// The request that the values spell. None where one isn't of its form, or one that has to be there isn't.
+/// The request that the values spell. None where one isn't of its form, or one that has to be there
+/// isn't.
 pub fn request_of<'a>(given: ListArgs<'a>) -> Option<ListRequest<'a>>
     ensures forms { is_some result ≡ is_well_formed given.entry }
     ensures values { IfSome result (λ request. AsksFor given.entry request) }

@@ -38,7 +38,8 @@ impl From<Failed> for Stop {
     }
 }
 
-/// Writes the listing of a script's steps on a chip that begins in this address mode, each line as its step comes.
+/// Writes the listing of a script's steps on a chip that begins in this address mode, each line as
+/// its step comes.
 pub(crate) fn list_steps<R: ByteIn, W: ByteOut>(
     alloc: Global,
     meaning: &Meaning,
@@ -48,7 +49,8 @@ pub(crate) fn list_steps<R: ByteIn, W: ByteOut>(
 ) -> Result<(), Stop>
     requires script { R.count script.old < 2 ^ 64 - 1 }
     requires out { W.count out.old < 2 ^ 64 - 1 }
-    ensures lists { Lists meaning.now first (R.ahead script.old) (R.ahead script.new) (W.held out.old) (W.held out.new) result }
+    ensures lists { Lists meaning.now first (R.ahead script.old) (R.ahead script.new)
+        (W.held out.old) (W.held out.new) result }
     ensures source { CountsStop (R.count script.old) (R.count script.new) result }
     ensures count { CountsOut (W.count out.old) (W.count out.new) result }
 {
@@ -79,7 +81,8 @@ fn put_step<W: ByteOut>(
     out: &mut W,
 ) -> Result<bool, Stop>
     requires { W.count out.old < 2 ^ 64 - 1 }
-    ensures line { PutsLine (W.held out.old) (W.held out.new) result (line meaning.now number mode4 (step_of step.entry)) }
+    ensures line { PutsLine (W.held out.old) (W.held out.new) result
+        (line meaning.now number mode4 (step_of step.entry)) }
     ensures mode { IfOk result (λ after. after ≡ mode_past meaning.now mode4 (step_of step.entry)) }
     ensures count { CountsOut (W.count out.old) (W.count out.new) result }
 {

@@ -1,6 +1,8 @@
-//! `plan`: from the texts of the command line to the lines that tell what a build would erase and program, and why.
+//! `plan`: from the texts of the command line to the lines that tell what a build would erase and
+//! program, and why.
 
-ghost use Rattle.std.specs.Prelude.{◌≡◌, ◌⊎◌, ◌<◌, ◌≤◌, ◌-◌, ◌^◌, ◌++◌, true, [], length, Err, IfOk, IfErr, IfSome, option_map};
+ghost use Rattle.std.specs.Prelude.{◌≡◌, ◌⊎◌, ◌<◌, ◌≤◌, ◌-◌, ◌^◌, ◌++◌, true, [], length, Err};
+ghost use Rattle.std.specs.Prelude.{IfOk, IfErr, IfSome, option_map};
 ghost use Rattle.std.specs.Io.KnownBytes.{Appends};
 ghost use Rattle.nor_base.specs.Device.{Cuts};
 ghost use Rattle.nor_job.specs.declared.fault.BuildFault.TheVariants.{Write};
@@ -10,7 +12,8 @@ ghost use Rattle.norprog_common.specs.FileStore.{IsMadeApart, WhereNamed};
 ghost use Rattle.norprog_common.specs.Strict.{Filled};
 ghost use Rattle.norprog_common.specs.Told.{ForAsked, OrUsage};
 ghost use Rattle.norprog_plan.specs.Served.{asks_plan, shows_of, ServesPlan};
-ghost use Rattle.norprog_plan.specs.Answer.{IsPart, IsWhole, StopsAsked, PrintsPlan, CutsPlan, RefusesPlan, AnswersPlan};
+ghost use Rattle.norprog_plan.specs.Answer.{IsPart, IsWhole, StopsAsked, PrintsPlan, CutsPlan};
+ghost use Rattle.norprog_plan.specs.Answer.{RefusesPlan, AnswersPlan};
 ghost use Rattle.norprog_common.specs.Served.{Job, IsJobOf, AreGiven, held_in, input_files_of};
 
 use crate::outline::{Outline, Shows, outline_job};
@@ -21,11 +24,12 @@ use norprog_common::{
 };
 use std::alloc::Global;
 
-/// Writes to `out` the lines of the plan of the job on a command line, the report that a build of it would have and, where they
-/// are asked for, the lines of its times; or a refusal to `err` (docs/FORMATS.md, sections 9 and 15). Where a picture is asked
-/// for it goes to its file first (section 16), which is made as none of the files that are read. Answers the status: 0 done, 1
-/// refused, 2 usage. Lines of windows before the one at fault stand in `out` also where the job is refused. Memory is taken for
-/// the text.
+/// Writes to `out` the lines of the plan of the job on a command line, the report that a build of
+/// it would have and, where they are asked for, the lines of its times; or a refusal to `err`
+/// (docs/FORMATS.md, sections 9 and 15). Where a picture is asked for it goes to its file first
+/// (section 16), which is made as none of the files that are read. Answers the status: 0 done, 1
+/// refused, 2 usage. Lines of windows before the one at fault stand in `out` also where the job is
+/// refused. Memory is taken for the text.
 ///
 /// Usage is told where the texts ask for no plan.
 pub fn plan<S: FileStore, O: ByteOut, E: ByteOut>(
@@ -39,7 +43,8 @@ pub fn plan<S: FileStore, O: ByteOut, E: ByteOut>(
     requires err { E.count err.old < 2 ^ 64 - 1 }
     ensures status { result ≤ 2 }
     ensures quiet { result ≡ 0 → err.new ≡ err.old }
-    ensures answer { AnswersPlan (S.facts store.now) given.entry (O.held out.old) (O.held out.new) (err.new ≡ err.old)
+    ensures answer { AnswersPlan (S.facts store.now) given.entry (O.held out.old) (O.held out.new)
+        (err.new ≡ err.old)
         (E.count err.new ≡ E.count err.old) (E.held err.old) (E.held err.new) result }
 {
     answered(report_plan(alloc, store, given, out), err)
@@ -54,13 +59,20 @@ fn report_plan<S: FileStore, O: ByteOut>(
 ) -> Result<u8, Refusal>
     requires { O.count out.old < 2 ^ 64 - 1 }
     ensures status { IfOk result (λ status. status ≡ 0) }
-    ensures printed { IfOk result (λ _. PrintsPlan (S.facts store.now).flushed (shows_of given.entry)
-        (Filled given.entry.job.strict (ServesPlan (S.facts store.now) given.entry)) (O.held out.old) (O.held out.new)) }
-    ensures unprinted { IfErr result (λ _. CutsPlan (S.facts store.now).flushed (shows_of given.entry)
-        (Filled given.entry.job.strict (ServesPlan (S.facts store.now) given.entry)) (O.held out.old) (O.held out.new)) }
+    ensures printed { IfOk result
+        (λ _. PrintsPlan (S.facts store.now).flushed (shows_of given.entry)
+        (Filled given.entry.job.strict (ServesPlan (S.facts store.now) given.entry))
+        (O.held out.old) (O.held out.new)) }
+    ensures unprinted { IfErr result
+        (λ _. CutsPlan (S.facts store.now).flushed (shows_of given.entry)
+        (Filled given.entry.job.strict (ServesPlan (S.facts store.now) given.entry))
+        (O.held out.old) (O.held out.new)) }
     ensures asked { IfOk result (λ _. asks_plan given.entry ≡ true) }
-    ensures first { IfErr result (OrUsage (asks_plan given.entry) (RefusesPlan given.entry.job.strict (S.facts store.now).lacked
-        (S.facts store.now).flushed (shows_of given.entry) (ServesPlan (S.facts store.now) given.entry) (O.held out.old) (O.held out.new))) }
+    ensures first { IfErr result
+        (OrUsage (asks_plan given.entry)
+        (RefusesPlan given.entry.job.strict (S.facts store.now).lacked
+        (S.facts store.now).flushed (shows_of given.entry)
+        (ServesPlan (S.facts store.now) given.entry) (O.held out.old) (O.held out.new))) }
 {
     let PlanArgs {
         job,
@@ -80,8 +92,10 @@ fn report_plan<S: FileStore, O: ByteOut>(
 fn print_whole<O: ByteOut>(lines: &[u8], rest: &[u8], out: &mut O) -> Result<u8, Refusal>
     requires { O.count out.old < 2 ^ 64 - 1 }
     ensures status { IfOk result (λ status. status ≡ 0) }
-    ensures printed { IfOk result (λ _. Appends (O.held out.old) (O.held out.new) (lines.now ++ rest.now)) }
-    ensures cut { IfErr result (λ _. Cuts (O.held out.old) (O.held out.new) (lines.now ++ rest.now)) }
+    ensures printed { IfOk result
+        (λ _. Appends (O.held out.old) (O.held out.new) (lines.now ++ rest.now)) }
+    ensures cut { IfErr result
+        (λ _. Cuts (O.held out.old) (O.held out.new) (lines.now ++ rest.now)) }
     ensures failed { IfErr result (λ why. why ≡ Build Write) }
 {
     match put_parts(out, &[lines, rest]) {
@@ -90,12 +104,13 @@ fn print_whole<O: ByteOut>(lines: &[u8], rest: &[u8], out: &mut O) -> Result<u8,
     }
 }
 
-/// Prints the lines that were told before a refusal, and answers what is to be told: that refusal, or `Write` where `out`
-/// fails.
+/// Prints the lines that were told before a refusal, and answers what is to be told: that refusal,
+/// or `Write` where `out` fails.
 fn print_lines<O: ByteOut>(lines: &[u8], refusal: Refusal, out: &mut O) -> Refusal
     requires { O.count out.old < 2 ^ 64 - 1 }
     ensures { ((lines.now ≡ []) × (out.new ≡ out.old) × (result ≡ refusal))
-        ⊎ (((0 < length lines.now) × Appends (O.held out.old) (O.held out.new) lines.now × (result ≡ refusal))
+        ⊎ (((0 < length lines.now) × Appends (O.held out.old) (O.held out.new) lines.now
+        × (result ≡ refusal))
         ⊎ (Cuts (O.held out.old) (O.held out.new) lines.now × (result ≡ Build Write))) }
 {
     if lines.is_empty() {
@@ -126,10 +141,12 @@ fn run_plan<S: FileStore>(
     map: Option<&str>,
 ) -> Outline
     ensures whole { IfOk result.rest (λ rest. ForAsked Job
-        (Filled request.now.strict (IsJobOf (S.facts store.now) request.now (option_map (λ t. t.now) map.entry)))
+        (Filled request.now.strict
+        (IsJobOf (S.facts store.now) request.now (option_map (λ t. t.now) map.entry)))
         (IsWhole (S.facts store.now).flushed shows result.lines.items rest.items)) }
     ensures part { IfErr result.rest (λ _. (result.lines.items ≡ [])
-        ⊎ ForAsked Job (Filled request.now.strict (IsJobOf (S.facts store.now) request.now (option_map (λ t. t.now) map.entry)))
+        ⊎ ForAsked Job (Filled request.now.strict
+        (IsJobOf (S.facts store.now) request.now (option_map (λ t. t.now) map.entry)))
         (IsPart result.lines.items)) }
     ensures refused { IfErr result.rest (StopsAsked request.now.strict (S.facts store.now).lacked
         (IsJobOf (S.facts store.now) request.now (option_map (λ t. t.now) map.entry))) }
@@ -163,17 +180,22 @@ fn unplanned(alloc: Global, refusal: Refusal) -> Outline
     }
 }
 
-/// Opens the files of a request in their order, and then makes the file for the picture where there is one.
+/// Opens the files of a request in their order, and then makes the file for the picture where there
+/// is one.
 fn open_files<S: FileStore>(
     alloc: Global,
     store: &S,
     request: &Request<'_>,
     map: Option<&str>,
 ) -> Result<PlanFiles<S::Input, S::Output>, Refusal>
-    ensures given { IfOk result (λ files. AreGiven (S.facts store.now) request.now (held_in files.texts)) }
-    ensures content { IfOk result (λ files. (S.facts store.now).opened request.now.content.now (S.Input.ahead files.content) files.len) }
+    ensures given { IfOk result
+        (λ files. AreGiven (S.facts store.now) request.now (held_in files.texts)) }
+    ensures content { IfOk result
+        (λ files. (S.facts store.now).opened request.now.content.now (S.Input.ahead files.content)
+        files.len) }
     ensures count { IfOk result (λ files. S.Input.count files.content ≡ 0) }
-    ensures made { IfOk result (λ files. WhereNamed (IsMadeApart (S.facts store.now) (input_files_of request.now))
+    ensures made { IfOk result
+        (λ files. WhereNamed (IsMadeApart (S.facts store.now) (input_files_of request.now))
         (option_map (λ t. t.now) map.entry) (option_map S.Output.held files.map)) }
     ensures fresh { IfOk result (λ files. IfSome files.map (λ file. S.Output.count file ≡ 0)) }
     ensures lacked { IfErr result (TellsFile (S.facts store.now).lacked) }

@@ -33,8 +33,10 @@ pub(crate) fn draw_file<S: FileStore>(
     file: &mut S::Output,
 ) -> Result<(), Refusal>
     requires { S.Output.count file.old < 2 ^ 64 - 1 }
-    ensures drawn { (report : Report) (len : ℕ) (ahead : Ahead) (of : IsLines text.now report inputs.now len ahead)
-        → IfOk result (λ _. IsDrawn (S.facts store.now).flushed (S.Output.held file.old) inputs.now of.planned.m (read_lines of) rest.now) }
+    ensures drawn { (report : Report) (len : ℕ) (ahead : Ahead)
+        (of : IsLines text.now report inputs.now len ahead)
+        → IfOk result (λ _. IsDrawn (S.facts store.now).flushed (S.Output.held file.old) inputs.now
+        of.planned.m (read_lines of) rest.now) }
     ensures refused { IfErr result LacksOutput }
 {
     draw(alloc, inputs, text, rest, file)?;
@@ -55,8 +57,10 @@ fn draw<W: ByteOut>(
     out: &mut W,
 ) -> Result<(), Refusal>
     requires { W.count out.old < 2 ^ 64 - 1 }
-    ensures drawn { (report : Report) (len : ℕ) (ahead : Ahead) (of : IsLines text.now report inputs.now len ahead)
-        → IfOk result (λ _. PutsMap inputs.now of.planned.m (read_lines of) rest.now (W.held out.old) (W.held out.new)) }
+    ensures drawn { (report : Report) (len : ℕ) (ahead : Ahead)
+        (of : IsLines text.now report inputs.now len ahead)
+        → IfOk result (λ _. PutsMap inputs.now of.planned.m (read_lines of) rest.now
+        (W.held out.old) (W.held out.new)) }
     ensures refused { IfErr result LacksOutput }
 {
     // the plan was made of this chip, so no cause is left
@@ -67,7 +71,8 @@ fn draw<W: ByteOut>(
     draw_lines(alloc, inputs, &meaning, lines.as_slice(), rest, out)
 }
 
-/// Draws a plan of these lines on a chip, with the regions of the inputs' layout and what of them is chosen.
+/// Draws a plan of these lines on a chip, with the regions of the inputs' layout and what of them
+/// is chosen.
 fn draw_lines<W: ByteOut>(
     alloc: Global,
     inputs: &Inputs<'_>,
@@ -77,8 +82,10 @@ fn draw_lines<W: ByteOut>(
     out: &mut W,
 ) -> Result<(), Refusal>
     requires { W.count out.old < 2 ^ 64 - 1 }
-    ensures drawn { (image : Pairs) (regions : List NamedRegion) → HasRegions inputs.now image regions
-        → IfOk result (λ _. PutsMap inputs.now meaning.now lines.now rest.now (W.held out.old) (W.held out.new)) }
+    ensures drawn { (image : Pairs) (regions : List NamedRegion)
+        → HasRegions inputs.now image regions
+        → IfOk result (λ _. PutsMap inputs.now meaning.now lines.now rest.now (W.held out.old)
+        (W.held out.new)) }
     ensures refused { IfErr result LacksOutput }
 {
     let Some(text) = inputs.layout else {
@@ -106,7 +113,8 @@ fn put_map<W: ByteOut>(
 ) -> Result<(), Refusal>
     requires { W.count out.old < 2 ^ 64 - 1 }
     ensures drawn { IfOk result (λ _. Appends (W.held out.old) (W.held out.new)
-        (map_text (grid_of meaning.now.size meaning.now.page lines.now (has chosen.now)) lines.now regions.now rest.now)) }
+        (map_text (grid_of meaning.now.size meaning.now.page lines.now (has chosen.now)) lines.now
+        regions.now rest.now)) }
     ensures refused { IfErr result LacksOutput }
 {
     let grid = Grid::of(alloc, meaning.size, meaning.page, lines, chosen)?;

@@ -1,6 +1,7 @@
 //! What tells a plan: its lines, and behind them its report and its times.
 
-ghost use Rattle.std.specs.Prelude.{◌≡◌, ◌⊎◌, ◌<◌, ◌-◌, ◌++◌, ◌^◌, ℕ, List, [], Some, true, is_some, option_map, IfOk, IfErr, IfSome};
+ghost use Rattle.std.specs.Prelude.{◌≡◌, ◌⊎◌, ◌<◌, ◌-◌, ◌++◌, ◌^◌, ℕ, List, [], Some, true};
+ghost use Rattle.std.specs.Prelude.{is_some, option_map, IfOk, IfErr, IfSome};
 ghost use Rattle.nor_base.specs.declared.meaning.Start.{Start};
 ghost use Rattle.nor_base.specs.Device.{Ahead, Writes, Counts};
 ghost use Rattle.nor_base.specs.Parameters.{Parameters};
@@ -11,7 +12,8 @@ ghost use Rattle.nor_times.specs.Plan.{plan_of};
 ghost use Rattle.norprog.specs.PlanWindows.{plan_text};
 ghost use Rattle.norprog.specs.Report.{report_text};
 ghost use Rattle.norprog_common.specs.declared.faults.Refusal.TheVariants.{Build};
-ghost use Rattle.norprog_plan.specs.Answer.{behind_lines, in_memory, times_lines, read_lines, Draws, IsLines, IsPart, IsShown, IsWhole, StopsTask};
+ghost use Rattle.norprog_plan.specs.Answer.{behind_lines, in_memory, times_lines, read_lines};
+ghost use Rattle.norprog_plan.specs.Answer.{Draws, IsLines, IsPart, IsShown, IsWhole, StopsTask};
 ghost use Rattle.norprog_common.specs.Served.{job_with, Is};
 
 use crate::drawing::draw_file;
@@ -41,8 +43,8 @@ pub(crate) struct Shows {
     pub regions: bool,
 }
 
-/// What tells the plan of a job, with the lines that are asked for; it is drawn where there is a file for that. Memory is taken
-/// for the text.
+/// What tells the plan of a job, with the lines that are asked for; it is drawn where there is a
+/// file for that. Memory is taken for the text.
 pub(crate) fn outline_job<S: FileStore, R: ByteIn>(
     alloc: Global,
     store: &S,
@@ -54,10 +56,12 @@ pub(crate) fn outline_job<S: FileStore, R: ByteIn>(
 ) -> Outline
     requires content { R.count content.old < 2 ^ 64 - 1 }
     requires map { IfSome map (λ file. S.Output.count file < 2 ^ 64 - 1) }
-    ensures whole { IfOk result.rest (λ rest. IsWhole (S.facts store.now).flushed shows result.lines.items rest.items
+    ensures whole { IfOk result.rest (λ rest.
+        IsWhole (S.facts store.now).flushed shows result.lines.items rest.items
         (job_with inputs.now (R.ahead content.old) len (option_map S.Output.held map))) }
     ensures part { IfErr result.rest (λ _. (result.lines.items ≡ [])
-        ⊎ IsPart result.lines.items (job_with inputs.now (R.ahead content.old) len (option_map S.Output.held map))) }
+        ⊎ IsPart result.lines.items
+        (job_with inputs.now (R.ahead content.old) len (option_map S.Output.held map))) }
     ensures refused { IfErr result.rest (StopsTask (S.facts store.now).lacked
         (Is (job_with inputs.now (R.ahead content.old) len (option_map S.Output.held map)))) }
 {
@@ -66,8 +70,8 @@ pub(crate) fn outline_job<S: FileStore, R: ByteIn>(
     Outline { lines, rest }
 }
 
-/// What tells the plan of the inputs, with the lines of its times where they are asked for; it is drawn where there is a file for
-/// that. Memory is taken for the text.
+/// What tells the plan of the inputs, with the lines of its times where they are asked for; it is
+/// drawn where there is a file for that. Memory is taken for the text.
 fn outline_of<S: FileStore, R: ByteIn>(
     alloc: Global,
     store: &S,
@@ -79,10 +83,12 @@ fn outline_of<S: FileStore, R: ByteIn>(
 ) -> Outline
     requires content { R.count content.old < 2 ^ 64 - 1 }
     requires map { IfSome map (λ file. S.Output.count file < 2 ^ 64 - 1) }
-    ensures whole { IfOk result.rest (λ rest. IsShown (S.facts store.now).flushed times result.lines.items rest.items
+    ensures whole { IfOk result.rest (λ rest.
+        IsShown (S.facts store.now).flushed times result.lines.items rest.items
         (job_with inputs.now (R.ahead content.old) len (option_map S.Output.held map))) }
     ensures part { IfErr result.rest (λ _. (result.lines.items ≡ [])
-        ⊎ IsPart result.lines.items (job_with inputs.now (R.ahead content.old) len (option_map S.Output.held map))) }
+        ⊎ IsPart result.lines.items
+        (job_with inputs.now (R.ahead content.old) len (option_map S.Output.held map))) }
     ensures refused { IfErr result.rest (StopsTask (S.facts store.now).lacked
         (Is (job_with inputs.now (R.ahead content.old) len (option_map S.Output.held map)))) }
 {
@@ -113,12 +119,17 @@ fn rest_of<S: FileStore>(
     map: Option<S::Output>,
 ) -> Result<Vec<u8>, Refusal>
     requires { IfSome map (λ file. S.Output.count file < 2 ^ 64 - 1) }
-    ensures rest { (len : ℕ) (ahead : Ahead) (of : IsLines lines.now report.now inputs.now len ahead)
-        → IfOk result (λ rest. rest.items ≡ behind_lines times report.now inputs.now of.planned.m (read_lines of)) }
-    ensures drawn { (len : ℕ) (ahead : Ahead) (of : IsLines lines.now report.now inputs.now len ahead)
-        → IfOk result (λ rest. Draws (S.facts store.now).flushed (option_map S.Output.held map) inputs.now of.planned.m (read_lines of)
+    ensures rest { (len : ℕ) (ahead : Ahead)
+        (of : IsLines lines.now report.now inputs.now len ahead)
+        → IfOk result (λ rest. rest.items ≡ behind_lines times report.now inputs.now of.planned.m
+        (read_lines of)) }
+    ensures drawn { (len : ℕ) (ahead : Ahead)
+        (of : IsLines lines.now report.now inputs.now len ahead)
+        → IfOk result (λ rest. Draws (S.facts store.now).flushed (option_map S.Output.held map)
+        inputs.now of.planned.m (read_lines of)
         rest.items) }
-    ensures refused { IfErr result (λ why. (why ≡ Build Memory) ⊎ ((is_some map ≡ true) × (why ≡ Build Write))) }
+    ensures refused { IfErr result (λ why. (why ≡ Build Memory)
+        ⊎ ((is_some map ≡ true) × (why ≡ Build Write))) }
 {
     let rest = behind_lines(alloc, inputs, report, lines, times)?;
     if let Some(mut file) = map {
@@ -138,8 +149,8 @@ fn in_memory(fault: BuildFault) -> Refusal
     }
 }
 
-/// What stands behind the lines of a plan: its report, and its times where they are asked for. `Memory` where a growth is
-/// refused.
+/// What stands behind the lines of a plan: its report, and its times where they are asked for.
+/// `Memory` where a growth is refused.
 fn behind_lines(
     alloc: Global,
     inputs: &Inputs<'_>,
@@ -147,8 +158,10 @@ fn behind_lines(
     lines: &[u8],
     times: bool,
 ) -> Result<Vec<u8>, Refusal>
-    ensures rest { (len : ℕ) (ahead : Ahead) (of : IsLines lines.now report.now inputs.now len ahead)
-        → IfOk result (λ rest. rest.items ≡ behind_lines times report.now inputs.now of.planned.m (read_lines of)) }
+    ensures rest { (len : ℕ) (ahead : Ahead)
+        (of : IsLines lines.now report.now inputs.now len ahead)
+        → IfOk result (λ rest. rest.items ≡ behind_lines times report.now inputs.now of.planned.m
+        (read_lines of)) }
     ensures refused { IfErr result (λ why. why ≡ Build Memory) }
 {
     let mut rest = report_in_memory(alloc, report)?;
@@ -180,8 +193,10 @@ fn put_times(
     out: &mut IntoWrite<Vec<u8>>,
 ) -> Result<(), Refusal>
     requires { out.old.failed < 2 ^ 64 - 1 }
-    ensures times { (report : Report) (len : ℕ) (ahead : Ahead) (of : IsLines lines.now report inputs.now len ahead)
-        → IfOk result (λ _. out.new.inner.items ≡ out.old.inner.items ++ times_lines inputs.now of.planned.m (read_lines of)) }
+    ensures times { (report : Report) (len : ℕ) (ahead : Ahead)
+        (of : IsLines lines.now report inputs.now len ahead)
+        → IfOk result (λ _. out.new.inner.items
+        ≡ out.old.inner.items ++ times_lines inputs.now of.planned.m (read_lines of)) }
     ensures refused { IfErr result (λ why. why ≡ Build Memory) }
 {
     // the plan was made of this chip, so no cause is left
@@ -197,8 +212,10 @@ fn put_times(
 
 /// What a reader of a plan's lines reads. `Memory` where a growth is refused.
 pub(crate) fn lines_of(alloc: Global, text: &[u8]) -> Result<Vec<PlanLine>, Refusal>
-    ensures read { (m : Parameters) (start : Start) (have want : List ℕ) → IsWorkable m start have want
-        → text.now ≡ plan_text m start have want → IfOk result (λ lines. lines.items ≡ plan_of m start have want) }
+    ensures read { (m : Parameters) (start : Start) (have want : List ℕ)
+        → IsWorkable m start have want
+        → text.now ≡ plan_text m start have want
+        → IfOk result (λ lines. lines.items ≡ plan_of m start have want) }
     ensures refused { IfErr result (λ why. why ≡ Build Memory) }
 {
     text_of_plan();
@@ -218,7 +235,8 @@ fn write_sums<W: ByteOut>(
 ) -> Result<(), Failed>
     requires { W.count out.old < 2 ^ 64 - 1 }
     ensures bytes { start.now ≡ start_of inputs.now
-        → Writes (W.held out.old) (W.held out.new) result (times_lines inputs.now meaning.now lines.now) }
+        → Writes (W.held out.old) (W.held out.new) result
+        (times_lines inputs.now meaning.now lines.now) }
     ensures count { Counts (W.count out.old) (W.count out.new) result }
 {
     let busy = match inputs.chip {

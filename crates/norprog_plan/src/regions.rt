@@ -5,7 +5,8 @@ ghost use Rattle.nor_base.specs.Device.{Writes, Counts};
 ghost use Rattle.nor_hex.specs.Image.{byte_at};
 ghost use Rattle.nor_job.specs.declared.fault.BuildFault.TheVariants.{Memory};
 ghost use Rattle.norprog_common.specs.declared.faults.Refusal.TheVariants.{Build};
-ghost use Rattle.norprog_plan.specs.Regions.{region_line, region_lines, share_line, AreRegionLines, EndsWith};
+ghost use Rattle.norprog_plan.specs.Regions.{region_line, region_lines, share_line, AreRegionLines};
+ghost use Rattle.norprog_plan.specs.Regions.{EndsWith};
 
 use itoa::Buffer;
 use nor_base::{ByteOut, Failed, IntoWrite, put_parts};
@@ -17,7 +18,8 @@ use nor_target::{Share, share_of};
 use norprog_common::Refusal;
 use std::alloc::Global;
 
-/// The text that stands behind a plan's lines, with those of the chosen regions where they are asked for.
+/// The text that stands behind a plan's lines, with those of the chosen regions where they are
+/// asked for.
 ///
 /// `Memory` where a growth is refused; else the refusal that stands in the text's place.
 pub(crate) fn with_regions(
@@ -27,7 +29,8 @@ pub(crate) fn with_regions(
     regions: bool,
     shown: Result<Vec<u8>, Refusal>,
 ) -> Result<Vec<u8>, Refusal>
-    ensures told { IfOk shown (λ text. IfOk result (λ rest. EndsWith regions inputs.now len text.items rest.items)) }
+    ensures told { IfOk shown
+        (λ text. IfOk result (λ rest. EndsWith regions inputs.now len text.items rest.items)) }
     ensures memory { IfOk shown (λ _. IfErr result (λ why. why ≡ Build Memory)) }
     ensures kept { IfErr shown (λ why. result ≡ Err why) }
 {
@@ -70,7 +73,8 @@ fn lines_in(
     size: u32,
     regions: &[Region<'_>],
 ) -> Result<Vec<u8>, Refusal>
-    ensures lines { IfOk result (λ lines. lines.items ≡ region_lines (byte_at image.now) base size regions.now) }
+    ensures lines { IfOk result (λ lines. lines.items
+        ≡ region_lines (byte_at image.now) base size regions.now) }
     ensures refused { IfErr result (λ why. why ≡ Build Memory) }
 {
     let mut lines = IntoWrite::new(Vec::new(alloc));
@@ -88,7 +92,8 @@ fn add_line(
     lines: &mut IntoWrite<Vec<u8>>,
 ) -> Result<(), Refusal>
     requires { lines.old.failed ≡ 0 }
-    ensures line { IfOk result (λ _. lines.new.inner.items ≡ lines.old.inner.items ++ region_line region.now share) }
+    ensures line { IfOk result (λ _. lines.new.inner.items
+        ≡ lines.old.inner.items ++ region_line region.now share) }
     ensures works { IfOk result (λ _. lines.new.failed ≡ 0) }
     ensures refused { IfErr result (λ why. why ≡ Build Memory) }
 {
@@ -114,7 +119,8 @@ fn write_line<W: ByteOut>(
     write_share(region, count, b" bytes from the image, first ", first, out)
 }
 
-/// Writes the line of a region to which the image gives a number of bytes, the first, after these words, at an address.
+/// Writes the line of a region to which the image gives a number of bytes, the first, after these
+/// words, at an address.
 fn write_share<W: ByteOut>(
     region: &Region<'_>,
     count: u64,
@@ -123,7 +129,8 @@ fn write_share<W: ByteOut>(
     out: &mut W,
 ) -> Result<(), Failed>
     requires { W.count out.old < 2 ^ 64 - 1 }
-    ensures bytes { Writes (W.held out.old) (W.held out.new) result (share_line region.now count words.now first) }
+    ensures bytes { Writes (W.held out.old) (W.held out.new) result
+        (share_line region.now count words.now first) }
     ensures count { Counts (W.count out.old) (W.count out.new) result }
 {
     let length = (u64::from(region.end) + 1).saturating_sub(u64::from(region.start));

@@ -13,7 +13,8 @@ pub enum Access {
     Four,
     /// By 03h with three, and past 2^24 by 13h with four.
     Dedicated,
-    /// By 03h with three, and past 2^24 by 03h with four in four-byte mode, which is entered before each read and left after it.
+    /// By 03h with three, and past 2^24 by 03h with four in four-byte mode, which is entered before
+    /// each read and left after it.
     Entered {
         /// How it is entered.
         enter: Switch,

@@ -1,6 +1,7 @@
 //! What the chip behind a device is asked before the steps.
 
-ghost use Rattle.std.specs.Prelude.{◌≡◌, ◌<◌, ◌≤◌, ◌+◌, ◌-◌, ◌*◌, ◌^◌, false, length, MatchResult, IfOk};
+ghost use Rattle.std.specs.Prelude.{◌≡◌, ◌<◌, ◌≤◌, ◌+◌, ◌-◌, ◌*◌, ◌^◌, false, length, MatchResult};
+ghost use Rattle.std.specs.Prelude.{IfOk};
 ghost use Rattle.nor_base.specs.Device.{ahead_of};
 ghost use Rattle.nor_probe.specs.Tables.{Compares as ComparesTables};
 ghost use Rattle.norprog_play.specs.Asked.{Begins, IsUnknown, IsIdentified, IsSuited, StopsAsking};
@@ -17,8 +18,9 @@ use nor_probe::{Mismatch, chip_status, compare_tables, suits};
 use nor_serprog::{Reason, Shadowed};
 use std::io::{Read, Write};
 
-/// What comes before the steps: unless it is trusted, the chip behind the device is asked for its status until it is idle, its SFDP
-/// bytes are compared with those that it has to have, and its marked cells with the chip in memory.
+/// What comes before the steps: unless it is trusted, the chip behind the device is asked for its
+/// status until it is idle, its SFDP bytes are compared with those that it has to have, and its
+/// marked cells with the chip in memory.
 pub(crate) fn begin<R: Read + Drop, W: Write + Drop>(
     port: &mut Shadowed<'_, R, W>,
     expected: Expected<'_>,
@@ -29,12 +31,16 @@ pub(crate) fn begin<R: Read + Drop, W: Write + Drop>(
     requires cells { length port.old.chip.chip.array ≡ 256 * length marks.now }
     requires count { port.old.failed < 2 ^ 64 - 1 }
     ensures begins { MatchResult result
-        (λ _. Begins (expectation_of expected.entry) port.old.limits port.old.turns access (IsMarked marks.now)
+        (λ _. Begins (expectation_of expected.entry) port.old.limits port.old.turns access
+        (IsMarked marks.now)
         (moment port.old.chip (W.contents port.old.to.inner) (R.remaining port.old.from.inner))
         (moment port.new.chip (W.contents port.new.to.inner) (R.remaining port.new.from.inner)))
-        (λ why. (expected.entry.trusted ≡ false) × IsUnknown (expectation_of expected.entry) port.old.limits port.old.turns access (IsMarked marks.now)
+        (λ why. (expected.entry.trusted ≡ false)
+        × IsUnknown (expectation_of expected.entry) port.old.limits port.old.turns access
+        (IsMarked marks.now)
         (moment port.old.chip (W.contents port.old.to.inner) (R.remaining port.old.from.inner))
-        (moment port.new.chip (W.contents port.new.to.inner) (R.remaining port.new.from.inner)) why) }
+        (moment port.new.chip (W.contents port.new.to.inner) (R.remaining port.new.from.inner))
+        why) }
     ensures chip { port.new.chip ≡ port.old.chip }
     ensures fresh { IfOk result (λ _. port.new.reason ≡ port.old.reason) }
     ensures count { IfOk result (λ _. port.new.failed ≡ port.old.failed) }
@@ -52,7 +58,8 @@ pub(crate) fn begin<R: Read + Drop, W: Write + Drop>(
     }
 }
 
-/// Asks the chip behind the device for its status until it is idle, and compares its SFDP bytes with those that it has to have.
+/// Asks the chip behind the device for its status until it is idle, and compares its SFDP bytes
+/// with those that it has to have.
 fn identify<R: Read + Drop, W: Write + Drop>(
     port: &mut Shadowed<'_, R, W>,
     expected: Expected<'_>,
@@ -79,7 +86,8 @@ fn identify<R: Read + Drop, W: Write + Drop>(
     }
 }
 
-/// Asks the chip behind the device for its status until it is idle. A port where that stops has failed.
+/// Asks the chip behind the device for its status until it is idle. A port where that stops has
+/// failed.
 fn ask_status<R: Read + Drop, W: Write + Drop>(
     port: &mut Shadowed<'_, R, W>,
     expected: Expected<'_>,
@@ -121,7 +129,8 @@ fn ask_status<R: Read + Drop, W: Write + Drop>(
     }
 }
 
-/// Compares the SFDP bytes of the chip behind the device with those that it has to have. A port where that stops has failed.
+/// Compares the SFDP bytes of the chip behind the device with those that it has to have. A port
+/// where that stops has failed.
 fn ask_tables<R: Read + Drop, W: Write + Drop>(
     port: &mut Shadowed<'_, R, W>,
     tables: &[u8],
@@ -129,7 +138,8 @@ fn ask_tables<R: Read + Drop, W: Write + Drop>(
     requires few { length tables.now ≤ 2 ^ 24 }
     requires count { port.old.failed < 2 ^ 64 - 1 }
     ensures shown { port.new.chip ≡ port.old.chip }
-    ensures compared { ComparesTables (W.contents port.old.to.inner) (W.contents port.new.to.inner) (ahead_of (R.remaining port.old.from.inner))
+    ensures compared { ComparesTables (W.contents port.old.to.inner) (W.contents port.new.to.inner)
+        (ahead_of (R.remaining port.old.from.inner))
         (ahead_of (R.remaining port.new.from.inner)) result port.old.limits tables.now }
     ensures fresh { IfOk result (λ _. port.new.reason ≡ port.old.reason) }
     ensures count { IfOk result (λ _. port.new.failed ≡ port.old.failed) }

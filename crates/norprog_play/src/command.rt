@@ -1,6 +1,7 @@
 //! `play`: from the texts of the command line to the line of an ending.
 
-ghost use Rattle.std.specs.Prelude.{◌≡◌, ◌<◌, ◌≤◌, ◌-◌, ◌^◌, true, length, IfOk, IfErr, MatchResult};
+ghost use Rattle.std.specs.Prelude.{◌≡◌, ◌<◌, ◌≤◌, ◌-◌, ◌^◌, true, length, IfOk, IfErr};
+ghost use Rattle.std.specs.Prelude.{MatchResult};
 ghost use Rattle.nor_base.specs.Chip.{IsPossible};
 ghost use Rattle.nor_base.specs.Run.{trail};
 ghost use Rattle.norprog_play.specs.Answer.{IsEnding, IsUnplayed, RefusesToPlay, AnswersPlay};
@@ -25,14 +26,15 @@ use norprog_common::{FileName, FileStore, PlayArgs, Refusal, refuse, setup_input
 use norprog_device::{open_port, refuse_device};
 use std::alloc::Global;
 
-/// Does what the texts of a command line of `play` ask for. It opens the files that they name, plays the script on the chip in
-/// memory, and then, where nothing goes wrong there and every chip that they describe does the same, on the chip behind the device
-/// that they name; it writes the line of the ending to `out`, or a refusal to `err` (docs/FORMATS.md, sections 9 and 14). Where
-/// steps were sent and the chip may hold a part of the work it first writes to `err` what to do then. It returns the status: 0 all
-/// done, 1 not so or refused, 2 usage.
+/// Does what the texts of a command line of `play` ask for. It opens the files that they name,
+/// plays the script on the chip in memory, and then, where nothing goes wrong there and every chip
+/// that they describe does the same, on the chip behind the device that they name; it writes the
+/// line of the ending to `out`, or a refusal to `err` (docs/FORMATS.md, sections 9 and 14). Where
+/// steps were sent and the chip may hold a part of the work it first writes to `err` what to do
+/// then. It returns the status: 0 all done, 1 not so or refused, 2 usage.
 ///
-/// Where steps are sent to the device, how many are done is written to `progress` after each hundred and at the end, in a line that
-/// is written over; where that fails nothing changes.
+/// Where steps are sent to the device, how many are done is written to `progress` after each
+/// hundred and at the end, in a line that is written over; where that fails nothing changes.
 ///
 /// Usage is told where the texts ask for no play.
 pub fn play<S: FileStore, O: ByteOut, E: ByteOut, P: ByteOut>(
@@ -48,7 +50,8 @@ pub fn play<S: FileStore, O: ByteOut, E: ByteOut, P: ByteOut>(
     requires progress { P.count progress.old < 2 ^ 64 - 1 }
     ensures status { result ≤ 2 }
     ensures quiet { result ≡ 0 → err.new ≡ err.old }
-    ensures answer { AnswersPlay (S.facts store.now) given.entry (O.held out.old) (O.held out.new) (err.new ≡ err.old)
+    ensures answer { AnswersPlay (S.facts store.now) given.entry (O.held out.old) (O.held out.new)
+        (err.new ≡ err.old)
         (E.count err.new ≡ E.count err.old) (E.held err.old) (E.held err.new) result }
 {
     match ending_of(alloc, store, given, progress) {
@@ -66,7 +69,8 @@ fn ending_of<S: FileStore, P: ByteOut>(
     progress: &mut P,
 ) -> Result<Ending, Unplayed>
     requires { P.count progress.old < 2 ^ 64 - 1 }
-    ensures played { IfOk result (IsEnding (S.facts store.now) (Serves (S.facts store.now) given.entry)) }
+    ensures played { IfOk result
+        (IsEnding (S.facts store.now) (Serves (S.facts store.now) given.entry)) }
     ensures asked { IfOk result (λ _. is_well_formed given.entry ≡ true) }
     ensures first { IfErr result (RefusesToPlay (S.facts store.now) given.entry) }
 {
@@ -82,8 +86,10 @@ fn play_request<S: FileStore, P: ByteOut>(
     progress: &mut P,
 ) -> Result<Ending, Unplayed>
     requires { P.count progress.old < 2 ^ 64 - 1 }
-    ensures played { IfOk result (IsEnding (S.facts store.now) (IsTaskOf (S.facts store.now) request.entry)) }
-    ensures refused { IfErr result (IsUnplayed (S.facts store.now) (IsTaskOf (S.facts store.now) request.entry)) }
+    ensures played { IfOk result
+        (IsEnding (S.facts store.now) (IsTaskOf (S.facts store.now) request.entry)) }
+    ensures refused { IfErr result
+        (IsUnplayed (S.facts store.now) (IsTaskOf (S.facts store.now) request.entry)) }
 {
     let tables = tables_of(alloc, store, request.setup.chip)?;
     let (mut content, _place, len) = store.open(request.content, FileName::Content)?;
@@ -121,8 +127,10 @@ fn play_job<S: FileStore, P: ByteOut>(
     requires mode { IsPossible job.meaning expected.start }
     requires progress { P.count progress.old < 2 ^ 64 - 1 }
     ensures { MatchResult result
-        (Ends ((S.facts store.now).device device.now) limit (expectation_of expected.entry) job.meaning job.content.items job.steps.items)
-        (StopsPlay (S.facts store.now).lacked ((S.facts store.now).device device.now) job.meaning expected.entry.start job.content.items job.steps.items) }
+        (Ends ((S.facts store.now).device device.now) limit (expectation_of expected.entry)
+        job.meaning job.content.items job.steps.items)
+        (StopsPlay (S.facts store.now).lacked ((S.facts store.now).device device.now) job.meaning
+        expected.entry.start job.content.items job.steps.items) }
 {
     let Job {
         meaning,
@@ -164,12 +172,15 @@ fn play_known<S: FileStore, P: ByteOut>(
     requires size { length content.items ≡ meaning.now.size }
     requires mode { IsPossible meaning.now expected.start }
     requires may { MayPlay (chip_with meaning.now expected.start content.items) steps.now }
-    requires counted { transactions ≡ length (trail (chip_with meaning.now expected.start content.items).setting
+    requires counted { transactions
+        ≡ length (trail (chip_with meaning.now expected.start content.items).setting
         (chip_with meaning.now expected.start content.items).chip steps.now) }
     requires progress { P.count progress.old < 2 ^ 64 - 1 }
     ensures { MatchResult result
-        (EndsOnDevice ((S.facts store.now).device device.now) limit (expectation_of expected.entry) meaning.now content.items steps.now)
-        (StopsPlay (S.facts store.now).lacked ((S.facts store.now).device device.now) meaning.now expected.entry.start content.items steps.now) }
+        (EndsOnDevice ((S.facts store.now).device device.now) limit (expectation_of expected.entry)
+        meaning.now content.items steps.now)
+        (StopsPlay (S.facts store.now).lacked ((S.facts store.now).device device.now) meaning.now
+        expected.entry.start content.items steps.now) }
 {
     let (from, to) = open_port(alloc, store, device)?;
     let chip = Chip::new(meaning, expected.start, content, Vec::new(alloc), false);

@@ -13,11 +13,13 @@ use nor_cells::next_piece;
 use nor_probe::Mismatch;
 use nor_serprog::Limits;
 
-/// Has the device read the marked cells of its chip, from the lowest on, as many bytes at once as it can give, lie side by side and
-/// lie on one side of 2^24, and compares them with a content, the byte of address 0 the first. It takes no memory.
+/// Has the device read the marked cells of its chip, from the lowest on, as many bytes at once as
+/// it can give, lie side by side and lie on one side of 2^24, and compares them with a content, the
+/// byte of address 0 the first. It takes no memory.
 ///
-/// At Ok the device gave just these bytes. Else the read of a piece ended so: `Exchange` early, or `Differs` with the lowest address
-/// of it whose byte is another; then its answer was taken whole, and four-byte mode left where it was entered.
+/// At Ok the device gave just these bytes. Else the read of a piece ended so: `Exchange` early, or
+/// `Differs` with the lowest address of it whose byte is another; then its answer was taken whole,
+/// and four-byte mode left where it was entered.
 pub(crate) fn compare<R: ByteIn, W: ByteOut>(
     from: &mut R,
     to: &mut W,
@@ -31,8 +33,10 @@ pub(crate) fn compare<R: ByteIn, W: ByteOut>(
     requires reader { R.count from.old < 2 ^ 64 - 1 }
     requires writer { W.count to.old < 2 ^ 64 - 1 }
     ensures compared { MatchResult result
-        (λ _. HasCompared (W.held to.old) (W.held to.new) (R.ahead from.old) (R.ahead from.new) access content.now (IsMarked marks.now))
-        (StopsComparing (W.held to.old) (W.held to.new) (R.ahead from.old) (R.ahead from.new) access content.now (IsMarked marks.now)) }
+        (λ _. HasCompared (W.held to.old) (W.held to.new) (R.ahead from.old) (R.ahead from.new)
+        access content.now (IsMarked marks.now))
+        (StopsComparing (W.held to.old) (W.held to.new) (R.ahead from.old) (R.ahead from.new) access
+        content.now (IsMarked marks.now)) }
     ensures reads { CountsMismatch Read (R.count from.old) (R.count from.new) result }
     ensures writes { CountsMismatch Write (W.count to.old) (W.count to.new) result }
 {

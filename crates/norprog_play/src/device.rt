@@ -1,6 +1,7 @@
 //! A script on a device.
 
-ghost use Rattle.std.specs.Prelude.{◌≡◌, ◌≤◌, ◌<◌, ◌+◌, ◌-◌, ◌*◌, ◌^◌, ◌⊎◌, [], None, false, length, All, MatchResult};
+ghost use Rattle.std.specs.Prelude.{◌≡◌, ◌≤◌, ◌<◌, ◌+◌, ◌-◌, ◌*◌, ◌^◌, ◌⊎◌, [], None, false};
+ghost use Rattle.std.specs.Prelude.{length, All, MatchResult};
 ghost use Rattle.nor_base.specs.Chip.{chip_of};
 ghost use Rattle.nor_base.specs.Run.{trail};
 ghost use Rattle.nor_base.specs.Sample.{sampled_count};
@@ -29,24 +30,28 @@ use nor_serprog::Shadowed;
 use std::alloc::{AllocError, Global};
 use std::io::{Read, Write};
 
-/// Plays steps on a device, after its handshake, beside a ready chip in memory that is never busy, on which they go well in so
-/// many transactions ([`ends_early`](crate::ends_early) says).
+/// Plays steps on a device, after its handshake, beside a ready chip in memory that is never busy,
+/// on which they go well in so many transactions ([`ends_early`](crate::ends_early) says).
 ///
-/// First each is looked at: `Failed` for `Carried` with the first whose clocks are no operation of the device. Then, unless the
-/// chip behind the device is trusted, it is asked for its status until it is idle, at most as often as the port has turns, and its
-/// SFDP bytes are compared with those that it has to have: `Unlike` where it stays busy, where its status shows that it can't take
-/// the steps, or where a byte is another. Then the device reads the cells that [`compared_cells`] marks: `Unlike` where a byte is
-/// another, or where the reading stops. It reads by 03h with the address bytes of the chip's first mode, so a chip in the other mode gives other bytes; past
-/// 2^24 in three-byte mode it reads by 13h where the tables offer it, else in four-byte mode, which is entered before each read and
-/// left after it. Then the device is asked for one step after the other: `Failed` with the first that it didn't do
-/// as the chip in memory did, and why. Last, unless the chip is trusted, the same cells are read again, and those
-/// that [`mark_wraps`] marks for what the chip in memory holds then, and compared with that: `Failed` with the number of steps where a byte is another, or where the reading stops. `Done` where
-/// all that went well.
+/// First each is looked at: `Failed` for `Carried` with the first whose clocks are no operation of
+/// the device. Then, unless the chip behind the device is trusted, it is asked for its status until
+/// it is idle, at most as often as the port has turns, and its SFDP bytes are compared with those
+/// that it has to have: `Unlike` where it stays busy, where its status shows that it can't take the
+/// steps, or where a byte is another. Then the device reads the cells that [`compared_cells`]
+/// marks: `Unlike` where a byte is another, or where the reading stops. It reads by 03h with the
+/// address bytes of the chip's first mode, so a chip in the other mode gives other bytes; past 2^24
+/// in three-byte mode it reads by 13h where the tables offer it, else in four-byte mode, which is
+/// entered before each read and left after it. Then the device is asked for one step after the
+/// other: `Failed` with the first that it didn't do as the chip in memory did, and why. Last,
+/// unless the chip is trusted, the same cells are read again, and those that [`mark_wraps`] marks
+/// for what the chip in memory holds then, and compared with that: `Failed` with the number of
+/// steps where a byte is another, or where the reading stops. `Done` where all that went well.
 ///
-/// How many steps are done is written to `progress` after each hundred and at the end; where that fails nothing changes.
+/// How many steps are done is written to `progress` after each hundred and at the end; where that
+/// fails nothing changes.
 ///
-/// Memory is taken for the marks of the cells and for the most bytes that a step samples. Where a growth is refused the device was
-/// asked for nothing.
+/// Memory is taken for the marks of the cells and for the most bytes that a step samples. Where a
+/// growth is refused the device was asked for nothing.
 pub fn play_on_device<R: Read + Drop, W: Write + Drop, P: ByteOut>(
     alloc: Global,
     meaning: &Meaning,
@@ -58,15 +63,18 @@ pub fn play_on_device<R: Read + Drop, W: Write + Drop, P: ByteOut>(
 ) -> Result<Ending, AllocError>
     requires fresh { port.old.reason ≡ None }
     requires count { port.old.failed < 2 ^ 64 - 1 }
-    requires chip { port.old.chip ≡ ready_chip (chip_of meaning.now expected.start [] false) port.old.chip.chip.array }
+    requires chip { port.old.chip ≡ ready_chip (chip_of meaning.now expected.start [] false)
+        port.old.chip.chip.array }
     requires size { length port.old.chip.chip.array ≡ meaning.now.size }
     requires well { GoesWellInMemory port.old.chip steps.now }
-    requires counted { transactions ≡ length (trail port.old.chip.setting port.old.chip.chip steps.now) }
+    requires counted { transactions
+        ≡ length (trail port.old.chip.setting port.old.chip.chip steps.now) }
     requires told { P.count progress.old < 2 ^ 64 - 1 }
     ensures ends { MatchResult result
         (λ ending. EndsSo port.old.limits port.old.turns (expectation_of expected.entry) meaning.now
         (moment port.old.chip (W.contents port.old.to.inner) (R.remaining port.old.from.inner))
-        steps.now ending (moment port.new.chip (W.contents port.new.to.inner) (R.remaining port.new.from.inner)))
+        steps.now ending
+        (moment port.new.chip (W.contents port.new.to.inner) (R.remaining port.new.from.inner)))
         (λ _. port.new ≡ port.old) }
     ensures room { port.new.failed ≤ port.old.failed + 1 }
     ensures limits { port.new.limits ≡ port.old.limits }
@@ -95,7 +103,8 @@ pub fn play_on_device<R: Read + Drop, W: Write + Drop, P: ByteOut>(
     ))
 }
 
-/// Asks the chip behind the device, plays steps that go well in memory and that the device can do, and reads the chip again.
+/// Asks the chip behind the device, plays steps that go well in memory and that the device can do,
+/// and reads the chip again.
 fn play_compared<R: Read + Drop, W: Write + Drop, P: ByteOut>(
     meaning: &Meaning,
     expected: Expected<'_>,
@@ -112,15 +121,20 @@ fn play_compared<R: Read + Drop, W: Write + Drop, P: ByteOut>(
     requires count { port.old.failed < 2 ^ 64 - 1 }
     requires size { length port.old.chip.chip.array < 2 ^ 32 }
     requires marked { length port.old.chip.chip.array ≡ 256 * length cells.old }
-    requires may { MayBegin port.old.limits (moment port.old.chip (W.contents port.old.to.inner) (R.remaining port.old.from.inner)) steps.now }
-    requires counted { transactions ≡ length (trail port.old.chip.setting port.old.chip.chip steps.now) }
+    requires may { MayBegin port.old.limits
+        (moment port.old.chip (W.contents port.old.to.inner) (R.remaining port.old.from.inner))
+        steps.now }
+    requires counted { transactions
+        ≡ length (trail port.old.chip.setting port.old.chip.chip steps.now) }
     requires blank { SaysBlank (expectation_of expected) port.old.chip.chip.array blank }
     requires wide { All (λ step. sampled_count (step_clocks step) ≤ length room.old) steps.now }
     requires told { P.count progress.old < 2 ^ 64 - 1 }
-    ensures ends { EndsComparing port.old.limits port.old.turns (expectation_of expected.entry) meaning.now access (IsMarked cells.old)
+    ensures ends { EndsComparing port.old.limits port.old.turns (expectation_of expected.entry)
+        meaning.now access (IsMarked cells.old)
         (λ left a. IsMarked cells.old a ⊎ IsInCellOf (ShowsWrap left) a)
         (moment port.old.chip (W.contents port.old.to.inner) (R.remaining port.old.from.inner))
-        steps.now result (moment port.new.chip (W.contents port.new.to.inner) (R.remaining port.new.from.inner)) }
+        steps.now result
+        (moment port.new.chip (W.contents port.new.to.inner) (R.remaining port.new.from.inner)) }
     ensures room { port.new.failed ≤ port.old.failed + 1 }
     ensures limits { port.new.limits ≡ port.old.limits }
 {

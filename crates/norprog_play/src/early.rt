@@ -40,9 +40,10 @@ pub enum Early {
     },
 }
 
-/// How steps end whatever the device is: `Wrong` where a ready chip in memory that holds these bytes and is never busy goes wrong
-/// in them; else `No` where they don't do the same on every chip of the meaning and start that holds these bytes; else `Failed` for
-/// `Carried` with the first whose clocks are no operation of any device. `Goes` where none of these is so.
+/// How steps end whatever the device is: `Wrong` where a ready chip in memory that holds these
+/// bytes and is never busy goes wrong in them; else `No` where they don't do the same on every chip
+/// of the meaning and start that holds these bytes; else `Failed` for `Carried` with the first
+/// whose clocks are no operation of any device. `Goes` where none of these is so.
 ///
 /// Memory is taken as by [`rehearse`].
 pub fn ends_early(

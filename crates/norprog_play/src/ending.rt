@@ -12,7 +12,8 @@ pub enum Ending {
     Done {
         /// Transactions of the chip in memory, one for each step.
         transactions: u128,
-        /// The chip isn't trusted and its content is FFh alone, so what was compared says nothing of which chip it is.
+        /// The chip isn't trusted and its content is FFh alone, so what was compared says nothing
+        /// of which chip it is.
         blank: bool,
     },
     /// The chip in memory goes wrong: the device was asked for nothing.
@@ -22,22 +23,24 @@ pub enum Ending {
         /// How it goes wrong.
         why: Wrong,
     },
-    /// On some chip of the meaning and start the steps don't do what they did on the chip in memory, and on none do they go wrong
-    /// earlier: the device was asked for nothing.
+    /// On some chip of the meaning and start the steps don't do what they did on the chip in
+    /// memory, and on none do they go wrong earlier: the device was asked for nothing.
     No {
         /// The step, counted from 0; the number of steps where it goes wrong at the end.
         step: u64,
         /// How it goes wrong there.
         why: Why,
     },
-    /// The chip behind the device isn't known to be the one that is expected, idle and unprotected: no step was asked for.
+    /// The chip behind the device isn't known to be the one that is expected, idle and unprotected:
+    /// no step was asked for.
     Unlike {
         /// Why.
         why: Unlike,
     },
     /// The device didn't do this step.
     Failed {
-        /// The step, counted from 0; the number of steps where the chip isn't known to hold what they leave.
+        /// The step, counted from 0; the number of steps where the chip isn't known to hold what
+        /// they leave.
         step: u64,
         /// Why: at `Carried` the device was asked for nothing.
         why: Failure,

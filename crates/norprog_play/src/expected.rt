@@ -17,7 +17,8 @@ pub struct Expected<'a> {
     pub part: Part,
     /// How it begins.
     pub start: Start,
-    /// The SFDP bytes that it has to have, from address 0 on; none where it is only known by its size.
+    /// The SFDP bytes that it has to have, from address 0 on; none where it is only known by its
+    /// size.
     pub tables: &'a [u8],
     /// Nothing is asked of it before the steps, and nothing is read back after them.
     pub trusted: bool,

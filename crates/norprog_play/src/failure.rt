@@ -24,7 +24,8 @@ pub(crate) fn failure_of(meaning: &Meaning, clocks: &[u8], want: &[u8], why: Rea
 
 /// How a byte that came at a place of a step's answer is another.
 fn other_byte(meaning: &Meaning, clocks: &[u8], want: &[u8], place: u32, chip: u8) -> Failure
-    ensures { result ≡ other_byte (read_address meaning.now clocks.now) place chip (get_or want.now place 0) }
+    ensures { result ≡ other_byte (read_address meaning.now clocks.now) place chip
+        (get_or want.now place 0) }
 {
     let want = byte_at(want, place);
     match read_address(meaning, clocks) {

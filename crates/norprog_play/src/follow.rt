@@ -1,6 +1,7 @@
 //! Steps done by a device, beside a chip in memory.
 
-ghost use Rattle.std.specs.Prelude.{◌≡◌, ◌≤◌, ◌<◌, ◌+◌, ◌-◌, ◌^◌, None, Ok, get_or, length, take, All, MatchResult, IfOk, IfErr};
+ghost use Rattle.std.specs.Prelude.{◌≡◌, ◌≤◌, ◌<◌, ◌+◌, ◌-◌, ◌^◌, None, Ok, get_or, length, take};
+ghost use Rattle.std.specs.Prelude.{All, MatchResult, IfOk, IfErr};
 ghost use Rattle.nor_base.specs.Chip.{Chip as ShownChip};
 ghost use Rattle.nor_base.specs.Run.{played};
 ghost use Rattle.nor_base.specs.Sample.{sampled_count};
@@ -28,8 +29,8 @@ pub(crate) struct Halt {
     pub(crate) why: Failure,
 }
 
-/// Has the device do steps that go well on the chip in memory, none of which samples more bytes than there is room. Those of a row go
-/// to the device at once.
+/// Has the device do steps that go well on the chip in memory, none of which samples more bytes
+/// than there is room. Those of a row go to the device at once.
 ///
 /// How far it has come is told to `progress`; where that fails nothing changes.
 pub(crate) fn follow_steps<R: Read + Drop, W: Write + Drop, P: ByteOut>(
@@ -42,18 +43,24 @@ pub(crate) fn follow_steps<R: Read + Drop, W: Write + Drop, P: ByteOut>(
     requires fresh { port.old.reason ≡ None }
     requires count { port.old.failed < 2 ^ 64 - 1 }
     requires wide { All (λ step. sampled_count (step_clocks step) ≤ length room.old) steps.now }
-    requires goes { (chip : ShownChip) × (played port.old.chip.setting 1 port.old.chip.chip steps.now ≡ Ok chip) }
+    requires goes { (chip : ShownChip)
+        × (played port.old.chip.setting 1 port.old.chip.chip steps.now ≡ Ok chip) }
     requires carried { AreCarried port.old.limits steps.now }
     requires told { P.count progress.old < 2 ^ 64 - 1 }
-    ensures chip { IfOk result (λ _. played port.old.chip.setting 1 port.old.chip.chip steps.now ≡ Ok port.new.chip.chip) }
+    ensures chip { IfOk result (λ _. played port.old.chip.setting 1 port.old.chip.chip steps.now
+        ≡ Ok port.new.chip.chip) }
     ensures count { IfOk result (λ _. port.new.failed ≡ port.old.failed) }
     ensures room { port.new.failed ≤ port.old.failed + 1 }
     ensures limits { port.new.limits ≡ port.old.limits }
     ensures done { MatchResult result
-        (λ _. DoesAll port.old.limits port.old.turns (moment port.old.chip (W.contents port.old.to.inner) (R.remaining port.old.from.inner))
-        steps.now (moment port.new.chip (W.contents port.new.to.inner) (R.remaining port.new.from.inner)))
-        (λ halt. StopsAt meaning.now port.old.limits port.old.turns (moment port.old.chip (W.contents port.old.to.inner) (R.remaining port.old.from.inner))
-        steps.now halt.step halt.why (moment port.new.chip (W.contents port.new.to.inner) (R.remaining port.new.from.inner))) }
+        (λ _. DoesAll port.old.limits port.old.turns
+        (moment port.old.chip (W.contents port.old.to.inner) (R.remaining port.old.from.inner))
+        steps.now
+        (moment port.new.chip (W.contents port.new.to.inner) (R.remaining port.new.from.inner)))
+        (λ halt. StopsAt meaning.now port.old.limits port.old.turns
+        (moment port.old.chip (W.contents port.old.to.inner) (R.remaining port.old.from.inner))
+        steps.now halt.step halt.why
+        (moment port.new.chip (W.contents port.new.to.inner) (R.remaining port.new.from.inner))) }
 {
     let mut far = Progress::of(steps);
     let mut done = 0;
@@ -98,12 +105,18 @@ fn follow_row<R: Read + Drop, W: Write + Drop>(
     requires fresh { port.old.reason ≡ None }
     requires failures { port.old.failed < 2 ^ 64 - 1 }
     requires wide { All (λ step. sampled_count (step_clocks step) ≤ length room.old) steps.now }
-    requires goes { (chip : ShownChip) × (played port.old.chip.setting 1 port.old.chip.chip steps.now ≡ Ok chip) }
+    requires goes { (chip : ShownChip)
+        × (played port.old.chip.setting 1 port.old.chip.chip steps.now ≡ Ok chip) }
     ensures done { MatchResult result
-        (λ _. DoesAll port.old.limits port.old.turns (moment port.old.chip (W.contents port.old.to.inner) (R.remaining port.old.from.inner))
-        (take count steps.now) (moment port.new.chip (W.contents port.new.to.inner) (R.remaining port.new.from.inner)))
-        (λ halt. StopsAt meaning.now port.old.limits port.old.turns (moment port.old.chip (W.contents port.old.to.inner) (R.remaining port.old.from.inner))
-        (take count steps.now) halt.step halt.why (moment port.new.chip (W.contents port.new.to.inner) (R.remaining port.new.from.inner))) }
+        (λ _. DoesAll port.old.limits port.old.turns
+        (moment port.old.chip (W.contents port.old.to.inner) (R.remaining port.old.from.inner))
+        (take count steps.now)
+        (moment port.new.chip (W.contents port.new.to.inner) (R.remaining port.new.from.inner)))
+        (λ halt. StopsAt meaning.now port.old.limits port.old.turns
+        (moment port.old.chip (W.contents port.old.to.inner) (R.remaining port.old.from.inner))
+        (take count steps.now) halt.step halt.why
+        (moment port.new.chip (W.contents port.new.to.inner)
+        (R.remaining port.new.from.inner))) }
     ensures room_left { port.new.failed ≤ port.old.failed + 1 }
     ensures fresh { IfOk result (λ _. port.new.reason ≡ None) }
     ensures count { IfOk result (λ _. port.new.failed ≡ port.old.failed) }
@@ -135,7 +148,8 @@ fn follow_row<R: Read + Drop, W: Write + Drop>(
 fn failed(meaning: &Meaning, row: &[Step], step: u64, why: Reason) -> Halt
     requires { step < length row.now }
     ensures step { result.step ≡ step }
-    ensures why { (x : Step) → x ≡ get_or row.now step x → FailsAs meaning.now (step_clocks x) (expected x) why result.why }
+    ensures why { (x : Step) → x ≡ get_or row.now step x
+        → FailsAs meaning.now (step_clocks x) (expected x) why result.why }
 {
     let at = &row[step as usize];
     let why = failure_of(meaning, at.clocks(), expected(at), why);
@@ -154,10 +168,15 @@ fn follow_step<R: Read + Drop, W: Write + Drop>(
     requires wide { sampled_count (step_clocks step.now) ≤ length room.old }
     requires taken { IsTaken port.old.chip (step_clocks step.now) }
     ensures done { MatchResult result
-        (λ _. Does port.old.limits port.old.turns (moment port.old.chip (W.contents port.old.to.inner) (R.remaining port.old.from.inner))
-        (step_clocks step.now) (moment port.new.chip (W.contents port.new.to.inner) (R.remaining port.new.from.inner)))
-        (λ failed. StopsAlone meaning.now port.old.limits port.old.turns (moment port.old.chip (W.contents port.old.to.inner) (R.remaining port.old.from.inner))
-        (step_clocks step.now) failed (moment port.new.chip (W.contents port.new.to.inner) (R.remaining port.new.from.inner))) }
+        (λ _. Does port.old.limits port.old.turns
+        (moment port.old.chip (W.contents port.old.to.inner) (R.remaining port.old.from.inner))
+        (step_clocks step.now)
+        (moment port.new.chip (W.contents port.new.to.inner) (R.remaining port.new.from.inner)))
+        (λ failed. StopsAlone meaning.now port.old.limits port.old.turns
+        (moment port.old.chip (W.contents port.old.to.inner) (R.remaining port.old.from.inner))
+        (step_clocks step.now) failed
+        (moment port.new.chip (W.contents port.new.to.inner)
+        (R.remaining port.new.from.inner))) }
     ensures room_left { port.new.failed ≤ port.old.failed + 1 }
     ensures fresh { IfOk result (λ _. port.new.reason ≡ None) }
     ensures count { IfOk result (λ _. port.new.failed ≡ port.old.failed) }

@@ -1,6 +1,7 @@
 //! A script on a device, from its handshake on.
 
-ghost use Rattle.std.specs.Prelude.{◌≡◌, ◌<◌, ◌≤◌, ◌+◌, ◌-◌, ◌^◌, [], None, Ok, Err, false, length, IfOk, MatchResult};
+ghost use Rattle.std.specs.Prelude.{◌≡◌, ◌<◌, ◌≤◌, ◌+◌, ◌-◌, ◌^◌, [], None, Ok, Err, false, length};
+ghost use Rattle.std.specs.Prelude.{IfOk, MatchResult};
 ghost use Rattle.nor_base.specs.Chip.{chip_of};
 ghost use Rattle.nor_base.specs.Device.{ahead_of};
 ghost use Rattle.nor_base.specs.Run.{trail};
@@ -23,11 +24,12 @@ use norprog_device::DeviceFault;
 use std::alloc::Global;
 use std::io::{Read, Write};
 
-/// Begins with a device, and plays steps on it that go well on the chip in memory in so many transactions, as [`play_on_device`]
-/// does, by the limits that the device tells.
+/// Begins with a device, and plays steps on it that go well on the chip in memory in so many
+/// transactions, as [`play_on_device`] does, by the limits that the device tells.
 ///
-/// `Device` where the handshake or the test of the line ends early, and why: nothing was sent to the chip but what it ignores, and the
-/// port isn't to be used any more. `Refused` for `Memory` where a growth is refused: then nothing else was done.
+/// `Device` where the handshake or the test of the line ends early, and why: nothing was sent to
+/// the chip but what it ignores, and the port isn't to be used any more. `Refused` for `Memory`
+/// where a growth is refused: then nothing else was done.
 pub fn greet_and_play<R: Read + Drop, W: Write + Drop, P: ByteOut>(
     alloc: Global,
     meaning: &Meaning,
@@ -39,17 +41,23 @@ pub fn greet_and_play<R: Read + Drop, W: Write + Drop, P: ByteOut>(
 ) -> Result<Ending, Unplayed>
     requires fresh { port.old.reason ≡ None }
     requires count { port.old.failed < 2 ^ 64 - 1 }
-    requires chip { port.old.chip ≡ ready_chip (chip_of meaning.now expected.start [] false) port.old.chip.chip.array }
+    requires chip { port.old.chip ≡ ready_chip (chip_of meaning.now expected.start [] false)
+        port.old.chip.chip.array }
     requires size { length port.old.chip.chip.array ≡ meaning.now.size }
     requires well { GoesWellInMemory port.old.chip steps.now }
-    requires counted { transactions ≡ length (trail port.old.chip.setting port.old.chip.chip steps.now) }
+    requires counted { transactions
+        ≡ length (trail port.old.chip.setting port.old.chip.chip steps.now) }
     requires told { P.count progress.old < 2 ^ 64 - 1 }
     ensures ends { MatchResult result
-        (λ ending. HasPlayed port.new.limits port.old.turns (expectation_of expected.entry) meaning.now
+        (λ ending. HasPlayed port.new.limits port.old.turns (expectation_of expected.entry)
+        meaning.now
         (moment port.old.chip (W.contents port.old.to.inner) (R.remaining port.old.from.inner))
-        steps.now ending (moment port.new.chip (W.contents port.new.to.inner) (R.remaining port.new.from.inner)))
-        (λ why. StopsBefore (moment port.old.chip (W.contents port.old.to.inner) (R.remaining port.old.from.inner))
-        (moment port.new.chip (W.contents port.new.to.inner) (R.remaining port.new.from.inner)) why) }
+        steps.now ending
+        (moment port.new.chip (W.contents port.new.to.inner) (R.remaining port.new.from.inner)))
+        (λ why. StopsBefore (moment port.old.chip (W.contents port.old.to.inner)
+        (R.remaining port.old.from.inner))
+        (moment port.new.chip (W.contents port.new.to.inner) (R.remaining port.new.from.inner))
+        why) }
     ensures room { port.new.failed ≤ port.old.failed + 1 }
 {
     greet_and_test(port)?;
@@ -65,15 +73,18 @@ pub fn greet_and_play<R: Read + Drop, W: Write + Drop, P: ByteOut>(
     Ok(ending)
 }
 
-/// Begins with the device of a port, whose limits are then those that it reports, and tests the line to it.
+/// Begins with the device of a port, whose limits are then those that it reports, and tests the
+/// line to it.
 fn greet_and_test<R: Read + Drop, W: Write + Drop>(
     port: &mut Shadowed<'_, R, W>,
 ) -> Result<(), DeviceFault>
     requires count { port.old.failed < 2 ^ 64 - 1 }
     ensures opened { MatchResult result
-        (λ _. Opens (W.contents port.old.to.inner) (W.contents port.new.to.inner) (ahead_of (R.remaining port.old.from.inner))
+        (λ _. Opens (W.contents port.old.to.inner) (W.contents port.new.to.inner)
+        (ahead_of (R.remaining port.old.from.inner))
         (ahead_of (R.remaining port.new.from.inner)) (Ok port.new.limits))
-        (λ why. Opens (W.contents port.old.to.inner) (W.contents port.new.to.inner) (ahead_of (R.remaining port.old.from.inner))
+        (λ why. Opens (W.contents port.old.to.inner) (W.contents port.new.to.inner)
+        (ahead_of (R.remaining port.old.from.inner))
         (ahead_of (R.remaining port.new.from.inner)) (Err why)) }
     ensures chip { port.new.chip ≡ port.old.chip }
     ensures turns { port.new.turns ≡ port.old.turns }
@@ -91,9 +102,11 @@ fn greet_port<R: Read + Drop, W: Write + Drop>(
 ) -> Result<(), DeviceFault>
     requires count { port.old.failed < 2 ^ 64 - 1 }
     ensures greeted { MatchResult result
-        (λ _. Greeted (W.contents port.old.to.inner) (W.contents port.new.to.inner) (ahead_of (R.remaining port.old.from.inner))
+        (λ _. Greeted (W.contents port.old.to.inner) (W.contents port.new.to.inner)
+        (ahead_of (R.remaining port.old.from.inner))
         (ahead_of (R.remaining port.new.from.inner)) (Ok port.new.limits))
-        (λ why. Opens (W.contents port.old.to.inner) (W.contents port.new.to.inner) (ahead_of (R.remaining port.old.from.inner))
+        (λ why. Opens (W.contents port.old.to.inner) (W.contents port.new.to.inner)
+        (ahead_of (R.remaining port.old.from.inner))
         (ahead_of (R.remaining port.new.from.inner)) (Err why)) }
     ensures chip { port.new.chip ≡ port.old.chip }
     ensures turns { port.new.turns ≡ port.old.turns }
@@ -119,9 +132,11 @@ fn test_port<R: Read + Drop, W: Write + Drop>(
 ) -> Result<(), DeviceFault>
     requires count { port.old.failed < 2 ^ 64 - 1 }
     ensures tested { MatchResult result
-        (λ _. TestsLine (W.contents port.old.to.inner) (W.contents port.new.to.inner) (ahead_of (R.remaining port.old.from.inner))
+        (λ _. TestsLine (W.contents port.old.to.inner) (W.contents port.new.to.inner)
+        (ahead_of (R.remaining port.old.from.inner))
         (ahead_of (R.remaining port.new.from.inner)) (Ok tt) port.old.limits)
-        (FailsTest (W.contents port.old.to.inner) (W.contents port.new.to.inner) (ahead_of (R.remaining port.old.from.inner))
+        (FailsTest (W.contents port.old.to.inner) (W.contents port.new.to.inner)
+        (ahead_of (R.remaining port.old.from.inner))
         (ahead_of (R.remaining port.new.from.inner)) port.old.limits) }
     ensures chip { port.new.chip ≡ port.old.chip }
     ensures turns { port.new.turns ≡ port.old.turns }

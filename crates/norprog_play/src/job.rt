@@ -5,7 +5,8 @@ ghost use Rattle.nor_base.specs.Script.{IsScript};
 ghost use Rattle.nor_job.specs.Status.{start_of};
 ghost use Rattle.norprog_common.specs.Content.{CountsReader};
 ghost use Rattle.nor_script.specs.Stream.{HadText};
-ghost use Rattle.norprog_play.specs.Job.{IsSized, IsReady, RefusesSize, RefusesScript, RefusesJob, IsOfChip, IsEarly};
+ghost use Rattle.norprog_play.specs.Job.{IsSized, IsReady, RefusesSize, RefusesScript, RefusesJob};
+ghost use Rattle.norprog_play.specs.Job.{IsOfChip, IsEarly};
 
 use crate::script::read_steps;
 use nor_base::{ByteIn, Meaning, Start, Step};
@@ -24,16 +25,18 @@ pub struct Job {
     pub content: Vec<u8>,
 }
 
-/// What is to be played: the steps that a script spells, on the chip of the inputs. Except for contradictions the image, the
-/// layout's regions, the base and the verifying of the inputs have no part in it.
+/// What is to be played: the steps that a script spells, on the chip of the inputs. Except for
+/// contradictions the image, the layout's regions, the base and the verifying of the inputs have no
+/// part in it.
 ///
-/// `content` gives what the chip holds, `len` bytes from address 0 on; no more are read. Memory is taken for the steps and the
-/// content: the script's text is never held.
+/// `content` gives what the chip holds, `len` bytes from address 0 on; no more are read. Memory is
+/// taken for the steps and the content: the script's text is never held.
 ///
-/// The first fault is reported. Before anything is read: `Contradiction`, `Sfdp`, `Status`, `ModeImpossible`, and `ContentSize`
-/// where `len` isn't the chip's size. Before any content is: `Script` where the text is none, `File` of `Script` where its reader
-/// fails. Then `ContentShort` where the reader ends before `len` bytes, and `Read` where it fails. `Memory` comes where a growth
-/// is refused.
+/// The first fault is reported. Before anything is read: `Contradiction`, `Sfdp`, `Status`,
+/// `ModeImpossible`, and `ContentSize` where `len` isn't the chip's size. Before any content is:
+/// `Script` where the text is none, `File` of `Script` where its reader fails. Then `ContentShort`
+/// where the reader ends before `len` bytes, and `Read` where it fails. `Memory` comes where a
+/// growth is refused.
 pub fn job_of<A: ByteIn, R: ByteIn>(
     alloc: Global,
     inputs: &Inputs<'_>,
@@ -43,11 +46,14 @@ pub fn job_of<A: ByteIn, R: ByteIn>(
 ) -> Result<Job, Refusal>
     requires script { A.count script.old < 2 ^ 64 - 1 }
     requires content { R.count content.old < 2 ^ 64 - 1 }
-    ensures ready { IfOk result (λ job. (job.start ≡ start_of inputs.now) × IsReady inputs.now (A.ahead script.old) (A.ahead script.new) len
+    ensures ready { IfOk result (λ job. (job.start ≡ start_of inputs.now)
+        × IsReady inputs.now (A.ahead script.old) (A.ahead script.new) len
         (R.ahead content.old) (R.ahead content.new) job.meaning job.steps.items job.content.items) }
-    ensures refused { IfErr result (RefusesJob inputs.now (A.ahead script.old) (A.ahead script.new) len
+    ensures refused { IfErr result
+        (RefusesJob inputs.now (A.ahead script.old) (A.ahead script.new) len
         (R.ahead content.old) (R.ahead content.new)) }
-    ensures unread { IfErr result (λ why. (IsOfChip why → script.new ≡ script.old) × (IsEarly why → content.new ≡ content.old)) }
+    ensures unread { IfErr result (λ why. (IsOfChip why → script.new ≡ script.old)
+        × (IsEarly why → content.new ≡ content.old)) }
     ensures count { CountsReader (R.count content.old) (R.count content.new) result }
 {
     let (meaning, start) = sized_chip(inputs, len)?;
@@ -64,7 +70,9 @@ pub fn job_of<A: ByteIn, R: ByteIn>(
 /// The steps of a script: its fault, or `File` of `Script` where its reader fails.
 fn steps_of<A: ByteIn>(alloc: Global, script: &mut A) -> Result<Vec<Step>, Refusal>
     requires { A.count script.old < 2 ^ 64 - 1 }
-    ensures read { IfOk result (λ steps. HadText (A.ahead script.old) (A.ahead script.new) (λ text. IsScript text steps.items)) }
+    ensures read { IfOk result
+        (λ steps. HadText (A.ahead script.old) (A.ahead script.new)
+        (λ text. IsScript text steps.items)) }
     ensures refused { IfErr result (RefusesScript (A.ahead script.old) (A.ahead script.new)) }
 {
     match read_steps(alloc, script) {

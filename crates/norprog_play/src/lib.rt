@@ -1,13 +1,15 @@
-//! `norprog play`: plays a script on a device that speaks serprog, with a chip in memory beside it (docs/FORMATS.md, sections 9 and
-//! 14).
+//! `norprog play`: plays a script on a device that speaks serprog, with a chip in memory beside it
+//! (docs/FORMATS.md, sections 9 and 14).
 //!
-//! [`play`] does what the texts of a command line ask for. [`job_of`] reads what is to be played from the bytes of the inputs,
-//! [`ends_early`] plays it on the chip in memory, checks that every chip does the same, and tells how it ends whatever the device
-//! is, [`greet_and_play`] does the work from the handshake on, over any reader and writer.
+//! [`play`] does what the texts of a command line ask for. [`job_of`] reads what is to be played
+//! from the bytes of the inputs, [`ends_early`] plays it on the chip in memory, checks that every
+//! chip does the same, and tells how it ends whatever the device is, [`greet_and_play`] does the
+//! work from the handshake on, over any reader and writer.
 //!
-//! [`play_on_device`] does the work, after the handshake, of steps that went well on the chip in memory: none goes out before each
-//! is one operation of the device and, unless the chip behind the device is trusted, what they touch of that chip was read and is
-//! what the chip in memory holds. [`write_ending`] tells how it ended.
+//! [`play_on_device`] does the work, after the handshake, of steps that went well on the chip in
+//! memory: none goes out before each is one operation of the device and, unless the chip behind the
+//! device is trusted, what they touch of that chip was read and is what the chip in memory holds.
+//! [`write_ending`] tells how it ended.
 #![tactic(auto)]
 
 mod access;

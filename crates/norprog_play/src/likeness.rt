@@ -1,6 +1,7 @@
 //! Whether the chip behind a device is like the chip in memory.
 
-ghost use Rattle.std.specs.Prelude.{◌≡◌, ◌<◌, ◌≤◌, ◌+◌, ◌-◌, ◌*◌, ◌^◌, false, length, MatchResult, IfOk};
+ghost use Rattle.std.specs.Prelude.{◌≡◌, ◌<◌, ◌≤◌, ◌+◌, ◌-◌, ◌*◌, ◌^◌, false, length, MatchResult};
+ghost use Rattle.std.specs.Prelude.{IfOk};
 ghost use Rattle.nor_cells.specs.Marks.{IsMarked};
 ghost use Rattle.norprog_play.specs.Moment.{moment};
 ghost use Rattle.norprog_play.specs.Likeness.{Compares, IsLike, IsUnlike};
@@ -11,7 +12,8 @@ use nor_probe::Mismatch;
 use nor_serprog::{Reason, Shadowed};
 use std::io::{Read, Write};
 
-/// Compares the marked cells of the chip behind the device with the chip in memory, unless it is trusted.
+/// Compares the marked cells of the chip behind the device with the chip in memory, unless it is
+/// trusted.
 pub(crate) fn compare_unless_trusted<R: Read + Drop, W: Write + Drop>(
     port: &mut Shadowed<'_, R, W>,
     access: Access,
@@ -22,10 +24,13 @@ pub(crate) fn compare_unless_trusted<R: Read + Drop, W: Write + Drop>(
     requires cells { length port.old.chip.chip.array ≡ 256 * length marks.now }
     requires count { port.old.failed < 2 ^ 64 - 1 }
     ensures compared { MatchResult result
-        (λ _. Compares trusted access (IsMarked marks.now) (moment port.old.chip (W.contents port.old.to.inner) (R.remaining port.old.from.inner))
+        (λ _. Compares trusted access (IsMarked marks.now)
+        (moment port.old.chip (W.contents port.old.to.inner) (R.remaining port.old.from.inner))
         (moment port.new.chip (W.contents port.new.to.inner) (R.remaining port.new.from.inner)))
-        (λ why. (trusted ≡ false) × IsUnlike access (IsMarked marks.now) (moment port.old.chip (W.contents port.old.to.inner) (R.remaining port.old.from.inner))
-        (moment port.new.chip (W.contents port.new.to.inner) (R.remaining port.new.from.inner)) why) }
+        (λ why. (trusted ≡ false) × IsUnlike access (IsMarked marks.now)
+        (moment port.old.chip (W.contents port.old.to.inner) (R.remaining port.old.from.inner))
+        (moment port.new.chip (W.contents port.new.to.inner) (R.remaining port.new.from.inner))
+        why) }
     ensures chip { port.new.chip ≡ port.old.chip }
     ensures fresh { IfOk result (λ _. port.new.reason ≡ port.old.reason) }
     ensures count { IfOk result (λ _. port.new.failed ≡ port.old.failed) }
@@ -39,7 +44,8 @@ pub(crate) fn compare_unless_trusted<R: Read + Drop, W: Write + Drop>(
     compare_chip(port, access, marks)
 }
 
-/// Has the device read the marked cells of its chip, and compares them with the chip in memory. A port where that stops has failed.
+/// Has the device read the marked cells of its chip, and compares them with the chip in memory. A
+/// port where that stops has failed.
 pub(crate) fn compare_chip<R: Read + Drop, W: Write + Drop>(
     port: &mut Shadowed<'_, R, W>,
     access: Access,
@@ -49,10 +55,13 @@ pub(crate) fn compare_chip<R: Read + Drop, W: Write + Drop>(
     requires cells { length port.old.chip.chip.array ≡ 256 * length marks.now }
     requires count { port.old.failed < 2 ^ 64 - 1 }
     ensures compared { MatchResult result
-        (λ _. IsLike access (IsMarked marks.now) (moment port.old.chip (W.contents port.old.to.inner) (R.remaining port.old.from.inner))
+        (λ _. IsLike access (IsMarked marks.now)
+        (moment port.old.chip (W.contents port.old.to.inner) (R.remaining port.old.from.inner))
         (moment port.new.chip (W.contents port.new.to.inner) (R.remaining port.new.from.inner)))
-        (λ why. IsUnlike access (IsMarked marks.now) (moment port.old.chip (W.contents port.old.to.inner) (R.remaining port.old.from.inner))
-        (moment port.new.chip (W.contents port.new.to.inner) (R.remaining port.new.from.inner)) why) }
+        (λ why. IsUnlike access (IsMarked marks.now)
+        (moment port.old.chip (W.contents port.old.to.inner) (R.remaining port.old.from.inner))
+        (moment port.new.chip (W.contents port.new.to.inner) (R.remaining port.new.from.inner))
+        why) }
     ensures chip { port.new.chip ≡ port.old.chip }
     ensures fresh { IfOk result (λ _. port.new.reason ≡ port.old.reason) }
     ensures count { IfOk result (λ _. port.new.failed ≡ port.old.failed) }

@@ -3,7 +3,9 @@
 ghost use Rattle.std.specs.Prelude.{◌≡◌, ◌<◌, ◌-◌, ◌^◌};
 ghost use Rattle.nor_base.specs.Device.{Writes, Counts};
 ghost use Rattle.norprog_play.specs.declared.ending.Failure.TheVariants.{Differs, Gives};
-ghost use Rattle.norprog_play.specs.Line.{done_line, ending_line, failed_line, failure_line, exchange_line, mismatch_line, other_line, registers_line, status_line, unlike_line, wrong_line};
+ghost use Rattle.norprog_play.specs.Line.{done_line, ending_line, failed_line, failure_line};
+ghost use Rattle.norprog_play.specs.Line.{exchange_line, mismatch_line, other_line, registers_line};
+ghost use Rattle.norprog_play.specs.Line.{status_line, unlike_line, wrong_line};
 
 use crate::ending::{Ending, Failure, Unlike};
 use itoa::Buffer;
@@ -16,12 +18,14 @@ use norprog_check::write_verdict;
 use norprog_common::wrong_number;
 use norprog_device::word;
 
-/// Writes the line of an ending, closed by LF, with counts in decimal, addresses in eight and bytes in two lower-case hexadecimal
-/// digits: `ok N` with the number of transactions; `wrong N at K` with the wrong's number and the step; a check's line, `no at K` and
-/// why; `unlike WHY`; `failed at K WHY` (docs/FORMATS.md, section 14). A device that stays busy in a step is the wrong of a poll that
-/// never ends, 6. It takes no memory.
+/// Writes the line of an ending, closed by LF, with counts in decimal, addresses in eight and bytes
+/// in two lower-case hexadecimal digits: `ok N` with the number of transactions; `wrong N at K`
+/// with the wrong's number and the step; a check's line, `no at K` and why; `unlike WHY`; `failed
+/// at K WHY` (docs/FORMATS.md, section 14). A device that stays busy in a step is the wrong of a
+/// poll that never ends, 6. It takes no memory.
 ///
-/// At `Failed` a proper prefix was taken; it comes from the writer alone, whose count of failures rose by one.
+/// At `Failed` a proper prefix was taken; it comes from the writer alone, whose count of failures
+/// rose by one.
 pub fn write_ending<W: ByteOut>(ending: &Ending, writer: &mut W) -> Result<(), Failed>
     requires { W.count writer.old < 2 ^ 64 - 1 }
     ensures bytes { Writes (W.held writer.old) (W.held writer.new) result (ending_line ending.now) }
@@ -39,10 +43,12 @@ pub fn write_ending<W: ByteOut>(ending: &Ending, writer: &mut W) -> Result<(), F
     }
 }
 
-/// Writes `ok N`, and `blank` on a line before it where the content says nothing of which chip it is.
+/// Writes `ok N`, and `blank` on a line before it where the content says nothing of which chip it
+/// is.
 fn write_done<W: ByteOut>(transactions: u128, blank: bool, writer: &mut W) -> Result<(), Failed>
     requires { W.count writer.old < 2 ^ 64 - 1 }
-    ensures bytes { Writes (W.held writer.old) (W.held writer.new) result (done_line transactions blank) }
+    ensures bytes { Writes (W.held writer.old) (W.held writer.new) result
+        (done_line transactions blank) }
     ensures count { Counts (W.count writer.old) (W.count writer.new) result }
 {
     let mut count = Buffer::new();
@@ -54,8 +60,8 @@ fn write_done<W: ByteOut>(transactions: u128, blank: bool, writer: &mut W) -> Re
     }
 }
 
-/// Writes `unlike WHY`: `busy`, `status` and the status, `tables` or `differs` and the first byte that is another, or the word of an
-/// exchange.
+/// Writes `unlike WHY`: `busy`, `status` and the status, `tables` or `differs` and the first byte
+/// that is another, or the word of an exchange.
 fn write_unlike<W: ByteOut>(why: Unlike, writer: &mut W) -> Result<(), Failed>
     requires { W.count writer.old < 2 ^ 64 - 1 }
     ensures bytes { Writes (W.held writer.old) (W.held writer.new) result (unlike_line why) }
@@ -111,7 +117,8 @@ fn write_registers<W: ByteOut>(status: u32, writer: &mut W) -> Result<(), Failed
     )
 }
 
-/// Writes the first byte that is another, behind and between these texts, or `unlike` and the word of an exchange.
+/// Writes the first byte that is another, behind and between these texts, or `unlike` and the word
+/// of an exchange.
 fn write_mismatch<W: ByteOut>(
     front: &[u8],
     last: &[u8],
@@ -119,7 +126,8 @@ fn write_mismatch<W: ByteOut>(
     writer: &mut W,
 ) -> Result<(), Failed>
     requires { W.count writer.old < 2 ^ 64 - 1 }
-    ensures bytes { Writes (W.held writer.old) (W.held writer.new) result (mismatch_line front.now last.now why) }
+    ensures bytes { Writes (W.held writer.old) (W.held writer.new) result
+        (mismatch_line front.now last.now why) }
     ensures count { Counts (W.count writer.old) (W.count writer.new) result }
 {
     match why {
@@ -136,7 +144,8 @@ fn write_difference<W: ByteOut>(
     writer: &mut W,
 ) -> Result<(), Failed>
     requires { W.count writer.old < 2 ^ 64 - 1 }
-    ensures bytes { Writes (W.held writer.old) (W.held writer.new) result (other_line front.now last.now d) }
+    ensures bytes { Writes (W.held writer.old) (W.held writer.new) result
+        (other_line front.now last.now d) }
     ensures count { Counts (W.count writer.old) (W.count writer.new) result }
 {
     put_parts(
@@ -171,7 +180,8 @@ fn write_failure<W: ByteOut>(step: u64, why: Failure, writer: &mut W) -> Result<
 /// Writes `failed at K differs at AAAAAAAA chip HH want HH`.
 fn write_other<W: ByteOut>(step: u64, d: Difference, writer: &mut W) -> Result<(), Failed>
     requires { W.count writer.old < 2 ^ 64 - 1 }
-    ensures bytes { Writes (W.held writer.old) (W.held writer.new) result (failure_line step (Differs d)) }
+    ensures bytes { Writes (W.held writer.old) (W.held writer.new) result
+        (failure_line step (Differs d)) }
     ensures count { Counts (W.count writer.old) (W.count writer.new) result }
 {
     let mut place = Buffer::new();
@@ -194,7 +204,8 @@ fn write_other<W: ByteOut>(step: u64, d: Difference, writer: &mut W) -> Result<(
 /// Writes `failed at K differs chip HH want HH`.
 fn write_gives<W: ByteOut>(step: u64, chip: u8, want: u8, writer: &mut W) -> Result<(), Failed>
     requires { W.count writer.old < 2 ^ 64 - 1 }
-    ensures bytes { Writes (W.held writer.old) (W.held writer.new) result (failure_line step (Gives chip want)) }
+    ensures bytes { Writes (W.held writer.old) (W.held writer.new) result
+        (failure_line step (Gives chip want)) }
     ensures count { Counts (W.count writer.old) (W.count writer.new) result }
 {
     let mut place = Buffer::new();
@@ -235,7 +246,8 @@ fn write_wrong<W: ByteOut>(number: u8, step: u64, writer: &mut W) -> Result<(), 
 /// Writes `failed at K WHY`.
 fn write_failed<W: ByteOut>(step: u64, why: &[u8], writer: &mut W) -> Result<(), Failed>
     requires { W.count writer.old < 2 ^ 64 - 1 }
-    ensures bytes { Writes (W.held writer.old) (W.held writer.new) result (failed_line step why.now) }
+    ensures bytes { Writes (W.held writer.old) (W.held writer.new) result
+        (failed_line step why.now) }
     ensures count { Counts (W.count writer.old) (W.count writer.new) result }
 {
     let mut place = Buffer::new();

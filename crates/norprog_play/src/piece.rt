@@ -44,7 +44,8 @@ pub(crate) fn compare_piece<R: ByteIn, W: ByteOut>(
     requires end { address + length piece.now < 2 ^ 32 }
     requires reader { R.count from.old < 2 ^ 64 - 1 }
     requires writer { W.count to.old < 2 ^ 64 - 1 }
-    ensures read { ReadsRange (W.held to.old) (W.held to.new) (R.ahead from.old) (R.ahead from.new) result access address piece.now }
+    ensures read { ReadsRange (W.held to.old) (W.held to.new) (R.ahead from.old) (R.ahead from.new)
+        result access address piece.now }
     ensures reads { CountsMismatch Read (R.count from.old) (R.count from.new) result }
     ensures writes { CountsMismatch Write (W.count to.old) (W.count to.new) result }
 {
@@ -78,7 +79,8 @@ fn compare_far<R: ByteIn, W: ByteOut>(
     requires end { address + length piece.now < 2 ^ 32 }
     requires reader { R.count from.old < 2 ^ 64 - 1 }
     requires writer { W.count to.old < 2 ^ 64 - 1 }
-    ensures read { ReadsOps (W.held to.old) (W.held to.new) (R.ahead from.old) (R.ahead from.new) result (far_ops access address) address piece.now }
+    ensures read { ReadsOps (W.held to.old) (W.held to.new) (R.ahead from.old) (R.ahead from.new)
+        result (far_ops access address) address piece.now }
     ensures reads { CountsMismatch Read (R.count from.old) (R.count from.new) result }
     ensures writes { CountsMismatch Write (W.count to.old) (W.count to.new) result }
 {
@@ -105,7 +107,8 @@ fn compare_entered<R: ByteIn, W: ByteOut>(
     requires end { address + length piece.now < 2 ^ 32 }
     requires reader { R.count from.old < 2 ^ 64 - 1 }
     requires writer { W.count to.old < 2 ^ 64 - 1 }
-    ensures read { ReadsOps (W.held to.old) (W.held to.new) (R.ahead from.old) (R.ahead from.new) result
+    ensures read { ReadsOps (W.held to.old) (W.held to.new) (R.ahead from.old) (R.ahead from.new)
+        result
         (far_ops (Entered enter leave) address) address piece.now }
     ensures reads { CountsMismatch Read (R.count from.old) (R.count from.new) result }
     ensures writes { CountsMismatch Write (W.count to.old) (W.count to.new) result }
@@ -124,7 +127,8 @@ fn compare_entered<R: ByteIn, W: ByteOut>(
     }
 }
 
-/// Has the device send an opcode with four address bytes and take as many bytes as a piece has, which are to be these.
+/// Has the device send an opcode with four address bytes and take as many bytes as a piece has,
+/// which are to be these.
 fn read_four<R: ByteIn, W: ByteOut>(
     from: &mut R,
     to: &mut W,
@@ -136,7 +140,8 @@ fn read_four<R: ByteIn, W: ByteOut>(
     requires end { address + length piece.now < 2 ^ 32 }
     requires reader { R.count from.old < 2 ^ 64 - 1 }
     requires writer { W.count to.old < 2 ^ 64 - 1 }
-    ensures read { ReadsBy (W.held to.old) (W.held to.new) (R.ahead from.old) (R.ahead from.new) result
+    ensures read { ReadsBy (W.held to.old) (W.held to.new) (R.ahead from.old) (R.ahead from.new)
+        result
         (four_bytes opcode address) address piece.now }
     ensures reads { CountsMismatch Read (R.count from.old) (R.count from.new) result }
     ensures writes { CountsMismatch Write (W.count to.old) (W.count to.new) result }
@@ -151,7 +156,8 @@ fn read_four<R: ByteIn, W: ByteOut>(
     )
 }
 
-/// Has the device send an opcode with an address and take as many bytes as a piece has, which are to be these.
+/// Has the device send an opcode with an address and take as many bytes as a piece has, which are
+/// to be these.
 fn read_by<R: ByteIn, W: ByteOut>(
     from: &mut R,
     to: &mut W,
@@ -164,7 +170,8 @@ fn read_by<R: ByteIn, W: ByteOut>(
     requires end { address + length piece.now < 2 ^ 32 }
     requires reader { R.count from.old < 2 ^ 64 - 1 }
     requires writer { W.count to.old < 2 ^ 64 - 1 }
-    ensures read { ReadsBy (W.held to.old) (W.held to.new) (R.ahead from.old) (R.ahead from.new) result sent.now address piece.now }
+    ensures read { ReadsBy (W.held to.old) (W.held to.new) (R.ahead from.old) (R.ahead from.new)
+        result sent.now address piece.now }
     ensures reads { CountsMismatch Read (R.count from.old) (R.count from.new) result }
     ensures writes { CountsMismatch Write (W.count to.old) (W.count to.new) result }
 {
@@ -189,7 +196,8 @@ fn switch_mode<R: ByteIn, W: ByteOut>(
 ) -> Result<(), Fault>
     requires reader { R.count from.old < 2 ^ 64 - 1 }
     requires writer { W.count to.old < 2 ^ 64 - 1 }
-    ensures switches { Operates (W.held to.old) (W.held to.new) (R.ahead from.old) (R.ahead from.new) result (switch_ops switch opcode) }
+    ensures switches { Operates (W.held to.old) (W.held to.new) (R.ahead from.old)
+        (R.ahead from.new) result (switch_ops switch opcode) }
     ensures reads { CountsReads (R.count from.old) (R.count from.new) result }
     ensures writes { CountsWrites (W.count to.old) (W.count to.new) result }
 {
@@ -208,7 +216,8 @@ fn switch_mode<R: ByteIn, W: ByteOut>(
 fn send<R: ByteIn, W: ByteOut>(from: &mut R, to: &mut W, opcode: u8) -> Result<(), Fault>
     requires reader { R.count from.old < 2 ^ 64 - 1 }
     requires writer { W.count to.old < 2 ^ 64 - 1 }
-    ensures sends { Operates (W.held to.old) (W.held to.new) (R.ahead from.old) (R.ahead from.new) result (bare opcode ∷ []) }
+    ensures sends { Operates (W.held to.old) (W.held to.new) (R.ahead from.old) (R.ahead from.new)
+        result (bare opcode ∷ []) }
     ensures reads { CountsReads (R.count from.old) (R.count from.new) result }
     ensures writes { CountsWrites (W.count to.old) (W.count to.new) result }
 {

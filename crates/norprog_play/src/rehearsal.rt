@@ -13,7 +13,8 @@ use std::alloc::{AllocError, Global};
 /// How a script goes in memory.
 #[derive(Clone, Copy, Drop)]
 pub enum Rehearsal {
-    /// Nothing goes wrong on the chip in memory, which is settled at the end, and each chip ends with the same bytes.
+    /// Nothing goes wrong on the chip in memory, which is settled at the end, and each chip ends
+    /// with the same bytes.
     Well {
         /// Transactions, one for each step.
         transactions: u128,
@@ -25,7 +26,8 @@ pub enum Rehearsal {
         /// How it goes wrong.
         why: Wrong,
     },
-    /// Nothing goes wrong on the chip in memory, but on some chip it does, or that one ends with other bytes.
+    /// Nothing goes wrong on the chip in memory, but on some chip it does, or that one ends with
+    /// other bytes.
     No {
         /// The step, counted from 0; the number of steps where it goes wrong at the end.
         step: u64,
@@ -34,10 +36,12 @@ pub enum Rehearsal {
     },
 }
 
-/// Plays steps on a ready chip in memory that holds these bytes and is never busy: a poll is one status read. Where that goes
-/// well it checks that they do the same on every chip of the meaning and start that holds these bytes ([`nor_check::check`]).
+/// Plays steps on a ready chip in memory that holds these bytes and is never busy: a poll is one
+/// status read. Where that goes well it checks that they do the same on every chip of the meaning
+/// and start that holds these bytes ([`nor_check::check`]).
 ///
-/// Memory is taken for two more such contents; where a step tells chips of different pages apart, more.
+/// Memory is taken for two more such contents; where a step tells chips of different pages apart,
+/// more.
 pub fn rehearse(
     alloc: Global,
     meaning: &Meaning,

@@ -12,10 +12,13 @@ use std::alloc::Global;
 
 /// The steps of a script, which is read once and of which only the steps are held.
 ///
-/// Its first fault, as [`StepReader`] reports it; `Device` where the device failed; `Memory` where a growth is refused.
+/// Its first fault, as [`StepReader`] reports it; `Device` where the device failed; `Memory` where
+/// a growth is refused.
 pub(crate) fn read_steps<A: ByteIn>(alloc: Global, script: &mut A) -> Result<Vec<Step>, ReadFault>
     requires { A.count script.old < 2 ^ 64 - 1 }
-    ensures read { IfOk result (λ steps. HadText (A.ahead script.old) (A.ahead script.new) (λ text. IsScript text steps.items)) }
+    ensures read { IfOk result
+        (λ steps. HadText (A.ahead script.old) (A.ahead script.new)
+        (λ text. IsScript text steps.items)) }
     ensures stopped { IfErr result (StopsReader (A.ahead script.old) (A.ahead script.new)) }
     ensures count { CountsRead (A.count script.old) (A.count script.new) result }
 {

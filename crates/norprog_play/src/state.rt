@@ -6,7 +6,8 @@ ghost use Rattle.nor_base.specs.Device.{Writes, Counts};
 ghost use Rattle.nor_job.specs.declared.fault.BuildFault.TheVariants.{Write};
 ghost use Rattle.norprog_common.specs.declared.faults.Refusal.TheVariants.{Build};
 ghost use Rattle.norprog_common.specs.Lines.{printed};
-ghost use Rattle.norprog_play.specs.State.{is_partial, is_sent, state_told, status_of, ReportsEnding};
+ghost use Rattle.norprog_play.specs.State.{is_partial, is_sent, state_told, status_of};
+ghost use Rattle.norprog_play.specs.State.{ReportsEnding};
 
 use crate::ending::{Ending, Failure};
 use crate::line::write_ending;
@@ -15,16 +16,19 @@ use norprog_common::{Refusal, refuse};
 
 /// What is written where the chip may hold a part of what the steps do.
 const STATE: &[u8] =
-    b"norprog: the chip is half done. Don't build the old HEX again: what must be on the chip is what \
+    b"norprog: the chip is half done. Don't build the old HEX again: what must be on the chip is \
+        what \
     `norprog run --out want.bin` of this script leaves. See: norprog explain the chip may hold\n";
 
-/// Writes to `err` what to do with a chip that may hold a part of the work, where that is so, and then the line of an ending to
-/// `out`, or to `err` that it can't be written. Returns the status: 0 where all was done and printed, else 1. Where `err` fails a
-/// part of its text is lost, and nothing more is written there.
+/// Writes to `err` what to do with a chip that may hold a part of the work, where that is so, and
+/// then the line of an ending to `out`, or to `err` that it can't be written. Returns the status: 0
+/// where all was done and printed, else 1. Where `err` fails a part of its text is lost, and
+/// nothing more is written there.
 pub(crate) fn report_ending<O: ByteOut, E: ByteOut>(ending: &Ending, out: &mut O, err: &mut E) -> u8
     requires out { O.count out.old < 2 ^ 64 - 1 }
     requires err { E.count err.old < 2 ^ 64 - 1 }
-    ensures reported { ReportsEnding ending.now (O.held out.old) (O.held out.new) (err.new ≡ err.old)
+    ensures reported { ReportsEnding ending.now (O.held out.old) (O.held out.new)
+        (err.new ≡ err.old)
         (E.count err.new ≡ E.count err.old) (E.held err.old) (E.held err.new) result }
     ensures status { result ≤ 1 }
     ensures quiet { result ≡ 0 → err.new ≡ err.old }
@@ -36,11 +40,13 @@ pub(crate) fn report_ending<O: ByteOut, E: ByteOut>(ending: &Ending, out: &mut O
     }
 }
 
-/// Writes that the line of an ending can't be written, where what came before was. Returns the status, 1.
+/// Writes that the line of an ending can't be written, where what came before was. Returns the
+/// status, 1.
 fn refuse_line<E: ByteOut>(told: Result<(), Failed>, err: &mut E) -> u8
     requires { IfOk told (λ _. E.count err.old < 2 ^ 64 - 1) }
     ensures status { result ≡ 1 }
-    ensures told { IfOk told (λ _. E.count err.new ≡ E.count err.old → Appends (E.held err.old) (E.held err.new) (printed (Build Write))) }
+    ensures told { IfOk told (λ _. E.count err.new ≡ E.count err.old
+        → Appends (E.held err.old) (E.held err.new) (printed (Build Write))) }
     ensures lost { IfErr told (λ _. err.new ≡ err.old) }
 {
     match told {

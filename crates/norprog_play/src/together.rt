@@ -18,7 +18,8 @@ use nor_serprog::{Limits, is_doable, row_length};
 /// How many steps are looked at for a row; none of a device has more.
 const MOST: usize = 128;
 
-/// How many of the first steps go to a device at once: a row of steps that it does as a chip in memory that is never busy; else one.
+/// How many of the first steps go to a device at once: a row of steps that it does as a chip in
+/// memory that is never busy; else one.
 pub(crate) fn row_of(steps: &[Step], limits: &Limits) -> usize
     requires some { 0 < length steps.now }
     ensures some { 0 < result }
@@ -68,7 +69,8 @@ pub(crate) fn take_row(chip: &mut Chip<'_>, steps: &[Step], count: usize, room: 
     requires within { count ≤ length steps.now }
     requires plain { All IsPlain (take count steps.now) }
     requires wide { All (λ step. sampled_count (step_clocks step) ≤ length room.old) steps.now }
-    requires goes { (after : ShownChip) × (played chip.old.setting 1 chip.old.chip steps.now ≡ Ok after) }
+    requires goes { (after : ShownChip)
+        × (played chip.old.setting 1 chip.old.chip steps.now ≡ Ok after) }
     ensures taken { AreTaken chip.old (take count steps.now) chip.new }
     ensures room { length room.new ≡ length room.old }
 {

@@ -6,10 +6,11 @@ ghost use Rattle.norprog_play.specs.Carried.{AreCarried, IsFirstNotCarried};
 use nor_base::Step;
 use nor_serprog::{Limits, is_carried};
 
-/// Whether the clocks of each step are one operation of a device with these limits. At Err the first step whose clocks
-/// aren't, counted from 0.
+/// Whether the clocks of each step are one operation of a device with these limits. At Err the
+/// first step whose clocks aren't, counted from 0.
 pub fn carried(steps: &[Step], limits: &Limits) -> Result<(), u64>
-    ensures { MatchResult result (λ _. AreCarried limits.now steps.now) (IsFirstNotCarried limits.now steps.now) }
+    ensures { MatchResult result (λ _. AreCarried limits.now steps.now)
+        (IsFirstNotCarried limits.now steps.now) }
 {
     let mut number: u64 = 0;
     for step in steps {

@@ -7,7 +7,8 @@ use nor_base::{Meaning, Part};
 pub enum Known<'a> {
     /// Its own tables have it.
     Own,
-    /// Its own tables have it, and are to be as these bytes of a file, as far as their headers reach.
+    /// Its own tables have it, and are to be as these bytes of a file, as far as their headers
+    /// reach.
     Tables(&'a [u8]),
     /// Its size in bytes; it has no tables.
     Uniform(u32),

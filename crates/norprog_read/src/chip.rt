@@ -1,14 +1,18 @@
 //! What the chip behind a device says and holds.
 
-ghost use Rattle.std.specs.Prelude.{◌≡◌, ◌≢◌, ◌<◌, ◌≤◌, ◌+◌, ◌-◌, ◌^◌, ◌∷◌, [], true, false, Ok, length, take, IfOk, IfErr, MatchResult};
+ghost use Rattle.std.specs.Prelude.{◌≡◌, ◌≢◌, ◌<◌, ◌≤◌, ◌+◌, ◌-◌, ◌^◌, ◌∷◌, [], true, false, Ok};
+ghost use Rattle.std.specs.Prelude.{length, take, IfOk, IfErr, MatchResult};
 ghost use Rattle.nor_job.specs.Chip.{HasChip};
 ghost use Rattle.nor_job.specs.Status.{start_of};
 ghost use Rattle.nor_probe.specs.Status.{ReadsStatus};
 ghost use Rattle.nor_reader.specs.Harmless.{HasSentHarmless, SendsHarmless};
 ghost use Rattle.nor_reader.specs.Id.{Identifies};
 ghost use Rattle.nor_reader.specs.Tables.{HasReadTables};
-ghost use Rattle.norprog_read.specs.Chip.{is_otherwise, AreAlike, GivesContent, GivesTables, HasMeaning, HasReadChip, IsDriven, IsUndriven, both_go, chip_task};
-ghost use Rattle.norprog_read.specs.Stops.{DiffersFrom, RefusesFile, RefusesMeaning, StopsAsked, StopsChip, StopsContent, StopsId, StopsOwn, StopsStatus};
+ghost use Rattle.norprog_read.specs.Chip.{is_otherwise, AreAlike, GivesContent, GivesTables};
+ghost use Rattle.norprog_read.specs.Chip.{HasMeaning, HasReadChip, IsDriven, IsUndriven, both_go};
+ghost use Rattle.norprog_read.specs.Chip.{chip_task};
+ghost use Rattle.norprog_read.specs.Stops.{DiffersFrom, RefusesFile, RefusesMeaning, StopsAsked};
+ghost use Rattle.norprog_read.specs.Stops.{StopsChip, StopsContent, StopsId, StopsOwn, StopsStatus};
 
 use crate::asked::{Ask, Known, Reading};
 use crate::content::read_whole;
@@ -22,11 +26,12 @@ use nor_sfdp::SfdpFault;
 use norprog_common::{Refusal, known_chip};
 use std::alloc::Global;
 
-/// Has the chip behind a device say what it is, wait until it is idle, and give its tables and its content, each byte twice; at the end
-/// it has to say again what it is. Memory is taken for what is read.
+/// Has the chip behind a device say what it is, wait until it is idle, and give its tables and its
+/// content, each byte twice; at the end it has to say again what it is. Memory is taken for what is
+/// read.
 ///
-/// `Unlike` where it doesn't say or give what it has to, `Refused` where its tables, those of a file, or its size have no meaning, and for
-/// `Memory` where a growth is refused.
+/// `Unlike` where it doesn't say or give what it has to, `Refused` where its tables, those of a
+/// file, or its size have no meaning, and for `Memory` where a growth is refused.
 pub fn read_chip<R: ByteIn, W: ByteOut>(
     alloc: Global,
     from: &mut R,
@@ -36,9 +41,12 @@ pub fn read_chip<R: ByteIn, W: ByteOut>(
 ) -> Result<Reading, Unread>
     requires reader { R.count from.old < 2 ^ 64 - 1 }
     requires writer { W.count to.old < 2 ^ 64 - 1 }
-    ensures read { IfOk result (λ reading. HasReadChip (W.held to.old) (W.held to.new) (R.ahead from.old) (R.ahead from.new)
+    ensures read { IfOk result
+        (λ reading. HasReadChip (W.held to.old) (W.held to.new) (R.ahead from.old)
+        (R.ahead from.new)
         ask.now reading) }
-    ensures stops { IfErr result (StopsChip (W.held to.old) (W.held to.new) (R.ahead from.old) (R.ahead from.new) ask.now) }
+    ensures stops { IfErr result
+        (StopsChip (W.held to.old) (W.held to.new) (R.ahead from.old) (R.ahead from.new) ask.now) }
     ensures harmless { MatchResult result (λ _. HasSentHarmless (W.held to.old) (W.held to.new))
         (λ _. SendsHarmless (W.held to.old) (W.held to.new)) }
     ensures reads_room { R.count from.new ≤ R.count from.old + 1 }
@@ -57,9 +65,12 @@ fn ask_chip<R: ByteIn, W: ByteOut>(
 ) -> Result<Reading, Unread>
     requires reader { R.count from.old < 2 ^ 64 - 1 }
     requires writer { W.count to.old < 2 ^ 64 - 1 }
-    ensures read { IfOk result (λ reading. HasReadChip (W.held to.old) (W.held to.new) (R.ahead from.old) (R.ahead from.new)
+    ensures read { IfOk result
+        (λ reading. HasReadChip (W.held to.old) (W.held to.new) (R.ahead from.old)
+        (R.ahead from.new)
         ask.now reading) }
-    ensures stops { IfErr result (StopsChip (W.held to.old) (W.held to.new) (R.ahead from.old) (R.ahead from.new) ask.now) }
+    ensures stops { IfErr result
+        (StopsChip (W.held to.old) (W.held to.new) (R.ahead from.old) (R.ahead from.new) ask.now) }
     ensures reads_room { R.count from.new ≤ R.count from.old + 1 }
     ensures writes_room { W.count to.new ≤ W.count to.old + 1 }
 {
@@ -92,7 +103,8 @@ fn is_same(one: [u8; 3], other: [u8; 3]) -> bool
     one == other
 }
 
-/// Whether an identification is what a line gives that no chip drives: only clear bits, or only set ones.
+/// Whether an identification is what a line gives that no chip drives: only clear bits, or only set
+/// ones.
 fn is_undriven(id: [u8; 3]) -> bool
     ensures low { result ≡ false → id ≢ 0x00 ∷ 0x00 ∷ 0x00 ∷ [] }
     ensures high { result ≡ false → id ≢ 0xFF ∷ 0xFF ∷ 0xFF ∷ [] }
@@ -106,9 +118,12 @@ fn is_undriven(id: [u8; 3]) -> bool
 fn ask_id<R: ByteIn, W: ByteOut>(from: &mut R, to: &mut W) -> Result<[u8; 3], Unread>
     requires reader { R.count from.old < 2 ^ 64 - 1 }
     requires writer { W.count to.old < 2 ^ 64 - 1 }
-    ensures id { IfOk result (λ id. Identifies (W.held to.old) (W.held to.new) (R.ahead from.old) (R.ahead from.new) (Ok id)) }
+    ensures id { IfOk result
+        (λ id. Identifies (W.held to.old) (W.held to.new) (R.ahead from.old) (R.ahead from.new)
+        (Ok id)) }
     ensures driven { IfOk result IsDriven }
-    ensures stops { IfErr result (StopsId (W.held to.old) (W.held to.new) (R.ahead from.old) (R.ahead from.new)) }
+    ensures stops { IfErr result
+        (StopsId (W.held to.old) (W.held to.new) (R.ahead from.old) (R.ahead from.new)) }
     ensures reads { IfOk result (λ _. R.count from.new ≡ R.count from.old) }
     ensures writes { IfOk result (λ _. W.count to.new ≡ W.count to.old) }
     ensures reads_room { R.count from.new ≤ R.count from.old + 1 }
@@ -121,15 +136,20 @@ fn ask_id<R: ByteIn, W: ByteOut>(from: &mut R, to: &mut W) -> Result<[u8; 3], Un
     }
 }
 
-/// Its status, once it is idle. Of a part whose registers are known it has to be in the address mode that was said.
+/// Its status, once it is idle. Of a part whose registers are known it has to be in the address
+/// mode that was said.
 #[tactic(auto, using(crate::proofs::RoomLemmas::reason_read, crate::proofs::RoomLemmas::reason_write))]
 fn ask_status<R: ByteIn, W: ByteOut>(from: &mut R, to: &mut W, ask: &Ask<'_>) -> Result<u32, Unread>
     requires reader { R.count from.old < 2 ^ 64 - 1 }
     requires writer { W.count to.old < 2 ^ 64 - 1 }
-    ensures status { IfOk result (λ status. ReadsStatus ask.now.part (W.held to.old) (W.held to.new) (R.ahead from.old) (R.ahead from.new)
+    ensures status { IfOk result
+        (λ status. ReadsStatus ask.now.part (W.held to.old) (W.held to.new) (R.ahead from.old)
+        (R.ahead from.new)
         (Ok status) ask.now.turns) }
     ensures mode { IfOk result (λ status. is_otherwise ask.now.part ask.now.mode4 status ≡ false) }
-    ensures stops { IfErr result (StopsStatus (W.held to.old) (W.held to.new) (R.ahead from.old) (R.ahead from.new) ask.now) }
+    ensures stops { IfErr result
+        (StopsStatus (W.held to.old) (W.held to.new) (R.ahead from.old) (R.ahead from.new)
+        ask.now) }
     ensures reads { IfOk result (λ _. R.count from.new ≡ R.count from.old) }
     ensures writes { IfOk result (λ _. W.count to.new ≡ W.count to.old) }
     ensures reads_room { R.count from.new ≤ R.count from.old + 1 }
@@ -156,7 +176,8 @@ fn is_otherwise(part: Part, mode4: bool, status: u32) -> bool
     }
 }
 
-/// Its tables, which came twice alike and, as far as a file's are given, are the same; none of a chip of a size.
+/// Its tables, which came twice alike and, as far as a file's are given, are the same; none of a
+/// chip of a size.
 fn ask_tables<R: ByteIn, W: ByteOut>(
     alloc: Global,
     from: &mut R,
@@ -166,10 +187,13 @@ fn ask_tables<R: ByteIn, W: ByteOut>(
 ) -> Result<Vec<u8>, Unread>
     requires reader { R.count from.old < 2 ^ 64 - 1 }
     requires writer { W.count to.old < 2 ^ 64 - 1 }
-    ensures tables { IfOk result (λ tables. GivesTables (W.held to.old) (W.held to.new) (R.ahead from.old) (R.ahead from.new)
+    ensures tables { IfOk result
+        (λ tables. GivesTables (W.held to.old) (W.held to.new) (R.ahead from.old) (R.ahead from.new)
         ask.now.known tables.items) }
     ensures alike { IfOk result (λ tables. AreAlike ask.now.known tables.items) }
-    ensures stops { IfErr result (StopsAsked (W.held to.old) (W.held to.new) (R.ahead from.old) (R.ahead from.new) ask.now.known) }
+    ensures stops { IfErr result
+        (StopsAsked (W.held to.old) (W.held to.new) (R.ahead from.old) (R.ahead from.new)
+        ask.now.known) }
     ensures reads { IfOk result (λ _. R.count from.new ≡ R.count from.old) }
     ensures writes { IfOk result (λ _. W.count to.new ≡ W.count to.old) }
     ensures reads_room { R.count from.new ≤ R.count from.old + 1 }
@@ -196,9 +220,12 @@ fn own_tables<R: ByteIn, W: ByteOut>(
 ) -> Result<Vec<u8>, Unread>
     requires reader { R.count from.old < 2 ^ 64 - 1 }
     requires writer { W.count to.old < 2 ^ 64 - 1 }
-    ensures tables { IfOk result (λ tables. HasReadTables (W.held to.old) (W.held to.new) (R.ahead from.old) (R.ahead from.new)
+    ensures tables { IfOk result
+        (λ tables. HasReadTables (W.held to.old) (W.held to.new) (R.ahead from.old)
+        (R.ahead from.new)
         tables.items) }
-    ensures stops { IfErr result (StopsOwn (W.held to.old) (W.held to.new) (R.ahead from.old) (R.ahead from.new)) }
+    ensures stops { IfErr result
+        (StopsOwn (W.held to.old) (W.held to.new) (R.ahead from.old) (R.ahead from.new)) }
     ensures reads { IfOk result (λ _. R.count from.new ≡ R.count from.old) }
     ensures writes { IfOk result (λ _. W.count to.new ≡ W.count to.old) }
     ensures reads_room { R.count from.new ≤ R.count from.old + 1 }
@@ -222,7 +249,8 @@ fn own_tables<R: ByteIn, W: ByteOut>(
 /// Compares the bytes of the chip's tables with those of a file's, as far as both go.
 fn compare_file(chip: &[u8], file: &[u8]) -> Result<(), Unread>
     requires { length chip.now ≤ 2 ^ 24 }
-    ensures alike { IfOk result (λ _. take (both_go chip.now file.now) chip.now ≡ take (both_go chip.now file.now) file.now) }
+    ensures alike { IfOk result (λ _. take (both_go chip.now file.now) chip.now
+        ≡ take (both_go chip.now file.now) file.now) }
     ensures stops { IfErr result (DiffersFrom chip.now file.now) }
 {
     let len = chip.len().min(tables_reach(file));
@@ -294,9 +322,12 @@ fn ask_content<R: ByteIn, W: ByteOut>(
 ) -> Result<Vec<u8>, Unread>
     requires reader { R.count from.old < 2 ^ 64 - 1 }
     requires writer { W.count to.old < 2 ^ 64 - 1 }
-    ensures content { IfOk result (λ content. GivesContent (W.held to.old) (W.held to.new) (R.ahead from.old) (R.ahead from.new)
+    ensures content { IfOk result (λ content.
+        GivesContent (W.held to.old) (W.held to.new) (R.ahead from.old) (R.ahead from.new)
         meaning.now start wanted content.items) }
-    ensures stops { IfErr result (StopsContent (W.held to.old) (W.held to.new) (R.ahead from.old) (R.ahead from.new) meaning.now start) }
+    ensures stops { IfErr result
+        (StopsContent (W.held to.old) (W.held to.new) (R.ahead from.old) (R.ahead from.new)
+        meaning.now start) }
     ensures wanted { IfErr result (λ _. wanted ≡ true) }
     ensures reads { IfOk result (λ _. R.count from.new ≡ R.count from.old) }
     ensures writes { IfOk result (λ _. W.count to.new ≡ W.count to.old) }

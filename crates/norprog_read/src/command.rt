@@ -3,7 +3,8 @@
 ghost use Rattle.std.specs.Prelude.{◌≡◌, ◌≤◌, ◌<◌, ◌-◌, ◌^◌, true, option_map, IfOk, IfErr};
 ghost use Rattle.norprog_common.specs.Chip.{origin_of};
 ghost use Rattle.norprog_common.specs.Files.{TellsFile};
-ghost use Rattle.norprog_read.specs.Answer.{AnswersRead, AreSavedIf, IsKept, IsUnread, PrintsReading, Reports};
+ghost use Rattle.norprog_read.specs.Answer.{AnswersRead, AreSavedIf, IsKept, IsUnread};
+ghost use Rattle.norprog_read.specs.Answer.{PrintsReading, Reports};
 ghost use Rattle.norprog_read.specs.Line.{reading_text, unlike_line};
 ghost use Rattle.norprog_read.specs.Opened.{IsReadOn, IsUnreadOn};
 ghost use Rattle.norprog_read.specs.Request.{is_well_formed};
@@ -21,9 +22,10 @@ use norprog_common::{Chip, FileName, FileStore, ReadArgs, Refusal, refuse, table
 use norprog_device::{open_port, refuse_device};
 use std::alloc::Global;
 
-/// Does what the texts of a command line of `read` ask for: reads the chip behind the device that they name, makes the outputs that they
-/// name, where no files of these names are there, and writes its lines to `out`, or a refusal to `err` (docs/FORMATS.md, sections 9 and
-/// 14). Nothing is made before all came twice alike. It returns the status: 0 read, 1 not so or refused, 2 usage.
+/// Does what the texts of a command line of `read` ask for: reads the chip behind the device that
+/// they name, makes the outputs that they name, where no files of these names are there, and writes
+/// its lines to `out`, or a refusal to `err` (docs/FORMATS.md, sections 9 and 14). Nothing is made
+/// before all came twice alike. It returns the status: 0 read, 1 not so or refused, 2 usage.
 pub fn read<S: FileStore, O: ByteOut, E: ByteOut>(
     alloc: Global,
     store: &S,
@@ -35,8 +37,10 @@ pub fn read<S: FileStore, O: ByteOut, E: ByteOut>(
     requires err { E.count err.old < 2 ^ 64 - 1 }
     ensures status { result ≤ 2 }
     ensures quiet { result ≡ 0 → err.new ≡ err.old }
-    ensures done { result ≡ 0 → PrintsReading (S.facts store.now) given.entry (O.held out.old) (O.held out.new) }
-    ensures answer { AnswersRead (S.facts store.now) given.entry (O.held out.old) (O.held out.new) (err.new ≡ err.old)
+    ensures done { result ≡ 0 → PrintsReading (S.facts store.now) given.entry (O.held out.old)
+        (O.held out.new) }
+    ensures answer { AnswersRead (S.facts store.now) given.entry (O.held out.old) (O.held out.new)
+        (err.new ≡ err.old)
         (E.count err.new ≡ E.count err.old) (E.held err.old) (E.held err.new) result }
 {
     match read_texts(alloc, store, given) {
@@ -47,11 +51,13 @@ pub fn read<S: FileStore, O: ByteOut, E: ByteOut>(
     }
 }
 
-/// Writes the lines of a chip that was read, or that they can't be written, and returns the status: 0, or 1.
+/// Writes the lines of a chip that was read, or that they can't be written, and returns the status:
+/// 0, or 1.
 fn report_reading<O: ByteOut, E: ByteOut>(reading: &Reading, out: &mut O, err: &mut E) -> u8
     requires out { O.count out.old < 2 ^ 64 - 1 }
     requires err { E.count err.old < 2 ^ 64 - 1 }
-    ensures { Reports (reading_text reading.now) 0 (O.held out.old) (O.held out.new) (err.new ≡ err.old)
+    ensures { Reports (reading_text reading.now) 0 (O.held out.old) (O.held out.new)
+        (err.new ≡ err.old)
         (E.count err.new ≡ E.count err.old) (E.held err.old) (E.held err.new) result }
 {
     match write_reading(reading, out) {
@@ -60,7 +66,8 @@ fn report_reading<O: ByteOut, E: ByteOut>(reading: &Reading, out: &mut O, err: &
     }
 }
 
-/// Writes the line of a chip that isn't read, or that it can't be written, and returns the status, 1.
+/// Writes the line of a chip that isn't read, or that it can't be written, and returns the status,
+/// 1.
 fn report_unlike<O: ByteOut, E: ByteOut>(why: Unlike, out: &mut O, err: &mut E) -> u8
     requires out { O.count out.old < 2 ^ 64 - 1 }
     requires err { E.count err.old < 2 ^ 64 - 1 }
@@ -99,7 +106,8 @@ pub fn file_of<S: FileStore>(
     store: &S,
     chip: Option<Chip<'_>>,
 ) -> Result<Vec<u8>, Refusal>
-    ensures file { IfOk result (λ file. AreTablesIf (S.facts store.now) (option_map origin_of chip.entry) file.items) }
+    ensures file { IfOk result
+        (λ file. AreTablesIf (S.facts store.now) (option_map origin_of chip.entry) file.items) }
     ensures lacked { IfErr result (TellsFile (S.facts store.now).lacked) }
 {
     match chip {
@@ -116,7 +124,8 @@ fn read_device<S: FileStore>(
     ask: &Ask<'_>,
 ) -> Result<Reading, Unread>
     ensures read { IfOk result (IsReadOn ((S.facts store.now).device device.now) ask.now) }
-    ensures unread { IfErr result (IsUnreadOn (S.facts store.now).lacked ((S.facts store.now).device device.now) ask.now) }
+    ensures unread { IfErr result
+        (IsUnreadOn (S.facts store.now).lacked ((S.facts store.now).device device.now) ask.now) }
 {
     let (from, to) = open_port(alloc, store, device)?;
     let mut from = FromRead::new(from);
@@ -131,9 +140,11 @@ fn save_all<S: FileStore>(
     request: ReadRequest<'_>,
     reading: &Reading,
 ) -> Result<(), Refusal>
-    ensures tables { IfOk result (λ _. AreSavedIf (S.facts store.now) (option_map (λ t. t.now) request.entry.tables)
+    ensures tables { IfOk result
+        (λ _. AreSavedIf (S.facts store.now) (option_map (λ t. t.now) request.entry.tables)
         reading.now.tables.items) }
-    ensures content { IfOk result (λ _. AreSavedIf (S.facts store.now) (option_map (λ t. t.now) request.entry.out)
+    ensures content { IfOk result
+        (λ _. AreSavedIf (S.facts store.now) (option_map (λ t. t.now) request.entry.out)
         reading.now.content.items) }
     ensures fails { IfErr result (FailsToSave (S.facts store.now).lacked) }
 {

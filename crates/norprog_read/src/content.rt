@@ -5,7 +5,8 @@ ghost use Rattle.nor_base.specs.Instructions.{is_there};
 ghost use Rattle.nor_reader.specs.declared.by.ReadBy.TheVariants.{Entered};
 ghost use Rattle.norprog_read.specs.Content.{HoldsWhole};
 ghost use Rattle.norprog_read.specs.Stops.{StopsContent};
-ghost use Rattle.norprog_read.specs.Way.{first_by, has_both, is_near, is_readable, is_small, may_enter, second_by};
+ghost use Rattle.norprog_read.specs.Way.{first_by, has_both, is_near, is_readable, is_small};
+ghost use Rattle.norprog_read.specs.Way.{may_enter, second_by};
 
 use crate::fault::{Unlike, Unread};
 use nor_base::{ByteIn, ByteOut, Meaning, Start, Switch, Width};
@@ -17,12 +18,14 @@ use std::alloc::Global;
 /// What three address bytes reach.
 const REACH: u32 = 1 << 24;
 
-/// Reads the content of the chip behind a device twice, and returns it: in the mode that the chip is in where it can be, else in four-byte
-/// mode, which is entered and left. A chip that is larger than three address bytes reach, or could be in the other address mode, is read the
-/// second time by four address bytes, where it has a way to. Memory is taken for it.
+/// Reads the content of the chip behind a device twice, and returns it: in the mode that the chip
+/// is in where it can be, else in four-byte mode, which is entered and left. A chip that is larger
+/// than three address bytes reach, or could be in the other address mode, is read the second time
+/// by four address bytes, where it has a way to. Memory is taken for it.
 ///
-/// `Unlike` for `Unreadable` where the chip can't be read whole; for `At` where a byte came otherwise the second time; for `Asking` where
-/// an exchange ended early. `Refused` for `Memory` where a growth is refused.
+/// `Unlike` for `Unreadable` where the chip can't be read whole; for `At` where a byte came
+/// otherwise the second time; for `Asking` where an exchange ended early. `Refused` for `Memory`
+/// where a growth is refused.
 #[tactic(auto, using(crate::proofs::RoomLemmas::mismatch_read, crate::proofs::RoomLemmas::mismatch_write))]
 pub(crate) fn read_whole<R: ByteIn, W: ByteOut>(
     alloc: Global,
@@ -34,9 +37,12 @@ pub(crate) fn read_whole<R: ByteIn, W: ByteOut>(
 ) -> Result<Vec<u8>, Unread>
     requires reader { R.count from.old < 2 ^ 64 - 1 }
     requires writer { W.count to.old < 2 ^ 64 - 1 }
-    ensures whole { IfOk result (λ content. HoldsWhole (W.held to.old) (W.held to.new) (R.ahead from.old) (R.ahead from.new)
+    ensures whole { IfOk result
+        (λ content. HoldsWhole (W.held to.old) (W.held to.new) (R.ahead from.old) (R.ahead from.new)
         meaning.now start content.items) }
-    ensures stops { IfErr result (StopsContent (W.held to.old) (W.held to.new) (R.ahead from.old) (R.ahead from.new) meaning.now start) }
+    ensures stops { IfErr result
+        (StopsContent (W.held to.old) (W.held to.new) (R.ahead from.old) (R.ahead from.new)
+        meaning.now start) }
     ensures reads { IfOk result (λ _. R.count from.new ≡ R.count from.old) }
     ensures writes { IfOk result (λ _. W.count to.new ≡ W.count to.old) }
     ensures reads_room { R.count from.new ≤ R.count from.old + 1 }

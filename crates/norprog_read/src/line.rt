@@ -2,7 +2,8 @@
 
 ghost use Rattle.std.specs.Prelude.{◌≡◌, ◌<◌, ◌-◌, ◌^◌};
 ghost use Rattle.nor_base.specs.Device.{Counts, Writes};
-ghost use Rattle.norprog_read.specs.Line.{content_line, digits_line, reading_text, registers, status_line, tables_line, unlike_line};
+ghost use Rattle.norprog_read.specs.Line.{content_line, digits_line, reading_text, registers};
+ghost use Rattle.norprog_read.specs.Line.{status_line, tables_line, unlike_line};
 
 use crate::asked::Reading;
 use crate::fault::Unlike;
@@ -13,13 +14,16 @@ use nor_script::{hex_number, hex_pair};
 use norprog::sfdp_text;
 use norprog_device::word;
 
-/// Writes `id HHHHHH`, `status HH` (six digits where the part's registers are known), the lines of the meaning as
-/// [`sfdp_text`] does and, where the content was read, `read N twice alike`, N its bytes in decimal. It takes no memory.
+/// Writes `id HHHHHH`, `status HH` (six digits where the part's registers are known), the lines of
+/// the meaning as [`sfdp_text`] does and, where the content was read, `read N twice alike`, N its
+/// bytes in decimal. It takes no memory.
 ///
-/// At `Failed` a proper prefix was taken; it comes only from the writer, whose count of failures rose by one.
+/// At `Failed` a proper prefix was taken; it comes only from the writer, whose count of failures
+/// rose by one.
 pub fn write_reading<W: ByteOut>(reading: &Reading, writer: &mut W) -> Result<(), Failed>
     requires { W.count writer.old < 2 ^ 64 - 1 }
-    ensures bytes { Writes (W.held writer.old) (W.held writer.new) result (reading_text reading.now) }
+    ensures bytes { Writes (W.held writer.old) (W.held writer.new) result
+        (reading_text reading.now) }
     ensures count { Counts (W.count writer.old) (W.count writer.new) result }
 {
     let [maker, high, low] = reading.id;
@@ -32,7 +36,8 @@ pub fn write_reading<W: ByteOut>(reading: &Reading, writer: &mut W) -> Result<()
 /// Writes how many bytes came twice alike, where they were wanted.
 fn write_count<W: ByteOut>(wanted: bool, content: &[u8], writer: &mut W) -> Result<(), Failed>
     requires { W.count writer.old < 2 ^ 64 - 1 }
-    ensures bytes { Writes (W.held writer.old) (W.held writer.new) result (content_line wanted content.now) }
+    ensures bytes { Writes (W.held writer.old) (W.held writer.new) result
+        (content_line wanted content.now) }
     ensures count { Counts (W.count writer.old) (W.count writer.new) result }
 {
     if !wanted {
@@ -46,7 +51,8 @@ fn write_count<W: ByteOut>(wanted: bool, content: &[u8], writer: &mut W) -> Resu
 /// Writes `status` and its digits.
 fn write_status<W: ByteOut>(part: Part, status: u32, writer: &mut W) -> Result<(), Failed>
     requires { W.count writer.old < 2 ^ 64 - 1 }
-    ensures bytes { Writes (W.held writer.old) (W.held writer.new) result (status_line part status) }
+    ensures bytes { Writes (W.held writer.old) (W.held writer.new) result
+        (status_line part status) }
     ensures count { Counts (W.count writer.old) (W.count writer.new) result }
 {
     match part {
@@ -71,7 +77,8 @@ fn registers(status: u32) -> [u8; 3]
 /// Writes a text, three bytes in six digits, and LF.
 fn write_digits<W: ByteOut>(front: &[u8], bytes: &[u8; 3], writer: &mut W) -> Result<(), Failed>
     requires { W.count writer.old < 2 ^ 64 - 1 }
-    ensures bytes { Writes (W.held writer.old) (W.held writer.new) result (digits_line front.now bytes.now) }
+    ensures bytes { Writes (W.held writer.old) (W.held writer.new) result
+        (digits_line front.now bytes.now) }
     ensures count { Counts (W.count writer.old) (W.count writer.new) result }
 {
     let [one, two, three] = *bytes;
@@ -87,10 +94,12 @@ fn write_digits<W: ByteOut>(front: &[u8], bytes: &[u8; 3], writer: &mut W) -> Re
     )
 }
 
-/// Writes why the chip isn't read, in a line: `unlike busy`, `unlike WHY` of an exchange, `unlike status HHHHHH`, `unlike at AAAAAAAA`,
-/// `unlike tables at AAAAAAAA chip HH file HH`, `unlike id HHHHHH`, or `unreadable`.
+/// Writes why the chip isn't read, in a line: `unlike busy`, `unlike WHY` of an exchange, `unlike
+/// status HHHHHH`, `unlike at AAAAAAAA`, `unlike tables at AAAAAAAA chip HH file HH`, `unlike id
+/// HHHHHH`, or `unreadable`.
 ///
-/// At `Failed` a proper prefix was taken; it comes only from the writer, whose count of failures rose by one.
+/// At `Failed` a proper prefix was taken; it comes only from the writer, whose count of failures
+/// rose by one.
 pub fn write_unlike<W: ByteOut>(why: Unlike, writer: &mut W) -> Result<(), Failed>
     requires { W.count writer.old < 2 ^ 64 - 1 }
     ensures bytes { Writes (W.held writer.old) (W.held writer.new) result (unlike_line why) }

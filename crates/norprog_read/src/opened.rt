@@ -11,8 +11,9 @@ use nor_serprog::{Limits, greet, test_line};
 use norprog_device::{DeviceFault, let_go};
 use std::alloc::Global;
 
-/// Begins with a device, tests the line to it, and has its chip read, as [`read_chip`] does, by the limits that the device reports. At
-/// last it lets the chip's pins go, where it drives them, whatever happened; what it answers to that changes nothing.
+/// Begins with a device, tests the line to it, and has its chip read, as [`read_chip`] does, by the
+/// limits that the device reports. At last it lets the chip's pins go, where it drives them,
+/// whatever happened; what it answers to that changes nothing.
 ///
 /// `Device` where the handshake or the test of the line ended early.
 pub fn read_opened<R: ByteIn, W: ByteOut>(
@@ -23,9 +24,13 @@ pub fn read_opened<R: ByteIn, W: ByteOut>(
 ) -> Result<Reading, Unread>
     requires reader { R.count from.old < 2 ^ 64 - 2 }
     requires writer { W.count to.old < 2 ^ 64 - 2 }
-    ensures read { IfOk result (λ reading. HasReadOpened (W.held to.old) (W.held to.new) (R.ahead from.old) (R.ahead from.new)
+    ensures read { IfOk result
+        (λ reading. HasReadOpened (W.held to.old) (W.held to.new) (R.ahead from.old)
+        (R.ahead from.new)
         ask.now reading) }
-    ensures stops { IfErr result (StopsOpened (W.held to.old) (W.held to.new) (R.ahead from.old) (R.ahead from.new) ask.now) }
+    ensures stops { IfErr result
+        (StopsOpened (W.held to.old) (W.held to.new) (R.ahead from.old) (R.ahead from.new)
+        ask.now) }
 {
     let limits = match greet(from, to) {
         Ok(limits) => limits,
@@ -46,9 +51,13 @@ fn read_tested<R: ByteIn, W: ByteOut>(
 ) -> Result<Reading, Unread>
     requires reader { R.count from.old < 2 ^ 64 - 2 }
     requires writer { W.count to.old < 2 ^ 64 - 2 }
-    ensures read { IfOk result (λ reading. HasReadTested (W.held to.old) (W.held to.new) (R.ahead from.old) (R.ahead from.new)
+    ensures read { IfOk result
+        (λ reading. HasReadTested (W.held to.old) (W.held to.new) (R.ahead from.old)
+        (R.ahead from.new)
         limits.now ask.now reading) }
-    ensures stops { IfErr result (StopsTested (W.held to.old) (W.held to.new) (R.ahead from.old) (R.ahead from.new) limits.now ask.now) }
+    ensures stops { IfErr result
+        (StopsTested (W.held to.old) (W.held to.new) (R.ahead from.old) (R.ahead from.new)
+        limits.now ask.now) }
     ensures reads { R.count from.new ≤ R.count from.old + 1 }
     ensures writes { W.count to.new ≤ W.count to.old + 1 }
 {

@@ -2,7 +2,8 @@
 
 ghost use Rattle.std.specs.Prelude.{◌≡◌, is_some, option_map, IfSome};
 ghost use Rattle.norprog_common.specs.Chip.{origin_of};
-ghost use Rattle.norprog_read.specs.Request.{are_apart, are_same, is_well_formed, named_chip, AsksFor, IsAskOf};
+ghost use Rattle.norprog_read.specs.Request.{are_apart, are_same, is_well_formed, named_chip};
+ghost use Rattle.norprog_read.specs.Request.{AsksFor, IsAskOf};
 
 use crate::asked::{Ask, Known};
 use nor_base::Part;
@@ -25,8 +26,8 @@ pub struct ReadRequest<'a> {
     pub out: Option<&'a str>,
 }
 
-/// The request that the values spell. None where one isn't of its form, where no device is named, where tables are to be saved of a chip of
-/// a size, and where both outputs have one name.
+/// The request that the values spell. None where one isn't of its form, where no device is named,
+/// where tables are to be saved of a chip of a size, and where both outputs have one name.
 pub fn request_of<'a>(given: ReadArgs<'a>) -> Option<ReadRequest<'a>>
     ensures forms { is_some result ≡ is_well_formed given.entry }
     ensures values { IfSome result (λ request. AsksFor given.entry request) }
@@ -65,7 +66,8 @@ fn named_chip<'a>(given: ChipArgs<'a>) -> Option<Option<Chip<'a>>>
 
 /// Whether both are given, and are the same.
 fn are_same(one: Option<&str>, other: Option<&str>) -> bool
-    ensures { result ≡ are_same (option_map (λ t. t.now) one.entry) (option_map (λ t. t.now) other.entry) }
+    ensures { result ≡ are_same (option_map (λ t. t.now) one.entry)
+        (option_map (λ t. t.now) other.entry) }
 {
     match (one, other) {
         (Some(one), Some(other)) => one == other,

@@ -9,8 +9,8 @@ use std::alloc::Global;
 
 /// Makes a file where none of that name is there, and writes bytes to it and has them go out.
 ///
-/// `File` of `name` where there is one, or where it can't be made; `WRITE` where some of the bytes may not have gone out; `Memory` where
-/// a growth is refused.
+/// `File` of `name` where there is one, or where it can't be made; `WRITE` where some of the bytes
+/// may not have gone out; `Memory` where a growth is refused.
 pub fn save<S: FileStore>(
     alloc: Global,
     store: &S,

@@ -1,13 +1,16 @@
 //! `run`: from the texts of the command line to the line of a verdict.
 
-ghost use Rattle.std.specs.Prelude.{◌≡◌, ◌<◌, ◌≤◌, ◌-◌, ◌^◌, List, ℕ, Some, true, Option, IfOk, IfErr};
+ghost use Rattle.std.specs.Prelude.{◌≡◌, ◌<◌, ◌≤◌, ◌-◌, ◌^◌, List, ℕ, Some, true, Option, IfOk};
+ghost use Rattle.std.specs.Prelude.{IfErr};
 ghost use Rattle.std.specs.Io.KnownBytes.{Appends};
 ghost use Rattle.norprog_common.specs.FileStore.{DoNotFail, IsTextIn, IsTextOfFile};
 ghost use Rattle.norprog_common.specs.declared.faults.FileName.TheVariants.{Script};
 ghost use Rattle.norprog_common.specs.Told.{RefusesFor, OrScript};
-ghost use Rattle.norprog_run.specs.Answer.{WasPlayedSo, IsPlayFault, IsPlayVerdict, CutsVerdict, RefusesRun, RefusesToRun, AnswersRun};
+ghost use Rattle.norprog_run.specs.Answer.{WasPlayedSo, IsPlayFault, IsPlayVerdict, CutsVerdict};
+ghost use Rattle.norprog_run.specs.Answer.{RefusesRun, RefusesToRun, AnswersRun};
 ghost use Rattle.norprog_run.specs.Request.{is_well_formed};
-ghost use Rattle.norprog_run.specs.Served.{play_with, Is, IsMadeFor, IsTaskOf, Serves, ServesScript};
+ghost use Rattle.norprog_run.specs.Served.{play_with, Is, IsMadeFor, IsTaskOf, Serves};
+ghost use Rattle.norprog_run.specs.Served.{ServesScript};
 ghost use Rattle.norprog_run.specs.Verdict.{verdict_line};
 
 use crate::play::play_script;
@@ -21,10 +24,11 @@ use norprog_common::{
 };
 use std::alloc::Global;
 
-/// Does what the texts of a command line of `run` ask for. It opens the files that they name, writes what the chip holds
-/// after the play to the output that they name, if any, and then the verdict's line to `out`, or a refusal to `err`
-/// (docs/FORMATS.md, section 9). It answers the status: 0 played, 1 gone wrong or refused, 2 usage. The output is made as none
-/// of the files that are read.
+/// Does what the texts of a command line of `run` ask for. It opens the files that they name,
+/// writes what the chip holds after the play to the output that they name, if any, and then the
+/// verdict's line to `out`, or a refusal to `err` (docs/FORMATS.md, section 9). It answers the
+/// status: 0 played, 1 gone wrong or refused, 2 usage. The output is made as none of the files that
+/// are read.
 ///
 /// Usage is told where the texts ask for no play.
 pub fn run<S: FileStore, O: ByteOut, E: ByteOut>(
@@ -38,7 +42,8 @@ pub fn run<S: FileStore, O: ByteOut, E: ByteOut>(
     requires err { E.count err.old < 2 ^ 64 - 1 }
     ensures status { result ≤ 2 }
     ensures quiet { result ≡ 0 → err.new ≡ err.old }
-    ensures answer { AnswersRun (S.facts store.now) given.entry (O.held out.old) (O.held out.new) (err.new ≡ err.old)
+    ensures answer { AnswersRun (S.facts store.now) given.entry (O.held out.old) (O.held out.new)
+        (err.new ≡ err.old)
         (E.count err.new ≡ E.count err.old) (E.held err.old) (E.held err.new) result }
 {
     match report_run(alloc, store, given, out) {
@@ -57,9 +62,11 @@ fn report_run<S: FileStore, O: ByteOut>(
     requires { O.count out.old < 2 ^ 64 - 1 }
     ensures played { IfOk result (IsPlayVerdict (Serves (S.facts store.now) given.entry)
         (ServesScript (S.facts store.now) given.entry) (S.facts store.now).flushed) }
-    ensures printed { IfOk result (λ verdict. Appends (O.held out.old) (O.held out.new) (verdict_line verdict)) }
+    ensures printed { IfOk result (λ verdict.
+        Appends (O.held out.old) (O.held out.new) (verdict_line verdict)) }
     ensures unprinted { IfErr result (λ _. CutsVerdict (Serves (S.facts store.now) given.entry)
-        (ServesScript (S.facts store.now) given.entry) (S.facts store.now).flushed (O.held out.old) (O.held out.new)) }
+        (ServesScript (S.facts store.now) given.entry) (S.facts store.now).flushed (O.held out.old)
+        (O.held out.new)) }
     ensures asked { IfOk result (λ _. is_well_formed given.entry ≡ true) }
     ensures first { IfErr result (RefusesToRun (S.facts store.now) given.entry) }
 {
@@ -94,7 +101,9 @@ fn play_request<S: FileStore>(
     requires { 0 < request.bench.limit }
     ensures played { IfOk result (IsPlayVerdict (IsTaskOf (S.facts store.now) request.entry)
         (IsTextIn (S.facts store.now) request.entry.script.now) (S.facts store.now).flushed) }
-    ensures refused { IfErr result (RefusesRun (OrScript (S.facts store.now).lacked) (IsTaskOf (S.facts store.now) request.entry)
+    ensures refused { IfErr result
+        (RefusesRun (OrScript (S.facts store.now).lacked)
+        (IsTaskOf (S.facts store.now) request.entry)
         (IsTextIn (S.facts store.now) request.entry.script.now)) }
 {
     let mut places = Vec::new(alloc);
@@ -128,8 +137,8 @@ fn play_request<S: FileStore>(
     }
 }
 
-/// Makes the output's file as none of those at the places, plays a script's file on the chip of the inputs, and has what the
-/// chip holds after it go out there.
+/// Makes the output's file as none of those at the places, plays a script's file on the chip of the
+/// inputs, and has what the chip holds after it go out there.
 fn play_to<S: FileStore>(
     alloc: Global,
     store: &S,
@@ -145,10 +154,12 @@ fn play_to<S: FileStore>(
     requires script { DoNotFail S.Input.count script }
     requires reader { S.Input.count content.old < 2 ^ 64 - 1 }
     ensures played { IfOk result (IsPlayVerdict
-        (IsMadeFor (S.facts store.now) path.now places.now inputs.now bench (S.Input.ahead content.old) len)
+        (IsMadeFor (S.facts store.now) path.now places.now inputs.now bench
+        (S.Input.ahead content.old) len)
         (IsTextOfFile S.Input.ahead script) (S.facts store.now).flushed) }
     ensures refused { IfErr result (RefusesRun (OrScript (S.facts store.now).lacked)
-        (IsMadeFor (S.facts store.now) path.now places.now inputs.now bench (S.Input.ahead content.old) len) (IsTextOfFile S.Input.ahead script)) }
+        (IsMadeFor (S.facts store.now) path.now places.now inputs.now bench
+        (S.Input.ahead content.old) len) (IsTextOfFile S.Input.ahead script)) }
 {
     let mut file = store.create(alloc, path, FileName::Out, places)?;
     let verdict = play_file(alloc, inputs, bench, script, content, len, &mut file)?;
@@ -172,7 +183,8 @@ fn play_file<F: ByteIn + Drop, R: ByteIn, W: ByteOut>(
     requires script { DoNotFail F.count script }
     requires reader { R.count content.old < 2 ^ 64 - 1 }
     requires writer { W.count out.old < 2 ^ 64 - 1 }
-    ensures played { IfOk result (WasPlayedSo (IsTextOfFile F.ahead script) inputs.now bench (R.ahead content.old) len
+    ensures played { IfOk result
+        (WasPlayedSo (IsTextOfFile F.ahead script) inputs.now bench (R.ahead content.old) len
         (W.held out.old) (W.held out.new)) }
     ensures refused { (begun : Option (Option (List ℕ)))
         → IfErr result (RefusesFor (λ told. told ≡ Script)

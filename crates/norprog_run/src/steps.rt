@@ -16,10 +16,11 @@ use nor_play::{PlayFault, StepPlayer};
 use nor_script::{ReadFault, ScriptFault, StepReader, StepView};
 use std::alloc::Global;
 
-/// Plays the steps of a script on a chip, each as it comes, a poll at most `limit` times. The script is read to its end also
-/// where the chip goes wrong.
+/// Plays the steps of a script on a chip, each as it comes, a poll at most `limit` times. The
+/// script is read to its end also where the chip goes wrong.
 ///
-/// Its first fault, as [`StepReader`] tells it; `Device` where the device failed; `Memory` where a growth is refused.
+/// Its first fault, as [`StepReader`] tells it; `Device` where the device failed; `Memory` where a
+/// growth is refused.
 pub(crate) fn play_text<A: ByteIn>(
     alloc: Global,
     script: &mut A,
@@ -74,7 +75,8 @@ fn feed(
 ) -> Result<u64, PlayFault>
     requires { player.old.number < 2 ^ 64 - 1 }
     ensures player { player.new ≡ past player.old result }
-    ensures played { PlaysNumbered chip.old chip.new player.old.limit player.old.number (step_of step.entry) result }
+    ensures played { PlaysNumbered chip.old chip.new player.old.limit player.old.number
+        (step_of step.entry) result }
     ensures count { CountsPlay 0 0 result }
 {
     match step {

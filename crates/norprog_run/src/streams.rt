@@ -10,7 +10,9 @@ ghost use Rattle.norprog_common.specs.declared.faults.Refusal.TheVariants.{Build
 ghost use Rattle.nor_script.specs.Stream.{HadText, IsSpelled};
 ghost use Rattle.norprog_run.specs.Kind.{kind_setting};
 ghost use Rattle.norprog_common.specs.Content.{CountsReader, CountsWriter};
-ghost use Rattle.norprog_run.specs.Streams.{PlaysText, StopsText, PlaysStreams, RefusesStreams, IsOfChip, IsOfContent, CountsScript, CountsOne, RefusesScript, refusal_of as told_of};
+ghost use Rattle.norprog_run.specs.Streams.{PlaysText, StopsText, PlaysStreams, RefusesStreams};
+ghost use Rattle.norprog_run.specs.Streams.{IsOfChip, IsOfContent, CountsScript, CountsOne};
+ghost use Rattle.norprog_run.specs.Streams.{RefusesScript, refusal_of as told_of};
 
 use crate::kind::{Kind, kind_of};
 use crate::request::ChipBehaviour;
@@ -23,18 +25,22 @@ use nor_script::{ReadFault, count_steps};
 use norprog_common::{FileName, Refusal, read_content};
 use std::alloc::Global;
 
-/// Plays a script on a ready chip of the inputs, and answers how it ends: [`crate::play_script`] of a script that is read twice
-/// and never held. `first` and `again` tell it, the one for its faults, before any content is read, the other for its steps.
+/// Plays a script on a ready chip of the inputs, and answers how it ends: [`crate::play_script`] of
+/// a script that is read twice and never held. `first` and `again` tell it, the one for its faults,
+/// before any content is read, the other for its steps.
 ///
-/// The verdict is of the text that `again` had, which is read to its end also where the chip goes wrong. Memory is taken for one
-/// content, and for one reader of steps at a time ([`nor_script::StepReader`]: 256 KiB, more for a longer line).
+/// The verdict is of the text that `again` had, which is read to its end also where the chip goes
+/// wrong. Memory is taken for one content, and for one reader of steps at a time
+/// ([`nor_script::StepReader`]: 256 KiB, more for a longer line).
 ///
-/// The first of these is told: `Contradiction`, `Sfdp`, `Status`, `ModeImpossible`, `Page` and `ContentSize`, with nothing read;
-/// `Script` with the first fault of the text that `first` had, where neither `again` nor the content is read; `ContentShort`
-/// where the content's reader ends before `len` bytes, `Read` where it fails, and `again` isn't read; `Script` with the first
-/// fault of the text that `again` had, where that is another one; `Write` where `out` fails, which has taken a proper prefix
-/// then. `File` of `Script` comes where `first` or `again` fails, and `Memory` where a growth is refused. All but `Write` leave
-/// `out` as it was. Where both tell the same text and don't fail, this is what [`crate::play_script`] tells of it.
+/// The first of these is told: `Contradiction`, `Sfdp`, `Status`, `ModeImpossible`, `Page` and
+/// `ContentSize`, with nothing read; `Script` with the first fault of the text that `first` had,
+/// where neither `again` nor the content is read; `ContentShort` where the content's reader ends
+/// before `len` bytes, `Read` where it fails, and `again` isn't read; `Script` with the first fault
+/// of the text that `again` had, where that is another one; `Write` where `out` fails, which has
+/// taken a proper prefix then. `File` of `Script` comes where `first` or `again` fails, and
+/// `Memory` where a growth is refused. All but `Write` leave `out` as it was. Where both tell the
+/// same text and don't fail, this is what [`crate::play_script`] tells of it.
 pub fn play_streams<F: ByteIn, A: ByteIn, R: ByteIn, W: ByteOut>(
     alloc: Global,
     inputs: &Inputs<'_>,
@@ -50,17 +56,22 @@ pub fn play_streams<F: ByteIn, A: ByteIn, R: ByteIn, W: ByteOut>(
     requires again { A.count again.old < 2 ^ 64 - 1 }
     requires reader { R.count content.old < 2 ^ 64 - 1 }
     requires writer { W.count out.old < 2 ^ 64 - 1 }
-    ensures played { IfOk result (PlaysStreams inputs.now bench (F.ahead first.old) (F.ahead first.new)
-        (A.ahead again.old) (A.ahead again.new) len (R.ahead content.old) (R.ahead content.new) (W.held out.old) (W.held out.new)) }
-    ensures refused { IfErr result (RefusesStreams inputs.now bench (F.ahead first.old) (F.ahead first.new)
-        (A.ahead again.old) (A.ahead again.new) len (R.ahead content.old) (R.ahead content.new) (W.held out.old) (W.held out.new)
+    ensures played { IfOk result
+        (PlaysStreams inputs.now bench (F.ahead first.old) (F.ahead first.new)
+        (A.ahead again.old) (A.ahead again.new) len (R.ahead content.old) (R.ahead content.new)
+        (W.held out.old) (W.held out.new)) }
+    ensures refused { IfErr result
+        (RefusesStreams inputs.now bench (F.ahead first.old) (F.ahead first.new)
+        (A.ahead again.old) (A.ahead again.new) len (R.ahead content.old) (R.ahead content.new)
+        (W.held out.old) (W.held out.new)
         ((again.new ≡ again.old) × (content.new ≡ content.old))) }
     ensures unread { IfErr result (λ why. IsOfChip why
         → (first.new ≡ first.old) × (again.new ≡ again.old) × (content.new ≡ content.old)) }
     ensures once { IfErr result (λ why. IsOfContent why → again.new ≡ again.old) }
     ensures unwritten { IfErr result (λ why. why ≢ Build Write → out.new ≡ out.old) }
     ensures within { ReadsWithin len (R.ahead content.old) (R.ahead content.new) }
-    ensures scripts { CountsScript (F.count first.old) (F.count first.new) (A.count again.old) (A.count again.new) result }
+    ensures scripts { CountsScript (F.count first.old) (F.count first.new) (A.count again.old)
+        (A.count again.new) result }
     ensures reads { CountsReader (R.count content.old) (R.count content.new) result }
     ensures writes { CountsWriter (W.count out.old) (W.count out.new) result }
 {
@@ -83,7 +94,8 @@ fn check_script<F: ByteIn>(alloc: Global, script: &mut F) -> Result<(), Refusal>
     }
 }
 
-/// Plays the steps of a script on a chip that holds these bytes, and writes what it holds after them.
+/// Plays the steps of a script on a chip that holds these bytes, and writes what it holds after
+/// them.
 fn play_on<A: ByteIn, W: ByteOut>(
     alloc: Global,
     kind: &Kind,
@@ -100,10 +112,12 @@ fn play_on<A: ByteIn, W: ByteOut>(
     requires writer { W.count out.old < 2 ^ 64 - 1 }
     ensures played { IfOk result (λ verdict. (chip : ShownChip)
         × HadText (A.ahead script.old) (A.ahead script.new)
-        (PlaysText (kind_setting kind.now bench) (ready_chip (kind_setting kind.now bench) array.items).chip bench.limit verdict chip)
+        (PlaysText (kind_setting kind.now bench)
+        (ready_chip (kind_setting kind.now bench) array.items).chip bench.limit verdict chip)
         × Appends (W.held out.old) (W.held out.new) chip.array) }
     ensures stopped { IfErr result (StopsText (A.ahead script.old) (A.ahead script.new)
-        (kind_setting kind.now bench) (ready_chip (kind_setting kind.now bench) array.items).chip bench.limit (W.held out.old) (W.held out.new)) }
+        (kind_setting kind.now bench) (ready_chip (kind_setting kind.now bench) array.items).chip
+        bench.limit (W.held out.old) (W.held out.new)) }
     ensures unwritten { IfErr result (λ why. why ≢ Build Write → out.new ≡ out.old) }
     ensures scripts { CountsOne (A.count script.old) (A.count script.new) result }
     ensures count { CountsWriter (W.count out.old) (W.count out.new) result }

@@ -4,7 +4,8 @@ ghost use Rattle.std.specs.Prelude.{◌≡◌, ◌<◌, ◌≤◌, ◌-◌, ◌^
 ghost use Rattle.norprog_common.specs.Chip.{origin_of};
 ghost use Rattle.norprog_common.specs.Told.{OrUsage};
 ghost use Rattle.norprog_sfdp.specs.Served.{asks_chip, IsChipTask, IsTaskAlone, ServesChip};
-ghost use Rattle.norprog_sfdp.specs.Answer.{IsMeaning, RefusesMeaning, PrintsMeaning, CutsMeaning, AnswersChip};
+ghost use Rattle.norprog_sfdp.specs.Answer.{IsMeaning, RefusesMeaning, PrintsMeaning, CutsMeaning};
+ghost use Rattle.norprog_sfdp.specs.Answer.{AnswersChip};
 
 use nor_base::{ByteOut, Meaning, Part};
 use nor_job::{BuildFault, Inputs, contradiction};
@@ -14,8 +15,8 @@ use norprog_common::{
 };
 use std::alloc::Global;
 
-/// Writes to `out` what the tables of the chip on a command line mean, or a refusal to `err` (docs/FORMATS.md, section
-/// 9), and answers the status: 0 done, 1 refused, 2 usage.
+/// Writes to `out` what the tables of the chip on a command line mean, or a refusal to `err`
+/// (docs/FORMATS.md, section 9), and answers the status: 0 done, 1 refused, 2 usage.
 ///
 /// Usage is told where the texts ask for no chip.
 pub fn sfdp<S: FileStore, O: ByteOut, E: ByteOut>(
@@ -29,7 +30,8 @@ pub fn sfdp<S: FileStore, O: ByteOut, E: ByteOut>(
     requires err { E.count err.old < 2 ^ 64 - 1 }
     ensures status { result ≤ 2 }
     ensures quiet { result ≡ 0 → err.new ≡ err.old }
-    ensures answer { AnswersChip (S.facts store.now) given.entry (O.held out.old) (O.held out.new) (err.new ≡ err.old)
+    ensures answer { AnswersChip (S.facts store.now) given.entry (O.held out.old) (O.held out.new)
+        (err.new ≡ err.old)
         (E.count err.new ≡ E.count err.old) (E.held err.old) (E.held err.new) result }
 {
     answered(report_meaning(alloc, store, given, out), err)
@@ -44,10 +46,15 @@ fn report_meaning<S: FileStore, O: ByteOut>(
 ) -> Result<u8, Refusal>
     requires { O.count out.old < 2 ^ 64 - 1 }
     ensures status { IfOk result (λ status. status ≡ 0) }
-    ensures printed { IfOk result (λ _. PrintsMeaning (ServesChip (S.facts store.now) given.entry) (O.held out.old) (O.held out.new)) }
-    ensures unprinted { IfErr result (λ _. CutsMeaning (ServesChip (S.facts store.now) given.entry) (O.held out.old) (O.held out.new)) }
+    ensures printed { IfOk result
+        (λ _. PrintsMeaning (ServesChip (S.facts store.now) given.entry) (O.held out.old)
+        (O.held out.new)) }
+    ensures unprinted { IfErr result
+        (λ _. CutsMeaning (ServesChip (S.facts store.now) given.entry) (O.held out.old)
+        (O.held out.new)) }
     ensures asked { IfOk result (λ _. asks_chip given.entry ≡ true) }
-    ensures first { IfErr result (OrUsage (asks_chip given.entry) (RefusesMeaning (S.facts store.now).lacked
+    ensures first { IfErr result
+        (OrUsage (asks_chip given.entry) (RefusesMeaning (S.facts store.now).lacked
         (ServesChip (S.facts store.now) given.entry))) }
 {
     let chip = chip_of(given.sfdp, given.uniform, given.bits).ok_or(Refusal::Usage)?;
@@ -66,7 +73,8 @@ fn run_meaning<S: FileStore>(
     chip: Chip<'_>,
     part: Part,
 ) -> Result<Meaning, Refusal>
-    ensures means { IfOk result (IsMeaning (IsChipTask (S.facts store.now) (origin_of chip.entry) part)) }
+    ensures means { IfOk result
+        (IsMeaning (IsChipTask (S.facts store.now) (origin_of chip.entry) part)) }
     ensures refused { IfErr result (RefusesMeaning (S.facts store.now).lacked
         (IsChipTask (S.facts store.now) (origin_of chip.entry) part)) }
 {
@@ -76,8 +84,10 @@ fn run_meaning<S: FileStore>(
 
 /// The meaning of a chip of which nothing else is known.
 fn chip_alone<'a>(chip: Chip<'a>, part: Part, tables: &'a [u8]) -> Result<Meaning, Refusal>
-    ensures means { IfOk result (IsMeaning (IsTaskAlone (origin_of chip.entry) part tables.entry.now)) }
-    ensures refused { IfErr result (RefusesMeaning (λ told. ⊥) (IsTaskAlone (origin_of chip.entry) part tables.entry.now)) }
+    ensures means { IfOk result
+        (IsMeaning (IsTaskAlone (origin_of chip.entry) part tables.entry.now)) }
+    ensures refused { IfErr result
+        (RefusesMeaning (λ told. ⊥) (IsTaskAlone (origin_of chip.entry) part tables.entry.now)) }
 {
     let inputs = Inputs {
         hex: &[],

@@ -8,7 +8,8 @@ use std::io;
 use test_samples::rows::{Answers, Row};
 use test_samples::words::ODD;
 
-/// Where rows are done: the chips that they may name, and the chip of the latest row that set one up.
+/// Where rows are done: the chips that they may name, and the chip of the latest row that set one
+/// up.
 #[derive(Drop)]
 pub(crate) struct Bench<'a> {
     pub(crate) alloc: Global,

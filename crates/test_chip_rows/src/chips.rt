@@ -13,7 +13,8 @@ use std::io;
 use test_samples::rows::Row;
 use test_samples::words::{ODD, number};
 
-/// Does transactions with the chip that the words say, one a line, and says whether it is settled then.
+/// Does transactions with the chip that the words say, one a line, and says whether it is settled
+/// then.
 pub(crate) fn transact(bench: &mut Bench<'_>, row: &Row<'_>, out: &mut String) -> io::Result<()> {
     let alloc = bench.alloc;
     let chip = set_up(bench, row.asked)?;
@@ -74,7 +75,8 @@ fn do_one(alloc: Global, chip: &mut Chip<'_>, line: &str, out: &mut String) -> i
     Ok(do_clocks(alloc, chip, clocks.as_slice(), out)?)
 }
 
-/// Does a transaction, and says what is read or why it is refused. Then the chip must be as before, and nothing read.
+/// Does a transaction, and says what is read or why it is refused. Then the chip must be as before,
+/// and nothing read.
 fn do_clocks(
     alloc: Global,
     chip: &mut Chip<'_>,
@@ -89,7 +91,8 @@ fn do_clocks(
     tell_done(done, same, bytes.as_slice(), out)
 }
 
-/// What is read, or why it is refused and whether the chip and what was there for the bytes stayed the same.
+/// What is read, or why it is refused and whether the chip and what was there for the bytes stayed
+/// the same.
 fn tell_done(
     done: Result<(), PortFault>,
     same: bool,
@@ -107,8 +110,8 @@ fn tell_done(
     }
 }
 
-/// Plays steps with a limit of turns, on the chip that the words behind it say, and says how many transactions there were,
-/// or what went wrong at which step.
+/// Plays steps with a limit of turns, on the chip that the words behind it say, and says how many
+/// transactions there were, or what went wrong at which step.
 pub(crate) fn play_on(bench: &mut Bench<'_>, row: &Row<'_>, out: &mut String) -> io::Result<()> {
     let alloc = bench.alloc;
     let (limit, words) = row.asked.split_once(' ').ok_or(ODD)?;

@@ -19,7 +19,8 @@ pub(crate) fn list_symbols(out: &mut String) -> io::Result<()> {
     Ok(writeln!(out)?)
 }
 
-/// The lanes that are driven, their levels and the lanes that are sampled at each symbol's clock, IO3 first.
+/// The lanes that are driven, their levels and the lanes that are sampled at each symbol's clock,
+/// IO3 first.
 pub(crate) fn tell_symbols(words: &str, out: &mut String) -> io::Result<()> {
     for byte in words.bytes() {
         let clock = clock_of(byte).ok_or(ODD)?;
@@ -73,7 +74,8 @@ fn tell_to(
     }
 }
 
-/// The row of the instruction table, the address, the number of data bytes, the data clocks and the bytes that are sent.
+/// The row of the instruction table, the address, the number of data bytes, the data clocks and the
+/// bytes that are sent.
 fn tell(seen: &Seen<'_>, out: &mut String) -> Result<(), AllocError> {
     write!(out, "{:?} {:08x} {}", seen.what, seen.address, seen.count())?;
     if !seen.body.is_empty() {

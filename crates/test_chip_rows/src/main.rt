@@ -1,8 +1,9 @@
-//! Rows of data on symbols, meanings, instructions, scripts, listings, chips, plays and verdicts, each with the answer that it is to
-//! have.
+//! Rows of data on symbols, meanings, instructions, scripts, listings, chips, plays and verdicts,
+//! each with the answer that it is to have.
 //!
-//! Standard input names files of rows, one a line. Of each file it is printed how many of its rows are answered as they
-//! say, and below the number of its line what is found in place of another row's answer.
+//! Standard input names files of rows, one a line. Of each file it is printed how many of its rows
+//! are answered as they say, and below the number of its line what is found in place of another
+//! row's answer.
 #![tactic(auto)]
 
 mod bench;

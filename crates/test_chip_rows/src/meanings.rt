@@ -44,7 +44,8 @@ fn tell_width(meaning: &Meaning, out: &mut String) -> Result<(), AllocError> {
     writeln!(out, "address {width:?}, four-byte first {fours:?}")
 }
 
-/// The erase kinds that are there: the bytes of a block, the opcode and the dedicated one. Then all that some region allows.
+/// The erase kinds that are there: the bytes of a block, the opcode and the dedicated one. Then all
+/// that some region allows.
 fn tell_kinds(meaning: &Meaning, out: &mut String) -> Result<(), AllocError> {
     for kind in 0..=255u8 {
         let size = meaning.block_size(kind);
@@ -70,8 +71,8 @@ fn end_with_kinds<Is: Fn(u8) -> bool>(is: Is, out: &mut String) -> Result<(), Al
     writeln!(out)
 }
 
-/// Says which of the words behind `of` are pages that a chip may have, addresses at which a legal block of a kind starts, or
-/// bytes that may be programmed over a byte.
+/// Says which of the words behind `of` are pages that a chip may have, addresses at which a legal
+/// block of a kind starts, or bytes that may be programmed over a byte.
 pub(crate) fn filter(all: &[Sample], kind: &str, words: &str, out: &mut String) -> io::Result<()> {
     let (subject, words) = words.split_once(" of ").ok_or(ODD)?;
     let (name, over) = subject.split_once(' ').unwrap_or((subject, ""));
@@ -86,8 +87,8 @@ pub(crate) fn filter(all: &[Sample], kind: &str, words: &str, out: &mut String) 
     Ok(out.push('\n')?)
 }
 
-/// Whether a word is a page, the address of a legal block of the kind `over` or a byte that may be programmed over the byte
-/// `over`.
+/// Whether a word is a page, the address of a legal block of the kind `over` or a byte that may be
+/// programmed over the byte `over`.
 fn is_so(meaning: &Meaning, kind: &str, over: &str, word: &str) -> io::Result<bool> {
     Ok(match kind {
         "pages" => meaning.may_page(number(word)?),

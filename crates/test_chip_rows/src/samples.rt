@@ -25,8 +25,8 @@ pub(crate) fn meaning_of<'a>(all: &'a [Sample], name: &str) -> io::Result<&'a Me
     Ok(meaning)
 }
 
-/// The small chip with all that the four-byte address instruction table (FF84h) offers, and both address modes, which are
-/// switched so.
+/// The small chip with all that the four-byte address instruction table (FF84h) offers, and both
+/// address modes, which are switched so.
 fn two_mode_chip(switch: Switch) -> Meaning {
     let sectors = Erase {
         size: 4096,

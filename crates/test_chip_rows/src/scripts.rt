@@ -45,8 +45,8 @@ pub(crate) fn text<'b>(bytes: &'b [u8]) -> &'b str {
     str::from_utf8(bytes).unwrap_or("no text")
 }
 
-/// The length of each front of the text that is answered otherwise than the one before it, and its answer: the number of
-/// steps or its fault.
+/// The length of each front of the text that is answered otherwise than the one before it, and its
+/// answer: the number of steps or its fault.
 pub(crate) fn read_fronts(alloc: Global, given: &[&str], out: &mut String) -> io::Result<()> {
     let text = text_of(alloc, given)?;
     let mut before = None;
@@ -127,7 +127,8 @@ pub(crate) fn write_all(alloc: Global, row: &Row<'_>, out: &mut String) -> io::R
     Ok(out.push_str(text(writer.inner.as_slice()))?)
 }
 
-/// Writes steps and the number of the end line, and says whether each step has a line and all was written.
+/// Writes steps and the number of the end line, and says whether each step has a line and all was
+/// written.
 fn write_script(steps: &[Step], count: u64, writer: &mut IntoWrite<Vec<u8>>) -> bool {
     let mut well = writer.failures() == 0 && begin(writer).is_ok();
     for step in steps {

@@ -9,8 +9,8 @@ use std::alloc::{AllocError, Global};
 use std::io;
 use test_samples::words::{ODD, hexadecimal, number};
 
-/// A chip and what it holds, by the words of a row: its name, and then any of `mode4`, `quad`, `keeps`, `page N`,
-/// `busy N ..`, `have A:HH ..` on FFh, and `want A:HH ..`, on what it has.
+/// A chip and what it holds, by the words of a row: its name, and then any of `mode4`, `quad`,
+/// `keeps`, `page N`, `busy N ..`, `have A:HH ..` on FFh, and `want A:HH ..`, on what it has.
 #[derive(Drop)]
 pub(crate) struct Setup<'a, 'w> {
     pub(crate) meaning: &'a Meaning,

@@ -15,8 +15,8 @@ pub(crate) fn steps_of(alloc: Global, given: &[&str]) -> io::Result<Vec<Step>> {
     Ok(steps)
 }
 
-/// The step of a line: a letter (`x` sent, `p` polled, `v` verified) and the clocks of a transaction; of a `v`, behind a
-/// second `|`, the bytes that it expects.
+/// The step of a line: a letter (`x` sent, `p` polled, `v` verified) and the clocks of a
+/// transaction; of a `v`, behind a second `|`, the bytes that it expects.
 fn step_of(alloc: Global, line: &str) -> io::Result<Step> {
     let (letter, words) = line.split_once(' ').unwrap_or((line, ""));
     let (transaction, expect) = match letter {

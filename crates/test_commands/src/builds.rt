@@ -1,5 +1,5 @@
-//! Builds, and checks of their scripts, over devices that move few bytes at a call, end early or fail; and builds with little
-//! memory.
+//! Builds, and checks of their scripts, over devices that move few bytes at a call, end early or
+//! fail; and builds with little memory.
 
 use crate::devices::{
     BLANK, Built, OddCall, SlowReader, Work, content, failing, inputs, roomy_writer, run_check,
@@ -24,7 +24,8 @@ pub(crate) const ONE_PROGRAM: Report = Report {
     ignored: 0,
 };
 
-/// A script, whole and with its report where the build answers Ok, and cut at a fault. Answers the fault.
+/// A script, whole and with its report where the build answers Ok, and cut at a fault. Answers the
+/// fault.
 fn fault_beside_script(
     rt: &impl Abort,
     built: &Built<'_>,
@@ -53,7 +54,8 @@ pub(crate) fn one_name(alloc: Global) -> Result<Vec<Bytes>, AllocError> {
     Ok(names)
 }
 
-/// Builds the script of one byte by a layout. Answers the fault; the script is whole without one, and cut at one.
+/// Builds the script of one byte by a layout. Answers the fault; the script is whole without one,
+/// and cut at one.
 ///
 /// `AllocError` where its own memory is refused.
 fn one_byte_job(rt: &impl Abort, alloc: Global) -> Result<Option<BuildFault>, AllocError> {
@@ -97,7 +99,8 @@ fn a_refused_growth_is_memory(rt: HostRuntime) {
     }
 }
 
-/// How many bytes a reader has, all FFh, how many it gives at a call, and the call at which it fails.
+/// How many bytes a reader has, all FFh, how many it gives at a call, and the call at which it
+/// fails.
 type Reading = (usize, usize, usize);
 
 /// Readers for the job of one byte, and the fault of a build and of a check over them.
@@ -208,7 +211,10 @@ static JOBS: [Job; 3] = [
         image: ":0100000001FE\n:00000001FF\n",
         verify: false,
         holds: (0, 0xA5),
-        text: "norscript 1\nx 00000110\nx 00100000000000000000000000000000\np 00000101........\nx 00000110\nx 00000010000000000000000000000000000000011111111111111111111111111111111110100101\np 00000101........\nend 6\n",
+        text: "norscript 1\nx 00000110\nx 00100000000000000000000000000000\np 00000101........\n\
+            x 00000110\n\
+            x 00000010000000000000000000000000000000011111111111111111111111111111111110100101\n\
+            p 00000101........\nend 6\n",
         report: Report {
             steps: 6,
             erases: 1,
@@ -221,7 +227,8 @@ static JOBS: [Job; 3] = [
         image: IMAGE,
         verify: true,
         holds: (0xFF, 0xFF),
-        text: "norscript 1\nx 00000110\nx 0000001000000000000000000000000000000000\np 00000101........\nv 00000011000000000000000000000000........ 00\nend 4\n",
+        text: "norscript 1\nx 00000110\nx 0000001000000000000000000000000000000000\n\
+            p 00000101........\nv 00000011000000000000000000000000........ 00\nend 4\n",
         report: Report {
             steps: 4,
             ..ONE_PROGRAM
@@ -249,7 +256,8 @@ fn prepare<'j>(alloc: Global, job: &'j Job) -> Result<Prepared<'j>, AllocError> 
 }
 
 impl Prepared<'_> {
-    /// Builds the job over devices of which one moves so many bytes at a call at most and has this odd call.
+    /// Builds the job over devices of which one moves so many bytes at a call at most and has this
+    /// odd call.
     fn build(&self, alloc: Global, side: Side, most: usize, odd: OddCall) -> Built<'_> {
         let inputs = Inputs {
             verify: self.job.verify,
@@ -293,7 +301,8 @@ enum Side {
 }
 
 impl Side {
-    /// How many bytes an odd call moves, and what a build over it answers: it fails, it moves nothing, it moves one byte.
+    /// How many bytes an odd call moves, and what a build over it answers: it fails, it moves
+    /// nothing, it moves one byte.
     fn ways(self) -> [(Option<usize>, Option<BuildFault>); 3] {
         let (fails, stops) = match self {
             Side::Reader => (BuildFault::Read, BuildFault::ContentShort),
@@ -337,7 +346,8 @@ fn has_odd_calls(rt: &impl Abort, alloc: Global, job: &Prepared<'_>) {
     holds(rt, "calls of the writer", calls > 0);
 }
 
-/// Over a device that moves so many bytes at a call the job is done; so many calls that takes. Each of them is odd once.
+/// Over a device that moves so many bytes at a call the job is done; so many calls that takes. Each
+/// of them is odd once.
 fn each_is_odd(
     rt: &impl Abort,
     alloc: Global,
@@ -354,7 +364,8 @@ fn each_is_odd(
     calls
 }
 
-/// The call of this number is odd in each way. One that fails or moves nothing is the device's last.
+/// The call of this number is odd in each way. One that fails or moves nothing is the device's
+/// last.
 fn is_odd(
     rt: &impl Abort,
     alloc: Global,
@@ -397,8 +408,8 @@ fn ends_at(
     holds(rt, "a front", is_front);
 }
 
-/// What stands of the script once the reader failed or ended: a window of 4096 bytes is read before its steps are written,
-/// and no steps are left for the second one.
+/// What stands of the script once the reader failed or ended: a window of 4096 bytes is read before
+/// its steps are written, and no steps are left for the second one.
 fn front_after<'a>(job: &'a Prepared<'_>, built: &Built<'_>) -> &'a [u8] {
     let text = job.job.text.as_bytes();
     let given = 8192usize.saturating_sub(built.reader.ahead.len());

@@ -9,7 +9,8 @@ use std::io;
 /// Bytes of an erased chip of 8 KiB, and a few more.
 pub(crate) static BLANK: [u8; 8200] = [0xFF; 8200];
 
-/// The call of this number moves as many bytes at most; with `None` it fails. No call has the number 0.
+/// The call of this number moves as many bytes at most; with `None` it fails. No call has the
+/// number 0.
 #[derive(Clone, Copy)]
 pub(crate) struct OddCall {
     pub(crate) number: usize,

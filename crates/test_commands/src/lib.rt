@@ -1,5 +1,6 @@
-//! Tests of the commands' libraries that no row of `test_command_rows` can say: devices that move few bytes at a call, end early or
-//! fail, refused growths, and lines of numbers that no job here reaches.
+//! Tests of the commands' libraries that no row of `test_command_rows` can say: devices that move
+//! few bytes at a call, end early or fail, refused growths, and lines of numbers that no job here
+//! reaches.
 #![tactic(auto)]
 
 #[cfg(test)]

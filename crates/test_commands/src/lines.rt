@@ -205,8 +205,8 @@ fn verdict_fails(rt: &impl Abort, alloc: Global, fails_at: usize) {
     is_front(rt, NO_TEXT, fails_at, failed, &slow);
 }
 
-/// What was written by a writer that takes a byte at a call, and failed once if at all, is what stands before the byte at
-/// which it fails.
+/// What was written by a writer that takes a byte at a call, and failed once if at all, is what
+/// stands before the byte at which it fails.
 fn is_front(
     rt: &impl Abort,
     text: &str,

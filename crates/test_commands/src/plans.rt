@@ -11,7 +11,8 @@ use test_samples::texts::IMAGE;
 /// The line of the program of one byte at address 0.
 pub(crate) const ONE_LINE: &str = "program 00000000 1\n";
 
-/// The plan of one byte on a uniform chip, over a writer that takes so many bytes at a call and fails at a call.
+/// The plan of one byte on a uniform chip, over a writer that takes so many bytes at a call and
+/// fails at a call.
 pub(crate) fn one_byte_plan(
     alloc: Global,
     most: usize,
@@ -32,7 +33,8 @@ fn tells_the_one_byte_job(rt: HostRuntime) -> Result<(), Fail> {
     Ok(())
 }
 
-/// Where a growth is refused, which `tools/refused-growths` does, what was written is a front of the line.
+/// Where a growth is refused, which `tools/refused-growths` does, what was written is a front of
+/// the line.
 #[test]
 fn a_refused_growth_is_memory(rt: HostRuntime) {
     if let Ok(told) = one_byte_plan(rt.alloc(), usize::MAX, 0) {

@@ -1,4 +1,5 @@
-//! Plays over bytes, with a reader and a writer that move few bytes at a call, end early or fail, and with little memory.
+//! Plays over bytes, with a reader and a writer that move few bytes at a call, end early or fail,
+//! and with little memory.
 
 use crate::devices::{BLANK, Done, content, failing, inputs, roomy_writer, with_devices};
 use crate::same::{holds, same};
@@ -14,8 +15,9 @@ use test_samples::texts::ONE_BYTE;
 /// What a play answered: its verdict, and its fault where it is one of a build.
 type Played<'d> = Done<'d, (Option<Verdict>, Option<BuildFault>)>;
 
-/// Plays the script of one byte on a chip of 8 KiB that a program keeps busy for one status read. The reader has so many
-/// bytes; each device moves 5000 bytes at a call, and fails at the call of its number.
+/// Plays the script of one byte on a chip of 8 KiB that a program keeps busy for one status read.
+/// The reader has so many bytes; each device moves 5000 bytes at a call, and fails at the call of
+/// its number.
 fn play(
     alloc: Global,
     has: usize,

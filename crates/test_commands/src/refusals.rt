@@ -53,7 +53,8 @@ fn an_early_refusal_leaves_the_devices_alone(rt: HostRuntime) {
     }
 }
 
-/// A build, a plan and a check of inputs with this cause are refused so, before a call of their devices.
+/// A build, a plan and a check of inputs with this cause are refused so, before a call of their
+/// devices.
 fn leaves_alone(rt: &impl Abort, alloc: Global, label: &str, cause: BuildFault) {
     let inputs = faulty(cause);
     let short = cause == BuildFault::ContentSize;

@@ -186,7 +186,8 @@ fn one_play<'a>() -> RunArgs<'a> {
     }
 }
 
-/// What a script is built from, checked for and played on: by each command the status, what is printed, and what is flushed.
+/// What a script is built from, checked for and played on: by each command the status, what is
+/// printed, and what is flushed.
 #[test]
 fn commands_go_over_files_in_memory(rt: HostRuntime) {
     let files: [(&str, &[u8]); 3] = [

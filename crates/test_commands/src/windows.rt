@@ -16,7 +16,8 @@ const HEADER: &str = "norscript 1\n";
 const FRONT: &str =
     "norscript 1\nx 00000110\nx 0000001000000000000000000000000000000000\np 00000101........\n";
 
-/// How many bytes a reader has, the call at which it fails, what the work answers, and what a build and a plan have written.
+/// How many bytes a reader has, the call at which it fails, what the work answers, and what a build
+/// and a plan have written.
 type Row = (usize, usize, BuildFault, &'static str, &'static str);
 
 /// The first window has 64 KiB, the second one 4 KiB.

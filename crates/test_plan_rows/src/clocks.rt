@@ -90,7 +90,8 @@ fn strategy_by(asked: &Asked<'_, '_>, chip: &Meaning, start: &Start) -> io::Resu
     }
 }
 
-/// The same by the chip's own strategy in parts, one of each line, and before each of them one of no operation.
+/// The same by the chip's own strategy in parts, one of each line, and before each of them one of
+/// no operation.
 pub(crate) fn in_parts(asked: &Asked<'_, '_>, out: &mut String) -> io::Result<()> {
     let (chip, start) = (asked.chip()?, start_of(asked));
     let mut lowerer = Lowerer::new(chip, &start, strategy(chip, &start));

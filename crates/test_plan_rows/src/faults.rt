@@ -6,7 +6,8 @@ use norprog_common::{Refusal, refuse};
 use std::io;
 use test_samples::words::ODD;
 
-/// Writes the line of a fault, as the program prints it (FORMATS.md, section 9) without its own name.
+/// Writes the line of a fault, as the program prints it (FORMATS.md, section 9) without its own
+/// name.
 pub(crate) fn put_fault(out: &mut String, fault: BuildFault) -> io::Result<()> {
     let mut line = IntoWrite::new(Vec::new(*out.allocator()));
     let _ = refuse(&Refusal::Build(fault), &mut line);

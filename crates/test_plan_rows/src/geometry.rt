@@ -19,8 +19,8 @@ pub(crate) fn strategy_of(word: &str) -> io::Result<Strategy> {
     })
 }
 
-/// The strategies of a chip, first in three-byte and then in four-byte mode, each without and with the quad setting; and
-/// its window.
+/// The strategies of a chip, first in three-byte and then in four-byte mode, each without and with
+/// the quad setting; and its window.
 pub(crate) fn strategies(asked: &Asked<'_, '_>, out: &mut String) -> io::Result<()> {
     let chip = asked.chip()?;
     for (mode4, quad) in [(false, false), (false, true), (true, false), (true, true)] {

@@ -20,7 +20,8 @@ struct Texts {
     names: Vec<Bytes>,
 }
 
-/// The image is 00h at address 0 and the layout missing where no line is handed over; `name=` names a region.
+/// The image is 00h at address 0 and the layout missing where no line is handed over; `name=` names
+/// a region.
 fn texts_of(asked: &Asked<'_, '_>) -> io::Result<Texts> {
     let names = match asked.value("name") {
         Some(name) => owned(asked.alloc, &[name])?,
@@ -34,8 +35,8 @@ fn texts_of(asked: &Asked<'_, '_>) -> io::Result<Texts> {
     Ok(Texts { hex, layout, names })
 }
 
-/// The inputs that words say: `chip=` and `bits=` have SFDP bytes and their configuration bits, `uniform=` the size of a chip
-/// without them.
+/// The inputs that words say: `chip=` and `bits=` have SFDP bytes and their configuration bits,
+/// `uniform=` the size of a chip without them.
 fn inputs<'x>(asked: &Asked<'x, 'x>, texts: &'x Texts) -> io::Result<Inputs<'x>> {
     Ok(Inputs {
         hex: &texts.hex,

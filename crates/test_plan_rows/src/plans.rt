@@ -50,7 +50,8 @@ impl Part {
         }
     }
 
-    /// So many bytes from a place on, each so far from the one before, hold a byte and are to hold another.
+    /// So many bytes from a place on, each so far from the one before, hold a byte and are to hold
+    /// another.
     fn change(
         &mut self,
         from: &str,

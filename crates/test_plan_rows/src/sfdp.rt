@@ -27,8 +27,9 @@ pub(crate) fn samples(alloc: Global) -> Result<Vec<(String, Vec<u8>)>, AllocErro
     Ok(all)
 }
 
-/// The bytes that words say: of a name; then each word changes what the words before it say. `N=HH` sets byte N, `cut=N`
-/// leaves the first N, `+HEX` and `+HEX*N` put more behind the last; what other keys say is left to others.
+/// The bytes that words say: of a name; then each word changes what the words before it say. `N=HH`
+/// sets byte N, `cut=N` leaves the first N, `+HEX` and `+HEX*N` put more behind the last; what
+/// other keys say is left to others.
 pub(crate) fn bytes_of(asked: &Asked<'_, '_>) -> io::Result<Vec<u8>> {
     let table = asked.bench.table(asked.word(1)?)?;
     changed(asked.alloc, table, asked.words.get(2..).unwrap_or(&[]))
@@ -73,7 +74,8 @@ fn set(all: &mut [u8], place: &str, digits: &str) -> io::Result<()> {
     Ok(())
 }
 
-/// The DWORDs of some numbers in a table; behind the bytes stand `id=` and, joined by commas, `at=`.
+/// The DWORDs of some numbers in a table; behind the bytes stand `id=` and, joined by commas,
+/// `at=`.
 pub(crate) fn dwords(asked: &Asked<'_, '_>, out: &mut String) -> io::Result<()> {
     let id = u16::from_str_radix(asked.value("id").ok_or(ODD)?, 16);
     let numbers = asked.value("at").ok_or(ODD)?;
@@ -105,7 +107,8 @@ fn put_dword(word: &str, dword: Option<u32>, out: &mut String) -> Result<(), All
     }
 }
 
-/// From how many bytes on their first so many are refused, each time for another reason, and how many there are.
+/// From how many bytes on their first so many are refused, each time for another reason, and how
+/// many there are.
 pub(crate) fn prefixes(asked: &Asked<'_, '_>, out: &mut String) -> io::Result<()> {
     let bytes = bytes_of(asked)?;
     let mut latest = 0;

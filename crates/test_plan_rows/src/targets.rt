@@ -10,8 +10,8 @@ use nor_target::{fill, ignored};
 use std::io;
 use test_samples::words::{ODD, hexadecimal, number};
 
-/// Fills the part of a chip that `at=` and `have=` say, and counts what goes nowhere on a chip of `size=` bytes. Behind these
-/// words stand the names of the chosen regions.
+/// Fills the part of a chip that `at=` and `have=` say, and counts what goes nowhere on a chip of
+/// `size=` bytes. Behind these words stand the names of the chosen regions.
 pub(crate) fn fill_part(asked: &Asked<'_, '_>, out: &mut String) -> io::Result<()> {
     let (base, size, at) = numbers_of(asked)?;
     let image = image_of(asked)?.ok().ok_or(ODD)?;

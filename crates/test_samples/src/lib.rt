@@ -1,5 +1,6 @@
-//! Chips for tests: what SFDP says of a few sample chips, each with its literal parameters as contract, and their SFDP
-//! bytes. [`rows`] has what programs that do rows of data have in common, [`words`] and [`meanings`] what their rows have.
+//! Chips for tests: what SFDP says of a few sample chips, each with its literal parameters as
+//! contract, and their SFDP bytes. [`rows`] has what programs that do rows of data have in common,
+//! [`words`] and [`meanings`] what their rows have.
 #![tactic(auto)]
 
 pub mod meanings;
@@ -10,7 +11,10 @@ pub mod words;
 
 ghost use Rattle.std.specs.Prelude.{◌≡◌, ◌≤◌, length};
 ghost use Rattle.nor_base.specs.Accepted.{IsAccepted};
-ghost use Rattle.test_samples.specs.Chips.{small, small_open_page, small_erased_only, plain, mapped, large_by, large, large_w25q256jv, large_latched, large_legacy, large_legacy_w25q256jv, large_legacy_latched, twin};
+ghost use Rattle.test_samples.specs.Chips.{small, small_open_page, small_erased_only, plain};
+ghost use Rattle.test_samples.specs.Chips.{mapped, large_by, large, large_w25q256jv, large_latched};
+ghost use Rattle.test_samples.specs.Chips.{large_legacy, large_legacy_w25q256jv};
+ghost use Rattle.test_samples.specs.Chips.{large_legacy_latched, twin};
 
 use arrayvec::ArrayVec;
 use nor_base::{Erase, Meaning, QuadRead, Region, Switch, Width};
@@ -40,7 +44,8 @@ pub fn erased_only_chip() -> Meaning
     small_chip().erased_only_set()
 }
 
-/// A chip of so many bytes with these erase kinds and this map of regions, and in all else the small chip.
+/// A chip of so many bytes with these erase kinds and this map of regions, and in all else the
+/// small chip.
 pub fn plain_chip(size: u32, erases: [Option<Erase>; 4], map: &[Region]) -> Meaning
     requires few { length map.now ≤ 256 }
     requires accepted { IsAccepted (plain size erases map.now) }
@@ -54,8 +59,8 @@ pub fn plain_chip(size: u32, erases: [Option<Erase>; 4], map: &[Region]) -> Mean
     }
 }
 
-/// 64 KiB with a sector map: the first 4 KiB allow kind 1 alone, and the other 60 KiB kind 2, whose blocks of 64 KiB fit
-/// nowhere.
+/// 64 KiB with a sector map: the first 4 KiB allow kind 1 alone, and the other 60 KiB kind 2, whose
+/// blocks of 64 KiB fit nowhere.
 pub fn mapped_chip() -> Meaning
     ensures { result ≡ mapped }
 {
@@ -82,7 +87,8 @@ pub fn mapped_chip() -> Meaning
     plain_chip(65536, [Some(sectors), Some(blocks), None, None], &map)
 }
 
-/// 32 MiB with all that the four-byte address instruction table (FF84h) offers, and both address modes.
+/// 32 MiB with all that the four-byte address instruction table (FF84h) offers, and both address
+/// modes.
 pub fn large_chip() -> Meaning
     ensures { result ≡ large }
 {
@@ -117,16 +123,16 @@ pub fn legacy_w25q256jv_chip() -> Meaning
     large_with(Switch::Plain, false, true)
 }
 
-/// The large chip without its four-byte address instruction table (FF84h), whose address mode is switched after a write
-/// enable only.
+/// The large chip without its four-byte address instruction table (FF84h), whose address mode is
+/// switched after a write enable only.
 pub fn legacy_latched_chip() -> Meaning
     ensures { result ≡ large_legacy_latched }
 {
     large_with(Switch::Latched, false, false)
 }
 
-/// A chip of 32 MiB: how its address mode is switched, whether it has a four-byte address instruction table, and
-/// whether it takes quad programs by 32h.
+/// A chip of 32 MiB: how its address mode is switched, whether it has a four-byte address
+/// instruction table, and whether it takes quad programs by 32h.
 fn large_with(switch: Switch, dedicated: bool, quad3: bool) -> Meaning
     ensures { result ≡ large_by switch dedicated quad3 }
 {
@@ -170,9 +176,9 @@ fn large_with(switch: Switch, dedicated: bool, quad3: bool) -> Meaning
     }
 }
 
-/// 32 MiB of two regions whose border is 4 KiB below 2^24; 4 KiB sectors by two kinds and 64 KiB blocks by a third. The
-/// blocks have an opcode of four address bytes; the second kind of sectors has one where `dedicated` says so. Four-byte
-/// mode can be entered, and left as `leave` says.
+/// 32 MiB of two regions whose border is 4 KiB below 2^24; 4 KiB sectors by two kinds and 64 KiB
+/// blocks by a third. The blocks have an opcode of four address bytes; the second kind of sectors
+/// has one where `dedicated` says so. Four-byte mode can be entered, and left as `leave` says.
 pub fn twin_chip(dedicated: bool, leave: Switch) -> Meaning
     ensures { result ≡ twin dedicated leave }
 {

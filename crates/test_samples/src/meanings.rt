@@ -24,7 +24,8 @@ pub fn named() -> [(&'static str, Meaning); 10] {
     ]
 }
 
-/// Puts the line of an erase kind: its number, the bytes of its block, its opcode and its dedicated one.
+/// Puts the line of an erase kind: its number, the bytes of its block, its opcode and its dedicated
+/// one.
 pub fn put_kind(kind: u8, size: u32, erase: Erase, out: &mut String) -> Result<(), AllocError> {
     write!(out, "erase {kind} {size} {:02x} ", erase.op)?;
     match erase.op4 {
@@ -33,8 +34,8 @@ pub fn put_kind(kind: u8, size: u32, erase: Erase, out: &mut String) -> Result<(
     }
 }
 
-/// Puts the lines of what instructions a chip takes besides: how four-byte mode is entered and left, its quad read, the
-/// opcodes that are offered, and the profile of erased bytes.
+/// Puts the lines of what instructions a chip takes besides: how four-byte mode is entered and
+/// left, its quad read, the opcodes that are offered, and the profile of erased bytes.
 pub fn put_instructions(meaning: &Meaning, out: &mut String) -> Result<(), AllocError> {
     writeln!(out, "enter {:?}\nleave {:?}", meaning.enter, meaning.leave)?;
     match meaning.quad_read {

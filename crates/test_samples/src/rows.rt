@@ -1,5 +1,5 @@
-//! Rows of a test, as lines of a text: what is asked, the lines that are handed over with it, and the answer that it is to
-//! have.
+//! Rows of a test, as lines of a text: what is asked, the lines that are handed over with it, and
+//! the answer that it is to have.
 //!
 //! ```text
 //! # a comment; empty lines are passed over as well
@@ -41,7 +41,8 @@ pub fn row_at<'a>(lines: &'a [&'a str], at: usize) -> Option<Row<'a>> {
     })
 }
 
-/// The lines before the first that isn't handed over, or, for an answer, before the first that ends it; and the others.
+/// The lines before the first that isn't handed over, or, for an answer, before the first that ends
+/// it; and the others.
 fn split_where<'a>(lines: &'a [&'a str], answer: bool) -> (&'a [&'a str], &'a [&'a str]) {
     for (at, line) in lines.iter().enumerate() {
         let ends = line.is_empty() || line.starts_with('#') || line.starts_with("$ ");
@@ -58,8 +59,9 @@ pub trait Answers {
     fn answer(&mut self, row: &Row<'_>, out: &mut String) -> io::Result<()>;
 }
 
-/// Does the rows of a file's text in turn, and says what came of them: of each row that has another answer the number of
-/// its line, and both; of each line of no row its number; and last how many rows are answered as they say.
+/// Does the rows of a file's text in turn, and says what came of them: of each row that has another
+/// answer the number of its line, and both; of each line of no row its number; and last how many
+/// rows are answered as they say.
 pub fn told<A: Answers>(
     alloc: Global,
     name: &str,
@@ -85,7 +87,8 @@ pub fn told<A: Answers>(
     Ok(out)
 }
 
-/// Whether a row has the answer that it says, whose last line may be without its LF; otherwise both are put.
+/// Whether a row has the answer that it says, whose last line may be without its LF; otherwise both
+/// are put.
 fn is_right<A: Answers>(
     alloc: Global,
     name: &str,

@@ -5,4 +5,5 @@ pub const IMAGE: &str = ":0100000000FF\n:00000001FF\n";
 
 /// Its script for a chip in three-byte mode that holds FFh there: write enable, program, poll.
 pub const ONE_BYTE: &str =
-    "norscript 1\nx 00000110\nx 0000001000000000000000000000000000000000\np 00000101........\nend 3\n";
+    "norscript 1\nx 00000110\nx 0000001000000000000000000000000000000000\np 00000101........\n\
+        end 3\n";
