@@ -25,13 +25,11 @@ use std::alloc::{AllocError, Global};
 /// Bytes of a cell: no erase block is smaller.
 pub const CELL: usize = 256;
 
-/// Of each cell of a chip whether it is to be compared with a content before steps: some step
-/// erases or programs a byte in it, in the address mode that the steps before leave; it has the
-/// first or the last byte of the content that isn't FFh; it holds something and nothing but blank
-/// cells lies between it and one that steps touch; or a smaller chip shows by one of its bytes
-/// ([`mark_wraps`]).
+/// Which cells of a chip are to be compared with a content before steps: those that a step erases
+/// or programs; those of the first and last byte that isn't FFh; those that hold something, with
+/// only blank cells up to a touched one; those by which a smaller chip shows ([`mark_wraps`]).
 ///
-/// Memory is taken for two marks of each cell.
+/// Memory is taken for two marks of each.
 pub fn compared_cells(
     alloc: Global,
     meaning: &Meaning,

@@ -239,24 +239,11 @@ fn reads_after(reads: u64, step: StepView<'_>, answer: Result<(), Wrong>) -> u64
     }
 }
 
-/// Whether the steps, from anybody, do the task on every chip of a meaning and a start: a run of
-/// them on a ready chip that holds `have` has nothing wrong, and leaves it settled and holding
-/// `want`.
+/// Whether the steps, from anybody, do the task on every chip of a meaning and a start: each page,
+/// all busy times, each latch. Contents begin at address 0. No chip is run.
 ///
-/// Every chip means each page that may be ([`Meaning::may_page`]), all busy times, and both answers
-/// to whether the chip keeps a set write enable latch where the address mode changes. `have` and
-/// `want` hold the bytes from address 0 on, as many as the meaning's size. A chip that has three
-/// address bytes alone doesn't begin in four-byte mode.
-///
-/// It answers `Yes` exactly where they do. `No` names the first step, counted from 0, at which some
-/// chip goes wrong and, of the causes there, the first in the order `Unknown`, `Ignored`,
-/// `OutOfRange`, `Raised` or `NotErased`, `Mismatch`; the number of steps where none does and some
-/// chip isn't idle at the end (`NotIdleAtEnd`) or, else, holds another byte than `want` (`Differs`,
-/// at the lowest address). `Memory` where a growth is refused.
-///
-/// It runs no chip. It takes time proportional to the steps and the size, and memory for one array;
-/// where the page is only known to be so large or larger, and a program leaves the least page, from
-/// there on both for each page that may be.
+/// `No` names the first step, counted from 0, where some chip goes wrong; the number of steps at
+/// the end. `Memory` where a growth is refused.
 pub fn check(
     alloc: Global,
     steps: &[Step],

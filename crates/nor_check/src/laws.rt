@@ -11,9 +11,8 @@ pub fn one_verdict()
 {}
 
 /// A no is shown by one chip whose programs and erases are all busy for the same number of status
-/// reads: any above that of the status reads which are sent right before the step, so 1 where a
-/// script polls. It has some page that may be, and keeps a set latch just where the steps go wrong
-/// at their end.
+/// reads: any above that of the status reads right before the step. It has some page that may be,
+/// and keeps a set latch just where the steps go wrong at their end.
 pub fn each_no_is_shown()
     ensures shown { EachNoIsShown }
     ensures few { FewReads }

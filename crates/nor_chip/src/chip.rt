@@ -74,14 +74,11 @@ impl<'a> Model for Chip<'a> {
 }
 
 impl<'a> Chip<'a> {
-    /// A ready chip with the meaning's own page: idle, with the latch clear, in its first address
-    /// mode.
+    /// A ready chip with the meaning's own page. `content` begins at address 0.
     ///
-    /// `content` holds the bytes from address 0 on, as many as the meaning's size. Each program and
-    /// each erase that it takes keeps it busy for the next number of status reads in `busy`, and
-    /// for none past the list's end. `keeps` is whether a set write enable latch stays set where
-    /// the address mode is entered or left. A chip that has three address bytes alone doesn't begin
-    /// in four-byte mode.
+    /// Each program and each erase keeps it busy for the next number of status reads in `busy`, and
+    /// for none past the list's end. `keeps`: a set write enable latch stays set where the address
+    /// mode is entered or left.
     pub fn new(
         meaning: &'a Meaning,
         start: Start,

@@ -21,13 +21,10 @@ pub trait Port {
     /// hold.
     ghost asked: { Self → ℕ → Type 0 };
 
-    /// Does one transaction: select, the clocks, deselect.
+    /// Does one transaction: select, the clocks, deselect. `clocks` are symbols, one byte each.
     ///
-    /// `clocks` are symbols of clocks, one byte each, and `out` has as many bytes as they sample.
-    /// On Ok the chip and `out` are what the instruction's effect says. On Wrong the instruction
-    /// was refused for that reason, and the chip is as before. On Failed the device failed, the
-    /// count rose by one, and nothing is promised of the chip. However it ends, it is one
-    /// transaction more that the port was asked for.
+    /// Wrong: the instruction was refused for that reason, and the chip is as before. Failed: the
+    /// device failed, and nothing is promised of the chip.
     fn transact(&mut self, clocks: &[u8], out: &mut [u8]) -> Result<(), PortFault>
         requires out { length out.old ≡ sampled_count clocks.now }
         requires room { count self.old < 2 ^ 64 - 1 }

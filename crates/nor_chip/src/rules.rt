@@ -31,14 +31,8 @@ pub struct State<'a> {
 }
 
 /// Why a chip in this state doesn't take an instruction, by the first rule that applies (W25Q256JV
-/// datasheet).
-///
-/// `Ignored` where its clocks are broken; where the chip is busy, but for a status read; where it
-/// needs four lanes, and the quad enable bit is clear; where it needs the write enable latch, and
-/// that is clear. Then `OutOfRange` where its address or a byte that it reads is past the last one,
-/// or where no legal block starts. Then `Raised`, or `NotErased` under the profile that programs
-/// erased bytes alone, where a program covers a byte that it may not be done over. The array has as
-/// many bytes as the meaning's size, and the page is one that [`Meaning::may_page`] allows.
+/// datasheet): `Ignored`, then `OutOfRange`, then `Raised` or, under the profile that programs only
+/// erased bytes, `NotErased`.
 #[tactic(auto, unfolding(nor_base::specs::Effect::effect_of))]
 pub fn refusal(state: &State<'_>, seen: &Seen<'_>) -> Option<Wrong>
     requires size { length state.now.array.now ≡ state.now.meaning.now.size }

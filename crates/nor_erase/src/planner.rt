@@ -12,13 +12,10 @@ use nor_geometry::{FAR, PlanFault, PlanUnit, smallest};
 use std::alloc::Global;
 
 /// The units that start in a window of a chip, rising: `have` is what it holds from `at` on, `want`
-/// what it must hold. A window begins at a multiple of [`window_size`](nor_geometry::window_size),
-/// and has that length or ends with the chip; the strategy is that of some start. What the rest of
-/// the chip holds and must hold is open.
+/// what it must hold. A window begins at a multiple of [`window_size`](nor_geometry::window_size).
 ///
-/// Units come only where no address of the window is at fault: each byte that has to change is in
-/// reach, and each that no program may change lies in a legal block. `NoErase` and `Unreachable`
-/// name the lowest address at fault, by its cause; `Memory` comes where a growth is refused.
+/// `NoErase` and `Unreachable` name the lowest address at fault, by its cause; `Memory` where a
+/// growth is refused.
 pub fn plan(
     alloc: Global,
     meaning: &Meaning,

@@ -19,10 +19,9 @@ pub fn closes()
     quad();
 }
 
-/// A content was read twice, and later work on it that was planned for one lane halted. Every ready
-/// chip that explains both, whatever its quad setting, held just the content, and at most one unit
-/// of the work is in the making. The same holds where the chip did the operation that came next, or
-/// some of its row. Some chip explains both.
+/// A content was read twice, and later work on it halted. Every ready chip that explains both held
+/// just the content, and at most one unit of the work is in the making, also where the chip did
+/// what came next, or some of its row. Some chip explains both.
 pub fn breaks()
     ensures { Breaks }
 {

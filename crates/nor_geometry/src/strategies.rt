@@ -14,13 +14,9 @@ use nor_base::{Meaning, Region, Start, Strategy, Switch};
 /// The numbers of the erase kinds.
 pub(crate) const KINDS: [u8; 4] = [1, 2, 3, 4];
 
-/// The strategy of a chip that begins so: the first that applies.
-///
-/// `S1` where the chip begins in four-byte mode; `S2` where three address bytes reach all of it;
-/// `S3` where it programs and reads by opcodes with four address bytes (12h and 13h, FF84h) and, in
-/// each region that reaches past 2^24, some kind of the least size has such an opcode, or the
-/// region has no kind; `S4` where four-byte mode can be entered and left (FF00h DWORD 16);
-/// otherwise `S5`.
+/// The first strategy that applies to a chip that begins so: `S1` begins in four-byte mode; `S2`
+/// needs three address bytes; `S3` has opcodes with four address bytes for all that it needs
+/// (FF84h); `S4` enters and leaves four-byte mode (FF00h DWORD 16); `S5` has none of these.
 #[tactic(auto, unfolding(nor_base::specs::Strategies::strategy))]
 pub fn strategy(meaning: &Meaning, start: &Start) -> Strategy
     ensures { result ≡ strategy meaning.now start.now }

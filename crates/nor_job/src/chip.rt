@@ -11,12 +11,11 @@ use crate::status::{start_of, status_fault};
 use nor_base::{Meaning, Start, Width};
 use nor_sfdp::SfdpFault;
 
-/// What the inputs say of the chip, and how it begins. It looks neither at the image nor at the
-/// layout, nor for a contradiction, and takes no memory.
+/// What the inputs say of the chip, and how it begins. It looks neither at image nor layout, nor
+/// for a contradiction, and takes no memory.
 ///
-/// `Sfdp` where the chip's meaning is refused; else `Status` where the status, if there is one,
-/// says that the chip isn't idle and unprotected; else `ModeImpossible` where it begins in
-/// four-byte mode and has three address bytes alone.
+/// `Sfdp` where the chip's meaning is refused; else `Status` where the status says that it isn't
+/// idle and unprotected; else `ModeImpossible`.
 pub fn chip_of(inputs: &Inputs<'_>) -> Result<(Meaning, Start), BuildFault>
     ensures chip { IfOk result (λ chip. HasChip inputs.now chip.0) }
     ensures start { IfOk result (λ chip. chip.1 ≡ start_of inputs.now) }

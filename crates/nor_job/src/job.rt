@@ -35,12 +35,10 @@ pub struct Job {
     pub verify: bool,
 }
 
-/// What the inputs ask for, of a chip whose content has `len` bytes. It looks at them in the order
-/// of the faults up to `ContentSize`: the one told is the first that they have.
+/// What the inputs ask for, of a chip whose content has `len` bytes.
 ///
-/// `Contradiction`, `Hex`, `Layout` (its text, then the names), `Sfdp`, `Status`, `ModeImpossible`
-/// and `ContentSize` have their causes at [`BuildFault`]; `Memory` where a growth was refused;
-/// accepted inputs are refused for that alone.
+/// The first fault that they have is reported, in the order in which [`BuildFault`] has them, from
+/// `Contradiction` to `ContentSize`; `Memory` where a growth was refused.
 pub fn job_of(alloc: Global, inputs: &Inputs<'_>, len: u64) -> Result<Job, BuildFault>
     ensures job { IfOk result (IsJob inputs.now len) }
     ensures refused { IfErr result (RefusesInputs inputs.now len) }

@@ -36,12 +36,11 @@ impl<'a> Layout<'a> {
         self.regions.as_slice()
     }
 
-    /// The addresses that lie in some region of these names, byte for byte: the union of the
-    /// regions. With no name every address is chosen, and no memory is taken. A name given twice
-    /// counts once.
+    /// The union of the regions of these names, byte for byte. With no name every address is
+    /// chosen, and no memory is taken. A name given twice counts once.
     ///
-    /// `UnknownRegion` tells the index of the first name that no region has, as an empty name
-    /// always is. `Memory` where a growth is refused, and then each name is known.
+    /// `UnknownRegion` has the index of the first name that no region has. `Memory` where a growth
+    /// is refused; then each name is known.
     pub fn choose(&self, alloc: Global, names: &[Bytes]) -> Result<Chosen, LayoutFault>
         ensures known { IfOk result (λ _. first_unknown self.now names.now ≡ None) }
         ensures chosen { IfOk result (λ chosen. (a : ℕ)

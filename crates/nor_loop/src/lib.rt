@@ -45,11 +45,10 @@ pub fn four_reads()
 }
 
 /// A log reads the whole chip twice, and then does the task for what was read. Every chip that
-/// explains it ends with the goal of what it held at first, or with the goal of an older dump where
-/// that was the task. It ends settled.
+/// explains it ends settled, with the goal of what it held at first, or of an older dump where that
+/// was the task.
 ///
-/// Where such work was broken off, and a later log ends every chip with the goal of the first
-/// reading, the chip ends with the goal of what it held before the first log.
+/// It is the same where such work was broken off and a later log ends with that goal.
 pub fn loop_closes()
     ensures closes { LoopCloses }
     ensures resumes { LoopResumes }
@@ -77,11 +76,9 @@ pub fn loop_is_explained()
     planned_work();
 }
 
-/// What a device did for steps is a log of these steps, and just that log went over its wire; where
-/// it halted, the log of those before. Where it read the content of its chip twice, and did planned
-/// work on it, every chip that explains the log ends with the goal, and some chip explains it.
-/// Where it halted in that work, every chip that explains the log has at most one unit in the
-/// making.
+/// What a device did for steps is a log of these steps, or of those before it halted, and just that
+/// log went over its wire. Every chip that explains the log of two readings and planned work ends
+/// with the goal, or has at most one unit in the making; some chip explains it.
 pub fn device()
     ensures logged { DoneIsLogged }
     ensures halted { HaltIsLogged }

@@ -51,14 +51,11 @@ impl Model for Grid {
 }
 
 impl Grid {
-    /// The grid of a chip of `size` bytes and this page, under a plan of these lines, with what is
-    /// chosen of it. The lines may overlap, stand in any order and lie past the chip. A cell has as
-    /// many bytes as a page, doubled until 65,536 cells hold the chip. Rows in which nothing is
-    /// done are drawn as one line; a row has the least power of two of cells, from 16 to 256, for
-    /// which all lines are at most 1152 units high.
+    /// The grid of a chip of `size` bytes under a plan of these lines, which may overlap, stand in
+    /// any order and lie past the chip. A cell is a page, doubled until 65,536 cells hold the chip;
+    /// rows in which nothing is done fold into one line.
     ///
-    /// Its time grows with the number of lines and of the cells that each touches, and of cells
-    /// times regions chosen. An error comes where memory was refused.
+    /// An error comes where memory was refused.
     pub fn of(
         alloc: Global,
         size: u32,

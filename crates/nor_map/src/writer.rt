@@ -23,15 +23,10 @@ use nor_base::{ByteOut, Failed, put_all, put_parts};
 use nor_layout::Region;
 use nor_plan_read::PlanLine;
 
-/// Writes a map as an SVG image (W3C): what the plan does in a sentence, the cells of a chip by
-/// their states, a line of text for rows in which nothing is done, the erased blocks of the plan's
-/// lines, each with its lines of the plan as its title, the regions of a layout, a legend, and the
-/// lines of a report. Past 10,000 lines the blocks are left out. The lines may overlap, stand in
-/// any order and lie past the chip. Names and report may hold any bytes: those that aren't
-/// printable ASCII become `?`, and LF begins a line of the report.
+/// Writes a map as an SVG image (W3C). Past 10,000 lines of the plan its blocks are left out. Names
+/// and report may hold any bytes: those that aren't printable ASCII become `?`.
 ///
-/// The image has room for 255 regions and 255 lines of report. It takes no memory. At `Failed` a
-/// proper prefix was taken; it comes from the writer alone, whose count of failures rose by one.
+/// The image has room for 255 regions and 255 lines of report. `Failed` comes only from the writer.
 pub fn write_map<W: ByteOut>(
     grid: &Grid,
     lines: &[PlanLine],

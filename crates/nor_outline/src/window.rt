@@ -19,9 +19,8 @@ use std::alloc::Global;
 /// Plans the units that start in a window of the chip (one that [`plan`] takes), and writes their
 /// lines: `have` is what it holds from `at` on, `want` what it must hold.
 ///
-/// `Plan` where an address of the window is at fault: it names the lowest, and nothing was written
-/// then. `Write` where the writer fails, `Memory` where a growth is refused: at most a beginning of
-/// these lines was written then.
+/// `Plan` names the lowest address at fault; nothing was written then. `Write` where the writer
+/// fails, `Memory` where a growth is refused.
 pub fn write_window<W: ByteOut>(
     alloc: Global,
     meaning: &Meaning,

@@ -13,18 +13,11 @@ use nor_geometry::{Block, PlanUnit};
 use nor_pages::Run;
 use nor_plan_read::{PlanLine, write_line};
 
-/// Writes the lines of a unit, each closed by LF: where a block is erased `erase SSSSSSSS ZZZZZZZZ
-/// OO`, its start, its size and the opcode that is sent, and for each smallest legal block in it
-/// that has a byte which is due, rising, `because SSSSSSSS AAAAAAAA`, the start of that and the
-/// lowest address in it that is due; then `program SSSSSSSS n` for each run, its start and, in
-/// decimal, its bytes. All other numbers are in lower-case hexadecimal digits. It takes no memory.
+/// Writes the lines of a unit (docs/FORMATS.md, section 9): its erase with the reasons, then its
+/// programs. `have` and `want` are the unit's bytes; `runs` are its runs, as
+/// [`split`](nor_pages::split) gives them. It takes no memory.
 ///
-/// `have` and `want` are the unit's bytes, what the chip holds there and what it must hold; `runs`
-/// are its runs, each of which lies in it, as [`split`](nor_pages::split) gives them. A block is
-/// one that a strategy may erase.
-///
-/// At `Failed` a proper prefix was taken; it comes from the writer alone, whose count of failures
-/// rose by one.
+/// `Failed` comes only from the writer.
 pub fn write_unit<W: ByteOut>(
     meaning: &Meaning,
     strategy: Strategy,

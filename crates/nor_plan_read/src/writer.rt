@@ -11,13 +11,11 @@ use itoa::Buffer;
 use nor_base::{ByteOut, Failed, put_parts};
 use nor_script::{hex_number, hex_pair};
 
-/// Writes a line of a plan, closed by LF: `erase SSSSSSSS ZZZZZZZZ OO`, `because SSSSSSSS AAAAAAAA`
-/// or `program SSSSSSSS n`. The number of bytes of a program is in decimal, all other numbers are
-/// in lower-case hexadecimal digits. Without its LF it is a text of which
-/// [`read_line`](crate::read_line) reads just this line. It takes no memory.
+/// Writes a line of a plan, closed by LF. The number of bytes of a program is in decimal, all other
+/// numbers are in lower-case hexadecimal digits. Without its LF it is a text of which
+/// [`read_line`](crate::read_line) reads just this line.
 ///
-/// At `Failed` a proper prefix was taken; it comes from the writer alone, whose count of failures
-/// rose by one.
+/// It takes no memory. `Failed` comes only from the writer.
 pub fn write_line<W: ByteOut>(line: PlanLine, out: &mut W) -> Result<(), Failed>
     requires { W.count out.old < 2 ^ 64 - 1 }
     ensures bytes { Writes (W.held out.old) (W.held out.new) result (line_text line) }

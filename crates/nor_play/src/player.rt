@@ -15,18 +15,11 @@ use nor_chip::Port;
 use std::alloc::Global;
 use std::marker::Model;
 
-/// Plays steps on a port, and answers how many transactions there were.
+/// Plays steps on a port, and returns how many transactions there were. A poll is tried at most
+/// `limit` times. Steps count from 0; a fault at the end has the number of steps.
 ///
-/// A poll is tried at most `limit` times, which is 1 or more. Steps count from 0; a fault at the
-/// end has the number of steps. `Wrong` tells how the chip goes wrong, and at which step: as the
-/// chip itself says, or `Unknown` for the clocks of a poll or a verify that none may have,
-/// `Mismatch` for other bytes than those expected, `PollNever` where `limit` turns of one poll all
-/// said busy, `NotIdleAtEnd` where the chip is busy at the end, or has its latch set, or isn't in
-/// its first address mode. `PortFailed` tells the step whose transaction failed. `Memory` where a
-/// growth is refused.
-///
-/// The port is left as the transactions done so far left it, and is asked for none besides these
-/// and the one that failed. What is fixed with its chip stays, but for `PortFailed`.
+/// `Wrong` is how the chip goes wrong, and at which step; `PortFailed` the step whose transaction
+/// failed; `Memory` where a growth is refused.
 pub fn play<P: Port>(
     alloc: Global,
     steps: &[Step],

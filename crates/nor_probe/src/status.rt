@@ -106,12 +106,11 @@ fn read_register<R: ByteIn, W: ByteOut>(from: &mut R, to: &mut W, opcode: u8) ->
     Ok(byte[0])
 }
 
-/// Whether a chip of this status, an idle one, is as a job wants it: its write enable latch clear
-/// and nothing protected, and of a part whose other status bits are known also not suspended, in
-/// the address mode and with the quad setting that the job starts from.
+/// Whether an idle chip of this status is as a job wants it: its latch clear and nothing protected.
+/// Of a part whose other status bits are known it is also not suspended, and as the job's start
+/// says.
 ///
-/// Of a part of which nothing is known only S1 to S5 are looked at; of a W25Q256JV also the busy
-/// bit.
+/// Of a generic part only S1 to S5 are looked at.
 #[tactic(auto, using(crate::proofs::StatusBits::none_named))]
 pub fn suits(part: Part, start: Start, status: u32) -> bool
     ensures { result ≡ suits part start status }

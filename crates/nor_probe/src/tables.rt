@@ -53,13 +53,11 @@ pub fn table_end(tables: &[u8], i: usize) -> usize
     pointer + 4 * usize::from(tables[at + 3])
 }
 
-/// Has the device read as many bytes of its chip's SFDP as `tables` has, from address 0 on (5Ah),
-/// as many at once as it can give and no more than 256, and compares them with `tables`. It takes
-/// no memory.
+/// Has the device read its chip's SFDP from address 0 on (5Ah), at most 256 bytes at once, and
+/// compares it with `tables`. It takes no memory.
 ///
-/// On Ok just these reads went out, and just the bytes of `tables` came. `Differs` names the lowest
-/// address with another byte; the answer that holds it was taken whole, and no more was read.
-/// `Exchange` where the exchange of a read ended early.
+/// `Differs` names the lowest address with another byte; no more was read then. `Exchange` where
+/// the exchange of a read ended early.
 pub fn compare_tables<R: ByteIn, W: ByteOut>(
     from: &mut R,
     to: &mut W,

@@ -16,13 +16,11 @@ use nor_base::{ByteIn, ByteOut};
 use nor_probe::Mismatch;
 use nor_serprog::{Fault, Limits};
 
-/// Has the device read as many bytes of its chip as there is room for, from address 0 on, as many
-/// at once as it can give; and then again, by an instruction that may be another, and compares them
-/// with the first. No memory is taken.
+/// Has the device read its chip from address 0 on, as many bytes at once as it can give; then
+/// again, perhaps by another instruction, and compares. It takes no memory.
 ///
-/// On Ok just these two readings went out, and both gave the bytes. `Differs` names the lowest
-/// address whose byte came otherwise the second time; no more was read, and four-byte mode was left
-/// where it was entered. `Exchange` where an exchange ended early, after which nothing was sent.
+/// `Differs` names the lowest address whose byte came otherwise; four-byte mode was left where it
+/// was entered. `Exchange` where an exchange ended early, after which nothing was sent.
 pub fn read_content<R: ByteIn, W: ByteOut>(
     from: &mut R,
     to: &mut W,
@@ -77,12 +75,11 @@ fn read_first<R: ByteIn, W: ByteOut>(
     switch_mode(from, to, leave_of(by), LEAVE)
 }
 
-/// Has the device read its chip from address 0 on, in four-byte mode where that is the way, and
-/// compares what comes with bytes, as many at once as it can give. No memory is taken.
+/// Has the device read its chip from address 0 on, and compares it with bytes, as many at once as
+/// it can give. It takes no memory.
 ///
-/// `Differs` names the lowest address whose byte is another; no more was read, and four-byte mode
-/// was left where it was entered. `Exchange` where an exchange ended early, after which nothing was
-/// sent.
+/// `Differs` names the lowest address whose byte is another; four-byte mode was left where it was
+/// entered. `Exchange` where an exchange ended early, after which nothing was sent.
 pub fn read_again<R: ByteIn, W: ByteOut>(
     from: &mut R,
     to: &mut W,

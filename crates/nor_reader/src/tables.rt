@@ -39,12 +39,11 @@ impl From<AllocError> for TablesFault {
     }
 }
 
-/// Has the device read the SFDP tables of its chip, from address 0 on as far as the headers and the
-/// tables that they point at reach, as many bytes at once as it can give; and then again, and
-/// compares them. Memory is taken for them.
+/// Has the device read its chip's SFDP tables twice, from address 0 on as far as the headers and
+/// the tables that they point at reach. Memory is taken for them.
 ///
-/// `NoSignature` where the first four bytes aren't `SFDP`; no more than the header was read.
-/// `Unread` where they didn't come twice alike. `Memory` where a growth is refused.
+/// `NoSignature` where the first four bytes aren't `SFDP`; `Unread` where they didn't come twice
+/// alike; `Memory` where a growth is refused.
 pub fn read_tables<R: ByteIn, W: ByteOut>(
     alloc: Global,
     from: &mut R,

@@ -12,19 +12,11 @@ use nor_base::Step;
 use std::alloc::Global;
 
 /// Reads a script: exactly the texts that [`crate::begin`], [`crate::write_step`] and
-/// [`crate::finish`] write.
+/// [`crate::finish`] write (docs/FORMATS.md, "Script text").
 ///
-/// The first fault is told with its line, counted from 1:
-/// - `Header`: the first line isn't `norscript 1` with its LF.
-/// - `NoEnd`: the text ends before an end line is closed by LF; before the other faults of that
-///   line.
-/// - `BadLine`: a line that is none of `x CLOCKS`, `p CLOCKS`, `v CLOCKS HEX` and `end N`, with one
-///   blank between two parts and nothing else, or a HEX that isn't pairs of lower-case digits.
-/// - `BadSymbol`: a byte of CLOCKS that is no symbol; it is told before a fault of HEX.
-/// - `BadCount`: N isn't the number of steps in decimal without leading zeros.
-/// - `AfterEnd`: a byte after the end line.
-///
-/// `Memory` where a growth is refused.
+/// The first fault is reported with its line, counted from 1, as [`ScriptFault`] has them: of one
+/// line `NoEnd` first, and a fault of its clocks before one of its bytes. `Memory` where a growth
+/// is refused.
 pub fn read(alloc: Global, text: &[u8]) -> Result<Vec<Step>, ScriptFault>
     ensures read { IfOk result (λ steps. IsScript text.now steps.items) }
     ensures refused { IfErr result (Refuses text.now) }

@@ -78,13 +78,12 @@ impl StepReader {
         })
     }
 
-    /// Goes on to the next step, which [`StepReader::view`] shows then; it is one that a script may
-    /// have. `false` where the end line came with the right number, and the device is at its end.
+    /// Goes on to the next step, which [`StepReader::view`] shows then. `false` where the end line
+    /// came and the device is at its end; after that it is `NoEnd`.
     ///
-    /// A fault is that which [`crate::read`] tells of the whole text. `Device` where the device
-    /// failed. `Memory` where a growth is refused, or 2^62 steps were read and a further one comes.
-    /// After each of them the reader stands where it stood, before the line, with the bytes that
-    /// came; so a call after `Device` tries again. After the end no line is left: `NoEnd`.
+    /// A fault is that which [`crate::read`] has of the whole text; `Device` where the device
+    /// failed; `Memory` where a growth is refused, or after 2^62 steps. A call after `Device` tries
+    /// again.
     pub fn advance<R: ByteIn>(&mut self, source: &mut R) -> Result<bool, ReadFault>
         requires { R.count source.old < 2 ^ 64 - 1 }
         ensures step { Advances (reading (R.ahead source.old) self.old.held)

@@ -13,11 +13,10 @@ use crate::limits::Limits;
 use nor_base::{ByteIn, ByteOut, Step, sampled};
 use nor_decode::POLL;
 
-/// Has the device do a step: a [`Step::Send`] is one operation that gives nothing, a [`Step::Poll`]
-/// reads the status until it says idle, `turns` times at most, a [`Step::Verify`] is one operation
-/// that gives what is expected.
+/// Has the device do a step. A [`Step::Poll`] reads the status until it says idle, `turns` times at
+/// most.
 ///
-/// `Busy` where each status said busy, `Carried` where the clocks are no operation within the
+/// `Busy` where each status said busy; `Carried` where the clocks are no operation within the
 /// limits, and then nothing is asked; `Differs` and `Exchange` as
 /// [`operate_with`](crate::operate_with).
 pub fn do_step<R: ByteIn, W: ByteOut>(

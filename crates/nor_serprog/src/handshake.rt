@@ -27,23 +27,11 @@ const S_PIN_STATE: u8 = 0x15;
 /// The most bytes of an operation, where the device doesn't tell: what its request has room for.
 const MOST: u32 = (1 << 24) - 1;
 
-/// Begins with a device, and reports how much it can do in one operation, and whether it drives the
-/// pins of its chip.
+/// Begins with a device (docs/FORMATS.md, section 14), and returns what it can do. A reader that
+/// waits for bytes has to end where the device is silent.
 ///
-/// It is asked for its first word (10h) until NAK and ACK come, once more at the first silence:
-/// some boards reset when they are opened. Then follow the version of its interface (01h), the
-/// commands that it offers (02h), the SPI bus (12h 08h) and, where it offers them, the bytes that
-/// it takes before it answers (04h), the most that an operation sends (08h) and gives (11h), and
-/// the chip's pins (15h 01h). A reader that waits for bytes has to end where the device is silent.
-///
-/// On Ok just these bytes went out and just their answers came, except noise before the first word
-/// and a late answer after it. A most that isn't told, or is 0, is taken for 2^24 - 1. Of 04h NAK
-/// is an answer too: the device takes nothing ahead.
-///
-/// `Command` tells the first command whose exchange ended early, and how: the reader or the writer
-/// failed, the device was silent, answered NAK, or another byte than ACK; of the first word
-/// `Silent` after the last try, and `Differs` where it stood in none of 65536 bytes. `Version`
-/// where that isn't 1, `NoOperation` where 13h isn't offered.
+/// `Command` has the first command whose exchange ended early, and how; `Version` where it isn't 1;
+/// `NoOperation` where 13h isn't offered. A most that isn't said, or is 0, is 2^24 - 1.
 pub fn greet<R: ByteIn, W: ByteOut>(from: &mut R, to: &mut W) -> Result<Limits, GreetFault>
     requires reader { R.count from.old < 2 ^ 64 - 1 }
     requires writer { W.count to.old < 2 ^ 64 - 1 }

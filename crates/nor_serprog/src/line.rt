@@ -18,18 +18,10 @@ const NOP: u8 = 0x00;
 const READ_STATUS: u8 = 0x05;
 
 /// Shows that each byte value reaches the device as it was sent: none is dropped, doubled, or
-/// changed in the ways in which a terminal changes what goes out.
+/// changed as a terminal changes what goes out. All 256 values and three lengths of zeros go out
+/// after 05h, each answered before the next.
 ///
-/// Operations (13h) send 05h and then, between them, all 256 values in rising order, and ask for no
-/// byte; three more send 05h and zeros, 13, 97 and 128 bytes in all, each where the device sends so
-/// many. Then follow NOP (00h) and 10h. Each but the last is answered by ACK alone before the next
-/// goes out, 10h by NAK and ACK: what a doubled byte leaves over is no command, and its answer
-/// stands in the way of the next.
-///
-/// On Ok just these exchanges were done. Else an exchange ended so, after those before it: `Write`
-/// where the writer failed in its command, of which a proper prefix went out; `Nak` where NAK came
-/// in place of ACK, `Differs` where another byte did than one that was wanted, `Silent` and `Read`
-/// where the reader ended or failed before all came.
+/// A fault is that of the first exchange that ended early.
 pub fn test_line<R: ByteIn, W: ByteOut>(
     from: &mut R,
     to: &mut W,

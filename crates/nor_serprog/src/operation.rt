@@ -14,14 +14,11 @@ use nor_base::{ByteIn, ByteOut};
 /// The command of an SPI operation.
 const O_SPIOP: u8 = 0x13;
 
-/// Has the device send bytes and then take bytes, under one chip select (O_SPIOP, 13h). Of both
-/// there are less than 2^24.
+/// Has the device send bytes and then take bytes, under one chip select (O_SPIOP, 13h).
 ///
-/// On Ok just that request went out, and just ACK and the bytes in `got` came. `Write` where the
-/// writer failed in the request, of which a proper prefix went out; else it went out whole. `Nak`
-/// and `Differs` where the first byte that came was NAK, or neither NAK nor ACK; `Silent` and
-/// `Read` where the reader ended or failed before all came. Of these `Nak` alone leaves known where
-/// in its answers the device is.
+/// `Write` where the writer failed; `Nak` and `Differs` where the first byte that came was NAK, or
+/// neither NAK nor ACK; `Silent` and `Read` where the reader ended or failed early. Only after
+/// `Nak` it is known where in its answers the device is.
 pub fn operate<R: ByteIn, W: ByteOut>(
     from: &mut R,
     to: &mut W,
@@ -43,12 +40,11 @@ pub fn operate<R: ByteIn, W: ByteOut>(
     ask(from, to, &[&head, sent], got)
 }
 
-/// The same where the bytes are known that are to come. After ACK as many bytes are taken, by a
-/// buffer on the stack, and compared.
+/// The same where the bytes are known that are to come: they are taken by a buffer on the stack,
+/// and compared.
 ///
-/// On Ok just that request went out, and just ACK and these bytes came. `Differs` where as many
-/// came, but not the same: the place of the first that is another, counted from 0, and what came
-/// there. `Exchange` as `operate`.
+/// `Differs` where as many came, but not the same: the place of the first that is another, counted
+/// from 0, and what came there. `Exchange` as [`operate`].
 pub fn operate_with<R: ByteIn, W: ByteOut>(
     from: &mut R,
     to: &mut W,

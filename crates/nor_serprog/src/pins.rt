@@ -14,9 +14,8 @@ const RELEASE: [u8; 2] = [0x15, 0x00];
 /// Has the device drive the pins of the chip no more (S_PIN_STATE, 15h 00h), so that its board has
 /// the chip to itself.
 ///
-/// On Ok just these bytes went out, and just ACK came. `Write` where the writer failed in them, of
-/// which a proper prefix went out; else they went out whole. `Nak` and `Differs` where NAK came, or
-/// another byte; `Silent` and `Read` where the reader ended or failed before one came.
+/// `Write` where the writer failed; `Nak` and `Differs` where NAK came, or another byte; `Silent`
+/// and `Read` where the reader ended or failed before one came.
 pub fn release<R: ByteIn, W: ByteOut>(from: &mut R, to: &mut W) -> Result<(), Fault>
     requires reader { R.count from.old < 2 ^ 64 - 1 }
     requires writer { W.count to.old < 2 ^ 64 - 1 }

@@ -99,12 +99,10 @@ fn verify_count(steps: &[Step]) -> usize
 }
 
 /// Has the device do the steps of a row, each as [`do_step`](crate::do_step): their requests go out
-/// in one write, and then the answers are taken, one by one. Of a poll up to four status reads go
-/// out so, as many as fit; where all say busy, further ones follow.
+/// in one write, then the answers are taken. Of a poll up to four status reads go out so.
 ///
-/// At the first step that isn't done it stops, and takes no answer after that one's: the halt has
-/// its number in the row, from 0, and the reason. Where the writer failed in the requests that is
-/// 0.
+/// At the first step that isn't done it stops: the halt has its number in the row, from 0, and the
+/// reason.
 pub fn do_row<R: ByteIn, W: ByteOut>(
     from: &mut R,
     to: &mut W,

@@ -21,9 +21,7 @@ use nor_base::{Erase, Meaning, Part, QuadRead, Region, Width};
 /// What a chip's SFDP bytes say of it (JESD216B), under the configuration bits of its sector map, a
 /// `0` or `1` for each detection command, and for its part.
 ///
-/// The first of these is told: `Signature`; `Truncated` (header or parameter headers); `Major`;
-/// `NoBasic`; `ShortTable`; `Truncated` (a table); `Density`; `AddressBytes`; `PageSize`;
-/// `EraseSize`; `MapForm`; `ConfigBits`; `NoMap`; `MapSize`; `Opcode`. Each has its cause at
+/// The first fault is reported, in the order of docs/FORMATS.md, section 4; each has its cause at
 /// [`SfdpFault`].
 #[tactic(auto, unfolding(crate::specs::Reading::meaning_of))]
 pub fn read(bytes: &[u8], bits: &str, part: Part) -> Result<Meaning, SfdpFault>

@@ -59,12 +59,11 @@ pub(crate) fn word_in(table: Option<&SfdpTable<'_>>, i: usize) -> u32
     table.map_or(0, |table| table.word(i))
 }
 
-/// The table of an ID: of its headers of major revision 1 the first with the greatest minor
-/// revision tells where it stands. `None` where there is no such header (JESD216B, 6.2 and 6.3).
+/// The table of an ID, by the first of its headers of major revision 1 with the greatest minor
+/// revision (JESD216B, 6.2 and 6.3). `None` where there is no such header.
 ///
-/// `Signature` where the bytes don't begin with `SFDP`; then `Truncated` where the header or a
-/// parameter header ends past them; then `Major` where the major revision isn't 1; then `Truncated`
-/// where the table ends past the bytes.
+/// `Signature`, then `Truncated` (headers), then `Major`, then `Truncated` where the table ends
+/// past the bytes.
 #[tactic(auto, unfolding(crate::specs::Tables::table_of))]
 pub fn table(bytes: &[u8], id: u16) -> Result<Option<SfdpTable<'_>>, SfdpFault>
     ensures { result ≡ table_of bytes.now id }

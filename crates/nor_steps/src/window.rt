@@ -18,12 +18,11 @@ use std::alloc::Global;
 
 impl<'m> StepWriter<'m> {
     /// Plans the units that start in a window of the chip (one that [`plan`] takes), and writes
-    /// their steps: `have` is what it holds from `at` on, `want` what it must hold. Answers how
-    /// much these steps are, no number above 2^30 for each byte of the window.
+    /// their steps: `have` is what it holds from `at` on, `want` what it must hold. Returns how
+    /// much these steps are.
     ///
-    /// `Plan` where an address of the window is at fault: it names the lowest, and nothing was
-    /// written then. `Write` where the writer fails, `Memory` where a growth is refused: at most a
-    /// beginning of these steps was written then.
+    /// `Plan` names the lowest address at fault; nothing was written then. `Write` where the writer
+    /// fails, `Memory` where a growth is refused.
     pub fn more<W: InstrOut>(
         &mut self,
         alloc: Global,

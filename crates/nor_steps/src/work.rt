@@ -25,11 +25,10 @@ pub trait WorkWriter {
 
     /// Writes the text of the units that start in a window of the chip (one that
     /// [`plan`](nor_erase::plan) takes): `have` is what it holds from `at` on, `want` what it must
-    /// hold. Answers how much their steps are, no number above 2^30 for each byte of the window.
+    /// hold. Returns how much their steps are.
     ///
-    /// `Plan` where an address of the window is at fault: it names the lowest, and nothing was
-    /// written then. `Write` where the writer fails, `Memory` where a growth is refused: at most a
-    /// beginning of this text was written then.
+    /// `Plan` names the lowest address at fault; nothing was written then. `Write` where the writer
+    /// fails, `Memory` where a growth is refused.
     fn write_window<W: ByteOut>(
         &mut self,
         alloc: Global,

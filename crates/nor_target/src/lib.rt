@@ -22,12 +22,8 @@ pub use nor_layout::Chosen;
 pub use shares::{Share, chosen_regions, first_empty, share_of};
 
 /// Fills `want` with the target of the chip's addresses from `at` on, where `have` is what the chip
-/// holds there.
-///
-/// `want[i]` becomes the image's byte at `base + at + i`, where `at + i` is chosen, that sum is
-/// below 2^32 and the image gives it a byte; else it becomes `have[i]`. So it is this part of the
-/// target of any content that holds `have` there. Both slices have one length, and `at` plus it is
-/// at most 2^32. It takes no memory.
+/// holds there: the image's byte at `base` plus the address where the address is chosen and the
+/// image gives one, else what the chip holds. It takes no memory.
 pub fn fill(image: &Image, base: u32, chosen: &Chosen, at: u32, have: &[u8], want: &mut [u8])
     requires lengths { length have.now ≡ length want.old }
     requires inside { at + length have.now ≤ 2 ^ 32 }

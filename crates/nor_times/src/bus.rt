@@ -31,11 +31,8 @@ impl<'m> Model for Job<'m> {
 }
 
 /// The clocks of the script that does a plan's lines, each poll once, as `build` writes it for a
-/// chip that begins so: the exact sum.
-///
-/// Each erase and each program has a write enable, its instruction and a poll. With `verify` each
-/// page of a block that is erased is read, and each program past the block that was erased last.
-/// Where a line tells an instruction, the mode that the strategy needs is entered and left.
+/// chip that begins so: the exact sum. With `verify` each page of an erased block is read, and each
+/// program past it.
 #[tactic(auto, unfolding(crate::specs::Bus::bus_of))]
 pub fn bus_clocks(meaning: &Meaning, start: &Start, verify: bool, lines: &[PlanLine]) -> u128
     ensures { result ≡ bus_of meaning.now start.now verify lines.now }

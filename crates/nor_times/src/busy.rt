@@ -18,13 +18,9 @@ pub struct Busy {
     pub worst: u128,
 }
 
-/// How long a chip is busy with the erases and programs of a plan's lines: the exact sums. Polls
-/// and clocks add nothing.
-///
-/// An erase takes the time of the live kind that its opcode, `op` or `op4`, names; in a plan for
-/// the chip it names one, and no more than one. Where it names none it takes no time. A program
-/// takes the lesser of a page's time and that of its bytes, the first and each further one; one of
-/// no bytes takes no time. The worst time is the typical one by its factor.
+/// How long a chip is busy with the erases and programs of a plan's lines: the exact sums
+/// (docs/FORMATS.md, "Times"). Polls and clocks add nothing. An erase of an opcode that no live
+/// kind has takes no time.
 #[tactic(auto, unfolding(crate::specs::Busy::busy_of))]
 pub fn busy_time(times: &Times, meaning: &Meaning, lines: &[PlanLine]) -> Busy
     ensures { result ≡ busy_of times.now meaning.now lines.now }

@@ -33,15 +33,10 @@ $end
 ";
 
 /// Writes the waveform of steps as a Value Change Dump (IEEE 1364) of the wires `CS#`, `CLK`, `IO0`
-/// to `IO3` and `SMP`, which is 1 at a clock at which lanes are sampled. A tick is half a clock, or
-/// 10 ns; four ticks stand before each step and after the last. A poll is drawn once. A lane that
-/// is sampled shows the bit that a [`Step::Verify`] expects, and `x` where none is; a lane that
-/// nobody drives is `z`. A byte that is no symbol is a clock at which nothing is driven. The steps
-/// may also be such as no script has; one without clocks is its gap alone. Ticks are counted in 64
-/// bits.
+/// to `IO3` and `SMP` (docs/FORMATS.md, "Waveform"). A poll is drawn once. The steps may also be
+/// such as no script has. It takes no memory.
 ///
-/// It takes no memory. At `Failed` a proper prefix was taken; it comes from the writer alone, whose
-/// count of failures rose by one.
+/// `Failed` comes only from the writer.
 pub fn write_waves<W: ByteOut>(steps: &[Step], out: &mut W) -> Result<(), Failed>
     requires { W.count out.old < 2 ^ 64 - 1 }
     ensures bytes { Writes (W.held out.old) (W.held out.new) result (waves steps.now) }

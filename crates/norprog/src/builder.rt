@@ -27,28 +27,11 @@ use nor_steps::{StepWriter, Tally};
 use nor_target::ignored;
 use std::alloc::Global;
 
-/// Writes the script that programs a chip: run on any idle, unprotected chip of the inputs with the
-/// content that the reader gives, with any busy times that end, it gives every chosen address the
-/// image's byte where it has one, leaves every other byte as before, has no instruction ignored and
-/// no program raising a bit, and ends idle in the address mode that the chip began in. After each
-/// transaction at most one block or page is in the making. It erases just the needed area, each
-/// address once, in the largest blocks, and no script that does this erases less. With `verify`
-/// each address that it erases or programs is read later. The report answered counts what a run
-/// shows.
+/// Writes the script that programs a chip. `content` gives what it holds, `len` bytes from address
+/// 0 on; `out` isn't flushed. Memory is taken for image, layout, two windows and their work.
 ///
-/// `content` gives what the chip holds, `len` bytes from address 0 on; no more are read. `out`
-/// takes the text of the script (docs/FORMATS.md, "Script text"), which isn't flushed. The content
-/// is read a window at a time, as large as the chip's largest erase and at least 4096 bytes, and
-/// the steps of a window are written before the next is read. Memory is taken for the image, the
-/// layout with its chosen regions, two windows, and the work on one of them.
-///
-/// Of the inputs' faults the first of these is told, before anything is read or written:
-/// `Contradiction`, `Hex`, `Layout`, `Sfdp`, `Status`, `ModeImpossible`, `ContentSize`; their
-/// causes stand at [`BuildFault`]. In the work: `ContentShort` where the reader ends before `len`
-/// bytes, `Read` where it fails, `Plan` with the lowest address that can't be made to hold its
-/// target, the first of these; `Write` where the writer fails, which is final; `Memory` comes where
-/// a growth is refused. After any fault what was written is a proper prefix of a script, hence no
-/// script.
+/// The first fault of the inputs is reported before anything is read or written, as [`BuildFault`]
+/// orders them. `Plan` has the lowest address that can't get its target.
 pub fn build<R: ByteIn, W: ByteOut>(
     alloc: Global,
     inputs: &Inputs<'_>,

@@ -12,15 +12,10 @@ use nor_base::{
     ByteOut, Erase, Failed, Meaning, QuadRead, Region, Switch, Width, put_all, put_parts,
 };
 
-/// Writes what a meaning says, a line each, closed by LF: `size n`, `page n` (` up` behind it where
-/// the page is only known to be that large or larger), `address three`, `both` or `four`; `erase K
-/// n OO PP` for each present kind (its opcode and its dedicated one, `--` where there is none);
-/// `enter W`, `leave W` with W `absent`, `plain` or `latched`; `quadread OO n` or `quadread none`;
-/// `dedicated` and those of 13, 6c, 12, 34 that are offered; `region n k` for each region, k the
-/// mask of its kinds. Opcodes are in hexadecimal, all else in decimal. It takes no memory.
+/// Writes what a meaning says, a line each, closed by LF (docs/FORMATS.md, section 9). Opcodes are
+/// in hexadecimal, all else in decimal. It takes no memory.
 ///
-/// At `Failed` a proper prefix was taken; it comes from the writer alone, whose count of failures
-/// rose by one.
+/// `Failed` comes only from the writer.
 pub fn sfdp_text<W: ByteOut>(meaning: &Meaning, writer: &mut W) -> Result<(), Failed>
     requires { W.count writer.old < 2 ^ 64 - 1 }
     ensures bytes { Writes (W.held writer.old) (W.held writer.new) result

@@ -24,23 +24,11 @@ use nor_plan_laws::there_is_planned_work;
 use nor_steps::Tally;
 use std::alloc::Global;
 
-/// Writes the lines that tell the plan of the script that [`build`](crate::build) writes of the
-/// same inputs and content: for each unit of the work, in rising address, its erase with the
-/// reasons, and its programs (docs/FORMATS.md). Answers that build's report.
+/// Writes the lines of the plan of the script that [`build`](crate::build) writes of the same
+/// inputs and content (docs/FORMATS.md, section 9). `out` isn't flushed; no line of a window goes
+/// out before the whole window is planned. Memory is taken as for the build.
 ///
-/// `content` gives what the chip holds, `len` bytes from address 0 on; no more are read. `out`
-/// takes the lines, and isn't flushed. The content is read a window at a time, as large as the
-/// chip's largest erase and at least 4096 bytes; the lines of a window are written before the next
-/// is read, and none of them before the whole window is planned. Memory is taken as for the build.
-///
-/// Of the inputs' faults the first of these is told, before anything is read or written:
-/// `Contradiction`, `Hex`, `Layout`, `Sfdp`, `Status`, `ModeImpossible`, `ContentSize`; their
-/// causes stand at [`BuildFault`]. In the work: `ContentShort` where the reader ends before `len`
-/// bytes, `Read` where it fails, `Plan` with the lowest address that can't be made to hold its
-/// target, the first of these; `Write` where the writer fails, which is final; `Memory` comes where
-/// a growth is refused. After `ContentShort`, `Read` and `Plan` what was written is all lines of
-/// the windows before; after `Write` and `Memory` it is some of the lines of the windows that were
-/// read, from their beginning on.
+/// Faults come as from the build.
 pub fn plan<R: ByteIn, W: ByteOut>(
     alloc: Global,
     inputs: &Inputs<'_>,

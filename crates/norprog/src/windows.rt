@@ -23,13 +23,10 @@ pub(crate) fn room(alloc: Global, window: usize) -> Result<(Vec<u8>, Vec<u8>), A
     Ok((vec![in alloc; 0; window]?, vec![in alloc; 0; window]?))
 }
 
-/// Reads the content, and has the text of each window written as soon as it is read. Answers how
-/// much the steps of all windows are.
+/// Reads the content, and has the text of each window written as soon as it is read. Returns how
+/// much the steps of all windows are. `have` and `want` have room for a window each.
 ///
-/// `have` and `want` have room for a window of the chip each. `ContentShort` where the reader ends
-/// before the chip's size, `Read` and `Write` where that device fails, `Plan` where an address of a
-/// window that was read is at fault, `Memory` where a growth is refused: the first of these that
-/// the work meets.
+/// `ContentShort`, `Read`, `Write`, `Plan` and `Memory`: the first that the work meets.
 pub(crate) fn write_windows<T: WorkWriter, R: ByteIn, W: ByteOut>(
     alloc: Global,
     job: &Job,

@@ -16,11 +16,9 @@ use norprog_common::{
 };
 use std::alloc::Global;
 
-/// Does what the texts of a command line ask for. It opens the files that they name, writes the
-/// report to `out` and a refusal to `err` (docs/FORMATS.md, section 9), and answers the status: 0
-/// done, 1 refused, 2 usage. The script's file is made as none of the files that are read.
-///
-/// Usage is told where the texts ask for no build.
+/// Does what the texts of a command line ask for. The report goes to `out`, a refusal to `err`
+/// (docs/FORMATS.md, section 9). Returns the status: 0 done, 1 refused, 2 usage, where the texts
+/// ask for no build.
 pub fn build<S: FileStore, O: ByteOut, E: ByteOut>(
     alloc: Global,
     store: &S,

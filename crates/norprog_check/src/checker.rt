@@ -20,22 +20,10 @@ use nor_script::{TextIn, faultless_scripts};
 use std::alloc::Global;
 
 /// Whether the text of a script, from anybody, does the job of the inputs on every chip that they
-/// describe and that holds what the reader gives.
+/// describe and that holds what the reader gives; `No` as [`nor_check::check`], with a chip that
+/// shows it. Memory is taken as [`check_streams`] takes it.
 ///
-/// `content` gives what the chip holds, `len` bytes from address 0 on; no more are read. `Yes`
-/// exactly where a run of the script's steps on each such chip, of each page that may be, with any
-/// busy times that end and both answers on keeping the latch, has nothing wrong, gives every chosen
-/// address the image's byte where it has one, leaves every other byte as before, and ends idle in
-/// the first address mode. Else `No` with the first step at which some chip goes wrong, and why
-/// ([`nor_check::check`]), and with a chip that shows it. Memory is taken as [`check_streams`]
-/// takes it: the script's steps aren't held, and it is read twice.
-///
-/// The first of these is told: `Build` of a refusal of the inputs, as [`nor_job::job_of`] orders
-/// them, from `Contradiction` to `ContentSize`; `Script` with the first fault of the text; and only
-/// then the content is read: `Build` of `ContentShort` where the reader ends before `len` bytes, of
-/// `Read` where it fails, which is final. `Build` of `Memory` comes where a growth is refused, also
-/// one of the script's reader. Accepted inputs and the text of some steps meet `ContentShort`,
-/// `Read` and `Memory` alone.
+/// Faults come in this order: those of the inputs, the text, the content.
 pub fn check_script<R: ByteIn>(
     alloc: Global,
     inputs: &Inputs<'_>,

@@ -14,12 +14,10 @@ use nor_check::{Verdict, Why};
 use nor_script::hex_number;
 use norprog_common::wrong_number;
 
-/// Writes a verdict's line, closed by LF: `yes`; or `no at K wrong N`, where K is the step, counted
-/// from 0, and N the number of what goes wrong there ([`Wrong`]), both in decimal; or `no at K
-/// differs A`, where A is the address in eight lower-case hexadecimal digits. It takes no memory.
+/// Writes a verdict's line, closed by LF: `yes`, `no at K wrong N` or `no at K differs A`, with K
+/// and N in decimal and A in eight lower-case hexadecimal digits. It takes no memory.
 ///
-/// At `Failed` a proper prefix was taken; it comes from the writer alone, whose count of failures
-/// rose by one.
+/// `Failed` comes only from the writer.
 #[tactic(auto, unfolding(crate::specs::Line::verdict_text))]
 pub fn write_verdict<W: ByteOut>(verdict: &Verdict, out: &mut W) -> Result<(), Failed>
     requires { W.count out.old < 2 ^ 64 - 1 }
@@ -81,10 +79,9 @@ fn write_differs<W: ByteOut>(step: u64, address: u32, out: &mut W) -> Result<(),
 const DEFAULT_LIMIT: u32 = 1_000_000;
 
 /// Writes the verdict's line, as [`write_verdict`] does, and where it is asked for that of the chip
-/// that shows a no: `shown by norprog run --each-busy N`, ` --keep`, ` --page P`, and ` --limit` N
-/// + 1 where the default limit of 1000000 isn't above N. Each ends with LF.
+/// that shows a no, as options of `norprog run`. Each ends with LF.
 ///
-/// At `Failed` a proper prefix was taken; it comes from the writer.
+/// `Failed` comes only from the writer.
 pub fn write_finding<W: ByteOut>(found: &Finding, witness: bool, out: &mut W) -> Result<(), Failed>
     requires { W.count out.old < 2 ^ 64 - 1 }
     ensures bytes { Writes (W.held out.old) (W.held out.new) result

@@ -25,24 +25,11 @@ use nor_job::{Inputs, job_of};
 use nor_script::{ReadFault, count_steps, faultless_scripts};
 use std::alloc::Global;
 
-/// Whether the text of a script, from anybody, does the job of the inputs on every chip that they
-/// describe and that holds what the reader gives: [`crate::check_script`] of a script that is read
-/// twice and never held. `first` and `again` tell it, the one for its faults, before any content is
-/// read, the other for its steps.
+/// [`crate::check_script`] of a script that is read twice and never held: `first` for its faults,
+/// before any content is read, `again` for its steps. The finding is of the text that `again` had.
 ///
-/// The finding is of the text that `again` had. Memory is taken for the inputs as
-/// [`nor_job::job_of`] takes it, for one reader of steps at a time ([`nor_script::StepReader`]: 256
-/// KiB, more for a longer line), and for twice the chip's size; where a script tells chips of
-/// different pages apart, more ([`StepChecker`]).
-///
-/// The first of these is told: `Build` of a refusal of the inputs, as [`nor_job::job_of`] orders
-/// them, from `Contradiction` to `ContentSize`, with nothing read; `Script` with the first fault of
-/// the text that `first` had, or `First` where `first` fails, and neither `again` nor the content
-/// is read; `Build` of `ContentShort` where the reader ends before `len` bytes, of `Read` where it
-/// fails, which is final, and `again` isn't read; `Script` with the first fault of the text that
-/// `again` had, where that is another one, or `Again` where `again` fails. `Build` of `Memory`
-/// comes where a growth is refused. Where both tell the same text and don't fail, this is what
-/// [`crate::check_script`] tells of it.
+/// Memory is taken for the inputs, one reader of steps and twice the chip's size. `First` and
+/// `Again` where that reader fails.
 pub fn check_streams<F: ByteIn, A: ByteIn, R: ByteIn>(
     alloc: Global,
     inputs: &Inputs<'_>,

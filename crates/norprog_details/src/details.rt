@@ -17,17 +17,10 @@ use norprog_common::{FileName, FileStore};
 use norprog_explain::write_topic;
 use std::alloc::Global;
 
-/// Writes what more there is to say of the line of a refusal, without its LF, of a command line:
+/// Writes what more there is to say of the line of a refusal, without its LF, of a command line
+/// (docs/FORMATS.md, section 9).
 ///
-/// - after `usage`, which values aren't of their form and which options don't go together;
-/// - else the option that the refusal is about, with its value, and what the system says of a file
-///   that it doesn't open;
-/// - the name of the region that it counts;
-/// - the line of the file at which it is, and the command that converts a file of another kind;
-/// - the paragraph of `explain`.
-///
-/// Where `err` fails the rest is left out. So is the file's line where the file can't be read
-/// again.
+/// Where `err` fails the rest is left out. So is the line of a file that can't be read again.
 pub fn write_details<S: FileStore, E: ByteOut>(
     alloc: Global,
     store: &S,

@@ -13,11 +13,8 @@ use norprog_common::{DrawArgs, FileName, FileStore, Refusal, answered};
 use std::alloc::Global;
 
 /// Draws the script on a command line into the file that it names, or writes a refusal to `err`
-/// (docs/FORMATS.md, section 9), and answers the status: 0 done, 1 refused, 2 usage. Nothing is
-/// printed where it is done. That file is made as another one than the script's, and only where the
-/// script has the first step that is asked for.
-///
-/// Usage is told where the texts ask for no waveform.
+/// (docs/FORMATS.md, section 9). Returns the status: 0 done, with nothing printed, 1 refused, 2
+/// usage, where the texts ask for no waveform.
 pub fn draw<S: FileStore, E: ByteOut>(
     alloc: Global,
     store: &S,

@@ -14,11 +14,9 @@ use nor_serprog::Fault;
 use norprog_common::wrong_number;
 
 /// Writes why a step isn't done, in a line: `failed at K WHY`, with the step in decimal, counted
-/// from 0; a device that stays busy is the wrong of a poll that never ends, `wrong 6 at K`. It
-/// takes no memory.
+/// from 0; for a device that stays busy `wrong 6 at K`. It takes no memory.
 ///
-/// At `Failed` a proper prefix was taken; it comes only from the writer, whose count of failures
-/// rose by one.
+/// `Failed` comes only from the writer.
 pub fn write_failure<W: ByteOut>(step: u64, why: Failure, writer: &mut W) -> Result<(), Failed>
     requires { W.count writer.old < 2 ^ 64 - 1 }
     ensures bytes { Writes (W.held writer.old) (W.held writer.new) result (failure_line step why) }

@@ -15,10 +15,9 @@ use std::alloc::Global;
 /// Past the last address.
 const PAST: u64 = 1 << 32;
 
-/// Writes the raw image on a command line as Intel HEX into the file that it names, or a refusal to
-/// `err` (docs/FORMATS.md, section 9), and returns the status: 0 done, 1 refused, 2 usage. Nothing
-/// is printed where it is done. That file is made as another one than the image's, and only once
-/// the image is known to fit.
+/// Writes the raw image on a command line as Intel HEX into the file that it names, made only once
+/// the image is known to fit, or a refusal to `err` (docs/FORMATS.md, section 9). Returns the
+/// status: 0 done, with nothing printed, 1 refused, 2 usage.
 pub fn hex<S: FileStore, E: ByteOut>(
     alloc: Global,
     store: &S,

@@ -23,8 +23,7 @@ const SEGMENT: usize = 1 << 16;
 /// on. It takes memory for 64 KiB.
 ///
 /// `File` of `Bin` where the reader fails, or gives fewer bytes or more; the text has no end record
-/// then. `Write` where `out` fails, which has taken a proper prefix then; `Memory` where a growth
-/// is refused, with `out` as it was.
+/// then. `Write` where `out` fails; `Memory` where a growth is refused.
 pub fn write_bin<R: ByteIn, W: ByteOut>(
     alloc: Global,
     bin: &mut R,

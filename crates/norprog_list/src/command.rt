@@ -13,10 +13,8 @@ use norprog_common::{FileName, FileStore, ListArgs, Refusal, answered, setup_inp
 use std::alloc::Global;
 
 /// Writes to `out` the listing of the script on a command line, by the chip that it names, or a
-/// refusal to `err` (docs/FORMATS.md, section 9), and answers the status: 0 done, 1 refused, 2
-/// usage. Where the script is refused, the lines of the steps above its fault may stand in `out`.
-///
-/// Usage is told where the texts ask for no listing.
+/// refusal to `err` (docs/FORMATS.md, section 9). Returns the status: 0 done, 1 refused, 2 usage.
+/// Lines above the script's fault may stand in `out`.
 pub fn list<S: FileStore, O: ByteOut, E: ByteOut>(
     alloc: Global,
     store: &S,

@@ -12,17 +12,11 @@ use nor_script::{ReadFault, ScriptFault};
 use norprog_common::{FileName, Refusal, known_chip};
 use std::alloc::Global;
 
-/// Writes the listing of the steps of a script, by the chip of the inputs and the address mode that
-/// it begins in, each line as its step comes. But for contradictions the image, the layout's
-/// regions, the base and the verifying of the inputs have no part in it. Memory is taken for the
-/// longest line.
+/// Writes the listing of the steps of a script, by the chip of the inputs and its first address
+/// mode, each line as its step comes. Memory is taken for the longest line.
 ///
-/// The first fault is told: `Contradiction`, `Sfdp`, `Status` and `ModeImpossible` as a build tells
-/// them, which leave `script` and `out` as they were. Then, of the lines in their order, `Script`
-/// where the text is none, after the listing, without its end line, of the steps whose lines stand
-/// above the fault's; `Write` where `out` fails, which has then taken a proper prefix of the
-/// listing, or of the lines of the first steps, whatever follows these; `File` of `Script` where
-/// `script` fails, and `Memory` where a growth is refused, after the lines of the first steps.
+/// The first fault is reported: of the inputs, which leaves `script` and `out` as they were; then,
+/// line by line, `Script`, `Write`, `File` of `Script` and `Memory`.
 pub fn list_script<R: ByteIn, W: ByteOut>(
     alloc: Global,
     inputs: &Inputs<'_>,

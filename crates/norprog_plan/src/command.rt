@@ -24,14 +24,10 @@ use norprog_common::{
 };
 use std::alloc::Global;
 
-/// Writes to `out` the lines of the plan of the job on a command line, the report that a build of
-/// it would have and, where they are asked for, the lines of its times; or a refusal to `err`
-/// (docs/FORMATS.md, sections 9 and 15). Where a picture is asked for it goes to its file first
-/// (section 16), which is made as none of the files that are read. Answers the status: 0 done, 1
-/// refused, 2 usage. Lines of windows before the one at fault stand in `out` also where the job is
-/// refused. Memory is taken for the text.
-///
-/// Usage is told where the texts ask for no plan.
+/// Writes to `out` the plan of the job on a command line, with what is asked for beside it, or a
+/// refusal to `err` (docs/FORMATS.md, sections 9, 15 and 16). A picture goes to its file first.
+/// Returns the status: 0 done, 1 refused, 2 usage. Lines of windows before the one at fault stand
+/// in `out`.
 pub fn plan<S: FileStore, O: ByteOut, E: ByteOut>(
     alloc: Global,
     store: &S,

@@ -26,17 +26,10 @@ use norprog_common::{FileName, FileStore, PlayArgs, Refusal, refuse, setup_input
 use norprog_device::{open_port, refuse_device};
 use std::alloc::Global;
 
-/// Does what the texts of a command line of `play` ask for. It opens the files that they name,
-/// plays the script on the chip in memory, and then, where nothing goes wrong there and every chip
-/// that they describe does the same, on the chip behind the device that they name; it writes the
-/// line of the ending to `out`, or a refusal to `err` (docs/FORMATS.md, sections 9 and 14). Where
-/// steps were sent and the chip may hold a part of the work it first writes to `err` what to do
-/// then. It returns the status: 0 all done, 1 not so or refused, 2 usage.
-///
-/// Where steps are sent to the device, how many are done is written to `progress` after each
-/// hundred and at the end, in a line that is written over; where that fails nothing changes.
-///
-/// Usage is told where the texts ask for no play.
+/// Does what the texts of a command line of `play` ask for: on the chip in memory, then on that of
+/// the device. The ending's line goes to `out`; a refusal, and what to do with the chip, to `err`;
+/// how far it is to `progress` (docs/FORMATS.md, section 14). Returns 0 where all was done, 1 where
+/// not, 2 for usage.
 pub fn play<S: FileStore, O: ByteOut, E: ByteOut, P: ByteOut>(
     alloc: Global,
     store: &S,

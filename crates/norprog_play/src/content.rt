@@ -14,12 +14,10 @@ use nor_probe::Mismatch;
 use nor_serprog::Limits;
 
 /// Has the device read the marked cells of its chip, from the lowest on, as many bytes at once as
-/// it can give, lie side by side and lie on one side of 2^24, and compares them with a content, the
-/// byte of address 0 the first. It takes no memory.
+/// it can, and compares them with a content that begins at address 0. It takes no memory.
 ///
-/// At Ok the device gave just these bytes. Else the read of a piece ended so: `Exchange` early, or
-/// `Differs` with the lowest address of it whose byte is another; then its answer was taken whole,
-/// and four-byte mode left where it was entered.
+/// `Exchange` where a read ended early; `Differs` with the lowest address whose byte is another,
+/// after which four-byte mode was left.
 pub(crate) fn compare<R: ByteIn, W: ByteOut>(
     from: &mut R,
     to: &mut W,

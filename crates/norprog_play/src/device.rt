@@ -30,28 +30,11 @@ use nor_serprog::Shadowed;
 use std::alloc::{AllocError, Global};
 use std::io::{Read, Write};
 
-/// Plays steps on a device, after its handshake, beside a ready chip in memory that is never busy,
-/// on which they go well in so many transactions ([`ends_early`](crate::ends_early) says).
+/// Plays steps on a device, after its handshake, beside a ready chip in memory on which they go
+/// well ([`ends_early`](crate::ends_early)), in the order of docs/FORMATS.md, section 14.
 ///
-/// First each is looked at: `Failed` for `Carried` with the first whose clocks are no operation of
-/// the device. Then, unless the chip behind the device is trusted, it is asked for its status until
-/// it is idle, at most as often as the port has turns, and its SFDP bytes are compared with those
-/// that it has to have: `Unlike` where it stays busy, where its status shows that it can't take the
-/// steps, or where a byte is another. Then the device reads the cells that [`compared_cells`]
-/// marks: `Unlike` where a byte is another, or where the reading stops. It reads by 03h with the
-/// address bytes of the chip's first mode, so a chip in the other mode gives other bytes; past 2^24
-/// in three-byte mode it reads by 13h where the tables offer it, else in four-byte mode, which is
-/// entered before each read and left after it. Then the device is asked for one step after the
-/// other: `Failed` with the first that it didn't do as the chip in memory did, and why. Last,
-/// unless the chip is trusted, the same cells are read again, and those that [`mark_wraps`] marks
-/// for what the chip in memory holds then, and compared with that: `Failed` with the number of
-/// steps where a byte is another, or where the reading stops. `Done` where all that went well.
-///
-/// How many steps are done is written to `progress` after each hundred and at the end; where that
-/// fails nothing changes.
-///
-/// Memory is taken for the marks of the cells and for the most bytes that a step samples. Where a
-/// growth is refused the device was asked for nothing.
+/// How many are done is written to `progress`; where that fails nothing changes. Memory is taken
+/// before the device is asked for anything.
 pub fn play_on_device<R: Read + Drop, W: Write + Drop, P: ByteOut>(
     alloc: Global,
     meaning: &Meaning,

@@ -40,10 +40,9 @@ pub enum Early {
     },
 }
 
-/// How steps end whatever the device is: `Wrong` where a ready chip in memory that holds these
-/// bytes and is never busy goes wrong in them; else `No` where they don't do the same on every chip
-/// of the meaning and start that holds these bytes; else `Failed` for `Carried` with the first
-/// whose clocks are no operation of any device. `Goes` where none of these is so.
+/// How steps end whatever the device is: `Wrong` where a ready chip in memory that is never busy
+/// goes wrong; else `No` where they don't do the same on every chip; else `Failed` for `Carried`
+/// with the first that is no operation of any device; else `Goes`.
 ///
 /// Memory is taken as by [`rehearse`].
 pub fn ends_early(

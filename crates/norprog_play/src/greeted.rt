@@ -24,12 +24,12 @@ use norprog_device::DeviceFault;
 use std::alloc::Global;
 use std::io::{Read, Write};
 
-/// Begins with a device, and plays steps on it that go well on the chip in memory in so many
-/// transactions, as [`play_on_device`] does, by the limits that the device tells.
+/// Begins with a device, and plays steps on it as [`play_on_device`] does, by the limits that the
+/// device says.
 ///
-/// `Device` where the handshake or the test of the line ends early, and why: nothing was sent to
-/// the chip but what it ignores, and the port isn't to be used any more. `Refused` for `Memory`
-/// where a growth is refused: then nothing else was done.
+/// `Device` where the handshake or the test of the line ended early: nothing was sent to the chip
+/// except what it ignores. `Refused` for `Memory` where a growth is refused: then nothing else was
+/// done.
 pub fn greet_and_play<R: Read + Drop, W: Write + Drop, P: ByteOut>(
     alloc: Global,
     meaning: &Meaning,

@@ -25,18 +25,11 @@ pub struct Job {
     pub content: Vec<u8>,
 }
 
-/// What is to be played: the steps that a script spells, on the chip of the inputs. Except for
-/// contradictions the image, the layout's regions, the base and the verifying of the inputs have no
-/// part in it.
+/// What is to be played: the steps that a script spells, on the chip of the inputs. `content` gives
+/// what it holds, `len` bytes from address 0 on. Memory is taken for steps and content.
 ///
-/// `content` gives what the chip holds, `len` bytes from address 0 on; no more are read. Memory is
-/// taken for the steps and the content: the script's text is never held.
-///
-/// The first fault is reported. Before anything is read: `Contradiction`, `Sfdp`, `Status`,
-/// `ModeImpossible`, and `ContentSize` where `len` isn't the chip's size. Before any content is:
-/// `Script` where the text is none, `File` of `Script` where its reader fails. Then `ContentShort`
-/// where the reader ends before `len` bytes, and `Read` where it fails. `Memory` comes where a
-/// growth is refused.
+/// The first fault is reported: those of the inputs with nothing read; those of the script before
+/// any content is read; those of the content.
 pub fn job_of<A: ByteIn, R: ByteIn>(
     alloc: Global,
     inputs: &Inputs<'_>,

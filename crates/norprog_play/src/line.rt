@@ -18,14 +18,10 @@ use norprog_check::write_verdict;
 use norprog_common::wrong_number;
 use norprog_device::word;
 
-/// Writes the line of an ending, closed by LF, with counts in decimal, addresses in eight and bytes
-/// in two lower-case hexadecimal digits: `ok N` with the number of transactions; `wrong N at K`
-/// with the wrong's number and the step; a check's line, `no at K` and why; `unlike WHY`; `failed
-/// at K WHY` (docs/FORMATS.md, section 14). A device that stays busy in a step is the wrong of a
-/// poll that never ends, 6. It takes no memory.
+/// Writes the line of an ending (docs/FORMATS.md, section 14), closed by LF, with counts in
+/// decimal, addresses in eight and bytes in two lower-case hexadecimal digits. It takes no memory.
 ///
-/// At `Failed` a proper prefix was taken; it comes from the writer alone, whose count of failures
-/// rose by one.
+/// `Failed` comes only from the writer.
 pub fn write_ending<W: ByteOut>(ending: &Ending, writer: &mut W) -> Result<(), Failed>
     requires { W.count writer.old < 2 ^ 64 - 1 }
     ensures bytes { Writes (W.held writer.old) (W.held writer.new) result (ending_line ending.now) }

@@ -36,9 +36,8 @@ pub enum Rehearsal {
     },
 }
 
-/// Plays steps on a ready chip in memory that holds these bytes and is never busy: a poll is one
-/// status read. Where that goes well it checks that they do the same on every chip of the meaning
-/// and start that holds these bytes ([`nor_check::check`]).
+/// Plays steps on a ready chip in memory that holds these bytes and is never busy. Where that goes
+/// well it checks that they do the same on every chip ([`nor_check::check`]).
 ///
 /// Memory is taken for two more such contents; where a step tells chips of different pages apart,
 /// more.

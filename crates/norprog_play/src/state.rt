@@ -20,10 +20,9 @@ const STATE: &[u8] =
         what \
     `norprog run --out want.bin` of this script leaves. See: norprog explain the chip may hold\n";
 
-/// Writes to `err` what to do with a chip that may hold a part of the work, where that is so, and
-/// then the line of an ending to `out`, or to `err` that it can't be written. Returns the status: 0
-/// where all was done and printed, else 1. Where `err` fails a part of its text is lost, and
-/// nothing more is written there.
+/// Writes to `err` what to do with a chip that may hold a part of the work, and then the line of an
+/// ending to `out`, or to `err` that it can't be written. Returns the status: 0 where all was done
+/// and printed, else 1.
 pub(crate) fn report_ending<O: ByteOut, E: ByteOut>(ending: &Ending, out: &mut O, err: &mut E) -> u8
     requires out { O.count out.old < 2 ^ 64 - 1 }
     requires err { E.count err.old < 2 ^ 64 - 1 }

@@ -27,11 +27,10 @@ use norprog_common::{Refusal, known_chip};
 use std::alloc::Global;
 
 /// Has the chip behind a device say what it is, wait until it is idle, and give its tables and its
-/// content, each byte twice; at the end it has to say again what it is. Memory is taken for what is
-/// read.
+/// content, each byte twice; at the end it says again what it is. Memory is taken for what is read.
 ///
-/// `Unlike` where it doesn't say or give what it has to, `Refused` where its tables, those of a
-/// file, or its size have no meaning, and for `Memory` where a growth is refused.
+/// `Unlike` where it doesn't do so; `Refused` where its tables or size have no meaning, and for
+/// `Memory`.
 pub fn read_chip<R: ByteIn, W: ByteOut>(
     alloc: Global,
     from: &mut R,

@@ -22,10 +22,9 @@ use norprog_common::{Chip, FileName, FileStore, ReadArgs, Refusal, refuse, table
 use norprog_device::{open_port, refuse_device};
 use std::alloc::Global;
 
-/// Does what the texts of a command line of `read` ask for: reads the chip behind the device that
-/// they name, makes the outputs that they name, where no files of these names are there, and writes
-/// its lines to `out`, or a refusal to `err` (docs/FORMATS.md, sections 9 and 14). Nothing is made
-/// before all came twice alike. It returns the status: 0 read, 1 not so or refused, 2 usage.
+/// Does what the texts of a command line of `read` ask for: the lines go to `out`, a refusal to
+/// `err` (docs/FORMATS.md, sections 9 and 14). Outputs are made only where no file of that name is
+/// there, after all came twice alike. Returns the status: 0 read, 1 not so or refused, 2 usage.
 pub fn read<S: FileStore, O: ByteOut, E: ByteOut>(
     alloc: Global,
     store: &S,

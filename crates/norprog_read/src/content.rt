@@ -18,14 +18,11 @@ use std::alloc::Global;
 /// What three address bytes reach.
 const REACH: u32 = 1 << 24;
 
-/// Reads the content of the chip behind a device twice, and returns it: in the mode that the chip
-/// is in where it can be, else in four-byte mode, which is entered and left. A chip that is larger
-/// than three address bytes reach, or could be in the other address mode, is read the second time
-/// by four address bytes, where it has a way to. Memory is taken for it.
+/// Reads the content of the chip behind a device twice, where it has to be in four-byte mode, which
+/// is entered and left. The second reading is by four address bytes where there is a way and a
+/// doubt. Memory is taken for it.
 ///
-/// `Unlike` for `Unreadable` where the chip can't be read whole; for `At` where a byte came
-/// otherwise the second time; for `Asking` where an exchange ended early. `Refused` for `Memory`
-/// where a growth is refused.
+/// `Unlike` where the chip can't be read whole or a byte came otherwise; `Refused` for `Memory`.
 #[tactic(auto, using(crate::proofs::RoomLemmas::mismatch_read, crate::proofs::RoomLemmas::mismatch_write))]
 pub(crate) fn read_whole<R: ByteIn, W: ByteOut>(
     alloc: Global,

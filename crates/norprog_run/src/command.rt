@@ -24,13 +24,9 @@ use norprog_common::{
 };
 use std::alloc::Global;
 
-/// Does what the texts of a command line of `run` ask for. It opens the files that they name,
-/// writes what the chip holds after the play to the output that they name, if any, and then the
-/// verdict's line to `out`, or a refusal to `err` (docs/FORMATS.md, section 9). It answers the
-/// status: 0 played, 1 gone wrong or refused, 2 usage. The output is made as none of the files that
-/// are read.
-///
-/// Usage is told where the texts ask for no play.
+/// Does what the texts of a command line of `run` ask for: what the chip holds after the play goes
+/// to the output that they name, if any, then the verdict's line to `out`, or a refusal to `err`
+/// (docs/FORMATS.md, section 9). Returns the status: 0 played, 1 gone wrong or refused, 2 usage.
 pub fn run<S: FileStore, O: ByteOut, E: ByteOut>(
     alloc: Global,
     store: &S,

@@ -25,22 +25,11 @@ use nor_script::{ReadFault, count_steps};
 use norprog_common::{FileName, Refusal, read_content};
 use std::alloc::Global;
 
-/// Plays a script on a ready chip of the inputs, and answers how it ends: [`crate::play_script`] of
-/// a script that is read twice and never held. `first` and `again` tell it, the one for its faults,
-/// before any content is read, the other for its steps.
+/// [`crate::play_script`] of a script that is read twice and never held: `first` for its faults,
+/// before any content is read, `again` for its steps, to its end. The verdict is of the text that
+/// `again` had.
 ///
-/// The verdict is of the text that `again` had, which is read to its end also where the chip goes
-/// wrong. Memory is taken for one content, and for one reader of steps at a time
-/// ([`nor_script::StepReader`]: 256 KiB, more for a longer line).
-///
-/// The first of these is told: `Contradiction`, `Sfdp`, `Status`, `ModeImpossible`, `Page` and
-/// `ContentSize`, with nothing read; `Script` with the first fault of the text that `first` had,
-/// where neither `again` nor the content is read; `ContentShort` where the content's reader ends
-/// before `len` bytes, `Read` where it fails, and `again` isn't read; `Script` with the first fault
-/// of the text that `again` had, where that is another one; `Write` where `out` fails, which has
-/// taken a proper prefix then. `File` of `Script` comes where `first` or `again` fails, and
-/// `Memory` where a growth is refused. All but `Write` leave `out` as it was. Where both tell the
-/// same text and don't fail, this is what [`crate::play_script`] tells of it.
+/// `File` of `Script` where `first` or `again` fails. Memory is taken as by that.
 pub fn play_streams<F: ByteIn, A: ByteIn, R: ByteIn, W: ByteOut>(
     alloc: Global,
     inputs: &Inputs<'_>,

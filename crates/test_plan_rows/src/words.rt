@@ -32,11 +32,8 @@ pub(crate) fn unescaped(alloc: Global, word: &str) -> io::Result<Vec<u8>> {
 }
 
 /// The text of the lines that are handed over with a sign, `>` or `>>`; none where there is no such
-/// line.
-///
-/// A number behind the sign says how often the line stands there. `\t`, `\r` and `\xHH` are bytes,
-/// `\#` is which time of these it is, in hexadecimal from 0; a backslash at a line's end stands for
-/// nothing, and there the line has no LF.
+/// line. A number behind the sign says how often the line stands there. `\t`, `\r`, `\xHH` and `\#`
+/// are escapes; a backslash at a line's end takes its LF away.
 pub(crate) fn text(asked: &Asked<'_, '_>, sign: &str) -> io::Result<Option<Vec<u8>>> {
     let mut text = Vec::new(asked.alloc);
     let mut is_there = false;
