@@ -30,11 +30,10 @@ fn samples_some(clocks: &[u8]) -> bool
 }
 
 /// Whether a clock samples a bit or a nibble.
-#[tactic(auto, unfolding(nor_base::specs::Decoding::is_bit_sampled, nor_base::specs::Decoding::is_nibble_sampled))]
 fn samples(symbol: u8) -> bool
     ensures { result ≡ is_bit_sampled symbol || is_nibble_sampled symbol }
 {
-    matches!(symbol, b'.' | b'=')
+    is_bit_sampled(symbol) | is_nibble_sampled(symbol)
 }
 
 /// Whether each clock sends a bit on IO0.

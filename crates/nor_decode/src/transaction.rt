@@ -2,7 +2,8 @@
 
 ghost use Rattle.std.specs.Prelude.{◌≡◌, ◌+◌, ◌*◌, ◌<◌, ◌≤◌, IsTrue, length, option_map};
 ghost use Rattle.nor_base.specs.Instructions.{form_of};
-ghost use Rattle.nor_base.specs.Decoding.{transaction, by_row, is_form, is_data, are_groups};
+ghost use Rattle.nor_base.specs.Decoding.{has_opcode, transaction, by_row, is_form, is_data};
+ghost use Rattle.nor_base.specs.Decoding.{are_groups};
 ghost use Rattle.nor_base.specs.Decoding.{broken};
 ghost use Rattle.nor_decode.specs.Seen.{transaction_of};
 
@@ -18,18 +19,27 @@ use nor_base::{Meaning, What};
 /// exactly its row's form.
 ///
 /// Each clock is looked at a bounded number of times, and none is copied.
-#[tactic(auto, unfolding(nor_base::specs::Decoding::transaction, nor_base::specs::Decoding::has_opcode))]
+#[tactic(auto, unfolding(nor_base::specs::Decoding::transaction))]
 pub fn decode<'a>(clocks: &'a [u8], meaning: &Meaning, mode4: bool) -> Option<Seen<'a>>
     ensures { option_map transaction_of result ≡ transaction meaning.now mode4 clocks.now }
 {
-    let (opcode, rest) = clocks.split_at_checked(8)?;
-    if !are_bits_sent(opcode) {
+    if !has_opcode(clocks) {
         return None;
     }
+    let (opcode, rest) = clocks.split_at(8);
     match row_of(number(opcode) as u8, meaning, mode4) {
         Some(row) => Some(seen_by(&row, rest)),
         None => None,
     }
+}
+
+/// Whether the first eight clocks are bits.
+#[tactic(auto, unfolding(nor_base::specs::Decoding::has_opcode))]
+fn has_opcode(clocks: &[u8]) -> bool
+    ensures starts { result ≡ has_opcode clocks.now }
+    ensures long { IsTrue result → 8 ≤ length clocks.now }
+{
+    clocks.len() >= 8 && are_bits_sent(&clocks[..8])
 }
 
 /// What the clocks after its opcode make of a row.

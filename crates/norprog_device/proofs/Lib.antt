@@ -1,1 +1,1 @@
-mod RoomLemmas
+mod Room

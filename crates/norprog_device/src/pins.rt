@@ -8,7 +8,7 @@ use nor_serprog::release;
 
 /// Has a device drive the pins of its chip no more, where it does, as [`nor_serprog::Limits`] says;
 /// what it answers changes nothing.
-#[tactic(auto, using(crate::proofs::RoomLemmas::reads_room, crate::proofs::RoomLemmas::writes_room))]
+#[tactic(auto, using(crate::proofs::Room::reads_room, crate::proofs::Room::writes_room))]
 pub fn let_go<R: ByteIn, W: ByteOut>(from: &mut R, to: &mut W, pins: bool)
     requires reader { R.count from.old < 2 ^ 64 - 1 }
     requires writer { W.count to.old < 2 ^ 64 - 1 }

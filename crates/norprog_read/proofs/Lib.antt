@@ -1,4 +1,4 @@
-mod RoomLemmas
+mod Room
 mod WayLemmas
 mod ReadLemmas
 mod HarmlessLemmas

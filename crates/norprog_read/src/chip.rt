@@ -113,7 +113,7 @@ fn is_undriven(id: [u8; 3]) -> bool
 }
 
 /// What the chip says that it is, where it says something.
-#[tactic(auto, using(crate::proofs::RoomLemmas::reads_room, crate::proofs::RoomLemmas::writes_room))]
+#[tactic(auto, using(crate::proofs::Room::reads_room, crate::proofs::Room::writes_room))]
 fn ask_id<R: ByteIn, W: ByteOut>(from: &mut R, to: &mut W) -> Result<[u8; 3], Unread>
     requires reader { R.count from.old < 2 ^ 64 - 1 }
     requires writer { W.count to.old < 2 ^ 64 - 1 }
@@ -137,7 +137,7 @@ fn ask_id<R: ByteIn, W: ByteOut>(from: &mut R, to: &mut W) -> Result<[u8; 3], Un
 
 /// Its status, once it is idle. Of a part whose registers are known it has to be in the address
 /// mode that was said.
-#[tactic(auto, using(crate::proofs::RoomLemmas::reason_read, crate::proofs::RoomLemmas::reason_write))]
+#[tactic(auto, using(crate::proofs::Room::reason_read, crate::proofs::Room::reason_write))]
 fn ask_status<R: ByteIn, W: ByteOut>(from: &mut R, to: &mut W, ask: &Ask<'_>) -> Result<u32, Unread>
     requires reader { R.count from.old < 2 ^ 64 - 1 }
     requires writer { W.count to.old < 2 ^ 64 - 1 }
@@ -210,7 +210,7 @@ fn ask_tables<R: ByteIn, W: ByteOut>(
 }
 
 /// Its tables, which came twice alike.
-#[tactic(auto, using(crate::proofs::RoomLemmas::tables_read, crate::proofs::RoomLemmas::tables_write))]
+#[tactic(auto, using(crate::proofs::Room::tables_read, crate::proofs::Room::tables_write))]
 fn own_tables<R: ByteIn, W: ByteOut>(
     alloc: Global,
     from: &mut R,

@@ -23,7 +23,7 @@ const REACH: u32 = 1 << 24;
 /// doubt. Memory is taken for it.
 ///
 /// `Unlike` where the chip can't be read whole or a byte came otherwise; `Refused` for `Memory`.
-#[tactic(auto, using(crate::proofs::RoomLemmas::mismatch_read, crate::proofs::RoomLemmas::mismatch_write))]
+#[tactic(auto, using(crate::proofs::Room::mismatch_read, crate::proofs::Room::mismatch_write))]
 pub(crate) fn read_whole<R: ByteIn, W: ByteOut>(
     alloc: Global,
     from: &mut R,
