@@ -203,6 +203,14 @@ pub(crate) fn open_device<R: Files>(rt: &R, path: &str) -> Result<(R::File, R::F
     Ok((from, to))
 }
 
+/// Whether a regular file of this name is there. None is opened.
+pub(crate) fn is_regular<R: Files>(rt: &R, path: &str) -> bool {
+    match fs::metadata(rt, path) {
+        Ok(metadata) => metadata.is_file(),
+        Err(_) => false,
+    }
+}
+
 /// Why the system doesn't open a file to be read; a folder is none. Nothing but a regular file is opened.
 pub(crate) fn open_error<R: Files>(rt: &R, path: &str) -> Option<io::Error> {
     let metadata = match fs::metadata(rt, path) {

