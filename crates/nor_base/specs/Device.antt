@@ -1,5 +1,5 @@
 -- What is known of the bytes of a device (this project's).
-use Rattle.std.specs.Prelude.{◌≡◌, ◌≤◌, ◌<◌, ℕ, zero, suc, ◌+◌, IsErr, List, [], ◌++◌, length, take, map, slice_index, Option, Some, None, Result, Ok, Err, ⊤}
+use Rattle.std.specs.Prelude.{◌≡◌, ◌≤◌, ◌<◌, ◌-◌, ◌^◌, ℕ, zero, suc, ◌+◌, IsErr, List, [], ◌++◌, length, take, map, slice_index, Option, Some, None, Result, Ok, Err, ⊤}
 use Rattle.std.specs.List.{range_with_len}
 use Rattle.std.specs.Io.KnownBytes.{Appends}
 use Rattle.nor_base.specs.declared.device.Failed.{Failed}
@@ -78,3 +78,7 @@ ahead_of (Some bytes) = Finite bytes
 abbrev pub CountsWrite : ℕ → ℕ → ℕ → Result ℕ Failed → Type 0
 CountsWrite before after zero result = IsErr result × (after ≡ before + 1)
 CountsWrite before after (suc taken) result = (result ≡ Ok (suc taken)) × (after ≡ before)
+
+-- a reader and a writer that have failed so often: one more failure of each can be counted
+abbrev pub HaveRoom : ℕ → ℕ → Type 0
+HaveRoom reads writes = (reads < 2 ^ 64 - 1) × (writes < 2 ^ 64 - 1)

@@ -70,9 +70,9 @@ impl<'a> StepChecker<'a> {
         have: Vec<u8>,
         want: &'a [u8],
     ) -> StepChecker<'a>
-        requires have { length have.items ≡ meaning.now.size }
-        requires want { length want.now ≡ meaning.now.size }
-        requires mode { IsPossible meaning.now start }
+        requires contents { (length have.items ≡ meaning.now.size)
+            × (length want.now ≡ meaning.now.size)
+            × IsPossible meaning.now start }
         ensures worst { (steps : List Step) → IsWorst meaning.now start have.items want.now steps
             (to_come result steps) }
         ensures yes { (steps : List Step) → (to_come result steps ≡ Yes)

@@ -56,9 +56,9 @@ pub(crate) fn push_pages(
 ) -> Result<(), AllocError>
     requires lengths { length have.now ≡ length want.now }
     requires inside { at + length have.now ≤ meaning.now.size }
-    requires low { at ≤ low }
-    requires rises { low ≤ high }
-    requires high { high ≤ at + length have.now }
+    requires between { (at ≤ low)
+        × (low ≤ high)
+        × (high ≤ at + length have.now) }
     requires low_page { low % meaning.now.page ≡ 0 }
     requires high_page { high % meaning.now.page ≡ 0 }
     ensures { IfOk result

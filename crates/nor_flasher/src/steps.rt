@@ -1,6 +1,7 @@
 //! Steps done by a device.
 
 ghost use Rattle.std.specs.Prelude.{◌≡◌, ◌≤◌, ◌<◌, ◌+◌, ◌-◌, ◌^◌, ◌↔◌, All, IsTrue, MatchResult};
+ghost use Rattle.nor_base.specs.Device.{HaveRoom};
 ghost use Rattle.nor_serprog.specs.declared.fault.Fault.TheVariants.{Read, Write};
 ghost use Rattle.nor_serprog.specs.Done.{IsDoable, HasDoneAll};
 ghost use Rattle.nor_progress.specs.Far.{HasRoom};
@@ -32,8 +33,7 @@ pub fn do_steps<R: ByteIn, W: ByteOut, P: ByteOut>(
     progress: &mut P,
 ) -> Result<(), Halt>
     requires form { All IsDoable steps.now }
-    requires reader { R.count from.old < 2 ^ 64 - 1 }
-    requires writer { W.count to.old < 2 ^ 64 - 1 }
+    requires room { HaveRoom (R.count from.old) (W.count to.old) }
     requires told { P.count progress.old < 2 ^ 64 - 1 }
     ensures done { MatchResult result
         (λ _. HasDoneAll (W.held to.old) (W.held to.new) (R.ahead from.old) (R.ahead from.new)
@@ -41,10 +41,10 @@ pub fn do_steps<R: ByteIn, W: ByteOut, P: ByteOut>(
         (λ halt. HasHalted (W.held to.old) (W.held to.new) (R.ahead from.old) (R.ahead from.new)
         limits.now turns steps.now
         halt) }
-    ensures reads { CountsHalt Read (R.count from.old) (R.count from.new) result }
-    ensures writes { CountsHalt Write (W.count to.old) (W.count to.new) result }
-    ensures reads_room { R.count from.new ≤ R.count from.old + 1 }
-    ensures writes_room { W.count to.new ≤ W.count to.old + 1 }
+    ensures counts { CountsHalt Read (R.count from.old) (R.count from.new) result
+        × CountsHalt Write (W.count to.old) (W.count to.new) result }
+    ensures failures { (R.count from.new ≤ R.count from.old + 1)
+        × (W.count to.new ≤ W.count to.old + 1) }
 {
     rows();
     let mut far = Progress::of(steps);

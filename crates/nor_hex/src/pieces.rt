@@ -61,11 +61,11 @@ fn add_part<A: Allocator + Clone>(
     bytes: &[u8],
     line: u64,
 ) -> Result<usize, HexFault>
-    requires some { 0 < length bytes.now }
-    requires fits { address + length bytes.now ≤ 2 ^ 32 }
-    requires pieces { IsPieces (get nat_cmp pieces.old.by_last) pieces.old.bytes.items }
-    ensures some { IfOk result (λ count. 0 < count) }
-    ensures fits { IfOk result (λ count. count ≤ length bytes.now) }
+    requires part { (0 < length bytes.now)
+        × (address + length bytes.now ≤ 2 ^ 32)
+        × IsPieces (get nat_cmp pieces.old.by_last) pieces.old.bytes.items }
+    ensures count { IfOk result (λ count. 0 < count)
+        × IfOk result (λ count. count ≤ length bytes.now) }
     ensures pieces { OnOk result
         (IsPieces (get nat_cmp pieces.new.by_last) pieces.new.bytes.items) }
     ensures added { IfOk result
@@ -102,8 +102,8 @@ fn free_from<A: Allocator>(
 ) -> Result<usize, (u32, Piece)>
     requires some { 0 < len }
     requires pieces { IsPieces (get nat_cmp pieces.now.by_last) pieces.now.bytes.items }
-    ensures some { IfOk result (λ count. 0 < count) }
-    ensures fits { IfOk result (λ count. count ≤ len) }
+    ensures count { IfOk result (λ count. 0 < count)
+        × IfOk result (λ count. count ≤ len) }
     ensures free { IfOk result (λ count. IsFree (get nat_cmp pieces.now.by_last) address count) }
     ensures next { IfErr result
         (λ found. IsNext (get nat_cmp pieces.now.by_last) address found.0 found.1) }
@@ -138,9 +138,9 @@ fn repeat_part(
     line: u64,
 ) -> Result<usize, HexFault>
     requires some { 0 < length bytes.now }
-    requires from { piece.first ≤ address }
-    requires to { address ≤ last }
-    requires inside { piece.place + (last - piece.first) < length given.now }
+    requires inside { (piece.first ≤ address)
+        × (address ≤ last)
+        × (piece.place + (last - piece.first) < length given.now) }
     ensures some { IfOk result (λ count. 0 < count) }
     ensures fits { IfOk result (λ count. (count ≤ length bytes.now)
         × (address + count ≤ last + 1)) }

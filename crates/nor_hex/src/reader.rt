@@ -64,9 +64,9 @@ fn add_record<A: Allocator + Clone>(
     line: &HexLine<'_>,
     bytes: &[u8],
 ) -> Result<Base, HexFault>
-    requires bytes { bytes.now ≡ line.now.bytes }
-    requires few { length bytes.now ≤ 255 }
-    requires pieces { IsPieces (get nat_cmp pieces.old.by_last) pieces.old.bytes.items }
+    requires record { (bytes.now ≡ line.now.bytes)
+        × (length bytes.now ≤ 255)
+        × IsPieces (get nat_cmp pieces.old.by_last) pieces.old.bytes.items }
     ensures base { IfOk result (λ next. next ≡ base_past base line.now) }
     ensures pieces { OnOk result
         (IsPieces (get nat_cmp pieces.new.by_last) pieces.new.bytes.items) }

@@ -92,8 +92,8 @@ fn tell_unit<W: ByteOut>(
     want: &[u8],
     out: &mut W,
 ) -> Result<(), StepsFault>
-    requires lengths { length have.now ≡ length want.now }
-    requires unit { IsUnit meaning.now unit.now (length want.now) }
+    requires unit { (length have.now ≡ length want.now)
+        × IsUnit meaning.now unit.now (length want.now) }
     requires planned { IsPlanned meaning.now strategy unit.now (length want.now) }
     requires writer { W.count out.old < 2 ^ 64 - 1 }
     ensures told { TellsUnit meaning.now strategy (W.held out.old) (W.held out.new) unit.now

@@ -2,6 +2,7 @@
 //! 05h, -2 35h, -3 15h).
 
 ghost use Rattle.std.specs.Prelude.{◌≡◌, ◌<◌, ◌-◌, ◌^◌};
+ghost use Rattle.nor_base.specs.Device.{HaveRoom};
 ghost use Rattle.nor_sfdp.specs.Bits.{is_set};
 ghost use Rattle.nor_serprog.specs.declared.fault.Fault.TheVariants.{Read, Write};
 ghost use Rattle.nor_serprog.specs.Exchange.{CountsReads, CountsWrites};
@@ -40,12 +41,11 @@ pub fn idle_status<R: ByteIn, W: ByteOut>(
     to: &mut W,
     turns: u64,
 ) -> Result<u8, Reason>
-    requires reader { R.count from.old < 2 ^ 64 - 1 }
-    requires writer { W.count to.old < 2 ^ 64 - 1 }
+    requires room { HaveRoom (R.count from.old) (W.count to.old) }
     ensures settles { Settles (W.held to.old) (W.held to.new) (R.ahead from.old) (R.ahead from.new)
         result turns }
-    ensures reads { CountsReason Read (R.count from.old) (R.count from.new) result }
-    ensures writes { CountsReason Write (W.count to.old) (W.count to.new) result }
+    ensures counts { CountsReason Read (R.count from.old) (R.count from.new) result
+        × CountsReason Write (W.count to.old) (W.count to.new) result }
 {
     for _ in 0..turns {
         let status = read_register(from, to, READ_STATUS_1)?;
@@ -74,12 +74,11 @@ pub fn chip_status<R: ByteIn, W: ByteOut>(
     part: Part,
     turns: u64,
 ) -> Result<u32, Reason>
-    requires reader { R.count from.old < 2 ^ 64 - 1 }
-    requires writer { W.count to.old < 2 ^ 64 - 1 }
+    requires room { HaveRoom (R.count from.old) (W.count to.old) }
     ensures status { ReadsStatus part (W.held to.old) (W.held to.new) (R.ahead from.old)
         (R.ahead from.new) result turns }
-    ensures reads { CountsReason Read (R.count from.old) (R.count from.new) result }
-    ensures writes { CountsReason Write (W.count to.old) (W.count to.new) result }
+    ensures counts { CountsReason Read (R.count from.old) (R.count from.new) result
+        × CountsReason Write (W.count to.old) (W.count to.new) result }
 {
     let first = idle_status(from, to, turns)?;
     match part {
@@ -94,12 +93,11 @@ pub fn chip_status<R: ByteIn, W: ByteOut>(
 
 /// The byte that the chip behind a device gives after an opcode.
 fn read_register<R: ByteIn, W: ByteOut>(from: &mut R, to: &mut W, opcode: u8) -> Result<u8, Fault>
-    requires reader { R.count from.old < 2 ^ 64 - 1 }
-    requires writer { W.count to.old < 2 ^ 64 - 1 }
+    requires room { HaveRoom (R.count from.old) (W.count to.old) }
     ensures register { ReadsRegister (W.held to.old) (W.held to.new) (R.ahead from.old)
         (R.ahead from.new) result opcode }
-    ensures reads { CountsReads (R.count from.old) (R.count from.new) result }
-    ensures writes { CountsWrites (W.count to.old) (W.count to.new) result }
+    ensures counts { CountsReads (R.count from.old) (R.count from.new) result
+        × CountsWrites (W.count to.old) (W.count to.new) result }
 {
     let mut byte = [0];
     operate(from, to, &[opcode], &mut byte)?;

@@ -2,6 +2,7 @@
 //! parameter headers).
 
 ghost use Rattle.std.specs.Prelude.{◌≡◌, ◌≤◌, ◌<◌, ◌+◌, ◌-◌, ◌*◌, ◌^◌, length};
+ghost use Rattle.nor_base.specs.Device.{HaveRoom};
 ghost use Rattle.nor_serprog.specs.declared.fault.Fault.TheVariants.{Read, Write};
 ghost use Rattle.nor_probe.specs.Compared.{CountsMismatch};
 ghost use Rattle.nor_probe.specs.Tables.{tables_reach, table_end, Compares, ComparesPiece};
@@ -65,12 +66,11 @@ pub fn compare_tables<R: ByteIn, W: ByteOut>(
     tables: &[u8],
 ) -> Result<(), Mismatch>
     requires size { length tables.now ≤ 2 ^ 24 }
-    requires reader { R.count from.old < 2 ^ 64 - 1 }
-    requires writer { W.count to.old < 2 ^ 64 - 1 }
+    requires room { HaveRoom (R.count from.old) (W.count to.old) }
     ensures compared { Compares (W.held to.old) (W.held to.new) (R.ahead from.old)
         (R.ahead from.new) result limits.now tables.now }
-    ensures reads { CountsMismatch Read (R.count from.old) (R.count from.new) result }
-    ensures writes { CountsMismatch Write (W.count to.old) (W.count to.new) result }
+    ensures counts { CountsMismatch Read (R.count from.old) (R.count from.new) result
+        × CountsMismatch Write (W.count to.old) (W.count to.new) result }
 {
     let most = (limits.asked as usize).min(MOST);
     let mut done = 0;
@@ -94,12 +94,11 @@ fn compare_piece<R: ByteIn, W: ByteOut>(
 ) -> Result<(), Mismatch>
     requires size { length piece.now ≤ 256 }
     requires address { address < 2 ^ 24 }
-    requires reader { R.count from.old < 2 ^ 64 - 1 }
-    requires writer { W.count to.old < 2 ^ 64 - 1 }
+    requires room { HaveRoom (R.count from.old) (W.count to.old) }
     ensures compared { ComparesPiece (W.held to.old) (W.held to.new) (R.ahead from.old)
         (R.ahead from.new) result address piece.now }
-    ensures reads { CountsMismatch Read (R.count from.old) (R.count from.new) result }
-    ensures writes { CountsMismatch Write (W.count to.old) (W.count to.new) result }
+    ensures counts { CountsMismatch Read (R.count from.old) (R.count from.new) result
+        × CountsMismatch Write (W.count to.old) (W.count to.new) result }
 {
     let [_, high, low, lowest] = address.to_be_bytes();
     let mut room = [0; MOST];

@@ -1,6 +1,7 @@
 //! The identification of the chip behind a device.
 
 ghost use Rattle.std.specs.Prelude.{◌<◌, ◌-◌, ◌^◌};
+ghost use Rattle.nor_base.specs.Device.{HaveRoom};
 ghost use Rattle.nor_serprog.specs.Exchange.{CountsReads, CountsWrites};
 ghost use Rattle.nor_reader.specs.Id.{Identifies};
 
@@ -15,12 +16,11 @@ const READ_ID: u8 = 0x9F;
 ///
 /// An error where the exchange ended early, as of [`operate`].
 pub fn read_id<R: ByteIn, W: ByteOut>(from: &mut R, to: &mut W) -> Result<[u8; 3], Fault>
-    requires reader { R.count from.old < 2 ^ 64 - 1 }
-    requires writer { W.count to.old < 2 ^ 64 - 1 }
+    requires room { HaveRoom (R.count from.old) (W.count to.old) }
     ensures identifies { Identifies (W.held to.old) (W.held to.new) (R.ahead from.old)
         (R.ahead from.new) result }
-    ensures reads { CountsReads (R.count from.old) (R.count from.new) result }
-    ensures writes { CountsWrites (W.count to.old) (W.count to.new) result }
+    ensures counts { CountsReads (R.count from.old) (R.count from.new) result
+        × CountsWrites (W.count to.old) (W.count to.new) result }
 {
     let mut id = [0; 3];
     operate(from, to, &[READ_ID], &mut id)?;

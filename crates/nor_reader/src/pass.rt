@@ -1,6 +1,7 @@
 //! The chip behind a device, read piece by piece.
 
 ghost use Rattle.std.specs.Prelude.{◌≡◌, ◌≤◌, ◌<◌, ◌-◌, ◌^◌, [], length, take, MatchResult};
+ghost use Rattle.nor_base.specs.Device.{HaveRoom};
 ghost use Rattle.nor_probe.specs.Compared.{CountsMismatch};
 ghost use Rattle.nor_serprog.specs.declared.fault.Fault.TheVariants.{Read, Write};
 ghost use Rattle.nor_serprog.specs.Exchange.{CountsReads, CountsWrites};
@@ -30,15 +31,14 @@ pub fn read_content<R: ByteIn, W: ByteOut>(
     content: &mut [u8],
 ) -> Result<(), Mismatch>
     requires size { length content.old ≤ 2 ^ 32 }
-    requires reader { R.count from.old < 2 ^ 64 - 1 }
-    requires writer { W.count to.old < 2 ^ 64 - 1 }
+    requires room { HaveRoom (R.count from.old) (W.count to.old) }
     ensures twice { MatchResult result
         (λ _. ReadTwice (W.held to.old) (W.held to.new) (R.ahead from.old) (R.ahead from.new) by
         again content.new)
         (StopsTwice (W.held to.old) (W.held to.new) (R.ahead from.old) (R.ahead from.new) by again
         content.new) }
-    ensures reads { CountsMismatch Read (R.count from.old) (R.count from.new) result }
-    ensures writes { CountsMismatch Write (W.count to.old) (W.count to.new) result }
+    ensures counts { CountsMismatch Read (R.count from.old) (R.count from.new) result
+        × CountsMismatch Write (W.count to.old) (W.count to.new) result }
 {
     if let Err(why) = read_first(from, to, limits, by, content) {
         return Err(Mismatch::Exchange(why));
@@ -56,15 +56,14 @@ fn read_first<R: ByteIn, W: ByteOut>(
     bytes: &mut [u8],
 ) -> Result<(), Fault>
     requires size { length bytes.old ≤ 2 ^ 32 }
-    requires reader { R.count from.old < 2 ^ 64 - 1 }
-    requires writer { W.count to.old < 2 ^ 64 - 1 }
+    requires room { HaveRoom (R.count from.old) (W.count to.old) }
     ensures read { MatchResult result
         (λ _. HasReadWhole (W.held to.old) (W.held to.new) (R.ahead from.old) (R.ahead from.new) by
         bytes.new)
         (StopsFirst (W.held to.old) (W.held to.new) (R.ahead from.old) (R.ahead from.new) by
         bytes.new) }
-    ensures reads { CountsReads (R.count from.old) (R.count from.new) result }
-    ensures writes { CountsWrites (W.count to.old) (W.count to.new) result }
+    ensures counts { CountsReads (R.count from.old) (R.count from.new) result
+        × CountsWrites (W.count to.old) (W.count to.new) result }
 {
     if let Err(why) = switch_mode(from, to, enter_of(by), ENTER) {
         return Err(why);
@@ -88,12 +87,11 @@ pub fn read_again<R: ByteIn, W: ByteOut>(
     bytes: &[u8],
 ) -> Result<(), Mismatch>
     requires size { length bytes.now ≤ 2 ^ 32 }
-    requires reader { R.count from.old < 2 ^ 64 - 1 }
-    requires writer { W.count to.old < 2 ^ 64 - 1 }
+    requires room { HaveRoom (R.count from.old) (W.count to.old) }
     ensures again { ReadsWhole (W.held to.old) (W.held to.new) (R.ahead from.old) (R.ahead from.new)
         result by bytes.now }
-    ensures reads { CountsMismatch Read (R.count from.old) (R.count from.new) result }
-    ensures writes { CountsMismatch Write (W.count to.old) (W.count to.new) result }
+    ensures counts { CountsMismatch Read (R.count from.old) (R.count from.new) result
+        × CountsMismatch Write (W.count to.old) (W.count to.new) result }
 {
     if let Err(why) = switch_mode(from, to, enter_of(by), ENTER) {
         return Err(Mismatch::Exchange(why));
@@ -123,16 +121,15 @@ pub(crate) fn read_on<R: ByteIn, W: ByteOut>(
 ) -> Result<(), Fault>
     requires start { start ≤ length bytes.old }
     requires size { length bytes.old ≤ 2 ^ 32 }
-    requires reader { R.count from.old < 2 ^ 64 - 1 }
-    requires writer { W.count to.old < 2 ^ 64 - 1 }
+    requires room { HaveRoom (R.count from.old) (W.count to.old) }
     ensures read { MatchResult result
         (λ _. HasReadOn (W.held to.old) (W.held to.new) (R.ahead from.old) (R.ahead from.new) by
         (take start bytes.old) bytes.new)
         (StopsOn (W.held to.old) (W.held to.new) (R.ahead from.old) (R.ahead from.new) by
         (take start bytes.old)) }
     ensures size { length bytes.new ≡ length bytes.old }
-    ensures reads { CountsReads (R.count from.old) (R.count from.new) result }
-    ensures writes { CountsWrites (W.count to.old) (W.count to.new) result }
+    ensures counts { CountsReads (R.count from.old) (R.count from.new) result
+        × CountsWrites (W.count to.old) (W.count to.new) result }
 {
     let size = bytes.len();
     let most = limits.asked as usize;
@@ -156,12 +153,11 @@ pub(crate) fn compare_all<R: ByteIn, W: ByteOut>(
     bytes: &[u8],
 ) -> Result<(), Mismatch>
     requires size { length bytes.now ≤ 2 ^ 32 }
-    requires reader { R.count from.old < 2 ^ 64 - 1 }
-    requires writer { W.count to.old < 2 ^ 64 - 1 }
+    requires room { HaveRoom (R.count from.old) (W.count to.old) }
     ensures again { ReadsAgain (W.held to.old) (W.held to.new) (R.ahead from.old) (R.ahead from.new)
         result by bytes.now }
-    ensures reads { CountsMismatch Read (R.count from.old) (R.count from.new) result }
-    ensures writes { CountsMismatch Write (W.count to.old) (W.count to.new) result }
+    ensures counts { CountsMismatch Read (R.count from.old) (R.count from.new) result
+        × CountsMismatch Write (W.count to.old) (W.count to.new) result }
 {
     let most = limits.asked as usize;
     let mut done = 0;

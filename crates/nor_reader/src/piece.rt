@@ -1,6 +1,7 @@
 //! One read of the chip behind a device.
 
 ghost use Rattle.std.specs.Prelude.{◌≡◌, ◌<◌, ◌+◌, ◌-◌, ◌^◌, [], ◌∷◌, length, MatchResult};
+ghost use Rattle.nor_base.specs.Device.{HaveRoom};
 ghost use Rattle.nor_loop.specs.Log.{HasLogged};
 ghost use Rattle.nor_probe.specs.Compared.{CountsMismatch};
 ghost use Rattle.nor_serprog.specs.declared.fault.Fault.TheVariants.{Read, Write};
@@ -24,15 +25,14 @@ pub(crate) fn read_piece<R: ByteIn, W: ByteOut>(
     piece: &mut [u8],
 ) -> Result<(), Fault>
     requires size { length piece.old < 2 ^ 24 }
-    requires reader { R.count from.old < 2 ^ 64 - 1 }
-    requires writer { W.count to.old < 2 ^ 64 - 1 }
+    requires room { HaveRoom (R.count from.old) (W.count to.old) }
     ensures read { MatchResult result
         (λ _. HasLogged (W.held to.old) (W.held to.new) (R.ahead from.old) (R.ahead from.new)
         (read_op by address piece.new ∷ []))
         (StopsPiece (W.held to.old) (W.held to.new) (R.ahead from.old) (R.ahead from.new) by address
         piece.new) }
-    ensures reads { CountsReads (R.count from.old) (R.count from.new) result }
-    ensures writes { CountsWrites (W.count to.old) (W.count to.new) result }
+    ensures counts { CountsReads (R.count from.old) (R.count from.new) result
+        × CountsWrites (W.count to.old) (W.count to.new) result }
 {
     ask_piece(from, to, by, address, piece)
 }
@@ -46,14 +46,13 @@ fn ask_piece<R: ByteIn, W: ByteOut>(
     piece: &mut [u8],
 ) -> Result<(), Fault>
     requires size { length piece.old < 2 ^ 24 }
-    requires reader { R.count from.old < 2 ^ 64 - 1 }
-    requires writer { W.count to.old < 2 ^ 64 - 1 }
+    requires room { HaveRoom (R.count from.old) (W.count to.old) }
     ensures asked { Asks (W.held to.old) (W.held to.new) (R.ahead from.old) (R.ahead from.new)
         result
         (request (sent_by by address (length piece.new)) (length piece.new))
         (Answers (R.ahead from.old) (R.ahead from.new) result piece.new) }
-    ensures reads { CountsReads (R.count from.old) (R.count from.new) result }
-    ensures writes { CountsWrites (W.count to.old) (W.count to.new) result }
+    ensures counts { CountsReads (R.count from.old) (R.count from.new) result
+        × CountsWrites (W.count to.old) (W.count to.new) result }
 {
     let [highest, high, low, lowest] = address.to_be_bytes();
     match by {
@@ -82,12 +81,11 @@ pub(crate) fn compare_piece<R: ByteIn, W: ByteOut>(
 ) -> Result<(), Mismatch>
     requires size { length piece.now < 2 ^ 24 }
     requires end { address + length piece.now < 2 ^ 32 + 1 }
-    requires reader { R.count from.old < 2 ^ 64 - 1 }
-    requires writer { W.count to.old < 2 ^ 64 - 1 }
+    requires room { HaveRoom (R.count from.old) (W.count to.old) }
     ensures read { ReadsPiece (W.held to.old) (W.held to.new) (R.ahead from.old) (R.ahead from.new)
         result by address piece.now }
-    ensures reads { CountsMismatch Read (R.count from.old) (R.count from.new) result }
-    ensures writes { CountsMismatch Write (W.count to.old) (W.count to.new) result }
+    ensures counts { CountsMismatch Read (R.count from.old) (R.count from.new) result
+        × CountsMismatch Write (W.count to.old) (W.count to.new) result }
 {
     match expect_piece(from, to, by, address, piece) {
         Ok(()) => Ok(()),
@@ -110,13 +108,12 @@ fn expect_piece<R: ByteIn, W: ByteOut>(
     piece: &[u8],
 ) -> Result<(), Reason>
     requires size { length piece.now < 2 ^ 24 }
-    requires reader { R.count from.old < 2 ^ 64 - 1 }
-    requires writer { W.count to.old < 2 ^ 64 - 1 }
+    requires room { HaveRoom (R.count from.old) (W.count to.old) }
     ensures known { Knows (W.held to.old) (W.held to.new) (R.ahead from.old) (R.ahead from.new)
         result
         (request (sent_by by address (length piece.now)) (length piece.now)) piece.now }
-    ensures reads { CountsReason Read (R.count from.old) (R.count from.new) result }
-    ensures writes { CountsReason Write (W.count to.old) (W.count to.new) result }
+    ensures counts { CountsReason Read (R.count from.old) (R.count from.new) result
+        × CountsReason Write (W.count to.old) (W.count to.new) result }
 {
     let [highest, high, low, lowest] = address.to_be_bytes();
     match by {

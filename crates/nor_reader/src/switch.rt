@@ -1,6 +1,7 @@
 //! Four-byte address mode, entered and left.
 
 ghost use Rattle.std.specs.Prelude.{◌≡◌, ◌<◌, ◌-◌, ◌^◌, [], ◌∷◌};
+ghost use Rattle.nor_base.specs.Device.{HaveRoom};
 ghost use Rattle.nor_loop.specs.Reads.{bare, switch_ops};
 ghost use Rattle.nor_serprog.specs.Exchange.{CountsReads, CountsWrites};
 ghost use Rattle.nor_reader.specs.Switched.{Operates};
@@ -25,12 +26,11 @@ pub(crate) fn switch_mode<R: ByteIn, W: ByteOut>(
     switch: Switch,
     opcode: u8,
 ) -> Result<(), Fault>
-    requires reader { R.count from.old < 2 ^ 64 - 1 }
-    requires writer { W.count to.old < 2 ^ 64 - 1 }
+    requires room { HaveRoom (R.count from.old) (W.count to.old) }
     ensures switches { Operates (W.held to.old) (W.held to.new) (R.ahead from.old)
         (R.ahead from.new) result (switch_ops switch opcode) }
-    ensures reads { CountsReads (R.count from.old) (R.count from.new) result }
-    ensures writes { CountsWrites (W.count to.old) (W.count to.new) result }
+    ensures counts { CountsReads (R.count from.old) (R.count from.new) result
+        × CountsWrites (W.count to.old) (W.count to.new) result }
 {
     match switch {
         Switch::Absent => Ok(()),
@@ -45,12 +45,11 @@ pub(crate) fn switch_mode<R: ByteIn, W: ByteOut>(
 
 /// Has the device send an opcode and nothing else.
 fn send<R: ByteIn, W: ByteOut>(from: &mut R, to: &mut W, opcode: u8) -> Result<(), Fault>
-    requires reader { R.count from.old < 2 ^ 64 - 1 }
-    requires writer { W.count to.old < 2 ^ 64 - 1 }
+    requires room { HaveRoom (R.count from.old) (W.count to.old) }
     ensures sends { Operates (W.held to.old) (W.held to.new) (R.ahead from.old) (R.ahead from.new)
         result (bare opcode ∷ []) }
-    ensures reads { CountsReads (R.count from.old) (R.count from.new) result }
-    ensures writes { CountsWrites (W.count to.old) (W.count to.new) result }
+    ensures counts { CountsReads (R.count from.old) (R.count from.new) result
+        × CountsWrites (W.count to.old) (W.count to.new) result }
 {
     operate(from, to, &[opcode], &mut [])
 }

@@ -2,6 +2,7 @@
 
 ghost use Rattle.std.specs.Prelude.{◌≡◌, ◌↔◌, ◌≤◌, ◌<◌, ◌+◌, ◌-◌, ◌*◌, ◌^◌, true, length};
 ghost use Rattle.std.specs.Prelude.{MatchResult};
+ghost use Rattle.nor_base.specs.Device.{HaveRoom};
 ghost use Rattle.nor_reader.specs.declared.tables.TablesFault.TheVariants.{Memory};
 ghost use Rattle.nor_serprog.specs.declared.fault.Fault.TheVariants.{Read, Write};
 ghost use Rattle.nor_reader.specs.Tables.{CountsTables, Grows, HasReadTables, HasSignature};
@@ -50,14 +51,13 @@ pub fn read_tables<R: ByteIn, W: ByteOut>(
     to: &mut W,
     limits: &Limits,
 ) -> Result<Vec<u8>, TablesFault>
-    requires reader { R.count from.old < 2 ^ 64 - 1 }
-    requires writer { W.count to.old < 2 ^ 64 - 1 }
+    requires room { HaveRoom (R.count from.old) (W.count to.old) }
     ensures tables { MatchResult result
         (λ bytes. HasReadTables (W.held to.old) (W.held to.new) (R.ahead from.old)
         (R.ahead from.new) bytes.items)
         (StopsTables (W.held to.old) (W.held to.new) (R.ahead from.old) (R.ahead from.new)) }
-    ensures reads { CountsTables Read (R.count from.old) (R.count from.new) result }
-    ensures writes { CountsTables Write (W.count to.old) (W.count to.new) result }
+    ensures counts { CountsTables Read (R.count from.old) (R.count from.new) result
+        × CountsTables Write (W.count to.old) (W.count to.new) result }
 {
     let mut bytes = Vec::new(alloc);
     if let Err(why) = grow(from, to, limits, &mut bytes, HEADER) {
@@ -90,12 +90,11 @@ fn grow<R: ByteIn, W: ByteOut>(
 ) -> Result<(), TablesFault>
     requires start { length bytes.old.items ≤ end }
     requires end { end ≤ 2 ^ 24 }
-    requires reader { R.count from.old < 2 ^ 64 - 1 }
-    requires writer { W.count to.old < 2 ^ 64 - 1 }
+    requires room { HaveRoom (R.count from.old) (W.count to.old) }
     ensures grows { Grows (W.held to.old) (W.held to.new) (R.ahead from.old) (R.ahead from.new)
         result bytes.old.items bytes.new.items end }
-    ensures reads { CountsTables Read (R.count from.old) (R.count from.new) result }
-    ensures writes { CountsTables Write (W.count to.old) (W.count to.new) result }
+    ensures counts { CountsTables Read (R.count from.old) (R.count from.new) result
+        × CountsTables Write (W.count to.old) (W.count to.new) result }
 {
     let start = bytes.len();
     bytes.resize(end, 0)?;

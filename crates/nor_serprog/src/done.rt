@@ -1,6 +1,7 @@
 //! The steps of a script, done by a device.
 
 ghost use Rattle.std.specs.Prelude.{◌≡◌, ◌<◌, ◌-◌, ◌^◌, ◌↔◌, IsTrue, MatchResult};
+ghost use Rattle.nor_base.specs.Device.{HaveRoom};
 ghost use Rattle.nor_serprog.specs.declared.fault.Fault.TheVariants.{Read, Write};
 ghost use Rattle.nor_serprog.specs.Done.{IsDoable, HasDone, HasStopped};
 ghost use Rattle.nor_serprog.specs.Follow.{CountsReason};
@@ -27,16 +28,15 @@ pub fn do_step<R: ByteIn, W: ByteOut>(
     step: &Step,
 ) -> Result<(), Reason>
     requires form { IsDoable step.now }
-    requires reader { R.count from.old < 2 ^ 64 - 1 }
-    requires writer { W.count to.old < 2 ^ 64 - 1 }
+    requires room { HaveRoom (R.count from.old) (W.count to.old) }
     ensures done { MatchResult result
         (λ _. HasDone (W.held to.old) (W.held to.new) (R.ahead from.old) (R.ahead from.new)
         limits.now turns step.now)
         (λ why. HasStopped (W.held to.old) (W.held to.new) (R.ahead from.old) (R.ahead from.new)
         limits.now turns why
         step.now) }
-    ensures reads { CountsReason Read (R.count from.old) (R.count from.new) result }
-    ensures writes { CountsReason Write (W.count to.old) (W.count to.new) result }
+    ensures counts { CountsReason Read (R.count from.old) (R.count from.new) result
+        × CountsReason Write (W.count to.old) (W.count to.new) result }
 {
     match step {
         Step::Send { clocks } => operate_once(from, to, limits, clocks.as_slice(), &[]),

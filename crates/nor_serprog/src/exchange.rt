@@ -1,6 +1,7 @@
 //! One command and its answer.
 
 ghost use Rattle.std.specs.Prelude.{◌≡◌, ◌<◌, ◌+◌, ◌-◌, ◌^◌, [], length, flat_map, IfOk, IfErr};
+ghost use Rattle.nor_base.specs.Device.{HaveRoom};
 ghost use Rattle.nor_serprog.specs.declared.fault.Fault.TheVariants.{Read};
 ghost use Rattle.nor_serprog.specs.Exchange.{Fills, Meets, other_byte, TakesAsMany, Compares};
 ghost use Rattle.nor_serprog.specs.Exchange.{Answers, AnswersKnown, Asks, CountsReads};
@@ -24,14 +25,13 @@ pub(crate) fn ask<R: ByteIn, W: ByteOut>(
     command: &[&[u8]],
     got: &mut [u8],
 ) -> Result<(), Fault>
-    requires reader { R.count from.old < 2 ^ 64 - 1 }
-    requires writer { W.count to.old < 2 ^ 64 - 1 }
+    requires room { HaveRoom (R.count from.old) (W.count to.old) }
     ensures asked { Asks (W.held to.old) (W.held to.new) (R.ahead from.old) (R.ahead from.new)
         result
         (flat_map (λ part. part.now) command.now)
         (Answers (R.ahead from.old) (R.ahead from.new) result got.new) }
-    ensures reads { CountsReads (R.count from.old) (R.count from.new) result }
-    ensures writes { CountsWrites (W.count to.old) (W.count to.new) result }
+    ensures counts { CountsReads (R.count from.old) (R.count from.new) result
+        × CountsWrites (W.count to.old) (W.count to.new) result }
 {
     put_command(to, command).map_err(|_| Fault::Write)?;
     told(from, got)
@@ -152,14 +152,13 @@ pub(crate) fn exchange<R: ByteIn, W: ByteOut>(
     command: &[&[u8]],
     want: &[u8],
 ) -> Result<(), Fault>
-    requires reader { R.count from.old < 2 ^ 64 - 1 }
-    requires writer { W.count to.old < 2 ^ 64 - 1 }
+    requires room { HaveRoom (R.count from.old) (W.count to.old) }
     ensures asked { Asks (W.held to.old) (W.held to.new) (R.ahead from.old) (R.ahead from.new)
         result
         (flat_map (λ part. part.now) command.now)
         (Meets (R.ahead from.old) (R.ahead from.new) result want.now) }
-    ensures reads { CountsReads (R.count from.old) (R.count from.new) result }
-    ensures writes { CountsWrites (W.count to.old) (W.count to.new) result }
+    ensures counts { CountsReads (R.count from.old) (R.count from.new) result
+        × CountsWrites (W.count to.old) (W.count to.new) result }
 {
     put_command(to, command).map_err(|_| Fault::Write)?;
     expect(from, want)

@@ -1,6 +1,7 @@
 //! The transactions of a chip in memory, done by a device.
 
 ghost use Rattle.std.specs.Prelude.{◌≡◌, ◌<◌, ◌≤◌, ◌-◌, ◌^◌, ℕ, List, Option, length};
+ghost use Rattle.nor_base.specs.Device.{HaveRoom};
 ghost use Rattle.std.specs.Io.KnownBytes.{Appends};
 ghost use Rattle.nor_base.specs.Decoding.{bytes_of_bits};
 ghost use Rattle.nor_base.specs.Sample.{sampled_count};
@@ -29,13 +30,12 @@ pub(crate) fn follow<R: ByteIn, W: ByteOut>(
     want: &[u8],
 ) -> Result<(), Reason>
     requires want { length want.now ≡ sampled_count clocks.now }
-    requires reader { R.count from.old < 2 ^ 64 - 1 }
-    requires writer { W.count to.old < 2 ^ 64 - 1 }
+    requires room { HaveRoom (R.count from.old) (W.count to.old) }
     ensures follows { Follows (W.held to.old) (W.held to.new) (R.ahead from.old) (R.ahead from.new)
         result limits.now turns
         clocks.now want.now }
-    ensures reads { CountsReason Read (R.count from.old) (R.count from.new) result }
-    ensures writes { CountsReason Write (W.count to.old) (W.count to.new) result }
+    ensures counts { CountsReason Read (R.count from.old) (R.count from.new) result
+        × CountsReason Write (W.count to.old) (W.count to.new) result }
 {
     if clocks == POLL.as_slice() {
         return wait(from, to, limits, turns);
@@ -52,13 +52,12 @@ pub(crate) fn operate_once<R: ByteIn, W: ByteOut>(
     want: &[u8],
 ) -> Result<(), Reason>
     requires want { length want.now ≡ sampled_count clocks.now }
-    requires reader { R.count from.old < 2 ^ 64 - 1 }
-    requires writer { W.count to.old < 2 ^ 64 - 1 }
+    requires room { HaveRoom (R.count from.old) (W.count to.old) }
     ensures operates { Operates (W.held to.old) (W.held to.new) (R.ahead from.old)
         (R.ahead from.new) result limits.now
         clocks.now want.now }
-    ensures reads { CountsReason Read (R.count from.old) (R.count from.new) result }
-    ensures writes { CountsReason Write (W.count to.old) (W.count to.new) result }
+    ensures counts { CountsReason Read (R.count from.old) (R.count from.new) result
+        × CountsReason Write (W.count to.old) (W.count to.new) result }
 {
     match bits_sent(clocks, limits) {
         Some(bits) => operate_as(from, to, bits, want),
@@ -74,12 +73,11 @@ pub(crate) fn wait<R: ByteIn, W: ByteOut>(
     limits: &Limits,
     turns: u64,
 ) -> Result<(), Reason>
-    requires reader { R.count from.old < 2 ^ 64 - 1 }
-    requires writer { W.count to.old < 2 ^ 64 - 1 }
+    requires room { HaveRoom (R.count from.old) (W.count to.old) }
     ensures waits { Waits (W.held to.old) (W.held to.new) (R.ahead from.old) (R.ahead from.new)
         result turns }
-    ensures reads { CountsReason Read (R.count from.old) (R.count from.new) result }
-    ensures writes { CountsReason Write (W.count to.old) (W.count to.new) result }
+    ensures counts { CountsReason Read (R.count from.old) (R.count from.new) result
+        × CountsReason Write (W.count to.old) (W.count to.new) result }
 {
     let ahead = limits.ahead.max(8);
     let mut left = turns;
@@ -107,12 +105,11 @@ pub(crate) fn wait_on<R: ByteIn, W: ByteOut>(
 ) -> Result<(), Reason>
     requires few { reads ≤ most_reads }
     requires within { reads ≤ turns }
-    requires reader { R.count from.old < 2 ^ 64 - 1 }
-    requires writer { W.count to.old < 2 ^ 64 - 1 }
+    requires room { HaveRoom (R.count from.old) (W.count to.old) }
     ensures waits { (held : Option (List ℕ)) → Appends held (W.held to.old) (status_requests reads)
         → Waits held (W.held to.new) (R.ahead from.old) (R.ahead from.new) result turns }
-    ensures reads { CountsReason Read (R.count from.old) (R.count from.new) result }
-    ensures writes { CountsReason Write (W.count to.old) (W.count to.new) result }
+    ensures counts { CountsReason Read (R.count from.old) (R.count from.new) result
+        × CountsReason Write (W.count to.old) (W.count to.new) result }
 {
     if take_statuses(from, reads)? {
         return Ok(());
@@ -150,13 +147,12 @@ fn operate_as<R: ByteIn, W: ByteOut>(
 ) -> Result<(), Reason>
     requires sent { length (bytes_of_bits bits.now) < 2 ^ 24 }
     requires asked { length want.now < 2 ^ 24 }
-    requires reader { R.count from.old < 2 ^ 64 - 1 }
-    requires writer { W.count to.old < 2 ^ 64 - 1 }
+    requires room { HaveRoom (R.count from.old) (W.count to.old) }
     ensures known { Knows (W.held to.old) (W.held to.new) (R.ahead from.old) (R.ahead from.new)
         result
         (request (bytes_of_bits bits.now) (length want.now)) want.now }
-    ensures reads { CountsReason Read (R.count from.old) (R.count from.new) result }
-    ensures writes { CountsReason Write (W.count to.old) (W.count to.new) result }
+    ensures counts { CountsReason Read (R.count from.old) (R.count from.new) result
+        × CountsReason Write (W.count to.old) (W.count to.new) result }
 {
     put_request(to, bits, want.len() as u32).map_err(|_| Fault::Write)?;
     answered(from, want)

@@ -1,7 +1,7 @@
 //! The handshake with a device.
 
 ghost use Rattle.std.specs.Prelude.{◌≡◌, ◌<◌, ◌-◌, ◌^◌, ℕ, List, Option};
-ghost use Rattle.nor_base.specs.Device.{Ahead};
+ghost use Rattle.nor_base.specs.Device.{HaveRoom, Ahead};
 ghost use Rattle.nor_serprog.specs.Greeting.{Greeted, HasLearnt, Learns, BeginsGreeting, Tells};
 ghost use Rattle.nor_serprog.specs.Greeting.{TellsAhead, TellsIf, CountsGreetReads};
 ghost use Rattle.nor_serprog.specs.Greeting.{CountsGreetWrites, offers, most};
@@ -33,12 +33,11 @@ const MOST: u32 = (1 << 24) - 1;
 /// `Command` has the first command whose exchange ended early, and how; `Version` where it isn't 1;
 /// `NoOperation` where 13h isn't offered. A most that isn't said, or is 0, is 2^24 - 1.
 pub fn greet<R: ByteIn, W: ByteOut>(from: &mut R, to: &mut W) -> Result<Limits, GreetFault>
-    requires reader { R.count from.old < 2 ^ 64 - 1 }
-    requires writer { W.count to.old < 2 ^ 64 - 1 }
+    requires room { HaveRoom (R.count from.old) (W.count to.old) }
     ensures greeted { Greeted (W.held to.old) (W.held to.new) (R.ahead from.old) (R.ahead from.new)
         result }
-    ensures reads { CountsGreetReads (R.count from.old) (R.count from.new) result }
-    ensures writes { CountsGreetWrites (W.count to.old) (W.count to.new) result }
+    ensures counts { CountsGreetReads (R.count from.old) (R.count from.new) result
+        × CountsGreetWrites (W.count to.old) (W.count to.new) result }
 {
     let commands = learn(from, to)?;
     go_on(from, to, &commands)
@@ -46,12 +45,11 @@ pub fn greet<R: ByteIn, W: ByteOut>(from: &mut R, to: &mut W) -> Result<Limits, 
 
 /// Begins with a device that speaks version 1 and does SPI operations: the commands that it offers.
 fn learn<R: ByteIn, W: ByteOut>(from: &mut R, to: &mut W) -> Result<[u8; 32], GreetFault>
-    requires reader { R.count from.old < 2 ^ 64 - 1 }
-    requires writer { W.count to.old < 2 ^ 64 - 1 }
+    requires room { HaveRoom (R.count from.old) (W.count to.old) }
     ensures learns { Learns (W.held to.old) (W.held to.new) (R.ahead from.old) (R.ahead from.new)
         result }
-    ensures reads { CountsGreetReads (R.count from.old) (R.count from.new) result }
-    ensures writes { CountsGreetWrites (W.count to.old) (W.count to.new) result }
+    ensures counts { CountsGreetReads (R.count from.old) (R.count from.new) result
+        × CountsGreetWrites (W.count to.old) (W.count to.new) result }
 {
     begin(from, to)?;
     let mut version = [0; 2];
@@ -73,13 +71,12 @@ fn go_on<R: ByteIn, W: ByteOut>(
     to: &mut W,
     commands: &[u8; 32],
 ) -> Result<Limits, GreetFault>
-    requires reader { R.count from.old < 2 ^ 64 - 1 }
-    requires writer { W.count to.old < 2 ^ 64 - 1 }
+    requires room { HaveRoom (R.count from.old) (W.count to.old) }
     ensures greeted { (held : Option (List ℕ)) (ahead : Ahead)
         → HasLearnt held (W.held to.old) ahead (R.ahead from.old) commands.now
         → Greeted held (W.held to.new) ahead (R.ahead from.new) result }
-    ensures reads { CountsGreetReads (R.count from.old) (R.count from.new) result }
-    ensures writes { CountsGreetWrites (W.count to.old) (W.count to.new) result }
+    ensures counts { CountsGreetReads (R.count from.old) (R.count from.new) result
+        × CountsGreetWrites (W.count to.old) (W.count to.new) result }
 {
     tell(from, to, Command::SetBus, &mut [])?;
     let ahead = takes_ahead(from, to, offers(commands, Q_SERBUF))?;
@@ -101,12 +98,11 @@ fn go_on<R: ByteIn, W: ByteOut>(
 
 /// Has the device say its first word.
 fn begin<R: ByteIn, W: ByteOut>(from: &mut R, to: &mut W) -> Result<(), GreetFault>
-    requires reader { R.count from.old < 2 ^ 64 - 1 }
-    requires writer { W.count to.old < 2 ^ 64 - 1 }
+    requires room { HaveRoom (R.count from.old) (W.count to.old) }
     ensures begins { BeginsGreeting (W.held to.old) (W.held to.new) (R.ahead from.old)
         (R.ahead from.new) result }
-    ensures reads { CountsGreetReads (R.count from.old) (R.count from.new) result }
-    ensures writes { CountsGreetWrites (W.count to.old) (W.count to.new) result }
+    ensures counts { CountsGreetReads (R.count from.old) (R.count from.new) result
+        × CountsGreetWrites (W.count to.old) (W.count to.new) result }
 {
     let at = Command::SyncNop;
     match synchronize(from, to) {
@@ -122,12 +118,11 @@ fn tell<R: ByteIn, W: ByteOut>(
     at: Command,
     got: &mut [u8],
 ) -> Result<(), GreetFault>
-    requires reader { R.count from.old < 2 ^ 64 - 1 }
-    requires writer { W.count to.old < 2 ^ 64 - 1 }
+    requires room { HaveRoom (R.count from.old) (W.count to.old) }
     ensures tells { Tells (W.held to.old) (W.held to.new) (R.ahead from.old) (R.ahead from.new)
         result at got.new }
-    ensures reads { CountsGreetReads (R.count from.old) (R.count from.new) result }
-    ensures writes { CountsGreetWrites (W.count to.old) (W.count to.new) result }
+    ensures counts { CountsGreetReads (R.count from.old) (R.count from.new) result
+        × CountsGreetWrites (W.count to.old) (W.count to.new) result }
 {
     match ask(from, to, &[at.bytes()], got) {
         Ok(()) => Ok(()),
@@ -141,12 +136,11 @@ fn takes_ahead<R: ByteIn, W: ByteOut>(
     to: &mut W,
     offered: bool,
 ) -> Result<u16, GreetFault>
-    requires reader { R.count from.old < 2 ^ 64 - 1 }
-    requires writer { W.count to.old < 2 ^ 64 - 1 }
+    requires room { HaveRoom (R.count from.old) (W.count to.old) }
     ensures tells { TellsAhead offered (W.held to.old) (W.held to.new) (R.ahead from.old)
         (R.ahead from.new) result }
-    ensures reads { CountsGreetReads (R.count from.old) (R.count from.new) result }
-    ensures writes { CountsGreetWrites (W.count to.old) (W.count to.new) result }
+    ensures counts { CountsGreetReads (R.count from.old) (R.count from.new) result
+        × CountsGreetWrites (W.count to.old) (W.count to.new) result }
 {
     if !offered {
         return Ok(0);
@@ -168,12 +162,11 @@ fn tell_if<R: ByteIn, W: ByteOut>(
     at: Command,
     got: &mut [u8],
 ) -> Result<(), GreetFault>
-    requires reader { R.count from.old < 2 ^ 64 - 1 }
-    requires writer { W.count to.old < 2 ^ 64 - 1 }
+    requires room { HaveRoom (R.count from.old) (W.count to.old) }
     ensures tells { TellsIf offered (W.held to.old) (W.held to.new) (R.ahead from.old)
         (R.ahead from.new) result at got.new }
-    ensures reads { CountsGreetReads (R.count from.old) (R.count from.new) result }
-    ensures writes { CountsGreetWrites (W.count to.old) (W.count to.new) result }
+    ensures counts { CountsGreetReads (R.count from.old) (R.count from.new) result
+        × CountsGreetWrites (W.count to.old) (W.count to.new) result }
 {
     if offered {
         tell(from, to, at, got)

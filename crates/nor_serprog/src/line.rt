@@ -1,6 +1,7 @@
 //! The test of the line to a device: whether each byte reaches it as it was sent.
 
 ghost use Rattle.std.specs.Prelude.{◌≡◌, ◌<◌, ◌≤◌, ◌+◌, ◌-◌, ◌^◌, [], ◌∷◌, length};
+ghost use Rattle.nor_base.specs.Device.{HaveRoom};
 ghost use Rattle.nor_serprog.specs.Exchange.{CountsReads, CountsWrites};
 ghost use Rattle.nor_serprog.specs.Line.{Exchanges, SendsValues, TestsLine, all_values, end_test};
 ghost use Rattle.nor_serprog.specs.Line.{ignored, lengths_test, zeros_if};
@@ -27,12 +28,11 @@ pub fn test_line<R: ByteIn, W: ByteOut>(
     to: &mut W,
     limits: &Limits,
 ) -> Result<(), Fault>
-    requires reader { R.count from.old < 2 ^ 64 - 1 }
-    requires writer { W.count to.old < 2 ^ 64 - 1 }
+    requires room { HaveRoom (R.count from.old) (W.count to.old) }
     ensures tests { TestsLine (W.held to.old) (W.held to.new) (R.ahead from.old) (R.ahead from.new)
         result limits.now }
-    ensures reads { CountsReads (R.count from.old) (R.count from.new) result }
-    ensures writes { CountsWrites (W.count to.old) (W.count to.new) result }
+    ensures counts { CountsReads (R.count from.old) (R.count from.new) result
+        × CountsWrites (W.count to.old) (W.count to.new) result }
 {
     send_values(from, to, limits)?;
     send_lengths(from, to, limits.sent)?;
@@ -45,12 +45,11 @@ fn send_values<R: ByteIn, W: ByteOut>(
     to: &mut W,
     limits: &Limits,
 ) -> Result<(), Fault>
-    requires reader { R.count from.old < 2 ^ 64 - 1 }
-    requires writer { W.count to.old < 2 ^ 64 - 1 }
+    requires room { HaveRoom (R.count from.old) (W.count to.old) }
     ensures sends { SendsValues (W.held to.old) (W.held to.new) (R.ahead from.old)
         (R.ahead from.new) result limits.now.sent }
-    ensures reads { CountsReads (R.count from.old) (R.count from.new) result }
-    ensures writes { CountsWrites (W.count to.old) (W.count to.new) result }
+    ensures counts { CountsReads (R.count from.old) (R.count from.new) result
+        × CountsWrites (W.count to.old) (W.count to.new) result }
 {
     if limits.sent == 1 {
         return Ok(());
@@ -62,12 +61,11 @@ fn send_values<R: ByteIn, W: ByteOut>(
 fn send_pieces<R: ByteIn, W: ByteOut>(from: &mut R, to: &mut W, room: usize) -> Result<(), Fault>
     requires some { 0 < room }
     requires few { room < 2 ^ 24 - 1 }
-    requires reader { R.count from.old < 2 ^ 64 - 1 }
-    requires writer { W.count to.old < 2 ^ 64 - 1 }
+    requires room { HaveRoom (R.count from.old) (W.count to.old) }
     ensures sends { SendsValues (W.held to.old) (W.held to.new) (R.ahead from.old)
         (R.ahead from.new) result (room + 1) }
-    ensures reads { CountsReads (R.count from.old) (R.count from.new) result }
-    ensures writes { CountsWrites (W.count to.old) (W.count to.new) result }
+    ensures counts { CountsReads (R.count from.old) (R.count from.new) result
+        × CountsWrites (W.count to.old) (W.count to.new) result }
 {
     let values = all_values();
     let mut done = 0;
@@ -92,12 +90,11 @@ fn all_values() -> [u8; 256]
 
 /// Has the device send 05h and zeros, of each length that it can.
 fn send_lengths<R: ByteIn, W: ByteOut>(from: &mut R, to: &mut W, sent: u32) -> Result<(), Fault>
-    requires reader { R.count from.old < 2 ^ 64 - 1 }
-    requires writer { W.count to.old < 2 ^ 64 - 1 }
+    requires room { HaveRoom (R.count from.old) (W.count to.old) }
     ensures does { Exchanges (W.held to.old) (W.held to.new) (R.ahead from.old) (R.ahead from.new)
         result (lengths_test sent) }
-    ensures reads { CountsReads (R.count from.old) (R.count from.new) result }
-    ensures writes { CountsWrites (W.count to.old) (W.count to.new) result }
+    ensures counts { CountsReads (R.count from.old) (R.count from.new) result
+        × CountsWrites (W.count to.old) (W.count to.new) result }
 {
     send_zeros(from, to, sent, 0x0D)?;
     send_zeros(from, to, sent, 0x61)?;
@@ -113,12 +110,11 @@ fn send_zeros<R: ByteIn, W: ByteOut>(
 ) -> Result<(), Fault>
     requires some { 0 < count }
     requires few { count ≤ 128 }
-    requires reader { R.count from.old < 2 ^ 64 - 1 }
-    requires writer { W.count to.old < 2 ^ 64 - 1 }
+    requires room { HaveRoom (R.count from.old) (W.count to.old) }
     ensures does { Exchanges (W.held to.old) (W.held to.new) (R.ahead from.old) (R.ahead from.new)
         result (zeros_if sent count) }
-    ensures reads { CountsReads (R.count from.old) (R.count from.new) result }
-    ensures writes { CountsWrites (W.count to.old) (W.count to.new) result }
+    ensures counts { CountsReads (R.count from.old) (R.count from.new) result
+        × CountsWrites (W.count to.old) (W.count to.new) result }
 {
     if sent < count {
         return Ok(());
@@ -130,12 +126,11 @@ fn send_zeros<R: ByteIn, W: ByteOut>(
 /// Has the device send 05h and then bytes that the chip ignores.
 fn send_ignored<R: ByteIn, W: ByteOut>(from: &mut R, to: &mut W, bytes: &[u8]) -> Result<(), Fault>
     requires few { length bytes.now < 2 ^ 24 - 1 }
-    requires reader { R.count from.old < 2 ^ 64 - 1 }
-    requires writer { W.count to.old < 2 ^ 64 - 1 }
+    requires room { HaveRoom (R.count from.old) (W.count to.old) }
     ensures does { Exchanges (W.held to.old) (W.held to.new) (R.ahead from.old) (R.ahead from.new)
         result (ignored bytes.now ∷ []) }
-    ensures reads { CountsReads (R.count from.old) (R.count from.new) result }
-    ensures writes { CountsWrites (W.count to.old) (W.count to.new) result }
+    ensures counts { CountsReads (R.count from.old) (R.count from.new) result
+        × CountsWrites (W.count to.old) (W.count to.new) result }
 {
     let head = head(bytes.len() as u32 + 1, 0);
     exchange(from, to, &[&head, &[READ_STATUS], bytes], &[ACK])
@@ -143,12 +138,11 @@ fn send_ignored<R: ByteIn, W: ByteOut>(from: &mut R, to: &mut W, bytes: &[u8]) -
 
 /// Does NOP, and then asks for the word, which is to come alone.
 fn end<R: ByteIn, W: ByteOut>(from: &mut R, to: &mut W) -> Result<(), Fault>
-    requires reader { R.count from.old < 2 ^ 64 - 1 }
-    requires writer { W.count to.old < 2 ^ 64 - 1 }
+    requires room { HaveRoom (R.count from.old) (W.count to.old) }
     ensures does { Exchanges (W.held to.old) (W.held to.new) (R.ahead from.old) (R.ahead from.new)
         result end_test }
-    ensures reads { CountsReads (R.count from.old) (R.count from.new) result }
-    ensures writes { CountsWrites (W.count to.old) (W.count to.new) result }
+    ensures counts { CountsReads (R.count from.old) (R.count from.new) result
+        × CountsWrites (W.count to.old) (W.count to.new) result }
 {
     exchange(from, to, &[&[NOP]], &[ACK])?;
     exchange(from, to, &[Command::SyncNop.bytes()], &[NAK, ACK])

@@ -1,6 +1,7 @@
 //! One SPI operation of a device.
 
 ghost use Rattle.std.specs.Prelude.{◌≡◌, ◌<◌, ◌-◌, ◌^◌, length};
+ghost use Rattle.nor_base.specs.Device.{HaveRoom};
 ghost use Rattle.nor_serprog.specs.Protocol.{head, request};
 ghost use Rattle.nor_serprog.specs.declared.fault.Fault.TheVariants.{Read, Write};
 ghost use Rattle.nor_serprog.specs.Exchange.{Answers, Asks, CountsReads, CountsWrites, Knows};
@@ -27,14 +28,13 @@ pub fn operate<R: ByteIn, W: ByteOut>(
 ) -> Result<(), Fault>
     requires sent { length sent.now < 2 ^ 24 }
     requires asked { length got.old < 2 ^ 24 }
-    requires reader { R.count from.old < 2 ^ 64 - 1 }
-    requires writer { W.count to.old < 2 ^ 64 - 1 }
+    requires room { HaveRoom (R.count from.old) (W.count to.old) }
     ensures asked { Asks (W.held to.old) (W.held to.new) (R.ahead from.old) (R.ahead from.new)
         result
         (request sent.now (length got.old))
         (Answers (R.ahead from.old) (R.ahead from.new) result got.new) }
-    ensures reads { CountsReads (R.count from.old) (R.count from.new) result }
-    ensures writes { CountsWrites (W.count to.old) (W.count to.new) result }
+    ensures counts { CountsReads (R.count from.old) (R.count from.new) result
+        × CountsWrites (W.count to.old) (W.count to.new) result }
 {
     let head = head(sent.len() as u32, got.len() as u32);
     ask(from, to, &[&head, sent], got)
@@ -53,13 +53,12 @@ pub fn operate_with<R: ByteIn, W: ByteOut>(
 ) -> Result<(), Reason>
     requires sent { length sent.now < 2 ^ 24 }
     requires asked { length want.now < 2 ^ 24 }
-    requires reader { R.count from.old < 2 ^ 64 - 1 }
-    requires writer { W.count to.old < 2 ^ 64 - 1 }
+    requires room { HaveRoom (R.count from.old) (W.count to.old) }
     ensures known { Knows (W.held to.old) (W.held to.new) (R.ahead from.old) (R.ahead from.new)
         result
         (request sent.now (length want.now)) want.now }
-    ensures reads { CountsReason Read (R.count from.old) (R.count from.new) result }
-    ensures writes { CountsReason Write (W.count to.old) (W.count to.new) result }
+    ensures counts { CountsReason Read (R.count from.old) (R.count from.new) result
+        × CountsReason Write (W.count to.old) (W.count to.new) result }
 {
     let head = head(sent.len() as u32, want.len() as u32);
     put_command(to, &[&head, sent]).map_err(|_| Fault::Write)?;

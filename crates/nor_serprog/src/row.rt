@@ -3,6 +3,7 @@
 ghost use Rattle.std.specs.Bool.{OnTrue};
 ghost use Rattle.std.specs.Prelude.{◌≡◌, ◌≤◌, ◌<◌, ◌⊎◌, ◌+◌, ◌-◌, ◌^◌, ◌++◌, [], ◌∷◌, ℕ, List, All};
 ghost use Rattle.std.specs.Prelude.{IfSome, MatchResult, length, take};
+ghost use Rattle.nor_base.specs.Device.{HaveRoom};
 ghost use Rattle.nor_base.specs.Sample.{sampled_count};
 ghost use Rattle.nor_base.specs.Step.{expected};
 ghost use Rattle.nor_base.specs.declared.step.Step.TheVariants.{Poll};
@@ -112,16 +113,15 @@ pub fn do_row<R: ByteIn, W: ByteOut>(
 ) -> Result<(), Halt>
     requires form { All IsDoable row.now }
     requires row { IsRow limits.now row.now }
-    requires reader { R.count from.old < 2 ^ 64 - 1 }
-    requires writer { W.count to.old < 2 ^ 64 - 1 }
+    requires room { HaveRoom (R.count from.old) (W.count to.old) }
     ensures done { MatchResult result
         (λ _. HasDoneAll (W.held to.old) (W.held to.new) (R.ahead from.old) (R.ahead from.new)
         limits.now turns row.now)
         (λ halt. HasHalted (W.held to.old) (W.held to.new) (R.ahead from.old) (R.ahead from.new)
         limits.now turns row.now
         halt) }
-    ensures reads { CountsHalt Read (R.count from.old) (R.count from.new) result }
-    ensures writes { CountsHalt Write (W.count to.old) (W.count to.new) result }
+    ensures counts { CountsHalt Read (R.count from.old) (R.count from.new) result
+        × CountsHalt Write (W.count to.old) (W.count to.new) result }
 {
     if row.len() > 1 {
         let front = before_poll(row);
@@ -141,16 +141,15 @@ fn do_each<R: ByteIn, W: ByteOut>(
     row: &[Step],
 ) -> Result<(), Halt>
     requires form { All IsDoable row.now }
-    requires reader { R.count from.old < 2 ^ 64 - 1 }
-    requires writer { W.count to.old < 2 ^ 64 - 1 }
+    requires room { HaveRoom (R.count from.old) (W.count to.old) }
     ensures done { MatchResult result
         (λ _. HasDoneAll (W.held to.old) (W.held to.new) (R.ahead from.old) (R.ahead from.new)
         limits.now turns row.now)
         (λ halt. HasHalted (W.held to.old) (W.held to.new) (R.ahead from.old) (R.ahead from.new)
         limits.now turns row.now
         halt) }
-    ensures reads { CountsHalt Read (R.count from.old) (R.count from.new) result }
-    ensures writes { CountsHalt Write (W.count to.old) (W.count to.new) result }
+    ensures counts { CountsHalt Read (R.count from.old) (R.count from.new) result
+        × CountsHalt Write (W.count to.old) (W.count to.new) result }
 {
     let mut number = 0;
     for step in row {
@@ -175,16 +174,15 @@ fn do_ahead<R: ByteIn, W: ByteOut>(
     requires form { All IsDoable row.now }
     requires row { IsRow limits.now row.now }
     requires front { AreFront limits.now row.now front.now requests.items }
-    requires reader { R.count from.old < 2 ^ 64 - 1 }
-    requires writer { W.count to.old < 2 ^ 64 - 1 }
+    requires room { HaveRoom (R.count from.old) (W.count to.old) }
     ensures done { MatchResult result
         (λ _. HasDoneAll (W.held to.old) (W.held to.new) (R.ahead from.old) (R.ahead from.new)
         limits.now turns row.now)
         (λ halt. HasHalted (W.held to.old) (W.held to.new) (R.ahead from.old) (R.ahead from.new)
         limits.now turns row.now
         halt) }
-    ensures reads { CountsHalt Read (R.count from.old) (R.count from.new) result }
-    ensures writes { CountsHalt Write (W.count to.old) (W.count to.new) result }
+    ensures counts { CountsHalt Read (R.count from.old) (R.count from.new) result
+        × CountsHalt Write (W.count to.old) (W.count to.new) result }
 {
     let mut requests = requests;
     let polls = front.len() < row.len();

@@ -47,8 +47,8 @@ impl<'a, R: Read + Drop, W: Write + Drop> Shadowed<'a, R, W> {
         ensures to { result.to.inner ≡ to }
         ensures limits { result.limits ≡ limits }
         ensures turns { result.turns ≡ turns }
-        ensures failed { result.failed ≡ 0 }
-        ensures reason { result.reason ≡ None }
+        ensures fresh { (result.failed ≡ 0)
+            × (result.reason ≡ None) }
     {
         Shadowed {
             chip,
@@ -79,8 +79,8 @@ impl<'a, R: Read + Drop, W: Write + Drop> Port for Shadowed<'a, R, W> {
             (ahead_of (R.remaining self.old.from.inner))
             (ahead_of (R.remaining self.new.from.inner)) self.old.reason self.new.reason
             result self.old.limits self.old.turns clocks.now out.new }
-        ensures limits { self.new.limits ≡ self.old.limits }
-        ensures turns { self.new.turns ≡ self.old.turns }
+        ensures kept { (self.new.limits ≡ self.old.limits)
+            × (self.new.turns ≡ self.old.turns) }
     {
         if self.reason.is_some() {
             self.failed += 1;

@@ -1,6 +1,7 @@
 //! The first word of a device: NAK and ACK, its answer to 10h and to nothing else.
 
 ghost use Rattle.std.specs.Prelude.{◌≡◌, ◌<◌, ◌-◌, ◌^◌, length};
+ghost use Rattle.nor_base.specs.Device.{HaveRoom};
 ghost use Rattle.nor_serprog.specs.Exchange.{CountsReads, CountsWrites};
 ghost use Rattle.nor_serprog.specs.Greeting.{Begins, Finds, Hears, HearsLate, Tries, is_word};
 
@@ -20,12 +21,11 @@ const NOISE: usize = 65536;
 /// Asks the device for its first word until it comes, again at each silence, and takes what comes
 /// late after it.
 pub(crate) fn synchronize<R: ByteIn, W: ByteOut>(from: &mut R, to: &mut W) -> Result<(), Fault>
-    requires reader { R.count from.old < 2 ^ 64 - 1 }
-    requires writer { W.count to.old < 2 ^ 64 - 1 }
+    requires room { HaveRoom (R.count from.old) (W.count to.old) }
     ensures word { Begins (W.held to.old) (W.held to.new) (R.ahead from.old) (R.ahead from.new)
         result }
-    ensures reads { CountsReads (R.count from.old) (R.count from.new) result }
-    ensures writes { CountsWrites (W.count to.old) (W.count to.new) result }
+    ensures counts { CountsReads (R.count from.old) (R.count from.new) result
+        × CountsWrites (W.count to.old) (W.count to.new) result }
 {
     let tries = find_word(from, to)?;
     // tries that weren't answered before the next one may be after all
@@ -35,12 +35,11 @@ pub(crate) fn synchronize<R: ByteIn, W: ByteOut>(from: &mut R, to: &mut W) -> Re
 
 /// Asks until it comes: how often.
 fn find_word<R: ByteIn, W: ByteOut>(from: &mut R, to: &mut W) -> Result<usize, Fault>
-    requires reader { R.count from.old < 2 ^ 64 - 1 }
-    requires writer { W.count to.old < 2 ^ 64 - 1 }
+    requires room { HaveRoom (R.count from.old) (W.count to.old) }
     ensures word { Finds (W.held to.old) (W.held to.new) (R.ahead from.old) (R.ahead from.new)
         result }
-    ensures reads { CountsReads (R.count from.old) (R.count from.new) result }
-    ensures writes { CountsWrites (W.count to.old) (W.count to.new) result }
+    ensures counts { CountsReads (R.count from.old) (R.count from.new) result
+        × CountsWrites (W.count to.old) (W.count to.new) result }
 {
     put_try(to)?;
     let mut tries = 1;

@@ -50,15 +50,15 @@ fn completed(
     kinds: [Option<Erase>; 4],
     regions: ArrayVec<Region, 256>,
 ) -> Result<Meaning, SfdpFault>
-    requires low { 4096 ≤ size }
-    requires high { size ≤ 2 ^ 28 }
-    requires whole { size % 4096 ≡ 0 }
-    requires power { IsPowerOfTwo 4 12 page.size }
-    requires kinds { AllByRecursion (IsKind page.size) kinds }
-    requires four { length kinds ≡ 4 }
-    requires few { length regions.items ≤ 256 }
-    requires form { AllByRecursion IsRegion regions.items }
-    requires fill { bytes_of regions.items ≡ size }
+    requires size { (4096 ≤ size)
+        × (size ≤ 2 ^ 28)
+        × (size % 4096 ≡ 0) }
+    requires kinds { IsPowerOfTwo 4 12 page.size
+        × AllByRecursion (IsKind page.size) kinds
+        × (length kinds ≡ 4) }
+    requires regions { (length regions.items ≤ 256)
+        × AllByRecursion IsRegion regions.items
+        × (bytes_of regions.items ≡ size) }
     ensures { result ≡ completed tables.now part size width page kinds regions.items }
 {
     let taken = taken_opcodes(&kinds, &regions);

@@ -36,8 +36,8 @@ impl<'m> StepWriter<'m> {
         requires writer { W.count out.old < 2 ^ 64 - 1 }
         ensures written { WritesUnit self.old self.new (W.held out.old) (W.held out.new) unit.now
             have.now want.now result }
-        ensures count { CountsSteps (W.count out.old) (W.count out.new) result }
-        ensures why { IfErr result IsOfWriting }
+        ensures fails { CountsSteps (W.count out.old) (W.count out.new) result
+            × IfErr result IsOfWriting }
     {
         let meaning = self.lowerer.meaning();
         meaning.acceptance();
@@ -72,9 +72,9 @@ impl<'m> StepWriter<'m> {
     ) -> Result<Tally, StepsFault>
         requires between { AreBetween block.start (block.start + length want.now) (length want.now)
             runs.now }
-        requires inside { block.start + length want.now ≤ 2 ^ 28 }
-        requires size { block.size ≡ length want.now }
-        requires few { length want.now ≤ 2 ^ 24 }
+        requires block { (block.start + length want.now ≤ 2 ^ 28)
+            × (block.size ≡ length want.now)
+            × (length want.now ≤ 2 ^ 24) }
         requires writer { W.count out.old < 2 ^ 64 - 1 }
         ensures written { Writes self.old self.new (W.held out.old) (W.held out.new) 1
             (block_ops self.old block runs.now want.now) result }
@@ -101,18 +101,18 @@ impl<'m> StepWriter<'m> {
         want: &[u8],
         out: &mut W,
     ) -> Result<u64, StepsFault>
-        requires inside { start + length want.now ≤ 2 ^ 28 }
-        requires few { length want.now ≤ 2 ^ 24 }
+        requires fits { (start + length want.now ≤ 2 ^ 28)
+            × (length want.now ≤ 2 ^ 24) }
         requires writer { W.count out.old < 2 ^ 64 - 1 }
         ensures lines { Adds (W.held out.old) (W.held out.new) result
             (next_lines self.old (block_reads self.old start want.now)) }
         ensures steps { IfOk result (λ steps.
-            steps ≡ length (next self.old.streaming (block_reads self.old start want.now))) }
-        ensures few { IfOk result (λ steps. steps ≤ 6 * length want.now) }
+            steps ≡ length (next self.old.streaming (block_reads self.old start want.now)))
+            × IfOk result (λ steps. steps ≤ 6 * length want.now) }
         ensures onward { IfOk result (λ _. self.new
             ≡ written_on self.old (block_reads self.old start want.now)) }
-        ensures count { CountsSteps (W.count out.old) (W.count out.new) result }
-        ensures why { IfErr result IsOfWriting }
+        ensures fails { CountsSteps (W.count out.old) (W.count out.new) result
+            × IfErr result IsOfWriting }
     {
         if !self.verify {
             return Ok(0);
@@ -134,18 +134,18 @@ impl<'m> StepWriter<'m> {
         want: &[u8],
         out: &mut W,
     ) -> Result<u64, StepsFault>
-        requires between { AllByRecursion (LiesBetween start (start + length want.now)) runs.now }
-        requires few { length runs.now ≤ 2 ^ 24 }
+        requires runs { AllByRecursion (LiesBetween start (start + length want.now)) runs.now
+            × (length runs.now ≤ 2 ^ 24) }
         requires writer { W.count out.old < 2 ^ 64 - 1 }
         ensures lines { Adds (W.held out.old) (W.held out.new) result
             (next_lines self.old (run_ops read start want.now runs.now)) }
         ensures steps { IfOk result (λ steps.
-            steps ≡ length (next self.old.streaming (run_ops read start want.now runs.now))) }
-        ensures few { IfOk result (λ steps. steps ≤ 6 * length runs.now) }
+            steps ≡ length (next self.old.streaming (run_ops read start want.now runs.now)))
+            × IfOk result (λ steps. steps ≤ 6 * length runs.now) }
         ensures onward { IfOk result (λ _. self.new
             ≡ written_on self.old (run_ops read start want.now runs.now)) }
-        ensures count { CountsSteps (W.count out.old) (W.count out.new) result }
-        ensures why { IfErr result IsOfWriting }
+        ensures fails { CountsSteps (W.count out.old) (W.count out.new) result
+            × IfErr result IsOfWriting }
     {
         let mut steps = 0;
         for run in runs {
@@ -172,19 +172,19 @@ impl<'m> StepWriter<'m> {
         want: &[u8],
         out: &mut W,
     ) -> Result<u64, StepsFault>
-        requires page { 0 < page }
-        requires inside { start + length want.now ≤ 2 ^ 28 }
-        requires few { length want.now ≤ 2 ^ 24 }
+        requires fits { (0 < page)
+            × (start + length want.now ≤ 2 ^ 28)
+            × (length want.now ≤ 2 ^ 24) }
         requires writer { W.count out.old < 2 ^ 64 - 1 }
         ensures lines { Adds (W.held out.old) (W.held out.new) result
             (next_lines self.old (page_reads start page want.now)) }
         ensures steps { IfOk result (λ steps.
-            steps ≡ length (next self.old.streaming (page_reads start page want.now))) }
-        ensures few { IfOk result (λ steps. steps ≤ 6 * length want.now) }
+            steps ≡ length (next self.old.streaming (page_reads start page want.now)))
+            × IfOk result (λ steps. steps ≤ 6 * length want.now) }
         ensures onward { IfOk result (λ _. self.new
             ≡ written_on self.old (page_reads start page want.now)) }
-        ensures count { CountsSteps (W.count out.old) (W.count out.new) result }
-        ensures why { IfErr result IsOfWriting }
+        ensures fails { CountsSteps (W.count out.old) (W.count out.new) result
+            × IfErr result IsOfWriting }
     {
         let mut steps = 0;
         for number in 0..want.len() / page as usize {

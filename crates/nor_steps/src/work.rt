@@ -37,8 +37,8 @@ pub trait WorkWriter {
         want: &[u8],
         out: &mut W,
     ) -> Result<Tally, StepsFault>
-        requires lengths { length have.now ≡ length want.now }
-        requires window { IsWindow (writing self.old).streaming.meaning
+        requires window { (length have.now ≡ length want.now)
+            × IsWindow (writing self.old).streaming.meaning
             (writing self.old).streaming.by at (length have.now) }
         requires room { W.count out.old < 2 ^ 64 - 1 }
         ensures written { IfOk result

@@ -76,8 +76,8 @@ impl<'m> StepWriter<'m> {
             steps ≡ length (next self.old.streaming (map op_of ops.now))) }
         ensures few { IfOk result (λ steps. steps ≤ 3 + 3 * length ops.now) }
         ensures onward { IfOk result (λ _. self.new ≡ written_on self.old (map op_of ops.now)) }
-        ensures count { CountsSteps (W.count out.old) (W.count out.new) result }
-        ensures why { IfErr result IsOfWriting }
+        ensures fails { CountsSteps (W.count out.old) (W.count out.new) result
+            × IfErr result IsOfWriting }
     {
         let instrs = self.lowerer.more(alloc, ops)?;
         out.take(&instrs, &mut self.clocks)?;

@@ -1,6 +1,7 @@
 //! From the bytes of the inputs to the bytes of a script.
 
 ghost use Rattle.std.specs.Prelude.{◌≡◌, ◌⊎◌, ◌<◌, ◌-◌, ◌+◌, ◌^◌, List, IfOk, IfErr};
+ghost use Rattle.nor_base.specs.Device.{HaveRoom};
 ghost use Rattle.nor_base.specs.Accepted.{IsAccepted};
 ghost use Rattle.nor_base.specs.Parameters.{Parameters};
 ghost use Rattle.nor_hex.specs.Image.{Pairs};
@@ -39,8 +40,7 @@ pub fn build<R: ByteIn, W: ByteOut>(
     len: u64,
     out: &mut W,
 ) -> Result<Report, BuildFault>
-    requires reader { R.count content.old < 2 ^ 64 - 1 }
-    requires writer { W.count out.old < 2 ^ 64 - 1 }
+    requires room { HaveRoom (R.count content.old) (W.count out.old) }
     ensures built { IfOk result
         (IsBuilt inputs.now len (R.ahead content.old) (R.ahead content.new) (W.held out.old)
         (W.held out.new)) }
@@ -53,8 +53,8 @@ pub fn build<R: ByteIn, W: ByteOut>(
         → AreAccepted inputs.now len image regions m
         → IfErr result IsLate }
     ensures within { ReadsWithin len (R.ahead content.old) (R.ahead content.new) }
-    ensures reads { CountsReader (R.count content.old) (R.count content.new) result }
-    ensures writes { CountsWriter (W.count out.old) (W.count out.new) result }
+    ensures counts { CountsReader (R.count content.old) (R.count content.new) result
+        × CountsWriter (W.count out.old) (W.count out.new) result }
 {
     let job = job_of(alloc, inputs, len)?;
     planned_work_does_the_task();
@@ -85,16 +85,15 @@ fn write_script<R: ByteIn, W: ByteOut>(
     out: &mut W,
 ) -> Result<Tally, BuildFault>
     requires accepted { IsAccepted job.now.meaning }
-    requires reader { R.count content.old < 2 ^ 64 - 1 }
-    requires writer { W.count out.old < 2 ^ 64 - 1 }
+    requires room { HaveRoom (R.count content.old) (W.count out.old) }
     ensures done { IfOk result
         (IsScripted job.now (R.ahead content.old) (R.ahead content.new) (W.held out.old)
         (W.held out.new)) }
     ensures cut { IfErr result
         (IsCutScript job.now (R.ahead content.old) (R.ahead content.new) (W.held out.old)
         (W.held out.new)) }
-    ensures reads { CountsReader (R.count content.old) (R.count content.new) result }
-    ensures writes { CountsWriter (W.count out.old) (W.count out.new) result }
+    ensures counts { CountsReader (R.count content.old) (R.count content.new) result
+        × CountsWriter (W.count out.old) (W.count out.new) result }
 {
     let window = window_size(&job.meaning) as usize;
     let (mut have, mut want) = room(alloc, window)?;

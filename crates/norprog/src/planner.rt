@@ -1,6 +1,7 @@
 //! From the bytes of the inputs to the lines that tell the plan of their work.
 
 ghost use Rattle.std.specs.Prelude.{◌≡◌, ◌⊎◌, ◌<◌, ◌-◌, ◌+◌, ◌^◌, List, IfOk, IfErr};
+ghost use Rattle.nor_base.specs.Device.{HaveRoom};
 ghost use Rattle.nor_base.specs.Accepted.{IsAccepted};
 ghost use Rattle.nor_base.specs.Parameters.{Parameters};
 ghost use Rattle.nor_hex.specs.Image.{Pairs};
@@ -36,8 +37,7 @@ pub fn plan<R: ByteIn, W: ByteOut>(
     len: u64,
     out: &mut W,
 ) -> Result<Report, BuildFault>
-    requires reader { R.count content.old < 2 ^ 64 - 1 }
-    requires writer { W.count out.old < 2 ^ 64 - 1 }
+    requires room { HaveRoom (R.count content.old) (W.count out.old) }
     ensures planned { IfOk result
         (IsPlanOf inputs.now len (R.ahead content.old) (R.ahead content.new) (W.held out.old)
         (W.held out.new)) }
@@ -50,8 +50,8 @@ pub fn plan<R: ByteIn, W: ByteOut>(
         → AreAccepted inputs.now len image regions m
         → IfErr result IsLate }
     ensures within { ReadsWithin len (R.ahead content.old) (R.ahead content.new) }
-    ensures reads { CountsReader (R.count content.old) (R.count content.new) result }
-    ensures writes { CountsWriter (W.count out.old) (W.count out.new) result }
+    ensures counts { CountsReader (R.count content.old) (R.count content.new) result
+        × CountsWriter (W.count out.old) (W.count out.new) result }
 {
     let job = job_of(alloc, inputs, len)?;
     there_is_planned_work();
@@ -69,16 +69,15 @@ fn tell_job<R: ByteIn, W: ByteOut>(
     out: &mut W,
 ) -> Result<Tally, BuildFault>
     requires accepted { IsAccepted job.now.meaning }
-    requires reader { R.count content.old < 2 ^ 64 - 1 }
-    requires writer { W.count out.old < 2 ^ 64 - 1 }
+    requires room { HaveRoom (R.count content.old) (W.count out.old) }
     ensures done { IfOk result
         (IsToldWhole job.now (R.ahead content.old) (R.ahead content.new) (W.held out.old)
         (W.held out.new)) }
     ensures cut { IfErr result
         (IsCutPlan job.now (R.ahead content.old) (R.ahead content.new) (W.held out.old)
         (W.held out.new)) }
-    ensures reads { CountsReader (R.count content.old) (R.count content.new) result }
-    ensures writes { CountsWriter (W.count out.old) (W.count out.new) result }
+    ensures counts { CountsReader (R.count content.old) (R.count content.new) result
+        × CountsWriter (W.count out.old) (W.count out.new) result }
 {
     let window = window_size(&job.meaning) as usize;
     let (mut have, mut want) = room(alloc, window)?;

@@ -1,6 +1,7 @@
 //! The content of a chip, a window at a time.
 
 ghost use Rattle.std.specs.Prelude.{◌≡◌, ◌<◌, ◌≤◌, ◌+◌, ◌-◌, ◌^◌, length, IfOk, IfErr};
+ghost use Rattle.nor_base.specs.Device.{HaveRoom};
 ghost use Rattle.nor_base.specs.Accepted.{IsAccepted};
 ghost use Rattle.nor_base.specs.Strategies.{strategy as driven_by};
 ghost use Rattle.nor_geometry.specs.Plan.{IsWindow};
@@ -36,18 +37,17 @@ pub(crate) fn write_windows<T: WorkWriter, R: ByteIn, W: ByteOut>(
     content: &mut R,
     out: &mut W,
 ) -> Result<Tally, BuildFault>
-    requires accepted { IsAccepted job.now.meaning }
-    requires first { T.writing writer.old ≡ first_writing job.now }
-    requires window { IsWindowSize job.now.meaning (length have.old) }
-    requires lengths { length want.old ≡ length have.old }
-    requires reader { R.count content.old < 2 ^ 64 - 1 }
-    requires out { W.count out.old < 2 ^ 64 - 1 }
+    requires job { IsAccepted job.now.meaning
+        × (T.writing writer.old ≡ first_writing job.now) }
+    requires window { IsWindowSize job.now.meaning (length have.old)
+        × (length want.old ≡ length have.old) }
+    requires room { HaveRoom (R.count content.old) (W.count out.old) }
     ensures done { IfOk result (IsAllDone (T.unit_text writer.old) job.now (T.writing writer.new)
         (R.ahead content.old) (R.ahead content.new) (W.held out.old) (W.held out.new)) }
     ensures cut { IfErr result (IsCut (IsKnown (T.unit_text writer.old) job.now) job.now
         (R.ahead content.old) (R.ahead content.new) (W.held out.old) (W.held out.new)) }
-    ensures reads { CountsReader (R.count content.old) (R.count content.new) result }
-    ensures writes { CountsWriter (W.count out.old) (W.count out.new) result }
+    ensures counts { CountsReader (R.count content.old) (R.count content.new) result
+        × CountsWriter (W.count out.old) (W.count out.new) result }
 {
     let window = have.len();
     let mut at = 0;
@@ -84,14 +84,13 @@ fn write_window<T: WorkWriter, R: ByteIn, W: ByteOut>(
     content: &mut R,
     out: &mut W,
 ) -> Result<Tally, BuildFault>
-    requires lengths { length want.old ≡ length have.old }
-    requires meaning { (T.writing writer.old).streaming.meaning ≡ job.now.meaning }
-    requires by { (T.writing writer.old).streaming.by ≡ driven_by job.now.meaning job.now.start }
-    requires window { IsWindow job.now.meaning (driven_by job.now.meaning job.now.start) at
-        (length have.old) }
-    requires inside { at + length have.old ≤ 2 ^ 32 }
-    requires reader { R.count content.old < 2 ^ 64 - 1 }
-    requires out { W.count out.old < 2 ^ 64 - 1 }
+    requires window { (length want.old ≡ length have.old)
+        × ((T.writing writer.old).streaming.meaning ≡ job.now.meaning)
+        × ((T.writing writer.old).streaming.by ≡ driven_by job.now.meaning job.now.start)
+        × IsWindow job.now.meaning (driven_by job.now.meaning job.now.start) at
+        (length have.old)
+        × (at + length have.old ≤ 2 ^ 32) }
+    requires room { HaveRoom (R.count content.old) (W.count out.old) }
     ensures done { IfOk result
         (IsDone (T.unit_text writer.old) job.now (T.writing writer.old) (T.writing writer.new) at
         (length have.old)
@@ -100,8 +99,8 @@ fn write_window<T: WorkWriter, R: ByteIn, W: ByteOut>(
         (StopsWindow (T.unit_text writer.old) job.now (T.writing writer.old) at (length have.old)
         (R.ahead content.old) (R.ahead content.new) (W.held out.old) (W.held out.new)) }
     ensures text { T.unit_text writer.new ≡ T.unit_text writer.old }
-    ensures reads { CountsReader (R.count content.old) (R.count content.new) result }
-    ensures writes { CountsWriter (W.count out.old) (W.count out.new) result }
+    ensures counts { CountsReader (R.count content.old) (R.count content.new) result
+        × CountsWriter (W.count out.old) (W.count out.new) result }
 {
     fill_window(content, have)?;
     fill(&job.image, job.base, &job.chosen, at, have, want);

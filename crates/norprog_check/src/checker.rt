@@ -43,8 +43,8 @@ pub fn check_script<R: ByteIn>(
     ensures spelled { (image : Pairs) (regions : List Region) (m : Parameters) (steps : List Step)
         → AreAccepted inputs.now len image regions m → IsScript script.now steps
         → IfErr result IsOfContent }
-    ensures within { ReadsWithin len (R.ahead content.old) (R.ahead content.new) }
-    ensures reads { CountsReader (R.count content.old) (R.count content.new) result }
+    ensures reads { ReadsWithin len (R.ahead content.old) (R.ahead content.new)
+        × CountsReader (R.count content.old) (R.count content.new) result }
 {
     faultless_scripts();
     let mut first = TextIn::new(script);

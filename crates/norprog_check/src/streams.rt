@@ -38,9 +38,9 @@ pub fn check_streams<F: ByteIn, A: ByteIn, R: ByteIn>(
     content: &mut R,
     len: u64,
 ) -> Result<Finding, StreamStop>
-    requires first { F.count first.old < 2 ^ 64 - 1 }
-    requires again { A.count again.old < 2 ^ 64 - 1 }
-    requires content { R.count content.old < 2 ^ 64 - 1 }
+    requires room { (F.count first.old < 2 ^ 64 - 1)
+        × (A.count again.old < 2 ^ 64 - 1)
+        × (R.count content.old < 2 ^ 64 - 1) }
     ensures checked { IfOk result
         (ChecksText inputs.now len (F.ahead first.old) (F.ahead first.new) (A.ahead again.old)
         (A.ahead again.new)
@@ -63,10 +63,10 @@ pub fn check_streams<F: ByteIn, A: ByteIn, R: ByteIn>(
         → AreAccepted inputs.now len image regions m → F.ahead first.old ≡ Finite one
         → IsSpelled one
         → A.ahead again.old ≡ Finite other → IsSpelled other → IfErr result IsOfDevices }
-    ensures within { ReadsWithin len (R.ahead content.old) (R.ahead content.new) }
-    ensures reads { CountsStop of_content (R.count content.old) (R.count content.new) result }
-    ensures source { CountsStop of_first (F.count first.old) (F.count first.new) result }
-    ensures source_again { CountsStop of_again (A.count again.old) (A.count again.new) result }
+    ensures reads { ReadsWithin len (R.ahead content.old) (R.ahead content.new)
+        × CountsStop of_content (R.count content.old) (R.count content.new) result
+        × CountsStop of_first (F.count first.old) (F.count first.new) result
+        × CountsStop of_again (A.count again.old) (A.count again.new) result }
 {
     let job = job_of(alloc, inputs, len)?;
     faultless_scripts();

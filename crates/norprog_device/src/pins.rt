@@ -1,6 +1,7 @@
 //! The pins of the chip behind a device.
 
 ghost use Rattle.std.specs.Prelude.{◌<◌, ◌≤◌, ◌+◌, ◌-◌, ◌^◌};
+ghost use Rattle.nor_base.specs.Device.{HaveRoom};
 ghost use Rattle.norprog_device.specs.Opened.{LetsGo};
 
 use nor_base::{ByteIn, ByteOut};
@@ -10,8 +11,7 @@ use nor_serprog::release;
 /// what it answers changes nothing.
 #[tactic(auto, using(crate::proofs::Room::reads_room, crate::proofs::Room::writes_room))]
 pub fn let_go<R: ByteIn, W: ByteOut>(from: &mut R, to: &mut W, pins: bool)
-    requires reader { R.count from.old < 2 ^ 64 - 1 }
-    requires writer { W.count to.old < 2 ^ 64 - 1 }
+    requires room { HaveRoom (R.count from.old) (W.count to.old) }
     ensures goes { LetsGo (W.held to.old) (W.held to.new) (R.ahead from.old) (R.ahead from.new)
         pins }
     ensures reads_room { R.count from.new ≤ R.count from.old + 1 }

@@ -3,7 +3,7 @@
 ghost use Rattle.std.specs.Prelude.{◌≡◌, ◌+◌, ◌-◌, ◌<◌, ◌≤◌, ◌%◌, ◌^◌, List, ℕ, length, IfOk};
 ghost use Rattle.std.specs.Prelude.{IfErr, OnOk};
 ghost use Rattle.std.specs.Io.KnownBytes.{Appends};
-ghost use Rattle.nor_base.specs.Device.{Gives, IsAtEnd};
+ghost use Rattle.nor_base.specs.Device.{HaveRoom, Gives, IsAtEnd};
 ghost use Rattle.nor_hex_out.specs.Segments.{image_records, text_of};
 ghost use Rattle.norprog_common.specs.declared.faults.FileName.TheVariants.{Bin};
 ghost use Rattle.norprog_common.specs.declared.faults.Refusal.TheVariants.{File, Build};
@@ -32,8 +32,7 @@ pub fn write_bin<R: ByteIn, W: ByteOut>(
     out: &mut W,
 ) -> Result<(), Refusal>
     requires fits { at + len ≤ 2 ^ 32 }
-    requires reader { R.count bin.old < 2 ^ 64 - 1 }
-    requires writer { W.count out.old < 2 ^ 64 - 1 }
+    requires room { HaveRoom (R.count bin.old) (W.count out.old) }
     ensures converted { IfOk result
         (λ _. WasConverted at len (R.ahead bin.old) (R.ahead bin.new) (W.held out.old)
         (W.held out.new)) }
@@ -64,10 +63,9 @@ fn write_parts<R: ByteIn, W: ByteOut>(
     buffer: &mut [u8],
     out: &mut W,
 ) -> Result<(), Refusal>
-    requires fits { at + len ≤ 2 ^ 32 }
-    requires buffer { length buffer.old ≡ 65536 }
-    requires reader { R.count bin.old < 2 ^ 64 - 1 }
-    requires writer { W.count out.old < 2 ^ 64 - 1 }
+    requires buffer { (at + len ≤ 2 ^ 32)
+        × (length buffer.old ≡ 65536) }
+    requires room { HaveRoom (R.count bin.old) (W.count out.old) }
     ensures read { IfOk result
         (λ _. WasRead at len (R.ahead bin.old) (R.ahead bin.new) (W.held out.old)
         (W.held out.new)) }
@@ -104,8 +102,7 @@ fn write_part<R: ByteIn, W: ByteOut>(
     out: &mut W,
 ) -> Result<(), Refusal>
     requires inside { at % 65536 + length part.old ≤ 65536 }
-    requires reader { R.count bin.old < 2 ^ 64 - 1 }
-    requires writer { W.count out.old < 2 ^ 64 - 1 }
+    requires room { HaveRoom (R.count bin.old) (W.count out.old) }
     ensures read { IfOk result
         (λ _. WasRead at (length part.old) (R.ahead bin.old) (R.ahead bin.new) (W.held out.old)
         (W.held out.new)) }

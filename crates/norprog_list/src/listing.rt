@@ -23,18 +23,18 @@ pub fn list_script<R: ByteIn, W: ByteOut>(
     script: &mut R,
     out: &mut W,
 ) -> Result<(), Refusal>
-    requires script { R.count script.old < 2 ^ 64 - 1 }
-    requires out { W.count out.old < 2 ^ 64 - 1 }
+    requires room { (R.count script.old < 2 ^ 64 - 1)
+        × (W.count out.old < 2 ^ 64 - 1) }
     ensures listed { IfOk result
         (λ _. ListsText inputs.now (R.ahead script.old) (R.ahead script.new) (W.held out.old)
         (W.held out.new)) }
     ensures refused { IfErr result
         (RefusesText inputs.now (R.ahead script.old) (R.ahead script.new) (W.held out.old)
         (W.held out.new)) }
-    ensures unread { IfErr result (λ why. may_print why ≡ false → script.new ≡ script.old) }
-    ensures unwritten { IfErr result (λ why. may_print why ≡ false → out.new ≡ out.old) }
-    ensures source { CountsSource (R.count script.old) (R.count script.new) result }
-    ensures count { CountsWriter (W.count out.old) (W.count out.new) result }
+    ensures untouched { IfErr result (λ why. may_print why ≡ false → script.new ≡ script.old)
+        × IfErr result (λ why. may_print why ≡ false → out.new ≡ out.old) }
+    ensures counts { CountsSource (R.count script.old) (R.count script.new) result
+        × CountsWriter (W.count out.old) (W.count out.new) result }
 {
     let (meaning, start) = known_chip(inputs)?;
     match list_steps(alloc, &meaning, meaning.begins4(&start), script, out) {

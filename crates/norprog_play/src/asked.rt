@@ -27,8 +27,8 @@ pub(crate) fn begin<R: Read + Drop, W: Write + Drop>(
     access: Access,
     marks: &[bool],
 ) -> Result<(), Unlike>
-    requires size { length port.old.chip.chip.array < 2 ^ 32 }
-    requires cells { length port.old.chip.chip.array ≡ 256 * length marks.now }
+    requires marked { (length port.old.chip.chip.array < 2 ^ 32)
+        × (length port.old.chip.chip.array ≡ 256 * length marks.now) }
     requires count { port.old.failed < 2 ^ 64 - 1 }
     ensures begins { MatchResult result
         (λ _. Begins (expectation_of expected.entry) port.old.limits port.old.turns access
@@ -41,12 +41,12 @@ pub(crate) fn begin<R: Read + Drop, W: Write + Drop>(
         (moment port.old.chip (W.contents port.old.to.inner) (R.remaining port.old.from.inner))
         (moment port.new.chip (W.contents port.new.to.inner) (R.remaining port.new.from.inner))
         why) }
-    ensures chip { port.new.chip ≡ port.old.chip }
-    ensures fresh { IfOk result (λ _. port.new.reason ≡ port.old.reason) }
-    ensures count { IfOk result (λ _. port.new.failed ≡ port.old.failed) }
-    ensures room { port.new.failed ≤ port.old.failed + 1 }
-    ensures limits { port.new.limits ≡ port.old.limits }
-    ensures turns { port.new.turns ≡ port.old.turns }
+    ensures kept { (port.new.chip ≡ port.old.chip)
+        × (port.new.limits ≡ port.old.limits)
+        × (port.new.turns ≡ port.old.turns) }
+    ensures failures { IfOk result (λ _. port.new.reason ≡ port.old.reason)
+        × IfOk result (λ _. port.new.failed ≡ port.old.failed)
+        × (port.new.failed ≤ port.old.failed + 1) }
 {
     if expected.trusted {
         return Ok(());
@@ -72,12 +72,12 @@ fn identify<R: Read + Drop, W: Write + Drop>(
         (StopsAsking (expectation_of expected.entry) port.old.limits port.old.turns
         (moment port.old.chip (W.contents port.old.to.inner) (R.remaining port.old.from.inner))
         (moment port.new.chip (W.contents port.new.to.inner) (R.remaining port.new.from.inner))) }
-    ensures chip { port.new.chip ≡ port.old.chip }
-    ensures fresh { IfOk result (λ _. port.new.reason ≡ port.old.reason) }
-    ensures count { IfOk result (λ _. port.new.failed ≡ port.old.failed) }
-    ensures room { port.new.failed ≤ port.old.failed + 1 }
-    ensures limits { port.new.limits ≡ port.old.limits }
-    ensures turns { port.new.turns ≡ port.old.turns }
+    ensures kept { (port.new.chip ≡ port.old.chip)
+        × (port.new.limits ≡ port.old.limits)
+        × (port.new.turns ≡ port.old.turns) }
+    ensures failures { IfOk result (λ _. port.new.reason ≡ port.old.reason)
+        × IfOk result (λ _. port.new.failed ≡ port.old.failed)
+        × (port.new.failed ≤ port.old.failed + 1) }
 {
     ask_status(port, expected)?;
     match ask_tables(port, expected.tables) {
@@ -100,12 +100,12 @@ fn ask_status<R: Read + Drop, W: Write + Drop>(
         (StopsAsking (expectation_of expected.entry) port.old.limits port.old.turns
         (moment port.old.chip (W.contents port.old.to.inner) (R.remaining port.old.from.inner))
         (moment port.new.chip (W.contents port.new.to.inner) (R.remaining port.new.from.inner))) }
-    ensures chip { port.new.chip ≡ port.old.chip }
-    ensures fresh { IfOk result (λ _. port.new.reason ≡ port.old.reason) }
-    ensures count { IfOk result (λ _. port.new.failed ≡ port.old.failed) }
-    ensures room { port.new.failed ≤ port.old.failed + 1 }
-    ensures limits { port.new.limits ≡ port.old.limits }
-    ensures turns { port.new.turns ≡ port.old.turns }
+    ensures kept { (port.new.chip ≡ port.old.chip)
+        × (port.new.limits ≡ port.old.limits)
+        × (port.new.turns ≡ port.old.turns) }
+    ensures failures { IfOk result (λ _. port.new.reason ≡ port.old.reason)
+        × IfOk result (λ _. port.new.failed ≡ port.old.failed)
+        × (port.new.failed ≤ port.old.failed + 1) }
 {
     match chip_status(&mut port.from, &mut port.to, expected.part, port.turns) {
         Ok(status) => {
@@ -137,15 +137,15 @@ fn ask_tables<R: Read + Drop, W: Write + Drop>(
 ) -> Result<(), Mismatch>
     requires few { length tables.now ≤ 2 ^ 24 }
     requires count { port.old.failed < 2 ^ 64 - 1 }
-    ensures shown { port.new.chip ≡ port.old.chip }
+    ensures kept { (port.new.chip ≡ port.old.chip)
+        × (port.new.limits ≡ port.old.limits)
+        × (port.new.turns ≡ port.old.turns) }
     ensures compared { ComparesTables (W.contents port.old.to.inner) (W.contents port.new.to.inner)
         (ahead_of (R.remaining port.old.from.inner))
         (ahead_of (R.remaining port.new.from.inner)) result port.old.limits tables.now }
-    ensures fresh { IfOk result (λ _. port.new.reason ≡ port.old.reason) }
-    ensures count { IfOk result (λ _. port.new.failed ≡ port.old.failed) }
-    ensures room { port.new.failed ≤ port.old.failed + 1 }
-    ensures limits { port.new.limits ≡ port.old.limits }
-    ensures turns { port.new.turns ≡ port.old.turns }
+    ensures failures { IfOk result (λ _. port.new.reason ≡ port.old.reason)
+        × IfOk result (λ _. port.new.failed ≡ port.old.failed)
+        × (port.new.failed ≤ port.old.failed + 1) }
 {
     let compared = compare_tables(&mut port.from, &mut port.to, &port.limits, tables);
     if let Err(why) = compared {

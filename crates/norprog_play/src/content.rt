@@ -1,6 +1,7 @@
 //! What the chip behind a device holds, compared with a content.
 
 ghost use Rattle.std.specs.Prelude.{◌≡◌, ◌<◌, ◌≤◌, ◌+◌, ◌-◌, ◌*◌, ◌^◌, length, MatchResult};
+ghost use Rattle.nor_base.specs.Device.{HaveRoom};
 ghost use Rattle.nor_cells.specs.Marks.{IsMarked};
 ghost use Rattle.nor_probe.specs.Compared.{CountsMismatch};
 ghost use Rattle.nor_serprog.specs.declared.fault.Fault.TheVariants.{Read, Write};
@@ -28,15 +29,14 @@ pub(crate) fn compare<R: ByteIn, W: ByteOut>(
 ) -> Result<(), Mismatch>
     requires size { length content.now < 2 ^ 32 }
     requires cells { length content.now ≡ 256 * length marks.now }
-    requires reader { R.count from.old < 2 ^ 64 - 1 }
-    requires writer { W.count to.old < 2 ^ 64 - 1 }
+    requires room { HaveRoom (R.count from.old) (W.count to.old) }
     ensures compared { MatchResult result
         (λ _. HasCompared (W.held to.old) (W.held to.new) (R.ahead from.old) (R.ahead from.new)
         access content.now (IsMarked marks.now))
         (StopsComparing (W.held to.old) (W.held to.new) (R.ahead from.old) (R.ahead from.new) access
         content.now (IsMarked marks.now)) }
-    ensures reads { CountsMismatch Read (R.count from.old) (R.count from.new) result }
-    ensures writes { CountsMismatch Write (W.count to.old) (W.count to.new) result }
+    ensures counts { CountsMismatch Read (R.count from.old) (R.count from.new) result
+        × CountsMismatch Write (W.count to.old) (W.count to.new) result }
 {
     let mut done = 0;
     while let Some((start, most)) = next_piece(marks, done, limits.asked as usize) {

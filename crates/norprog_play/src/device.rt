@@ -44,14 +44,14 @@ pub fn play_on_device<R: Read + Drop, W: Write + Drop, P: ByteOut>(
     port: &mut Shadowed<'_, R, W>,
     progress: &mut P,
 ) -> Result<Ending, AllocError>
-    requires fresh { port.old.reason ≡ None }
-    requires count { port.old.failed < 2 ^ 64 - 1 }
-    requires chip { port.old.chip ≡ ready_chip (chip_of meaning.now expected.start [] false)
-        port.old.chip.chip.array }
-    requires size { length port.old.chip.chip.array ≡ meaning.now.size }
-    requires well { GoesWellInMemory port.old.chip steps.now }
-    requires counted { transactions
-        ≡ length (trail port.old.chip.setting port.old.chip.chip steps.now) }
+    requires ready { (port.old.reason ≡ None)
+        × (port.old.failed < 2 ^ 64 - 1) }
+    requires chip { (port.old.chip ≡ ready_chip (chip_of meaning.now expected.start [] false)
+        port.old.chip.chip.array)
+        × (length port.old.chip.chip.array ≡ meaning.now.size) }
+    requires well { GoesWellInMemory port.old.chip steps.now
+        × (transactions
+        ≡ length (trail port.old.chip.setting port.old.chip.chip steps.now)) }
     requires told { P.count progress.old < 2 ^ 64 - 1 }
     ensures ends { MatchResult result
         (λ ending. EndsSo port.old.limits port.old.turns (expectation_of expected.entry) meaning.now
@@ -59,8 +59,8 @@ pub fn play_on_device<R: Read + Drop, W: Write + Drop, P: ByteOut>(
         steps.now ending
         (moment port.new.chip (W.contents port.new.to.inner) (R.remaining port.new.from.inner)))
         (λ _. port.new ≡ port.old) }
-    ensures room { port.new.failed ≤ port.old.failed + 1 }
-    ensures limits { port.new.limits ≡ port.old.limits }
+    ensures after { (port.new.failed ≤ port.old.failed + 1)
+        × (port.new.limits ≡ port.old.limits) }
 {
     if let Err(step) = carried(steps, &port.limits) {
         let why = Failure::Carried;
@@ -100,17 +100,17 @@ fn play_compared<R: Read + Drop, W: Write + Drop, P: ByteOut>(
     room: &mut [u8],
     progress: &mut P,
 ) -> Ending
-    requires fresh { port.old.reason ≡ None }
-    requires count { port.old.failed < 2 ^ 64 - 1 }
-    requires size { length port.old.chip.chip.array < 2 ^ 32 }
-    requires marked { length port.old.chip.chip.array ≡ 256 * length cells.old }
-    requires may { MayBegin port.old.limits
+    requires ready { (port.old.reason ≡ None)
+        × (port.old.failed < 2 ^ 64 - 1) }
+    requires content { (length port.old.chip.chip.array < 2 ^ 32)
+        × (length port.old.chip.chip.array ≡ 256 * length cells.old)
+        × SaysBlank (expectation_of expected) port.old.chip.chip.array blank }
+    requires steps { MayBegin port.old.limits
         (moment port.old.chip (W.contents port.old.to.inner) (R.remaining port.old.from.inner))
-        steps.now }
-    requires counted { transactions
-        ≡ length (trail port.old.chip.setting port.old.chip.chip steps.now) }
-    requires blank { SaysBlank (expectation_of expected) port.old.chip.chip.array blank }
-    requires wide { All (λ step. sampled_count (step_clocks step) ≤ length room.old) steps.now }
+        steps.now
+        × (transactions
+        ≡ length (trail port.old.chip.setting port.old.chip.chip steps.now))
+        × All (λ step. sampled_count (step_clocks step) ≤ length room.old) steps.now }
     requires told { P.count progress.old < 2 ^ 64 - 1 }
     ensures ends { EndsComparing port.old.limits port.old.turns (expectation_of expected.entry)
         meaning.now access (IsMarked cells.old)
@@ -118,8 +118,8 @@ fn play_compared<R: Read + Drop, W: Write + Drop, P: ByteOut>(
         (moment port.old.chip (W.contents port.old.to.inner) (R.remaining port.old.from.inner))
         steps.now result
         (moment port.new.chip (W.contents port.new.to.inner) (R.remaining port.new.from.inner)) }
-    ensures room { port.new.failed ≤ port.old.failed + 1 }
-    ensures limits { port.new.limits ≡ port.old.limits }
+    ensures after { (port.new.failed ≤ port.old.failed + 1)
+        × (port.new.limits ≡ port.old.limits) }
 {
     if let Err(why) = begin(port, expected, access, cells) {
         return Ending::Unlike { why };

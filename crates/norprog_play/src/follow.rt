@@ -40,18 +40,18 @@ pub(crate) fn follow_steps<R: Read + Drop, W: Write + Drop, P: ByteOut>(
     room: &mut [u8],
     progress: &mut P,
 ) -> Result<(), Halt>
-    requires fresh { port.old.reason ≡ None }
-    requires count { port.old.failed < 2 ^ 64 - 1 }
-    requires wide { All (λ step. sampled_count (step_clocks step) ≤ length room.old) steps.now }
-    requires goes { (chip : ShownChip)
-        × (played port.old.chip.setting 1 port.old.chip.chip steps.now ≡ Ok chip) }
-    requires carried { AreCarried port.old.limits steps.now }
+    requires ready { (port.old.reason ≡ None)
+        × (port.old.failed < 2 ^ 64 - 1) }
+    requires steps { All (λ step. sampled_count (step_clocks step) ≤ length room.old) steps.now
+        × ((chip : ShownChip)
+        × (played port.old.chip.setting 1 port.old.chip.chip steps.now ≡ Ok chip))
+        × AreCarried port.old.limits steps.now }
     requires told { P.count progress.old < 2 ^ 64 - 1 }
     ensures chip { IfOk result (λ _. played port.old.chip.setting 1 port.old.chip.chip steps.now
         ≡ Ok port.new.chip.chip) }
-    ensures count { IfOk result (λ _. port.new.failed ≡ port.old.failed) }
-    ensures room { port.new.failed ≤ port.old.failed + 1 }
-    ensures limits { port.new.limits ≡ port.old.limits }
+    ensures failures { IfOk result (λ _. port.new.failed ≡ port.old.failed)
+        × (port.new.failed ≤ port.old.failed + 1)
+        × (port.new.limits ≡ port.old.limits) }
     ensures done { MatchResult result
         (λ _. DoesAll port.old.limits port.old.turns
         (moment port.old.chip (W.contents port.old.to.inner) (R.remaining port.old.from.inner))
@@ -98,15 +98,15 @@ fn follow_row<R: Read + Drop, W: Write + Drop>(
     port: &mut Shadowed<'_, R, W>,
     room: &mut [u8],
 ) -> Result<(), Halt>
-    requires some { 0 < count }
-    requires within { count ≤ length steps.now }
-    requires row { IsRow port.old.limits (take count steps.now) }
-    requires together { MayGoTogether (take count steps.now) }
-    requires fresh { port.old.reason ≡ None }
-    requires failures { port.old.failed < 2 ^ 64 - 1 }
-    requires wide { All (λ step. sampled_count (step_clocks step) ≤ length room.old) steps.now }
-    requires goes { (chip : ShownChip)
-        × (played port.old.chip.setting 1 port.old.chip.chip steps.now ≡ Ok chip) }
+    requires row { (0 < count)
+        × (count ≤ length steps.now)
+        × IsRow port.old.limits (take count steps.now)
+        × MayGoTogether (take count steps.now) }
+    requires ready { (port.old.reason ≡ None)
+        × (port.old.failed < 2 ^ 64 - 1) }
+    requires steps { All (λ step. sampled_count (step_clocks step) ≤ length room.old) steps.now
+        × ((chip : ShownChip)
+        × (played port.old.chip.setting 1 port.old.chip.chip steps.now ≡ Ok chip)) }
     ensures done { MatchResult result
         (λ _. DoesAll port.old.limits port.old.turns
         (moment port.old.chip (W.contents port.old.to.inner) (R.remaining port.old.from.inner))
@@ -117,13 +117,13 @@ fn follow_row<R: Read + Drop, W: Write + Drop>(
         (take count steps.now) halt.step halt.why
         (moment port.new.chip (W.contents port.new.to.inner)
         (R.remaining port.new.from.inner))) }
-    ensures room_left { port.new.failed ≤ port.old.failed + 1 }
-    ensures fresh { IfOk result (λ _. port.new.reason ≡ None) }
-    ensures count { IfOk result (λ _. port.new.failed ≡ port.old.failed) }
-    ensures limits { port.new.limits ≡ port.old.limits }
-    ensures turns { port.new.turns ≡ port.old.turns }
-    ensures room { length room.new ≡ length room.old }
-    ensures within { IfErr result (λ halt. halt.step < count) }
+    ensures failures { (port.new.failed ≤ port.old.failed + 1)
+        × IfOk result (λ _. port.new.reason ≡ None)
+        × IfOk result (λ _. port.new.failed ≡ port.old.failed)
+        × IfErr result (λ halt. halt.step < count) }
+    ensures kept { (port.new.limits ≡ port.old.limits)
+        × (port.new.turns ≡ port.old.turns)
+        × (length room.new ≡ length room.old) }
 {
     if count == 1 {
         let step = &steps[0];
@@ -163,10 +163,10 @@ fn follow_step<R: Read + Drop, W: Write + Drop>(
     port: &mut Shadowed<'_, R, W>,
     room: &mut [u8],
 ) -> Result<(), Failure>
-    requires fresh { port.old.reason ≡ None }
-    requires count { port.old.failed < 2 ^ 64 - 1 }
-    requires wide { sampled_count (step_clocks step.now) ≤ length room.old }
-    requires taken { IsTaken port.old.chip (step_clocks step.now) }
+    requires ready { (port.old.reason ≡ None)
+        × (port.old.failed < 2 ^ 64 - 1) }
+    requires step { (sampled_count (step_clocks step.now) ≤ length room.old)
+        × IsTaken port.old.chip (step_clocks step.now) }
     ensures done { MatchResult result
         (λ _. Does port.old.limits port.old.turns
         (moment port.old.chip (W.contents port.old.to.inner) (R.remaining port.old.from.inner))
@@ -177,12 +177,12 @@ fn follow_step<R: Read + Drop, W: Write + Drop>(
         (step_clocks step.now) failed
         (moment port.new.chip (W.contents port.new.to.inner)
         (R.remaining port.new.from.inner))) }
-    ensures room_left { port.new.failed ≤ port.old.failed + 1 }
-    ensures fresh { IfOk result (λ _. port.new.reason ≡ None) }
-    ensures count { IfOk result (λ _. port.new.failed ≡ port.old.failed) }
-    ensures limits { port.new.limits ≡ port.old.limits }
-    ensures turns { port.new.turns ≡ port.old.turns }
-    ensures room { length room.new ≡ length room.old }
+    ensures failures { (port.new.failed ≤ port.old.failed + 1)
+        × IfOk result (λ _. port.new.reason ≡ None)
+        × IfOk result (λ _. port.new.failed ≡ port.old.failed) }
+    ensures kept { (port.new.limits ≡ port.old.limits)
+        × (port.new.turns ≡ port.old.turns)
+        × (length room.new ≡ length room.old) }
 {
     let clocks = step.clocks();
     let given = &mut room[..sampled(clocks)];

@@ -39,14 +39,14 @@ pub fn greet_and_play<R: Read + Drop, W: Write + Drop, P: ByteOut>(
     port: &mut Shadowed<'_, R, W>,
     progress: &mut P,
 ) -> Result<Ending, Unplayed>
-    requires fresh { port.old.reason ≡ None }
-    requires count { port.old.failed < 2 ^ 64 - 1 }
-    requires chip { port.old.chip ≡ ready_chip (chip_of meaning.now expected.start [] false)
-        port.old.chip.chip.array }
-    requires size { length port.old.chip.chip.array ≡ meaning.now.size }
-    requires well { GoesWellInMemory port.old.chip steps.now }
-    requires counted { transactions
-        ≡ length (trail port.old.chip.setting port.old.chip.chip steps.now) }
+    requires ready { (port.old.reason ≡ None)
+        × (port.old.failed < 2 ^ 64 - 1) }
+    requires chip { (port.old.chip ≡ ready_chip (chip_of meaning.now expected.start [] false)
+        port.old.chip.chip.array)
+        × (length port.old.chip.chip.array ≡ meaning.now.size) }
+    requires well { GoesWellInMemory port.old.chip steps.now
+        × (transactions
+        ≡ length (trail port.old.chip.setting port.old.chip.chip steps.now)) }
     requires told { P.count progress.old < 2 ^ 64 - 1 }
     ensures ends { MatchResult result
         (λ ending. HasPlayed port.new.limits port.old.turns (expectation_of expected.entry)
@@ -89,8 +89,8 @@ fn greet_and_test<R: Read + Drop, W: Write + Drop>(
     ensures chip { port.new.chip ≡ port.old.chip }
     ensures turns { port.new.turns ≡ port.old.turns }
     ensures fresh { port.new.reason ≡ port.old.reason }
-    ensures count { IfOk result (λ _. port.new.failed ≡ port.old.failed) }
-    ensures room { port.new.failed ≤ port.old.failed + 1 }
+    ensures failures { IfOk result (λ _. port.new.failed ≡ port.old.failed)
+        × (port.new.failed ≤ port.old.failed + 1) }
 {
     greet_port(port)?;
     test_port(port)
@@ -111,8 +111,8 @@ fn greet_port<R: Read + Drop, W: Write + Drop>(
     ensures chip { port.new.chip ≡ port.old.chip }
     ensures turns { port.new.turns ≡ port.old.turns }
     ensures fresh { port.new.reason ≡ port.old.reason }
-    ensures count { IfOk result (λ _. port.new.failed ≡ port.old.failed) }
-    ensures room { port.new.failed ≤ port.old.failed + 1 }
+    ensures failures { IfOk result (λ _. port.new.failed ≡ port.old.failed)
+        × (port.new.failed ≤ port.old.failed + 1) }
 {
     match greet(&mut port.from, &mut port.to) {
         Ok(limits) => {
@@ -138,12 +138,12 @@ fn test_port<R: Read + Drop, W: Write + Drop>(
         (FailsTest (W.contents port.old.to.inner) (W.contents port.new.to.inner)
         (ahead_of (R.remaining port.old.from.inner))
         (ahead_of (R.remaining port.new.from.inner)) port.old.limits) }
-    ensures chip { port.new.chip ≡ port.old.chip }
-    ensures turns { port.new.turns ≡ port.old.turns }
-    ensures fresh { port.new.reason ≡ port.old.reason }
+    ensures kept { (port.new.chip ≡ port.old.chip)
+        × (port.new.turns ≡ port.old.turns)
+        × (port.new.reason ≡ port.old.reason) }
     ensures limits { port.new.limits ≡ port.old.limits }
-    ensures count { IfOk result (λ _. port.new.failed ≡ port.old.failed) }
-    ensures room { port.new.failed ≤ port.old.failed + 1 }
+    ensures failures { IfOk result (λ _. port.new.failed ≡ port.old.failed)
+        × (port.new.failed ≤ port.old.failed + 1) }
 {
     match test_line(&mut port.from, &mut port.to, &port.limits) {
         Ok(()) => Ok(()),

@@ -20,8 +20,8 @@ pub(crate) fn compare_unless_trusted<R: Read + Drop, W: Write + Drop>(
     marks: &[bool],
     trusted: bool,
 ) -> Result<(), Mismatch>
-    requires size { length port.old.chip.chip.array < 2 ^ 32 }
-    requires cells { length port.old.chip.chip.array ≡ 256 * length marks.now }
+    requires marked { (length port.old.chip.chip.array < 2 ^ 32)
+        × (length port.old.chip.chip.array ≡ 256 * length marks.now) }
     requires count { port.old.failed < 2 ^ 64 - 1 }
     ensures compared { MatchResult result
         (λ _. Compares trusted access (IsMarked marks.now)
@@ -31,12 +31,12 @@ pub(crate) fn compare_unless_trusted<R: Read + Drop, W: Write + Drop>(
         (moment port.old.chip (W.contents port.old.to.inner) (R.remaining port.old.from.inner))
         (moment port.new.chip (W.contents port.new.to.inner) (R.remaining port.new.from.inner))
         why) }
-    ensures chip { port.new.chip ≡ port.old.chip }
-    ensures fresh { IfOk result (λ _. port.new.reason ≡ port.old.reason) }
-    ensures count { IfOk result (λ _. port.new.failed ≡ port.old.failed) }
-    ensures room { port.new.failed ≤ port.old.failed + 1 }
-    ensures limits { port.new.limits ≡ port.old.limits }
-    ensures turns { port.new.turns ≡ port.old.turns }
+    ensures kept { (port.new.chip ≡ port.old.chip)
+        × (port.new.limits ≡ port.old.limits)
+        × (port.new.turns ≡ port.old.turns) }
+    ensures failures { IfOk result (λ _. port.new.reason ≡ port.old.reason)
+        × IfOk result (λ _. port.new.failed ≡ port.old.failed)
+        × (port.new.failed ≤ port.old.failed + 1) }
 {
     if trusted {
         return Ok(());
@@ -51,8 +51,8 @@ pub(crate) fn compare_chip<R: Read + Drop, W: Write + Drop>(
     access: Access,
     marks: &[bool],
 ) -> Result<(), Mismatch>
-    requires size { length port.old.chip.chip.array < 2 ^ 32 }
-    requires cells { length port.old.chip.chip.array ≡ 256 * length marks.now }
+    requires marked { (length port.old.chip.chip.array < 2 ^ 32)
+        × (length port.old.chip.chip.array ≡ 256 * length marks.now) }
     requires count { port.old.failed < 2 ^ 64 - 1 }
     ensures compared { MatchResult result
         (λ _. IsLike access (IsMarked marks.now)
@@ -62,12 +62,12 @@ pub(crate) fn compare_chip<R: Read + Drop, W: Write + Drop>(
         (moment port.old.chip (W.contents port.old.to.inner) (R.remaining port.old.from.inner))
         (moment port.new.chip (W.contents port.new.to.inner) (R.remaining port.new.from.inner))
         why) }
-    ensures chip { port.new.chip ≡ port.old.chip }
-    ensures fresh { IfOk result (λ _. port.new.reason ≡ port.old.reason) }
-    ensures count { IfOk result (λ _. port.new.failed ≡ port.old.failed) }
-    ensures room { port.new.failed ≤ port.old.failed + 1 }
-    ensures limits { port.new.limits ≡ port.old.limits }
-    ensures turns { port.new.turns ≡ port.old.turns }
+    ensures kept { (port.new.chip ≡ port.old.chip)
+        × (port.new.limits ≡ port.old.limits)
+        × (port.new.turns ≡ port.old.turns) }
+    ensures failures { IfOk result (λ _. port.new.reason ≡ port.old.reason)
+        × IfOk result (λ _. port.new.failed ≡ port.old.failed)
+        × (port.new.failed ≤ port.old.failed + 1) }
 {
     let content = port.chip.content();
     let compared = compare(

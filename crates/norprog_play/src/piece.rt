@@ -1,6 +1,7 @@
 //! One piece of what the chip behind a device holds, compared with bytes.
 
 ghost use Rattle.std.specs.Prelude.{◌≡◌, ◌<◌, ◌+◌, ◌-◌, ◌^◌, ◌∷◌, [], length};
+ghost use Rattle.nor_base.specs.Device.{HaveRoom};
 ghost use Rattle.nor_probe.specs.Compared.{CountsMismatch};
 ghost use Rattle.nor_serprog.specs.declared.fault.Fault.TheVariants.{Read, Write};
 ghost use Rattle.nor_serprog.specs.Exchange.{CountsReads, CountsWrites};
@@ -42,12 +43,11 @@ pub(crate) fn compare_piece<R: ByteIn, W: ByteOut>(
 ) -> Result<(), Mismatch>
     requires size { length piece.now < 2 ^ 24 }
     requires end { address + length piece.now < 2 ^ 32 }
-    requires reader { R.count from.old < 2 ^ 64 - 1 }
-    requires writer { W.count to.old < 2 ^ 64 - 1 }
+    requires room { HaveRoom (R.count from.old) (W.count to.old) }
     ensures read { ReadsRange (W.held to.old) (W.held to.new) (R.ahead from.old) (R.ahead from.new)
         result access address piece.now }
-    ensures reads { CountsMismatch Read (R.count from.old) (R.count from.new) result }
-    ensures writes { CountsMismatch Write (W.count to.old) (W.count to.new) result }
+    ensures counts { CountsMismatch Read (R.count from.old) (R.count from.new) result
+        × CountsMismatch Write (W.count to.old) (W.count to.new) result }
 {
     if is_near(access, address) {
         let [_, high, low, lowest] = address.to_be_bytes();
@@ -77,12 +77,11 @@ fn compare_far<R: ByteIn, W: ByteOut>(
 ) -> Result<(), Mismatch>
     requires size { length piece.now < 2 ^ 24 }
     requires end { address + length piece.now < 2 ^ 32 }
-    requires reader { R.count from.old < 2 ^ 64 - 1 }
-    requires writer { W.count to.old < 2 ^ 64 - 1 }
+    requires room { HaveRoom (R.count from.old) (W.count to.old) }
     ensures read { ReadsOps (W.held to.old) (W.held to.new) (R.ahead from.old) (R.ahead from.new)
         result (far_ops access address) address piece.now }
-    ensures reads { CountsMismatch Read (R.count from.old) (R.count from.new) result }
-    ensures writes { CountsMismatch Write (W.count to.old) (W.count to.new) result }
+    ensures counts { CountsMismatch Read (R.count from.old) (R.count from.new) result
+        × CountsMismatch Write (W.count to.old) (W.count to.new) result }
 {
     match access {
         Access::Four => read_four(from, to, READ, address, piece),
@@ -105,13 +104,12 @@ fn compare_entered<R: ByteIn, W: ByteOut>(
 ) -> Result<(), Mismatch>
     requires size { length piece.now < 2 ^ 24 }
     requires end { address + length piece.now < 2 ^ 32 }
-    requires reader { R.count from.old < 2 ^ 64 - 1 }
-    requires writer { W.count to.old < 2 ^ 64 - 1 }
+    requires room { HaveRoom (R.count from.old) (W.count to.old) }
     ensures read { ReadsOps (W.held to.old) (W.held to.new) (R.ahead from.old) (R.ahead from.new)
         result
         (far_ops (Entered enter leave) address) address piece.now }
-    ensures reads { CountsMismatch Read (R.count from.old) (R.count from.new) result }
-    ensures writes { CountsMismatch Write (W.count to.old) (W.count to.new) result }
+    ensures counts { CountsMismatch Read (R.count from.old) (R.count from.new) result
+        × CountsMismatch Write (W.count to.old) (W.count to.new) result }
 {
     switch_mode(from, to, enter, ENTER)?;
     match read_four(from, to, READ, address, piece) {
@@ -138,13 +136,12 @@ fn read_four<R: ByteIn, W: ByteOut>(
 ) -> Result<(), Mismatch>
     requires size { length piece.now < 2 ^ 24 }
     requires end { address + length piece.now < 2 ^ 32 }
-    requires reader { R.count from.old < 2 ^ 64 - 1 }
-    requires writer { W.count to.old < 2 ^ 64 - 1 }
+    requires room { HaveRoom (R.count from.old) (W.count to.old) }
     ensures read { ReadsBy (W.held to.old) (W.held to.new) (R.ahead from.old) (R.ahead from.new)
         result
         (four_bytes opcode address) address piece.now }
-    ensures reads { CountsMismatch Read (R.count from.old) (R.count from.new) result }
-    ensures writes { CountsMismatch Write (W.count to.old) (W.count to.new) result }
+    ensures counts { CountsMismatch Read (R.count from.old) (R.count from.new) result
+        × CountsMismatch Write (W.count to.old) (W.count to.new) result }
 {
     let [highest, high, low, lowest] = address.to_be_bytes();
     read_by(
@@ -168,12 +165,11 @@ fn read_by<R: ByteIn, W: ByteOut>(
     requires sent { length sent.now < 2 ^ 24 }
     requires size { length piece.now < 2 ^ 24 }
     requires end { address + length piece.now < 2 ^ 32 }
-    requires reader { R.count from.old < 2 ^ 64 - 1 }
-    requires writer { W.count to.old < 2 ^ 64 - 1 }
+    requires room { HaveRoom (R.count from.old) (W.count to.old) }
     ensures read { ReadsBy (W.held to.old) (W.held to.new) (R.ahead from.old) (R.ahead from.new)
         result sent.now address piece.now }
-    ensures reads { CountsMismatch Read (R.count from.old) (R.count from.new) result }
-    ensures writes { CountsMismatch Write (W.count to.old) (W.count to.new) result }
+    ensures counts { CountsMismatch Read (R.count from.old) (R.count from.new) result
+        × CountsMismatch Write (W.count to.old) (W.count to.new) result }
 {
     match operate_with(from, to, sent, piece) {
         Ok(()) => Ok(()),
@@ -194,12 +190,11 @@ fn switch_mode<R: ByteIn, W: ByteOut>(
     switch: Switch,
     opcode: u8,
 ) -> Result<(), Fault>
-    requires reader { R.count from.old < 2 ^ 64 - 1 }
-    requires writer { W.count to.old < 2 ^ 64 - 1 }
+    requires room { HaveRoom (R.count from.old) (W.count to.old) }
     ensures switches { Operates (W.held to.old) (W.held to.new) (R.ahead from.old)
         (R.ahead from.new) result (switch_ops switch opcode) }
-    ensures reads { CountsReads (R.count from.old) (R.count from.new) result }
-    ensures writes { CountsWrites (W.count to.old) (W.count to.new) result }
+    ensures counts { CountsReads (R.count from.old) (R.count from.new) result
+        × CountsWrites (W.count to.old) (W.count to.new) result }
 {
     match switch {
         Switch::Absent => Ok(()),
@@ -214,12 +209,11 @@ fn switch_mode<R: ByteIn, W: ByteOut>(
 
 /// Has the device send an opcode and nothing else.
 fn send<R: ByteIn, W: ByteOut>(from: &mut R, to: &mut W, opcode: u8) -> Result<(), Fault>
-    requires reader { R.count from.old < 2 ^ 64 - 1 }
-    requires writer { W.count to.old < 2 ^ 64 - 1 }
+    requires room { HaveRoom (R.count from.old) (W.count to.old) }
     ensures sends { Operates (W.held to.old) (W.held to.new) (R.ahead from.old) (R.ahead from.new)
         result (bare opcode ∷ []) }
-    ensures reads { CountsReads (R.count from.old) (R.count from.new) result }
-    ensures writes { CountsWrites (W.count to.old) (W.count to.new) result }
+    ensures counts { CountsReads (R.count from.old) (R.count from.new) result
+        × CountsWrites (W.count to.old) (W.count to.new) result }
 {
     operate(from, to, &[opcode], &mut [])
 }

@@ -2,6 +2,7 @@
 
 ghost use Rattle.std.specs.Prelude.{◌≡◌, ◌≢◌, ◌<◌, ◌≤◌, ◌+◌, ◌-◌, ◌^◌, ◌∷◌, [], true, false, Ok};
 ghost use Rattle.std.specs.Prelude.{length, take, IfOk, IfErr, MatchResult};
+ghost use Rattle.nor_base.specs.Device.{HaveRoom};
 ghost use Rattle.nor_job.specs.Chip.{HasChip};
 ghost use Rattle.nor_job.specs.Status.{start_of};
 ghost use Rattle.nor_probe.specs.Status.{ReadsStatus};
@@ -38,8 +39,7 @@ pub fn read_chip<R: ByteIn, W: ByteOut>(
     limits: &Limits,
     ask: &Ask<'_>,
 ) -> Result<Reading, Unread>
-    requires reader { R.count from.old < 2 ^ 64 - 1 }
-    requires writer { W.count to.old < 2 ^ 64 - 1 }
+    requires room { HaveRoom (R.count from.old) (W.count to.old) }
     ensures read { IfOk result
         (λ reading. HasReadChip (W.held to.old) (W.held to.new) (R.ahead from.old)
         (R.ahead from.new)
@@ -62,8 +62,7 @@ fn ask_chip<R: ByteIn, W: ByteOut>(
     limits: &Limits,
     ask: &Ask<'_>,
 ) -> Result<Reading, Unread>
-    requires reader { R.count from.old < 2 ^ 64 - 1 }
-    requires writer { W.count to.old < 2 ^ 64 - 1 }
+    requires room { HaveRoom (R.count from.old) (W.count to.old) }
     ensures read { IfOk result
         (λ reading. HasReadChip (W.held to.old) (W.held to.new) (R.ahead from.old)
         (R.ahead from.new)
@@ -115,18 +114,17 @@ fn is_undriven(id: [u8; 3]) -> bool
 /// What the chip says that it is, where it says something.
 #[tactic(auto, using(crate::proofs::Room::reads_room, crate::proofs::Room::writes_room))]
 fn ask_id<R: ByteIn, W: ByteOut>(from: &mut R, to: &mut W) -> Result<[u8; 3], Unread>
-    requires reader { R.count from.old < 2 ^ 64 - 1 }
-    requires writer { W.count to.old < 2 ^ 64 - 1 }
+    requires room { HaveRoom (R.count from.old) (W.count to.old) }
     ensures id { IfOk result
         (λ id. Identifies (W.held to.old) (W.held to.new) (R.ahead from.old) (R.ahead from.new)
         (Ok id)) }
     ensures driven { IfOk result IsDriven }
     ensures stops { IfErr result
         (StopsId (W.held to.old) (W.held to.new) (R.ahead from.old) (R.ahead from.new)) }
-    ensures reads { IfOk result (λ _. R.count from.new ≡ R.count from.old) }
-    ensures writes { IfOk result (λ _. W.count to.new ≡ W.count to.old) }
-    ensures reads_room { R.count from.new ≤ R.count from.old + 1 }
-    ensures writes_room { W.count to.new ≤ W.count to.old + 1 }
+    ensures counts { IfOk result (λ _. R.count from.new ≡ R.count from.old)
+        × IfOk result (λ _. W.count to.new ≡ W.count to.old) }
+    ensures failures { (R.count from.new ≤ R.count from.old + 1)
+        × (W.count to.new ≤ W.count to.old + 1) }
 {
     match read_id(from, to) {
         Ok(id) if is_undriven(id) => Err(Unread::Unlike(Unlike::Id(id))),
@@ -139,8 +137,7 @@ fn ask_id<R: ByteIn, W: ByteOut>(from: &mut R, to: &mut W) -> Result<[u8; 3], Un
 /// mode that was said.
 #[tactic(auto, using(crate::proofs::Room::reason_read, crate::proofs::Room::reason_write))]
 fn ask_status<R: ByteIn, W: ByteOut>(from: &mut R, to: &mut W, ask: &Ask<'_>) -> Result<u32, Unread>
-    requires reader { R.count from.old < 2 ^ 64 - 1 }
-    requires writer { W.count to.old < 2 ^ 64 - 1 }
+    requires room { HaveRoom (R.count from.old) (W.count to.old) }
     ensures status { IfOk result
         (λ status. ReadsStatus ask.now.part (W.held to.old) (W.held to.new) (R.ahead from.old)
         (R.ahead from.new)
@@ -149,10 +146,10 @@ fn ask_status<R: ByteIn, W: ByteOut>(from: &mut R, to: &mut W, ask: &Ask<'_>) ->
     ensures stops { IfErr result
         (StopsStatus (W.held to.old) (W.held to.new) (R.ahead from.old) (R.ahead from.new)
         ask.now) }
-    ensures reads { IfOk result (λ _. R.count from.new ≡ R.count from.old) }
-    ensures writes { IfOk result (λ _. W.count to.new ≡ W.count to.old) }
-    ensures reads_room { R.count from.new ≤ R.count from.old + 1 }
-    ensures writes_room { W.count to.new ≤ W.count to.old + 1 }
+    ensures counts { IfOk result (λ _. R.count from.new ≡ R.count from.old)
+        × IfOk result (λ _. W.count to.new ≡ W.count to.old) }
+    ensures failures { (R.count from.new ≤ R.count from.old + 1)
+        × (W.count to.new ≤ W.count to.old + 1) }
 {
     match chip_status(from, to, ask.part, ask.turns) {
         Ok(status) if is_otherwise(ask.part, ask.mode4, status) => {
@@ -184,8 +181,7 @@ fn ask_tables<R: ByteIn, W: ByteOut>(
     limits: &Limits,
     ask: &Ask<'_>,
 ) -> Result<Vec<u8>, Unread>
-    requires reader { R.count from.old < 2 ^ 64 - 1 }
-    requires writer { W.count to.old < 2 ^ 64 - 1 }
+    requires room { HaveRoom (R.count from.old) (W.count to.old) }
     ensures tables { IfOk result
         (λ tables. GivesTables (W.held to.old) (W.held to.new) (R.ahead from.old) (R.ahead from.new)
         ask.now.known tables.items) }
@@ -193,10 +189,10 @@ fn ask_tables<R: ByteIn, W: ByteOut>(
     ensures stops { IfErr result
         (StopsAsked (W.held to.old) (W.held to.new) (R.ahead from.old) (R.ahead from.new)
         ask.now.known) }
-    ensures reads { IfOk result (λ _. R.count from.new ≡ R.count from.old) }
-    ensures writes { IfOk result (λ _. W.count to.new ≡ W.count to.old) }
-    ensures reads_room { R.count from.new ≤ R.count from.old + 1 }
-    ensures writes_room { W.count to.new ≤ W.count to.old + 1 }
+    ensures counts { IfOk result (λ _. R.count from.new ≡ R.count from.old)
+        × IfOk result (λ _. W.count to.new ≡ W.count to.old) }
+    ensures failures { (R.count from.new ≤ R.count from.old + 1)
+        × (W.count to.new ≤ W.count to.old + 1) }
 {
     match ask.known {
         Known::Uniform(_) => Ok(Vec::new(alloc)),
@@ -217,16 +213,15 @@ fn own_tables<R: ByteIn, W: ByteOut>(
     to: &mut W,
     limits: &Limits,
 ) -> Result<Vec<u8>, Unread>
-    requires reader { R.count from.old < 2 ^ 64 - 1 }
-    requires writer { W.count to.old < 2 ^ 64 - 1 }
+    requires room { HaveRoom (R.count from.old) (W.count to.old) }
     ensures tables { IfOk result
         (λ tables. HasReadTables (W.held to.old) (W.held to.new) (R.ahead from.old)
         (R.ahead from.new)
         tables.items) }
     ensures stops { IfErr result
         (StopsOwn (W.held to.old) (W.held to.new) (R.ahead from.old) (R.ahead from.new)) }
-    ensures reads { IfOk result (λ _. R.count from.new ≡ R.count from.old) }
-    ensures writes { IfOk result (λ _. W.count to.new ≡ W.count to.old) }
+    ensures counts { IfOk result (λ _. R.count from.new ≡ R.count from.old)
+        × IfOk result (λ _. W.count to.new ≡ W.count to.old) }
     ensures reads_room { R.count from.new ≤ R.count from.old + 1 }
     ensures writes_room { W.count to.new ≤ W.count to.old + 1 }
 {
@@ -319,8 +314,7 @@ fn ask_content<R: ByteIn, W: ByteOut>(
     start: Start,
     wanted: bool,
 ) -> Result<Vec<u8>, Unread>
-    requires reader { R.count from.old < 2 ^ 64 - 1 }
-    requires writer { W.count to.old < 2 ^ 64 - 1 }
+    requires room { HaveRoom (R.count from.old) (W.count to.old) }
     ensures content { IfOk result (λ content.
         GivesContent (W.held to.old) (W.held to.new) (R.ahead from.old) (R.ahead from.new)
         meaning.now start wanted content.items) }
@@ -328,10 +322,10 @@ fn ask_content<R: ByteIn, W: ByteOut>(
         (StopsContent (W.held to.old) (W.held to.new) (R.ahead from.old) (R.ahead from.new)
         meaning.now start) }
     ensures wanted { IfErr result (λ _. wanted ≡ true) }
-    ensures reads { IfOk result (λ _. R.count from.new ≡ R.count from.old) }
-    ensures writes { IfOk result (λ _. W.count to.new ≡ W.count to.old) }
-    ensures reads_room { R.count from.new ≤ R.count from.old + 1 }
-    ensures writes_room { W.count to.new ≤ W.count to.old + 1 }
+    ensures counts { IfOk result (λ _. R.count from.new ≡ R.count from.old)
+        × IfOk result (λ _. W.count to.new ≡ W.count to.old) }
+    ensures failures { (R.count from.new ≤ R.count from.old + 1)
+        × (W.count to.new ≤ W.count to.old + 1) }
 {
     if wanted {
         read_whole(alloc, from, to, limits, meaning, start)

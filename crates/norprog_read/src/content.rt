@@ -1,6 +1,7 @@
 //! The content of the chip behind a device.
 
 ghost use Rattle.std.specs.Prelude.{◌≡◌, ◌<◌, ◌≤◌, ◌+◌, ◌-◌, ◌^◌, IfOk, IfErr};
+ghost use Rattle.nor_base.specs.Device.{HaveRoom};
 ghost use Rattle.nor_base.specs.Instructions.{is_there};
 ghost use Rattle.nor_reader.specs.declared.by.ReadBy.TheVariants.{Entered};
 ghost use Rattle.norprog_read.specs.Content.{HoldsWhole};
@@ -32,16 +33,15 @@ pub(crate) fn read_whole<R: ByteIn, W: ByteOut>(
     meaning: &Meaning,
     start: Start,
 ) -> Result<Vec<u8>, Unread>
-    requires reader { R.count from.old < 2 ^ 64 - 1 }
-    requires writer { W.count to.old < 2 ^ 64 - 1 }
+    requires room { HaveRoom (R.count from.old) (W.count to.old) }
     ensures whole { IfOk result
         (λ content. HoldsWhole (W.held to.old) (W.held to.new) (R.ahead from.old) (R.ahead from.new)
         meaning.now start content.items) }
     ensures stops { IfErr result
         (StopsContent (W.held to.old) (W.held to.new) (R.ahead from.old) (R.ahead from.new)
         meaning.now start) }
-    ensures reads { IfOk result (λ _. R.count from.new ≡ R.count from.old) }
-    ensures writes { IfOk result (λ _. W.count to.new ≡ W.count to.old) }
+    ensures counts { IfOk result (λ _. R.count from.new ≡ R.count from.old)
+        × IfOk result (λ _. W.count to.new ≡ W.count to.old) }
     ensures reads_room { R.count from.new ≤ R.count from.old + 1 }
     ensures writes_room { W.count to.new ≤ W.count to.old + 1 }
 {

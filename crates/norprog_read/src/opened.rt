@@ -58,8 +58,8 @@ fn read_tested<R: ByteIn, W: ByteOut>(
     ensures stops { IfErr result
         (StopsTested (W.held to.old) (W.held to.new) (R.ahead from.old) (R.ahead from.new)
         limits.now ask.now) }
-    ensures reads { R.count from.new ≤ R.count from.old + 1 }
-    ensures writes { W.count to.new ≤ W.count to.old + 1 }
+    ensures counts { R.count from.new ≤ R.count from.old + 1
+        × W.count to.new ≤ W.count to.old + 1 }
 {
     match test_line(from, to, limits) {
         Ok(()) => read_chip(alloc, from, to, limits, ask),

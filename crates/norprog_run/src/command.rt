@@ -2,6 +2,7 @@
 
 ghost use Rattle.std.specs.Prelude.{◌≡◌, ◌<◌, ◌≤◌, ◌-◌, ◌^◌, List, ℕ, Some, true, Option, IfOk};
 ghost use Rattle.std.specs.Prelude.{IfErr};
+ghost use Rattle.nor_base.specs.Device.{HaveRoom};
 ghost use Rattle.std.specs.Io.KnownBytes.{Appends};
 ghost use Rattle.norprog_common.specs.FileStore.{DoNotFail, IsTextIn, IsTextOfFile};
 ghost use Rattle.norprog_common.specs.declared.faults.FileName.TheVariants.{Script};
@@ -177,8 +178,7 @@ fn play_file<F: ByteIn + Drop, R: ByteIn, W: ByteOut>(
 ) -> Result<Verdict, Refusal>
     requires limit { 0 < bench.limit }
     requires script { DoNotFail F.count script }
-    requires reader { R.count content.old < 2 ^ 64 - 1 }
-    requires writer { W.count out.old < 2 ^ 64 - 1 }
+    requires room { HaveRoom (R.count content.old) (W.count out.old) }
     ensures played { IfOk result
         (WasPlayedSo (IsTextOfFile F.ahead script) inputs.now bench (R.ahead content.old) len
         (W.held out.old) (W.held out.new)) }

@@ -1,6 +1,7 @@
 //! From the bytes of the inputs, and a script that two devices tell, to a verdict.
 
 ghost use Rattle.std.specs.Prelude.{◌≡◌, ◌≢◌, ◌<◌, ◌-◌, ◌^◌, true, length, IfOk, IfErr};
+ghost use Rattle.nor_base.specs.Device.{HaveRoom};
 ghost use Rattle.std.specs.Io.KnownBytes.{Appends};
 ghost use Rattle.nor_base.specs.Chip.{Chip as ShownChip, IsPossible, may_page};
 ghost use Rattle.nor_chip.specs.Ready.{ready_chip};
@@ -40,11 +41,10 @@ pub fn play_streams<F: ByteIn, A: ByteIn, R: ByteIn, W: ByteOut>(
     len: u64,
     out: &mut W,
 ) -> Result<Verdict, Refusal>
-    requires limit { 0 < bench.limit }
-    requires first { F.count first.old < 2 ^ 64 - 1 }
-    requires again { A.count again.old < 2 ^ 64 - 1 }
-    requires reader { R.count content.old < 2 ^ 64 - 1 }
-    requires writer { W.count out.old < 2 ^ 64 - 1 }
+    requires bench { (0 < bench.limit)
+        × (F.count first.old < 2 ^ 64 - 1)
+        × (A.count again.old < 2 ^ 64 - 1)
+        × HaveRoom (R.count content.old) (W.count out.old) }
     ensures played { IfOk result
         (PlaysStreams inputs.now bench (F.ahead first.old) (F.ahead first.new)
         (A.ahead again.old) (A.ahead again.new) len (R.ahead content.old) (R.ahead content.new)
@@ -56,13 +56,13 @@ pub fn play_streams<F: ByteIn, A: ByteIn, R: ByteIn, W: ByteOut>(
         ((again.new ≡ again.old) × (content.new ≡ content.old))) }
     ensures unread { IfErr result (λ why. IsOfChip why
         → (first.new ≡ first.old) × (again.new ≡ again.old) × (content.new ≡ content.old)) }
-    ensures once { IfErr result (λ why. IsOfContent why → again.new ≡ again.old) }
-    ensures unwritten { IfErr result (λ why. why ≢ Build Write → out.new ≡ out.old) }
+    ensures untouched { IfErr result (λ why. IsOfContent why → again.new ≡ again.old)
+        × IfErr result (λ why. why ≢ Build Write → out.new ≡ out.old) }
     ensures within { ReadsWithin len (R.ahead content.old) (R.ahead content.new) }
-    ensures scripts { CountsScript (F.count first.old) (F.count first.new) (A.count again.old)
-        (A.count again.new) result }
-    ensures reads { CountsReader (R.count content.old) (R.count content.new) result }
-    ensures writes { CountsWriter (W.count out.old) (W.count out.new) result }
+    ensures counts { CountsScript (F.count first.old) (F.count first.new) (A.count again.old)
+        (A.count again.new) result
+        × (CountsReader (R.count content.old) (R.count content.new) result
+        × CountsWriter (W.count out.old) (W.count out.new) result) }
 {
     let kind = kind_of(inputs, bench.page, len)?;
     check_script(alloc, first)?;
@@ -93,12 +93,12 @@ fn play_on<A: ByteIn, W: ByteOut>(
     array: Vec<u8>,
     out: &mut W,
 ) -> Result<Verdict, Refusal>
-    requires limit { 0 < bench.limit }
-    requires size { length array.items ≡ kind.now.meaning.size }
-    requires mode { IsPossible kind.now.meaning kind.now.start }
-    requires page { may_page kind.now.meaning kind.now.page ≡ true }
-    requires script { A.count script.old < 2 ^ 64 - 1 }
-    requires writer { W.count out.old < 2 ^ 64 - 1 }
+    requires chip { (0 < bench.limit)
+        × (length array.items ≡ kind.now.meaning.size)
+        × IsPossible kind.now.meaning kind.now.start
+        × (may_page kind.now.meaning kind.now.page ≡ true) }
+    requires room { (A.count script.old < 2 ^ 64 - 1)
+        × (W.count out.old < 2 ^ 64 - 1) }
     ensures played { IfOk result (λ verdict. (chip : ShownChip)
         × HadText (A.ahead script.old) (A.ahead script.new)
         (PlaysText (kind_setting kind.now bench)
@@ -108,8 +108,8 @@ fn play_on<A: ByteIn, W: ByteOut>(
         (kind_setting kind.now bench) (ready_chip (kind_setting kind.now bench) array.items).chip
         bench.limit (W.held out.old) (W.held out.new)) }
     ensures unwritten { IfErr result (λ why. why ≢ Build Write → out.new ≡ out.old) }
-    ensures scripts { CountsOne (A.count script.old) (A.count script.new) result }
-    ensures count { CountsWriter (W.count out.old) (W.count out.new) result }
+    ensures counts { CountsOne (A.count script.old) (A.count script.new) result
+        × CountsWriter (W.count out.old) (W.count out.new) result }
 {
     let mut chip = Chip::with_page(
         &kind.meaning,

@@ -46,7 +46,7 @@ loop-rest-preserved g c =
         does.1 ∙ ap (λ (l : List Step). does.0 ++ l) two ∙ sym (append_assoc does.0 row later),
         c.rows.ensures.parts _ _ _ _ _ _ c.args.limits.now c.args.turns does.0 row does.2 c.in_default.ensures.done,
       );
-      reads = c.in_default.ensures.reads ∙ c.loop-rest.invariant.reads;
-      writes = c.in_default.ensures.writes ∙ c.loop-rest.invariant.writes;
+      reads = c.in_default.ensures.counts.0 ∙ c.loop-rest.invariant.reads;
+      writes = c.in_default.ensures.counts.1 ∙ c.loop-rest.invariant.writes;
       told = c.row_done-in-loop-rest.ensures;
     }

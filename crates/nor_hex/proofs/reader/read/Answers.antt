@@ -1,4 +1,4 @@
-use Rattle.std.proofs.Common.{◌≡◌, ◌+◌, true, false, sym, ap, ◌∙◌, length, take, drop, ◌-◌, arith}
+use Rattle.std.proofs.Common.{◌≡◌, ◌+◌, true, false, sym, ap, ◌∙◌, length, take, drop, ◌-◌, arith, rules}
 use Rattle.std.proofs.lemmas.Result.{err_from_is_err_and}
 use Rattle.nor_hex.specs.Faults.{is_end}
 use Rattle.nor_hex.specs.Segments.{pairs_of}
@@ -31,10 +31,10 @@ pub returns-in_err-record-clause-accepted : goal.returns-in_err-record-clause-ac
 returns-in_err-record-clause-accepted c = λ records accepted.
     refused_for_memory c.args.text.now records c.from_residual.result accepted (returns-in_err-record-clause-fault c)
 
-pub add_record-requires-clause-bytes : goal.add_record-requires-clause-bytes
-add_record-requires-clause-bytes c =
+pub add_record-requires-clause-record : goal.add_record-requires-clause-record
+add_record-requires-clause-record c =
     let n : 4 + c.len.result - 4 ≡ length c.in_ok-record.record.bytes = omega arith in
-    ap (λ n. take n (drop 4 c.record_in.new.bytes)) n ∙ c.in_ok-record.ensures.bytes
+    (ap (λ n. take n (drop 4 c.record_in.new.bytes)) n ∙ c.in_ok-record.ensures.bytes, search rules, search rules)
 
 pub returns-in_err-base-clause-fault : goal.returns-in_err-base-clause-fault
 returns-in_err-base-clause-fault c =

@@ -1,5 +1,5 @@
 -- One unit after another.
-use Rattle.std.proofs.Common.{refl, sym, ◌∙◌, ap, subst, arith, ◌+◌, ◌-◌}
+use Rattle.std.proofs.Common.{refl, sym, ◌∙◌, ap, subst, arith, ◌+◌, ◌-◌, rules}
 use Rattle.nor_base.specs.Parameters.{Parameters}
 use Rattle.nor_outline.specs.Outline.{IsPlanned}
 use Rattle.nor_pages.specs.Runs.{IsUnit, unit_start}
@@ -55,7 +55,7 @@ tell_unit-requires-clause-unit g c =
     let p = c.requires.planned in
     let lies = lies_here c.args.meaning.now c.args.strategy c.args.at c.args.have.now c.args.want.now c.args.units.now c.loop-unit.unit-index c.unit-item.result p c.unit-item.is c.loop-unit-test.true in
     let long = unit_length c.args.want.now c.bounds-low.result.0 c.bounds-low.result.1 _ _ _ c.bounds-low.ensures.low high (omega (arith, lies.low, lies.high, p.lengths)) in
-    subst (λ n. IsUnit c.args.meaning.now c.unit-item.result n) (sym long) lies.stretch
+    (search rules, subst (λ n. IsUnit c.args.meaning.now c.unit-item.result n) (sym long) lies.stretch)
 
 pub tell_unit-requires-clause-planned : goal.tell_unit-requires-clause-planned
 tell_unit-requires-clause-planned g c =

@@ -39,6 +39,6 @@ loop-done-preserved g c =
           (piece_more (g.W.ByteOut.held c.args.to.now) (g.W.ByteOut.held c.loop-done.to) (g.W.ByteOut.held c.read_piece.new.to) (g.R.ByteIn.ahead c.args.from.now)
           (g.R.ByteIn.ahead c.loop-done.from) (g.R.ByteIn.ahead c.read_piece.new.from) c.args.by (take c.args.start c.args.bytes.now) old new piece done within
           (omega (arith, long, least, some_asked, goes, size)) (ap (λ n. take (done + n) new) long ∙ put.front) c.loop-done.invariant.read c.in_default.ensures.read);
-      reads = c.in_default.ensures.reads ∙ c.loop-done.invariant.reads;
-      writes = c.in_default.ensures.writes ∙ c.loop-done.invariant.writes;
+      reads = c.in_default.ensures.counts.0 ∙ c.loop-done.invariant.reads;
+      writes = c.in_default.ensures.counts.1 ∙ c.loop-done.invariant.writes;
     }

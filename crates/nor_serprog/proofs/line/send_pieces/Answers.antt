@@ -31,8 +31,8 @@ loop-done-preserved g c =
     record {
       sent = sent_more _ _ _ _ _ _ (c.args.room + 1) c.loop-done.done c.min-len.result _ c.loop-done.invariant.values few len c.loop-done.invariant.sent c.in_ok-send_ignored.ensures.does;
       values = c.loop-done.invariant.values;
-      reads = c.in_ok-send_ignored.ensures.reads ∙ c.loop-done.invariant.reads;
-      writes = c.in_ok-send_ignored.ensures.writes ∙ c.loop-done.invariant.writes;
+      reads = c.in_ok-send_ignored.ensures.counts.0 ∙ c.loop-done.invariant.reads;
+      writes = c.in_ok-send_ignored.ensures.counts.1 ∙ c.loop-done.invariant.writes;
     }
 
 pub returns-clause-sends : goal.returns-clause-sends

@@ -12,7 +12,7 @@ pub loop-step-preserved : goal.loop-step-preserved
 loop-step-preserved g c = record {
   does = done_next _ _ _ _ _ _ c.args.limits.now c.args.turns c.args.row.now c.loop-step.step-index c.step-item.result c.loop-step-test.true c.step-item.is c.loop-step.invariant.does
       c.in_default.ensures.done;
-  reads = c.in_default.ensures.reads ∙ c.loop-step.invariant.reads;
-  writes = c.in_default.ensures.writes ∙ c.loop-step.invariant.writes;
+  reads = c.in_default.ensures.counts.0 ∙ c.loop-step.invariant.reads;
+  writes = c.in_default.ensures.counts.1 ∙ c.loop-step.invariant.writes;
   number = ap (λ n. n + 1) c.loop-step.invariant.number;
 }

@@ -16,15 +16,15 @@ invariant_of-result c =
     let free : IfSome c.free_read-quad_read.result (λ q. list_any (λ other. q.op == other) (taken_opcodes c.args.kinds c.args.regions.items) ≡ false) =
     subst (λ (l : List ℕ). IfSome c.free_read-quad_read.result (λ q. list_any (λ other. q.op == other) l ≡ false)) others c.free_read-quad_read.ensures.free in
     accepted _ (record {
-      low = c.requires.low;
-      high = c.requires.high;
-      whole = c.requires.whole;
-      power = c.requires.power;
-      four = c.requires.four;
-      kinds = c.requires.kinds;
-      few = c.requires.few;
-      form = c.requires.form;
-      fill = c.requires.fill;
+      low = c.requires.size.0;
+      high = c.requires.size.1.0;
+      whole = c.requires.size.1.1;
+      power = c.requires.kinds.0;
+      four = c.requires.kinds.1.1;
+      kinds = c.requires.kinds.1.0;
+      few = c.requires.regions.0;
+      form = c.requires.regions.1.0;
+      fill = c.requires.regions.1.1;
       enter = c.switch.ensures.both;
       leave = c.switch-2.ensures.both;
       quad_read4 = c.is_with_quad_read.ensures.some;

@@ -13,10 +13,10 @@ use Rattle.norprog.proofs.windows.write_windows.Goals as goal
 pub loop-at-init : goal.loop-at-init
 loop-at-init g c = record {
   done = subst (IsDone (g.T.WorkWriter.unit_text c.args.writer.now) c.args.job.now (first_writing c.args.job.now) (g.T.WorkWriter.writing c.args.writer.now) 0 0 (g.R.ByteIn.ahead c.args.content.now) (g.R.ByteIn.ahead c.args.content.now) (g.W.ByteOut.held c.args.out.now) (g.W.ByteOut.held c.args.out.now))
-      (sym c.none-told.ensures) (none_done (g.T.WorkWriter.unit_text c.args.writer.now) c.args.job.now (g.T.WorkWriter.writing c.args.writer.now) (g.R.ByteIn.ahead c.args.content.now) (g.W.ByteOut.held c.args.out.now) c.requires.first);
+      (sym c.none-told.ensures) (none_done (g.T.WorkWriter.unit_text c.args.writer.now) c.args.job.now (g.T.WorkWriter.writing c.args.writer.now) (g.R.ByteIn.ahead c.args.content.now) (g.W.ByteOut.held c.args.out.now) c.requires.job.1);
   text = refl;
   room = refl;
-  room' = c.requires.lengths;
+  room' = c.requires.window.1;
   size = refl;
   aligned = λ before. zero-mod (length c.args.have.now);
   within = omega arith;
@@ -29,7 +29,7 @@ returns-in_err-more-clause-cut g c =
     let m = c.args.job.now.meaning in
     let size = ap (λ (v : Job). v.meaning.size) c.job.view_is in
     let before : c.loop-at.at < m.size = omega (arith, c.loop-at-test.true, size) in
-    let place = place_is m (length c.args.have.now) c.loop-at.at c.min-count.result c.requires.accepted c.requires.window before (c.loop-at.invariant.aligned before) (c.min-count.ensures ∙ ap (λ n. min (length c.args.have.now) (n - c.loop-at.at)) size) in
+    let place = place_is m (length c.args.have.now) c.loop-at.at c.min-count.result c.requires.job.0 c.requires.window.0 before (c.loop-at.invariant.aligned before) (c.min-count.ensures ∙ ap (λ n. min (length c.args.have.now) (n - c.loop-at.at)) size) in
     let took : length (take c.min-count.result c.loop-at.have) ≡ c.min-count.result = length-take-le c.min-count.result c.loop-at.have (omega (arith, place.few, c.loop-at.invariant.room)) in
     handed_on _ _ _ c.from_residual.ensures.1
     (done_then_cut (g.T.WorkWriter.unit_text c.args.writer.now) c.args.job.now (g.T.WorkWriter.writing c.loop-at.writer) c.loop-at.at c.min-count.result (length c.args.have.now) _ _ _ _ _ _ c.loop-at.told c.in_err-more.field-0.0 place c.loop-at.invariant.done
@@ -42,7 +42,7 @@ loop-at-preserved g c =
     let m = c.args.job.now.meaning in
     let size = ap (λ (v : Job). v.meaning.size) c.job.view_is in
     let before : c.loop-at.at < m.size = omega (arith, c.loop-at-test.true, size) in
-    let place = place_is m (length c.args.have.now) c.loop-at.at c.min-count.result c.requires.accepted c.requires.window before (c.loop-at.invariant.aligned before) (c.min-count.ensures ∙ ap (λ n. min (length c.args.have.now) (n - c.loop-at.at)) size) in
+    let place = place_is m (length c.args.have.now) c.loop-at.at c.min-count.result c.requires.job.0 c.requires.window.0 before (c.loop-at.invariant.aligned before) (c.min-count.ensures ∙ ap (λ n. min (length c.args.have.now) (n - c.loop-at.at)) size) in
     let took : length (take c.min-count.result c.loop-at.have) ≡ c.min-count.result = length-take-le c.min-count.result c.loop-at.have (omega (arith, place.few, c.loop-at.invariant.room)) in
     let took' : length (take c.min-count.result c.loop-at.want) ≡ c.min-count.result = length-take-le c.min-count.result c.loop-at.want (omega (arith, place.few, c.loop-at.invariant.room')) in
     record {
@@ -58,6 +58,6 @@ loop-at-preserved g c =
       size = refl;
       aligned = place.aligned;
       within = place.inside;
-      reads = c.in_ok-more.ensures.reads ∙ c.loop-at.invariant.reads;
-      writes = c.in_ok-more.ensures.writes ∙ c.loop-at.invariant.writes;
+      reads = c.in_ok-more.ensures.counts.0 ∙ c.loop-at.invariant.reads;
+      writes = c.in_ok-more.ensures.counts.1 ∙ c.loop-at.invariant.writes;
     }

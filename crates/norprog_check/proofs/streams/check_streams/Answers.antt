@@ -1,5 +1,5 @@
 -- The verdict is that of the steps that the second device told.
-use Rattle.std.proofs.Common.{◌∙◌, ap, inl, inr, refl, subst, length}
+use Rattle.std.proofs.Common.{◌∙◌, ap, inl, inr, refl, subst, length, rules}
 use Rattle.norprog_check.specs.declared.fault.CheckStop.TheVariants.{Build}
 use Rattle.norprog_check.specs.declared.fault.StreamStop.TheVariants.{Check}
 use Rattle.norprog_check.specs.Streams.{IsLateStop, IsOfDevices}
@@ -38,9 +38,9 @@ returns-in_err-said-clause-refused g c =
     (inr (inr (inr (stops_feeding c.args.inputs.now c.args.len c.in_ok-job.job _ _ _ _ _ _ c.in_ok-have.have.items c.in_ok-have.want.items _ c.in_ok-job.ensures.job
     c.in_ok-read_first.ensures.readable c.in_ok-have.ensures.read c.in_err-said.ensures.stopped))))
 
-pub new-checker-requires-clause-want : goal.new-checker-requires-clause-want
-new-checker-requires-clause-want g c =
-    ap length c.as_slice.ensures.value ∙ goal_size c.in_ok-job.job _ _ _ _ c.in_ok-have.ensures.read
+pub new-checker-requires-clause-contents : goal.new-checker-requires-clause-contents
+new-checker-requires-clause-contents g c =
+    (search rules, ap length c.as_slice.ensures.value ∙ goal_size c.in_ok-job.job _ _ _ _ c.in_ok-have.ensures.read, search rules)
 
 pub returns-clause-checked : goal.returns-clause-checked
 returns-clause-checked g c =

@@ -9,7 +9,7 @@ pub loop-done-init : goal.loop-done-init
 loop-done-init g c = record {
   within = omega arith;
   seam = λ some. inl refl;
-  buffer = c.requires.buffer;
+  buffer = c.requires.buffer.1;
   read = none_read c.args.at (g.R.ByteIn.ahead c.args.bin.now) (g.W.ByteOut.held c.args.out.now) c.parts_join.ensures.none;
   reader = refl;
   writer = refl;

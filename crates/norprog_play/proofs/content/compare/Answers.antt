@@ -35,8 +35,8 @@ loop-start-preserved g c =
           (slice_range c.args.content.now start (start + len)) c.args.marks.now c.loop-start.done c.args.limits.now.asked start c.in-Some.most len
           within refl c.in-Some.ensures.0 c.in-Some.ensures.1 c.len_on_side-len.ensures.some c.len_on_side-len.ensures.few c.len_on_side-len.ensures.sided
           c.loop-start.invariant.read c.in_default-compare_piece.ensures.read;
-      reads = c.in_default-compare_piece.ensures.reads ∙ c.loop-start.invariant.reads;
-      writes = c.in_default-compare_piece.ensures.writes ∙ c.loop-start.invariant.writes;
+      reads = c.in_default-compare_piece.ensures.counts.0 ∙ c.loop-start.invariant.reads;
+      writes = c.in_default-compare_piece.ensures.counts.1 ∙ c.loop-start.invariant.writes;
     }
 
 pub returns-clause-compared : goal.returns-clause-compared

@@ -1,5 +1,5 @@
 -- Where the steps end, beside what was compared.
-use Rattle.std.proofs.Common.{◌≡◌, ◌∙◌, Ok, ap, refl, sym, subst, length, ◌*◌, arith}
+use Rattle.std.proofs.Common.{◌≡◌, ◌∙◌, Ok, ap, refl, sym, subst, length, ◌*◌, arith, rules}
 use Rattle.nor_base.specs.Port.{Shown}
 use Rattle.nor_base.specs.Run.{played}
 use Rattle.nor_serprog.specs.declared.limits.Limits.{Limits}
@@ -13,8 +13,9 @@ use Rattle.norprog_play.proofs.TakenLemmas.{same_end}
 use Rattle.nor_play.specs.Play.{play}
 use Rattle.norprog_play.proofs.device.play_compared.Goals as goal
 
-pub follow_steps-requires-clause-carried : goal.follow_steps-requires-clause-carried
-follow_steps-requires-clause-carried g c = subst (λ (l : Limits). AreCarried l c.args.steps.now) (sym c.in_default.ensures.limits) c.requires.may.carried
+pub follow_steps-requires-clause-steps : goal.follow_steps-requires-clause-steps
+follow_steps-requires-clause-steps g c =
+    (search rules, search rules, subst (λ (l : Limits). AreCarried l c.args.steps.now) (sym c.in_default.ensures.kept.1.0) c.requires.steps.0.carried)
 
 pub returns-in-Err-follow_steps-clause-ends : goal.returns-in-Err-follow_steps-clause-ends
 returns-in-Err-follow_steps-clause-ends g c =
@@ -22,7 +23,7 @@ returns-in-Err-follow_steps-clause-ends g c =
     let between = moment c.begin.new.port.chip (g.W.Write.contents c.begin.new.port.to.inner) (g.R.Read.remaining c.begin.new.port.from.inner) in
     let after = moment c.follow_steps.new.port.chip (g.W.Write.contents c.follow_steps.new.port.to.inner) (g.R.Read.remaining c.follow_steps.new.port.from.inner) in
     stops c.args.port.now.limits c.args.port.now.turns (expectation_of c.args.expected) c.args.meaning.now c.args.access (IsMarked c.args.cells.now) (MarkedSince c.args.cells.now) before between after c.args.steps.now
-    c.in-Err-follow_steps.halt.step c.in-Err-follow_steps.halt.why c.requires.may c.in_default.ensures.begins
+    c.in-Err-follow_steps.halt.step c.in-Err-follow_steps.halt.why c.requires.steps.0 c.in_default.ensures.begins
     (same_bounds c.args.meaning.now c.args.port.now.limits c.begin.new.port.limits c.args.port.now.turns c.begin.new.port.turns between after c.args.steps.now
     c.in-Err-follow_steps.halt.step c.in-Err-follow_steps.halt.why c.in_default.ensures.limits c.in_default.ensures.turns c.in-Err-follow_steps.ensures.done)
 
@@ -31,26 +32,17 @@ mark_wraps-requires g c =
     let between = moment c.begin.new.port.chip (g.W.Write.contents c.begin.new.port.to.inner) (g.R.Read.remaining c.begin.new.port.from.inner) in
     let reached = moment c.follow_steps.new.port.chip (g.W.Write.contents c.follow_steps.new.port.to.inner) (g.R.Read.remaining c.follow_steps.new.port.from.inner) in
     let kept = all_keep c.begin.new.port.limits c.begin.new.port.turns between reached c.args.steps.now c.in_default-follow_steps.ensures.done in
-    let same : length c.follow_steps.new.port.chip.chip.array ≡ length c.args.port.now.chip.chip.array = kept ∙ ap (λ (s : Shown). length s.chip.array) c.in_default.ensures.chip in
+    let same : length c.follow_steps.new.port.chip.chip.array ≡ length c.args.port.now.chip.chip.array = kept ∙ ap (λ (s : Shown). length s.chip.array) c.in_default.ensures.kept.0 in
     let is : length c.content.result.now ≡ length c.follow_steps.new.port.chip.chip.array = ap length c.content.ensures in
-    record { small = omega (arith, is, same, c.requires.size) }
+    record { small = omega (arith, is, same, c.requires.content.0) }
 
-pub compare_unless_trusted-requires-clause-size : goal.compare_unless_trusted-requires-clause-size
-compare_unless_trusted-requires-clause-size g c =
+pub compare_unless_trusted-requires-clause-marked : goal.compare_unless_trusted-requires-clause-marked
+compare_unless_trusted-requires-clause-marked g c =
     let between = moment c.begin.new.port.chip (g.W.Write.contents c.begin.new.port.to.inner) (g.R.Read.remaining c.begin.new.port.from.inner) in
     let reached = moment c.follow_steps.new.port.chip (g.W.Write.contents c.follow_steps.new.port.to.inner) (g.R.Read.remaining c.follow_steps.new.port.from.inner) in
     let kept = all_keep c.begin.new.port.limits c.begin.new.port.turns between reached c.args.steps.now c.in_default-follow_steps.ensures.done in
-    let same : length c.follow_steps.new.port.chip.chip.array ≡ length c.args.port.now.chip.chip.array = kept ∙ ap (λ (s : Shown). length s.chip.array) c.in_default.ensures.chip in
-    omega (arith, same, c.requires.size)
-
-pub compare_unless_trusted-requires-clause-cells : goal.compare_unless_trusted-requires-clause-cells
-compare_unless_trusted-requires-clause-cells g c =
-    let between = moment c.begin.new.port.chip (g.W.Write.contents c.begin.new.port.to.inner) (g.R.Read.remaining c.begin.new.port.from.inner) in
-    let reached = moment c.follow_steps.new.port.chip (g.W.Write.contents c.follow_steps.new.port.to.inner) (g.R.Read.remaining c.follow_steps.new.port.from.inner) in
-    let kept = all_keep c.begin.new.port.limits c.begin.new.port.turns between reached c.args.steps.now c.in_default-follow_steps.ensures.done in
-    let same : length c.follow_steps.new.port.chip.chip.array ≡ 256 * length c.args.cells.now =
-    kept ∙ ap (λ (s : Shown). length s.chip.array) c.in_default.ensures.chip ∙ c.requires.marked in
-    same ∙ ap (λ n. 256 * n) (sym c.mark_wraps.ensures.same_length)
+    let same : length c.follow_steps.new.port.chip.chip.array ≡ length c.args.port.now.chip.chip.array = kept ∙ ap (λ (s : Shown). length s.chip.array) c.in_default.ensures.kept.0 in
+    (omega (arith, same, c.requires.content.0), same ∙ c.requires.content.1.0 ∙ ap (λ n. 256 * n) (sym c.mark_wraps.ensures.same_length))
 
 pub returns-in-Err-compare_unless_trusted-clause-ends : goal.returns-in-Err-compare_unless_trusted-clause-ends
 returns-in-Err-compare_unless_trusted-clause-ends g c =
@@ -59,13 +51,13 @@ returns-in-Err-compare_unless_trusted-clause-ends g c =
     let reached = moment c.follow_steps.new.port.chip (g.W.Write.contents c.follow_steps.new.port.to.inner) (g.R.Read.remaining c.follow_steps.new.port.from.inner) in
     let after = moment c.compare_unless_trusted.new.port.chip (g.W.Write.contents c.compare_unless_trusted.new.port.to.inner) (g.R.Read.remaining c.compare_unless_trusted.new.port.from.inner) in
     let ends : played c.args.port.now.chip.setting 1 c.args.port.now.chip.chip c.args.steps.now ≡ Ok c.follow_steps.new.port.chip.chip =
-    subst (λ (shown : Shown). played shown.setting 1 shown.chip c.args.steps.now ≡ Ok c.follow_steps.new.port.chip.chip) c.in_default.ensures.chip c.in_default-follow_steps.ensures.chip in
+    subst (λ (shown : Shown). played shown.setting 1 shown.chip c.args.steps.now ≡ Ok c.follow_steps.new.port.chip.chip) c.in_default.ensures.kept.0 c.in_default-follow_steps.ensures.chip in
     let kept = all_keep c.begin.new.port.limits c.begin.new.port.turns between reached c.args.steps.now c.in_default-follow_steps.ensures.done in
     let cells : length c.follow_steps.new.port.chip.chip.array ≡ 256 * length c.args.cells.now =
-    kept ∙ ap (λ (s : Shown). length s.chip.array) c.in_default.ensures.chip ∙ c.requires.marked in
+    kept ∙ ap (λ (s : Shown). length s.chip.array) c.in_default.ensures.kept.0 ∙ c.requires.content.1.0 in
     stops_after c.args.port.now.limits c.args.port.now.turns (expectation_of c.args.expected) c.args.meaning.now c.args.access (IsMarked c.args.cells.now) (MarkedSince c.args.cells.now) before after c.args.steps.now _
     c.in-Err-compare_unless_trusted.why c.failure_by.result c.failure_by.ensures (record {
-      may = c.requires.may;
+      may = c.requires.steps.0;
       all = refl;
       reached = reached;
       done = record {
@@ -74,7 +66,7 @@ returns-in-Err-compare_unless_trusted-clause-ends g c =
         does = done_bounds c.args.port.now.limits c.begin.new.port.limits c.args.port.now.turns c.begin.new.port.turns between reached c.args.steps.now
             c.in_default.ensures.limits c.in_default.ensures.turns c.in_default-follow_steps.ensures.done;
       };
-      ends = same_end c.args.port.now.chip.setting c.args.port.now.chip.chip c.requires.may.well.0 c.follow_steps.new.port.chip.chip c.args.steps.now c.requires.may.well.1 ends;
+      ends = same_end c.args.port.now.chip.setting c.args.port.now.chip.chip c.requires.steps.0.well.0 c.follow_steps.new.port.chip.chip c.args.steps.now c.requires.steps.0.well.1 ends;
       wary = c.in-Err-compare_unless_trusted.ensures.compared.0;
       why = c.in-Err-compare_unless_trusted.why;
       unlike = unlike_since c.args.access c.content.result.now c.args.cells.now c.mark_wraps.new.marks reached after c.in-Err-compare_unless_trusted.why c.mark_wraps.ensures
@@ -88,15 +80,15 @@ returns-in-Ok-clause-ends g c =
     let reached = moment c.follow_steps.new.port.chip (g.W.Write.contents c.follow_steps.new.port.to.inner) (g.R.Read.remaining c.follow_steps.new.port.from.inner) in
     let after = moment c.compare_unless_trusted.new.port.chip (g.W.Write.contents c.compare_unless_trusted.new.port.to.inner) (g.R.Read.remaining c.compare_unless_trusted.new.port.from.inner) in
     let ends : played c.args.port.now.chip.setting 1 c.args.port.now.chip.chip c.args.steps.now ≡ Ok c.follow_steps.new.port.chip.chip =
-    subst (λ (shown : Shown). played shown.setting 1 shown.chip c.args.steps.now ≡ Ok c.follow_steps.new.port.chip.chip) c.in_default.ensures.chip c.in_default-follow_steps.ensures.chip in
+    subst (λ (shown : Shown). played shown.setting 1 shown.chip c.args.steps.now ≡ Ok c.follow_steps.new.port.chip.chip) c.in_default.ensures.kept.0 c.in_default-follow_steps.ensures.chip in
     let kept = all_keep c.begin.new.port.limits c.begin.new.port.turns between reached c.args.steps.now c.in_default-follow_steps.ensures.done in
     let cells : length c.follow_steps.new.port.chip.chip.array ≡ 256 * length c.args.cells.now =
-    kept ∙ ap (λ (s : Shown). length s.chip.array) c.in_default.ensures.chip ∙ c.requires.marked in
-    let end = same_end c.args.port.now.chip.setting c.args.port.now.chip.chip c.requires.may.well.0 c.follow_steps.new.port.chip.chip c.args.steps.now c.requires.may.well.1 ends in
+    kept ∙ ap (λ (s : Shown). length s.chip.array) c.in_default.ensures.kept.0 ∙ c.requires.content.1.0 in
+    let end = same_end c.args.port.now.chip.setting c.args.port.now.chip.chip c.requires.steps.0.well.0 c.follow_steps.new.port.chip.chip c.args.steps.now c.requires.steps.0.well.1 ends in
     record {
-      carried = c.requires.may.carried;
+      carried = c.requires.steps.0.carried;
       ends = subst (λ (shown : Shown). play c.args.port.now.chip.setting 1 c.args.port.now.chip.chip c.args.steps.now ≡ Ok shown.chip) (sym c.in-Ok.ensures.chip) end;
-      counted = c.requires.counted;
+      counted = c.requires.steps.1.0;
       reached = reached;
       done = record {
         between = between;
@@ -106,5 +98,5 @@ returns-in-Ok-clause-ends g c =
       };
       back = compares_since c.args.expected.trusted c.args.access c.content.result.now c.args.cells.now c.mark_wraps.new.marks reached after c.mark_wraps.ensures c.content.ensures cells
           c.in-Ok.ensures.compared;
-      says = c.requires.blank;
+      says = c.requires.content.1.1;
     }

@@ -19,6 +19,6 @@ returns-clause-ends g c =
     let after = moment c.play_compared.new.port.chip (g.W.Write.contents c.play_compared.new.port.to.inner) (g.R.Read.remaining c.play_compared.new.port.from.inner) in
     let are : AreMarks (Wanted c.args.port.now.chip.chip.array) (m.size / 256) c.in_ok-cells.cells.items =
     subst (λ (content : List ℕ). AreMarks (Wanted content) (m.size / 256) c.in_ok-cells.cells.items) c.content.ensures c.in_ok-cells.ensures in
-    let cells = as_cells (Wanted c.args.port.now.chip.chip.array) c.in_ok-cells.cells.items (length c.args.port.now.chip.chip.array) m.size are c.requires.size c.acceptance.ensures.size_whole in
+    let cells = as_cells (Wanted c.args.port.now.chip.chip.array) c.in_ok-cells.cells.items (length c.args.port.now.chip.chip.array) m.size are c.requires.chip.1 c.acceptance.ensures.size_whole in
     ends_told c.args.port.now.limits c.args.port.now.turns (expectation_of c.args.expected) m (access_of m c.args.expected.start) c.access_of-access.result (Wanted c.args.port.now.chip.chip.array) (m.size / 256)
     c.in_ok-cells.cells.items c.as_mut_slice.result.now before c.args.steps.now c.access_of-access.ensures c.as_mut_slice.ensures.value are cells c.play_compared.result after c.play_compared.ensures.ends

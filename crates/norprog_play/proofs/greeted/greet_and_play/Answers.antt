@@ -11,7 +11,7 @@ returns-clause-ends g c =
     let between = moment c.greet_and_test.new.port.chip (g.W.Write.contents c.greet_and_test.new.port.to.inner) (g.R.Read.remaining c.greet_and_test.new.port.from.inner) in
     let after = moment c.play_on_device.new.port.chip (g.W.Write.contents c.play_on_device.new.port.to.inner) (g.R.Read.remaining c.play_on_device.new.port.from.inner) in
     has_played c.greet_and_test.new.port.limits c.play_on_device.new.port.limits c.greet_and_test.new.port.turns c.args.port.now.turns (expectation_of c.args.expected) c.args.meaning.now before between after
-    c.args.steps.now c.in_ok-ending.ending c.play_on_device.ensures.limits c.in_ok-greet_and_test.ensures.turns
+    c.args.steps.now c.in_ok-ending.ending c.play_on_device.ensures.after.1 c.in_ok-greet_and_test.ensures.turns
     (record { shown = c.in_ok-greet_and_test.ensures.chip; opened = c.in_ok-greet_and_test.ensures.opened }) c.in_ok-ending.ensures.ends
 
 pub returns-in_err-ending-clause-ends : goal.returns-in_err-ending-clause-ends

@@ -1,5 +1,5 @@
 -- By the unit: a block's steps, or a page's programs and its reads.
-use Rattle.std.proofs.Common.{true, false, Ok, length, ◌+◌, ◌∙◌, sym, ap, subst, arith}
+use Rattle.std.proofs.Common.{true, false, Ok, length, ◌+◌, ◌∙◌, sym, ap, subst, arith, rules}
 use Rattle.std.specs.Io.KnownBytes.{Appends}
 use Rattle.nor_base.specs.Parameters.{Parameters}
 use Rattle.nor_geometry.specs.declared.unit.PlanUnit.{PlanUnit}
@@ -13,12 +13,12 @@ use Rattle.nor_steps.proofs.UnitLemmas.{block_writes, page_writes}
 use Rattle.nor_steps.proofs.writer.StepWriter.write_unit.Goals as goal
 use Rattle.nor_steps.proofs.writer.StepWriter.write_unit.Goals.{then-self+in_ok-reads, else-self}
 
-pub write_block-requires-clause-inside : goal.write_block-requires-clause-inside
-write_block-requires-clause-inside g c =
+pub write_block-requires-clause-block : goal.write_block-requires-clause-block
+write_block-requires-clause-block g c =
     let meaning = c.meaning-meaning.ensures ∙ ap (λ (w : Writing). w.streaming.meaning) c.self.view_is in
     let its = subst (λ (u : PlanUnit). IsUnit c.args.self.now.streaming.meaning u (length c.args.want.now)) c.in-Block.is c.requires.unit in
     let size = ap (λ (m : Parameters). m.size) meaning in
-    omega (arith, its.1.1, size, c.acceptance.ensures.size_high)
+    (omega (arith, its.1.1, size, c.acceptance.ensures.size_high), search rules, search rules)
 
 pub returns-in-Block-clause-written : goal.returns-in-Block-clause-written
 returns-in-Block-clause-written g c =
