@@ -27,6 +27,7 @@ test:
 	@tools/links
 	@tools/said-twice
 	@tools/version
+	@tools/widths
 	rt ci
 
 # has git run tools/hooks/pre-commit before each commit in this clone

@@ -58,11 +58,11 @@ pub fn play_streams<F: ByteIn, A: ByteIn, R: ByteIn, W: ByteOut>(
         → (first.new ≡ first.old) × (again.new ≡ again.old) × (content.new ≡ content.old)) }
     ensures untouched { IfErr result (λ why. IsOfContent why → again.new ≡ again.old)
         × IfErr result (λ why. why ≢ Build Write → out.new ≡ out.old) }
-    ensures within { ReadsWithin len (R.ahead content.old) (R.ahead content.new) }
-    ensures counts { CountsScript (F.count first.old) (F.count first.new) (A.count again.old)
+    ensures counts { ReadsWithin len (R.ahead content.old) (R.ahead content.new)
+        × (CountsScript (F.count first.old) (F.count first.new) (A.count again.old)
         (A.count again.new) result
         × (CountsReader (R.count content.old) (R.count content.new) result
-        × CountsWriter (W.count out.old) (W.count out.new) result) }
+        × CountsWriter (W.count out.old) (W.count out.new) result)) }
 {
     let kind = kind_of(inputs, bench.page, len)?;
     check_script(alloc, first)?;

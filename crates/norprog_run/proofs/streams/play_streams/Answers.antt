@@ -1,5 +1,5 @@
 -- The script is read twice, and the content between.
-use Rattle.std.proofs.Common.{◌≡◌, refl, sym, ◌∙◌, ap, subst, arith}
+use Rattle.std.proofs.Common.{◌≡◌, refl, sym, ◌∙◌, ap, subst, arith, rules}
 use Rattle.norprog_run.specs.declared.kind.Kind.{Kind}
 use Rattle.norprog_common.specs.Content.{StopsReading}
 use Rattle.norprog_run.specs.Streams.{RefusesStreams}
@@ -35,11 +35,11 @@ returns-in_err-array-clause-refused g c =
     (g.W.ByteOut.held c.args.out.now) (g.W.ByteOut.held c.args.out.now) (c.args.again.now ≡ c.args.again.now × c.read_content.new.content ≡ c.args.content.now)
     c.in_ok-check_script.ensures.text c.in_err-array.field-0.0 stops)
 
-pub returns-in_err-array-clause-within : goal.returns-in_err-array-clause-within
-returns-in_err-array-clause-within g c =
+pub returns-in_err-array-clause-counts : goal.returns-in_err-array-clause-counts
+returns-in_err-array-clause-counts g c =
     let size = ap (λ (v : Kind). v.meaning.size) c.kind.view_is in
     let less = less_read _ _ _ c.in_err-array.field-0.0 c.in_err-array.ensures.stopped in
-    record { bytes = less.bytes; few = omega (arith, less.few, size, c.in_ok-kind.ensures.sized.size); given = less.given }
+    (record { bytes = less.bytes; few = omega (arith, less.few, size, c.in_ok-kind.ensures.sized.size); given = less.given }, search rules)
 
 pub returns-clause-played : goal.returns-clause-played
 returns-clause-played g c =
