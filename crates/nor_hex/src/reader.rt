@@ -64,7 +64,7 @@ fn add_record<A: Allocator + Clone>(
     line: &HexLine<'_>,
     bytes: &[u8],
 ) -> Result<Base, HexFault>
-    requires record { (bytes.now ≡ line.now.bytes)
+    requires bytes { (bytes.now ≡ line.now.bytes)
         × (length bytes.now ≤ 255)
         × IsPieces (get nat_cmp pieces.old.by_last) pieces.old.bytes.items }
     ensures base { IfOk result (λ next. next ≡ base_past base line.now) }

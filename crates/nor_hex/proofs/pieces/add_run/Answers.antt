@@ -8,7 +8,7 @@ pub loop-done-preserved : goal.loop-done-preserved
 loop-done-preserved g c =
     let within = c.loop-done.invariant.within in
     let rest : length (take (length c.args.bytes.now - c.loop-done.done) (drop c.loop-done.done c.args.bytes.now)) ≡ length c.args.bytes.now - c.loop-done.done = length-part c.args.bytes.now (length c.args.bytes.now - c.loop-done.done) c.loop-done.done (omega arith) in
-    let few : c.in_ok-done.field-0 ≤ length c.args.bytes.now - c.loop-done.done = omega (arith, c.in_ok-done.ensures.fits) in
+    let few : c.in_ok-done.field-0 ≤ length c.args.bytes.now - c.loop-done.done = omega (arith, c.in_ok-done.ensures.count.1) in
     record {
       within = omega arith;
       pieces = c.in_ok-done.ensures.pieces;

@@ -31,10 +31,10 @@ pub returns-in_err-record-clause-accepted : goal.returns-in_err-record-clause-ac
 returns-in_err-record-clause-accepted c = λ records accepted.
     refused_for_memory c.args.text.now records c.from_residual.result accepted (returns-in_err-record-clause-fault c)
 
-pub add_record-requires-clause-record : goal.add_record-requires-clause-record
-add_record-requires-clause-record c =
+pub add_record-requires : goal.add_record-requires
+add_record-requires c =
     let n : 4 + c.len.result - 4 ≡ length c.in_ok-record.record.bytes = omega arith in
-    (ap (λ n. take n (drop 4 c.record_in.new.bytes)) n ∙ c.in_ok-record.ensures.bytes, search rules, search rules)
+    record { bytes = (ap (λ n. take n (drop 4 c.record_in.new.bytes)) n ∙ c.in_ok-record.ensures.bytes, search rules, search rules) }
 
 pub returns-in_err-base-clause-fault : goal.returns-in_err-base-clause-fault
 returns-in_err-base-clause-fault c =

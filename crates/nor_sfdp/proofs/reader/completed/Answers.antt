@@ -17,14 +17,14 @@ invariant_of-result c =
     subst (λ (l : List ℕ). IfSome c.free_read-quad_read.result (λ q. list_any (λ other. q.op == other) l ≡ false)) others c.free_read-quad_read.ensures.free in
     accepted _ (record {
       low = c.requires.size.0;
-      high = c.requires.size.1.0;
-      whole = c.requires.size.1.1;
+      high = c.requires.size.1;
+      whole = c.requires.size.2;
       power = c.requires.kinds.0;
-      four = c.requires.kinds.1.1;
-      kinds = c.requires.kinds.1.0;
+      four = c.requires.kinds.2;
+      kinds = c.requires.kinds.1;
       few = c.requires.regions.0;
-      form = c.requires.regions.1.0;
-      fill = c.requires.regions.1.1;
+      form = c.requires.regions.1;
+      fill = c.requires.regions.2;
       enter = c.switch.ensures.both;
       leave = c.switch-2.ensures.both;
       quad_read4 = c.is_with_quad_read.ensures.some;

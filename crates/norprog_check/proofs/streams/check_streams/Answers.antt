@@ -38,9 +38,9 @@ returns-in_err-said-clause-refused g c =
     (inr (inr (inr (stops_feeding c.args.inputs.now c.args.len c.in_ok-job.job _ _ _ _ _ _ c.in_ok-have.have.items c.in_ok-have.want.items _ c.in_ok-job.ensures.job
     c.in_ok-read_first.ensures.readable c.in_ok-have.ensures.read c.in_err-said.ensures.stopped))))
 
-pub new-checker-requires-clause-contents : goal.new-checker-requires-clause-contents
-new-checker-requires-clause-contents g c =
-    (search rules, ap length c.as_slice.ensures.value ∙ goal_size c.in_ok-job.job _ _ _ _ c.in_ok-have.ensures.read, search rules)
+pub new-checker-requires : goal.new-checker-requires
+new-checker-requires g c =
+    record { contents = (search rules, ap length c.as_slice.ensures.value ∙ goal_size c.in_ok-job.job _ _ _ _ c.in_ok-have.ensures.read, search rules) }
 
 pub returns-clause-checked : goal.returns-clause-checked
 returns-clause-checked g c =

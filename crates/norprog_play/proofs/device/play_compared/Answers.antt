@@ -15,7 +15,7 @@ use Rattle.norprog_play.proofs.device.play_compared.Goals as goal
 
 pub follow_steps-requires-clause-steps : goal.follow_steps-requires-clause-steps
 follow_steps-requires-clause-steps g c =
-    (search rules, search rules, subst (λ (l : Limits). AreCarried l c.args.steps.now) (sym c.in_default.ensures.kept.1.0) c.requires.steps.0.carried)
+    (search rules, search rules, subst (λ (l : Limits). AreCarried l c.args.steps.now) (sym c.in_default.ensures.kept.1) c.requires.steps.0.carried)
 
 pub returns-in-Err-follow_steps-clause-ends : goal.returns-in-Err-follow_steps-clause-ends
 returns-in-Err-follow_steps-clause-ends g c =
@@ -42,7 +42,7 @@ compare_unless_trusted-requires-clause-marked g c =
     let reached = moment c.follow_steps.new.port.chip (g.W.Write.contents c.follow_steps.new.port.to.inner) (g.R.Read.remaining c.follow_steps.new.port.from.inner) in
     let kept = all_keep c.begin.new.port.limits c.begin.new.port.turns between reached c.args.steps.now c.in_default-follow_steps.ensures.done in
     let same : length c.follow_steps.new.port.chip.chip.array ≡ length c.args.port.now.chip.chip.array = kept ∙ ap (λ (s : Shown). length s.chip.array) c.in_default.ensures.kept.0 in
-    (omega (arith, same, c.requires.content.0), same ∙ c.requires.content.1.0 ∙ ap (λ n. 256 * n) (sym c.mark_wraps.ensures.same_length))
+    (omega (arith, same, c.requires.content.0), same ∙ c.requires.content.1 ∙ ap (λ n. 256 * n) (sym c.mark_wraps.ensures.same_length))
 
 pub returns-in-Err-compare_unless_trusted-clause-ends : goal.returns-in-Err-compare_unless_trusted-clause-ends
 returns-in-Err-compare_unless_trusted-clause-ends g c =
@@ -54,7 +54,7 @@ returns-in-Err-compare_unless_trusted-clause-ends g c =
     subst (λ (shown : Shown). played shown.setting 1 shown.chip c.args.steps.now ≡ Ok c.follow_steps.new.port.chip.chip) c.in_default.ensures.kept.0 c.in_default-follow_steps.ensures.chip in
     let kept = all_keep c.begin.new.port.limits c.begin.new.port.turns between reached c.args.steps.now c.in_default-follow_steps.ensures.done in
     let cells : length c.follow_steps.new.port.chip.chip.array ≡ 256 * length c.args.cells.now =
-    kept ∙ ap (λ (s : Shown). length s.chip.array) c.in_default.ensures.kept.0 ∙ c.requires.content.1.0 in
+    kept ∙ ap (λ (s : Shown). length s.chip.array) c.in_default.ensures.kept.0 ∙ c.requires.content.1 in
     stops_after c.args.port.now.limits c.args.port.now.turns (expectation_of c.args.expected) c.args.meaning.now c.args.access (IsMarked c.args.cells.now) (MarkedSince c.args.cells.now) before after c.args.steps.now _
     c.in-Err-compare_unless_trusted.why c.failure_by.result c.failure_by.ensures (record {
       may = c.requires.steps.0;
@@ -83,12 +83,12 @@ returns-in-Ok-clause-ends g c =
     subst (λ (shown : Shown). played shown.setting 1 shown.chip c.args.steps.now ≡ Ok c.follow_steps.new.port.chip.chip) c.in_default.ensures.kept.0 c.in_default-follow_steps.ensures.chip in
     let kept = all_keep c.begin.new.port.limits c.begin.new.port.turns between reached c.args.steps.now c.in_default-follow_steps.ensures.done in
     let cells : length c.follow_steps.new.port.chip.chip.array ≡ 256 * length c.args.cells.now =
-    kept ∙ ap (λ (s : Shown). length s.chip.array) c.in_default.ensures.kept.0 ∙ c.requires.content.1.0 in
+    kept ∙ ap (λ (s : Shown). length s.chip.array) c.in_default.ensures.kept.0 ∙ c.requires.content.1 in
     let end = same_end c.args.port.now.chip.setting c.args.port.now.chip.chip c.requires.steps.0.well.0 c.follow_steps.new.port.chip.chip c.args.steps.now c.requires.steps.0.well.1 ends in
     record {
       carried = c.requires.steps.0.carried;
       ends = subst (λ (shown : Shown). play c.args.port.now.chip.setting 1 c.args.port.now.chip.chip c.args.steps.now ≡ Ok shown.chip) (sym c.in-Ok.ensures.chip) end;
-      counted = c.requires.steps.1.0;
+      counted = c.requires.steps.1;
       reached = reached;
       done = record {
         between = between;
@@ -98,5 +98,5 @@ returns-in-Ok-clause-ends g c =
       };
       back = compares_since c.args.expected.trusted c.args.access c.content.result.now c.args.cells.now c.mark_wraps.new.marks reached after c.mark_wraps.ensures c.content.ensures cells
           c.in-Ok.ensures.compared;
-      says = c.requires.content.1.1;
+      says = c.requires.content.2;
     }

@@ -13,23 +13,23 @@ use Rattle.norprog_play.proofs.follow.follow_row.Goals as goal
 
 pub follow_step-requires-clause-step : goal.follow_step-requires-clause-step
 follow_step-requires-clause-step g c =
-    let within : 0 < length c.args.steps.now = omega (arith, c.requires.row.0, c.requires.row.1.0) in
+    let within : 0 < length c.args.steps.now = omega (arith, c.requires.row.0, c.requires.row.1) in
     (search rules, takes_next c.args.port.now.chip c.args.port.now.chip c.args.steps.now 0 c.index-steps-0.result within c.index-steps-0.is c.requires.steps.1 (λ d goes. goes))
 
 pub returns-in-Err-clause-done : goal.returns-in-Err-clause-done
 returns-in-Err-clause-done g c =
-    let within : 0 < length c.args.steps.now = omega (arith, c.requires.row.0, c.requires.row.1.0) in
+    let within : 0 < length c.args.steps.now = omega (arith, c.requires.row.0, c.requires.row.1) in
     let alone : take c.args.count c.args.steps.now ≡ c.index-steps-0.result ∷ [] =
     ap (λ n. take n c.args.steps.now) c.if-count-eq1.true ∙ one_taken c.args.steps.now 0 c.index-steps-0.result within c.index-steps-0.is in
     stops_alone c.args.meaning.now c.args.port.now.limits c.args.port.now.turns
     (moment c.args.port.now.chip (g.W.Write.contents c.args.port.now.to.inner) (g.R.Read.remaining c.args.port.now.from.inner))
     (moment c.follow_step.new.port.chip (g.W.Write.contents c.follow_step.new.port.to.inner) (g.R.Read.remaining c.follow_step.new.port.from.inner))
-    (take c.args.count c.args.steps.now) c.index-steps-0.result c.in-Err.why alone c.requires.row.1.1.0 c.in-Err.ensures.done
+    (take c.args.count c.args.steps.now) c.index-steps-0.result c.in-Err.why alone c.requires.row.2 c.in-Err.ensures.done
 
 pub returns-in-Ok-do_row-clause-done : goal.returns-in-Ok-do_row-clause-done
 returns-in-Ok-do_row-clause-done g c =
     let row = take c.args.count c.args.steps.now in
-    let plain : All IsPlain row = are_plain row c.args.count c.requires.row.1.1.1 (length-take-le c.args.count c.args.steps.now c.requires.row.1.0) c.if-count-eq1.false in
+    let plain : All IsPlain row = are_plain row c.args.count c.requires.row.3 (length-take-le c.args.count c.args.steps.now c.requires.row.1) c.if-count-eq1.false in
     both_do c.args.port.now.chip c.take_row.new.chip (g.W.Write.contents c.args.port.now.to.inner) (g.W.Write.contents c.do_row.new.to.inner)
     (ahead_of (g.R.Read.remaining c.args.port.now.from.inner)) (ahead_of (g.R.Read.remaining c.do_row.new.from.inner)) c.args.port.now.limits c.args.port.now.turns row
     c.take_row.ensures.taken plain c.in-Ok-do_row.ensures.done
@@ -37,7 +37,7 @@ returns-in-Ok-do_row-clause-done g c =
 pub returns-in-Err-do_row-clause-done : goal.returns-in-Err-do_row-clause-done
 returns-in-Err-do_row-clause-done g c =
     let row = take c.args.count c.args.steps.now in
-    let plain : All IsPlain row = are_plain row c.args.count c.requires.row.1.1.1 (length-take-le c.args.count c.args.steps.now c.requires.row.1.0) c.if-count-eq1.false in
+    let plain : All IsPlain row = are_plain row c.args.count c.requires.row.3 (length-take-le c.args.count c.args.steps.now c.requires.row.1) c.if-count-eq1.false in
     let after = moment c.take_row.new.chip (g.W.Write.contents c.do_row.new.to.inner) (g.R.Read.remaining c.do_row.new.from.inner) in
     let before = moment c.args.port.now.chip (g.W.Write.contents c.args.port.now.to.inner) (g.R.Read.remaining c.args.port.now.from.inner) in
     subst (λ n. StopsAt c.args.meaning.now c.args.port.now.limits c.args.port.now.turns before row n c.failed.result.why after) (sym c.failed.ensures.step)

@@ -68,4 +68,4 @@ loop-done-preserved g c =
 
 pub returns-clause-chip : goal.returns-clause-chip
 returns-clause-chip g c =
-    goes_to_end c.args.port.now.chip c.loop-done.port.chip c.args.steps.now c.loop-done.done c.loop-done-test.false c.requires.steps.1.0 c.loop-done.invariant.rest
+    goes_to_end c.args.port.now.chip c.loop-done.port.chip c.args.steps.now c.loop-done.done c.loop-done-test.false c.requires.steps.1 c.loop-done.invariant.rest

@@ -14,7 +14,7 @@ pub invariant_of-result : goal.invariant_of-result
 invariant_of-result c = (
   λ none.
       subst (HaveSize (length c.args.want.now)) (sym c.new.ensures)
-      (size_each (length c.args.want.now) (begun c.args.meaning.now c.args.start c.args.meaning.now.page c.args.have.items) c.requires.contents.1.0),
+      (size_each (length c.args.want.now) (begun c.args.meaning.now c.args.start c.args.meaning.now.page c.args.have.items) c.requires.contents.1),
   omega arith,
 )
 
@@ -27,7 +27,7 @@ returns-clause-worst c = λ steps.
 pub returns-clause-yes : goal.returns-clause-yes
 returns-clause-yes c = λ steps.
     yes_exactly c.args.meaning.now c.args.start c.args.have.items c.args.want.now steps _ c.effects.ensures.keeps c.polls.ensures.ends
-    (c.requires.contents.0 ∙ sym c.requires.contents.1.0)
+    (c.requires.contents.0 ∙ sym c.requires.contents.1)
     (subst (IsWorst c.args.meaning.now c.args.start c.args.have.items c.args.want.now steps)
     (ap (λ ts. judged_each c.args.want.now ts steps) (sym c.new.ensures) ∙ before_any c.args.want.now c.new.result c.meaning.inside.page steps)
     (worst_of_each c.args.meaning.now c.args.start c.args.have.items c.args.want.now steps c.polls.ensures.ends c.verifying_reads.ensures))
