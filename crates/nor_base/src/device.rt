@@ -13,13 +13,13 @@ pub struct Failed;
 
 /// A source of bytes.
 pub trait ByteIn {
-    /// The bytes that it will give from here on, as far as it tells them.
+    /// The bytes that it will give from here on, as far as it reports them.
     ghost ahead: { Self → Ahead };
 
     /// How often it has failed.
     ghost count: { Self → ℕ };
 
-    /// Takes the next bytes into the front of `out`, and answers how many. 0 in a buffer that isn't
+    /// Takes the next bytes into the front of `out`, and returns how many. 0 in a buffer that isn't
     /// empty is the end.
     ///
     /// `Failed` took none, and the count of failures rose by one.
@@ -35,14 +35,14 @@ pub trait ByteIn {
 
 /// A sink of bytes.
 pub trait ByteOut {
-    /// The bytes that it has taken so far, where it tells them.
+    /// The bytes that it has taken so far, where it reports them.
     ghost held: { Self → Option (List ℕ) };
 
     /// How often it has failed.
     ghost count: { Self → ℕ };
 
     /// Puts bytes, of which there are some, at the end of what it holds. It takes the first so
-    /// many, at least one, and answers how many.
+    /// many, at least one, and returns how many.
     ///
     /// `Failed` took none, and the count of failures rose by one.
     fn put(&mut self, bytes: &[u8]) -> Result<usize, Failed>

@@ -35,7 +35,7 @@ pub enum Width {
 pub enum Switch {
     /// Not at all.
     Absent,
-    /// By the opcode alone.
+    /// Only by the opcode.
     Plain,
     /// By the opcode after a write enable.
     Latched,
@@ -238,7 +238,7 @@ impl Meaning {
         page == self.page || (self.open_page && self.page <= page && is_page_size(page))
     }
 
-    /// The same meaning under the profile that programs erased bytes alone.
+    /// The same meaning under the profile that programs only erased bytes.
     pub fn erased_only_set(self) -> Meaning
         ensures { result ≡ erased_only_set self }
     {

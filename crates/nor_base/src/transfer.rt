@@ -7,7 +7,7 @@ use crate::device::{ByteIn, ByteOut, Failed};
 
 /// Puts all of `bytes`, in as many calls as the writer needs; an empty string makes none.
 ///
-/// At `Failed` a proper prefix was taken. It comes from the writer alone, whose count of failures
+/// At `Failed` a proper prefix was taken. It comes only from the writer, whose count of failures
 /// rose by one.
 pub fn put_all<W: ByteOut>(writer: &mut W, bytes: &[u8]) -> Result<(), Failed>
     requires { W.count writer.old < 2 ^ 64 - 1 }
@@ -23,7 +23,7 @@ pub fn put_all<W: ByteOut>(writer: &mut W, bytes: &[u8]) -> Result<(), Failed>
 
 /// Puts all of the parts, one after another.
 ///
-/// At `Failed` a proper prefix of the parts joined was taken. It comes from the writer alone, whose
+/// At `Failed` a proper prefix of the parts joined was taken. It comes only from the writer, whose
 /// count of failures rose by one.
 pub fn put_parts<W: ByteOut>(writer: &mut W, parts: &[&[u8]]) -> Result<(), Failed>
     requires { W.count writer.old < 2 ^ 64 - 1 }
@@ -37,10 +37,10 @@ pub fn put_parts<W: ByteOut>(writer: &mut W, parts: &[&[u8]]) -> Result<(), Fail
     Ok(())
 }
 
-/// Takes bytes until `buffer` is full or the reader ends, and answers how many came. Fewer than the
+/// Takes bytes until `buffer` is full or the reader ends, and returns how many came. Fewer than the
 /// buffer has room for is the end; what stands past them in the buffer says nothing.
 ///
-/// At `Failed` fewer than the buffer has room for came. It comes from the reader alone, whose count
+/// At `Failed` fewer than the buffer has room for came. It comes only from the reader, whose count
 /// of failures rose by one.
 pub fn fill_from<R: ByteIn>(reader: &mut R, buffer: &mut [u8]) -> Result<usize, Failed>
     requires { R.count reader.old < 2 ^ 64 - 1 }

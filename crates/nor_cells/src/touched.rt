@@ -102,7 +102,7 @@ fn mark_steps(marks: &mut [bool], meaning: &Meaning, mode4: bool, steps: &[Step]
     }
 }
 
-/// Marks the cells of the bytes that a step touches, and answers the address mode after it.
+/// Marks the cells of the bytes that a step touches, and returns the address mode after it.
 fn mark_step(marks: &mut [bool], meaning: &Meaning, mode4: bool, step: &Step) -> bool
     ensures marked { MarkedBy (Touches meaning.now mode4 step.now) marks.old marks.new }
     ensures mode { result ≡ mode_past meaning.now mode4 step.now }

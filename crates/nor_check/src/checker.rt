@@ -268,7 +268,7 @@ pub fn check(
     Ok(checker.verdict())
 }
 
-/// What [`check`] answers and, where that is a no, a chip that shows it: a run of the steps on that
+/// What [`check`] returns and, where that is a no, a chip that shows it: a run of the steps on that
 /// chip, from `have` on, goes wrong just at that step and so; at the end, where no step does, it
 /// isn't settled, or holds another byte there.
 pub fn check_shown(

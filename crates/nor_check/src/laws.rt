@@ -1,4 +1,4 @@
-//! What follows from the definitions alone. The function does nothing: its contract is the law.
+//! What follows only from the definitions. The function does nothing: its contract is the law.
 
 ghost use Rattle.nor_check.specs.Witness.{EachNoIsShown, FewReads};
 ghost use Rattle.nor_check.specs.Worst.{OneWorst};

@@ -109,7 +109,7 @@ pub(crate) fn told_of(one: Result<(), Wrong>, other: Result<(), Wrong>, page: u3
     if is_sooner(other, one) { next } else { page }
 }
 
-/// Whether an answer to a step is told in place of the one before it.
+/// Whether an answer to a step is reported in place of the one before it.
 fn is_sooner(next: Result<(), Wrong>, answer: Result<(), Wrong>) -> bool
     ensures { result ≡ is_sooner next answer }
 {

@@ -57,7 +57,7 @@ fn count_sent(seen: &Seen<'_>) -> usize
 /// Whether a byte may be programmed over the one that the array has there.
 ///
 /// A program only clears bits, so not where the byte has a 1 and the array a 0 (W25Q256JV
-/// datasheet, Page Program). Under the profile that programs erased bytes alone it may be done over
+/// datasheet, Page Program). Under the profile that programs only erased bytes it may be done over
 /// FFh, whatever the byte, and over nothing else.
 pub fn may_program(meaning: &Meaning, old: u8, byte: u8) -> bool
     ensures { result ≡ may_program meaning.now old byte }

@@ -70,7 +70,7 @@ fn is_broken(what: What) -> bool
     matches!(what, What::Broken)
 }
 
-/// A busy chip takes status reads alone.
+/// A busy chip takes only status reads.
 fn is_status(what: What) -> bool
     ensures { result ≡ is_status what }
 {
@@ -130,7 +130,7 @@ fn is_read(what: What) -> bool
     matches!(what, What::Read | What::QuadRead)
 }
 
-/// How many bytes a read samples; more than any chip has are told as 2^32.
+/// How many bytes a read samples; more than any chip has are reported as 2^32.
 fn count_asked(seen: &Seen<'_>) -> u64
     requires { is_read seen.now.what ≡ true }
     ensures { result ≡ min (instruction_of seen.now).asked (2 ^ 32) }

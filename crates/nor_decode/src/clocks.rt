@@ -1,4 +1,4 @@
-//! What the lanes do at each of some clocks, by the symbols alone: a look at one is a compare or
+//! What the lanes do at each of some clocks, only by the symbols: a look at one is a compare or
 //! two, since a script has millions of them. A test of all of them has no branch, so that many
 //! symbols are looked at at once.
 

@@ -1,7 +1,7 @@
 //! Which instruction the clocks of a transaction are, on a chip with given parameters and in an
 //! address mode.
 //!
-//! [`decode`] looks at the clocks by their lanes alone, as a chip does (W25Q256JV datasheet, SPI
+//! [`decode`] looks at the clocks only by their lanes, as a chip does (W25Q256JV datasheet, SPI
 //! mode 0), at each of them at most twice, and copies none. [`Seen`] borrows the data clocks, and
 //! gives their bytes one by one.
 #![tactic(auto)]

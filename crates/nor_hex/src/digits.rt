@@ -36,7 +36,7 @@ pub(crate) fn pair(digits: &[u8], i: usize) -> u8
     (high % 16 + high / 64 * 9) * 16 + (low % 16 + low / 64 * 9)
 }
 
-/// Decodes the pairs to the front of `bytes`, and answers the sum of what they spell, modulo 256.
+/// Decodes the pairs to the front of `bytes`, and returns the sum of what they spell, modulo 256.
 pub(crate) fn decode(digits: &[u8], bytes: &mut [u8]) -> u8
     requires digits { IsTrue (list_all is_hex_digit digits.now) }
     requires room { length digits.now / 2 ≤ length bytes.old }

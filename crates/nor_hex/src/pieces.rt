@@ -53,8 +53,8 @@ pub(crate) fn add_run<A: Allocator + Clone>(
     Ok(())
 }
 
-/// Adds the first of the bytes, as many as lie in one piece or before the next one, and answers
-/// how many these are.
+/// Adds the first of the bytes, as many as lie in one piece or before the next one, and returns how
+/// many these are.
 fn add_part<A: Allocator + Clone>(
     pieces: &mut Pieces<A>,
     address: u32,

@@ -55,7 +55,7 @@ pub fn read(alloc: Global, text: &[u8]) -> Result<Image, HexFault>
     })
 }
 
-/// Adds what a record with these data bytes says, and answers the base after it: of a data record a
+/// Adds what a record with these data bytes says, and returns the base after it: of a data record a
 /// run up to where the addresses wrap, and one from there on. A byte for an address that has
 /// another byte is `Conflict`.
 fn add_record<A: Allocator + Clone>(

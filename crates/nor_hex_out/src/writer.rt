@@ -14,7 +14,7 @@ const SEGMENT: usize = 1 << 16;
 /// Writes the whole text of bytes from the address `at` on, of which the last is at FFFFFFFFh or
 /// below. Without bytes that is the end record.
 ///
-/// At `Failed` a proper prefix was taken. It comes from the writer alone, whose count of failures
+/// At `Failed` a proper prefix was taken. It comes only from the writer, whose count of failures
 /// rose by one.
 pub fn write_hex<W: ByteOut>(at: u32, bytes: &[u8], out: &mut W) -> Result<(), Failed>
     requires fits { at + length bytes.now ≤ 2 ^ 32 }
@@ -42,7 +42,7 @@ fn room(at: u32) -> usize
 /// Writes the records of bytes from the address `at` on that are all in one segment of 64 KiB: its
 /// upper half, and the data. Without bytes it writes nothing.
 ///
-/// At `Failed` a proper prefix was taken. It comes from the writer alone, whose count of failures
+/// At `Failed` a proper prefix was taken. It comes only from the writer, whose count of failures
 /// rose by one.
 pub fn write_data<W: ByteOut>(at: u32, bytes: &[u8], out: &mut W) -> Result<(), Failed>
     requires inside { at % 65536 + length bytes.now ≤ 65536 }
@@ -81,7 +81,7 @@ fn put_rows<W: ByteOut>(offset: u16, bytes: &[u8], out: &mut W) -> Result<(), Fa
 
 /// Writes the end record.
 ///
-/// At `Failed` a proper prefix was taken. It comes from the writer alone, whose count of failures
+/// At `Failed` a proper prefix was taken. It comes only from the writer, whose count of failures
 /// rose by one.
 pub fn write_end<W: ByteOut>(out: &mut W) -> Result<(), Failed>
     requires { W.count out.old < 2 ^ 64 - 1 }

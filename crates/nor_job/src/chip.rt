@@ -52,7 +52,7 @@ fn uniform(size: u32) -> Result<Meaning, SfdpFault>
     Meaning::uniform(size).ok_or(SfdpFault::Density)
 }
 
-/// The meaning under the profile that programs erased bytes alone, where that is asked for.
+/// The meaning under the profile that programs only erased bytes, where that is asked for.
 fn profiled(meaning: Meaning, erased_only: bool) -> Meaning
     ensures { result ≡ profiled erased_only meaning }
 {

@@ -13,14 +13,14 @@ use thiserror::Error;
 
 /// Why a build is refused.
 ///
-/// Up to `ContentSize` the first in the order below is told, and nothing has been read or written
-/// then. Of `Plan`, `ContentShort`, `Read` and `Write` the first that the work meets is told. A
-/// lower crate's want of memory is `Memory`.
+/// Up to `ContentSize` the first in the order below is reported, and nothing has been read or
+/// written then. Of `Plan`, `ContentShort`, `Read` and `Write` the first that the work meets is
+/// reported. Out of memory in a lower crate is `Memory`.
 #[derive(Clone, Copy, Debug, PartialEq, Eq, Error)]
 pub enum BuildFault {
     /// The inputs contradict one another: 1 regions are named without a layout; 2 a status with
     /// part Generic; 3 a status together with `mode4` or `quad`; 4 a uniform chip of part
-    /// W25q256jv. The first of these is told.
+    /// W25q256jv. The first of these is reported.
     #[error("the inputs contradict one another ({0})")]
     Contradiction(u8),
     /// The image is refused.
@@ -34,10 +34,10 @@ pub enum BuildFault {
     Sfdp(SfdpFault),
     /// The status says that the chip isn't idle and unprotected: 1 it is busy (S0); 2 its write
     /// enable latch is set (S1); 3 an erase or program is suspended (S15); 4 something is or may be
-    /// protected (any of S2 to S5, S14, S18). The first of these is told.
+    /// protected (any of S2 to S5, S14, S18). The first of these is reported.
     #[error("the status refuses a build ({0})")]
     Status(u8),
-    /// Four-byte address mode on a chip with three address bytes alone.
+    /// Four-byte address mode on a chip with only three address bytes.
     #[error("the chip has no four-byte address mode")]
     ModeImpossible,
     /// The length of the content isn't the chip's size.

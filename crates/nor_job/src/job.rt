@@ -94,7 +94,7 @@ fn choose(alloc: Global, inputs: &Inputs<'_>) -> Result<Chosen, BuildFault>
     Ok(layout.choose(alloc, inputs.regions)?)
 }
 
-/// The chip and how it begins. `Sfdp`, `Status` and `ModeImpossible` as [`chip_of`] tells them;
+/// The chip and how it begins. `Sfdp`, `Status` and `ModeImpossible` as [`chip_of`] reports them;
 /// else `ContentSize` where the content's length isn't the chip's size.
 fn sized_chip(inputs: &Inputs<'_>, len: u64) -> Result<(Meaning, Start), BuildFault>
     requires named { (image : Pairs) × (regions : List Region)

@@ -5,7 +5,7 @@ ghost use Rattle.nor_layout.specs.Cause.{fault_of};
 
 use crate::fault::LayoutFault;
 
-/// Why a line is refused. Of the causes that a line has the first in this order is told.
+/// Why a line is refused. Of the causes that a line has the first in this order is reported.
 #[derive(Clone, Copy)]
 pub(crate) enum Cause {
     BadLine,
@@ -16,7 +16,7 @@ pub(crate) enum Cause {
 }
 
 impl Cause {
-    /// The fault that tells this cause and the line's number.
+    /// The fault of this cause and the line's number.
     pub(crate) fn at(self, line: u64) -> LayoutFault
         ensures { result ≡ fault_of self line }
     {

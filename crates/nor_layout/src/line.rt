@@ -51,7 +51,7 @@ pub(crate) fn is_taken(regions: &[Region<'_>], name: &[u8]) -> bool
     regions.iter().any(|region| region.name == name)
 }
 
-/// The region on a line, None where the line is skipped, or why the line alone is refused.
+/// The region on a line, None where the line is skipped, or why that line is refused.
 fn region_on(line: &[u8]) -> Result<Option<Region<'_>>, Cause>
     ensures { result ≡ line_says line.now }
 {

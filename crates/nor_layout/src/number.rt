@@ -21,7 +21,7 @@ pub(crate) fn number(text: &[u8]) -> Option<u32>
     value_of(digits)
 }
 
-/// What stands behind `0x` or `0X`, or all where neither does.
+/// What comes after `0x` or `0X`, or all where neither does.
 fn without_prefix(text: &[u8]) -> &[u8]
     ensures { result.now ≡ digits_of text.now }
 {

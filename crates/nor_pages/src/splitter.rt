@@ -145,7 +145,7 @@ fn last_differing(blank: bool, have: &[u8], want: &[u8], first: usize) -> usize
     last
 }
 
-/// Appends the run that ends at an address, if one does; answers the one that goes on.
+/// Appends the run that ends at an address, if one does; returns the one that goes on.
 fn push_ended<A: Allocator>(
     runs: &mut Vec<Run, A>,
     run: Option<Run>,

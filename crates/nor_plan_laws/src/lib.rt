@@ -54,7 +54,7 @@ pub fn operations()
 {}
 
 /// The smallest block that the strategy reaches at an address, where it reaches that, is the
-/// smallest legal one there, but for its kind. No legal block and no page lies across 2^24.
+/// smallest legal one there, except for its kind. No legal block and no page lies across 2^24.
 pub fn blocks()
     ensures smallest { SmallestAgree }
     ensures blocks { BlocksStay }

@@ -38,7 +38,7 @@ pub fn read_line(line: &[u8]) -> Option<PlanLine>
     read_program(line.strip_prefix(b"program ")?)
 }
 
-/// What stands behind `erase `: a start and a size of eight digits each, and an opcode of two.
+/// What comes after `erase `: a start and a size of eight digits each, and an opcode of two.
 fn read_erase(text: &[u8]) -> Option<PlanLine>
     ensures { result ≡ erase_of text.now }
 {
@@ -52,7 +52,7 @@ fn read_erase(text: &[u8]) -> Option<PlanLine>
     })
 }
 
-/// What stands behind `because `: two addresses of eight digits each.
+/// What comes after `because `: two addresses of eight digits each.
 fn read_because(text: &[u8]) -> Option<PlanLine>
     ensures { result ≡ because_of text.now }
 {
@@ -65,7 +65,7 @@ fn read_because(text: &[u8]) -> Option<PlanLine>
     })
 }
 
-/// What stands behind `program `: an address of eight digits, and a number of bytes in decimal.
+/// What comes after `program `: an address of eight digits, and a number of bytes in decimal.
 fn read_program(text: &[u8]) -> Option<PlanLine>
     ensures { result ≡ program_of text.now }
 {

@@ -26,7 +26,7 @@ impl<T: Drop> From<AllocFailed<T>> for PlanFault {
     }
 }
 
-/// Reads the text of a plan's lines, each closed by LF, without the report that stands behind them.
+/// Reads the text of a plan's lines, each closed by LF, without the report that comes after them.
 /// Of the text of lines just these are answered; of other texts nothing is said.
 ///
 /// `NoPlan` comes only where the text is no plan's, `Memory` where a growth is refused.

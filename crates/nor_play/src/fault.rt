@@ -39,7 +39,7 @@ pub(crate) enum Halt {
 }
 
 impl Halt {
-    /// The fault that tells this and the step's number.
+    /// The fault of this and the step's number.
     pub(crate) fn at(self, step: u64) -> PlayFault
         ensures { result ≡ play_fault self step }
     {

@@ -78,7 +78,7 @@ impl StepPlayer {
         }
     }
 
-    /// Plays a step that sends these clocks, and answers how many transactions it took: 1. The
+    /// Plays a step that sends these clocks, and returns how many transactions it took: 1. The
     /// bytes that the clocks sample are dropped; where they sample none, no memory is taken.
     ///
     /// Fewer than 2^64 - 1 steps were played before. The faults are those of [`play`], with the
@@ -102,7 +102,7 @@ impl StepPlayer {
         self.count(answer)
     }
 
-    /// Plays a step that polls with these clocks until the chip says idle, and answers how many
+    /// Plays a step that polls with these clocks until the chip says idle, and returns how many
     /// transactions it took. No memory is taken.
     ///
     /// Fewer than 2^64 - 1 steps were played before. The faults are those of [`play`], with the
@@ -121,7 +121,7 @@ impl StepPlayer {
         self.count(answer)
     }
 
-    /// Plays a step that sends these clocks and compares the bytes that they sample, and answers
+    /// Plays a step that sends these clocks and compares the bytes that they sample, and returns
     /// how many transactions it took: 1.
     ///
     /// Fewer than 2^64 - 1 steps were played before. The faults are those of [`play`], with the
@@ -148,7 +148,7 @@ impl StepPlayer {
         self.count(answer)
     }
 
-    /// Ends the play, and answers how many transactions there were.
+    /// Ends the play, and returns how many transactions there were.
     ///
     /// `Wrong` of `NotIdleAtEnd`, with the number of steps, where the chip isn't settled. The port
     /// is asked for no transaction.

@@ -21,7 +21,7 @@ pub enum ScriptFault {
     /// A byte among clocks is no symbol.
     #[error("script line {0}: a byte that is no symbol")]
     BadSymbol(u64),
-    /// What stands behind `end ` isn't the number of steps, in decimal without leading zeros.
+    /// What comes after `end ` isn't the number of steps, in decimal without leading zeros.
     #[error("script line {0}: not the number of steps")]
     BadCount(u64),
     /// The text ends before an end line is closed; the line is the one that is missing or unclosed.

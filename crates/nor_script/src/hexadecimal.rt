@@ -36,7 +36,7 @@ pub fn hex_number(number: u32) -> [u8; 8]
 
 /// Puts two lower-case digits for each byte.
 ///
-/// At `Failed` a proper prefix of them was taken; it comes from the writer alone, whose count of
+/// At `Failed` a proper prefix of them was taken; it comes only from the writer, whose count of
 /// failures rose by one.
 pub fn put_hexadecimal<W: ByteOut>(bytes: &[u8], out: &mut W) -> Result<(), Failed>
     requires { W.count out.old < 2 ^ 64 - 1 }

@@ -74,7 +74,7 @@ fn once(kind: Kind, clocks: &[u8]) -> LineParts<'_>
     }
 }
 
-/// Why what stands behind `end ` isn't the number of these steps.
+/// Why what comes after `end ` isn't the number of these steps.
 pub(crate) fn check_count(steps: u64, count: &[u8]) -> Result<(), ScriptFault>
     requires { steps < 2 ^ 63 }
     ensures { result ≡ or_fault (count_fault steps count.now) }
@@ -99,7 +99,7 @@ fn check_clocks(number: u64, clocks: &[u8]) -> Result<(), ScriptFault>
     Ok(())
 }
 
-/// The clocks and the digits that stand behind `v `.
+/// The clocks and the digits that come after `v `.
 fn verify_parts(number: u64, rest: &[u8]) -> Result<(&[u8], &[u8]), ScriptFault>
     ensures read { IfOk result (λ parts. AreVerifyParts rest.now parts.0.now parts.1.now) }
     ensures refused { IfErr result (λ fault. verify_fault number rest.now ≡ Some fault) }

@@ -121,7 +121,7 @@ impl LineBuffer {
         Ok(self.skip_header())
     }
 
-    /// Whether something stands behind the line found, which is looked at last.
+    /// Whether something comes after the line found, which is looked at last.
     pub(crate) fn goes_on<R: ByteIn>(&mut self, source: &mut R) -> Result<bool, ReadFault>
         requires line { IsFirstLine self.old }
         requires count { R.count source.old < 2 ^ 64 - 1 }

@@ -136,7 +136,7 @@ impl StepReader {
 /// Whether all that a device has ahead is a script: the number of its steps. Of a device that
 /// doesn't tell its bytes this is said of some text.
 ///
-/// Else its first fault, as [`crate::read`] tells it; `Device` where the device failed; `Memory`
+/// Else its first fault, as [`crate::read`] reports it; `Device` where the device failed; `Memory`
 /// where a growth is refused, or the script has more than 2^62 steps.
 pub fn count_steps<R: ByteIn>(alloc: Global, source: &mut R) -> Result<u64, ReadFault>
     requires { R.count source.old < 2 ^ 64 - 1 }

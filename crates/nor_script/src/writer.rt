@@ -12,7 +12,7 @@ use nor_base::{ByteOut, Failed, Step, put_all, put_parts};
 
 /// Writes the header line.
 ///
-/// At `Failed` a proper prefix of it was taken; it comes from the writer alone, whose count of
+/// At `Failed` a proper prefix of it was taken; it comes only from the writer, whose count of
 /// failures rose by one.
 pub fn begin<W: ByteOut>(writer: &mut W) -> Result<(), Failed>
     requires { W.count writer.old < 2 ^ 64 - 1 }
@@ -25,7 +25,7 @@ pub fn begin<W: ByteOut>(writer: &mut W) -> Result<(), Failed>
 /// Writes the line of a step that a script may have ([`nor_base::is_step`]): `x CLOCKS`, `p CLOCKS`
 /// or `v CLOCKS HEX`.
 ///
-/// At `Failed` a proper prefix of it was taken; it comes from the writer alone, whose count of
+/// At `Failed` a proper prefix of it was taken; it comes only from the writer, whose count of
 /// failures rose by one.
 pub fn write_step<W: ByteOut>(step: &Step, writer: &mut W) -> Result<(), Failed>
     requires step { is_step step.now ≡ true }
@@ -45,7 +45,7 @@ pub fn write_step<W: ByteOut>(step: &Step, writer: &mut W) -> Result<(), Failed>
 
 /// Writes the line of clocks that are sent: `x CLOCKS`. They are some symbols.
 ///
-/// At `Failed` a proper prefix of it was taken; it comes from the writer alone, whose count of
+/// At `Failed` a proper prefix of it was taken; it comes only from the writer, whose count of
 /// failures rose by one.
 pub fn write_send<W: ByteOut>(clocks: &[u8], writer: &mut W) -> Result<(), Failed>
     requires { W.count writer.old < 2 ^ 64 - 1 }
@@ -59,7 +59,7 @@ pub fn write_send<W: ByteOut>(clocks: &[u8], writer: &mut W) -> Result<(), Faile
 /// Writes the line of clocks that are sent until the chip is idle: `p CLOCKS`. They are some
 /// symbols.
 ///
-/// At `Failed` a proper prefix of it was taken; it comes from the writer alone, whose count of
+/// At `Failed` a proper prefix of it was taken; it comes only from the writer, whose count of
 /// failures rose by one.
 pub fn write_poll<W: ByteOut>(clocks: &[u8], writer: &mut W) -> Result<(), Failed>
     requires { W.count writer.old < 2 ^ 64 - 1 }
@@ -73,7 +73,7 @@ pub fn write_poll<W: ByteOut>(clocks: &[u8], writer: &mut W) -> Result<(), Faile
 /// Writes the line of clocks that read, and of the bytes that they are to read: `v CLOCKS HEX`.
 /// They are some symbols, and some bytes.
 ///
-/// At `Failed` a proper prefix of it was taken; it comes from the writer alone, whose count of
+/// At `Failed` a proper prefix of it was taken; it comes only from the writer, whose count of
 /// failures rose by one.
 pub fn write_verify<W: ByteOut>(clocks: &[u8], expect: &[u8], writer: &mut W) -> Result<(), Failed>
     requires { W.count writer.old < 2 ^ 64 - 1 }
@@ -88,7 +88,7 @@ pub fn write_verify<W: ByteOut>(clocks: &[u8], expect: &[u8], writer: &mut W) ->
 
 /// Writes the end line with the number of steps.
 ///
-/// At `Failed` a proper prefix of it was taken; it comes from the writer alone, whose count of
+/// At `Failed` a proper prefix of it was taken; it comes only from the writer, whose count of
 /// failures rose by one.
 pub fn finish<W: ByteOut>(steps: u64, writer: &mut W) -> Result<(), Failed>
     requires { W.count writer.old < 2 ^ 64 - 1 }

@@ -37,7 +37,7 @@ pub struct Instr<'a> {
 }
 
 impl<'a> Instr<'a> {
-    /// An opcode alone.
+    /// Only an opcode.
     pub(crate) fn bare(op: u8) -> Instr<'a>
         ensures { coded_of result
             ≡ record { op = op; address = 0; width = 0; dummies = 0; load = plain } }

@@ -136,7 +136,7 @@ fn send_ignored<R: ByteIn, W: ByteOut>(from: &mut R, to: &mut W, bytes: &[u8]) -
     exchange(from, to, &[&head, &[READ_STATUS], bytes], &[ACK])
 }
 
-/// Does NOP, and then asks for the word, which is to come alone.
+/// Does NOP, and then asks for the word, which is to come by itself.
 fn end<R: ByteIn, W: ByteOut>(from: &mut R, to: &mut W) -> Result<(), Fault>
     requires room { HaveRoom (R.count from.old) (W.count to.old) }
     ensures does { Exchanges (W.held to.old) (W.held to.new) (R.ahead from.old) (R.ahead from.new)

@@ -18,7 +18,7 @@ use std::io::{Read, Write};
 /// What the chip refuses is never sent. Where the device answers other bytes than the chip, or
 /// none, or can't do the clocks, the port has failed, and fails from then on, without asking the
 /// device: `reason` tells why. The device's busy time is waited out inside a poll, so the chip in
-/// memory is to have none; of the status a poll looks at the busy bit alone.
+/// memory is to have none; of the status a poll looks at only the busy bit.
 #[derive(Drop)]
 pub struct Shadowed<'a, R: Read + Drop, W: Write + Drop> {
     /// The chip in memory.

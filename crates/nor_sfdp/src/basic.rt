@@ -97,7 +97,7 @@ pub(crate) fn page_in(dwords: usize, dword1: u32, dword11: u32) -> Result<Page, 
 }
 
 /// How four-byte address mode is entered or left on a chip of a width, by two bits of DWORD 16: by
-/// the opcode alone, and after a write enable.
+/// only the opcode, and after a write enable.
 #[tactic(auto, unfolding(crate::specs::Basic::switch_of))]
 pub(crate) fn switch(width: Width, plain: bool, latched: bool) -> Switch
     ensures switch { result ≡ switch_of width plain latched }

@@ -3,7 +3,7 @@
 use thiserror::Error;
 
 /// Why SFDP bytes give no meaning that is accepted. The first cause in the order of looking is
-/// told, which isn't that of the numbers.
+/// reported, which isn't that of the numbers.
 #[derive(Clone, Copy, Debug, PartialEq, Eq, Error)]
 pub enum SfdpFault {
     /// 1: the bytes don't begin with `SFDP`.

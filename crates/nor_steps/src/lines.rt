@@ -1,4 +1,4 @@
-//! What becomes of instructions: their lines are written, or they are counted alone.
+//! What becomes of instructions: their lines are written, or they are only counted.
 
 ghost use Rattle.std.specs.Prelude.{◌<◌, ◌-◌, ◌^◌, ℕ, List, Option, None, IfErr};
 ghost use Rattle.nor_base.specs.Device.{Writes};
@@ -46,7 +46,7 @@ impl<W: ByteOut> InstrOut for W {
     }
 }
 
-/// For instructions that are counted alone: it makes no clocks of them and no lines, and never
+/// For instructions that are only counted: it makes no clocks of them and no lines, and never
 /// fails.
 #[derive(Clone, Copy)]
 pub struct Unwritten;

@@ -92,7 +92,7 @@ impl<'m> StepWriter<'m> {
         })
     }
 
-    /// Writes the steps of a read of each page of a block, where the work is verified, and answers
+    /// Writes the steps of a read of each page of a block, where the work is verified, and returns
     /// how many they are.
     fn verify_block<W: InstrOut>(
         &mut self,
@@ -123,7 +123,7 @@ impl<'m> StepWriter<'m> {
         self.write_reads(alloc, page, start, want, out)
     }
 
-    /// Writes the steps of a program of each run, or of a read, and answers how many they are.
+    /// Writes the steps of a program of each run, or of a read, and returns how many they are.
     /// `want` is what the bytes from `start` on must be.
     fn write_runs<W: InstrOut>(
         &mut self,
@@ -162,7 +162,7 @@ impl<'m> StepWriter<'m> {
         Ok(steps)
     }
 
-    /// Writes the steps of a read of each page of a block, and answers how many they are. `want` is
+    /// Writes the steps of a read of each page of a block, and returns how many they are. `want` is
     /// what its bytes must be.
     fn write_reads<W: InstrOut>(
         &mut self,

@@ -62,7 +62,7 @@ impl<'m> StepWriter<'m> {
         self.lowerer.strategy()
     }
 
-    /// Writes the steps of operations, and answers how many they are.
+    /// Writes the steps of operations, and returns how many they are.
     pub(crate) fn write_ops<W: InstrOut>(
         &mut self,
         alloc: Global,
@@ -84,7 +84,7 @@ impl<'m> StepWriter<'m> {
         Ok(instrs.len() as u64)
     }
 
-    /// Writes the steps that leave the mode that was entered, and answers how many they are, at
+    /// Writes the steps that leave the mode that was entered, and returns how many they are, at
     /// most three.
     ///
     /// `Write` where the writer fails, `Memory` where a growth is refused: a beginning of these

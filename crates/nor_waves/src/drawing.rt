@@ -25,7 +25,7 @@ pub(crate) struct Drawing {
 }
 
 impl Drawing {
-    /// Draws steps, and answers how far it is drawn then.
+    /// Draws steps, and returns how far it is drawn then.
     pub(crate) fn put_steps<W: ByteOut>(
         self,
         steps: &[Step],

@@ -77,7 +77,7 @@ fn planned_work_does_the_task()
     run_events();
 }
 
-/// Writes the script of a job, and answers how much it is.
+/// Writes the script of a job, and returns how much it is.
 fn write_script<R: ByteIn, W: ByteOut>(
     alloc: Global,
     job: &Job,
@@ -114,7 +114,7 @@ fn write_script<R: ByteIn, W: ByteOut>(
     }
 }
 
-/// The report of a job of which so much is told.
+/// The report of a job of which so much is reported.
 pub(crate) fn report_of(job: &Job, told: Tally) -> Report
     ensures { result ≡ job_report job.now told }
 {

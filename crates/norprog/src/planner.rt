@@ -61,7 +61,7 @@ pub fn plan<R: ByteIn, W: ByteOut>(
     Ok(report_of(&job, told))
 }
 
-/// Writes the lines of a job, and answers how much its script is.
+/// Writes the lines of a job, and returns how much its script is.
 fn tell_job<R: ByteIn, W: ByteOut>(
     alloc: Global,
     job: &Job,

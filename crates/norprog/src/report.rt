@@ -28,7 +28,7 @@ pub struct Report {
 /// Writes a report: `strategy S2`, `steps n`, `erases n`, `erased n`, `programs n`, `ignored n`, a
 /// line each, closed by LF; numbers in decimal. It takes no memory.
 ///
-/// At `Failed` a proper prefix was taken; it comes from the writer alone, whose count of failures
+/// At `Failed` a proper prefix was taken; it comes only from the writer, whose count of failures
 /// rose by one.
 pub fn write_report<W: ByteOut>(report: &Report, writer: &mut W) -> Result<(), Failed>
     requires { W.count writer.old < 2 ^ 64 - 1 }

@@ -70,7 +70,7 @@ pub(crate) fn write_windows<T: WorkWriter, R: ByteIn, W: ByteOut>(
     Ok(told)
 }
 
-/// Reads a window of the content that begins at an address, and has its text written. Answers how
+/// Reads a window of the content that begins at an address, and has its text written. Returns how
 /// much its steps are.
 ///
 /// Its faults are those of [`write_windows`].

@@ -28,10 +28,10 @@ use norprog_common::{
 use std::alloc::Global;
 
 /// Writes to `out` whether a script does the job on a command line and, where it is asked for, a
-/// chip that shows a no; or a refusal to `err` (docs/FORMATS.md, section 9), and answers the
+/// chip that shows a no; or a refusal to `err` (docs/FORMATS.md, section 9), and returns the
 /// status: 0 it does, 1 it doesn't or is refused, 2 usage.
 ///
-/// Usage is told where the texts ask for no check.
+/// Usage is reported where the texts ask for no check.
 pub fn check<S: FileStore, O: ByteOut, E: ByteOut>(
     alloc: Global,
     store: &S,

@@ -12,7 +12,7 @@ use nor_job::BuildFault;
 use nor_script::ScriptFault;
 use thiserror::Error;
 
-/// Why there is no verdict. Want of memory, also that of the script's reader, is `Build` of
+/// Why there is no verdict. Out of memory, also that of the script's reader, is `Build` of
 /// `BuildFault::Memory`.
 #[derive(Clone, Copy, Debug, PartialEq, Eq, Error)]
 pub enum CheckStop {
@@ -55,8 +55,8 @@ impl From<CheckFault> for CheckStop {
 /// Why there is no verdict on a script that devices tell.
 #[derive(Clone, Copy, Debug, PartialEq, Eq, Error)]
 pub enum StreamStop {
-    /// As it is told of a script in memory: the inputs, the first fault of a text, the content, or
-    /// want of memory.
+    /// As it is reported of a script in memory: the inputs, the first fault of a text, the content,
+    /// or out of memory.
     #[error(transparent)]
     Check(CheckStop),
     /// The device of the first reading failed.

@@ -27,8 +27,8 @@ pub(crate) struct Said {
 
 /// What a checker says that is fed with the steps of a script, each as it comes.
 ///
-/// A fault of the text, or of its device, is told as [`StepReader::advance`] tells it; `Memory`
-/// also where the checker is refused a growth.
+/// A fault of the text, or of its device, is reported as [`StepReader::advance`] reports it;
+/// `Memory` also where the checker is refused a growth.
 pub(crate) fn feed_script<A: ByteIn>(
     alloc: Global,
     checker: StepChecker<'_>,

@@ -116,7 +116,7 @@ fn read_again<A: ByteIn>(
     }
 }
 
-/// What a fault of the first reading is told as.
+/// What a fault of the first reading is reported as.
 fn first_stop(fault: ReadFault) -> StreamStop
     ensures { result ≡ told_first fault }
 {
@@ -126,7 +126,7 @@ fn first_stop(fault: ReadFault) -> StreamStop
     }
 }
 
-/// What a fault of the second reading is told as.
+/// What a fault of the second reading is reported as.
 fn again_stop(fault: ReadFault) -> StreamStop
     ensures { result ≡ told_again fault }
 {

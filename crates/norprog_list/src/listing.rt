@@ -43,7 +43,7 @@ pub fn list_script<R: ByteIn, W: ByteOut>(
     }
 }
 
-/// What is told where the steps aren't all listed.
+/// What is reported where the steps aren't all listed.
 fn refusal_of(stop: Stop) -> Refusal
     ensures { result ≡ told_of stop }
 {

@@ -71,7 +71,7 @@ pub(crate) fn list_steps<R: ByteIn, W: ByteOut>(
     Ok(())
 }
 
-/// Writes the line of a step with its number, and answers the address mode after it.
+/// Writes the line of a step with its number, and returns the address mode after it.
 fn put_step<W: ByteOut>(
     alloc: Global,
     meaning: &Meaning,

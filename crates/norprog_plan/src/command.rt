@@ -84,7 +84,7 @@ fn report_plan<S: FileStore, O: ByteOut>(
     }
 }
 
-/// Prints the lines of a plan and what stands behind them.
+/// Prints the lines of a plan and what comes after them.
 fn print_whole<O: ByteOut>(lines: &[u8], rest: &[u8], out: &mut O) -> Result<u8, Refusal>
     requires { O.count out.old < 2 ^ 64 - 1 }
     ensures status { IfOk result (λ status. status ≡ 0) }
@@ -100,7 +100,7 @@ fn print_whole<O: ByteOut>(lines: &[u8], rest: &[u8], out: &mut O) -> Result<u8,
     }
 }
 
-/// Prints the lines that were told before a refusal, and answers what is to be told: that refusal,
+/// Prints the lines that were told before a refusal, and returns what is to be told: that refusal,
 /// or `Write` where `out` fails.
 fn print_lines<O: ByteOut>(lines: &[u8], refusal: Refusal, out: &mut O) -> Refusal
     requires { O.count out.old < 2 ^ 64 - 1 }

@@ -30,11 +30,11 @@ use std::alloc::Global;
 pub(crate) struct Outline {
     /// The lines of its units, all or those before it stopped.
     pub lines: Vec<u8>,
-    /// What stands behind all of them, or why it stopped.
+    /// What comes after all of them, or why it stopped.
     pub rest: Result<Vec<u8>, Refusal>,
 }
 
-/// What is told besides a plan's lines and its report.
+/// What is reported besides a plan's lines and its report.
 #[derive(Clone, Copy)]
 pub(crate) struct Shows {
     /// How long it takes.
@@ -106,7 +106,7 @@ fn outline_of<S: FileStore, R: ByteIn>(
     }
 }
 
-/// What stands behind the lines of a plan, which is drawn where there is a file for that.
+/// What comes after the lines of a plan, which is drawn where there is a file for that.
 ///
 /// `Write` where that file fails, and `Memory` where a growth is refused.
 fn rest_of<S: FileStore>(
@@ -149,7 +149,7 @@ fn in_memory(fault: BuildFault) -> Refusal
     }
 }
 
-/// What stands behind the lines of a plan: its report, and its times where they are asked for.
+/// What comes after the lines of a plan: its report, and its times where they are asked for.
 /// `Memory` where a growth is refused.
 fn behind_lines(
     alloc: Global,

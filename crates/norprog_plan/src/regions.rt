@@ -18,8 +18,8 @@ use nor_target::{Share, share_of};
 use norprog_common::Refusal;
 use std::alloc::Global;
 
-/// The text that stands behind a plan's lines, with those of the chosen regions where they are
-/// asked for.
+/// The text that comes after a plan's lines, with those of the chosen regions where they are asked
+/// for.
 ///
 /// `Memory` where a growth is refused; else the refusal that stands in the text's place.
 pub(crate) fn with_regions(

@@ -32,7 +32,7 @@ pub(crate) struct Halt {
 /// Has the device do steps that go well on the chip in memory, none of which samples more bytes
 /// than there is room. Those of a row go to the device at once.
 ///
-/// How far it has come is told to `progress`; where that fails nothing changes.
+/// How far it has come is reported to `progress`; where that fails nothing changes.
 pub(crate) fn follow_steps<R: Read + Drop, W: Write + Drop, P: ByteOut>(
     meaning: &Meaning,
     steps: &[Step],

@@ -1,4 +1,4 @@
-//! What is told beside an ending, and its status.
+//! What is reported beside an ending, and its status.
 
 ghost use Rattle.std.specs.Prelude.{◌≡◌, ◌≤◌, ◌<◌, ◌-◌, ◌^◌, false, IfOk, IfErr};
 ghost use Rattle.std.specs.Io.KnownBytes.{Appends};

@@ -19,8 +19,8 @@ use std::alloc::Global;
 /// Plays the steps of a script on a chip, each as it comes, a poll at most `limit` times. The
 /// script is read to its end also where the chip goes wrong.
 ///
-/// Its first fault, as [`StepReader`] tells it; `Device` where the device failed; `Memory` where a
-/// growth is refused.
+/// Its first fault, as [`StepReader`] reports it; `Device` where the device failed; `Memory` where
+/// a growth is refused.
 pub(crate) fn play_text<A: ByteIn>(
     alloc: Global,
     script: &mut A,

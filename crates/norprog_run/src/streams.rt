@@ -129,7 +129,7 @@ fn play_on<A: ByteIn, W: ByteOut>(
     }
 }
 
-/// What a fault of a reading is told as.
+/// What a fault of a reading is reported as.
 fn refusal_of(fault: ReadFault) -> Refusal
     ensures { result ≡ told_of fault }
 {

@@ -16,9 +16,9 @@ use norprog_common::{
 use std::alloc::Global;
 
 /// Writes to `out` what the tables of the chip on a command line mean, or a refusal to `err`
-/// (docs/FORMATS.md, section 9), and answers the status: 0 done, 1 refused, 2 usage.
+/// (docs/FORMATS.md, section 9), and returns the status: 0 done, 1 refused, 2 usage.
 ///
-/// Usage is told where the texts ask for no chip.
+/// Usage is reported where the texts ask for no chip.
 pub fn sfdp<S: FileStore, O: ByteOut, E: ByteOut>(
     alloc: Global,
     store: &S,
@@ -66,7 +66,7 @@ fn report_meaning<S: FileStore, O: ByteOut>(
     }
 }
 
-/// Opens the chip's file, if it has one, and answers the chip's meaning.
+/// Opens the chip's file, if it has one, and returns the chip's meaning.
 fn run_meaning<S: FileStore>(
     alloc: Global,
     store: &S,

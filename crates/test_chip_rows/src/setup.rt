@@ -64,7 +64,7 @@ impl<'a, 'w> Setup<'a, 'w> {
         Ok(true)
     }
 
-    /// Takes a word that stands behind a key.
+    /// Takes a word that comes after a key.
     fn take_value(&mut self, key: &str, word: &'w str) -> io::Result<()> {
         match key {
             "page" => self.page = number(word)?,

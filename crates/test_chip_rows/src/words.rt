@@ -5,7 +5,7 @@ use std::fmt::Write;
 use std::io;
 use test_samples::words::{ODD, number};
 
-/// What stands behind the sign of a line that is handed over.
+/// What comes after the sign of a line that is handed over.
 pub(crate) fn handed<'a>(line: &'a str) -> io::Result<&'a str> {
     if line == ">" {
         return Ok("");

@@ -24,7 +24,7 @@ pub(crate) const ONE_PROGRAM: Report = Report {
     ignored: 0,
 };
 
-/// A script, whole and with its report where the build answers Ok, and cut at a fault. Answers the
+/// A script, whole and with its report where the build answers Ok, and cut at a fault. Returns the
 /// fault.
 fn fault_beside_script(
     rt: &impl Abort,
@@ -54,7 +54,7 @@ pub(crate) fn one_name(alloc: Global) -> Result<Vec<Bytes>, AllocError> {
     Ok(names)
 }
 
-/// Builds the script of one byte by a layout. Answers the fault; the script is whole without one,
+/// Builds the script of one byte by a layout. Returns the fault; the script is whole without one,
 /// and cut at one.
 ///
 /// `AllocError` where its own memory is refused.

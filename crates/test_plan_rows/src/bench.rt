@@ -92,7 +92,7 @@ impl<'b, 'r> Asked<'b, 'r> {
         hexadecimal(self.word(at)?)
     }
 
-    /// What stands behind a key and `=` in one of the words.
+    /// What comes after a key and `=` in one of the words.
     pub(crate) fn value(&self, key: &str) -> Option<&'r str> {
         let mut words = self.words.iter();
         words.find_map(|word| word.strip_prefix(key)?.strip_prefix('='))

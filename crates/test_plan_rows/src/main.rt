@@ -1,8 +1,8 @@
 //! Rows of data on what is read and planned, each with the answer that it is to have.
 //!
-//! Standard input names files of rows, one a line. A row that has another answer is told with its
-//! file and line, and each file with the number of its rows that are as they say. README.md has the
-//! words of the rows.
+//! Standard input names files of rows, one a line. A row that has another answer is reported with
+//! its file and line, and each file with the number of its rows that are as they say. README.md has
+//! the words of the rows.
 #![tactic(auto)]
 
 mod bench;

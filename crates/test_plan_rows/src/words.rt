@@ -71,7 +71,7 @@ fn put_escaped(text: &mut Vec<u8>, line: &str, time: u32) -> io::Result<()> {
     Ok(())
 }
 
-/// Puts what an escape stands for, and answers what stands behind it.
+/// Puts what an escape stands for, and returns what comes after it.
 fn put_escape<'a>(text: &mut Vec<u8>, piece: &'a str, time: u32) -> io::Result<&'a str> {
     let Some((letter, rest)) = piece.split_at_checked(1) else {
         return Ok("");
@@ -92,7 +92,7 @@ fn put_time(text: &mut Vec<u8>, time: u32) -> Result<(), AllocError> {
     text.extend_from_slice(digits.as_bytes())
 }
 
-/// Puts the byte of two digits, and answers what stands behind them.
+/// Puts the byte of two digits, and returns what comes after them.
 fn put_byte<'a>(text: &mut Vec<u8>, rest: &'a str) -> io::Result<&'a str> {
     let (digits, rest) = rest.split_at_checked(2).ok_or(ODD)?;
     text.push(byte(digits)?)?;

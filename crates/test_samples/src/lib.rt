@@ -37,7 +37,7 @@ pub fn open_page_chip() -> Meaning
     }
 }
 
-/// The small chip under the profile that programs erased bytes alone.
+/// The small chip under the profile that programs only erased bytes.
 pub fn erased_only_chip() -> Meaning
     ensures { result ≡ small_erased_only }
 {

@@ -1,4 +1,4 @@
-//! Chips in rows: by their names, and what is told of them.
+//! Chips in rows: by their names, and what is reported of them.
 
 use crate::{
     erased_only_chip, large_chip, latched_chip, legacy_chip, legacy_latched_chip,

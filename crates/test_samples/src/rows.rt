@@ -19,7 +19,7 @@ use std::io;
 pub struct Row<'a> {
     /// The number of its first line, from 1.
     pub line: usize,
-    /// What stands behind `$ `.
+    /// What comes after `$ `.
     pub asked: &'a str,
     /// The lines that are handed over, each with its sign `>`.
     pub given: &'a [&'a str],
