@@ -204,7 +204,7 @@ pub(crate) fn open_device<R: Files>(rt: &R, path: &str) -> Result<(R::File, R::F
 }
 
 /// Whether a regular file of this name is there. None is opened.
-pub(crate) fn is_regular<R: Files>(rt: &R, path: &str) -> bool {
+pub(crate) fn is_regular_file<R: Files>(rt: &R, path: &str) -> bool {
     match fs::metadata(rt, path) {
         Ok(metadata) => metadata.is_file(),
         Err(_) => false,

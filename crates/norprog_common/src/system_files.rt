@@ -4,7 +4,7 @@ ghost use Rattle.norprog_common.specs.FileStore.{DoNotFail};
 
 use crate::faults::{FileName, Refusal};
 use crate::files::{
-    FileId, ScriptFile, create_fresh, create_output, is_regular, open_device, open_error,
+    FileId, ScriptFile, create_fresh, create_output, is_regular_file, open_device, open_error,
     open_input, open_script, read_whole,
 };
 use crate::store::FileStore;
@@ -108,7 +108,7 @@ impl<'a, R: Files> FileStore for SystemFiles<'a, R> {
     }
 
     fn is_regular(&self, path: &str) -> bool {
-        is_regular(self.files, path)
+        is_regular_file(self.files, path)
     }
 
     fn trouble(&self, alloc: Global, path: &str) -> Option<String> {
