@@ -44,5 +44,5 @@ loop-number-preserved g c =
           (ap (map f) (pages_next c.args.page c.args.start c.loop-number.number)
           ∙ map-append f (pages c.args.page c.args.start c.loop-number.number) ((c.args.start + c.loop-number.number * c.args.page) ∷ []));
       few = omega (arith, c.loop-number.invariant.few, c.in_ok-steps.ensures.few);
-      count = c.in_ok-steps.ensures.count ∙ c.loop-number.invariant.count;
+      count = c.in_ok-steps.ensures.fails.0 ∙ c.loop-number.invariant.count;
     }

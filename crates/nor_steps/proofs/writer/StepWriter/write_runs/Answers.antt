@@ -37,5 +37,5 @@ loop-run-preserved g c =
           (c.in_ok-steps.ensures.steps ∙ ap (λ (op : Op). length (next v.streaming (op ∷ []))) is) refl
           (map_one f c.args.runs.now c.loop-run.run-index _ c.loop-run-test.true);
       few = omega (arith, c.loop-run.invariant.few, c.in_ok-steps.ensures.few);
-      count = c.in_ok-steps.ensures.count ∙ c.loop-run.invariant.count;
+      count = c.in_ok-steps.ensures.fails.0 ∙ c.loop-run.invariant.count;
     }

@@ -56,7 +56,7 @@ returns-clause-written g c =
     let v = c.write_runs.new.self in
     let long = ap length c.deref-2.ensures.value in
     let programs : Done c.args.self.now v (g.W.InstrOut.held c.args.out.now) (g.W.InstrOut.held c.write_runs.new.out) (run_ops false start want runs) c.in_ok-programs.programs =
-    record { put = c.in_ok-programs.ensures.lines; state = c.in_ok-programs.ensures.onward; count = c.in_ok-programs.ensures.steps } in
+    record { put = c.in_ok-programs.ensures.lines; state = c.in_ok-programs.ensures.onward; count = c.in_ok-programs.ensures.steps.0 } in
     let wrote : Wrote c.args.self.now c.if-self.self (g.W.InstrOut.held c.args.out.now) (g.W.InstrOut.held c.if-self.out) 1 (page_ops c.args.self.now start runs want)
     (record { steps = c.in_ok-programs.programs + c.if-self.reads; erases = 0; erased = 0; programs = length runs }) =
     elim c.if-self.branch [
@@ -67,14 +67,14 @@ returns-clause-written g c =
           rw (w.self-is, w.out-is, w.reads-is)
           (page_wrote _ _ _ _ _ _ start runs want _ _ programs
           (subst (λ ops. Appends (g.W.InstrOut.held c.write_runs.new.out) (g.W.InstrOut.held w.write_runs-then-self.new.out) (next_lines v ops)) on read.lines)
-          (read.onward ∙ ap (written_on v) on) (read.steps ∙ ap (λ ops. length (next v.streaming ops)) on) c.in_ok-programs.ensures.few (omega (arith, read.few, ap length same))
+          (read.onward ∙ ap (written_on v) on) (read.steps.0 ∙ ap (λ ops. length (next v.streaming ops)) on) c.in_ok-programs.ensures.steps.1 (omega (arith, read.steps.1, ap length same))
           (omega (arith, long, c.in_ok-runs.ensures.within.few, c.requires.few)))
       | else-self w ↦
           let off = sym (ap (λ (w : Writing). w.verify) c.self-2.view_is) ∙ w.if-self.false in
           let none = reads_off v start want runs off in
           rw (w.self-is, w.out-is, w.reads-is)
           (page_wrote _ _ _ _ _ _ start runs want _ _ programs (nothing_read v _ v.verify _ off)
-          (stays_on v ∙ ap (written_on v) none) (ap (λ ops. length (next v.streaming ops)) none) c.in_ok-programs.ensures.few (omega arith)
+          (stays_on v ∙ ap (written_on v) none) (ap (λ ops. length (next v.streaming ops)) none) c.in_ok-programs.ensures.steps.1 (omega arith)
           (omega (arith, long, c.in_ok-runs.ensures.within.few, c.requires.few)))
     ] in
     page_writes _ _ _ _ _ c.in-Page.start _ _ c.in_ok-runs.runs.items c.deref-2.result.now (Ok _) c.in-Page.is c.deref-2.ensures.value c.in_ok-runs.ensures.within

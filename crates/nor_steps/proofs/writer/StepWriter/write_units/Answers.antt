@@ -69,7 +69,7 @@ returns-in_err-one-clause-stopped g c =
     handed_on _ _ c.in_err-one.field-0.0 c.from_residual.ensures.1
     (cut_here c.args.self.now c.loop-unit.self c.write_unit.new.self _ _ _ c.args.at c.args.have.now c.args.want.now c.args.units.now c.loop-unit.unit-index c.unit-item.result _ _ _ _
     c.in_err-one.field-0.0 page c.requires.planned c.loop-unit.invariant.sofar c.unit-item.is c.loop-unit-test.true c.bounds-low.ensures.low c.bounds-low.ensures.high
-    c.in_err-one.ensures.why c.in_err-one.ensures.written)
+    c.in_err-one.ensures.fails.1 c.in_err-one.ensures.written)
 
 pub plus-told-requires-clause-steps : goal.plus-told-requires-clause-steps
 plus-told-requires-clause-steps g c =
@@ -115,7 +115,7 @@ loop-unit-preserved g c =
           next_here c.args.self.now c.loop-unit.self c.write_unit.new.self _ _ _ c.args.at c.args.have.now c.args.want.now c.args.units.now c.loop-unit.unit-index c.unit-item.result _ _ _
           c.loop-unit.told c.in_ok-one.one c.plus-told.result page c.requires.planned c.loop-unit.invariant.sofar c.unit-item.is c.loop-unit-test.true c.bounds-low.ensures.low
           c.bounds-low.ensures.high c.in_ok-one.ensures.written c.plus-told.ensures;
-      count = c.in_ok-one.ensures.count ∙ c.loop-unit.invariant.count;
+      count = c.in_ok-one.ensures.fails.0 ∙ c.loop-unit.invariant.count;
     }
 
 pub returns-clause-written : goal.returns-clause-written
