@@ -25,7 +25,7 @@ returns-in-Err-follow_steps-clause-ends g c =
     stops c.args.port.now.limits c.args.port.now.turns (expectation_of c.args.expected) c.args.meaning.now c.args.access (IsMarked c.args.cells.now) (MarkedSince c.args.cells.now) before between after c.args.steps.now
     c.in-Err-follow_steps.halt.step c.in-Err-follow_steps.halt.why c.requires.steps.0 c.in_default.ensures.begins
     (same_bounds c.args.meaning.now c.args.port.now.limits c.begin.new.port.limits c.args.port.now.turns c.begin.new.port.turns between after c.args.steps.now
-    c.in-Err-follow_steps.halt.step c.in-Err-follow_steps.halt.why c.in_default.ensures.limits c.in_default.ensures.turns c.in-Err-follow_steps.ensures.done)
+    c.in-Err-follow_steps.halt.step c.in-Err-follow_steps.halt.why c.in_default.ensures.kept.1 c.in_default.ensures.kept.2 c.in-Err-follow_steps.ensures.done)
 
 pub mark_wraps-requires : goal.mark_wraps-requires
 mark_wraps-requires g c =
@@ -64,7 +64,7 @@ returns-in-Err-compare_unless_trusted-clause-ends g c =
         between = between;
         begins = c.in_default.ensures.begins;
         does = done_bounds c.args.port.now.limits c.begin.new.port.limits c.args.port.now.turns c.begin.new.port.turns between reached c.args.steps.now
-            c.in_default.ensures.limits c.in_default.ensures.turns c.in_default-follow_steps.ensures.done;
+            c.in_default.ensures.kept.1 c.in_default.ensures.kept.2 c.in_default-follow_steps.ensures.done;
       };
       ends = same_end c.args.port.now.chip.setting c.args.port.now.chip.chip c.requires.steps.0.well.0 c.follow_steps.new.port.chip.chip c.args.steps.now c.requires.steps.0.well.1 ends;
       wary = c.in-Err-compare_unless_trusted.ensures.compared.0;
@@ -94,7 +94,7 @@ returns-in-Ok-clause-ends g c =
         between = between;
         begins = c.in_default.ensures.begins;
         does = done_bounds c.args.port.now.limits c.begin.new.port.limits c.args.port.now.turns c.begin.new.port.turns between reached c.args.steps.now
-            c.in_default.ensures.limits c.in_default.ensures.turns c.in_default-follow_steps.ensures.done;
+            c.in_default.ensures.kept.1 c.in_default.ensures.kept.2 c.in_default-follow_steps.ensures.done;
       };
       back = compares_since c.args.expected.trusted c.args.access c.content.result.now c.args.cells.now c.mark_wraps.new.marks reached after c.mark_wraps.ensures c.content.ensures cells
           c.in-Ok.ensures.compared;

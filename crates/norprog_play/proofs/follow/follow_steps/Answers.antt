@@ -58,11 +58,11 @@ loop-done-preserved g c =
           (goes_through c.args.port.now.limits c.args.port.now.turns now after row rest d one
           (subst (λ (l : List Step). played c.loop-done.port.chip.setting 1 c.loop-done.port.chip.chip l ≡ Ok d) (sym (take-append-drop c.row_of-count.result left ∙ whole))
           (c.loop-done.invariant.rest d goes)));
-      fresh = c.in_default.ensures.fresh;
-      count = c.in_default.ensures.count ∙ c.loop-done.invariant.count;
-      limits = c.in_default.ensures.limits ∙ c.loop-done.invariant.limits;
-      turns = c.in_default.ensures.turns ∙ c.loop-done.invariant.turns;
-      room = c.in_default.ensures.room ∙ c.loop-done.invariant.room;
+      fresh = c.in_default.ensures.failures.1;
+      count = c.in_default.ensures.failures.2 ∙ c.loop-done.invariant.count;
+      limits = c.in_default.ensures.kept.0 ∙ c.loop-done.invariant.limits;
+      turns = c.in_default.ensures.kept.1 ∙ c.loop-done.invariant.turns;
+      room = c.in_default.ensures.kept.2 ∙ c.loop-done.invariant.room;
       told = c.row_done.ensures;
     }
 
