@@ -14,8 +14,8 @@ loop-preserved g c =
     let ok = c.in_ok-status.ensures in
     record {
       busy = waits_on c.loop.counter c.in_ok-status.status c.loop.invariant.busy ok.register (sym c.ends_wait.ensures ∙ c.if-ends_wait.false);
-      reads = ok.reads ∙ c.loop.invariant.reads;
-      writes = ok.writes ∙ c.loop.invariant.writes;
+      reads = ok.counts.0 ∙ c.loop.invariant.reads;
+      writes = ok.counts.1 ∙ c.loop.invariant.writes;
     }
 
 pub returns-in_err-status-clause-settles : goal.returns-in_err-status-clause-settles

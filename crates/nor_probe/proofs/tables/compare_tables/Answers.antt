@@ -23,8 +23,8 @@ loop-done-preserved g c =
       within = within;
       compared = piece_more c.args.limits.now c.args.tables.now (slice_range c.args.tables.now c.loop-done.done (c.loop-done.done + c.min-len.result)) c.loop-done.done
           c.min-len.result within refl some few c.loop-done.invariant.compared ok.compared;
-      reads = ok.reads ∙ c.loop-done.invariant.reads;
-      writes = ok.writes ∙ c.loop-done.invariant.writes;
+      reads = ok.counts.0 ∙ c.loop-done.invariant.reads;
+      writes = ok.counts.1 ∙ c.loop-done.invariant.writes;
     }
 
 pub returns-in-Err-clause-compared : goal.returns-in-Err-clause-compared
