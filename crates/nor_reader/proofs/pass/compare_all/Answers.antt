@@ -22,8 +22,8 @@ loop-done-preserved g c =
       alike = again_more (g.W.ByteOut.held c.args.to.now) (g.W.ByteOut.held c.loop-done.to) (g.W.ByteOut.held c.compare_piece.new.to) (g.R.ByteIn.ahead c.args.from.now)
           (g.R.ByteIn.ahead c.loop-done.from) (g.R.ByteIn.ahead c.compare_piece.new.from) c.args.by c.args.bytes.now c.loop-done.done c.min-len.result within some
           c.loop-done.invariant.alike ok.read;
-      reads = ok.reads ∙ c.loop-done.invariant.reads;
-      writes = ok.writes ∙ c.loop-done.invariant.writes;
+      reads = ok.counts.0 ∙ c.loop-done.invariant.reads;
+      writes = ok.counts.1 ∙ c.loop-done.invariant.writes;
     }
 
 pub returns-in-Err-clause-again : goal.returns-in-Err-clause-again
