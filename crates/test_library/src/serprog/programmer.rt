@@ -1,7 +1,7 @@
 //! A serprog device with a chip in memory, which does what it is asked up to a command, or a byte that it gives, at which something
 //! goes wrong.
 
-ghost use Rattle.std.specs.Prelude.{◌≤◌, length, IfOk};
+ghost use Rattle.std.specs.Prelude.{◌<◌, ◌≤◌, length, IfOk};
 
 use crate::serprog::memory::Memory;
 use std::alloc::{AllocError, Global};
@@ -143,27 +143,26 @@ impl Programmer {
     {
         let (_, rest) = self.answer.split_at(self.given.min(self.answer.len()));
         let count = rest.len().min(buf.len()).min(self.right());
+        if count == 0 && !rest.is_empty() && !buf.is_empty() {
+            let byte = rest[0];
+            return self.slip(byte, buf);
+        }
         buf[..count].copy_from_slice(&rest[..count]);
         self.given = self.given.saturating_add(count);
         self.bytes = self.bytes.saturating_add(count);
-        match (rest.first(), buf.first_mut()) {
-            (Some(byte), Some(place)) if count == 0 => {
-                let byte = *byte;
-                self.slip(byte, place)
-            }
-            _ => Ok(count),
-        }
+        Ok(count)
     }
 
     /// Gives the byte at which something goes wrong, where it does give one: in place of this one.
-    fn slip(&mut self, byte: u8, place: &mut u8) -> io::Result<usize>
-        ensures within { IfOk result (λ count. count ≤ 1) }
+    fn slip(&mut self, byte: u8, buf: &mut [u8]) -> io::Result<usize>
+        requires room { 0 < length buf.old }
+        ensures within { IfOk result (λ count. count ≤ length buf.old) }
     {
         self.met = true;
         match self.fault {
             Some(Fault::Byte(Slip::Fails, _)) => Err(io::ErrorKind::TimedOut.into()),
             Some(Fault::Byte(Slip::Lies, _)) => {
-                *place = byte ^ 1;
+                buf[0] = byte ^ 1;
                 self.given = self.given.saturating_add(1);
                 self.bytes = self.bytes.saturating_add(1);
                 Ok(1)
