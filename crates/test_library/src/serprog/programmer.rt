@@ -1,5 +1,5 @@
-//! A serprog device with a chip in memory, which does what it is asked up to a command, or a byte that it gives, at which something
-//! goes wrong.
+//! A serprog device with a chip in memory, which does what it is asked up to a command, or a byte
+//! that it gives, at which something goes wrong.
 
 ghost use Rattle.std.specs.Prelude.{◌<◌, ◌≤◌, length, IfOk};
 
@@ -137,7 +137,8 @@ impl Programmer {
         }
     }
 
-    /// Gives the next bytes of its answer, as many as there are and have room, up to where something goes wrong.
+    /// Gives the next bytes of its answer, as many as there are and have room, up to where something
+    /// goes wrong.
     fn give(&mut self, buf: &mut [u8]) -> io::Result<usize>
         ensures within { IfOk result (λ count. count ≤ length buf.old) }
     {

@@ -1,4 +1,4 @@
-//! Work that stops at each of its commands, or at each byte that comes, and is taken up again to the end.
+//! Work that stops at each command or each byte that comes, and is taken up again to the end.
 
 ghost use Rattle.std.specs.Prelude.{◌≡◌, true};
 
@@ -157,7 +157,8 @@ fn resumes(rt: &impl Abort, alloc: Global, array: Vec<u8>, saved: &[u8]) -> Resu
     Ok(())
 }
 
-/// Stops the job by a fault of the device's, and takes it up again: how it stopped. None where it ends before that fault.
+/// Stops the job by a fault of the device's, and takes it up again: how it stopped. None where it
+/// ends before that fault.
 fn stops(rt: &impl Abort, alloc: Global, fault: Fault) -> Result<Option<Stop>, Fail> {
     let chip = Memory::new(held(alloc, 8192, &HELD)?, Vec::new(alloc));
     let bench = flashed(alloc, chip, Some(fault), &job_for(&[]))?;
@@ -208,8 +209,8 @@ fn work_that_stopped_is_resumed(rt: HostRuntime) -> Result<(), Fail> {
     Ok(())
 }
 
-/// The places of the bytes to stop at, counted from 1: of an answer of more than 64 bytes the ACK, the first byte of content, a
-/// middle one and the last; each of any other.
+/// The places of the bytes to stop at, counted from 1: of an answer of more than 64 bytes the ACK,
+/// the first byte of content, a middle one and the last; each of any other.
 fn places(alloc: Global, lengths: &[usize]) -> Result<Vec<usize>, AllocError> {
     let mut places = Vec::new(alloc);
     let mut before = 0usize;
@@ -253,7 +254,8 @@ const STOPPED: Counts = Counts {
     done: 1,
 };
 
-/// Bytes whose lowest bit changes nothing: those of the first `15 06`, the commands, three limits, an idle status.
+/// Bytes whose lowest bit changes nothing: those of the first `15 06`, the commands, three limits,
+/// an idle status.
 const UNSEEN: u32 = 2 + 32 + 8 + 1;
 
 /// Of each poll the first two answers: the third says idle.
