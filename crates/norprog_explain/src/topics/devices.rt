@@ -122,12 +122,13 @@ pub(crate) const TOPICS: &[Topic] = &[
         "The number after `at` is the step, from 0, that the device didn't do.\n\
          `carried`: the step needs four lanes, or more bytes than the device takes. No\n\
          step was sent: build without --quad, and with bit 9 of --status as 0. Else the\n\
-         steps before it are done, and it may be done in part: `nak` the device refused\n\
-         it, `silent` no answer came, `read` or `write` failed, `differs` another byte\n\
-         came than `want`. Where the number is that of all steps, all were sent, and\n\
-         then the chip was read back: at the address it doesn't hold what it must. If no\n\
-         step touches that address, the chip is smaller than --uniform says, or an erase\n\
-         of it takes more than it should. Ask for `the chip`.",
+         steps before it are done, and of it and of up to two steps after it the chip\n\
+         may have done some: `nak` the device refused it, `silent` no answer came,\n\
+         `read` or `write` failed, `differs` another byte came than `want`. Where the\n\
+         number is that of all steps, all were sent, and then the chip was read back:\n\
+         at the address it doesn't hold what it must. If no step touches that address,\n\
+         the chip is smaller than --uniform says, or an erase of it takes more than it\n\
+         should. Ask for `the chip`.",
     ),
     (
         "the chip",

@@ -4,7 +4,7 @@ ghost use Rattle.std.specs.Prelude.{◌≡◌, true};
 
 use crate::serprog::canned::{End, Held};
 use crate::serprog::memory::Memory;
-use crate::serprog::programmer::{FromProgrammer, Programmer, ToProgrammer, Trouble};
+use crate::serprog::programmer::{Fault, FromProgrammer, Programmer, ToProgrammer};
 use crate::serprog::store::Store;
 use nor_base::{FromRead, IntoWrite};
 use norprog_flash::{Ending, Job, Unflashed, flash_opened};
@@ -20,16 +20,16 @@ pub(crate) struct Bench {
     pub(crate) plan: Vec<u8>,
 }
 
-/// Does a job on a chip, with a trouble at one of the device's commands.
+/// Does a job on a chip, with a fault of the device's.
 pub(crate) fn flashed(
     alloc: Global,
     chip: Memory,
-    trouble: Option<(Trouble, usize)>,
+    fault: Option<Fault>,
     job: &Job<'_>,
 ) -> Result<Bench, AllocError>
     requires whole { job.now.ask.content ≡ true }
 {
-    let device = Cell::new(Some(Programmer::new(alloc, chip, trouble)));
+    let device = Cell::new(Some(Programmer::new(alloc, chip, fault)));
     let saved = Cell::new(Vec::new(alloc));
     let (ended, plan) = flashed_by(alloc, &device, &saved, job);
     match device.replace(None) {

@@ -1,6 +1,7 @@
-//! A serprog device with a chip in memory, which does what it is asked up to a command at which something goes wrong.
+//! A serprog device with a chip in memory, which does what it is asked up to a command, or a byte
+//! that it gives, at which something goes wrong.
 
-ghost use Rattle.std.specs.Prelude.{◌≤◌, length};
+ghost use Rattle.std.specs.Prelude.{◌<◌, ◌≤◌, length, IfOk};
 
 use crate::serprog::memory::Memory;
 use std::alloc::{AllocError, Global};
@@ -22,35 +23,56 @@ pub(crate) enum Trouble {
     Torn,
 }
 
+/// What goes wrong at a byte that it gives.
+#[derive(Clone, Copy, PartialEq, Eq, Debug, Drop)]
+pub(crate) enum Slip {
+    /// Reading from it fails, from then on.
+    Fails,
+    /// The lowest bit of the byte is the other one.
+    Lies,
+    /// Neither it nor a later one comes.
+    Silent,
+}
+
+/// Where something goes wrong, counted from 1: at a command, or at a byte of all that it gives.
+#[derive(Clone, Copy, PartialEq, Eq, Debug, Drop)]
+pub(crate) enum Fault {
+    Command(Trouble, usize),
+    Byte(Slip, usize),
+}
+
 /// A device that offers 01h, 02h, 04h, 08h, 10h to 13h and 15h, takes 300 bytes before it answers, sends 129 in an operation, and gives 65536.
 #[derive(Drop)]
 pub(crate) struct Programmer {
     pub(crate) chip: Memory,
-    /// What goes wrong, and at which command, counted from 1.
-    trouble: Option<(Trouble, usize)>,
-    /// The commands that came.
-    pub(crate) commands: usize,
+    fault: Option<Fault>,
+    /// Whether it came to where something goes wrong.
+    pub(crate) met: bool,
+    commands: usize,
     silent: bool,
     command: Vec<u8>,
     answer: Vec<u8>,
     /// How many bytes of the answer were given.
     given: usize,
+    /// How many bytes were given of all answers.
+    bytes: usize,
+    /// How many bytes each command has for an answer.
+    pub(crate) lengths: Vec<usize>,
 }
 
 impl Programmer {
-    pub(crate) fn new(
-        alloc: Global,
-        chip: Memory,
-        trouble: Option<(Trouble, usize)>,
-    ) -> Programmer {
+    pub(crate) fn new(alloc: Global, chip: Memory, fault: Option<Fault>) -> Programmer {
         Programmer {
             chip,
-            trouble,
+            fault,
+            met: false,
             commands: 0,
             silent: false,
             command: Vec::new(alloc),
             answer: Vec::new(alloc),
             given: 0,
+            bytes: 0,
+            lengths: Vec::new(alloc),
         }
     }
 
@@ -65,17 +87,20 @@ impl Programmer {
             self.answer.clear();
             self.given = 0;
         }
-        match self.trouble {
-            Some((trouble, at)) if at == self.commands => self.fail(trouble)?,
+        let before = self.answer.len();
+        match self.fault {
+            Some(Fault::Command(trouble, at)) if at == self.commands => self.fail(trouble)?,
             _ => reply(&self.command, &mut self.chip, &mut self.answer)?,
         }
         self.command.clear();
+        self.lengths.push(self.answer.len().saturating_sub(before))?;
         Ok(())
     }
 
     /// Does a command with this trouble.
     fn fail(&mut self, trouble: Trouble) -> Result<(), AllocError> {
         let before = self.chip.array.clone()?;
+        self.met = true;
         self.silent = !matches!(trouble, Trouble::Nak | Trouble::Lies);
         match trouble {
             Trouble::Nak => {
@@ -102,15 +127,49 @@ impl Programmer {
         Ok(())
     }
 
-    /// Gives the next bytes of its answer, as many as there are and have room.
-    fn give(&mut self, buf: &mut [u8]) -> usize
-        ensures within { result ≤ length buf.old }
+    /// How many bytes it gives before the one at which something goes wrong.
+    fn right(&self) -> usize {
+        match self.fault {
+            Some(Fault::Byte(_, at)) if self.bytes < at => {
+                at.saturating_sub(self.bytes).saturating_sub(1)
+            }
+            _ => usize::MAX,
+        }
+    }
+
+    /// Gives the next bytes of its answer, as many as there are and have room, up to where something
+    /// goes wrong.
+    fn give(&mut self, buf: &mut [u8]) -> io::Result<usize>
+        ensures within { IfOk result (λ count. count ≤ length buf.old) }
     {
         let (_, rest) = self.answer.split_at(self.given.min(self.answer.len()));
-        let count = rest.len().min(buf.len());
+        let count = rest.len().min(buf.len()).min(self.right());
+        if count == 0 && !rest.is_empty() && !buf.is_empty() {
+            let byte = rest[0];
+            return self.slip(byte, buf);
+        }
         buf[..count].copy_from_slice(&rest[..count]);
         self.given = self.given.saturating_add(count);
-        count
+        self.bytes = self.bytes.saturating_add(count);
+        Ok(count)
+    }
+
+    /// Gives the byte at which something goes wrong, where it does give one: in place of this one.
+    fn slip(&mut self, byte: u8, buf: &mut [u8]) -> io::Result<usize>
+        requires room { 0 < length buf.old }
+        ensures within { IfOk result (λ count. count ≤ length buf.old) }
+    {
+        self.met = true;
+        match self.fault {
+            Some(Fault::Byte(Slip::Fails, _)) => Err(io::ErrorKind::TimedOut.into()),
+            Some(Fault::Byte(Slip::Lies, _)) => {
+                buf[0] = byte ^ 1;
+                self.given = self.given.saturating_add(1);
+                self.bytes = self.bytes.saturating_add(1);
+                Ok(1)
+            }
+            _ => Ok(0),
+        }
     }
 }
 
@@ -169,9 +228,9 @@ impl<'a> io::Read for FromProgrammer<'a> {
     fn read(&mut self, buf: &mut [u8]) -> io::Result<usize> {
         match self.0.replace(None) {
             Some(mut device) => {
-                let count = device.give(buf);
+                let given = device.give(buf);
                 let _ = self.0.replace(Some(device));
-                Ok(count)
+                given
             }
             None => Ok(0),
         }

@@ -1,16 +1,16 @@
-//! Work that stops at each of its commands, and is taken up again to the end.
+//! Work that stops at each command or each byte that comes, and is taken up again to the end.
 
 ghost use Rattle.std.specs.Prelude.{◌≡◌, true};
 
 use crate::same::{holds, same};
 use crate::serprog::bench::{Bench, flashed};
 use crate::serprog::memory::Memory;
-use crate::serprog::programmer::Trouble;
+use crate::serprog::programmer::{Fault, Slip, Trouble};
 use crate::serprog::strategies::held;
 use nor_base::Part;
 use norprog_flash::{Ending, Job, Unflashed};
 use norprog_read::{Ask, Known};
-use std::alloc::Global;
+use std::alloc::{AllocError, Global};
 use std::process::Abort;
 use std::test::Fail;
 
@@ -39,12 +39,20 @@ enum Stop {
 }
 
 /// How many stops there were of each kind.
-#[derive(Clone, Copy)]
+#[derive(Clone, Copy, PartialEq, Eq, Debug, Drop)]
 struct Counts {
     early: u32,
     middle: u32,
     late: u32,
+    done: u32,
 }
+
+const NONE: Counts = Counts {
+    early: 0,
+    middle: 0,
+    late: 0,
+    done: 0,
+};
 
 impl Counts {
     /// With one more.
@@ -62,7 +70,10 @@ impl Counts {
                 late: self.late.saturating_add(1),
                 ..self
             },
-            Stop::Done => self,
+            Stop::Done => Counts {
+                done: self.done.saturating_add(1),
+                ..self
+            },
         }
     }
 }
@@ -146,18 +157,14 @@ fn resumes(rt: &impl Abort, alloc: Global, array: Vec<u8>, saved: &[u8]) -> Resu
     Ok(())
 }
 
-/// Stops the job so at a command, and takes it up again: how it stopped. None where it ends before that command.
-fn stops(
-    rt: &impl Abort,
-    alloc: Global,
-    trouble: Trouble,
-    at: usize,
-) -> Result<Option<Stop>, Fail> {
+/// Stops the job by a fault of the device's, and takes it up again: how it stopped. None where it
+/// ends before that fault.
+fn stops(rt: &impl Abort, alloc: Global, fault: Fault) -> Result<Option<Stop>, Fail> {
     let chip = Memory::new(held(alloc, 8192, &HELD)?, Vec::new(alloc));
-    let bench = flashed(alloc, chip, Some((trouble, at)), &job_for(&[]))?;
+    let bench = flashed(alloc, chip, Some(fault), &job_for(&[]))?;
     let stop = stop_of(rt, &bench.ended);
     fits(rt, alloc, &bench, stop)?;
-    if bench.device.commands < at {
+    if !bench.device.met {
         same(rt, "without a trouble", stop, Stop::Done);
         return Ok(None);
     }
@@ -168,14 +175,10 @@ fn stops(
 
 /// Stops the job so at each of its commands, and takes it up again. There are stops before the steps, in them, and after them.
 fn stops_at_each(rt: &impl Abort, alloc: Global, trouble: Trouble) -> Result<(), Fail> {
-    let mut counts = Counts {
-        early: 0,
-        middle: 0,
-        late: 0,
-    };
+    let mut counts = NONE;
     let mut ended = false;
     for at in 1..=200 {
-        match stops(rt, alloc, trouble, at)? {
+        match stops(rt, alloc, Fault::Command(trouble, at))? {
             Some(stop) => counts = counts.and(stop),
             None => {
                 ended = true;
@@ -202,6 +205,85 @@ static TROUBLES: [Trouble; 5] = [
 fn work_that_stopped_is_resumed(rt: HostRuntime) -> Result<(), Fail> {
     for trouble in &TROUBLES {
         stops_at_each(&rt, rt.alloc(), *trouble)?;
+    }
+    Ok(())
+}
+
+/// The places of the bytes to stop at, counted from 1: of an answer of more than 64 bytes the ACK,
+/// the first byte of content, a middle one and the last; each of any other.
+fn places(alloc: Global, lengths: &[usize]) -> Result<Vec<usize>, AllocError> {
+    let mut places = Vec::new(alloc);
+    let mut before = 0usize;
+    for length in lengths {
+        places_of(*length, before, &mut places)?;
+        before = before.saturating_add(*length);
+    }
+    Ok(places)
+}
+
+/// Those of an answer of a length, after a number of bytes.
+fn places_of(length: usize, before: usize, places: &mut Vec<usize>) -> Result<(), AllocError> {
+    for place in 1..=length {
+        if length <= 64 || place <= 2 || place == length / 2 || place == length {
+            places.push(before.saturating_add(place))?;
+        }
+    }
+    Ok(())
+}
+
+/// Stops the job so at each of these bytes, and takes it up again.
+fn slips(rt: &impl Abort, alloc: Global, places: &[usize], slip: Slip) -> Result<Counts, Fail> {
+    let mut counts = NONE;
+    for at in places {
+        if let Some(stop) = stops(rt, alloc, Fault::Byte(slip, *at))? {
+            counts = counts.and(stop);
+        }
+    }
+    Ok(counts)
+}
+
+/// How the job stops at the bytes that come, where each is seen.
+const STOPPED: Counts = Counts {
+    // the handshake, the test of the line, the status, the identification and a reading, each twice
+    early: 51 + 8 + 2 + 2 * 4 + 2 * 4,
+    // an erase and two programs with their polls, sixteen pages, a byte
+    middle: 3 * 8 + 16 * 4 + 2,
+    // the reading after them
+    late: 4,
+    // letting the pins go, which changes nothing
+    done: 1,
+};
+
+/// Bytes whose lowest bit changes nothing: those of the first `15 06`, the commands, three limits,
+/// an idle status.
+const UNSEEN: u32 = 2 + 32 + 8 + 1;
+
+/// Of each poll the first two answers: the third says idle.
+const UNSEEN_IN_POLLS: u32 = 3 * 2;
+
+static SLIPS: [(Slip, Counts); 3] = [
+    (Slip::Fails, STOPPED),
+    (Slip::Silent, STOPPED),
+    (
+        Slip::Lies,
+        Counts {
+            early: STOPPED.early - UNSEEN,
+            middle: STOPPED.middle - UNSEEN_IN_POLLS,
+            late: STOPPED.late,
+            done: STOPPED.done + UNSEEN + UNSEEN_IN_POLLS,
+        },
+    ),
+];
+
+#[test]
+fn work_that_stopped_at_a_byte_is_resumed(rt: HostRuntime) -> Result<(), Fail> {
+    let alloc = rt.alloc();
+    let chip = Memory::new(held(alloc, 8192, &HELD)?, Vec::new(alloc));
+    let bench = flashed(alloc, chip, None, &job_for(&[]))?;
+    let places = places(alloc, bench.device.lengths.as_slice())?;
+    for (slip, want) in &SLIPS {
+        let counts = slips(&rt, alloc, places.as_slice(), *slip)?;
+        same(&rt, "how the job stops", counts, *want);
     }
     Ok(())
 }
