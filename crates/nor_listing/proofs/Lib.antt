@@ -8,3 +8,4 @@ mod TakenLemmas
 mod TailLemmas
 mod ViewLemmas
 mod LawLemmas
+mod ReadLemmas
