@@ -110,7 +110,7 @@ fn wants_chip(command: &str) -> bool
 {
     !matches!(
         command,
-        "read" | "flash" | "draw" | "hex" | "script" | "explain"
+        "read" | "flash" | "draw" | "hex" | "explain"
     )
 }
 
