@@ -67,11 +67,12 @@ abbrev pub refusal_of : LogFault → Refusal
 refusal_of (log.BadLine n) = Line n
 refusal_of log.Memory = Build fault.Memory
 
+-- that of a listing, as well
 abbrev pub refusal_for : ListFault → Refusal
 refusal_for (listing.BadLine n) = Line n
 refusal_for listing.Memory = Build fault.Memory
 
--- a line of a listing at fault
+-- a line of a listing is at fault, by the chip and from its first address mode on
 pub record HasBadLine (t : Task) (text : List ℕ) (n : ℕ) : Type 0 where
   pub m : Parameters
   pub known : IsKnown t m

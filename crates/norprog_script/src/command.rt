@@ -89,11 +89,11 @@ fn run_listing<S: FileStore>(
 {
     let mut places = Vec::new(alloc);
     let tables = noted_tables(alloc, store, setup.chip, &mut places)?;
-    let (log, place) = store.read(alloc, request.log, FileName::Log)?;
+    let (listing, place) = store.read(alloc, request.log, FileName::Log)?;
     places.push(place)?;
     let mut out = store.create(alloc, request.out, FileName::Out, places.as_slice())?;
     let inputs = setup_inputs(setup, tables.as_slice());
-    let answer = script_listing(alloc, &inputs, log.as_slice(), &mut out);
+    let answer = script_listing(alloc, &inputs, listing.as_slice(), &mut out);
     let flushed = store.flush(&mut out);
     done(answer, flushed)
 }
