@@ -9,3 +9,8 @@ mod TailLemmas
 mod ViewLemmas
 mod LawLemmas
 mod ReadLemmas
+mod PartLemmas
+mod NumberLemmas
+mod ToldLemmas
+mod CopyLemmas
+mod SpellLemmas

@@ -7,6 +7,7 @@ use Rattle.std.proofs.lemmas.Bool.{lt-ltb}
 use Rattle.nor_base.specs.Array.{are_bytes}
 use Rattle.nor_base.proofs.ListLaws.{all_append}
 use Rattle.nor_base.specs.declared.step.Step.{Step}
+use Rattle.nor_laws.proofs.ScriptLaws.{Small}
 use Rattle.nor_base.specs.Parameters.{Parameters}
 use Rattle.nor_base.specs.Script.{closed, end_line}
 use Rattle.nor_listing.specs.Law.{IsListable, AreListable}
@@ -131,3 +132,7 @@ number_on n text digits rest same front None none =
     λ words is. none words (append_cancel_left digits rest (codes " " ++ words) (sym front ∙ is ∙ ap (λ d. d ++ (codes " " ++ words)) (sym same)))
 number_on n text digits rest same front (Some words) blank =
     front ∙ ap (λ d. d ++ rest) same ∙ ap (λ l. decimal n ++ l) blank
+
+pub all_bytes_of : (xs : List ℕ) → Small xs → are_bytes xs ≡ true
+all_bytes_of [] small = refl
+all_bytes_of (x ∷ xs) small = rw (lt-ltb x 256 small.0, all_bytes_of xs small.1) refl

@@ -1,10 +1,15 @@
-//! Numbers and bytes of a line. What they give for digits of another form isn't said: the line is compared afterwards.
+//! Numbers and bytes of a line.
+
+ghost use Rattle.std.specs.Prelude.{◌≡◌, IfOk, option_map};
+ghost use Rattle.nor_listing.specs.Parts.{byte_in, number_in, bytes_in, decimal_in};
 
 use hex::FromHexError;
 use std::alloc::{AllocError, Global};
 
 /// The byte of two digits.
-pub(crate) fn byte_of(digits: &[u8]) -> Option<u8> {
+pub(crate) fn byte_of(digits: &[u8]) -> Option<u8>
+    ensures { result ≡ byte_in digits.now }
+{
     let mut bytes = [0; 1];
     match hex::decode_to_slice(digits, &mut bytes) {
         Ok(()) => Some(bytes[0]),
@@ -13,7 +18,9 @@ pub(crate) fn byte_of(digits: &[u8]) -> Option<u8> {
 }
 
 /// The number of eight digits.
-pub(crate) fn number_of(digits: &[u8]) -> Option<u32> {
+pub(crate) fn number_of(digits: &[u8]) -> Option<u32>
+    ensures { result ≡ number_in digits.now }
+{
     let mut bytes = [0; 4];
     match hex::decode_to_slice(digits, &mut bytes) {
         Ok(()) => Some(u32::from_be_bytes(bytes)),
@@ -22,7 +29,9 @@ pub(crate) fn number_of(digits: &[u8]) -> Option<u32> {
 }
 
 /// The bytes of pairs of digits.
-pub(crate) fn bytes_of(alloc: Global, digits: &[u8]) -> Result<Option<Vec<u8>>, AllocError> {
+pub(crate) fn bytes_of(alloc: Global, digits: &[u8]) -> Result<Option<Vec<u8>>, AllocError>
+    ensures { IfOk result (λ found. option_map (λ v. v.items) found ≡ bytes_in digits.now) }
+{
     match hex::decode(alloc, digits) {
         Ok(bytes) => Ok(Some(bytes)),
         Err(FromHexError::OutOfMemory) => Err(AllocError),
@@ -31,7 +40,9 @@ pub(crate) fn bytes_of(alloc: Global, digits: &[u8]) -> Result<Option<Vec<u8>>, 
 }
 
 /// The value of decimal digits; None where a byte is none, or the value has more than 64 bits.
-pub(crate) fn decimal_of(digits: &[u8]) -> Option<u64> {
+pub(crate) fn decimal_of(digits: &[u8]) -> Option<u64>
+    ensures { result ≡ decimal_in digits.now }
+{
     let mut value: u64 = 0;
     for byte in digits {
         let digit = char::from(*byte).to_digit(10)?;

@@ -15,6 +15,7 @@ mod law;
 mod line;
 mod listable;
 mod memory;
+mod parts;
 mod reader;
 mod sent;
 mod told;
