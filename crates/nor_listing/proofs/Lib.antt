@@ -14,3 +14,6 @@ mod NumberLemmas
 mod ToldLemmas
 mod CopyLemmas
 mod SpellLemmas
+mod FindLemmas
+mod NoneLemmas
+mod FeedLemmas

@@ -1,8 +1,8 @@
 -- What is spelled is read back.
-use Rattle.std.proofs.Common.{◌≡◌, ℕ, zero, suc, ◌+◌, ◌%◌, ◌^◌, ◌<◌, ◌≤◌, ◌==◌, ◌&&◌, Bool, true, false, cond, List, [], ◌∷◌, ◌++◌, length, take, drop, get_or, Option, Some, None, Ok, refl, sym, ◌∙◌, ap, subst, arith, Fits, w8, length-append}
-use Rattle.std.specs.Prelude.{not, nat_le, nat_lt, codes, decimal, flat_map, slice_index, if◌then◌else◌, option_map}
+use Rattle.std.proofs.Common.{◌≡◌, ℕ, zero, suc, ◌+◌, ◌%◌, ◌^◌, ◌<◌, ◌≤◌, ◌==◌, ◌&&◌, Bool, true, false, cond, List, [], ◌∷◌, ◌++◌, length, take, drop, get_or, Some, None, Ok, refl, sym, ◌∙◌, ap, arith, Fits, w8, length-append}
+use Rattle.std.specs.Prelude.{not, nat_le, nat_lt, decimal, flat_map, if◌then◌else◌, option_map}
 use Rattle.std.specs.Char.{is_digit, digit_value}
-use Rattle.std.specs.Int.{w32, to_be_bytes, from_be_bytes}
+use Rattle.std.specs.Int.{w32, to_be_bytes}
 use Rattle.std.specs.List.{list_all, position_or_len}
 use Rattle.std.specs.Str.Parse.{AllDigits, digits_value}
 use Rattle.std.proofs.lemmas.Bool.{lt-ltb, le-leb, le-ltb, and_parts, agree_below_at}
@@ -13,7 +13,7 @@ use Rattle.hex.proofs.HexLemmas.{decode_of-encode_lower, decode_sized-encode_low
 use Rattle.nor_base.specs.Script.{hex_pair}
 use Rattle.nor_laws.proofs.ScriptLaws.{Small}
 use Rattle.nor_listing.specs.Listing.{in_eight, counted, spelled}
-use Rattle.nor_listing.specs.Parts.{byte_by, number_by, bytes_by, byte_in, number_in, bytes_in, decimal_in, blank_in, cut_by, cut, PlaceIn, opcode_on, address_on, count_on, counted_on}
+use Rattle.nor_listing.specs.Parts.{byte_by, number_by, bytes_by, byte_in, number_in, bytes_in, decimal_in, blank_in, cut_by, cut, opcode_on, address_on, count_on, counted_on}
 use Rattle.nor_script.specs.Hexadecimal.{hex_number}
 use Rattle.nor_script.proofs.HexLemmas.{written}
 

@@ -1,8 +1,7 @@
 -- Lines that were read, one after another.
-use Rattle.std.proofs.Common.{◌≡◌, ℕ, suc, ◌+◌, ◌^◌, ◌<◌, Bool, true, List, [], ◌∷◌, ◌++◌, length, get_or, Fits, w8, Bor, Option, Some, None, inl, inr, refl, sym, ◌∙◌, ap, arith, append_assoc, append-nil}
+use Rattle.std.proofs.Common.{◌≡◌, ℕ, suc, ◌+◌, ◌^◌, ◌<◌, Bool, true, List, [], ◌∷◌, ◌++◌, length, get_or, Fits, w8, Bor, Option, Some, None, inl, inr, refl, sym, ◌∙◌, ap, subst, arith, append_assoc, append-nil}
 use Rattle.std.specs.Prelude.{codes, decimal, MatchOption}
 use Rattle.std.proofs.lemmas.List.{append_cancel_left}
-use Rattle.std.specs.List.{AllByRecursion}
 use Rattle.std.proofs.lemmas.Bool.{lt-ltb}
 use Rattle.nor_base.specs.Array.{are_bytes}
 use Rattle.nor_base.proofs.ListLaws.{all_append}
@@ -14,7 +13,7 @@ use Rattle.nor_listing.specs.Law.{IsListable, AreListable}
 use Rattle.nor_listing.specs.Listing.{words, mode_past, line, lines_from, chip_line, unended_listing, listing}
 use Rattle.nor_listing.specs.Read.{mode_through, IsListingOf, Refuses}
 use Rattle.nor_listing.specs.declared.fault.ListFault.TheVariants.{BadLine}
-use Rattle.nor_listing.specs.Told.{Says, SaysLine, AreRead, numbered}
+use Rattle.nor_listing.specs.Told.{Says, SaysLine, AreRead, BeginsNone, numbered}
 
 from_none : (n : ℕ) → n ≡ 0 + n
 from_none n = omega arith
@@ -103,12 +102,15 @@ module _ (m : Parameters) (first mode4 : Bool) (text lines : List ℕ) (steps : 
     number = ap (λ k. k + 3) count;
   }))
 
-  pub unended : ((more : List ℕ) → rest ≡ end_line n ++ more → ⊥) → Refuses m first text (BadLine (n + 2))
-  unended none = inr (inl (record {
+  pub unended : ((more : List ℕ) → rest ≡ end_line n ++ more → ⊥) → BeginsNone m (length steps) (mode_through m mode4 steps) rest → Refuses m first text (BadLine (n + 2))
+  unended none last = inr (inl (record {
     above = steps;
     rest = rest;
     right = record { each = listed; whole = right };
-    unended = λ more is. none more (is ∙ ap (λ k. end_line k ++ more) (sym count));
+    strange = record {
+      no_step = subst (λ k. BeginsNone m (length steps) (mode_through m k steps) rest) same last;
+      no_end = λ more is. none more (is ∙ ap (λ k. end_line k ++ more) (sym count));
+    };
     number = ap (λ k. k + 2) count;
   }))
 

@@ -1,20 +1,18 @@
 -- The clocks that a chip takes are those of their row, opcode, address and data.
-use Rattle.std.proofs.Common.{◌≡◌, ℕ, ◌+◌, ◌*◌, ◌/◌, ◌%◌, ◌^◌, ◌<◌, ◌≤◌, ◌==◌, ◌&&◌, ◌||◌, Bool, true, false, cond, List, [], ◌∷◌, ◌++◌, length, drop, Option, Some, None, inl, inr, refl, sym, ◌∙◌, ap, subst, arith, eqb-true}
-use Rattle.std.specs.Prelude.{◌⊎◌, not, nat_le, nat_lt}
+use Rattle.std.proofs.Common.{◌≡◌, ℕ, ◌+◌, ◌*◌, ◌/◌, ◌%◌, ◌<◌, ◌≤◌, ◌==◌, ◌&&◌, ◌||◌, Bool, true, false, cond, List, [], ◌∷◌, length, Option, Some, inl, inr, refl, sym, ◌∙◌, ap, subst, arith, eqb-true}
+use Rattle.std.specs.Prelude.{◌⊎◌, not, nat_lt}
 use Rattle.std.specs.List.{AllByRecursion, list_all, find}
-use Rattle.std.proofs.lemmas.Bool.{and_parts, ltb-true, leb-true}
+use Rattle.std.proofs.lemmas.Bool.{and_parts, ltb-true}
 use Rattle.std.proofs.lemmas.List.{length-replicate}
 use Rattle.nor_base.specs.declared.instruction.What.{What}
 use Rattle.nor_base.specs.declared.instruction.What.TheVariants as what
-use Rattle.nor_base.specs.Array.{are_bytes}
-use Rattle.nor_base.specs.Clocks.{CanCarry, IsSendable, clocks_of}
+use Rattle.nor_base.specs.Clocks.{CanCarry}
 use Rattle.nor_base.specs.Decoding.{Instruction, decode, opcode, is_data, is_bit_sent, is_nibble_sent, is_bit_sampled, is_nibble_sampled, are_groups, bytes_of_bits, bytes_of_nibbles}
 use Rattle.nor_base.specs.Effect.{has_address}
 use Rattle.nor_base.specs.Instructions.{Form, nothing, sends, sends4, samples, samples4, form_of, Row, row_of, table, quad_read_dummies}
 use Rattle.nor_base.specs.Parameters.{Parameters}
 use Rattle.nor_base.proofs.ListLaws.{found_passes}
 use Rattle.nor_decode.proofs.SmallLemmas.{sent_below}
-use Rattle.nor_laws.proofs.ScriptLaws.{Small}
 use Rattle.nor_laws.specs.Spelling.{OneSpelling}
 use Rattle.nor_listing.proofs.ReadLemmas.{all_bytes_of}
 use Rattle.nor_listing.proofs.TakenLemmas.{Takes, spelled_by, seen_same, bytes_for, opcode_small, all_small}
@@ -80,7 +78,7 @@ module _ (law : OneSpelling) (m : Parameters) (mode4 : Bool) (clocks : List ℕ)
       (record { begins = refl; decodes = sees ∙ ap (λ (k : Instruction). Some k) (sym s.is ∙ seen_same s.r (opcode clocks) s.address s.body) })
 
 -- the dummy clocks and the address bytes of a row
-abbrev dummies_for : Parameters → What → ℕ
+abbrev pub dummies_for : Parameters → What → ℕ
 dummies_for m what.QuadRead = quad_read_dummies m
 dummies_for m other = 0
 

@@ -1,25 +1,20 @@
 -- The words of a step tell it: what is read of them is the step.
-use Rattle.std.proofs.Common.{◌≡◌, ℕ, zero, suc, ◌+◌, ◌*◌, ◌/◌, ◌^◌, ◌<◌, ◌≤◌, ◌==◌, ◌&&◌, ◌||◌, Bool, true, false, List, [], ◌∷◌, ◌++◌, length, take, drop, get_or, Option, Some, None, inl, inr, refl, sym, ◌∙◌, ap, subst, arith, append_assoc, append-nil, length-take}
-use Rattle.std.specs.Prelude.{◌⊎◌, codes, decimal, flat_map, replicate, not, nat_le, option_map, option_and_then}
-use Rattle.std.specs.List.{AllByRecursion, list_all, find}
-use Rattle.std.proofs.lemmas.Bool.{and_parts}
+use Rattle.std.proofs.Common.{◌≡◌, ℕ, ◌*◌, ◌/◌, ◌^◌, ◌<◌, true, false, List, [], ◌∷◌, ◌++◌, length, Option, Some, refl, sym, ◌∙◌, ap, subst, arith, append_assoc, append-nil}
+use Rattle.std.specs.Prelude.{flat_map, replicate, option_map, option_and_then}
 use Rattle.std.proofs.lemmas.List.{length-replicate}
 use Rattle.nor_base.specs.declared.instruction.What.{What}
 use Rattle.nor_base.specs.declared.instruction.What.TheVariants as what
 use Rattle.nor_base.specs.declared.step.Step.{Step}
-use Rattle.nor_base.specs.declared.step.Step.TheVariants.{Send, Poll, Verify}
-use Rattle.nor_base.specs.Array.{are_bytes}
-use Rattle.nor_base.specs.Clocks.{bits, nibbles, address_bytes, body_clocks, clocks_of}
+use Rattle.nor_base.specs.declared.step.Step.TheVariants.{Send, Verify}
+use Rattle.nor_base.specs.Clocks.{bits, address_bytes, body_clocks}
 use Rattle.nor_base.specs.Decoding.{bytes_of_bits, bytes_of_nibbles}
-use Rattle.nor_base.specs.Instructions.{form_of, quad_read_dummies, samples, samples4, sends, sends4}
+use Rattle.nor_base.specs.Instructions.{form_of, quad_read_dummies, sends, sends4}
 use Rattle.nor_base.specs.Parameters.{Parameters, block_size}
-use Rattle.nor_base.specs.Run.{poll_clocks}
-use Rattle.nor_base.specs.Script.{hex_pair, step_line}
-use Rattle.nor_base.specs.Step.{IsStep}
+use Rattle.nor_base.specs.Script.{hex_pair}
 use Rattle.nor_decode.proofs.SmallLemmas.{sent_below}
 use Rattle.nor_laws.proofs.ScriptLaws.{Small}
 use Rattle.nor_listing.specs.Listing.{in_eight, counted, spelled}
-use Rattle.nor_listing.specs.Parts.{cut, PlaceIn, DataIn, opcode_on, address_on, place_on, counted_on, data_after, data_on, framed, sampled, single, on_four, asked_by, sends_by, load_by, verified_by, bytes_in, word_in, IsCopied, IsToldBy, IsTold}
+use Rattle.nor_listing.specs.Parts.{PlaceIn, DataIn, address_on, place_on, counted_on, data_after, data_on, framed, sampled, single, on_four, asked_by, sends_by, load_by, verified_by, word_in, IsToldBy, IsTold}
 use Rattle.nor_listing.specs.declared.told.Reading.{Reading}
 use Rattle.nor_listing.specs.declared.parts.Word.{Word}
 use Rattle.nor_listing.specs.declared.parts.Word.TheVariants as word
@@ -123,14 +118,14 @@ module _ (m : Parameters) (width op a : ℕ) (body : List ℕ) (found : Option S
       let bytes = bytes_of_bits body in
       told ∙ ap (λ d. option_map Send (option_and_then (sends_by false width) d)) (spelled_data op a (length bytes) small narrow fits bytes)
       ∙ ap (λ b. option_map Send (option_map (λ (l : List ℕ). framed (place op a (counted (length bytes) ++ spelled bytes)) width 0 (load_by false l)) b))
-          (bytes_back bytes (all_small bytes (sent_below sends body)))
+      (bytes_back bytes (all_small bytes (sent_below sends body)))
 
   pub quad_program_told : length (bytes_of_nibbles body) < 2 ^ 64 → Tells what.QuadProgram word.QuadProgram width 0
   quad_program_told fits told =
       let bytes = bytes_of_nibbles body in
       told ∙ ap (λ d. option_map Send (option_and_then (sends_by true width) d)) (spelled_data op a (length bytes) small narrow fits bytes)
       ∙ ap (λ b. option_map Send (option_map (λ (l : List ℕ). framed (place op a (counted (length bytes) ++ spelled bytes)) width 0 (load_by true l)) b))
-          (bytes_back bytes (all_small bytes (sent_below sends4 body)))
+      (bytes_back bytes (all_small bytes (sent_below sends4 body)))
 
   module _ (expect : List ℕ) (bytes : Small expect) where
     abbrev Verifies : What → Word → ℕ → ℕ → Type 0

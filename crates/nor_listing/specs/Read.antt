@@ -3,8 +3,8 @@ use Rattle.std.specs.Prelude.{◌≡◌, ◌⊎◌, ⊤, ℕ, Bool, ◌+◌, Lis
 use Rattle.nor_base.specs.declared.step.Step.{Step}
 use Rattle.nor_base.specs.Parameters.{Parameters}
 use Rattle.nor_base.specs.Script.{end_line}
-use Rattle.nor_listing.specs.Law.{AreListable}
-use Rattle.nor_listing.specs.Listing.{mode_past, chip_line, unended_listing, listing}
+use Rattle.nor_listing.specs.Law.{IsListable, AreListable}
+use Rattle.nor_listing.specs.Listing.{mode_past, line, chip_line, unended_listing, listing}
 use Rattle.nor_listing.specs.declared.fault.ListFault.{ListFault}
 use Rattle.nor_listing.specs.declared.fault.ListFault.TheVariants.{BadLine, Memory}
 
@@ -27,12 +27,17 @@ pub record IsRight (m : Parameters) (mode4 : Bool) (text : List ℕ) (above : Li
   pub each : AreListable above
   pub whole : text ≡ unended_listing m mode4 above ++ rest
 
--- the n-th line is the one after the first and those of some steps, and isn't the end line
+-- a text begins neither with the line of a step of this number, in this mode, nor with the end line of so many steps
+pub record IsStrange (m : Parameters) (n : ℕ) (mode4 : Bool) (text : List ℕ) : Type 0 where
+  pub no_step : (x : Step) (more : List ℕ) → IsListable x → text ≡ line m n mode4 x ++ more → ⊥
+  pub no_end : (more : List ℕ) → text ≡ end_line n ++ more → ⊥
+
+-- after the first line and those of some steps, the n-th line is neither that of a step nor the end line
 pub record HasBadLine (m : Parameters) (mode4 : Bool) (text : List ℕ) (n : ℕ) : Type 0 where
   pub above : List Step
   pub rest : List ℕ
   pub right : IsRight m mode4 text above rest
-  pub unended : (more : List ℕ) → rest ≡ end_line (length above) ++ more → ⊥
+  pub strange : IsStrange m (length above) (mode_through m mode4 above) rest
   pub number : n ≡ length above + 2
 
 -- something follows the listing of some steps, on the n-th line

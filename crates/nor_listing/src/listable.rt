@@ -2,14 +2,15 @@
 
 ghost use Rattle.std.specs.Prelude.{◌≡◌, ◌<◌, ◌^◌, IsTrue, length, true};
 ghost use Rattle.nor_base.specs.Array.{are_bytes};
-ghost use Rattle.nor_base.specs.Step.{expected, step_clocks};
+ghost use Rattle.nor_base.specs.Step.{expected, is_step as passes, step_clocks};
 ghost use Rattle.nor_listing.specs.Law.{IsListable};
 
 use nor_base::{Step, is_step};
 
 /// Whether a listing may have a step.
 pub(crate) fn is_listable(step: &Step) -> bool
-    ensures { IsTrue result → IsListable step.now }
+    ensures value { result ≡ passes step.now }
+    ensures listable { IsTrue result → IsListable step.now }
 {
     has_few_clocks(step);
     expects_bytes(step);
@@ -33,5 +34,4 @@ fn expects_bytes(step: &Step)
 
 fn are_bytes(_bytes: &[u8])
     ensures { are_bytes _bytes.now ≡ true }
-{
-}
+{}

@@ -1,9 +1,9 @@
 //! The reader of listings.
 
-ghost use Rattle.std.specs.Prelude.{◌≡◌, ◌≤◌, ℕ, List, [], IfOk, IfErr, IfSome, MatchOption};
+ghost use Rattle.std.specs.Prelude.{◌≡◌, ◌≤◌, ℕ, List, [], length, IfOk, IfErr, MatchOption};
 ghost use Rattle.nor_base.specs.Chip.{begins4};
-ghost use Rattle.nor_listing.specs.Read.{IsListingOf, Refuses};
-ghost use Rattle.nor_listing.specs.Told.{Says, SaysLine, AreRead, numbered};
+ghost use Rattle.nor_listing.specs.Read.{IsListingOf, Refuses, mode_through};
+ghost use Rattle.nor_listing.specs.Told.{Says, SaysNone, SaysNoneOf, SaysLine, SaysNoLine, AreRead, BeginsNone, numbered};
 ghost use Rattle.nor_listing.specs.declared.fault.ListFault.TheVariants.{Memory};
 
 use crate::fault::ListFault;
@@ -12,6 +12,7 @@ use crate::memory::{first_line as chip_line, last_line, words_of};
 use crate::told::step_told;
 use itoa::Buffer;
 use nor_base::{Meaning, Start, Step};
+use nor_laws::spelling;
 use nor_script::first_line;
 use std::alloc::{AllocError, Global};
 
@@ -63,6 +64,8 @@ fn read_lines<'a>(
 ) -> Result<&'a [u8], ListFault>
     requires { steps.old.items ≡ [] }
     ensures read { IfOk result (λ rest. AreRead meaning.now first text.now steps.new.items rest.now) }
+    ensures last { IfOk result (λ rest. BeginsNone meaning.now (length steps.new.items)
+        (mode_through meaning.now first steps.new.items) rest.now) }
     ensures refused { IfErr result (λ fault. fault ≡ Memory) }
 {
     let mut mode4 = first;
@@ -86,7 +89,8 @@ fn read_line(
     mode4: bool,
     line: &[u8],
 ) -> Result<Option<Read>, AllocError>
-    ensures read { IfOk result (λ found. IfSome found (λ read. SaysLine meaning.now number mode4 line.now read.step read.after)) }
+    ensures { IfOk result (λ found. MatchOption found (SaysNoLine meaning.now number mode4 line.now)
+        (λ read. SaysLine meaning.now number mode4 line.now read.step read.after)) }
 {
     match words_on(number, line) {
         Some(words) => read_words(alloc, meaning, mode4, words),
@@ -112,7 +116,8 @@ fn read_words(
     mode4: bool,
     words: &[u8],
 ) -> Result<Option<Read>, AllocError>
-    ensures read { IfOk result (λ found. IfSome found (λ read. Says meaning.now mode4 words.now read.step read.after)) }
+    ensures { IfOk result (λ found. MatchOption found (SaysNone meaning.now mode4 words.now)
+        (λ read. Says meaning.now mode4 words.now read.step read.after)) }
 {
     match read_as(alloc, meaning, mode4, 3, words)? {
         Some(read) => Ok(Some(read)),
@@ -129,8 +134,10 @@ fn read_as(
     words: &[u8],
 ) -> Result<Option<Read>, AllocError>
     requires { width ≤ 4 }
-    ensures read { IfOk result (λ found. IfSome found (λ read. Says meaning.now mode4 words.now read.step read.after)) }
+    ensures { IfOk result (λ found. MatchOption found (SaysNoneOf meaning.now mode4 words.now width)
+        (λ read. Says meaning.now mode4 words.now read.step read.after)) }
 {
+    spelling();
     let Some(step) = step_told(alloc, meaning, width, words)? else {
         return Ok(None);
     };
@@ -138,8 +145,12 @@ fn read_as(
         return Ok(None);
     }
     let (told, after) = words_of(alloc, meaning, mode4, &step)?;
-    match told.as_slice().strip_suffix(b"\n") {
-        Some(said) if said == words => Ok(Some(Read { step, after })),
-        _ => Ok(None),
+    let Some(said) = told.as_slice().strip_suffix(b"\n") else {
+        return Ok(None);
+    };
+    if said == words {
+        Ok(Some(Read { step, after }))
+    } else {
+        Ok(None)
     }
 }

@@ -197,11 +197,7 @@ fn clocks_told(
 }
 
 /// The clocks of an instruction without data.
-fn plain(
-    alloc: Global,
-    place: Option<Place<'_>>,
-    width: u8,
-) -> Result<Option<Vec<u8>>, AllocError>
+fn plain(alloc: Global, place: Option<Place<'_>>, width: u8) -> Result<Option<Vec<u8>>, AllocError>
     requires { width ≤ 4 }
     ensures { IfOk result (λ found. option_map (λ v. v.items) found ≡ option_map (λ p. framed p width 0 none) (option_map place_at place.entry)) }
 {
@@ -232,9 +228,7 @@ fn asked(
     ensures { IfOk result (λ found. option_map (λ v. v.items) found ≡ option_map (asked_by width reading) (option_map data_at parts.entry)) }
 {
     match parts {
-        Some(parts) => Ok(Some(sampling(
-            alloc, parts.place, width, reading, parts.count,
-        )?)),
+        Some(parts) => Ok(Some(sampling(alloc, parts.place, width, reading, parts.count)?)),
         None => Ok(None),
     }
 }
@@ -297,10 +291,7 @@ fn sampling(
 {
     let mut clocks = clocks_of(alloc, place, width, reading.dummies, Body::Plain)?;
     let data = count.checked_mul(reading.clocks).ok_or(AllocError)?;
-    let len = clocks
-        .len()
-        .checked_add(data as usize)
-        .ok_or(AllocError)?;
+    let len = clocks.len().checked_add(data as usize).ok_or(AllocError)?;
     clocks.resize(len, reading.symbol)?;
     Ok(clocks)
 }

@@ -5,7 +5,6 @@ use Rattle.nor_base.specs.Chip.{begins4}
 use Rattle.nor_base.specs.Device.{Cuts}
 use Rattle.nor_base.specs.Parameters.{Parameters}
 use Rattle.nor_base.specs.Script.{IsScript}
-use Rattle.nor_base.specs.declared.step.Step.{Step}
 use Rattle.nor_job.specs.declared.fault.BuildFault.TheVariants as fault
 use Rattle.nor_job.specs.Status.{start_of}
 use Rattle.nor_job.specs.Task.{Task}

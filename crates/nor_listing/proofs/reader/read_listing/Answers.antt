@@ -1,5 +1,5 @@
 -- Where the lines end.
-use Rattle.std.proofs.Common.{◌≡◌, ◌≢◌, ◌++◌, ℕ, ◌<◌, ◌^◌, length, rules, sym, ◌∙◌, arith}
+use Rattle.std.proofs.Common.{◌≡◌, ◌≢◌, ◌++◌, ◌<◌, ◌^◌, length, rules, arith}
 use Rattle.std.proofs.lemmas.Bool.Decides.{Decides-eqb}
 use Rattle.std.proofs.lemmas.Slice.Eq.{strip_prefix_is}
 use Rattle.nor_base.specs.Chip.{begins4}
@@ -53,3 +53,4 @@ returns-clause-refused c =
     (rw front at (rw c.in-Some.is at (strip_prefix_is Decides-eqb c.args.text.now c.as_slice.result.now _ c.strip_prefix.ensures.cases)))
     c.in_ok-rest.ensures.read few
     (rw last at (rw c.in-None.is at (strip_prefix_is Decides-eqb c.in_ok-rest.rest.now c.as_slice-2.result.now _ c.strip_prefix-2.ensures.cases)))
+    c.in_ok-rest.ensures.last

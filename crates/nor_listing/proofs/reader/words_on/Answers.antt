@@ -1,9 +1,8 @@
 -- The number, and then the blank.
-use Rattle.std.proofs.Common.{◌≡◌, ◌++◌, List, ℕ, Option, Some, None, rules, sym, ◌∙◌, ap}
-use Rattle.std.specs.Prelude.{codes, decimal, MatchOption}
+use Rattle.std.proofs.Common.{◌≡◌, ◌++◌, List, ℕ, rules}
+use Rattle.std.specs.Prelude.{codes, decimal}
 use Rattle.std.proofs.lemmas.Bool.Decides.{Decides-eqb}
 use Rattle.std.proofs.lemmas.Slice.Eq.{strip_prefix_is}
-use Rattle.nor_listing.specs.Told.{numbered}
 use Rattle.nor_listing.proofs.ReadLemmas.{no_number, number_on}
 use Rattle.nor_listing.proofs.reader.words_on.Goals as goal
 

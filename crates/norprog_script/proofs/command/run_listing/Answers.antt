@@ -1,5 +1,5 @@
 -- What was written, or the fault, is that of the request.
-use Rattle.std.proofs.Common.{sym, subst, [], ◌∷◌}
+use Rattle.std.proofs.Common.{sym, subst}
 use Rattle.norprog_common.specs.Chip.{origin_of}
 use Rattle.norprog_common.specs.FileStore.{AreTables}
 use Rattle.norprog_script.specs.Written.{listed}

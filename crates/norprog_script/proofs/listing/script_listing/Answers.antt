@@ -1,5 +1,5 @@
 -- The script of the steps that were read.
-use Rattle.std.proofs.Common.{◌≡◌, List, ℕ, length, refl, rules, sym, ◌∙◌, ap, subst, arith}
+use Rattle.std.proofs.Common.{List, refl, sym, subst, arith}
 use Rattle.std.specs.Io.KnownBytes.{Appends}
 use Rattle.std.specs.List.{AllByRecursion}
 use Rattle.nor_base.specs.Device.{Cuts}
