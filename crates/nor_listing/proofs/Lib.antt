@@ -8,3 +8,12 @@ mod TakenLemmas
 mod TailLemmas
 mod ViewLemmas
 mod LawLemmas
+mod ReadLemmas
+mod PartLemmas
+mod NumberLemmas
+mod ToldLemmas
+mod CopyLemmas
+mod SpellLemmas
+mod FindLemmas
+mod NoneLemmas
+mod FeedLemmas

@@ -31,11 +31,11 @@ tail_words m i what.QuadRead = in_eight i.address ++ counted i.asked
 tail_words m i what.Broken = []
 
 -- no more bytes than clocks
-fewer_bits : (xs : List ℕ) → length (bytes_of_bits xs) ≤ length xs
+pub fewer_bits : (xs : List ℕ) → length (bytes_of_bits xs) ≤ length xs
 fewer_bits (a ∷ b ∷ c ∷ d ∷ e ∷ f ∷ g ∷ h ∷ more) = let later = fewer_bits more in omega (arith, later)
 fewer_bits fewer = omega arith
 
-fewer_nibbles : (xs : List ℕ) → length (bytes_of_nibbles xs) ≤ length xs
+pub fewer_nibbles : (xs : List ℕ) → length (bytes_of_nibbles xs) ≤ length xs
 fewer_nibbles (high ∷ low ∷ more) = let later = fewer_nibbles more in omega (arith, later)
 fewer_nibbles fewer = omega arith
 

@@ -1,13 +1,14 @@
 -- Clocks that a chip takes are told by their opcode and what it sees in them.
-use Rattle.std.proofs.Common.{◌≡◌, ℕ, suc, ◌*◌, ◌/◌, ◌^◌, ◌<◌, ◌≤◌, ◌==◌, ◌&&◌, ◌||◌, Bool, true, false, List, [], ◌∷◌, length, take, drop, get_or, Option, Some, None, refl, sym, ◌∙◌, ap, arith, eqb-true, length-take, length-drop}
+use Rattle.std.proofs.Common.{◌≡◌, ℕ, suc, ◌+◌, ◌*◌, ◌/◌, ◌^◌, ◌<◌, ◌≤◌, ◌==◌, ◌&&◌, ◌||◌, Bool, true, false, List, [], ◌∷◌, length, take, drop, get_or, Option, Some, None, refl, sym, ◌∙◌, ap, arith, eqb-true, length-take, length-drop}
 use Rattle.std.specs.Prelude.{nat_le, if◌then◌else◌, option_map, replicate}
-use Rattle.std.proofs.lemmas.Bool.{leb-true}
+use Rattle.std.specs.List.{list_all}
+use Rattle.std.proofs.lemmas.Bool.{leb-true, and_parts}
 use Rattle.std.proofs.lemmas.List.{length-replicate}
 use Rattle.nor_base.specs.declared.instruction.What.{What}
 use Rattle.nor_base.specs.declared.instruction.What.TheVariants as what
 use Rattle.nor_base.specs.Parameters.{Parameters}
 use Rattle.nor_base.specs.Instructions.{Form, nothing, sends, sends4, samples, samples4, form_of, Row, row_of, table}
-use Rattle.nor_base.specs.Decoding.{Instruction, instruction, transaction, decode, by_row, broken, has_opcode, is_form, number, opcode, address_clocks, data_clocks, bytes_of_bits, bytes_of_nibbles, bytes_sent, bytes_asked}
+use Rattle.nor_base.specs.Decoding.{Instruction, instruction, transaction, decode, by_row, broken, has_opcode, is_bit_sent, is_idle, is_data, is_form, number, opcode, address_clocks, dummy_clocks, data_clocks, bytes_of_bits, bytes_of_nibbles, bytes_sent, bytes_asked}
 use Rattle.nor_base.specs.Effect.{is_broken, has_address}
 use Rattle.nor_base.specs.Spelling.{Instr, seen, bytes_to_send, count_to_read}
 use Rattle.nor_base.proofs.ListLaws.{found_passes}
@@ -46,17 +47,26 @@ pub record Takes (m : Parameters) (mode4 : Bool) (clocks : List ℕ) (i : Instru
   pub narrow : address < 2 ^ 32
   pub bare : has_address r.what ≡ false → address ≡ 0
   pub few : length body ≤ length clocks
+  pub within : address < 2 ^ (8 * r.width)
+  pub shaped : is_data (form_of r.what) body ≡ true
   pub is : taken_as r.what address body ≡ i
+
+data_shaped : (r : Row) (rest : List ℕ) → is_form r rest ≡ true → is_data (form_of r.what) (data_clocks r rest) ≡ true
+unfolding is_form
+data_shaped r rest is =
+    let all = and_parts (nat_le (8 * r.width + r.dummies) (length rest)) _ is in
+    let after = and_parts (list_all is_bit_sent (address_clocks r rest)) _ all.1 in
+    (and_parts (list_all is_idle (dummy_clocks r rest)) (is_data (form_of r.what) (data_clocks r rest)) after.1).1
 
 width_none : (has : Bool) (width : ℕ) → has || (width == 0) ≡ true → has ≡ false → width ≡ 0
 width_none true width h is = cc
 width_none false width h is = eqb-true width 0 h
 
 module _ (m : Parameters) (mode4 : Bool) (clocks : List ℕ) (i : Instruction) (sound : is_broken i.what ≡ false) where
-  by_form : (r : Row) (b : Bool) → row_of m mode4 (opcode clocks) ≡ Some r
+  by_form : (r : Row) (b : Bool) → is_form r (drop 8 clocks) ≡ b → row_of m mode4 (opcode clocks) ≡ Some r
       → instruction (if b then record { what = r.what; address = number (address_clocks r (drop 8 clocks)); body = data_clocks r (drop 8 clocks) } else broken) ≡ i
       → Takes m mode4 clocks i
-  by_form r true found h =
+  by_form r true formed found h =
       let rest = drop 8 clocks in
       let narrow : r.width ≤ 4 = leb-true r.width 4 (row_narrow m mode4 (opcode clocks) r found) in
       record {
@@ -69,9 +79,11 @@ module _ (m : Parameters) (mode4 : Bool) (clocks : List ℕ) (i : Instruction) (
             let no_width : r.width ≡ 0 = width_none (has_address r.what) r.width (row_bare m mode4 (opcode clocks) r found) none in
             ap (λ n. number (take (8 * n) rest)) no_width;
         few = omega (arith, length-drop 8 clocks, length-drop (8 * r.width) rest, length-drop r.dummies (drop (8 * r.width) rest));
+        within = number_fits (8 * r.width) (address_clocks r rest) (omega (arith, length-take (8 * r.width) rest));
+        shaped = data_shaped r rest formed;
         is = h;
       }
-  by_form r false found h =
+  by_form r false formed found h =
       let same : what.Broken ≡ i.what = ap (λ (s : Instruction). s.what) h in
       let says : true ≡ is_broken i.what = ap is_broken same in
       let both : true ≡ false = says ∙ sound in
@@ -84,14 +96,14 @@ module _ (m : Parameters) (mode4 : Bool) (clocks : List ℕ) (i : Instruction) (
   by_found true None found h = cc
   by_found true (Some r) found h =
       let is : instruction (by_row (drop 8 clocks) r) ≡ i = cc in
-      by_form r (is_form r (drop 8 clocks)) found is
+      by_form r (is_form r (drop 8 clocks)) refl found is
 
   pub takes : decode m mode4 clocks ≡ Some i → Takes m mode4 clocks i
   unfolding decode transaction
   takes h = by_found (has_opcode clocks) (row_of m mode4 (opcode clocks)) refl h
 
 -- the instruction that is spelled by clocks in which a chip sees this
-abbrev bytes_for : Form → List ℕ → List ℕ
+abbrev pub bytes_for : Form → List ℕ → List ℕ
 bytes_for nothing body = []
 bytes_for sends body = bytes_of_bits body
 bytes_for sends4 body = bytes_of_nibbles body
@@ -112,11 +124,11 @@ asked_same sends4 body = refl
 asked_same samples body = length-replicate {A = ℕ} (length body / 8) 0
 asked_same samples4 body = length-replicate {A = ℕ} (length body / 2) 0
 
-abbrev spelled_by : Row → ℕ → ℕ → List ℕ → Instr
+abbrev pub spelled_by : Row → ℕ → ℕ → List ℕ → Instr
 spelled_by r op address body =
     record { what = r.what; op = op; address = address; width = r.width; dummies = r.dummies; bytes = bytes_for (form_of r.what) body }
 
-seen_same : (r : Row) (op address : ℕ) (body : List ℕ) → taken_as r.what address body ≡ seen (spelled_by r op address body)
+pub seen_same : (r : Row) (op address : ℕ) (body : List ℕ) → taken_as r.what address body ≡ seen (spelled_by r op address body)
 seen_same r op address body =
     let form = form_of r.what in
     ap (λ (bytes : List ℕ). record { what = r.what; address = address; sent = bytes; asked = bytes_asked form body }) (sym (sent_same form body))

@@ -24,7 +24,7 @@ use Rattle.nor_listing.proofs.TailLemmas.{tail_words, tail_tells, placed, data_a
 use Rattle.nor_listing.proofs.TakenLemmas.{takes, taken_as, same_row, same_clocks, opcode_small}
 
 -- the word of clocks that are taken, and that of clocks that read what is expected
-abbrev word : What → List ℕ
+abbrev pub word : What → List ℕ
 word what.Enable = codes "enable "
 word what.Disable = codes "disable "
 word what.Status = codes "status "
@@ -37,7 +37,7 @@ word what.Read = codes "read "
 word what.QuadRead = codes "quadread "
 word what.Broken = codes "enable "
 
-abbrev verify_word : What → List ℕ
+abbrev pub verify_word : What → List ℕ
 verify_word what.QuadRead = codes "quadverify "
 verify_word other = codes "verify "
 
@@ -125,10 +125,10 @@ verify_word_sort : (w : What) (z : List ℕ) → sort_by (tag (verify_word w ++ 
 verify_word_sort what.QuadRead z = refl
 verify_word_sort other z = refl
 
-abbrev read_tail : Instruction → List ℕ → List ℕ
+abbrev pub read_tail : Instruction → List ℕ → List ℕ
 read_tail i expect = in_eight i.address ++ (counted i.asked ++ spelled expect)
 
-read_sound : (w : What) → is_read w ≡ true → is_broken w ≡ false
+pub read_sound : (w : What) → is_read w ≡ true → is_broken w ≡ false
 read_sound what.Broken reads = cc
 read_sound other reads = refl
 
@@ -139,7 +139,7 @@ read_same what.QuadRead a b p q reads at count =
     ap (λ k. record { what = what.QuadRead; address = k; sent = []; asked = length p / 2 }) at ∙ ap (λ n. record { what = what.QuadRead; address = b; sent = []; asked = n }) count
 read_same other a b p q reads at count = cc
 
-asked_few : (form : Form) (body : List ℕ) → bytes_asked form body ≤ length body
+pub asked_few : (form : Form) (body : List ℕ) → bytes_asked form body ≤ length body
 asked_few nothing body = omega arith
 asked_few sends body = omega arith
 asked_few sends4 body = omega arith
@@ -147,28 +147,28 @@ asked_few samples body = omega arith
 asked_few samples4 body = omega arith
 
 pub record IsTaken (m : Parameters) (mode4 : Bool) (x : Step) : Type 0 where
-  clocks : List ℕ
-  i : Instruction
-  is : x ≡ Send clocks
-  sees : decode m mode4 clocks ≡ Some i
-  sound : is_broken i.what ≡ false
-  spelled : words m mode4 x ≡ word i.what ++ (hex_pair (opcode clocks) ++ tail_words m i i.what)
+  pub clocks : List ℕ
+  pub i : Instruction
+  pub is : x ≡ Send clocks
+  pub sees : decode m mode4 clocks ≡ Some i
+  pub sound : is_broken i.what ≡ false
+  pub spelled : words m mode4 x ≡ word i.what ++ (hex_pair (opcode clocks) ++ tail_words m i i.what)
 
 pub record IsPolled (m : Parameters) (mode4 : Bool) (x : Step) : Type 0 where
-  is : x ≡ Poll poll_clocks
-  spelled : words m mode4 x ≡ codes "poll 05"
+  pub is : x ≡ Poll poll_clocks
+  pub spelled : words m mode4 x ≡ codes "poll 05"
 
 pub record IsVerified (m : Parameters) (mode4 : Bool) (x : Step) : Type 0 where
-  clocks : List ℕ
-  expect : List ℕ
-  i : Instruction
-  is : x ≡ Verify clocks expect
-  sees : decode m mode4 clocks ≡ Some i
-  reads : is_read i.what ≡ true
-  spelled : words m mode4 x ≡ verify_word i.what ++ (hex_pair (opcode clocks) ++ read_tail i expect)
+  pub clocks : List ℕ
+  pub expect : List ℕ
+  pub i : Instruction
+  pub is : x ≡ Verify clocks expect
+  pub sees : decode m mode4 clocks ≡ Some i
+  pub reads : is_read i.what ≡ true
+  pub spelled : words m mode4 x ≡ verify_word i.what ++ (hex_pair (opcode clocks) ++ read_tail i expect)
 
 pub record IsCopied (m : Parameters) (mode4 : Bool) (x : Step) (front : List ℕ) : Type 0 where
-  spelled : words m mode4 x ≡ front ++ step_line x
+  pub spelled : words m mode4 x ≡ front ++ step_line x
 
 pub data View (m : Parameters) (mode4 : Bool) (x : Step) : Type 0 where
   taken : IsTaken m mode4 x → View m mode4 x

@@ -1,6 +1,7 @@
 //! That a listing tells its steps.
 
 ghost use Rattle.nor_listing.specs.Law.{OneListing};
+ghost use Rattle.nor_listing.specs.Read.{ReadBack};
 
 /// A law: of one meaning and first address mode, a listing has one list of steps. They are steps that a script may have, fewer
 /// than 2^64, and each has fewer than 2^64 clocks.
@@ -8,4 +9,12 @@ pub fn one_listing()
     ensures { OneListing }
 {
     nor_laws::spelling();
+}
+
+/// A law: of one meaning and first address mode, whatever [`crate::read_listing`] reads of the listing of some steps, it is
+/// these steps.
+pub fn listing_read_back()
+    ensures { ReadBack }
+{
+    one_listing();
 }

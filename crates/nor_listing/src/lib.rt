@@ -5,14 +5,25 @@
 //! [`write_listing`] writes the listing of steps that are at hand. [`begin`], then [`write_line`] for each step as it comes,
 //! then [`finish`] with their number write the same. [`write_unended`] leaves the end line out. None of them takes memory.
 //! [`one_listing`] is the law that a listing has one list of steps.
+//!
+//! [`read_listing`] reads a listing, and [`listing_read_back`] is the law that it gives the steps back.
 #![tactic(auto)]
 
+mod digits;
+mod fault;
 mod law;
 mod line;
+mod listable;
+mod memory;
+mod parts;
+mod reader;
 mod sent;
+mod told;
 mod verified;
 mod writer;
 
-pub use law::one_listing;
+pub use fault::ListFault;
+pub use law::{listing_read_back, one_listing};
 pub use line::write_line;
+pub use reader::read_listing;
 pub use writer::{begin, finish, write_listing, write_unended};

@@ -45,7 +45,7 @@ pub fn write_line<W: ByteOut>(
 }
 
 /// Puts what a step is, and answers the address mode after it.
-fn put_words<W: ByteOut>(
+pub(crate) fn put_words<W: ByteOut>(
     meaning: &Meaning,
     mode4: bool,
     step: &Step,

@@ -89,9 +89,10 @@ pub struct HexArgs<'a> {
     pub out: Option<&'a str>,
 }
 
-/// Of `script`.
+/// Of `script`: the chip is that of a listing.
 #[derive(Clone, Copy)]
 pub struct ScriptArgs<'a> {
+    pub setup: SetupArgs<'a>,
     pub log: Option<&'a str>,
     pub without_identity: bool,
     pub out: Option<&'a str>,

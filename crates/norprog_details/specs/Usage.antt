@@ -26,7 +26,7 @@ pair_line typed first second said = if is_typed typed first && is_typed typed se
 -- a command that wants a chip by one of these
 abbrev pub wants_chip : List ℕ → Bool
 wants_chip command =
-    not (is_one_of (codes "read" ∷ codes "flash" ∷ codes "draw" ∷ codes "hex" ∷ codes "script" ∷ codes "explain" ∷ []) command)
+    not (is_one_of (codes "read" ∷ codes "flash" ∷ codes "draw" ∷ codes "hex" ∷ codes "explain" ∷ []) command)
 
 abbrev pub chip_line : CommandLine → List ℕ
 chip_line line =

@@ -112,10 +112,7 @@ fn chip_line(line: CommandLine<'_>) -> &'static [u8]
 fn wants_chip(command: &str) -> bool
     ensures { result ≡ wants_chip command.now }
 {
-    !matches!(
-        command,
-        "read" | "flash" | "draw" | "hex" | "script" | "explain"
-    )
+    !matches!(command, "read" | "flash" | "draw" | "hex" | "explain")
 }
 
 /// That one file is named for both outputs of a reading.

@@ -91,6 +91,7 @@ pub record IsHexIn (found : Found) (given : HexArgs) : Type 0 where
   pub out : Has found (codes "out") (option_map (λ t. t.now) given.out)
 
 pub record IsScriptIn (found : Found) (given : ScriptArgs) : Type 0 where
+  pub setup : IsSetupIn found given.setup
   pub log : Has found (codes "log") (option_map (λ t. t.now) given.log)
   pub without : Sets found (codes "without-identity") given.without_identity
   pub out : Has found (codes "out") (option_map (λ t. t.now) given.out)

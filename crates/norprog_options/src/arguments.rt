@@ -258,21 +258,21 @@ const LOG: Choice = Choice {
     name: "log",
     takes: Takes::File,
     required: true,
-    help: "The log: a line for each transaction, as `02 00 00 00 a5`, `9f > 3 bytes` or `poll`",
+    help: "The log: a line for each transaction, as `02 00 00 00 a5`, `9f > 3 bytes` or `poll`. With options of a chip: its listing",
 };
 
 const WITHOUT_IDENTITY: Choice = Choice {
     name: "without-identity",
     takes: Takes::Nothing,
     required: false,
-    help: "Leave out reads of an ID or a register: 9F, 15, 35, AB, 90, 5A [default: keep them]",
+    help: "Leave out of a log reads of an ID or a register: 9F, 15, 35, AB, 90, 5A [default: keep them]",
 };
 
 const LOG_OUT: Choice = Choice {
     name: "out",
     takes: Takes::File,
     required: true,
-    help: "The script; what the file held is replaced. It can't be the log",
+    help: "The script; what the file held is replaced. It can't be an input",
 };
 
 const WITNESS: Choice = Choice {
@@ -504,9 +504,9 @@ static FORMS: [Form; 13] = [
     },
     Form {
         name: "script",
-        about: "Writes the script of a log of transactions, as other tools print them",
+        about: "Writes the script of a log of transactions, as other tools print them, or of what list printed",
         example: "Example: norprog script --log log.txt --out app.script",
-        groups: &[],
+        groups: &[Group::Chip, Group::Start],
         choices: &[LOG, WITHOUT_IDENTITY, LOG_OUT],
     },
     Form {

@@ -288,11 +288,12 @@ fn hex_in<'a>(hex: &ArgMatches<'a>) -> HexArgs<'a>
     }
 }
 
-/// The log of which a script is made.
+/// The log or the listing of which a script is made.
 fn script_in<'a>(script: &ArgMatches<'a>) -> ScriptArgs<'a>
     ensures { IsScriptIn (found_of script.now) result }
 {
     ScriptArgs {
+        setup: setup_in(script),
         log: script.get_str("log"),
         without_identity: script.get_flag("without-identity"),
         out: script.get_str("out"),

@@ -1,2 +1,3 @@
 mod ServedLemmas
 mod TextLemmas
+mod ListingLemmas

@@ -1,7 +1,13 @@
 -- What is written for a request is what its texts ask for, and what is so of it is so of that.
-use Rattle.std.proofs.Common.{◌≡◌, ◌∙◌, option_map, option_to_list, refl, sym, subst, List, [], ◌∷◌, ℕ, Option, Result, Ok, Err, IfOk, IfErr, inr}
+use Rattle.std.proofs.Common.{◌≡◌, ◌++◌, option_map, option_to_list, refl, sym, subst, List, [], ◌∷◌, ℕ, Option, None, Some, Result, Ok, Err, IfOk, IfErr, inr}
 use Rattle.std.specs.Prelude.{⊤}
-use Rattle.norprog_common.specs.FileStore.{FileFacts, IsMadeApart, Named}
+use Rattle.norprog_common.specs.FileStore.{FileFacts, AreTables, IsMadeApart, Named, Notes, tables_file}
+use Rattle.norprog_common.specs.Chip.{origin_of}
+use Rattle.norprog_common.specs.Setup.{setup_task}
+use Rattle.norprog_common.specs.declared.files.FileId.{FileId}
+use Rattle.norprog_common.specs.declared.setup.Setup.{Setup}
+use Rattle.norprog_common.proofs.StoreLemmas.{one_noted, more_noted, made_apart}
+use Rattle.nor_job.specs.Task.{Task}
 use Rattle.norprog_common.specs.declared.faults.Refusal.{Refusal}
 use Rattle.norprog_common.proofs.ToldLemmas.{asked_wider, refuses_wider, by_fault}
 use Rattle.norprog_common.specs.declared.given.ScriptArgs.{ScriptArgs}
@@ -9,16 +15,20 @@ use Rattle.norprog_script.specs.declared.request.ScriptRequest.{ScriptRequest}
 use Rattle.norprog_script.specs.declared.tally.Tally.{Tally}
 use Rattle.norprog_script.specs.Answer.{IsScriptedAs, IsScripted, IsStopOf, IsLogFault, RefusesScript, done}
 use Rattle.norprog_script.specs.Request.{AsksFor}
-use Rattle.norprog_script.specs.Served.{LogTask, IsTaskOf, Serves}
-use Rattle.norprog_script.specs.Written.{WasWritten, RefusesLog}
+use Rattle.norprog_script.specs.Served.{LogTask, IsSourceOf, IsTaskOf, Serves, chip_file}
+use Rattle.norprog_script.specs.Written.{Source, foreign, listed, WasWritten, RefusesLog}
 
 -- what a request has is what the texts ask for
 pub serves : (files : FileFacts) (given : ScriptArgs) (request : ScriptRequest) → AsksFor given request → (t : LogTask) → IsTaskOf files request t → Serves files given t
 serves files given request asks t of = record {
   text = subst (λ s. Named (λ name. files.gave name t.text) (option_map (λ t. t.now) s)) (sym asks.log) of.text;
-  without = of.without ∙ sym asks.without;
-  made = subst (λ s. Named (λ name. IsMadeApart files (option_to_list (option_map (λ t. t.now) given.log)) name t.begun) (option_map (λ t. t.now) s)) (sym asks.out)
-      (subst (λ s. IsMadeApart files (option_to_list (option_map (λ t. t.now) s)) request.out.now t.begun) (sym asks.log) of.made);
+  from = record {
+    chip = request.chip;
+    asks = asks.chip;
+    is = subst (λ w. IsSourceOf files request.chip w t.from) (sym asks.without) of.from;
+  };
+  made = subst (λ s. Named (λ name. IsMadeApart files (chip_file request.chip ++ option_to_list (option_map (λ t. t.now) given.log)) name t.begun) (option_map (λ t. t.now) s))
+      (sym asks.out) (subst (λ s. IsMadeApart files (chip_file request.chip ++ option_to_list (option_map (λ t. t.now) s)) request.out.now t.begun) (sym asks.log) of.made);
 }
 
 pub scripted_asked : (files : FileFacts) (given : ScriptArgs) (request : ScriptRequest) (Sent : Option (List ℕ) → Type 0) (tally : Tally) → AsksFor given request
@@ -43,32 +53,53 @@ unsent Asked Sent tally of = record {
 }
 
 -- a script whose file was flushed
-module _ (files : FileFacts) (request : ScriptRequest) (text : List ℕ) (before after : Option (List ℕ)) (gave : files.gave request.log.now text)
-    (made : IsMadeApart files (request.log.now ∷ []) request.out.now before) where
+module _ (files : FileFacts) (request : ScriptRequest) (text : List ℕ) (from : Source) (before after : Option (List ℕ)) (gave : files.gave request.log.now text)
+    (is_from : IsSourceOf files request.chip request.without_identity from) (made : IsMadeApart files (chip_file request.chip ++ request.log.now ∷ []) request.out.now before) where
   abbrev task : LogTask
-  task = record { text = text; without = request.without_identity; begun = before }
+  task = record { text = text; from = from; begun = before }
 
   asked : IsTaskOf files request task
-  asked = record { text = gave; without = refl; made = made }
+  asked = record { text = gave; from = is_from; made = made }
 
-  was_written : (Sent : Option (List ℕ) → Type 0) (tally : Tally) → Sent after → WasWritten request.without_identity text before after tally → IsScripted (IsTaskOf files request) Sent tally
+  was_written : (Sent : Option (List ℕ) → Type 0) (tally : Tally) → Sent after → WasWritten from text before after tally → IsScripted (IsTaskOf files request) Sent tally
   was_written Sent tally sent is = record { it = task; asked = asked; has = record { after = after; sent = sent; written = is } }
 
-  was_refused : (why : Refusal) → RefusesLog request.without_identity text before after why → RefusesScript files.lacked (IsTaskOf files request) why
+  was_refused : (why : Refusal) → RefusesLog from text before after why → RefusesScript files.lacked (IsTaskOf files request) why
   was_refused why is = by_fault files.lacked (IsLogFault (IsTaskOf files request)) ((tally : Tally) × IsScripted (IsTaskOf files request) (λ held. ⊤) tally) why (record {
     it = task;
     asked = asked;
     has = record { after = after; refused = is };
   })
 
-  pub done_is_written : {U E : Type 0} (answer : Result Tally Refusal) (flushed : Result U E) (r : Result Tally Refusal) → IfOk answer (WasWritten request.without_identity text before after)
+  pub done_is_written : {U E : Type 0} (answer : Result Tally Refusal) (flushed : Result U E) (r : Result Tally Refusal) → IfOk answer (WasWritten from text before after)
       → IfOk flushed (λ _. files.flushed after) → r ≡ done answer flushed → IfOk r (IsScripted (IsTaskOf files request) files.flushed)
   done_is_written (Err why) flushed r written sent is = rw is tt
   done_is_written (Ok tally) (Err e) r written sent is = rw is tt
   done_is_written (Ok tally) (Ok u) r written sent is = rw is (was_written files.flushed tally sent written)
 
-  pub done_is_refused : {U E : Type 0} (answer : Result Tally Refusal) (flushed : Result U E) (r : Result Tally Refusal) → IfOk answer (WasWritten request.without_identity text before after)
-      → IfErr answer (RefusesLog request.without_identity text before after) → r ≡ done answer flushed → IfErr r (RefusesScript files.lacked (IsTaskOf files request))
+  pub done_is_refused : {U E : Type 0} (answer : Result Tally Refusal) (flushed : Result U E) (r : Result Tally Refusal) → IfOk answer (WasWritten from text before after)
+      → IfErr answer (RefusesLog from text before after) → r ≡ done answer flushed → IfErr r (RefusesScript files.lacked (IsTaskOf files request))
   done_is_refused (Err why) flushed r written refused is = rw is (was_refused why refused)
   done_is_refused (Ok tally) (Err e) r written refused is = rw is (inr (tally, was_written (λ held. ⊤) tally tt written))
   done_is_refused (Ok tally) (Ok u) r written refused is = rw is tt
+
+-- what a request of a log of another tool has
+pub of_foreign : (files : FileFacts) (request : ScriptRequest) → request.chip ≡ None → IsSourceOf files request.chip request.without_identity (foreign request.without_identity)
+of_foreign files request none = rw none refl
+
+pub apart_foreign : (files : FileFacts) (request : ScriptRequest) (held : Option (List ℕ)) → request.chip ≡ None → IsMadeApart files (request.log.now ∷ []) request.out.now held
+    → IsMadeApart files (chip_file request.chip ++ request.log.now ∷ []) request.out.now held
+apart_foreign files request held none made = rw none made
+
+-- what a request of a listing has: its chip, whose tables their file gave, and an output that was made as none of both files
+pub of_listing : (files : FileFacts) (request : ScriptRequest) (setup : Setup) (tables : List ℕ) (chip : Task) → request.chip ≡ Some setup
+    → AreTables files (origin_of setup.chip) tables → chip ≡ setup_task setup tables → IsSourceOf files request.chip request.without_identity (listed chip)
+of_listing files request setup tables chip is gave task = rw is (chip, record { tables = tables; gave = gave; task = task }, refl)
+
+pub apart_listing : (files : FileFacts) (request : ScriptRequest) (setup : Setup) (none tables places inputs : List FileId) (log : FileId) (held : Option (List ℕ))
+    → request.chip ≡ Some setup → none ≡ [] → Notes files (tables_file (origin_of setup.chip)) none tables → files.stood request.log.now log → places ≡ tables ++ log ∷ []
+    → inputs ≡ places → files.made request.out.now inputs held → IsMadeApart files (chip_file request.chip ++ request.log.now ∷ []) request.out.now held
+apart_listing files request setup none tables places inputs log held is first of_chip of_log last same made =
+    let chip = tables_file (origin_of setup.chip) in
+    let both = more_noted files chip (request.log.now ∷ []) none tables places of_chip (one_noted files request.log.now log tables places of_log last) in
+    rw is (made_apart files (chip ++ request.log.now ∷ []) request.out.now none places inputs held first both same made)

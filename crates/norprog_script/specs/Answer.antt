@@ -19,7 +19,7 @@ use Rattle.norprog_script.specs.Written.{WasWritten, RefusesLog}
 pub record IsScriptedAs (Sent : Option (List ℕ) → Type 0) (tally : Tally) (t : LogTask) : Type 0 where
   pub after : Option (List ℕ)
   pub sent : Sent after
-  pub written : WasWritten t.without t.text t.begun after tally
+  pub written : WasWritten t.from t.text t.begun after tally
 
 abbrev pub IsScripted : (LogTask → Type 0) → (Option (List ℕ) → Type 0) → Tally → Type 0
 IsScripted Asked Sent tally = ForAsked LogTask Asked (IsScriptedAs Sent tally)
@@ -27,7 +27,7 @@ IsScripted Asked Sent tally = ForAsked LogTask Asked (IsScriptedAs Sent tally)
 -- why the log's script isn't written
 pub record IsStopOf (why : Refusal) (t : LogTask) : Type 0 where
   pub after : Option (List ℕ)
-  pub refused : RefusesLog t.without t.text t.begun after why
+  pub refused : RefusesLog t.from t.text t.begun after why
 
 abbrev pub IsLogFault : (LogTask → Type 0) → Refusal → Type 0
 IsLogFault Asked why = ForAsked LogTask Asked (IsStopOf why)

@@ -1,23 +1,46 @@
 -- The script of a log that a command line of `script` asks for (this project's). `files` is what is known of files by their names.
-use Rattle.std.specs.Prelude.{◌≡◌, ℕ, Bool, List, [], ◌∷◌, Option, option_map, option_to_list}
-use Rattle.norprog_common.specs.FileStore.{FileFacts, IsMadeApart, Named}
+use Rattle.std.specs.Prelude.{◌≡◌, ℕ, Bool, List, [], ◌∷◌, ◌++◌, Option, None, Some, option_map, option_to_list}
+use Rattle.nor_job.specs.Task.{Task}
+use Rattle.norprog_common.specs.Chip.{origin_of}
+use Rattle.norprog_common.specs.FileStore.{FileFacts, IsMadeApart, Named, tables_file}
+use Rattle.norprog_common.specs.Setup.{IsSetupTask}
 use Rattle.norprog_common.specs.declared.given.ScriptArgs.{ScriptArgs}
+use Rattle.norprog_common.specs.declared.setup.Setup.{Setup}
+use Rattle.norprog_script.specs.Request.{AsksChip}
+use Rattle.norprog_script.specs.Written.{Source, foreign, listed}
 use Rattle.norprog_script.specs.declared.request.ScriptRequest.{ScriptRequest}
 
--- the log's text, whether reads of identities are left out, and what the output held when it was made
+-- the log's text, what the log is, and what the output held when it was made
 pub record LogTask : Type 0 where
   pub text : List ℕ
-  pub without : Bool
+  pub from : Source
   pub begun : Option (List ℕ)
 
--- those of a request: the text is what its file gave, and the output was made, as another file
+-- a listing of the chip, with the tables that the file of its name gave, where there is one; else a log of another tool
+abbrev pub IsSourceOf : FileFacts → Option Setup → Bool → Source → Type 0
+IsSourceOf files None without from = from ≡ foreign without
+IsSourceOf files (Some setup) without from = (chip : Task) × IsSetupTask files setup chip × (from ≡ listed chip)
+
+-- the file of its tables, where it has one
+abbrev pub chip_file : Option Setup → List (List ℕ)
+chip_file None = []
+chip_file (Some setup) = tables_file (origin_of setup.chip)
+
+-- those of a request: the text is what its file gave, and the output was made, as none of the files that are read
 pub record IsTaskOf (files : FileFacts) (request : ScriptRequest) (t : LogTask) : Type 0 where
   pub text : files.gave request.log.now t.text
-  pub without : t.without ≡ request.without_identity
-  pub made : IsMadeApart files (request.log.now ∷ []) request.out.now t.begun
+  pub from : IsSourceOf files request.chip request.without_identity t.from
+  pub made : IsMadeApart files (chip_file request.chip ++ request.log.now ∷ []) request.out.now t.begun
 
--- those that the texts ask for, each file by its name; the output was made as another file than the log's
+-- so it is of the chip that the texts say, where they say something of one
+pub record ServesSource (files : FileFacts) (given : ScriptArgs) (from : Source) : Type 0 where
+  pub chip : Option Setup
+  pub asks : AsksChip given.setup chip
+  pub is : IsSourceOf files chip given.without_identity from
+
+-- those that the texts ask for, each file by its name; the output was made as none of the files that are read
 pub record Serves (files : FileFacts) (given : ScriptArgs) (t : LogTask) : Type 0 where
   pub text : Named (λ name. files.gave name t.text) (option_map (λ t. t.now) given.log)
-  pub without : t.without ≡ given.without_identity
-  pub made : Named (λ name. IsMadeApart files (option_to_list (option_map (λ t. t.now) given.log)) name t.begun) (option_map (λ t. t.now) given.out)
+  pub from : ServesSource files given t.from
+  pub made : Named (λ name. IsMadeApart files (chip_file from.chip ++ option_to_list (option_map (λ t. t.now) given.log)) name t.begun)
+      (option_map (λ t. t.now) given.out)

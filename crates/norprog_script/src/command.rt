@@ -1,20 +1,23 @@
 //! `script`: from the texts of the command line to the script in its file.
 
-ghost use Rattle.std.specs.Prelude.{◌≡◌, ◌<◌, ◌≤◌, ◌-◌, ◌^◌, true, IfOk, IfErr};
+ghost use Rattle.std.specs.Prelude.{◌≡◌, ◌<◌, ◌≤◌, ◌-◌, ◌^◌, true, None, Some, IfOk, IfErr};
 ghost use Rattle.norprog_common.specs.Told.{OrUsage};
 ghost use Rattle.norprog_script.specs.Answer.{IsScripted, RefusesScript, PrintsTally, CutsTally, AnswersScript, done};
 ghost use Rattle.norprog_script.specs.Request.{is_well_formed};
 ghost use Rattle.norprog_script.specs.Served.{IsTaskOf, Serves};
 
+use crate::listing::script_listing;
 use crate::log::script_log;
 use crate::request::{ScriptRequest, request_of};
 use crate::tally::{Tally, write_tally};
 use nor_base::{ByteOut, Failed};
-use norprog_common::{FileName, FileStore, Refusal, ScriptArgs, answered};
+use norprog_common::{
+    FileName, FileStore, Refusal, ScriptArgs, Setup, answered, noted_tables, setup_inputs,
+};
 use std::alloc::Global;
 
-/// Writes the script of the log on a command line into the file that it names, which is made as another one than the log's. It
-/// prints to `out` how many steps there are, and how many were left out; or a refusal to `err` (docs/FORMATS.md, section 9). It
+/// Writes the script of the log on a command line into the file that it names, which is made as none of those that are read. The
+/// log is a listing where something is said of a chip. It prints to `out` how many steps there are, and how many were left out; or a refusal to `err` (docs/FORMATS.md, section 9). It
 /// returns the status: 0 done, 1 refused, 2 usage.
 pub fn script<S: FileStore, O: ByteOut, E: ByteOut>(
     alloc: Global,
@@ -58,12 +61,50 @@ fn scripted_in<S: FileStore, O: ByteOut>(
     }
 }
 
-/// Opens the files of a request in their order, and writes the script of the first into the second.
+/// Writes the script of the log of a request, which is a listing where a chip is said.
 fn run_script<S: FileStore>(
     alloc: Global,
     store: &S,
     request: ScriptRequest<'_>,
 ) -> Result<Tally, Refusal>
+    ensures written { IfOk result (IsScripted (IsTaskOf (S.facts store.now) request.entry) (S.facts store.now).flushed) }
+    ensures refused { IfErr result (RefusesScript (S.facts store.now).lacked (IsTaskOf (S.facts store.now) request.entry)) }
+{
+    match request.chip {
+        Some(setup) => run_listing(alloc, store, setup, request),
+        None => run_log(alloc, store, request),
+    }
+}
+
+/// Opens the files of a request in their order, and writes the script of the listing of this chip.
+fn run_listing<S: FileStore>(
+    alloc: Global,
+    store: &S,
+    setup: Setup<'_>,
+    request: ScriptRequest<'_>,
+) -> Result<Tally, Refusal>
+    requires { request.chip ≡ Some setup }
+    ensures written { IfOk result (IsScripted (IsTaskOf (S.facts store.now) request.entry) (S.facts store.now).flushed) }
+    ensures refused { IfErr result (RefusesScript (S.facts store.now).lacked (IsTaskOf (S.facts store.now) request.entry)) }
+{
+    let mut places = Vec::new(alloc);
+    let tables = noted_tables(alloc, store, setup.chip, &mut places)?;
+    let (listing, place) = store.read(alloc, request.log, FileName::Log)?;
+    places.push(place)?;
+    let mut out = store.create(alloc, request.out, FileName::Out, places.as_slice())?;
+    let inputs = setup_inputs(setup, tables.as_slice());
+    let answer = script_listing(alloc, &inputs, listing.as_slice(), &mut out);
+    let flushed = store.flush(&mut out);
+    done(answer, flushed)
+}
+
+/// Opens the files of a request in their order, and writes the script of the log of another tool.
+fn run_log<S: FileStore>(
+    alloc: Global,
+    store: &S,
+    request: ScriptRequest<'_>,
+) -> Result<Tally, Refusal>
+    requires { request.chip ≡ None }
     ensures written { IfOk result (IsScripted (IsTaskOf (S.facts store.now) request.entry) (S.facts store.now).flushed) }
     ensures refused { IfErr result (RefusesScript (S.facts store.now).lacked (IsTaskOf (S.facts store.now) request.entry)) }
 {

@@ -4,7 +4,7 @@ ghost use Rattle.std.specs.Prelude.{◌≡◌, ◌≢◌, ◌<◌, ◌-◌, ◌^
 ghost use Rattle.nor_job.specs.declared.fault.BuildFault.TheVariants.{Write};
 ghost use Rattle.norprog_common.specs.Content.{CountsWriter};
 ghost use Rattle.norprog_common.specs.declared.faults.Refusal.TheVariants.{Build};
-ghost use Rattle.norprog_script.specs.Written.{WasWritten, RefusesLog, refusal_of as told_of};
+ghost use Rattle.norprog_script.specs.Written.{foreign, WasWritten, RefusesLog, refusal_of as told_of};
 
 use crate::tally::Tally;
 use crate::text::write_script;
@@ -25,8 +25,8 @@ pub fn script_log<W: ByteOut>(
     out: &mut W,
 ) -> Result<Tally, Refusal>
     requires { W.count out.old < 2 ^ 64 - 1 }
-    ensures written { IfOk result (WasWritten without_identity text.now (W.held out.old) (W.held out.new)) }
-    ensures refused { IfErr result (RefusesLog without_identity text.now (W.held out.old) (W.held out.new)) }
+    ensures written { IfOk result (WasWritten (foreign without_identity) text.now (W.held out.old) (W.held out.new)) }
+    ensures refused { IfErr result (RefusesLog (foreign without_identity) text.now (W.held out.old) (W.held out.new)) }
     ensures unwritten { IfErr result (λ why. why ≢ Build Write → out.new ≡ out.old) }
     ensures count { CountsWriter (W.count out.old) (W.count out.new) result }
 {
