@@ -7,7 +7,8 @@ use Rattle.norprog_options.specs.declared.options.Asked.{Asked}
 use Rattle.norprog_options.specs.declared.options.Asked.TheVariants as command
 use Rattle.norprog_options.specs.declared.options.Line.{Line}
 use Rattle.norprog_options.specs.declared.typed.TypedLine.{TypedLine}
-use Rattle.norprog_options.specs.Typed.{IsLineBySome, IsLineOf}
+use Rattle.norprog_options.specs.Spelled.{Refuses, Spells}
+use Rattle.norprog_options.specs.Typed.{IsLineOf}
 use Rattle.norprog_build.specs.Answer.{AnswersBuild}
 use Rattle.norprog_plan.specs.Answer.{AnswersPlan}
 use Rattle.norprog_check.specs.Answer.{AnswersCheck}
@@ -74,13 +75,15 @@ pub record AnswersLine (E : Type 0) (count : E → ℕ) (held : E → Option (Li
       (held answered) status
   pub details : AddsDetails count held files line.details status answered err_after
 
--- to what some matches of the words say its answer; to words that couldn't be read, why
-abbrev pub AnswersWords : {E : Type 0} → (E → ℕ) → (E → Option (List ℕ)) → FileFacts → Option (List ℕ) → Option (List ℕ) → E → E → ℕ → Result Line Refusal → Type 0
-AnswersWords count held files before after err_before err_after status (Ok line) =
-    IsLineBySome line × AnswersLine _ count held files before after err_before err_after status line
-AnswersWords count held files before after err_before err_after status (Err why) =
-    (after ≡ before) × TellsOf (λ told. told ≡ why) (count err_after ≡ count err_before) (held err_before) (held err_after) status
+-- to the command line that the words are its answer; to words that are refused, why
+abbrev pub AnswersTyped : {E : Type 0} → (E → ℕ) → (E → Option (List ℕ)) → FileFacts → List (List ℕ) → Option (List ℕ) → Option (List ℕ) → E → E → ℕ
+    → Result Line Refusal → Type 0
+AnswersTyped count held files words before after err_before err_after status (Ok line) =
+    Spells words line × AnswersLine _ count held files before after err_before err_after status line
+AnswersTyped count held files words before after err_before err_after status (Err why) =
+    Refuses words why × (after ≡ before) × TellsOf (λ told. told ≡ why) (count err_after ≡ count err_before) (held err_before) (held err_after) status
 
-abbrev pub AnswersSome : {E : Type 0} → (E → ℕ) → (E → Option (List ℕ)) → FileFacts → Option (List ℕ) → Option (List ℕ) → E → E → ℕ → Type 0
-AnswersSome count held files before after err_before err_after status =
-    (words : Result Line Refusal) × AnswersWords count held files before after err_before err_after status words
+-- what the program answers to words
+abbrev pub AnswersWords : {E : Type 0} → (E → ℕ) → (E → Option (List ℕ)) → FileFacts → List (List ℕ) → Option (List ℕ) → Option (List ℕ) → E → E → ℕ → Type 0
+AnswersWords count held files words before after err_before err_after status =
+    (read : Result Line Refusal) × AnswersTyped count held files words before after err_before err_after status read

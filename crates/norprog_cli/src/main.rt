@@ -8,11 +8,11 @@
 //! `norprog_list`, `norprog_draw`, `norprog_play`, `norprog_read`, `norprog_flash`, `norprog_hex`, `norprog_script` and `norprog_explain` do the work behind them.
 #![tactic(auto)]
 
-ghost use Rattle.std.specs.Prelude.{◌≡◌, ◌≢◌, ◌<◌, ◌≤◌, ◌-◌, ◌^◌, IfOk, IfErr};
+ghost use Rattle.std.specs.Prelude.{◌≡◌, ◌≢◌, ◌<◌, ◌≤◌, ◌-◌, ◌^◌, map, string_bytes, IfOk, IfErr};
 ghost use Rattle.nor_job.specs.declared.fault.BuildFault.TheVariants.{Write as write_fault};
 ghost use Rattle.norprog_common.specs.declared.faults.Refusal.TheVariants.{Build as of_build};
 ghost use Rattle.norprog_common.specs.Told.{TellsOf};
-ghost use Rattle.norprog_cli.specs.Answers.{AnswersTo, AnswersSome, AddsDetails, AddsLines};
+ghost use Rattle.norprog_cli.specs.Answers.{AnswersTo, AnswersWords, AddsDetails, AddsLines};
 
 use nor_base::{ByteOut, IntoWrite, Nowhere};
 use norprog_build::build;
@@ -111,8 +111,8 @@ fn command<S: FileStore, O: ByteOut, E: ByteOut + Drop, P: ByteOut>(
     requires progress { P.count progress.old < 2 ^ 64 - 1 }
     ensures status { result ≤ 2 }
     ensures quiet { result ≡ 0 → err.new ≡ err.old }
-    ensures answer { AnswersSome (λ heard. E.count heard.out) (λ heard. E.held heard.out) (S.facts store.now)
-        (O.held out.old) (O.held out.new) err.old err.new result }
+    ensures answer { AnswersWords (λ heard. E.count heard.out) (λ heard. E.held heard.out) (S.facts store.now)
+        (map string_bytes words.items) (O.held out.old) (O.held out.new) err.old err.new result }
 {
     match asked_by(alloc, words.as_slice()) {
         Ok(line) => {

@@ -1,6 +1,6 @@
 -- Which option's text goes to which value (this project's).
 use Rattle.std.specs.Prelude.{◌≡◌, ℕ, Bool, true, false, List, [], Option, Some, None, option_map, unwrap_or, codes}
-use Rattle.clap.specs.Words.{first_value, matched_of, one_text, raw_values, rows_of, subcommand_name_of, subcommand_rows_of}
+use Rattle.clap.specs.Words.{first_value, matched_of, one_text, raw_values, rows_of, subcommand_rows_of}
 use Rattle.clap.specs.declared.parser.matches.ArgMatches.{ArgMatches}
 use Rattle.clap.specs.declared.parser.matches.Found.{Found}
 use Rattle.norprog_common.specs.declared.given.Given.{Given}
@@ -142,25 +142,40 @@ pub record IsCheckIn (found : Found) (given : CheckArgs) : Type 0 where
   pub script : Has found (codes "script") (option_map (λ t. t.now) given.script)
   pub witness : Sets found (codes "witness") given.witness
 
--- the command of that name was used, and this holds of its options
-pub record IsUsed (matches : ArgMatches) (name : List ℕ) (In : Found → Type 0) : Type 0 where
-  pub named : subcommand_name_of matches ≡ Some name
-  pub found : Found
-  pub behind : option_map (λ used. used.1) (subcommand_rows_of matches) ≡ Some (rows_of found)
-  pub so : In found
+-- the name of the command that is asked for
+abbrev pub name_of : Asked → List ℕ
+name_of (command.Build given) = codes "build"
+name_of (command.Plan given) = codes "plan"
+name_of (command.Check given) = codes "check"
+name_of (command.Run given) = codes "run"
+name_of (command.List given) = codes "list"
+name_of (command.Draw given) = codes "draw"
+name_of (command.Play given) = codes "play"
+name_of (command.Read given) = codes "read"
+name_of (command.Flash given) = codes "flash"
+name_of (command.Sfdp given) = codes "sfdp"
+name_of (command.Hex given) = codes "hex"
+name_of (command.Script given) = codes "script"
+name_of (command.Explain words) = codes "explain"
 
--- what is asked for is what the command that was used says, each value by the option of its name
-abbrev pub IsAsked : ArgMatches → Asked → Type 0
-IsAsked matches (command.Build given) = IsUsed matches (codes "build") (λ found. IsBuildIn found given)
-IsAsked matches (command.Plan given) = IsUsed matches (codes "plan") (λ found. IsPlanIn found given)
-IsAsked matches (command.Check given) = IsUsed matches (codes "check") (λ found. IsCheckIn found given)
-IsAsked matches (command.Run given) = IsUsed matches (codes "run") (λ found. IsRunIn found given)
-IsAsked matches (command.List given) = IsUsed matches (codes "list") (λ found. IsListIn found given)
-IsAsked matches (command.Draw given) = IsUsed matches (codes "draw") (λ found. IsDrawIn found given)
-IsAsked matches (command.Play given) = IsUsed matches (codes "play") (λ found. IsPlayIn found given)
-IsAsked matches (command.Read given) = IsUsed matches (codes "read") (λ found. IsReadIn found given)
-IsAsked matches (command.Flash given) = IsUsed matches (codes "flash") (λ found. IsFlashIn found given)
-IsAsked matches (command.Sfdp given) = IsUsed matches (codes "sfdp") (λ found. IsChipIn found given)
-IsAsked matches (command.Hex given) = IsUsed matches (codes "hex") (λ found. IsHexIn found given)
-IsAsked matches (command.Script given) = IsUsed matches (codes "script") (λ found. IsScriptIn found given)
-IsAsked matches (command.Explain words) = IsUsed matches (codes "explain") (λ found. words.items ≡ texts_of found (codes "words"))
+-- each value of what is asked for is that of the option of its name
+abbrev pub IsAskedIn : Found → Asked → Type 0
+IsAskedIn found (command.Build given) = IsBuildIn found given
+IsAskedIn found (command.Plan given) = IsPlanIn found given
+IsAskedIn found (command.Check given) = IsCheckIn found given
+IsAskedIn found (command.Run given) = IsRunIn found given
+IsAskedIn found (command.List given) = IsListIn found given
+IsAskedIn found (command.Draw given) = IsDrawIn found given
+IsAskedIn found (command.Play given) = IsPlayIn found given
+IsAskedIn found (command.Read given) = IsReadIn found given
+IsAskedIn found (command.Flash given) = IsFlashIn found given
+IsAskedIn found (command.Sfdp given) = IsChipIn found given
+IsAskedIn found (command.Hex given) = IsHexIn found given
+IsAskedIn found (command.Script given) = IsScriptIn found given
+IsAskedIn found (command.Explain words) = words.items ≡ texts_of found (codes "words")
+
+-- what is asked for is the command that was used, each value by the option of its name
+pub record IsAsked (matches : ArgMatches) (asked : Asked) : Type 0 where
+  pub found : Found
+  pub used : subcommand_rows_of matches ≡ Some (name_of asked, rows_of found)
+  pub so : IsAskedIn found asked

@@ -1,13 +1,12 @@
 -- The options with values as they stand on a command line (this project's).
-use Rattle.std.specs.Prelude.{◌≡◌, ℕ, List, [], ◌∷◌, flat_map, map, codes, Option, Some, None, is_some, option_map, IfSome}
-use Rattle.clap.specs.Words.{first_value, rows_of, subcommand_name_of, subcommand_rows_of}
+use Rattle.std.specs.Prelude.{◌≡◌, ℕ, List, [], ◌∷◌, flat_map, map, codes, Option, Some, None, is_some, IfSome}
+use Rattle.clap.specs.Words.{first_value, rows_of, subcommand_rows_of}
 use Rattle.clap.specs.declared.parser.matches.ArgMatches.{ArgMatches}
 use Rattle.clap.specs.declared.parser.matches.Found.{Found}
 use Rattle.norprog_details.specs.declared.typed.CommandLine.{CommandLine}
 use Rattle.norprog_options.specs.declared.typed.TypedLine.{TypedLine}
 use Rattle.norprog_options.specs.declared.typed.TheConstants.{NAMES}
-use Rattle.norprog_options.specs.declared.options.Line.{Line}
-use Rattle.norprog_options.specs.Options.{IsAsked, Sets, texts_of}
+use Rattle.norprog_options.specs.Options.{Sets, texts_of}
 
 -- an option by its name with its value, if it has one
 abbrev pub with_value : List ℕ → Option (List ℕ) → List (List ℕ × List ℕ)
@@ -44,12 +43,6 @@ pub record IsDetailedBy (command : List ℕ) (found : Found) (details : Option T
   pub line : IfSome details (IsLineIn command found)
 
 -- of the command that was used
-pub record IsDetailed (matches : ArgMatches) (details : Option TypedLine) : Type 0 where
-  pub used : (command : List ℕ) → subcommand_name_of matches ≡ Some command
-      → (found : Found) × (option_map (λ used. used.1) (subcommand_rows_of matches) ≡ Some (rows_of found)) × IsDetailedBy command found details
-
--- what some matches of the words say
-pub record IsLineBySome (line : Line) : Type 0 where
-  pub matches : ArgMatches
-  pub asked : IsAsked matches line.asked
-  pub details : IsDetailed matches line.details
+abbrev pub IsDetailed : ArgMatches → Option TypedLine → Type 0
+IsDetailed matches details =
+    (command : List ℕ) (found : Found) → subcommand_rows_of matches ≡ Some (command, rows_of found) → IsDetailedBy command found details

@@ -1,5 +1,11 @@
 //! The commands and their options, with help, as data.
 
+ghost use Rattle.std.specs.Prelude.{◌≡◌, map, IfOk, false, Some};
+ghost use Rattle.clap.specs.Words.{app_of, rule_of};
+ghost use Rattle.norprog_options.specs.Program.{commands, program};
+ghost use Rattle.norprog_options.specs.Table.{alone, command_of, each_of, option_of};
+ghost use Rattle.norprog_options.specs.Table.{options_of, with_options};
+
 use clap::{Arg, ArgAction, Command};
 use std::alloc::{AllocError, Global};
 
@@ -519,7 +525,9 @@ static FORMS: [Form; 13] = [
 ];
 
 /// The program with its commands.
-pub(crate) fn norprog<'a>(alloc: Global) -> Result<Command<'a>, AllocError> {
+pub(crate) fn norprog<'a>(alloc: Global) -> Result<Command<'a>, AllocError>
+    ensures { IfOk result (λ command. app_of command ≡ program) }
+{
     let mut program = Command::new(alloc, "norprog")
         .bin_name("norprog")?
         .about("Programs a SPI NOR flash chip by a bus script")
@@ -533,12 +541,16 @@ pub(crate) fn norprog<'a>(alloc: Global) -> Result<Command<'a>, AllocError> {
 }
 
 /// The commands' forms.
-fn forms() -> &'static [Form] {
+fn forms() -> &'static [Form]
+    ensures { map command_of result.now ≡ commands }
+{
     &FORMS
 }
 
 /// The options of a group.
-fn choices_of(group: Group) -> &'static [Choice] {
+fn choices_of(group: Group) -> &'static [Choice]
+    ensures { map option_of result.now ≡ options_of group }
+{
     match group {
         Group::Image => IMAGE,
         Group::Chip => CHIP,
@@ -551,7 +563,9 @@ fn choices_of(group: Group) -> &'static [Choice] {
 }
 
 /// A command with its options.
-fn command_of<'a>(alloc: Global, form: &Form) -> Result<Command<'a>, AllocError> {
+fn command_of<'a>(alloc: Global, form: &Form) -> Result<Command<'a>, AllocError>
+    ensures { IfOk result (λ command. app_of command ≡ alone (command_of form.now)) }
+{
     let mut command = Command::new(alloc, form.name)
         .about(form.about)
         .after_help(form.example);
@@ -563,7 +577,9 @@ fn command_of<'a>(alloc: Global, form: &Form) -> Result<Command<'a>, AllocError>
 }
 
 /// The options that a command has as every other.
-fn each_has(form: &Form) -> &'static [Choice] {
+fn each_has(form: &Form) -> &'static [Choice]
+    ensures { map option_of result.now ≡ each_of form.now.name.now }
+{
     if form.name == "explain" { &[] } else { EACH }
 }
 
@@ -572,7 +588,10 @@ fn with_choices<'a>(
     alloc: Global,
     command: Command<'a>,
     choices: &[Choice],
-) -> Result<Command<'a>, AllocError> {
+) -> Result<Command<'a>, AllocError>
+    ensures { IfOk result (λ more. app_of more
+        ≡ with_options (app_of command.entry) (map option_of choices.now)) }
+{
     let mut command = command;
     for choice in choices {
         command = command.arg(argument_of(alloc, choice))?;
@@ -581,7 +600,10 @@ fn with_choices<'a>(
 }
 
 /// What is read for an option.
-fn argument_of<'a>(alloc: Global, choice: &Choice) -> Arg<'a> {
+fn argument_of<'a>(alloc: Global, choice: &Choice) -> Arg<'a>
+    ensures rule { rule_of result ≡ option_of choice.now }
+    ensures local { result.global ≡ false }
+{
     let argument = Arg::new(alloc, choice.name).help(choice.help);
     match choice.takes {
         Takes::Nothing => argument.long(choice.name).action(ArgAction::SetTrue),
@@ -595,7 +617,15 @@ fn argument_of<'a>(alloc: Global, choice: &Choice) -> Arg<'a> {
 }
 
 /// An option with a value, which is shown by this name.
-fn value<'a>(argument: Arg<'a>, choice: &Choice, name: &'static str) -> Arg<'a> {
+fn value<'a>(argument: Arg<'a>, choice: &Choice, name: &'static str) -> Arg<'a>
+    ensures rule { rule_of result ≡ record (rule_of argument.entry) {
+      long = Some choice.now.name.now;
+      value_names = 1;
+      action = Some ArgAction.Set;
+      required = choice.now.required;
+    } }
+    ensures local { result.global ≡ argument.entry.global }
+{
     argument
         .long(choice.name)
         .value_name(name)

@@ -1,9 +1,10 @@
 //! What stands on a command line, read by the command line library.
 
-ghost use Rattle.std.specs.Prelude.{◌≡◌, map, IfOk};
-ghost use Rattle.clap.specs.Words.{found_of};
+ghost use Rattle.std.specs.Prelude.{◌≡◌, drop, map, string_bytes, IfErr, IfOk};
+ghost use Rattle.clap.specs.Words.{found_of, kind_of};
 ghost use Rattle.norprog_options.specs.Options.{texts_of, IsBuildIn, IsCheckIn, IsJobIn, IsChipIn, IsDrawIn, IsFlashIn, IsHexIn, IsListIn, IsPlanIn, IsPlayIn, IsReadIn, IsRunIn, IsSetupIn, IsAsked, IsScriptIn};
-ghost use Rattle.norprog_options.specs.Typed.{IsDetailed, IsDetailedBy, IsLineBySome};
+ghost use Rattle.norprog_options.specs.Spelled.{IsRefusalOf, IsUnasked, Refuses, Spells, command_names, memory};
+ghost use Rattle.norprog_options.specs.Typed.{IsDetailed, IsDetailedBy};
 
 use crate::arguments::norprog;
 use crate::typed::{TypedLine, line_in};
@@ -44,13 +45,13 @@ pub struct Line<'a> {
     pub details: Option<TypedLine<'a>>,
 }
 
-/// Reads the words after the program's name, by the command line library. Each value is the text of the option of its name, among
-/// the matches that the library gives for the words; which words it refuses is its own.
+/// Reads the words after the program's name: a command and its options, by the rules of the command line library.
 ///
-/// A fault of the words, and a request for help, is `Text` of that library; where it names no command, `Usage`; `Memory` where
-/// a growth is refused.
+/// Words with a fault, and a request for help, are refused with `Text`, which that library wrote; else only `Memory` is, where a
+/// growth is refused.
 pub fn asked_by<'a>(alloc: Global, words: &'a [String]) -> Result<Line<'a>, Refusal>
-    ensures { IfOk result IsLineBySome }
+    ensures line { IfOk result (Spells (map string_bytes words.entry.now)) }
+    ensures refused { IfErr result (Refuses (map string_bytes words.entry.now)) }
 {
     let command = norprog(alloc)?;
     match command.try_get_matches_from(words) {
@@ -64,7 +65,8 @@ pub fn asked_by<'a>(alloc: Global, words: &'a [String]) -> Result<Line<'a>, Refu
 
 /// With `--details`, what stands on a command line.
 fn details_in<'a>(alloc: Global, matches: &ArgMatches<'a>) -> Result<Option<TypedLine<'a>>, Refusal>
-    ensures { IfOk result (IsDetailed matches.now) }
+    ensures done { IfOk result (IsDetailed matches.now) }
+    ensures memory { IfErr result (λ why. why ≡ memory) }
 {
     match matches.subcommand() {
         Some((command, used)) => details_of(alloc, command, used),
@@ -78,7 +80,8 @@ fn details_of<'a>(
     command: &'a str,
     used: &ArgMatches<'a>,
 ) -> Result<Option<TypedLine<'a>>, Refusal>
-    ensures { IfOk result (IsDetailedBy command.entry.now (found_of used.now)) }
+    ensures done { IfOk result (IsDetailedBy command.entry.now (found_of used.now)) }
+    ensures memory { IfErr result (λ why. why ≡ memory) }
 {
     if !used.get_flag("details") {
         return Ok(None);
@@ -88,7 +91,8 @@ fn details_of<'a>(
 
 /// What the matches of a command line ask for.
 fn asked_in<'a>(alloc: Global, matches: &ArgMatches<'a>) -> Result<Asked<'a>, Refusal>
-    ensures { IfOk result (IsAsked matches.now) }
+    ensures asked { IfOk result (IsAsked matches.now) }
+    ensures refused { IfErr result (IsUnasked command_names matches.now) }
 {
     if let Some(build) = matches.subcommand_matches("build") {
         return Ok(Asked::Build(build_in(alloc, build)?));
@@ -104,7 +108,8 @@ fn asked_in<'a>(alloc: Global, matches: &ArgMatches<'a>) -> Result<Asked<'a>, Re
 
 /// What they ask for, where that is no job.
 fn script_asked<'a>(alloc: Global, matches: &ArgMatches<'a>) -> Result<Asked<'a>, Refusal>
-    ensures { IfOk result (IsAsked matches.now) }
+    ensures asked { IfOk result (IsAsked matches.now) }
+    ensures refused { IfErr result (IsUnasked (drop 3 command_names) matches.now) }
 {
     if let Some(run) = matches.subcommand_matches("run") {
         return Ok(Asked::Run(run_in(run)));
@@ -118,18 +123,19 @@ fn script_asked<'a>(alloc: Global, matches: &ArgMatches<'a>) -> Result<Asked<'a>
     if let Some(play) = matches.subcommand_matches("play") {
         return Ok(Asked::Play(play_in(play)));
     }
-    if let Some(script) = matches.subcommand_matches("script") {
-        return Ok(Asked::Script(script_in(script)));
-    }
     meaning_asked(alloc, matches)
 }
 
-/// What they ask for, where that is no script either.
+/// What they ask for, where that is none of these either.
 fn meaning_asked<'a>(alloc: Global, matches: &ArgMatches<'a>) -> Result<Asked<'a>, Refusal>
-    ensures { IfOk result (IsAsked matches.now) }
+    ensures asked { IfOk result (IsAsked matches.now) }
+    ensures refused { IfErr result (IsUnasked (drop 7 command_names) matches.now) }
 {
     if let Some(read) = matches.subcommand_matches("read") {
         return Ok(Asked::Read(read_in(read)));
+    }
+    if let Some(flash) = matches.subcommand_matches("flash") {
+        return Ok(Asked::Flash(flash_in(alloc, flash)?));
     }
     if let Some(chip) = matches.subcommand_matches("sfdp") {
         return Ok(Asked::Sfdp(chip_in(chip)));
@@ -137,8 +143,8 @@ fn meaning_asked<'a>(alloc: Global, matches: &ArgMatches<'a>) -> Result<Asked<'a
     if let Some(hex) = matches.subcommand_matches("hex") {
         return Ok(Asked::Hex(hex_in(hex)));
     }
-    if let Some(flash) = matches.subcommand_matches("flash") {
-        return Ok(Asked::Flash(flash_in(alloc, flash)?));
+    if let Some(script) = matches.subcommand_matches("script") {
+        return Ok(Asked::Script(script_in(script)));
     }
     match matches.subcommand_matches("explain") {
         Some(explain) => Ok(Asked::Explain(texts_in(alloc, explain, "words")?)),
@@ -147,7 +153,9 @@ fn meaning_asked<'a>(alloc: Global, matches: &ArgMatches<'a>) -> Result<Asked<'a
 }
 
 /// The library's text, or want of memory.
-fn refusal_of(alloc: Global, error: &Error) -> Refusal {
+fn refusal_of(alloc: Global, error: &Error) -> Refusal
+    ensures { IsRefusalOf (kind_of error.now) result }
+{
     if error.kind() == ErrorKind::OutOfMemory {
         return Refusal::MEMORY;
     }
@@ -159,7 +167,8 @@ fn refusal_of(alloc: Global, error: &Error) -> Refusal {
 
 /// The job. An option that the command doesn't have isn't given.
 fn given_in<'a>(alloc: Global, job: &ArgMatches<'a>) -> Result<Given<'a>, Refusal>
-    ensures { IfOk result (IsJobIn (found_of job.now)) }
+    ensures done { IfOk result (IsJobIn (found_of job.now)) }
+    ensures memory { IfErr result (λ why. why ≡ memory) }
 {
     Ok(Given {
         hex: job.get_str("hex"),
@@ -182,7 +191,8 @@ fn given_in<'a>(alloc: Global, job: &ArgMatches<'a>) -> Result<Given<'a>, Refusa
 
 /// The build.
 fn build_in<'a>(alloc: Global, build: &ArgMatches<'a>) -> Result<BuildArgs<'a>, Refusal>
-    ensures { IfOk result (IsBuildIn (found_of build.now)) }
+    ensures done { IfOk result (IsBuildIn (found_of build.now)) }
+    ensures memory { IfErr result (λ why. why ≡ memory) }
 {
     Ok(BuildArgs {
         job: given_in(alloc, build)?,
@@ -192,7 +202,8 @@ fn build_in<'a>(alloc: Global, build: &ArgMatches<'a>) -> Result<BuildArgs<'a>, 
 
 /// The check of a script.
 fn check_in<'a>(alloc: Global, check: &ArgMatches<'a>) -> Result<CheckArgs<'a>, Refusal>
-    ensures { IfOk result (IsCheckIn (found_of check.now)) }
+    ensures done { IfOk result (IsCheckIn (found_of check.now)) }
+    ensures memory { IfErr result (λ why. why ≡ memory) }
 {
     Ok(CheckArgs {
         job: given_in(alloc, check)?,
@@ -203,7 +214,8 @@ fn check_in<'a>(alloc: Global, check: &ArgMatches<'a>) -> Result<CheckArgs<'a>, 
 
 /// The plan.
 fn plan_in<'a>(alloc: Global, plan: &ArgMatches<'a>) -> Result<PlanArgs<'a>, Refusal>
-    ensures { IfOk result (IsPlanIn (found_of plan.now)) }
+    ensures done { IfOk result (IsPlanIn (found_of plan.now)) }
+    ensures memory { IfErr result (λ why. why ≡ memory) }
 {
     Ok(PlanArgs {
         job: given_in(alloc, plan)?,
@@ -316,7 +328,8 @@ fn read_in<'a>(read: &ArgMatches<'a>) -> ReadArgs<'a>
 
 /// The programming of a chip.
 fn flash_in<'a>(alloc: Global, flash: &ArgMatches<'a>) -> Result<FlashArgs<'a>, Refusal>
-    ensures { IfOk result (IsFlashIn (found_of flash.now)) }
+    ensures done { IfOk result (IsFlashIn (found_of flash.now)) }
+    ensures memory { IfErr result (λ why. why ≡ memory) }
 {
     Ok(FlashArgs {
         chip: chip_in(flash),
@@ -351,7 +364,8 @@ fn play_in<'a>(play: &ArgMatches<'a>) -> PlayArgs<'a>
 
 /// The values of an argument that may have several, in their order.
 fn texts_in(alloc: Global, matches: &ArgMatches<'_>, name: &str) -> Result<Vec<Bytes>, Refusal>
-    ensures { IfOk result (λ texts. texts.items ≡ texts_of (found_of matches.now) name.now) }
+    ensures done { IfOk result (λ texts. texts.items ≡ texts_of (found_of matches.now) name.now) }
+    ensures memory { IfErr result (λ why. why ≡ memory) }
 {
     match matches.get_strs(name) {
         Some(texts) => bytes_of(alloc, texts),
@@ -361,7 +375,8 @@ fn texts_in(alloc: Global, matches: &ArgMatches<'_>, name: &str) -> Result<Vec<B
 
 /// The bytes of each text.
 fn bytes_of(alloc: Global, texts: &[&str]) -> Result<Vec<Bytes>, Refusal>
-    ensures { IfOk result (λ each. each.items ≡ map (λ text. text.now) texts.now) }
+    ensures done { IfOk result (λ each. each.items ≡ map (λ text. text.now) texts.now) }
+    ensures memory { IfErr result (λ why. why ≡ memory) }
 {
     let mut each = Vec::new(alloc);
     for text in texts {

@@ -1,7 +1,8 @@
 //! The options with values as they stand on a command line.
 
-ghost use Rattle.std.specs.Prelude.{◌≡◌, map, IfOk};
+ghost use Rattle.std.specs.Prelude.{◌≡◌, map, IfErr, IfOk};
 ghost use Rattle.clap.specs.Words.{found_of};
+ghost use Rattle.norprog_options.specs.Spelled.{memory};
 ghost use Rattle.norprog_options.specs.Typed.{IsLineIn, IsLineOf, option_names, texts_in, typed_in};
 
 use clap::ArgMatches;
@@ -66,7 +67,8 @@ pub(crate) fn line_in<'a>(
     command: &'a str,
     used: &ArgMatches<'a>,
 ) -> Result<TypedLine<'a>, Refusal>
-    ensures { IfOk result (IsLineIn command.entry.now (found_of used.now)) }
+    ensures done { IfOk result (IsLineIn command.entry.now (found_of used.now)) }
+    ensures memory { IfErr result (λ why. why ≡ memory) }
 {
     Ok(TypedLine {
         command,
@@ -88,8 +90,9 @@ fn typed_in<'a>(
     used: &ArgMatches<'a>,
     names: &[&'static str],
 ) -> Result<Vec<Typed<'a>>, Refusal>
-    ensures { IfOk result (λ typed. map (λ o. (o.name.now, o.value.now)) typed.items
+    ensures done { IfOk result (λ typed. map (λ o. (o.name.now, o.value.now)) typed.items
         ≡ typed_in (map (λ name. name.now) names.now) (found_of used.now)) }
+    ensures memory { IfErr result (λ why. why ≡ memory) }
 {
     let mut typed = Vec::new(alloc);
     for name in names {
@@ -102,7 +105,9 @@ fn typed_in<'a>(
 
 /// The names of the chosen regions.
 fn names_in<'a>(alloc: Global, used: &ArgMatches<'a>) -> Result<Vec<&'a str>, Refusal>
-    ensures { IfOk result (λ names. map (λ name. name.now) names.items ≡ texts_in (found_of used.now)) }
+    ensures done { IfOk result (λ names. map (λ name. name.now) names.items
+        ≡ texts_in (found_of used.now)) }
+    ensures memory { IfErr result (λ why. why ≡ memory) }
 {
     match used.get_strs("names") {
         Some(names) => Ok(Vec::from_slice(alloc, names)?),

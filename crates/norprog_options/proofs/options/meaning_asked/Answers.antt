@@ -1,44 +1,47 @@
 -- The command that was used is the one whose options are read.
 use Rattle.std.proofs.Common.{refl}
 use Rattle.clap.specs.Words.{found_of}
+use Rattle.norprog_options.proofs.UsedLemmas.{used_by}
 use Rattle.norprog_options.proofs.options.meaning_asked.Goals as goal
 
-pub returns-in-Some : goal.returns-in-Some
-returns-in-Some c = record {
-  named = c.in-Some.ensures.found.0 refl;
+pub returns-in-Some-clause-asked : goal.returns-in-Some-clause-asked
+returns-in-Some-clause-asked c = record {
   found = found_of c.in-Some.read.now;
-  behind = c.in-Some.ensures.rows;
+  used = used_by _ _ _ (c.in-Some.ensures.found.0 refl) c.in-Some.ensures.rows;
   so = c.read_in.ensures;
 }
 
-pub returns-in-Some-subcommand_matches : goal.returns-in-Some-subcommand_matches
-returns-in-Some-subcommand_matches c = record {
-  named = c.in-Some-subcommand_matches.ensures.found.0 refl;
-  found = found_of c.in-Some-subcommand_matches.chip.now;
-  behind = c.in-Some-subcommand_matches.ensures.rows;
+pub returns-in-Some-subcommand_matches-clause-asked : goal.returns-in-Some-subcommand_matches-clause-asked
+returns-in-Some-subcommand_matches-clause-asked c = record {
+  found = found_of c.in-Some-subcommand_matches.flash.now;
+  used = used_by _ _ _ (c.in-Some-subcommand_matches.ensures.found.0 refl) c.in-Some-subcommand_matches.ensures.rows;
+  so = c.in_ok-flash_in.ensures.done;
+}
+
+pub returns-in-Some-subcommand_matches-2-clause-asked : goal.returns-in-Some-subcommand_matches-2-clause-asked
+returns-in-Some-subcommand_matches-2-clause-asked c = record {
+  found = found_of c.in-Some-subcommand_matches-2.chip.now;
+  used = used_by _ _ _ (c.in-Some-subcommand_matches-2.ensures.found.0 refl) c.in-Some-subcommand_matches-2.ensures.rows;
   so = c.chip_in.ensures;
 }
 
-pub returns-in-Some-subcommand_matches-2 : goal.returns-in-Some-subcommand_matches-2
-returns-in-Some-subcommand_matches-2 c = record {
-  named = c.in-Some-subcommand_matches-2.ensures.found.0 refl;
-  found = found_of c.in-Some-subcommand_matches-2.hex.now;
-  behind = c.in-Some-subcommand_matches-2.ensures.rows;
+pub returns-in-Some-subcommand_matches-3-clause-asked : goal.returns-in-Some-subcommand_matches-3-clause-asked
+returns-in-Some-subcommand_matches-3-clause-asked c = record {
+  found = found_of c.in-Some-subcommand_matches-3.hex.now;
+  used = used_by _ _ _ (c.in-Some-subcommand_matches-3.ensures.found.0 refl) c.in-Some-subcommand_matches-3.ensures.rows;
   so = c.hex_in.ensures;
 }
 
-pub returns-in-Some-subcommand_matches-3 : goal.returns-in-Some-subcommand_matches-3
-returns-in-Some-subcommand_matches-3 c = record {
-  named = c.in-Some-subcommand_matches-3.ensures.found.0 refl;
-  found = found_of c.in-Some-subcommand_matches-3.flash.now;
-  behind = c.in-Some-subcommand_matches-3.ensures.rows;
-  so = c.in_ok-flash_in.ensures;
+pub returns-in-Some-subcommand_matches-4-clause-asked : goal.returns-in-Some-subcommand_matches-4-clause-asked
+returns-in-Some-subcommand_matches-4-clause-asked c = record {
+  found = found_of c.in-Some-subcommand_matches-4.script.now;
+  used = used_by _ _ _ (c.in-Some-subcommand_matches-4.ensures.found.0 refl) c.in-Some-subcommand_matches-4.ensures.rows;
+  so = c.script_in.ensures;
 }
 
-pub returns-in_ok-texts_in-in-Some-subcommand_matches-4 : goal.returns-in_ok-texts_in-in-Some-subcommand_matches-4
-returns-in_ok-texts_in-in-Some-subcommand_matches-4 c = record {
-  named = c.in-Some-subcommand_matches-4.ensures.found.0 refl;
-  found = found_of c.in-Some-subcommand_matches-4.explain.now;
-  behind = c.in-Some-subcommand_matches-4.ensures.rows;
-  so = c.in_ok-texts_in-in-Some-subcommand_matches-4.ensures;
+pub returns-in_ok-texts_in-in-Some-subcommand_matches-5-clause-asked : goal.returns-in_ok-texts_in-in-Some-subcommand_matches-5-clause-asked
+returns-in_ok-texts_in-in-Some-subcommand_matches-5-clause-asked c = record {
+  found = found_of c.in-Some-subcommand_matches-5.explain.now;
+  used = used_by _ _ _ (c.in-Some-subcommand_matches-5.ensures.found.0 refl) c.in-Some-subcommand_matches-5.ensures.rows;
+  so = c.in_ok-texts_in-in-Some-subcommand_matches-5.ensures.done;
 }

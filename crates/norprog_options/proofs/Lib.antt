@@ -1,0 +1,6 @@
+mod TableLemmas
+mod UsedLemmas
+mod HelpLemmas
+mod FitsLemmas
+mod SpelledLemmas
+mod WorkedWords

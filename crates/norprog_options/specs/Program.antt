@@ -1,0 +1,105 @@
+-- The commands of norprog and their options, as the command line library has them (this project's).
+use Rattle.std.specs.Prelude.{Bool, true, false, List, [], ◌∷◌, ◌++◌, Some, map, codes}
+use Rattle.clap.specs.Lexer.{usize_max}
+use Rattle.clap.specs.Simple.{new_shape}
+use Rattle.clap.specs.Words.{App, Rule, Shape, Text, new_rule}
+use Rattle.clap.specs.declared.builder.action.ArgAction.TheVariants.{Set, Append, SetTrue}
+
+-- the option of this name, without a value
+abbrev pub flag : Text → Rule
+flag name = record (new_rule name) { long = Some name; action = Some SetTrue }
+
+-- the option of this name, with one value; it may have to be there
+abbrev pub valued : Bool → Text → Rule
+valued required name = record (new_rule name) { long = Some name; value_names = 1; action = Some Set; required = required }
+
+-- an option with a value that may be left out
+abbrev pub optional : Text → Rule
+optional name = valued false name
+
+-- an option with a value that has to be there
+abbrev pub needed : Text → Rule
+needed name = valued true name
+
+-- any number of words that belong to no option
+abbrev pub words : Text → Rule
+words name = record (new_rule name) {
+  value_names = 1;
+  range = Some (record { start_inclusive = 0; end_inclusive = usize_max });
+  action = Some Append;
+}
+
+-- the options of the image: its HEX file, the layout, the address that goes to chip address 0, and the names of the chosen regions
+abbrev pub image : List Rule
+image = needed (codes "hex") ∷ optional (codes "layout") ∷ optional (codes "base") ∷ words (codes "names") ∷ []
+
+-- the options of the chip
+abbrev pub chip : List Rule
+chip = optional (codes "sfdp") ∷ optional (codes "uniform") ∷ optional (codes "bits") ∷ optional (codes "part") ∷ []
+
+-- the file of what the chip holds
+abbrev pub content : List Rule
+content = needed (codes "content") ∷ []
+
+-- the options of the chip's state when the script begins
+abbrev pub start : List Rule
+start = optional (codes "status") ∷ flag (codes "mode4") ∷ flag (codes "quad") ∷ flag (codes "erased-only") ∷ []
+
+-- the options of the chip in memory
+abbrev pub behaviour : List Rule
+behaviour =
+    optional (codes "busy") ∷ optional (codes "each-busy") ∷ flag (codes "keep") ∷ optional (codes "limit") ∷ optional (codes "page") ∷ []
+
+-- whether the script reads back what it writes
+abbrev pub verify : List Rule
+verify = flag (codes "verify") ∷ []
+
+-- the script's file
+abbrev pub script : List Rule
+script = needed (codes "script") ∷ []
+
+-- whether a refusal has more lines
+abbrev pub details : List Rule
+details = flag (codes "details") ∷ []
+
+-- the commands, each by its name with its options
+abbrev pub commands : List (Text × List Rule)
+commands =
+    (codes "build", image ++ chip ++ content ++ start ++ verify ++ flag (codes "strict") ∷ needed (codes "out") ∷ details)
+    ∷ (
+      codes "plan",
+      image ++ chip ++ content ++ start ++ verify ++ flag (codes "strict") ∷ flag (codes "times") ∷ flag (codes "regions")
+          ∷ optional (codes "map") ∷ details,
+    )
+    ∷ (codes "check", image ++ chip ++ content ++ start ++ script ++ flag (codes "strict") ∷ flag (codes "witness") ∷ details)
+    ∷ (codes "run", chip ++ content ++ start ++ script ++ behaviour ++ optional (codes "out") ∷ details)
+    ∷ (codes "list", chip ++ start ++ script ++ details)
+    ∷ (codes "draw", script ++ optional (codes "from") ∷ optional (codes "steps") ∷ needed (codes "out") ∷ details)
+    ∷ (codes "play", chip ++ content ++ start ++ script ++ needed (codes "device") ∷ optional (codes "limit") ∷ flag (codes "trust") ∷ details)
+    ∷ (
+      codes "read",
+      chip ++ flag (codes "mode4") ∷ needed (codes "device") ∷ optional (codes "limit") ∷ optional (codes "tables")
+          ∷ optional (codes "out") ∷ details,
+    )
+    ∷ (
+      codes "flash",
+      image ++ chip ++ flag (codes "mode4") ∷ flag (codes "erased-only") ∷ flag (codes "strict") ∷ needed (codes "device")
+          ∷ optional (codes "limit") ∷ needed (codes "before") ∷ optional (codes "resume") ∷ flag (codes "dry-run") ∷ details,
+    )
+    ∷ (codes "sfdp", chip ++ details)
+    ∷ (codes "hex", needed (codes "bin") ∷ needed (codes "at") ∷ needed (codes "out") ∷ details)
+    ∷ (codes "script", needed (codes "log") ∷ flag (codes "without-identity") ∷ needed (codes "out") ∷ details)
+    ∷ (codes "explain", words (codes "words") ∷ [])
+    ∷ []
+
+-- a command of this name with these options
+abbrev pub command : Text × List Rule → Shape
+command (name, rules) = record (new_shape name) { rules = rules }
+
+-- what stands before a command: nothing but --help and --version, and a command has to be there
+abbrev pub norprog : Shape
+norprog = record (new_shape (codes "norprog")) { is_leaf = false; no_binary_name = true; subcommand_required = true; has_version = true }
+
+-- the program
+abbrev pub program : App
+program = record { top = norprog; subs = map command commands }
