@@ -88,7 +88,7 @@ commands =
     )
     ∷ (codes "sfdp", chip ++ details)
     ∷ (codes "hex", needed (codes "bin") ∷ needed (codes "at") ∷ needed (codes "out") ∷ details)
-    ∷ (codes "script", needed (codes "log") ∷ flag (codes "without-identity") ∷ needed (codes "out") ∷ details)
+    ∷ (codes "script", chip ++ start ++ needed (codes "log") ∷ flag (codes "without-identity") ∷ needed (codes "out") ∷ details)
     ∷ (codes "explain", words (codes "words") ∷ [])
     ∷ []
 
