@@ -53,3 +53,6 @@ returns-clause-checked g c =
     (judged_of job have _ fed c.in_ok-said.said c.finding_of.result c.new-checker.ensures.worst c.new-checker.ensures.yes c.new-checker.ensures.shown
     c.new-checker.ensures.counted c.finding_of.ensures.verdict c.finding_of.ensures.chip steps says))
     c.in_ok-said.ensures.told
+
+pub returns-in_err-read_first-clause-reads : goal.returns-in_err-read_first-clause-reads
+returns-in_err-read_first-clause-reads g c = (search rules, search rules, search rules, search rules)
