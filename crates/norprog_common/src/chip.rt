@@ -17,8 +17,8 @@ pub enum Chip<'a> {
     Uniform(u32),
 }
 
-/// The chip, where exactly one of its SFDP file and its size is given, the size is of its form, and no bits stand
-/// beside a size.
+/// The chip, where exactly one of its SFDP file and its size is given, the size is of its form, and
+/// no bits stand beside a size.
 pub fn chip_of<'a>(
     sfdp: Option<&'a str>,
     uniform: Option<&'a str>,
@@ -37,7 +37,8 @@ pub fn chip_of<'a>(
     }
 }
 
-/// The chip as the library takes it: the bytes of its tables with the bits that are asked for, or its size.
+/// The chip as the library takes it: the bytes of its tables with the bits that are asked for, or
+/// its size.
 pub fn source_of<'a>(chip: Chip<'a>, tables: &'a [u8]) -> Source<'a>
     ensures { task_origin result ≡ task_chip (origin_of chip.entry) tables.entry.now }
 {
@@ -50,7 +51,8 @@ pub fn source_of<'a>(chip: Chip<'a>, tables: &'a [u8]) -> Source<'a>
     }
 }
 
-/// The status, if one is given: exactly six hexadecimal digits of either case. None where it isn't so.
+/// The status, if one is given: exactly six hexadecimal digits of either case. None where it isn't
+/// so.
 pub fn optional_status(text: Option<&str>) -> Option<Option<u32>>
     ensures { result ≡ said_status (option_map (λ t. t.now) text.entry) }
 {

@@ -11,11 +11,13 @@ use std::alloc::Global;
 
 /// The next `len` bytes of the reader.
 ///
-/// `ContentShort` where it ends before, `Read` where it fails, `Memory` where there is no room for them.
+/// `ContentShort` where it ends before, `Read` where it fails, `Memory` where there is no room for
+/// them.
 pub fn read_content<R: ByteIn>(alloc: Global, content: &mut R, len: u32) -> Result<Vec<u8>, Refusal>
     requires { R.count content.old < 2 ^ 64 - 1 }
     ensures length { IfOk result (λ bytes. length bytes.items ≡ len) }
-    ensures given { IfOk result (λ bytes. Gives (R.ahead content.old) bytes.items (R.ahead content.new)) }
+    ensures given { IfOk result
+        (λ bytes. Gives (R.ahead content.old) bytes.items (R.ahead content.new)) }
     ensures stopped { IfErr result (StopsReading len (R.ahead content.old) (R.ahead content.new)) }
     ensures count { CountsReader (R.count content.old) (R.count content.new) result }
 {

@@ -3,7 +3,9 @@
 ghost use Rattle.std.specs.Prelude.{◌≡◌, ◌<◌, ◌-◌, ◌^◌, IfOk, IfErr};
 ghost use Rattle.std.specs.Io.KnownBytes.{Appends};
 ghost use Rattle.nor_base.specs.Device.{Writes, Counts};
-ghost use Rattle.norprog_common.specs.Lines.{spelled, hex_text, layout_text, sfdp_text, plan_text, script_text, fault_text, file_text, script_refusal, program_line, printed, status_after};
+ghost use Rattle.norprog_common.specs.Lines.{spelled, hex_text, layout_text, sfdp_text, plan_text};
+ghost use Rattle.norprog_common.specs.Lines.{script_text, fault_text, file_text, script_refusal};
+ghost use Rattle.norprog_common.specs.Lines.{program_line, printed, status_after};
 ghost use Rattle.nor_job.specs.declared.fault.BuildFault.TheVariants.{Memory};
 ghost use Rattle.norprog_common.specs.declared.faults.Refusal.TheVariants.{Build};
 
@@ -35,7 +37,7 @@ pub enum FileName {
     Log,
 }
 
-/// What stands behind the words of a refusal.
+/// What comes after the words of a refusal.
 #[derive(Clone, Copy)]
 pub(crate) enum Behind {
     Nothing,
@@ -54,7 +56,8 @@ pub enum Refusal {
     Usage,
     /// A file can't be used.
     File(FileName),
-    /// The build is refused. Want of memory and a failed output of the program itself count among these.
+    /// The build is refused. Out of memory and a failed output of the program itself count among
+    /// these.
     Build(BuildFault),
     /// No chip of this meaning has that page.
     Page,
@@ -71,7 +74,7 @@ pub enum Refusal {
 }
 
 impl Refusal {
-    /// Want of memory.
+    /// Out of memory.
     pub const MEMORY: Refusal = Refusal::Build(BuildFault::Memory);
 
     /// An output failed.
@@ -105,8 +108,8 @@ impl From<ScriptFault> for Refusal {
     }
 }
 
-/// Writes a refusal, and answers the status that the program ends with. Where `err` fails a part of the text is lost,
-/// and nothing more is told.
+/// Writes a refusal, and returns the status that the program ends with. Where `err` fails a part of
+/// the text is lost, and nothing more is reported.
 pub fn refuse<E: ByteOut>(refusal: &Refusal, err: &mut E) -> u8
     requires { E.count err.old < 2 ^ 64 - 1 }
     ensures status { result ≡ status_after refusal.now }
@@ -117,12 +120,14 @@ pub fn refuse<E: ByteOut>(refusal: &Refusal, err: &mut E) -> u8
     exit_status(refusal)
 }
 
-/// Ends a command: answers the status of its work, or writes why there is none and answers that status.
+/// Ends a command: answers the status of its work, or writes why there is none and returns that
+/// status.
 pub fn answered<E: ByteOut>(work: Result<u8, Refusal>, err: &mut E) -> u8
     requires { E.count err.old < 2 ^ 64 - 1 }
     ensures done { IfOk work (λ status. (result ≡ status) × (err.new ≡ err.old)) }
     ensures told { IfErr work (λ why. (result ≡ status_after why)
-        × (E.count err.new ≡ E.count err.old → Appends (E.held err.old) (E.held err.new) (printed why))) }
+        × (E.count err.new ≡ E.count err.old → Appends (E.held err.old) (E.held err.new)
+        (printed why))) }
 {
     match work {
         Ok(status) => status,
@@ -173,10 +178,11 @@ fn write_refusal<E: ByteOut>(refusal: &Refusal, err: &mut E) -> Result<(), Faile
     }
 }
 
-/// Writes `norprog: `, the words, what stands behind them, and LF.
+/// Writes `norprog: `, the words, what comes after them, and LF.
 fn put_line<E: ByteOut>(err: &mut E, words: &[u8], behind: Behind) -> Result<(), Failed>
     requires { E.count err.old < 2 ^ 64 - 1 }
-    ensures bytes { Writes (E.held err.old) (E.held err.new) result (program_line (spelled words.now behind)) }
+    ensures bytes { Writes (E.held err.old) (E.held err.new) result
+        (program_line (spelled words.now behind)) }
     ensures count { Counts (E.count err.old) (E.count err.new) result }
 {
     match behind {
@@ -216,7 +222,7 @@ fn file_words(name: FileName) -> &'static [u8]
     }
 }
 
-/// The words for a fault, and what stands behind them.
+/// The words for a fault, and what comes after them.
 fn fault_words(fault: BuildFault) -> (&'static [u8], Behind)
     ensures { spelled result.0.now result.1 ≡ fault_text fault }
 {

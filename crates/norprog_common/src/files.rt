@@ -34,8 +34,8 @@ pub enum ScriptFile<F: Drop> {
 
 /// Opens a file and reads it whole; answers its bytes, at most 2^36, and which file it is.
 ///
-/// Where it can't be opened, is a folder or has more bytes, and where a read fails, `File` of `name`; `Memory` where a growth
-/// is refused.
+/// Where it can't be opened, is a folder or has more bytes, and where a read fails, `File` of
+/// `name`; `Memory` where a growth is refused.
 pub(crate) fn read_whole<R: Files>(
     rt: &R,
     alloc: Global,
@@ -75,11 +75,11 @@ fn read_opened<F: Read + Drop>(
     Ok(bytes)
 }
 
-/// Opens a script's file twice, where it is a regular one, so that it needn't be held; any other is read whole. Answers which
-/// file it is as well.
+/// Opens a script's file twice, where it is a regular one, so that it needn't be held; any other is
+/// read whole. Returns which file it is as well.
 ///
-/// Where it can't be opened, is a folder or has more than 2^36 bytes, where a read fails, and where its name came to mean
-/// another file between the two openings, `File` of `Script`; `Memory` where a growth is refused.
+/// `File` of `Script` where it can't be opened or read, is a folder, has more than 2^36 bytes, or
+/// came to be another file between the openings; `Memory`.
 pub(crate) fn open_script<R: Files>(
     rt: &R,
     alloc: Global,
@@ -112,10 +112,10 @@ fn is_regular<F: OpenFile>(file: &F) -> bool {
     }
 }
 
-/// Opens a file that isn't a folder, and answers which one it is and its length in bytes.
+/// Opens a file that isn't a folder, and returns which one it is and its length in bytes.
 ///
-/// Where it can't be opened or asked, and where it is a folder, `File` of `name`; `Memory` where the system says that it lacks
-/// that.
+/// Where it can't be opened or asked, and where it is a folder, `File` of `name`; `Memory` where
+/// the system says that it lacks that.
 pub(crate) fn open_input<R: Files>(
     rt: &R,
     path: &str,
@@ -145,7 +145,8 @@ pub(crate) fn open_input<R: Files>(
 
 /// Makes an output file, or empties the one that is there, unless it is one of the inputs.
 ///
-/// Where it is, and where it can't be made, `File` of `name`; `Memory` where the system says that it lacks that.
+/// Where it is, and where it can't be made, `File` of `name`; `Memory` where the system says that
+/// it lacks that.
 pub(crate) fn create_output<R: Files>(
     rt: &R,
     path: &str,
@@ -166,7 +167,8 @@ pub(crate) fn create_output<R: Files>(
 
 /// Makes an output file where no file of that name is there, not even a link to none.
 ///
-/// Where there is one, and where it can't be made, `File` of `name`; `Memory` where the system says that it lacks that.
+/// Where there is one, and where it can't be made, `File` of `name`; `Memory` where the system says
+/// that it lacks that.
 pub(crate) fn create_fresh<R: Files>(rt: &R, path: &str, name: FileName) -> Result<R::File, Refusal>
     ensures refused { IfErr result (RefusesFile name) }
     ensures files { IfErr result IsOfFiles }
@@ -181,9 +183,11 @@ pub(crate) fn create_fresh<R: Files>(rt: &R, path: &str, name: FileName) -> Resu
     }
 }
 
-/// Opens a character device twice, to read from it and to write to it. Nothing else is opened to write, nor changed.
+/// Opens a character device twice, to read from it and to write to it. Nothing else is opened to
+/// write, nor changed.
 ///
-/// Where it isn't one, can't be opened or asked, `File` of `Device`; `Memory` where the system says that it lacks that.
+/// Where it isn't one, can't be opened or asked, `File` of `Device`; `Memory` where the system says
+/// that it lacks that.
 pub(crate) fn open_device<R: Files>(rt: &R, path: &str) -> Result<(R::File, R::File), Refusal>
     ensures refused { IfErr result (RefusesFile Device) }
     ensures files { IfErr result IsOfFiles }
@@ -211,7 +215,8 @@ pub(crate) fn is_regular_file<R: Files>(rt: &R, path: &str) -> bool {
     }
 }
 
-/// Why the system doesn't open a file to be read; a folder is none. Nothing but a regular file is opened.
+/// Why the system doesn't open a file to be read; a folder is none. Nothing but a regular file is
+/// opened.
 pub(crate) fn open_error<R: Files>(rt: &R, path: &str) -> Option<io::Error> {
     let metadata = match fs::metadata(rt, path) {
         Ok(metadata) => metadata,
@@ -228,7 +233,8 @@ pub(crate) fn open_error<R: Files>(rt: &R, path: &str) -> Option<io::Error> {
 
 /// Refuses what isn't known to be a character device.
 fn only_device(metadata: io::Result<Metadata>) -> Result<(), Refusal>
-    ensures device { IfOk result (λ _. MatchResult metadata (λ m. is_character_device (metadata_mode m) ≡ true) (λ _. ⊥)) }
+    ensures device { IfOk result
+        (λ _. MatchResult metadata (λ m. is_character_device (metadata_mode m) ≡ true) (λ _. ⊥)) }
     ensures refused { IfErr result (RefusesFile Device) }
     ensures files { IfErr result IsOfFiles }
 {
@@ -257,7 +263,7 @@ fn is_input<R: Files>(rt: &R, path: &str, inputs: &[FileId]) -> bool {
     }
 }
 
-/// Want of memory is that; any other error says that the file can't be used.
+/// Out of memory is that; any other error says that the file can't be used.
 fn refusal_of(error: &io::Error, name: FileName) -> Refusal
     ensures refused { RefusesFile name result }
     ensures files { IsOfFiles result }

@@ -29,7 +29,8 @@ pub struct BuildArgs<'a> {
     pub out: Option<&'a str>,
 }
 
-/// Of `plan`: the job, whether the times and the regions are told, and the name of the map's file.
+/// Of `plan`: the job, whether the times and the regions are reported, and the name of the map's
+/// file.
 #[derive(Drop)]
 pub struct PlanArgs<'a> {
     pub job: Given<'a>,
@@ -38,7 +39,8 @@ pub struct PlanArgs<'a> {
     pub map: Option<&'a str>,
 }
 
-/// Of `check`: the job, the name of the script's file, and whether a chip is told that shows a no.
+/// Of `check`: the job, the name of the script's file, and whether a chip is reported that shows a
+/// no.
 #[derive(Drop)]
 pub struct CheckArgs<'a> {
     pub job: Given<'a>,

@@ -30,8 +30,11 @@ pub(crate) fn read_texts<S: FileStore>(
     request: &Request<'_>,
     places: &mut Vec<FileId>,
 ) -> Result<Texts, Refusal>
-    ensures given { IfOk result (λ texts. AreGiven (S.facts store.now) request.now (held_in texts)) }
-    ensures noted { IfOk result (λ _. Notes (S.facts store.now) (text_files_of request.now) places.old.items places.new.items) }
+    ensures given { IfOk result
+        (λ texts. AreGiven (S.facts store.now) request.now (held_in texts)) }
+    ensures noted { IfOk result
+        (λ _. Notes (S.facts store.now) (text_files_of request.now) places.old.items
+        places.new.items) }
     ensures lacked { IfErr result (TellsFile (S.facts store.now).lacked) }
 {
     let hex = read_noted(alloc, store, request.hex, FileName::Hex, places)?;
@@ -47,9 +50,11 @@ fn read_layout<S: FileStore>(
     path: Option<&str>,
     places: &mut Vec<FileId>,
 ) -> Result<Option<Vec<u8>>, Refusal>
-    ensures gave { IfOk result (λ bytes. WhereNamed (S.facts store.now).gave (option_map (λ t. t.now) path.entry)
+    ensures gave { IfOk result
+        (λ bytes. WhereNamed (S.facts store.now).gave (option_map (λ t. t.now) path.entry)
         (option_map (λ held. held.items) bytes)) }
-    ensures noted { IfOk result (λ _. Notes (S.facts store.now) (option_to_list (option_map (λ t. t.now) path.entry))
+    ensures noted { IfOk result
+        (λ _. Notes (S.facts store.now) (option_to_list (option_map (λ t. t.now) path.entry))
         places.old.items places.new.items) }
     ensures refused { IfErr result (RefusesFile Layout) }
     ensures lacked { IfErr result (TellsFile (S.facts store.now).lacked) }
@@ -69,7 +74,8 @@ fn read_noted<S: FileStore>(
     places: &mut Vec<FileId>,
 ) -> Result<Vec<u8>, Refusal>
     ensures gave { IfOk result (λ bytes. (S.facts store.now).gave path.now bytes.items) }
-    ensures noted { IfOk result (λ _. Notes (S.facts store.now) (path.now ∷ []) places.old.items places.new.items) }
+    ensures noted { IfOk result
+        (λ _. Notes (S.facts store.now) (path.now ∷ []) places.old.items places.new.items) }
     ensures refused { IfErr result (RefusesFile name) }
     ensures lacked { IfErr result (TellsFile (S.facts store.now).lacked) }
 {
@@ -98,7 +104,8 @@ pub fn inputs_of<'a>(request: &'a Request<'_>, texts: &'a Texts) -> Inputs<'a>
 }
 
 fn bytes_or_none(bytes: &Option<Vec<u8>>) -> Option<&[u8]>
-    ensures { option_map (λ text. text.now) result ≡ option_map (λ held. held.items) bytes.entry.now }
+    ensures { option_map (λ text. text.now) result
+        ≡ option_map (λ held. held.items) bytes.entry.now }
 {
     match bytes {
         Some(bytes) => Some(bytes.as_slice()),

@@ -1,5 +1,6 @@
-//! What the commands of norprog have in common: what stands on a command line, the forms of its values, the chip and the files
-//! that it names, refusals with their lines and statuses, and the numbers of what goes wrong (docs/FORMATS.md, section 9).
+//! What the commands of norprog have in common: what stands on a command line, the forms of its
+//! values, the chip and the files that it names, refusals with their lines and statuses, and the
+//! numbers of what goes wrong (docs/FORMATS.md, section 9).
 #![tactic(auto)]
 
 mod chip;

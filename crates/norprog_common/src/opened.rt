@@ -12,8 +12,8 @@ use crate::request::Request;
 use crate::store::FileStore;
 use std::alloc::Global;
 
-/// Opens the files that a job reads, in their order, and notes which files they are: what those hold that are read whole, the
-/// content, and how many bytes that has.
+/// Opens the files that a job reads, in their order, and notes which files they are: what those
+/// hold that are read whole, the content, and how many bytes that has.
 pub fn open_job<S: FileStore>(
     alloc: Global,
     store: &S,
@@ -21,9 +21,12 @@ pub fn open_job<S: FileStore>(
     places: &mut Vec<FileId>,
 ) -> Result<(Texts, S::Input, u64), Refusal>
     ensures given { IfOk result (λ job. AreGiven (S.facts store.now) request.now (held_in job.0)) }
-    ensures content { IfOk result (λ job. (S.facts store.now).opened request.now.content.now (S.Input.ahead job.1) job.2) }
+    ensures content { IfOk result
+        (λ job. (S.facts store.now).opened request.now.content.now (S.Input.ahead job.1) job.2) }
     ensures count { IfOk result (λ job. S.Input.count job.1 ≡ 0) }
-    ensures noted { IfOk result (λ _. Notes (S.facts store.now) (input_files_of request.now) places.old.items places.new.items) }
+    ensures noted { IfOk result
+        (λ _. Notes (S.facts store.now) (input_files_of request.now) places.old.items
+        places.new.items) }
     ensures lacked { IfErr result (TellsFile (S.facts store.now).lacked) }
 {
     let texts = read_texts(alloc, store, request, places)?;

@@ -2,7 +2,8 @@
 
 ghost use Rattle.std.specs.Prelude.{◌≡◌, is_some, IfOk, IfErr, IfSome};
 ghost use Rattle.nor_job.specs.Status.{start_of};
-ghost use Rattle.norprog_common.specs.Setup.{is_setup, setup_task, AsksSetup, IsKnown, RefusesChipOf};
+ghost use Rattle.norprog_common.specs.Setup.{is_setup, setup_task, AsksSetup, IsKnown};
+ghost use Rattle.norprog_common.specs.Setup.{RefusesChipOf};
 
 use crate::chip::{Chip, chip_of, optional_status, source_of};
 use crate::faults::Refusal;

@@ -5,7 +5,8 @@ ghost use Rattle.std.specs.Io.KnownBytes.{Keeps};
 ghost use Rattle.norprog_common.specs.Chip.{origin_of};
 ghost use Rattle.norprog_common.specs.declared.faults.FileName.TheVariants.{Device, Script, Sfdp};
 ghost use Rattle.norprog_common.specs.Files.{RefusesFile, TellsFile};
-ghost use Rattle.norprog_common.specs.FileStore.{AreTables, FileFacts, IsOfScript, DoNotFail, Notes, tables_file};
+ghost use Rattle.norprog_common.specs.FileStore.{AreTables, FileFacts, IsOfScript, DoNotFail};
+ghost use Rattle.norprog_common.specs.FileStore.{Notes, tables_file};
 
 use crate::chip::Chip;
 use crate::faults::{FileName, Refusal};
@@ -14,7 +15,8 @@ use nor_base::{ByteIn, ByteOut, Failed};
 use std::alloc::Global;
 use std::io::{Read, Write};
 
-/// Files by name. What a file gave, or took, is left open: what is proved of every store holds of the system's files.
+/// Files by name. What a file gave, or took, is left open: what is proved of every store holds of
+/// the system's files.
 pub trait FileStore {
     /// A file that is read.
     type Input: ByteIn + Drop;
@@ -33,8 +35,8 @@ pub trait FileStore {
 
     /// Opens a file and reads it whole; answers its bytes, at most 2^36, and which file it is.
     ///
-    /// Where it can't be opened, is a folder or has more bytes, and where a read fails, `File` of `name`; `Memory` where a growth
-    /// is refused.
+    /// Where it can't be opened, is a folder or has more bytes, and where a read fails, `File` of
+    /// `name`; `Memory` where a growth is refused.
     fn read(&self, alloc: Global, path: &str, name: FileName) -> Result<(Vec<u8>, FileId), Refusal>
         ensures gave { IfOk result (λ read. (facts self.now).gave path.now read.0.items) }
         ensures stood { IfOk result (λ read. (facts self.now).stood path.now read.1) }
@@ -42,37 +44,40 @@ pub trait FileStore {
         ensures refused { IfErr result (RefusesFile name) }
         ensures lacked { IfErr result (TellsFile (facts self.now).lacked) };
 
-    /// Opens a file that isn't a folder, and answers which one it is and its length in bytes.
+    /// Opens a file that isn't a folder, and returns which one it is and its length in bytes.
     ///
-    /// Where it can't be opened or asked, and where it is a folder, `File` of `name`; `Memory` where the system says that it lacks
-    /// that.
+    /// Where it can't be opened or asked, and where it is a folder, `File` of `name`; `Memory`
+    /// where the system says that it lacks that.
     fn open(&self, path: &str, name: FileName) -> Result<(Self::Input, FileId, u64), Refusal>
-        ensures opened { IfOk result (λ file. (facts self.now).opened path.now (Self.Input.ahead file.0) file.2) }
+        ensures opened { IfOk result (λ file.
+            (facts self.now).opened path.now (Self.Input.ahead file.0) file.2) }
         ensures stood { IfOk result (λ file. (facts self.now).stood path.now file.1) }
         ensures count { IfOk result (λ file. Self.Input.count file.0 ≡ 0) }
         ensures refused { IfErr result (RefusesFile name) }
         ensures lacked { IfErr result (TellsFile (facts self.now).lacked) };
 
-    /// Opens a script's file twice, where it is a regular one, so that it needn't be held; any other is read whole. Answers which
-    /// file it is as well.
+    /// Opens a script's file twice, where it is a regular one, so that it needn't be held; any
+    /// other is read whole. Returns which file it is as well.
     ///
-    /// Where it can't be opened, is a folder or has more than 2^36 bytes, where a read fails, and where its name came to mean
-    /// another file between the two openings, `File` of `Script`; `Memory` where a growth is refused.
+    /// `File` of `Script` where it can't be opened or read, is a folder, has more than 2^36 bytes,
+    /// or came to be another file between the openings; `Memory`.
     fn open_script(
         &self,
         alloc: Global,
         path: &str,
     ) -> Result<(ScriptFile<Self::Input>, FileId), Refusal>
-        ensures script { IfOk result (λ script. IsOfScript (facts self.now) path.now Self.Input.ahead script.0) }
+        ensures script { IfOk result (λ script.
+            IsOfScript (facts self.now) path.now Self.Input.ahead script.0) }
         ensures stood { IfOk result (λ script. (facts self.now).stood path.now script.1) }
         ensures count { IfOk result (λ script. DoNotFail Self.Input.count script.0) }
         ensures refused { IfErr result (RefusesFile Script) }
         ensures lacked { IfErr result (TellsFile (facts self.now).lacked) };
 
-    /// Makes an output file, or empties the one that is there, unless it is one of the inputs. What is written to it goes out
-    /// where it is flushed, if not before.
+    /// Makes an output file, or empties the one that is there, unless it is one of the inputs. What
+    /// is written to it goes out where it is flushed, if not before.
     ///
-    /// Where it is an input, and where it can't be made, `File` of `name`; `Memory` where a growth is refused.
+    /// Where it is an input, and where it can't be made, `File` of `name`; `Memory` where a growth
+    /// is refused.
     fn create(
         &self,
         alloc: Global,
@@ -80,17 +85,20 @@ pub trait FileStore {
         name: FileName,
         inputs: &[FileId],
     ) -> Result<Self::Output, Refusal>
-        ensures made { IfOk result (λ file. (facts self.now).made path.now inputs.now (Self.Output.held file)) }
+        ensures made { IfOk result
+            (λ file. (facts self.now).made path.now inputs.now (Self.Output.held file)) }
         ensures count { IfOk result (λ file. Self.Output.count file ≡ 0) }
         ensures refused { IfErr result (RefusesFile name) }
         ensures lacked { IfErr result (TellsFile (facts self.now).lacked) };
 
-    /// Makes an output file where no file of that name is there; none is emptied or written over. What is written to it goes out
-    /// where it is flushed, if not before.
+    /// Makes an output file where no file of that name is there; none is emptied or written over.
+    /// What is written to it goes out where it is flushed, if not before.
     ///
-    /// Where there is one, and where it can't be made, `File` of `name`; `Memory` where a growth is refused.
+    /// Where there is one, and where it can't be made, `File` of `name`; `Memory` where a growth is
+    /// refused.
     fn create_new(&self, alloc: Global, path: &str, name: FileName) -> Result<Self::Output, Refusal>
-        ensures fresh { IfOk result (λ file. (facts self.now).fresh path.now (Self.Output.held file)) }
+        ensures fresh { IfOk result
+            (λ file. (facts self.now).fresh path.now (Self.Output.held file)) }
         ensures count { IfOk result (λ file. Self.Output.count file ≡ 0) }
         ensures refused { IfErr result (RefusesFile name) }
         ensures lacked { IfErr result (TellsFile (facts self.now).lacked) };
@@ -100,23 +108,27 @@ pub trait FileStore {
         ensures flushed { IfOk result (λ _. (facts self.now).flushed (Self.Output.held file.old)) }
         ensures bytes { Keeps (Self.Output.held file.old) (Self.Output.held file.new) };
 
-    /// Opens a character device twice, to read from it and to write to it. Nothing else is opened to write, nor changed.
+    /// Opens a character device twice, to read from it and to write to it. Nothing else is opened
+    /// to write, nor changed.
     ///
-    /// Where it isn't one, can't be opened or asked, `File` of `Device`; `Memory` where the system says that it lacks that.
+    /// Where it isn't one, can't be opened or asked, `File` of `Device`; `Memory` where the system
+    /// says that it lacks that.
     fn open_device(&self, path: &str) -> Result<(Self::FromDevice, Self::ToDevice), Refusal>
-        ensures opened { IfOk result (λ device. (facts self.now).device path.now (Self.FromDevice.remaining device.0)
+        ensures opened { IfOk result (λ device.
+            (facts self.now).device path.now (Self.FromDevice.remaining device.0)
             (Self.ToDevice.contents device.1)) }
         ensures refused { IfErr result (RefusesFile Device) }
         ensures lacked { IfErr result (TellsFile (facts self.now).lacked) };
 
-    /// Whether a regular file of this name is there, which is read again without a wait. None is opened.
+    /// Whether a regular file of this name is there, which is read again without a wait. None is
+    /// opened.
     fn is_regular(&self, path: &str) -> bool {
         let _ = path;
         true
     }
 
-    /// Why the system doesn't open a file to be read, in its words. Nothing but a regular file is opened for that, and none is
-    /// changed. None where it opens it or memory runs out.
+    /// Why the system doesn't open a file to be read, in its words. Nothing but a regular file is
+    /// opened for that, and none is changed. None where it opens it or memory runs out.
     fn trouble(&self, alloc: Global, path: &str) -> Option<String> {
         let _ = alloc;
         let _ = path;
@@ -128,25 +140,31 @@ pub trait FileStore {
 ///
 /// `File` of `Sfdp` and `Memory`, as [`FileStore::read`] answers them.
 pub fn tables_of<S: FileStore>(alloc: Global, store: &S, chip: Chip<'_>) -> Result<Vec<u8>, Refusal>
-    ensures tables { IfOk result (λ tables. AreTables (S.facts store.now) (origin_of chip.entry) tables.items) }
+    ensures tables { IfOk result
+        (λ tables. AreTables (S.facts store.now) (origin_of chip.entry) tables.items) }
     ensures refused { IfErr result (RefusesFile Sfdp) }
     ensures lacked { IfErr result (TellsFile (S.facts store.now).lacked) }
 {
     noted_tables(alloc, store, chip, &mut Vec::new(alloc))
 }
 
-/// What the file of a chip's SFDP tables holds, with which file it is put at the end of `places`, so that no output is made
-/// over it; nothing for a uniform chip, which has none, and `places` as they were.
+/// What the file of a chip's SFDP tables holds, with which file it is put at the end of `places`,
+/// so that no output is made over it; nothing for a uniform chip, which has none, and `places` as
+/// they were.
 ///
-/// `File` of `Sfdp` and `Memory`, as [`FileStore::read`] answers them; `Memory` too where `places` can't grow.
+/// `File` of `Sfdp` and `Memory`, as [`FileStore::read`] answers them; `Memory` too where `places`
+/// can't grow.
 pub fn noted_tables<S: FileStore>(
     alloc: Global,
     store: &S,
     chip: Chip<'_>,
     places: &mut Vec<FileId>,
 ) -> Result<Vec<u8>, Refusal>
-    ensures tables { IfOk result (λ tables. AreTables (S.facts store.now) (origin_of chip.entry) tables.items) }
-    ensures noted { IfOk result (λ _. Notes (S.facts store.now) (tables_file (origin_of chip.entry)) places.old.items places.new.items) }
+    ensures tables { IfOk result
+        (λ tables. AreTables (S.facts store.now) (origin_of chip.entry) tables.items) }
+    ensures noted { IfOk result
+        (λ _. Notes (S.facts store.now) (tables_file (origin_of chip.entry)) places.old.items
+        places.new.items) }
     ensures refused { IfErr result (RefusesFile Sfdp) }
     ensures lacked { IfErr result (TellsFile (S.facts store.now).lacked) }
 {

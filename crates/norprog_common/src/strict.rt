@@ -10,8 +10,8 @@ use crate::faults::Refusal;
 use nor_job::{BuildFault, Inputs, empty_region};
 use std::alloc::Global;
 
-/// Where it is strict, refuses inputs that a build accepts, of a content of `len` bytes, whose image gives some chosen region no
-/// byte. What else is wrong with the inputs is left to the work.
+/// Where it is strict, refuses inputs that a build accepts, of a content of `len` bytes, whose
+/// image gives some chosen region no byte. What else is wrong with the inputs is left to the work.
 ///
 /// `EmptyRegion` of the first such region; `Memory` where a growth is refused.
 pub fn refuse_empty(
@@ -33,7 +33,7 @@ pub fn refuse_empty(
     }
 }
 
-/// Refuses for want of memory; no other fault.
+/// Refuses for out of memory; no other fault.
 fn only_memory(fault: BuildFault) -> Result<(), Refusal>
     ensures other { IfOk result (λ _. fault ≢ Memory) }
     ensures memory { IfErr result (λ why. why ≡ Build Memory) }

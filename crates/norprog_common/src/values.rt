@@ -1,7 +1,8 @@
 //! The forms of values.
 
 ghost use Rattle.std.specs.Prelude.{◌≡◌, ◌==◌, ◌≤◌, length, slice_index};
-ghost use Rattle.norprog_common.specs.Values.{decimal_of, limit_of, base_of, status_of, hexadecimal_of, part_of};
+ghost use Rattle.norprog_common.specs.Values.{decimal_of, limit_of, base_of, status_of};
+ghost use Rattle.norprog_common.specs.Values.{hexadecimal_of, part_of};
 
 use nor_base::Part;
 
@@ -11,8 +12,8 @@ const MOST_DIGITS: usize = 8;
 /// As many digits as the status bits S23 to S0 have.
 const STATUS_DIGITS: usize = 6;
 
-/// The value of decimal digits, which any number of zeros may lead. None where there is none, where another character
-/// stands among them, or where the value is past 32 bits.
+/// The value of decimal digits, which any number of zeros may lead. None where there is none, where
+/// another character stands among them, or where the value is past 32 bits.
 pub fn decimal(text: &str) -> Option<u32>
     ensures { result ≡ decimal_of text.now }
 {
@@ -25,7 +26,8 @@ pub fn decimal(text: &str) -> Option<u32>
     }
 }
 
-/// The value of decimal digits from 1 on that has 64 bits, which any number of zeros may lead. Else None.
+/// The value of decimal digits from 1 on that has 64 bits, which any number of zeros may lead. Else
+/// None.
 pub fn limit(text: &str) -> Option<u64>
     ensures { result ≡ limit_of text.now }
 {
@@ -69,8 +71,8 @@ fn has_plus(text: &str) -> bool
     text.as_bytes().first() == Some(&b'+')
 }
 
-/// The value of hexadecimal digits of either case. None where there is none, or where another character stands among
-/// them.
+/// The value of hexadecimal digits of either case. None where there is none, or where another
+/// character stands among them.
 fn hexadecimal(text: &str) -> Option<u32>
     requires { length text.now ≤ 8 }
     ensures { result ≡ hexadecimal_of text.now }

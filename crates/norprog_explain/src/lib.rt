@@ -1,4 +1,5 @@
-//! What the texts that norprog prints mean, and what to do: a paragraph for each refusal, verdict and line.
+//! What the texts that norprog prints mean, and what to do: a paragraph for each refusal, verdict
+//! and line.
 #![tactic(auto)]
 
 mod matching;

@@ -21,7 +21,8 @@ pub(crate) enum Meeting<'a> {
 
 /// The first topic that the arguments begin with.
 pub(crate) fn topic_of(subjects: &[&[Topic]], asked: &[Bytes]) -> Option<Topic>
-    ensures { option_map (λ topic. (topic.0.now, topic.1.now)) result ≡ find (is_about (in_a_row asked.now)) (in_order subjects.now) }
+    ensures { option_map (λ topic. (topic.0.now, topic.1.now)) result
+        ≡ find (is_about (in_a_row asked.now)) (in_order subjects.now) }
 {
     for topics in subjects {
         match topic_among(topics, asked) {
@@ -34,7 +35,8 @@ pub(crate) fn topic_of(subjects: &[&[Topic]], asked: &[Bytes]) -> Option<Topic>
 
 /// The first of these topics that the arguments begin with.
 fn topic_among(topics: &[Topic], asked: &[Bytes]) -> Option<Topic>
-    ensures { option_map (λ topic. (topic.0.now, topic.1.now)) result ≡ find (is_about (in_a_row asked.now)) (told topics.now) }
+    ensures { option_map (λ topic. (topic.0.now, topic.1.now)) result
+        ≡ find (is_about (in_a_row asked.now)) (told topics.now) }
 {
     for topic in topics {
         if begins_with(asked, topic.0.as_bytes()) {

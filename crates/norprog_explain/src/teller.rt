@@ -1,8 +1,10 @@
-//! `explain`: from the words of a command line to what is told of them.
+//! `explain`: from the words of a command line to what is reported of them.
 
 ghost use Rattle.std.specs.Prelude.{◌≡◌, ◌<◌, ◌≤◌, ◌-◌, ◌^◌, flat_map, IfOk, IfErr};
 ghost use Rattle.nor_base.specs.Device.{Writes, Counts};
-ghost use Rattle.norprog_explain.specs.Explained.{answered, explained, nameless, listed, told, in_order, topic_text, Tells, CutsText, RefusesText, AnswersExplain};
+ghost use Rattle.norprog_explain.specs.Explained.{answered, explained, nameless, listed, told};
+ghost use Rattle.norprog_explain.specs.Explained.{in_order, topic_text, Tells, CutsText};
+ghost use Rattle.norprog_explain.specs.Explained.{RefusesText, AnswersExplain};
 ghost use Rattle.norprog_explain.specs.Topics.{topics};
 
 use crate::matching::topic_of;
@@ -13,18 +15,18 @@ use norprog_common::{Refusal, refuse};
 /// What the line of a refusal begins with.
 const NAME: &[u8] = b"norprog:";
 
-/// Writes to `out` what a text that the program prints means and what to do, a paragraph closed by LF: that of the first
-/// topic whose words the text begins with, word by word. Without words it writes the words of all topics, one a line. The text
-/// is the arguments in a row, cut at blanks; a first argument `norprog:`, with which the line of a refusal begins, is passed over.
-/// Where no topic is asked for, or `out` fails, the refusal is written to `err`.
+/// Writes to `out` what a text that the program prints means and what to do: the paragraph of the
+/// first topic whose words it begins with; without words those of all topics, one a line. A first
+/// `norprog:` is passed over.
 ///
-/// Answers the status: 0 done, 1 a write failed, 2 usage: there is no such topic.
+/// Returns the status: 0 done, 1 a write failed, 2 usage: there is no such topic.
 pub fn explain<O: ByteOut, E: ByteOut>(words: &[Bytes], out: &mut O, err: &mut E) -> u8
     requires out { O.count out.old < 2 ^ 64 - 1 }
     requires err { E.count err.old < 2 ^ 64 - 1 }
     ensures status { result ≤ 2 }
     ensures quiet { result ≡ 0 → err.new ≡ err.old }
-    ensures answer { AnswersExplain (explained topics words.now) (O.held out.old) (O.held out.new) (err.new ≡ err.old)
+    ensures answer { AnswersExplain (explained topics words.now) (O.held out.old) (O.held out.new)
+        (err.new ≡ err.old)
         (E.count err.new ≡ E.count err.old) (E.held err.old) (E.held err.new) result }
 {
     match tell(&subjects(), nameless(words), out) {
@@ -33,8 +35,9 @@ pub fn explain<O: ByteOut, E: ByteOut>(words: &[Bytes], out: &mut O, err: &mut E
     }
 }
 
-/// Writes to `out` the paragraph of the first topic whose words a text begins with, word by word; nothing where there is none.
-/// The text is the arguments in a row, without the name of the program.
+/// Writes to `out` the paragraph of the first topic whose words a text begins with, word by word;
+/// nothing where there is none. The text is the arguments in a row, without the name of the
+/// program.
 pub fn write_topic<O: ByteOut>(words: &[Bytes], out: &mut O) -> Result<(), Failed>
     requires { O.count out.old < 2 ^ 64 - 1 }
     ensures bytes { Writes (O.held out.old) (O.held out.new) result (topic_text topics words.now) }
@@ -59,8 +62,12 @@ fn nameless(words: &[Bytes]) -> &[Bytes]
 /// Tells what is asked for.
 fn tell<O: ByteOut>(subjects: &[&[Topic]], words: &[Bytes], out: &mut O) -> Result<(), Refusal>
     requires { O.count out.old < 2 ^ 64 - 1 }
-    ensures told { IfOk result (λ _. Tells (answered (in_order subjects.now) words.now) (O.held out.old) (O.held out.new)) }
-    ensures untold { IfErr result (λ _. CutsText (answered (in_order subjects.now) words.now) (O.held out.old) (O.held out.new)) }
+    ensures told { IfOk result
+        (λ _. Tells (answered (in_order subjects.now) words.now) (O.held out.old)
+        (O.held out.new)) }
+    ensures untold { IfErr result
+        (λ _. CutsText (answered (in_order subjects.now) words.now) (O.held out.old)
+        (O.held out.new)) }
     ensures refused { IfErr result (RefusesText (answered (in_order subjects.now) words.now)) }
 {
     if words.is_empty() {
@@ -73,7 +80,8 @@ fn tell<O: ByteOut>(subjects: &[&[Topic]], words: &[Bytes], out: &mut O) -> Resu
 /// Writes the words of each topic, one a line.
 fn list<O: ByteOut>(subjects: &[&[Topic]], out: &mut O) -> Result<(), Failed>
     requires { O.count out.old < 2 ^ 64 - 1 }
-    ensures bytes { Writes (O.held out.old) (O.held out.new) result (flat_map listed (in_order subjects.now)) }
+    ensures bytes { Writes (O.held out.old) (O.held out.new) result
+        (flat_map listed (in_order subjects.now)) }
     ensures count { Counts (O.count out.old) (O.count out.new) result }
 {
     for topics in subjects {
@@ -85,7 +93,8 @@ fn list<O: ByteOut>(subjects: &[&[Topic]], out: &mut O) -> Result<(), Failed>
 /// Writes the words of some topics, one a line.
 fn list_some<O: ByteOut>(topics: &[Topic], out: &mut O) -> Result<(), Failed>
     requires { O.count out.old < 2 ^ 64 - 1 }
-    ensures bytes { Writes (O.held out.old) (O.held out.new) result (flat_map listed (told topics.now)) }
+    ensures bytes { Writes (O.held out.old) (O.held out.new) result
+        (flat_map listed (told topics.now)) }
     ensures count { Counts (O.count out.old) (O.count out.new) result }
 {
     for (words, _) in topics {

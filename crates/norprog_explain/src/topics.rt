@@ -1,4 +1,5 @@
-//! The topics: each text that the program prints, by the words that it begins with, and what is told of it.
+//! The topics: each text that the program prints, by the words that it begins with, and what is
+//! reported of it.
 
 ghost use Rattle.std.specs.Prelude.{◌≡◌};
 ghost use Rattle.norprog_explain.specs.Explained.{in_order};
@@ -13,8 +14,8 @@ mod tables;
 mod texts;
 mod verdicts;
 
-/// The words that a text begins with, with single blanks, and what it means and what to do, in lines of which the last isn't
-/// closed.
+/// The words that a text begins with, with single blanks, and what it means and what to do, in
+/// lines of which the last isn't closed.
 pub(crate) type Topic = (&'static str, &'static str);
 
 /// All topics, by subjects. Words stand before others that they begin with.

@@ -15,8 +15,9 @@ use nor_reader::ReadBy;
 /// What three address bytes reach.
 const REACH: u32 = 1 << 24;
 
-/// How a chip is read whole that begins so. None where it can't be, and where it may be in the other address mode without a way to tell:
-/// it has both, is said to be in four-byte mode, and has no read that is the same in either.
+/// How a chip is read whole that begins so. None where it can't be, and where it may be in the
+/// other address mode without a way to tell: it has both, is said to be in four-byte mode, and has
+/// no read that is the same in either.
 pub(crate) fn way_of(meaning: &Meaning, start: Start) -> Option<ReadBy>
     ensures gives { IfSome result (GivesBy meaning.now start) }
     ensures way { is_some result ≡ has_way meaning.now start }

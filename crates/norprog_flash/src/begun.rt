@@ -1,6 +1,8 @@
 //! A chip that is read, saved and planned for.
 
-ghost use Rattle.std.specs.Prelude.{◌≡◌, ◌<◌, ◌≤◌, ◌+◌, ◌-◌, ◌^◌, [], true, length, unwrap_or, IfOk, IfErr, MatchResult};
+ghost use Rattle.std.specs.Prelude.{◌≡◌, ◌<◌, ◌≤◌, ◌+◌, ◌-◌, ◌^◌, [], true, length, unwrap_or};
+ghost use Rattle.std.specs.Prelude.{IfOk, IfErr, MatchResult};
+ghost use Rattle.nor_base.specs.Device.{HaveRoom};
 ghost use Rattle.nor_probe.specs.Status.{suits};
 ghost use Rattle.nor_job.specs.Shares.{HasNoneEmpty};
 ghost use Rattle.nor_job.specs.Status.{start_of};
@@ -44,13 +46,18 @@ pub(crate) fn begin<S: FileStore, R: ByteIn, W: ByteOut, O: ByteOut>(
     job: &Job<'_>,
     out: &mut O,
 ) -> Result<Begun, Unflashed>
-    requires reader { R.count from.old < 2 ^ 64 - 1 }
-    requires writer { W.count to.old < 2 ^ 64 - 1 }
+    requires room { HaveRoom (R.count from.old) (W.count to.old) }
     requires out { O.count out.old < 2 ^ 64 - 1 }
-    ensures planned { IfOk result (λ begun. HasPlanned (S.facts store.now) job.now (W.held to.old) (W.held to.new) (R.ahead from.old)
-        (R.ahead from.new) begun.reading begun.work.goal.items begun.work.steps.items (O.held out.old) (O.held out.new)
-        × GivesBy begun.reading.meaning (start_of (flash_task job.now begun.reading.tables.items)) begun.by) }
-    ensures stops { IfErr result (StopsBegun (S.facts store.now) (W.held to.old) (W.held to.new) (R.ahead from.old) (R.ahead from.new) job.now
+    ensures planned { IfOk result
+        (λ begun. HasPlanned (S.facts store.now) job.now (W.held to.old) (W.held to.new)
+        (R.ahead from.old)
+        (R.ahead from.new) begun.reading begun.work.goal.items begun.work.steps.items
+        (O.held out.old) (O.held out.new)
+        × GivesBy begun.reading.meaning (start_of (flash_task job.now begun.reading.tables.items))
+        begun.by) }
+    ensures stops { IfErr result
+        (StopsBegun (S.facts store.now) (W.held to.old) (W.held to.new) (R.ahead from.old)
+        (R.ahead from.new) job.now
         (O.held out.old) (O.held out.new)) }
     ensures reads_room { R.count from.new ≤ R.count from.old + 1 }
     ensures writes_room { W.count to.new ≤ W.count to.old + 1 }
@@ -77,9 +84,12 @@ fn plan_for<O: ByteOut>(
     out: &mut O,
 ) -> Result<Work, Refusal>
     requires out { O.count out.old < 2 ^ 64 - 1 }
-    ensures work { IfOk result (λ work. IsWork (flash_task job.now reading.now.tables.items) reading.now.content.items
-        (unwrap_or (dump_of job.now) reading.now.content.items) work.goal.items work.steps.items (O.held out.old) (O.held out.new)) }
-    ensures refused { IfErr result (CantPlan job.now reading.now (O.held out.old) (O.held out.new)) }
+    ensures work { IfOk result
+        (λ work. IsWork (flash_task job.now reading.now.tables.items) reading.now.content.items
+        (unwrap_or (dump_of job.now) reading.now.content.items) work.goal.items work.steps.items
+        (O.held out.old) (O.held out.new)) }
+    ensures refused { IfErr result
+        (CantPlan job.now reading.now (O.held out.old) (O.held out.new)) }
     ensures out_count { IfOk result (λ _. O.count out.new ≡ O.count out.old) }
     ensures out_room { O.count out.new ≤ O.count out.old + 1 }
 {
@@ -105,7 +115,8 @@ fn older<'a>(job: &Job<'a>, content: &'a [u8]) -> &'a [u8]
     }
 }
 
-/// Reads the chip, whose status has to show that it can take the work. Of a strict job the image has to give each chosen region a byte.
+/// Reads the chip, whose status has to show that it can take the work. Of a strict job the image
+/// has to give each chosen region a byte.
 fn read_suited<R: ByteIn, W: ByteOut>(
     alloc: Global,
     from: &mut R,
@@ -113,11 +124,16 @@ fn read_suited<R: ByteIn, W: ByteOut>(
     limits: &Limits,
     job: &Job<'_>,
 ) -> Result<(Reading, ReadBy), Unflashed>
-    requires reader { R.count from.old < 2 ^ 64 - 1 }
-    requires writer { W.count to.old < 2 ^ 64 - 1 }
-    ensures read { IfOk result (λ read. HasRead job.now (W.held to.old) (W.held to.new) (R.ahead from.old) (R.ahead from.new) read.0) }
-    ensures way { IfOk result (λ read. GivesBy read.0.meaning (start_of (flash_task job.now read.0.tables.items)) read.1) }
-    ensures stops { IfErr result (StopsBefore (W.held to.old) (W.held to.new) (R.ahead from.old) (R.ahead from.new) job.now) }
+    requires room { HaveRoom (R.count from.old) (W.count to.old) }
+    ensures read { IfOk result
+        (λ read. HasRead job.now (W.held to.old) (W.held to.new) (R.ahead from.old)
+        (R.ahead from.new) read.0) }
+    ensures way { IfOk result
+        (λ read. GivesBy read.0.meaning (start_of (flash_task job.now read.0.tables.items))
+        read.1) }
+    ensures stops { IfErr result
+        (StopsBefore (W.held to.old) (W.held to.new) (R.ahead from.old) (R.ahead from.new)
+        job.now) }
     ensures harmless { MatchResult result (λ _. HasSentHarmless (W.held to.old) (W.held to.new))
         (λ _. SendsHarmless (W.held to.old) (W.held to.new)) }
     ensures reads_room { R.count from.new ≤ R.count from.old + 1 }
@@ -139,9 +155,11 @@ fn read_suited<R: ByteIn, W: ByteOut>(
 
 /// Refuses a strict job whose image gives a chosen region of this chip no byte.
 fn refuse_unfilled(alloc: Global, job: &Job<'_>, reading: &Reading) -> Result<(), Refusal>
-    ensures filled { IfOk result (λ _. job.now.strict ≡ true → HasNoneEmpty (flash_task job.now reading.now.tables.items)
+    ensures filled { IfOk result (λ _. job.now.strict ≡ true
+        → HasNoneEmpty (flash_task job.now reading.now.tables.items)
         (length reading.now.content.items)) }
-    ensures refused { IfErr result (RefusesEmpty job.now.strict (flash_task job.now reading.now.tables.items)
+    ensures refused { IfErr result
+        (RefusesEmpty job.now.strict (flash_task job.now reading.now.tables.items)
         (length reading.now.content.items)) }
 {
     let inputs = inputs_for(job, reading.tables.as_slice());

@@ -6,7 +6,8 @@ ghost use Rattle.nor_job.specs.declared.fault.BuildFault.{BuildFault};
 ghost use Rattle.nor_job.specs.declared.fault.BuildFault.TheVariants.{Write};
 ghost use Rattle.norprog_common.specs.declared.faults.Refusal.TheVariants.{Build};
 ghost use Rattle.norprog_common.specs.Lines.{printed};
-ghost use Rattle.norprog_flash.specs.Answer.{AnswersFlash, IsEndingOf, IsUnbegunFor, IsUnbegunOn, ReportsUnflashed, family_of};
+ghost use Rattle.norprog_flash.specs.Answer.{AnswersFlash, IsEndingOf, IsUnbegunFor, IsUnbegunOn};
+ghost use Rattle.norprog_flash.specs.Answer.{ReportsUnflashed, family_of};
 ghost use Rattle.norprog_flash.specs.Early.{file_tables, is_known, IsSoundEarly, RefusesEarly};
 ghost use Rattle.norprog_flash.specs.Opened.{IsFlashedOn};
 
@@ -24,12 +25,9 @@ use norprog_read::{Ask, Known, ask_of, write_unlike};
 use norprog_work::look;
 use std::alloc::Global;
 
-/// Does what the texts of a command line of `flash` ask for: looks at the files, reads the chip behind the device that they name, saves what
-/// it holds, plans, prints the plan, and has the device do it (docs/FORMATS.md, sections 9 and 14). It writes its lines to `out`, or a refusal to `err`.
-/// Where steps were sent and the chip may hold a part of the work it first writes to `err` how to go on. It returns the status: 0 all done,
-/// 1 not so or refused, 2 usage.
-///
-/// How many steps are done is written to `progress`, in a line that is written over; where that fails nothing changes.
+/// Does what the texts of a command line of `flash` ask for. Its lines go to `out`; a refusal, and
+/// how to go on with a chip that may hold a part of the work, to `err`; how far it is to `progress`
+/// (docs/FORMATS.md, section 14). Returns 0 where all was done, 1 where not, 2 for usage.
 pub fn flash<S: FileStore, O: ByteOut, E: ByteOut, P: ByteOut>(
     alloc: Global,
     store: &S,
@@ -43,7 +41,8 @@ pub fn flash<S: FileStore, O: ByteOut, E: ByteOut, P: ByteOut>(
     requires progress { P.count progress.old < 2 ^ 64 - 1 }
     ensures status { result ≤ 2 }
     ensures quiet { result ≡ 0 → err.new ≡ err.old }
-    ensures answer { AnswersFlash (S.facts store.now) given.entry (O.held out.old) (O.held out.new) (err.new ≡ err.old)
+    ensures answer { AnswersFlash (S.facts store.now) given.entry (O.held out.old) (O.held out.new)
+        (err.new ≡ err.old)
         (E.count err.new ≡ E.count err.old) (E.held err.old) (E.held err.new) result }
 {
     match flash_texts(alloc, store, &given, out, progress) {
@@ -70,7 +69,8 @@ fn report_unflashed<O: ByteOut, E: ByteOut>(
     requires err { E.count err.old < 2 ^ 64 - 1 }
     ensures status { result ≤ 2 }
     ensures some { 0 < result }
-    ensures reported { ReportsUnflashed why family (O.held out.old) (O.held out.new) (err.new ≡ err.old)
+    ensures reported { ReportsUnflashed why family (O.held out.old) (O.held out.new)
+        (err.new ≡ err.old)
         (E.count err.new ≡ E.count err.old) (E.held err.old) (E.held err.new) result }
 {
     match why {
@@ -105,8 +105,10 @@ fn flash_texts<S: FileStore, O: ByteOut, P: ByteOut>(
 ) -> Result<Ending, Unflashed>
     requires out { O.count out.old < 2 ^ 64 - 1 }
     requires progress { P.count progress.old < 2 ^ 64 - 1 }
-    ensures ends { IfOk result (IsEndingOf (S.facts store.now) given.now (O.held out.old) (O.held out.new)) }
-    ensures unbegun { IfErr result (IsUnbegunFor (S.facts store.now) given.now (O.held out.old) (O.held out.new)) }
+    ensures ends { IfOk result
+        (IsEndingOf (S.facts store.now) given.now (O.held out.old) (O.held out.new)) }
+    ensures unbegun { IfErr result
+        (IsUnbegunFor (S.facts store.now) given.now (O.held out.old) (O.held out.new)) }
     ensures count { IfOk result (λ _. O.count out.new ≡ O.count out.old) }
     ensures room { O.count out.new ≤ O.count out.old + 1 }
 {
@@ -147,7 +149,8 @@ fn flash_texts<S: FileStore, O: ByteOut, P: ByteOut>(
     flash_device(alloc, store, read.device, &job, out, progress)
 }
 
-/// Does a job on the chip behind the device of this name, which is opened only where the job has no fault that shows before.
+/// Does a job on the chip behind the device of this name, which is opened only where the job has no
+/// fault that shows before.
 fn flash_device<S: FileStore, O: ByteOut, P: ByteOut>(
     alloc: Global,
     store: &S,
@@ -160,9 +163,13 @@ fn flash_device<S: FileStore, O: ByteOut, P: ByteOut>(
     requires out { O.count out.old < 2 ^ 64 - 1 }
     requires progress { P.count progress.old < 2 ^ 64 - 1 }
     ensures sound { IfOk result (λ _. IsSoundEarly job.now) }
-    ensures flashed { IfOk result (IsFlashedOn ((S.facts store.now).device device.now) (S.facts store.now) job.now (O.held out.old)
+    ensures flashed { IfOk result
+        (IsFlashedOn ((S.facts store.now).device device.now) (S.facts store.now) job.now
+        (O.held out.old)
         (O.held out.new)) }
-    ensures unbegun { IfErr result (IsUnbegunOn (S.facts store.now) ((S.facts store.now).device device.now) job.now (O.held out.old)
+    ensures unbegun { IfErr result
+        (IsUnbegunOn (S.facts store.now) ((S.facts store.now).device device.now) job.now
+        (O.held out.old)
         (O.held out.new)) }
     ensures count { IfOk result (λ _. O.count out.new ≡ O.count out.old) }
     ensures room { O.count out.new ≤ O.count out.old + 1 }
@@ -177,7 +184,8 @@ fn flash_device<S: FileStore, O: ByteOut, P: ByteOut>(
 /// Refuses a job for the first fault that shows before its chip is read.
 fn look_at(alloc: Global, job: &Job<'_>) -> Result<(), Refusal>
     ensures sound { IfOk result (λ _. IsSoundEarly job.now) }
-    ensures refused { IfErr result (λ why. (fault : BuildFault) × (why ≡ Build fault) × RefusesEarly job.now fault) }
+    ensures refused { IfErr result (λ why. (fault : BuildFault) × (why ≡ Build fault)
+        × RefusesEarly job.now fault) }
 {
     let (known, tables) = known_tables(job);
     match look(alloc, &inputs_for(job, tables), known) {
@@ -199,7 +207,8 @@ fn known_tables<'a>(job: &Job<'a>) -> (bool, &'a [u8])
 }
 
 fn bytes_in(bytes: &Option<Vec<u8>>) -> Option<&[u8]>
-    ensures { option_map (λ text. text.now) result ≡ option_map (λ held. held.items) bytes.entry.now }
+    ensures { option_map (λ text. text.now) result
+        ≡ option_map (λ held. held.items) bytes.entry.now }
 {
     match bytes {
         Some(bytes) => Some(bytes.as_slice()),

@@ -1,6 +1,7 @@
 //! Work on the chip behind a device, after its handshake.
 
 ghost use Rattle.std.specs.Prelude.{◌≡◌, ◌<◌, ◌≤◌, ◌+◌, ◌-◌, ◌^◌, true, false, IfOk, IfErr};
+ghost use Rattle.nor_base.specs.Device.{HaveRoom};
 ghost use Rattle.nor_job.specs.Status.{start_of};
 ghost use Rattle.nor_reader.specs.Laws.{GivesBy};
 ghost use Rattle.norprog_flash.specs.Begun.{IsPlannedOn};
@@ -20,11 +21,11 @@ use norprog_common::FileStore;
 use norprog_failure::Failure;
 use std::alloc::Global;
 
-/// Reads the chip behind a device twice, saves what it holds in a new file, plans for that, and prints the lines of the plan. Then,
-/// unless only the plan is wanted, it has the device do the planned work and read the chip back. How many steps are done is written to
-/// `progress`; where that fails nothing changes.
+/// Reads the chip behind a device twice, saves what it holds in a new file, plans, and prints the
+/// plan. Then, unless only the plan is wanted, it has the device do the work and read the chip
+/// back. How far it is goes to `progress`.
 ///
-/// At `Unflashed` and `Planned` nothing was sent that changes what the chip holds.
+/// At `Unflashed` and `Planned` nothing was sent that changes the chip.
 pub fn flash_chip<S: FileStore, R: ByteIn, W: ByteOut, O: ByteOut, P: ByteOut>(
     alloc: Global,
     store: &S,
@@ -40,9 +41,13 @@ pub fn flash_chip<S: FileStore, R: ByteIn, W: ByteOut, O: ByteOut, P: ByteOut>(
     requires writer { W.count to.old < 2 ^ 64 - 2 }
     requires out { O.count out.old < 2 ^ 64 - 1 }
     requires told { P.count progress.old < 2 ^ 64 - 1 }
-    ensures ends { IfOk result (EndsFlash (S.facts store.now) job.now limits.now (W.held to.old) (W.held to.new) (R.ahead from.old)
+    ensures ends { IfOk result
+        (EndsFlash (S.facts store.now) job.now limits.now (W.held to.old) (W.held to.new)
+        (R.ahead from.old)
         (R.ahead from.new) (O.held out.old) (O.held out.new)) }
-    ensures stops { IfErr result (StopsBegun (S.facts store.now) (W.held to.old) (W.held to.new) (R.ahead from.old) (R.ahead from.new) job.now
+    ensures stops { IfErr result
+        (StopsBegun (S.facts store.now) (W.held to.old) (W.held to.new) (R.ahead from.old)
+        (R.ahead from.new) job.now
         (O.held out.old) (O.held out.new)) }
     ensures reads_room { R.count from.new ≤ R.count from.old + 2 }
     ensures writes_room { W.count to.new ≤ W.count to.old + 2 }
@@ -69,12 +74,14 @@ fn flash_planned<S: FileStore, R: ByteIn, W: ByteOut, P: ByteOut>(
     progress: &mut P,
 ) -> Ending
     requires wet { job.now.dry ≡ false }
-    requires planned { IsPlannedOn (S.facts store.now) job.now begun.now.reading begun.now.work.goal.items begun.now.work.steps.items }
-    requires way { GivesBy begun.now.reading.meaning (start_of (flash_task job.now begun.now.reading.tables.items)) begun.now.by }
-    requires reader { R.count from.old < 2 ^ 64 - 1 }
-    requires writer { W.count to.old < 2 ^ 64 - 1 }
+    requires planned { IsPlannedOn (S.facts store.now) job.now begun.now.reading
+        begun.now.work.goal.items begun.now.work.steps.items }
+    requires way { GivesBy begun.now.reading.meaning
+        (start_of (flash_task job.now begun.now.reading.tables.items)) begun.now.by }
+    requires room { HaveRoom (R.count from.old) (W.count to.old) }
     requires told { P.count progress.old < 2 ^ 64 - 1 }
-    ensures goes { GoesOn (W.held to.old) (W.held to.new) (R.ahead from.old) (R.ahead from.new) limits.now job.now begun.now.reading
+    ensures goes { GoesOn (W.held to.old) (W.held to.new) (R.ahead from.old) (R.ahead from.new)
+        limits.now job.now begun.now.reading
         begun.now.work.goal.items begun.now.work.steps.items result }
     ensures reads_room { R.count from.new ≤ R.count from.old + 1 }
     ensures writes_room { W.count to.new ≤ W.count to.old + 1 }

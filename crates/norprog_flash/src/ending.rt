@@ -22,7 +22,8 @@ pub enum Ending {
     },
     /// A step wasn't done.
     Failed {
-        /// The step, counted from 0; the number of steps where the chip isn't known to hold what they leave.
+        /// The step, counted from 0; the number of steps where the chip isn't known to hold what
+        /// they leave.
         step: u64,
         /// Why: at `Carried` no step was sent.
         why: Failure,
@@ -38,7 +39,8 @@ pub enum Unflashed {
     Device(DeviceFault),
     /// The chip didn't say or give what it has to.
     Unlike(Unlike),
-    /// Its status, S23 to S0 or of a part of which nothing is known S7 to S0, shows that it can't take the work.
+    /// Its status, S23 to S0 or of a part of which nothing is known S7 to S0, shows that it can't
+    /// take the work.
     Closed(u32),
 }
 

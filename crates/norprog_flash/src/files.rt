@@ -50,7 +50,8 @@ fn read_if<S: FileStore>(
     path: Option<&str>,
     name: FileName,
 ) -> Result<Option<Vec<u8>>, Refusal>
-    ensures given { IfOk result (λ held. WhereNamed (S.facts store.now).gave (option_map (λ t. t.now) path.entry)
+    ensures given { IfOk result
+        (λ held. WhereNamed (S.facts store.now).gave (option_map (λ t. t.now) path.entry)
         (option_map (λ bytes. bytes.items) held)) }
     ensures lacked { IfErr result (TellsFile (S.facts store.now).lacked) }
 {

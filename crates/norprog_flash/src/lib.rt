@@ -1,8 +1,10 @@
-//! `norprog flash`: has a programmer read a chip, plan for what it holds, and do that work (docs/FORMATS.md, section 14).
+//! `norprog flash`: has a programmer read a chip, plan for what it holds, and do that work
+//! (docs/FORMATS.md, section 14).
 //!
-//! [`flash`] does what the texts of a command line ask for. [`flash_opened`] does the work from the handshake on, over any reader and
-//! writer; [`flash_chip`] after it: nothing that changes the chip is sent before what it holds is saved, and before the whole plan is
-//! known. [`write_ending`] writes how it ended.
+//! [`flash`] does what the texts of a command line ask for. [`flash_opened`] does the work from the
+//! handshake on, over any reader and writer; [`flash_chip`] after it: nothing that changes the chip
+//! is sent before what it holds is saved, and before the whole plan is known. [`write_ending`]
+//! writes how it ended.
 #![tactic(auto)]
 
 mod back;

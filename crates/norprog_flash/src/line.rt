@@ -11,10 +11,11 @@ use nor_base::{ByteOut, Failed, Part, put_parts};
 use nor_script::hex_pair;
 use norprog_failure::write_failure;
 
-/// Writes the line of an ending, closed by LF: `ok N` with the number of steps, or why one wasn't done, as [`write_failure`] does; of a
-/// plan nothing. It takes no memory.
+/// Writes the line of an ending, closed by LF: `ok N` with the number of steps, or why one wasn't
+/// done, as [`write_failure`] does; of a plan nothing. It takes no memory.
 ///
-/// At `Failed` a proper prefix was taken; it comes only from the writer, whose count of failures rose by one.
+/// At `Failed` a proper prefix was taken; it comes only from the writer, whose count of failures
+/// rose by one.
 pub fn write_ending<W: ByteOut>(ending: Ending, writer: &mut W) -> Result<(), Failed>
     requires { W.count writer.old < 2 ^ 64 - 1 }
     ensures bytes { Writes (W.held writer.old) (W.held writer.new) result (ending_line ending) }
@@ -33,14 +34,16 @@ pub fn write_ending<W: ByteOut>(ending: Ending, writer: &mut W) -> Result<(), Fa
     }
 }
 
-/// Writes `unlike status` and the status: S7 to S0 in two digits, of a part whose registers are known S23 to S0 in six; and LF.
+/// Writes `unlike status` and the status: S7 to S0 in two digits, of a part whose registers are
+/// known S23 to S0 in six; and LF.
 pub(crate) fn write_closed<W: ByteOut>(
     part: Part,
     status: u32,
     writer: &mut W,
 ) -> Result<(), Failed>
     requires { W.count writer.old < 2 ^ 64 - 1 }
-    ensures bytes { Writes (W.held writer.old) (W.held writer.new) result (closed_line part status) }
+    ensures bytes { Writes (W.held writer.old) (W.held writer.new) result
+        (closed_line part status) }
     ensures count { Counts (W.count writer.old) (W.count writer.new) result }
 {
     match part {
@@ -52,7 +55,8 @@ pub(crate) fn write_closed<W: ByteOut>(
 /// Writes `unlike status` and S7 to S0.
 fn write_status<W: ByteOut>(status: u32, writer: &mut W) -> Result<(), Failed>
     requires { W.count writer.old < 2 ^ 64 - 1 }
-    ensures bytes { Writes (W.held writer.old) (W.held writer.new) result (closed_line Generic status) }
+    ensures bytes { Writes (W.held writer.old) (W.held writer.new) result
+        (closed_line Generic status) }
     ensures count { Counts (W.count writer.old) (W.count writer.new) result }
 {
     let low = (status % 256) as u8;
@@ -62,7 +66,8 @@ fn write_status<W: ByteOut>(status: u32, writer: &mut W) -> Result<(), Failed>
 /// Writes `unlike status` and S23 to S0.
 fn write_registers<W: ByteOut>(status: u32, writer: &mut W) -> Result<(), Failed>
     requires { W.count writer.old < 2 ^ 64 - 1 }
-    ensures bytes { Writes (W.held writer.old) (W.held writer.new) result (closed_line W25q256jv status) }
+    ensures bytes { Writes (W.held writer.old) (W.held writer.new) result
+        (closed_line W25q256jv status) }
     ensures count { Counts (W.count writer.old) (W.count writer.new) result }
 {
     let high = (status / 65536 % 256) as u8;

@@ -13,11 +13,11 @@ use norprog_common::FileStore;
 use norprog_device::{DeviceFault, let_go};
 use std::alloc::Global;
 
-/// Begins with a device, tests the line to it, and does the job on its chip, as [`flash_chip`] does, by the limits that the device
-/// reports. At last it lets the chip's pins go, where it drives them, whatever happened; what it answers to that changes nothing.
+/// Begins with a device, tests the line to it, and does the job on its chip, as [`flash_chip`]
+/// does. At last it lets the chip's pins go, whatever happened.
 ///
-/// `Device` where the handshake or the test of the line ended early. At each `Unflashed` nothing was sent that changes what the chip
-/// holds.
+/// `Device` where the handshake or the test of the line ended early. At each `Unflashed` nothing
+/// was sent that changes the chip.
 pub fn flash_opened<S: FileStore, R: ByteIn, W: ByteOut, O: ByteOut, P: ByteOut>(
     alloc: Global,
     store: &S,
@@ -32,9 +32,13 @@ pub fn flash_opened<S: FileStore, R: ByteIn, W: ByteOut, O: ByteOut, P: ByteOut>
     requires writer { W.count to.old < 2 ^ 64 - 4 }
     requires out { O.count out.old < 2 ^ 64 - 1 }
     requires told { P.count progress.old < 2 ^ 64 - 1 }
-    ensures ends { IfOk result (HasFlashedOpened (S.facts store.now) job.now (W.held to.old) (W.held to.new) (R.ahead from.old)
+    ensures ends { IfOk result
+        (HasFlashedOpened (S.facts store.now) job.now (W.held to.old) (W.held to.new)
+        (R.ahead from.old)
         (R.ahead from.new) (O.held out.old) (O.held out.new)) }
-    ensures stops { IfErr result (StopsOpened (S.facts store.now) (W.held to.old) (W.held to.new) (R.ahead from.old) (R.ahead from.new) job.now
+    ensures stops { IfErr result
+        (StopsOpened (S.facts store.now) (W.held to.old) (W.held to.new) (R.ahead from.old)
+        (R.ahead from.new) job.now
         (O.held out.old) (O.held out.new)) }
     ensures out_count { IfOk result (λ _. O.count out.new ≡ O.count out.old) }
     ensures out_room { O.count out.new ≤ O.count out.old + 1 }
@@ -64,12 +68,16 @@ fn flash_tested<S: FileStore, R: ByteIn, W: ByteOut, O: ByteOut, P: ByteOut>(
     requires writer { W.count to.old < 2 ^ 64 - 4 }
     requires out { O.count out.old < 2 ^ 64 - 1 }
     requires told { P.count progress.old < 2 ^ 64 - 1 }
-    ensures ends { IfOk result (HasFlashedTested (S.facts store.now) job.now limits.now (W.held to.old) (W.held to.new) (R.ahead from.old)
+    ensures ends { IfOk result
+        (HasFlashedTested (S.facts store.now) job.now limits.now (W.held to.old) (W.held to.new)
+        (R.ahead from.old)
         (R.ahead from.new) (O.held out.old) (O.held out.new)) }
-    ensures stops { IfErr result (StopsTested (S.facts store.now) (W.held to.old) (W.held to.new) (R.ahead from.old) (R.ahead from.new) limits.now
+    ensures stops { IfErr result
+        (StopsTested (S.facts store.now) (W.held to.old) (W.held to.new) (R.ahead from.old)
+        (R.ahead from.new) limits.now
         job.now (O.held out.old) (O.held out.new)) }
-    ensures reads { R.count from.new ≤ R.count from.old + 2 }
-    ensures writes { W.count to.new ≤ W.count to.old + 2 }
+    ensures counts { R.count from.new ≤ R.count from.old + 2
+        × W.count to.new ≤ W.count to.old + 2 }
     ensures out_count { IfOk result (λ _. O.count out.new ≡ O.count out.old) }
     ensures out_room { O.count out.new ≤ O.count out.old + 1 }
 {

@@ -3,7 +3,10 @@
 ghost use Rattle.std.specs.Prelude.{◌≡◌, ◌<◌, ◌-◌, ◌^◌, ◌++◌, flat_map, option_map};
 ghost use Rattle.std.specs.List.{list_all};
 ghost use Rattle.nor_base.specs.Device.{Counts, Writes};
-ghost use Rattle.norprog_flash.specs.State.{first_name, flagged, given_text, is_bare, is_plain, name_text, named_text, next_command, next_options, option_front, quoted, quoted_word, region_word, regions_text, shell_word, valued};
+ghost use Rattle.norprog_flash.specs.State.{first_name, flagged, given_text, is_bare, is_plain};
+ghost use Rattle.norprog_flash.specs.State.{name_text, named_text, next_command, next_options};
+ghost use Rattle.norprog_flash.specs.State.{option_front, quoted, quoted_word, region_word};
+ghost use Rattle.norprog_flash.specs.State.{regions_text, shell_word, valued};
 
 use nor_base::{ByteOut, Bytes, Failed, put_all, put_parts};
 use norprog_common::FlashArgs;
@@ -84,7 +87,8 @@ pub(crate) fn first_name<'a>(given: &FlashArgs<'a>) -> &'a str
 /// Writes options.
 fn write_options<W: ByteOut>(options: &[Given<'_>], writer: &mut W) -> Result<(), Failed>
     requires { W.count writer.old < 2 ^ 64 - 1 }
-    ensures bytes { Writes (W.held writer.old) (W.held writer.new) result (flat_map given_text options.now) }
+    ensures bytes { Writes (W.held writer.old) (W.held writer.new) result
+        (flat_map given_text options.now) }
     ensures count { Counts (W.count writer.old) (W.count writer.new) result }
 {
     for option in options {
@@ -96,7 +100,8 @@ fn write_options<W: ByteOut>(options: &[Given<'_>], writer: &mut W) -> Result<()
 /// Writes an option, where it is given.
 fn write_given<W: ByteOut>(option: Given<'_>, writer: &mut W) -> Result<(), Failed>
     requires { W.count writer.old < 2 ^ 64 - 1 }
-    ensures bytes { Writes (W.held writer.old) (W.held writer.new) result (given_text option.entry) }
+    ensures bytes { Writes (W.held writer.old) (W.held writer.new) result
+        (given_text option.entry) }
     ensures count { Counts (W.count writer.old) (W.count writer.new) result }
 {
     match option {
@@ -145,7 +150,8 @@ fn write_value<W: ByteOut>(
     writer: &mut W,
 ) -> Result<(), Failed>
     requires { W.count writer.old < 2 ^ 64 - 1 }
-    ensures bytes { Writes (W.held writer.old) (W.held writer.new) result (option_front name ++ (shell_word value.now ++ after.now)) }
+    ensures bytes { Writes (W.held writer.old) (W.held writer.new) result
+        (option_front name ++ (shell_word value.now ++ after.now)) }
     ensures count { Counts (W.count writer.old) (W.count writer.new) result }
 {
     write_front(name, writer)?;
@@ -187,7 +193,8 @@ fn name_text(name: Name) -> &'static [u8]
 /// Writes the names of regions after `--`, where there are some.
 fn write_regions<W: ByteOut>(regions: &[Bytes], writer: &mut W) -> Result<(), Failed>
     requires { W.count writer.old < 2 ^ 64 - 1 }
-    ensures bytes { Writes (W.held writer.old) (W.held writer.new) result (regions_text regions.now) }
+    ensures bytes { Writes (W.held writer.old) (W.held writer.new) result
+        (regions_text regions.now) }
     ensures count { Counts (W.count writer.old) (W.count writer.new) result }
 {
     match regions {
@@ -209,7 +216,8 @@ fn write_named<W: ByteOut>(regions: &[Bytes], writer: &mut W) -> Result<(), Fail
 /// Writes a blank and a name, of each region.
 fn write_names<W: ByteOut>(regions: &[Bytes], writer: &mut W) -> Result<(), Failed>
     requires { W.count writer.old < 2 ^ 64 - 1 }
-    ensures bytes { Writes (W.held writer.old) (W.held writer.new) result (flat_map region_word regions.now) }
+    ensures bytes { Writes (W.held writer.old) (W.held writer.new) result
+        (flat_map region_word regions.now) }
     ensures count { Counts (W.count writer.old) (W.count writer.new) result }
 {
     for region in regions {
@@ -279,7 +287,8 @@ fn is_plain(byte: u8) -> bool
 /// Writes a text as it is between single quotes.
 fn write_quoted<W: ByteOut>(text: &[u8], writer: &mut W) -> Result<(), Failed>
     requires { W.count writer.old < 2 ^ 64 - 1 }
-    ensures bytes { Writes (W.held writer.old) (W.held writer.new) result (flat_map quoted text.now) }
+    ensures bytes { Writes (W.held writer.old) (W.held writer.new) result
+        (flat_map quoted text.now) }
     ensures count { Counts (W.count writer.old) (W.count writer.new) result }
 {
     for byte in text {

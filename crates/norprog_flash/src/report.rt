@@ -23,9 +23,9 @@ const HALF_DONE: &[u8] = b"norprog: the chip is half done, and what it held is i
 const GO_ON: &[u8] =
     b". See: norprog explain the chip may hold. Switch its power off and on, and go on with: ";
 
-/// Writes to `err` how to go on with a chip that may hold a part of the work, where that is so, and then the line of an ending to `out`, or
-/// to `err` that it can't be written. Returns the status: 0 where all was done and printed, else 1. Where `err` fails a part of its text is
-/// lost, and nothing more is written there.
+/// Writes to `err` how to go on with a chip that may hold a part of the work, and then the line of
+/// an ending to `out`, or to `err` that it can't be written. Returns the status: 0 where all was
+/// done and printed, else 1.
 pub(crate) fn report_ending<O: ByteOut, E: ByteOut>(
     ending: Ending,
     given: &FlashArgs<'_>,
@@ -34,7 +34,8 @@ pub(crate) fn report_ending<O: ByteOut, E: ByteOut>(
 ) -> u8
     requires out { O.count out.old < 2 ^ 64 - 1 }
     requires err { E.count err.old < 2 ^ 64 - 1 }
-    ensures reported { ReportsEnding ending given.now (O.held out.old) (O.held out.new) (err.new ≡ err.old)
+    ensures reported { ReportsEnding ending given.now (O.held out.old) (O.held out.new)
+        (err.new ≡ err.old)
         (E.count err.new ≡ E.count err.old) (E.held err.old) (E.held err.new) result }
     ensures status { result ≤ 1 }
     ensures quiet { result ≡ 0 → err.new ≡ err.old }
@@ -46,11 +47,13 @@ pub(crate) fn report_ending<O: ByteOut, E: ByteOut>(
     }
 }
 
-/// Writes that the line of an ending can't be written, where what came before was. Returns the status, 1.
+/// Writes that the line of an ending can't be written, where what came before was. Returns the
+/// status, 1.
 fn refuse_line<E: ByteOut>(told: Result<(), Failed>, err: &mut E) -> u8
     requires { IfOk told (λ _. E.count err.old < 2 ^ 64 - 1) }
     ensures status { result ≡ 1 }
-    ensures told { IfOk told (λ _. E.count err.new ≡ E.count err.old → Appends (E.held err.old) (E.held err.new) (printed (Build Write))) }
+    ensures told { IfOk told (λ _. E.count err.new ≡ E.count err.old
+        → Appends (E.held err.old) (E.held err.new) (printed (Build Write))) }
     ensures lost { IfErr told (λ _. err.new ≡ err.old) }
 {
     match told {

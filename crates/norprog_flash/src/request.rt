@@ -26,7 +26,8 @@ pub struct FlashRequest<'a> {
     pub regions: &'a [Bytes],
 }
 
-/// The request that the values spell. None where one isn't of its form, or one that has to be there isn't.
+/// The request that the values spell. None where one isn't of its form, or one that has to be there
+/// isn't.
 pub fn request_of<'a>(given: &'a FlashArgs<'a>) -> Option<FlashRequest<'a>>
     ensures forms { is_some result ≡ is_well_formed given.now }
     ensures values { IfSome result (λ request. AsksFor given.now request) }

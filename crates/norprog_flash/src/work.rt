@@ -1,6 +1,7 @@
 //! The work on a chip that was read, saved and planned for.
 
 ghost use Rattle.std.specs.Prelude.{◌≡◌, ◌<◌, ◌≤◌, ◌+◌, ◌-◌, ◌^◌, All, length};
+ghost use Rattle.nor_base.specs.Device.{HaveRoom};
 ghost use Rattle.nor_base.specs.Step.{expected};
 ghost use Rattle.nor_serprog.specs.Done.{IsDoable};
 ghost use Rattle.norprog_flash.specs.Worked.{IsFailureAt, WorksOut};
@@ -29,7 +30,8 @@ pub(crate) struct Bench<'a, S: FileStore> {
     pub(crate) by: ReadBy,
 }
 
-/// Has the device do the steps, and then read the chip, which must give the goal's bytes. What it held must be saved first.
+/// Has the device do the steps, and then read the chip, which must give the goal's bytes. What it
+/// held must be saved first.
 pub(crate) fn do_work<S: FileStore, R: ByteIn, W: ByteOut, P: ByteOut>(
     bench: &Bench<'_, S>,
     from: &mut R,
@@ -40,13 +42,14 @@ pub(crate) fn do_work<S: FileStore, R: ByteIn, W: ByteOut, P: ByteOut>(
     goal: &[u8],
     progress: &mut P,
 ) -> Ending
-    requires saved { IsSaved (S.facts bench.now.store.now) bench.now.before.now bench.now.content.now }
+    requires saved { IsSaved (S.facts bench.now.store.now) bench.now.before.now
+        bench.now.content.now }
     requires form { All IsDoable steps.now }
     requires size { length goal.now ≤ 2 ^ 32 }
-    requires reader { R.count from.old < 2 ^ 64 - 1 }
-    requires writer { W.count to.old < 2 ^ 64 - 1 }
+    requires room { HaveRoom (R.count from.old) (W.count to.old) }
     requires told { P.count progress.old < 2 ^ 64 - 1 }
-    ensures ends { WorksOut (W.held to.old) (W.held to.new) (R.ahead from.old) (R.ahead from.new) limits.now turns bench.now.meaning.now bench.now.by
+    ensures ends { WorksOut (W.held to.old) (W.held to.new) (R.ahead from.old) (R.ahead from.new)
+        limits.now turns bench.now.meaning.now bench.now.by
         steps.now goal.now result }
     ensures reads_room { R.count from.new ≤ R.count from.old + 1 }
     ensures writes_room { W.count to.new ≤ W.count to.old + 1 }

@@ -6,8 +6,9 @@ ghost use Rattle.norprog_work.specs.Early.{shows_early, IsSoundEarly, RefusesEar
 use nor_job::{BuildFault, Inputs, job_of};
 use std::alloc::Global;
 
-/// Refuses a job for the first fault that its inputs have whatever the chip holds, in the order of [`nor_job::job_of`]: `Contradiction`,
-/// `Hex` and `Layout`; `Sfdp`, `Status` and `ModeImpossible` where the chip is known, which else isn't looked at; `Memory`.
+/// Refuses a job for the first fault that its inputs have whatever the chip holds, in the order of
+/// [`nor_job::job_of`]: `Contradiction`, `Hex` and `Layout`; `Sfdp`, `Status` and `ModeImpossible`
+/// where the chip is known, which else isn't looked at; `Memory`.
 pub fn look(alloc: Global, inputs: &Inputs<'_>, known: bool) -> Result<(), BuildFault>
     ensures sound { IfOk result (λ _. IsSoundEarly known inputs.now) }
     ensures refused { IfErr result (RefusesEarly known inputs.now) }

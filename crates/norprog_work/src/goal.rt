@@ -20,9 +20,11 @@ pub struct Goal {
     pub ignored: u64,
 }
 
-/// What a chip of the inputs must hold whose bytes were these. Memory is taken for the image, the layout and the bytes.
+/// What a chip of the inputs must hold whose bytes were these. Memory is taken for the image, the
+/// layout and the bytes.
 ///
-/// The refusals are those of [`nor_job::job_of`], `ContentSize` where there are more or fewer bytes than the chip has.
+/// The refusals are those of [`nor_job::job_of`], `ContentSize` where there are more or fewer bytes
+/// than the chip has.
 pub fn goal_of(alloc: Global, inputs: &Inputs<'_>, old: &[u8]) -> Result<Goal, BuildFault>
     ensures goal { IfOk result (λ goal. IsGoal inputs.now old.now goal.bytes.items goal.ignored) }
     ensures refused { IfErr result (RefusesInputs inputs.now (length old.now)) }
@@ -45,7 +47,8 @@ fn fill_target(job: &Job, old: &[u8], want: &mut [u8])
 
 /// How many addresses of a job's image go nowhere.
 fn count_ignored(job: &Job) -> u64
-    ensures count { result ≡ count_by (λ pair. is_ignored job.now.base (has job.now.chosen) job.now.meaning.size pair.0) job.now.image }
+    ensures count { result ≡ count_by (λ pair.
+        is_ignored job.now.base (has job.now.chosen) job.now.meaning.size pair.0) job.now.image }
     ensures small { job.now.meaning.size < 2 ^ 32 }
 {
     ignored(&job.image, job.base, &job.chosen, job.meaning.size)

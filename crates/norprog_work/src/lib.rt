@@ -1,8 +1,9 @@
-//! The planned work of a command that reads a chip itself: from what the chip holds to what it must hold. What the image doesn't give is
-//! what an older dump of the chip has; where work isn't resumed that is what it holds.
+//! The planned work of a command that reads a chip itself: from what the chip holds to what it must
+//! hold. What the image doesn't give is what an older dump of the chip has; where work isn't
+//! resumed that is what it holds.
 //!
-//! [`look`] refuses a job before its chip is read. [`goal_of`] has the target. [`work_for`] plans, prints the lines of the plan, and returns
-//! the steps.
+//! [`look`] refuses a job before its chip is read. [`goal_of`] has the target. [`work_for`] plans,
+//! prints the lines of the plan, and returns the steps.
 #![tactic(auto)]
 
 mod early;

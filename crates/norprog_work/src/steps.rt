@@ -11,14 +11,15 @@ use nor_script::read;
 use norprog::{Report, build};
 use std::alloc::Global;
 
-/// The steps of the script that a build of this content writes, and its report, where such work can be planned: nothing but `Memory` refuses
-/// that. Memory is taken for the script too.
+/// The steps of the script that a build of this content writes, and its report, where such work can
+/// be planned: nothing but `Memory` refuses that. Memory is taken for the script too.
 pub(crate) fn build_steps(
     alloc: Global,
     inputs: &Inputs<'_>,
     content: &[u8],
 ) -> Result<(Report, Vec<Step>), BuildFault>
-    ensures built { IfOk result (λ built. BuildsSteps inputs.now content.now built.0 built.1.items) }
+    ensures built { IfOk result
+        (λ built. BuildsSteps inputs.now content.now built.0 built.1.items) }
     ensures memory { IfErr result (λ why. why ≡ Memory) }
 {
     let mut text = IntoWrite::new(Vec::new(alloc));

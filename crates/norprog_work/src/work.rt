@@ -24,11 +24,11 @@ pub struct Work {
     pub goal: Vec<u8>,
 }
 
-/// Plans the work from a content to the target of the bytes of `old`, and writes the lines and the report of the plan
-/// (docs/FORMATS.md, section 9). Memory is taken for the target, the work's script and its steps.
+/// Plans the work from a content to the target of the bytes of `old`, and writes the lines and the
+/// report of the plan (docs/FORMATS.md, section 9). Memory is taken for the target and the steps.
 ///
-/// The refusals are those of [`goal_of`]; then `Plan` with the lowest address that can't be made to hold its target, `Write`
-/// where the writer fails, and `Memory`. After `Plan`, `Write` and `Memory` some of the lines may have been written, from the first on.
+/// The refusals are those of [`goal_of`]; then `Plan` with the lowest address at fault, `Write`,
+/// and `Memory`.
 pub fn work_for<W: ByteOut>(
     alloc: Global,
     inputs: &Inputs<'_>,
@@ -38,9 +38,11 @@ pub fn work_for<W: ByteOut>(
 ) -> Result<Work, BuildFault>
     requires sizes { length content.now ≡ length old.now }
     requires writer { W.count out.old < 2 ^ 64 - 1 }
-    ensures work { IfOk result (λ work. IsWork inputs.now content.now old.now work.goal.items work.steps.items
+    ensures work { IfOk result
+        (λ work. IsWork inputs.now content.now old.now work.goal.items work.steps.items
         (W.held out.old) (W.held out.new)) }
-    ensures refused { IfErr result (RefusesWork inputs.now content.now old.now (W.held out.old) (W.held out.new)) }
+    ensures refused { IfErr result
+        (RefusesWork inputs.now content.now old.now (W.held out.old) (W.held out.new)) }
     ensures count { IfOk result (λ _. W.count out.new ≡ W.count out.old) }
     ensures room { W.count out.new ≤ W.count out.old + 1 }
 {
@@ -70,8 +72,10 @@ fn plan_lines<W: ByteOut>(
     out: &mut W,
 ) -> Result<(), BuildFault>
     requires writer { W.count out.old < 2 ^ 64 - 1 }
-    ensures lines { IfOk result (λ _. PlansLines inputs.now content.now (W.held out.old) (W.held out.new)) }
-    ensures stops { IfErr result (λ why. StopsLines inputs.now content.now content.now (W.held out.old) (W.held out.new) why
+    ensures lines { IfOk result
+        (λ _. PlansLines inputs.now content.now (W.held out.old) (W.held out.new)) }
+    ensures stops { IfErr result
+        (λ why. StopsLines inputs.now content.now content.now (W.held out.old) (W.held out.new) why
         ⊎ ((why ≡ Memory) × (out.new ≡ out.old))) }
     ensures count { IfOk result (λ _. W.count out.new ≡ W.count out.old) }
     ensures room { W.count out.new ≤ W.count out.old + 1 }
@@ -83,7 +87,8 @@ fn plan_lines<W: ByteOut>(
     }
 }
 
-/// The fault of a plan of accepted inputs, whose content is in memory: an address, or the writer, or memory is at fault.
+/// The fault of a plan of accepted inputs, whose content is in memory: an address, or the writer,
+/// or memory is at fault.
 fn late(why: BuildFault) -> BuildFault
     ensures { result ≡ late why }
 {

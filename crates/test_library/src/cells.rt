@@ -13,8 +13,8 @@ use test_samples::texts::ONE_BYTE;
 const ERASE: &str =
     "norscript 1\nx 00000110\nx 00100000000000000001000000000000\np 00000101........\nend 3\n";
 
-/// The steps of a text touch a chip of 8 KiB that holds 00h at these addresses and FFh elsewhere. The cells that are compared
-/// before them.
+/// The steps of a text touch a chip of 8 KiB that holds 00h at these addresses and FFh elsewhere.
+/// The cells that are compared before them.
 struct Row {
     text: &'static str,
     held: &'static [usize],
@@ -28,7 +28,8 @@ static ROWS: [Row; 4] = [
         held: &[],
         cells: &[0],
     },
-    // the first and the last held byte, and the byte 4 KiB from the first: a chip of 4 KiB would give it there too
+    // the first and the last held byte, and the byte 4 KiB from the first: a chip of 4 KiB would
+    // give it there too
     Row {
         text: ONE_BYTE,
         held: &[0x500, 0x700, 0x1800],
@@ -42,7 +43,8 @@ static ROWS: [Row; 4] = [
             5, 9, 16, 17, 18, 19, 20, 21, 22, 23, 24, 25, 26, 27, 28, 29, 30, 31,
         ],
     },
-    // the held cell beside the programmed one is the first above it; what repeats after 4 KiB tells no smaller chip
+    // the held cell beside the programmed one is the first above it; what repeats after 4 KiB tells
+    // no smaller chip
     Row {
         text: ONE_BYTE,
         held: &[0x200, 0x300, 0x1200, 0x1300],

@@ -10,8 +10,8 @@ use std::process::Abort;
 use test_samples::small_chip;
 use test_samples::texts::ONE_BYTE;
 
-/// Checks the script that makes the byte at 0 of a chip that holds FFh 00h, as a whole or fed with one step after another. Memory
-/// where its own memory is refused too.
+/// Checks the script that makes the byte at 0 of a chip that holds FFh 00h, as a whole or fed with
+/// one step after another. Memory where its own memory is refused too.
 fn says(rt: &impl Abort, alloc: Global, is_fed: bool) -> Result<Verdict, CheckFault> {
     let mut want = Vec::from_slice(alloc, &BLANK)?;
     if let Some(place) = want.first_mut() {

@@ -8,8 +8,8 @@ use std::process::Abort;
 use std::simd::prelude::*;
 use test_samples::{erased_only_chip, small_chip};
 
-/// Of bytes that all hold A5h, one is to become another: whether a bit rises, whether a byte that isn't FFh changes, and the
-/// first byte that is due without and with the profile.
+/// Of bytes that all hold A5h, one is to become another: whether a bit rises, whether a byte that
+/// isn't FFh changes, and the first byte that is due without and with the profile.
 fn is_told(
     rt: &impl Abort,
     have: &mut [u8],
@@ -91,7 +91,8 @@ fn dirty_plainly(have: &[u8], want: &[u8]) -> bool {
         .any(|(old, new)| *old != *new && *old != 0xFF)
 }
 
-/// Of so many bytes that hold F0h the last is to become another; what lies past them isn't looked at.
+/// Of so many bytes that hold F0h the last is to become another; what lies past them isn't looked
+/// at.
 fn agrees(rt: &impl Abort, want: &mut [u8], new: u8, rising: bool, kept: bool) {
     let len = want.len();
     let have = HAVE.get(..len).unwrap_or(&[]);

@@ -1,4 +1,5 @@
-//! What a choice has, address by address: its runs in rows of data tell where they begin and end alone.
+//! What a choice has, address by address: its runs in rows of data tell where they begin and end
+//! alone.
 
 use crate::readers::owned;
 use crate::same::same;

@@ -1,5 +1,6 @@
-//! Tests, over public calls, of all below the program's commands that no row of data can say: devices that fail, refused growths
-//! of memory, and kernels beside plain loops. `test_chip_rows` and `test_plan_rows` have the rest.
+//! Tests, over public calls, of all below the program's commands that no row of data can say:
+//! devices that fail, refused growths of memory, and kernels beside plain loops. `test_chip_rows`
+//! and `test_plan_rows` have the rest.
 //!
 //! They stand apart, so that no crate is proved a second time with its tests.
 #![tactic(auto)]

@@ -1,7 +1,7 @@
 //! Refused growths of what plans and lowers the work.
 //!
-//! `tools/refused-growths` refuses each growth in turn: the first test also passes where the fault is Memory, the second only
-//! where each job is done.
+//! `tools/refused-growths` refuses each growth in turn: the first test also passes where the fault
+//! is Memory, the second only where each job is done.
 
 use crate::same::{holds, same};
 use nor_base::{Start, Strategy};
@@ -20,8 +20,8 @@ const PLAIN: Start = Start {
     quad: false,
 };
 
-/// Plans a window, splits a unit and lowers operations to their clocks. `AllocError` where memory is refused; any other fault
-/// ends the test.
+/// Plans a window, splits a unit and lowers operations to their clocks. `AllocError` where memory
+/// is refused; any other fault ends the test.
 fn plan_each(rt: &impl Abort, alloc: Global) -> Result<(), AllocError> {
     plans_many_pages(rt, alloc)?;
     splits_three_pages(rt, alloc)?;
@@ -71,7 +71,8 @@ fn splits_three_pages(rt: &impl Abort, alloc: Global) -> Result<(), AllocError> 
     Ok(())
 }
 
-/// Of the twelve instructions of two programs eight are an opcode alone, two a poll and two a program of five bytes and one.
+/// Of the twelve instructions of two programs eight are an opcode alone, two a poll and two a
+/// program of five bytes and one.
 fn lowers_two_programs(rt: &impl Abort, alloc: Global) -> Result<(), AllocError> {
     let ops = [
         Op::Program { at: 0, bytes: &[0] },

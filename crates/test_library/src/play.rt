@@ -22,8 +22,9 @@ const VERIFY: &str =
     "norscript 1\nx 00000110\nx 0000001000000000000000000000000000000000\np 00000101........\n\
     v 00000011000000000000000000000000........ 00\nend 4\n";
 
-/// Plays a script on a chip that is busy for two status reads after each program or erase, and is unplugged after each
-/// number of transactions: the play fails at the step of the next, and a port that failed isn't asked again.
+/// Plays a script on a chip that is busy for two status reads after each program or erase, and is
+/// unplugged after each number of transactions: the play fails at the step of the next, and a port
+/// that failed isn't asked again.
 fn fails_at_each(
     rt: &impl Abort,
     alloc: Global,
@@ -38,7 +39,8 @@ fn fails_at_each(
     Ok(())
 }
 
-/// Plays steps on such a chip that is unplugged after so many transactions: the play fails at this step, if at any.
+/// Plays steps on such a chip that is unplugged after so many transactions: the play fails at this
+/// step, if at any.
 fn fails_at(
     rt: &impl Abort,
     alloc: Global,
@@ -65,7 +67,8 @@ fn each_transaction_fails(rt: HostRuntime) -> Result<(), Fail> {
     fails_at_each(&rt, rt.alloc(), VERIFY, &[0, 1, 2, 2, 2, 3])
 }
 
-/// Plays the script with its read, for which bytes are gathered. Memory where its own memory is refused too.
+/// Plays the script with its read, for which bytes are gathered. Memory where its own memory is
+/// refused too.
 fn plays(rt: &impl Abort, alloc: Global) -> Result<u128, PlayFault> {
     match read(alloc, VERIFY.as_bytes()) {
         Ok(steps) => plays_all(rt, alloc, &steps),

@@ -78,7 +78,8 @@ impl<'a> Unplugged<'a> {
     }
 }
 
-/// Transactions and what they read: a program of A5h at 0, the end of a busy time of one status read, and a read.
+/// Transactions and what they read: a program of A5h at 0, the end of a busy time of one status
+/// read, and a read.
 static JOB: [(&[u8], &[u8]); 5] = [
     (b"00000110", &[]),
     (b"0000001000000000000000000000000010100101", &[]),
@@ -93,7 +94,8 @@ static JOB: [(&[u8], &[u8]); 5] = [
 /// A read past the chip's end.
 static WRONG: [(&[u8], &[u8]); 1] = [(b"00000011000000000001111111111111................", &[])];
 
-/// Does transactions up to the first that isn't done, which reads nothing: how many were, and the fault.
+/// Does transactions up to the first that isn't done, which reads nothing: how many were, and the
+/// fault.
 fn until_fault<P: Port>(
     rt: &impl Abort,
     port: &mut P,
@@ -116,7 +118,8 @@ fn until_fault<P: Port>(
     (rows.len(), None)
 }
 
-/// Unplugs the chip after each number of transactions. It stays as it was then and, plugged in again, goes on.
+/// Unplugs the chip after each number of transactions. It stays as it was then and, plugged in
+/// again, goes on.
 #[test]
 fn a_port_counts_its_failures(rt: HostRuntime) -> Result<(), Fail> {
     let meaning = small_chip();

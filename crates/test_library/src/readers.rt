@@ -1,7 +1,7 @@
 //! Refused growths of the readers.
 //!
-//! `tools/refused-growths` refuses each growth in turn: the first test also passes where the fault is Memory, the second only
-//! where each job is done.
+//! `tools/refused-growths` refuses each growth in turn: the first test also passes where the fault
+//! is Memory, the second only where each job is done.
 
 use crate::same::{holds, same};
 use nor_base::{Bytes, Part};
@@ -13,15 +13,16 @@ use std::process::Abort;
 use test_samples::texts::IMAGE;
 
 /// 32 bytes at addresses far apart.
-const FAR_APART: &[u8] =
-    b":080000000102030405060708D4\n:081000000102030405060708C4\n:082000000102030405060708B4\n:083000000102030405060708A4\n:00000001FF\n";
+const FAR_APART: &[u8] = b":080000000102030405060708D4\n:081000000102030405060708C4\n\
+    :082000000102030405060708B4\n:083000000102030405060708A4\n:00000001FF\n";
 
 /// Twenty regions.
 const MANY: &[u8] =
     b"0:0 r0\n1:1 r1\n2:2 r2\n3:3 r3\n4:4 r4\n5:5 r5\n6:6 r6\n7:7 r7\n8:8 r8\n9:9 r9\n\
     0:0 s0\n1:1 s1\n2:2 s2\n3:3 s3\n4:4 s4\n5:5 s5\n6:6 s6\n7:7 s7\n8:8 s8\n9:9 s9\n";
 
-/// Reads an image, a layout and a job. `AllocError` where memory is refused; any other fault ends the test.
+/// Reads an image, a layout and a job. `AllocError` where memory is refused; any other fault ends
+/// the test.
 fn read_each(rt: &impl Abort, alloc: Global) -> Result<(), AllocError> {
     reads_far_apart(rt, alloc)?;
     chooses_some(rt, alloc)?;

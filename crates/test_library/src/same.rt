@@ -1,4 +1,5 @@
-//! What a test wants, as calls: an `assert_eq!` in place costs its function a second or more of proof.
+//! What a test wants, as calls: an `assert_eq!` in place costs its function a second or more of
+//! proof.
 
 ghost use Rattle.std.specs.Prelude.{◌≡◌, true};
 

@@ -1,4 +1,5 @@
-//! Tests of a device that speaks serprog, and of a script that is played and a chip that is flashed on one, with devices in memory.
+//! Tests of a device that speaks serprog, and of a script that is played and a chip that is flashed
+//! on one, with devices in memory.
 
 mod bench;
 mod canned;

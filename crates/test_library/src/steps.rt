@@ -55,7 +55,8 @@ fn shows(view: StepView<'_>, step: &Step) -> bool {
     }
 }
 
-/// Goes on over failures to the end: each step is the next of these. Answers how many failures were told.
+/// Goes on over failures to the end: each step is the next of these. Returns how many failures were
+/// told.
 fn reads_on<R: ByteIn>(
     rt: &impl Abort,
     reader: &mut StepReader,
@@ -87,7 +88,8 @@ fn reads_on<R: ByteIn>(
     failures
 }
 
-/// A device that gives one byte at a call, and fails at each call in turn: the failure is told, and reading goes on behind it.
+/// A device that gives one byte at a call, and fails at each call in turn: the failure is reported,
+/// and reading goes on behind it.
 #[test]
 fn each_call_fails(rt: HostRuntime) -> Result<(), Fail> {
     let steps = read(rt.alloc(), TEXT.as_bytes())?;

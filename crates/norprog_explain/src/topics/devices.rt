@@ -1,4 +1,4 @@
-//! What is told of a play on a device.
+//! What is reported of a play on a device.
 
 ghost use Rattle.std.specs.Prelude.{◌≡◌, ℕ, List, map};
 ghost use Rattle.norprog_explain.specs.Explained.{told};
@@ -145,7 +145,8 @@ pub(crate) const TOPICS: &[Topic] = &[
 
 /// These topics.
 pub(crate) fn topics() -> &'static [Topic]
-    ensures { told result.now ≡ map {B = List ℕ × List ℕ} (λ topic. (topic.0.now, topic.1.now)) TOPICS.now }
+    ensures { told result.now ≡ map {B = List ℕ × List ℕ} (λ topic. (topic.0.now, topic.1.now))
+        TOPICS.now }
 {
     TOPICS
 }

@@ -92,7 +92,8 @@ pub(crate) const TOPICS: &[Topic] = &[
 
 /// These topics.
 pub(crate) fn topics() -> &'static [Topic]
-    ensures { told result.now ≡ map {B = List ℕ × List ℕ} (λ topic. (topic.0.now, topic.1.now)) TOPICS.now }
+    ensures { told result.now ≡ map {B = List ℕ × List ℕ} (λ topic. (topic.0.now, topic.1.now))
+        TOPICS.now }
 {
     TOPICS
 }

@@ -11,7 +11,8 @@ use norprog_flash::{Ending, Job, Unflashed, flash_opened};
 use std::alloc::{AllocError, Global};
 use std::cell::Cell;
 
-/// What is left of a job: how it ended, the device, what was saved, and what was printed of the plan.
+/// What is left of a job: how it ended, the device, what was saved, and what was printed of the
+/// plan.
 #[derive(Drop)]
 pub(crate) struct Bench {
     pub(crate) ended: Result<Ending, Unflashed>,
@@ -43,7 +44,8 @@ pub(crate) fn flashed(
     }
 }
 
-/// Does a job with a device, and saves what its chip held: how it ended, and what was printed of the plan.
+/// Does a job with a device, and saves what its chip held: how it ended, and what was printed of
+/// the plan.
 fn flashed_by<'a>(
     alloc: Global,
     device: &'a Cell<Option<Programmer>>,

@@ -12,7 +12,8 @@ pub(crate) enum End {
     Fails,
 }
 
-/// A device that gives these bytes, one at a call, after some calls that it is silent at, and then ends.
+/// A device that gives these bytes, one at a call, after some calls that it is silent at, and then
+/// ends.
 #[derive(Drop)]
 pub(crate) struct Canned<'a> {
     pub(crate) answers: &'a [u8],

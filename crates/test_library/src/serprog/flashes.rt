@@ -1,4 +1,5 @@
-//! Whole work on chips behind devices in memory: what goes out, what is saved and printed, and how it ends.
+//! Whole work on chips behind devices in memory: what goes out, what is saved and printed, and how
+//! it ends.
 
 ghost use Rattle.std.specs.Prelude.{◌≡◌, true};
 
@@ -80,7 +81,8 @@ const OLD: &[u8] = b"\x00\xff\xff\xff\xff\xa5";
 
 const NEW: &[u8] = b"\x01\xff\xff\xff\xff\xa5";
 
-/// FFh to the end of a page of which six bytes came, and of a half of which one, six and eight came.
+/// FFh to the end of a page of which six bytes came, and of a half of which one, six and eight
+/// came.
 const AFTER_SIX: &[u8] = &[0xFF; 250];
 
 const BUT_ONE: &[u8] = &[0xFF; 4095];
@@ -120,12 +122,14 @@ const PLAN: &[u8] =
 #[derive(Clone, Copy)]
 struct Row {
     hex: &'static str,
-    /// Of work that is resumed, the first bytes of the older dump, and how many bytes of FFh it has after them.
+    /// Of work that is resumed, the first bytes of the older dump, and how many bytes of FFh it has
+    /// after them.
     old: Option<(&'static [u8], usize)>,
     dry: bool,
     /// No file of the name is there.
     free: bool,
-    /// What goes out in the handshake, and how many parts of the test of the line; what the device answers to both.
+    /// What goes out in the handshake, and how many parts of the test of the line; what the device
+    /// answers to both.
     opened: &'static [u8],
     parts: usize,
     opening: &'static [u8],
@@ -590,7 +594,8 @@ fn old_in(alloc: Global, row: &Row) -> Result<Vec<u8>, AllocError> {
     dump(alloc, front, after)
 }
 
-/// The line of work that ended so: that of its ending, of its refusal, or of what was asked for and came otherwise.
+/// The line of work that ended so: that of its ending, of its refusal, or of what was asked for and
+/// came otherwise.
 pub(crate) fn line_of(alloc: Global, ended: Result<Ending, Unflashed>) -> Vec<u8> {
     let mut line = IntoWrite::new(Held::new(alloc, 1000));
     let _ = match ended {
@@ -606,7 +611,8 @@ pub(crate) fn line_of(alloc: Global, ended: Result<Ending, Unflashed>) -> Vec<u8
     line.into_inner().bytes
 }
 
-/// The files of a row, and its device; where no file of the name is there, what is saved has this place.
+/// The files of a row, and its device; where no file of the name is there, what is saved has this
+/// place.
 fn store_of<'a>(
     alloc: Global,
     row: &Row,

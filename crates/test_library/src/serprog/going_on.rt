@@ -23,13 +23,15 @@ const STATE: &str = "norprog: the chip is half done, and what it held is in ";
 const GO_ON: &str =
     ". See: norprog explain the chip may hold. Switch its power off and on, and go on with: ";
 
-/// A first try, whose `--before` has a blank and a quote in its name; one that is resumed, with nothing but what has to be given.
+/// A first try, whose `--before` has a blank and a quote in its name; one that is resumed, with
+/// nothing but what has to be given.
 static ROWS: [(Option<&str>, bool, &str, &str); 2] = [
     (
         None,
         true,
         "it's kept",
-        "norprog flash --uniform=8192 --part=generic --device=device --limit=3 --hex=content --layout=script --base=0 \
+        "norprog flash --uniform=8192 --part=generic --device=device --limit=3 --hex=content \
+            --layout=script --base=0 \
         --resume='it'\\''s kept' --before='it'\\''s kept'.2 -- 'a$b' c\n",
     ),
     (
@@ -79,7 +81,8 @@ fn args_of(
     })
 }
 
-/// Runs a command line on a device that answers NAK to the first step: what is written to standard error.
+/// Runs a command line on a device that answers NAK to the first step: what is written to standard
+/// error.
 fn told_of(
     rt: &impl Abort,
     alloc: Global,

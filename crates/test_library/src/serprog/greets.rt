@@ -8,8 +8,8 @@ use std::alloc::Global;
 use std::process::Abort;
 use std::test::Fail;
 
-/// What a device answers that offers 01h, 02h, 04h, 08h, 11h, 12h, 13h and 15h: 300 bytes before it answers, at most 256 bytes out, and
-/// 2^24 in.
+/// What a device answers that offers 01h, 02h, 04h, 08h, 11h, 12h, 13h and 15h: 300 bytes before it
+/// answers, at most 256 bytes out, and 2^24 in.
 const ANSWERS: &[u8; 51] = b"\x15\x06\
     \x06\x01\x00\
     \x06\x16\x01\x2e\x00\x00\x00\x00\x00\x00\x00\x00\x00\x00\x00\x00\x00\
@@ -73,7 +73,7 @@ const CUT: GreetFault = GreetFault::Command {
     why: Fault::Silent,
 };
 
-/// The same of one that offers 04h besides, and answers NAK to it.
+/// The same of one that offers 04h besides, and returns NAK to it.
 const REFUSES: &[u8] = b"\x15\x06\
     \x06\x01\x00\
     \x06\x10\x00\x0c\x00\x00\x00\x00\x00\x00\x00\x00\x00\x00\x00\x00\x00\
@@ -146,7 +146,8 @@ fn stops_with(
     stops(rt, alloc, &row, fault, put);
 }
 
-/// Each command's answer is cut, fails, is NAK, is another byte; and the writer fails in each command.
+/// Each command's answer is cut, fails, is NAK, is another byte; and the writer fails in each
+/// command.
 #[test]
 fn each_command_is_answered_wrongly(rt: HostRuntime) {
     let alloc = rt.alloc();

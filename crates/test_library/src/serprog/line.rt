@@ -28,7 +28,8 @@ const HIGH: &[u8] = b"\x80\x81\x82\x83\x84\x85\x86\x87\x88\x89\x8a\x8b\x8c\x8d\x
     \xe0\xe1\xe2\xe3\xe4\xe5\xe6\xe7\xe8\xe9\xea\xeb\xec\xed\xee\xef\
     \xf0\xf1\xf2\xf3\xf4\xf5\xf6\xf7\xf8\xf9\xfa\xfb\xfc\xfd\xfe\xff";
 
-/// What goes out to a device that sends 129 bytes: all values after 05h, zeros of three lengths, NOP, and 10h.
+/// What goes out to a device that sends 129 bytes: all values after 05h, zeros of three lengths,
+/// NOP, and 10h.
 pub(crate) const PUT: [&[u8]; 12] = [
     b"\x13\x81\x00\x00\x00\x00\x00\x05",
     LOW,
@@ -47,8 +48,8 @@ pub(crate) const PUT: [&[u8]; 12] = [
 /// What such a device answers.
 pub(crate) const ANSWERS: &[u8] = b"\x06\x06\x06\x06\x06\x06\x15\x06";
 
-/// What a device answers, where it ends, how many bytes it sends at once and takes in all; how its test ends, and how many bytes
-/// were put.
+/// What a device answers, where it ends, how many bytes it sends at once and takes in all; how its
+/// test ends, and how many bytes were put.
 #[derive(Clone, Copy)]
 struct Row<'a> {
     answers: &'a [u8],
@@ -86,7 +87,8 @@ static ROWS: [Row<'static>; 9] = [
         count: 136,
         ..GOOD
     },
-    // CR is sent as LF: of 13 bytes the last three are NOPs, and three answers are left before that to 10h
+    // CR is sent as LF: of 13 bytes the last three are NOPs, and three answers are left before that
+    // to 10h
     Row {
         answers: b"\x06\x06\x06\x06\x06\x06\x06\x06\x06\x15\x06",
         result: Err(Fault::Differs),
@@ -170,7 +172,8 @@ fn lines_are_tested(rt: HostRuntime) -> Result<(), Fail> {
     Ok(())
 }
 
-/// How many bytes a device sends at once, how many of its answers are ACK alone, and how many bytes go out to it.
+/// How many bytes a device sends at once, how many of its answers are ACK alone, and how many bytes
+/// go out to it.
 static LENGTHS: [(u32, usize, usize); 11] = [
     // where 05h alone has room no value is sent
     (1, 1, 2),

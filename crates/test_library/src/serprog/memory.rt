@@ -1,4 +1,5 @@
-//! A SPI NOR chip in memory, by docs/FORMATS.md, section 5, and plainer than the model of `nor_chip`.
+//! A SPI NOR chip in memory, by docs/FORMATS.md, section 5, and plainer than the model of
+//! `nor_chip`.
 
 use std::alloc::{AllocError, Global};
 

@@ -32,8 +32,9 @@ const PUT: &[u8] = b"\x13\x01\x00\x00\x00\x00\x00\x06\
     \x13\x01\x00\x00\x01\x00\x00\x05\
     \x13\x04\x00\x00\x01\x00\x00\x03\x00\x00\x00";
 
-/// A device that answers so, takes so many bytes, and can send so many in one operation; most status reads of a poll. How a
-/// play on it ends, why its port failed, and, where that is told, how many bytes were put.
+/// A device that answers so, takes so many bytes, and can send so many in one operation; most
+/// status reads of a poll. How a play on it ends, why its port failed, and, where that is reported,
+/// how many bytes were put.
 #[derive(Clone, Copy)]
 struct Row<'a> {
     answers: &'a [u8],
@@ -191,7 +192,8 @@ fn each_byte_taken_fails(rt: HostRuntime) -> Result<(), Fail> {
     Ok(())
 }
 
-/// A device that answers NAK, or another byte, in place of each ACK and of what is read, of which the last is another byte of the chip.
+/// A device that answers NAK, or another byte, in place of each ACK and of what is read, of which
+/// the last is another byte of the chip.
 #[test]
 fn each_byte_lies(rt: HostRuntime) -> Result<(), Fail> {
     let steps = read(rt.alloc(), VERIFY.as_bytes())?;
@@ -230,12 +232,14 @@ fn lies(
 
 /// A read of the four bytes at 0.
 const READ_FOUR: &str =
-    "norscript 1\nv 00000011000000000000000000000000................................ ffffffff\nend 1\n";
+    "norscript 1\nv 00000011000000000000000000000000................................ ffffffff\n\
+        end 1\n";
 
 /// What goes out for it.
 const READ_PUT: &[u8] = b"\x13\x04\x00\x00\x04\x00\x00\x03\x00\x00\x00";
 
-/// What a device answers to it that has another byte as the third, and then to the query of its interface.
+/// What a device answers to it that has another byte as the third, and then to the query of its
+/// interface.
 const THIRD: &[u8] = b"\x06\xFF\xFF\xFE\xFF\x06\x01\x00";
 
 /// Of an answer with another byte in it the rest is taken: the next command's answer comes next.
@@ -271,7 +275,8 @@ fn is_never_asked(rt: HostRuntime) -> Result<(), Fail> {
     plays(&rt, rt.alloc(), &read(rt.alloc(), wrong)?, &row)
 }
 
-/// What the device can't do, where the enable alone is put; and a poll that stays busy for two status reads.
+/// What the device can't do, where the enable alone is put; and a poll that stays busy for two
+/// status reads.
 #[test]
 fn is_asked_in_vain(rt: HostRuntime) -> Result<(), Fail> {
     let steps = read(rt.alloc(), VERIFY.as_bytes())?;

@@ -41,7 +41,8 @@ pub(crate) enum Fault {
     Byte(Slip, usize),
 }
 
-/// A device that offers 01h, 02h, 04h, 08h, 10h to 13h and 15h, takes 300 bytes before it answers, sends 129 in an operation, and gives 65536.
+/// A device that offers 01h, 02h, 04h, 08h, 10h to 13h and 15h, takes 300 bytes before it answers,
+/// sends 129 in an operation, and gives 65536.
 #[derive(Drop)]
 pub(crate) struct Programmer {
     pub(crate) chip: Memory,
@@ -137,8 +138,8 @@ impl Programmer {
         }
     }
 
-    /// Gives the next bytes of its answer, as many as there are and have room, up to where something
-    /// goes wrong.
+    /// Gives the next bytes of its answer, as many as there are and have room, up to where
+    /// something goes wrong.
     fn give(&mut self, buf: &mut [u8]) -> io::Result<usize>
         ensures within { IfOk result (λ count. count ≤ length buf.old) }
     {

@@ -22,7 +22,8 @@ const HELD: [(usize, u8); 2] = [(0, 0x00), (5, 0xA5)];
 
 const WANTED: [(usize, u8); 3] = [(0, 0x01), (5, 0xA5), (0x1010, 0x5A)];
 
-/// An erase, a program, sixteen pages that are read, a program and a byte that is read, each change of three steps.
+/// An erase, a program, sixteen pages that are read, a program and a byte that is read, each change
+/// of three steps.
 const STEPS: u64 = 3 + 3 + 16 + 3 + 1;
 
 /// How the work ends that stops.
@@ -143,7 +144,8 @@ fn fits(rt: &impl Abort, alloc: Global, bench: &Bench, stop: Stop) -> Result<(),
     Ok(())
 }
 
-/// Takes the job up on the same chip, whose power was off meanwhile, with what was saved, if that was.
+/// Takes the job up on the same chip, whose power was off meanwhile, with what was saved, if that
+/// was.
 fn resumes(rt: &impl Abort, alloc: Global, array: Vec<u8>, saved: &[u8]) -> Result<(), Fail> {
     let chip = Memory::new(array, Vec::new(alloc));
     let bench = flashed(alloc, chip, None, &job_for(saved))?;
@@ -173,7 +175,8 @@ fn stops(rt: &impl Abort, alloc: Global, fault: Fault) -> Result<Option<Stop>, F
     Ok(Some(stop))
 }
 
-/// Stops the job so at each of its commands, and takes it up again. There are stops before the steps, in them, and after them.
+/// Stops the job so at each of its commands, and takes it up again. There are stops before the
+/// steps, in them, and after them.
 fn stops_at_each(rt: &impl Abort, alloc: Global, trouble: Trouble) -> Result<(), Fail> {
     let mut counts = NONE;
     let mut ended = false;

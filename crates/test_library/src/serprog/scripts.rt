@@ -1,4 +1,4 @@
-//! Whole plays on devices in memory: what goes out, what is printed, and what is told.
+//! Whole plays on devices in memory: what goes out, what is printed, and what is reported.
 
 use crate::ports::BLANK;
 use crate::same::{holds, same};
@@ -15,7 +15,8 @@ use std::test::Fail;
 use test_samples::sfdp::SMALL;
 use test_samples::texts::ONE_BYTE;
 
-/// What goes out in a handshake; what a device answers to it that sends at most 129 bytes at once and gives at most 4096.
+/// What goes out in a handshake; what a device answers to it that sends at most 129 bytes at once
+/// and gives at most 4096.
 pub(crate) const GREETED: &[u8] = b"\x10\x01\x02\x12\x08\x08\x11\x15\x01";
 
 pub(crate) const GREETING: &[u8] = b"\x15\x06\x06\x01\x00\x06\x06\x01\x2e\
@@ -23,7 +24,8 @@ pub(crate) const GREETING: &[u8] = b"\x15\x06\x06\x01\x00\x06\x06\x01\x2e\
     \x00\x00\x00\x00\x00\x00\x00\x00\x00\x00\x00\x00\x00\x00\x06\
     \x06\x81\x00\x00\x06\x00\x10\x00\x06";
 
-/// The same of one that sends one byte at once, to which no value goes out in the test of the line, to the end of that test.
+/// The same of one that sends one byte at once, to which no value goes out in the test of the line,
+/// to the end of that test.
 const NARROW: &[u8] = b"\x15\x06\x06\x01\x00\x06\x06\x01\x2e\
     \x00\x00\x00\x00\x00\x00\x00\x00\x00\x00\x00\x00\x00\x00\x00\
     \x00\x00\x00\x00\x00\x00\x00\x00\x00\x00\x00\x00\x00\x00\x06\
@@ -83,13 +85,15 @@ const VERIFY: &str =
 
 const READ_TWO: &[u8] = b"\x13\x04\x00\x00\x02\x00\x00\x03\x00\x00\x00";
 
-/// An erase of the 4 KiB at 1000h, and then a program of 00h at FFFh and, round in its page, at F00h.
+/// An erase of the 4 KiB at 1000h, and then a program of 00h at FFFh and, round in its page, at
+/// F00h.
 const TWO: &str =
     "norscript 1\nx 00000110\nx 00100000000000000001000000000000\np 00000101........\n\
     x 00000110\nx 000000100000000000001111111111110000000000000000\n\
     p 00000101........\nend 6\n";
 
-/// The 256 bytes at F00h and the 4 KiB after them lie side by side, and the device gives 4096 bytes at once.
+/// The 256 bytes at F00h and the 4 KiB after them lie side by side, and the device gives 4096 bytes
+/// at once.
 const TWO_CELLS: &[u8] = b"\x13\x04\x00\x00\x00\x10\x00\x03\x00\x0f\x00\
     \x13\x04\x00\x00\x00\x01\x00\x03\x00\x1f\x00";
 
@@ -114,10 +118,11 @@ const READS_STATUS: &str = "norscript 1\nx 00000101................\nend 1\n";
 
 const STATUS_TWICE: &[u8] = b"\x13\x01\x00\x00\x02\x00\x00\x05";
 
-/// What is told on standard error where steps were sent and not all are known to be done.
+/// What is reported on standard error where steps were sent and not all are known to be done.
 const STATE: &[u8] =
     b"norprog: the chip is half done. Don't build the old HEX again: what must be on the chip is \
-    what `norprog run --out want.bin` of this script leaves. See: norprog explain the chip may hold\n";
+    what `norprog run --out want.bin` of this script leaves. See: norprog explain the chip may \
+    hold\n";
 
 /// A script on a chip of 8 KiB behind a device, and how its play ends.
 #[derive(Clone, Copy)]
@@ -133,7 +138,8 @@ struct Row {
     trust: bool,
     /// How many bytes standard output takes.
     room: usize,
-    /// What goes out in the handshake, and how many parts of the test of the line; what the device answers to both.
+    /// What goes out in the handshake, and how many parts of the test of the line; what the device
+    /// answers to both.
     opened: &'static [u8],
     parts: usize,
     opening: &'static [u8],
@@ -344,7 +350,8 @@ static UNLIKES: [Row; 15] = [
         line: b"unlike status 02\n",
         ..UNLIKE
     },
-    // of a W25Q256JV: a quad setting that isn't said; four-byte mode; whole-chip protection by S14; suspended
+    // of a W25Q256JV: a quad setting that isn't said; four-byte mode; whole-chip protection by S14;
+    // suspended
     Row {
         tables: true,
         part: Some("w25q256jv"),
@@ -500,7 +507,7 @@ static HALVES: [Row; 10] = [
         line: b"failed at 2 differs\n",
         ..HALF
     },
-    // standard output is full: that is told after what to do
+    // standard output is full: that is reported after what to do
     Row {
         answers: &[b"\x06\x00\x06", CELL, DONE, b"\x06", CELL],
         room: 8,
@@ -510,7 +517,8 @@ static HALVES: [Row; 10] = [
     },
 ];
 
-/// Plays that end at what a device can't do, and at a line that changes what goes out: nothing that a chip doesn't ignore goes out.
+/// Plays that end at what a device can't do, and at a line that changes what goes out: nothing that
+/// a chip doesn't ignore goes out.
 static LINES: [Row; 5] = [
     // a device of one byte in an operation programs nothing
     Row {

@@ -26,8 +26,9 @@ const PUT: &[u8] = b"\x13\x01\x00\x00\x00\x00\x00\x06\
     \x13\x01\x00\x00\x01\x00\x00\x05\
     \x13\x04\x00\x00\x01\x00\x00\x03\x00\x00\x00";
 
-/// Most bytes that go out, how many a device takes before it answers, most status reads of a poll, and what it answers. How the steps end, how many bytes were
-/// put, and what was written of how far they came.
+/// Most bytes that go out, how many a device takes before it answers, most status reads of a poll,
+/// and what it answers. How the steps end, how many bytes were put, and what was written of how far
+/// they came.
 struct Row {
     sent: u32,
     ahead: u16,
@@ -39,7 +40,8 @@ struct Row {
 }
 
 static ROWS: [Row; 8] = [
-    // three status reads go out at once, since the poll has no more; of a device that takes 36 bytes two, then the third
+    // three status reads go out at once, since the poll has no more; of a device that takes 36
+    // bytes two, then the third
     Row {
         ahead: 300,
         sent: 5,
@@ -146,8 +148,8 @@ fn limits_of(rt: &impl Abort, sent: u32, ahead: u16) -> Limits {
     }
 }
 
-/// What a device does: most bytes that go out, how many it takes before it answers, what it answers, how it ends, how many bytes it
-/// takes; and most status reads of a poll.
+/// What a device does: most bytes that go out, how many it takes before it answers, what it
+/// answers, how it ends, how many bytes it takes; and most status reads of a poll.
 #[derive(Clone, Copy)]
 struct Device<'a> {
     sent: u32,
@@ -208,7 +210,8 @@ fn does_steps(rt: HostRuntime) -> Result<(), Fail> {
 /// A write enable, a program of 00h at 0, its poll, and two reads.
 const JOB: &str =
     "norscript 1\nx 00000110\nx 0000001000000000000000000000000000000000\np 00000101........\n\
-    v 00000011000000000000000000000000........ 00\nv 00000011000000000000000000000001........ ff\nend 5\n";
+    v 00000011000000000000000000000000........ 00\nv 00000011000000000000000000000001........ ff\n\
+    end 5\n";
 
 /// What goes out on a device that takes many bytes: of the poll four status reads.
 const JOB_PUT: &[u8] = b"\x13\x01\x00\x00\x00\x00\x00\x06\
@@ -220,12 +223,14 @@ const JOB_PUT: &[u8] = b"\x13\x01\x00\x00\x00\x00\x00\x06\
     \x13\x04\x00\x00\x01\x00\x00\x03\x00\x00\x00\
     \x13\x04\x00\x00\x01\x00\x00\x03\x00\x00\x01";
 
-/// What it answers: it is busy for two status reads. How many bytes were put before the answers to the reads.
+/// What it answers: it is busy for two status reads. How many bytes were put before the answers to
+/// the reads.
 const JOB_ANSWERS: &[u8; 14] = b"\x06\x06\x06\x03\x06\x01\x06\x00\x06\x00\x06\x00\x06\xff";
 
 const FIRST_ROW: usize = 8 + 12 + 4 * 8;
 
-/// The step that each byte of it answers, and why that stops where the lowest bit is another; None where it doesn't.
+/// The step that each byte of it answers, and why that stops where the lowest bit is another; None
+/// where it doesn't.
 static BYTES: [(u64, Option<Reason>); 14] = [
     (0, Some(Reason::Exchange(Fault::Differs))),
     (1, Some(Reason::Exchange(Fault::Differs))),

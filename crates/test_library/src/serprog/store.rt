@@ -13,8 +13,9 @@ use std::io;
 /// A file of more bytes isn't read whole.
 const MOST_BYTES: u64 = 1 << 36;
 
-/// The files `content`, `script` and `tables`, and a device that gives these answers. What it took, and how many bytes of its
-/// answers are left. Where there is a place for it, what a file that is made anew had taken when it was flushed; else none is made.
+/// The files `content`, `script` and `tables`, and a device that gives these answers. What it took,
+/// and how many bytes of its answers are left. Where there is a place for it, what a file that is
+/// made anew had taken when it was flushed; else none is made.
 #[derive(Drop)]
 pub(crate) struct Store<'a> {
     pub(crate) alloc: Global,

@@ -44,7 +44,8 @@ struct Row {
     tables: &'static [u8],
     changes: &'static [&'static [(usize, u8)]],
     size: u32,
-    /// It begins in four-byte mode; it switches after a write enable only; what its page is; it programs only erased bytes.
+    /// It begins in four-byte mode; it switches after a write enable only; what its page is; it
+    /// programs only erased bytes.
     mode4: bool,
     latched: bool,
     page: usize,
@@ -83,7 +84,8 @@ const SHRUNK: &[(usize, u8)] = &[(30, 0x07), (31, 0x00)];
 
 const JUST_PAST: &[(usize, u8)] = &[(30, 0x07), (31, 0x08)];
 
-/// Over [`LARGE`]: 13h is offered, of all dedicated instructions, or nothing is, and there is no way to switch the mode.
+/// Over [`LARGE`]: 13h is offered, of all dedicated instructions, or nothing is, and there is no
+/// way to switch the mode.
 const READ_ONLY: &[(usize, u8)] = &[(84, 0), (85, 0), (86, 0), (87, 0), (88, 0x01), (89, 0)];
 
 const NOTHING: &[(usize, u8)] = &[(84, 0), (85, 0), (86, 0), (87, 0), (88, 0x00), (89, 0)];
@@ -183,7 +185,8 @@ const TWO: Row = Row {
     ..ERASES
 };
 
-/// Of the chip past 16 MiB: S3; S4, whose mode is switched plainly and after a write enable; S5, which doesn't reach the second byte.
+/// Of the chip past 16 MiB: S3; S4, whose mode is switched plainly and after a write enable; S5,
+/// which doesn't reach the second byte.
 static LARGES: [Row; 6] = [
     TWO,
     Row {
