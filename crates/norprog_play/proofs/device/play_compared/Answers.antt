@@ -87,7 +87,7 @@ returns-in-Ok-clause-ends g c =
     let end = same_end c.args.port.now.chip.setting c.args.port.now.chip.chip c.requires.steps.0.well.0 c.follow_steps.new.port.chip.chip c.args.steps.now c.requires.steps.0.well.1 ends in
     record {
       carried = c.requires.steps.0.carried;
-      ends = subst (λ (shown : Shown). play c.args.port.now.chip.setting 1 c.args.port.now.chip.chip c.args.steps.now ≡ Ok shown.chip) (sym c.in-Ok.ensures.chip) end;
+      ends = subst (λ (shown : Shown). play c.args.port.now.chip.setting 1 c.args.port.now.chip.chip c.args.steps.now ≡ Ok shown.chip) (sym c.in-Ok.ensures.kept.0) end;
       counted = c.requires.steps.1;
       reached = reached;
       done = record {
