@@ -24,14 +24,22 @@ decimal_low : (n : ℕ) → n < 2 ^ 64 → BeginsLow (decimal n)
 decimal_low n fits =
     decimal_by_steps (λ k ds. BeginsLow ds) (λ k small. omega arith) (λ k ds big before. low_append ds ((48 + k % 10) ∷ []) before) n fits
 
-line_is : (m : Parameters) (n : ℕ) (mode4 : Bool) (x : Step) (rest : List ℕ) → line m n mode4 x ++ rest ≡ decimal n ++ 0x20 ∷ (words m mode4 x ++ 0x0A ∷ rest)
+pub line_is : (m : Parameters) (n : ℕ) (mode4 : Bool) (x : Step) (rest : List ℕ) → line m n mode4 x ++ rest ≡ decimal n ++ 0x20 ∷ (words m mode4 x ++ 0x0A ∷ rest)
 unfolding line
 line_is m n mode4 x rest =
     append_assoc (decimal n ++ 0x20 ∷ words m mode4 x) (0x0A ∷ []) rest ∙ append_assoc (decimal n) (0x20 ∷ words m mode4 x) (0x0A ∷ rest)
 
-end_is_no_line : (m : Parameters) (n k : ℕ) (mode4 : Bool) (x : Step) (rest : List ℕ) → n < 2 ^ 64 → end_line k ≡ line m n mode4 x ++ rest → ⊥
+pub end_is_no_line : (m : Parameters) (n k : ℕ) (mode4 : Bool) (x : Step) (rest : List ℕ) → n < 2 ^ 64 → end_line k ≡ line m n mode4 x ++ rest → ⊥
 unfolding end_line
 end_is_no_line m n k mode4 x rest fits h =
+    let low : BeginsLow (decimal n ++ 0x20 ∷ (words m mode4 x ++ 0x0A ∷ rest)) = low_append (decimal n) _ (decimal_low n fits) in
+    let first : 0x65 ≡ get_or (decimal n ++ 0x20 ∷ (words m mode4 x ++ 0x0A ∷ rest)) 0 0x65 = ap (λ l. get_or l 0 0x65) (h ∙ line_is m n mode4 x rest) in
+    omega (arith, low, first)
+
+-- nor is the beginning of a text that begins with an end line
+pub end_then_no_line : (m : Parameters) (n k : ℕ) (mode4 : Bool) (x : Step) (more rest : List ℕ) → n < 2 ^ 64 → end_line k ++ more ≡ line m n mode4 x ++ rest → ⊥
+unfolding end_line
+end_then_no_line m n k mode4 x more rest fits h =
     let low : BeginsLow (decimal n ++ 0x20 ∷ (words m mode4 x ++ 0x0A ∷ rest)) = low_append (decimal n) _ (decimal_low n fits) in
     let first : 0x65 ≡ get_or (decimal n ++ 0x20 ∷ (words m mode4 x ++ 0x0A ∷ rest)) 0 0x65 = ap (λ l. get_or l 0 0x65) (h ∙ line_is m n mode4 x rest) in
     omega (arith, low, first)

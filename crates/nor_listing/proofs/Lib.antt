@@ -17,3 +17,4 @@ mod SpellLemmas
 mod FindLemmas
 mod NoneLemmas
 mod FeedLemmas
+mod FaultLemmas

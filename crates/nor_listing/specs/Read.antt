@@ -57,3 +57,8 @@ HasOtherChip m mode4 text n = (n ≡ 1) × ((rest : List ℕ) → text ≡ chip_
 abbrev pub Refuses : Parameters → Bool → List ℕ → ListFault → Type 0
 Refuses m mode4 text (BadLine n) = HasOtherChip m mode4 text n ⊎ (HasBadLine m mode4 text n ⊎ GoesOn m mode4 text n)
 Refuses m mode4 text Memory = ⊤
+
+-- the listing of some steps has no such line
+abbrev pub ListingsAreFaultless : Type 0
+ListingsAreFaultless =
+    (m : Parameters) (mode4 : Bool) (text : List ℕ) (steps : List Step) (n : ℕ) → IsListingOf m mode4 text steps → Refuses m mode4 text (BadLine n) → ⊥

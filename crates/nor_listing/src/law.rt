@@ -1,7 +1,7 @@
 //! That a listing tells its steps.
 
 ghost use Rattle.nor_listing.specs.Law.{OneListing};
-ghost use Rattle.nor_listing.specs.Read.{ReadBack};
+ghost use Rattle.nor_listing.specs.Read.{ListingsAreFaultless, ReadBack};
 
 /// A law: of one meaning and first address mode, a listing has one list of steps. They are steps that a script may have, fewer
 /// than 2^64, and each has fewer than 2^64 clocks.
@@ -17,4 +17,11 @@ pub fn listing_read_back()
     ensures { ReadBack }
 {
     one_listing();
+}
+
+/// A law: [`crate::read_listing`] refuses no listing of its meaning and start, except where a growth of memory is refused.
+pub fn faultless_listings()
+    ensures { ListingsAreFaultless }
+{
+    nor_laws::spelling();
 }

@@ -6,7 +6,8 @@
 //! then [`finish`] with their number write the same. [`write_unended`] leaves the end line out. None of them takes memory.
 //! [`one_listing`] is the law that a listing has one list of steps.
 //!
-//! [`read_listing`] reads a listing, and [`listing_read_back`] is the law that it gives the steps back.
+//! [`read_listing`] reads a listing. That it refuses none is the law [`faultless_listings`], and that it gives the steps back
+//! [`listing_read_back`].
 #![tactic(auto)]
 
 mod digits;
@@ -23,7 +24,7 @@ mod verified;
 mod writer;
 
 pub use fault::ListFault;
-pub use law::{listing_read_back, one_listing};
+pub use law::{faultless_listings, listing_read_back, one_listing};
 pub use line::write_line;
 pub use reader::read_listing;
 pub use writer::{begin, finish, write_listing, write_unended};
