@@ -11,7 +11,8 @@ use nor_laws::spelling;
 use nor_select::{Body, Instr};
 use std::alloc::AllocError;
 
-/// The opcode of an instruction and its address bytes, the highest first. It has at most four of them.
+/// The opcode of an instruction and its address bytes, the highest first. It has at most four of
+/// them.
 pub fn head(instr: &Instr<'_>) -> ArrayVec<u8, 5>
     requires { instr.now.width ≤ 4 }
     ensures { result.items ≡ head_of (coded_of instr.now) }
@@ -25,13 +26,15 @@ pub fn head(instr: &Instr<'_>) -> ArrayVec<u8, 5>
     bytes
 }
 
-/// Appends the clocks of an instruction: opcode, address, dummies, data. They spell the instruction, wherever its opcode has
-/// a row that agrees with it and it fits its clocks. It has at most four address bytes. It asks for their memory at once.
+/// Appends the clocks of an instruction: opcode, address, dummies, data. They spell the
+/// instruction, wherever its opcode has a row that agrees with it and it fits its clocks. It has at
+/// most four address bytes. It asks for their memory at once.
 ///
 /// `Memory` where the growth is refused; the vector is as it was then.
 pub fn clocks_into(instr: &Instr<'_>, clocks: &mut Vec<u8>) -> Result<(), FramesFault>
     requires { instr.now.width ≤ 4 }
-    ensures clocks { IfOk result (λ _. clocks.new.items ≡ clocks.old.items ++ frame (coded_of instr.now)) }
+    ensures clocks { IfOk result (λ _. clocks.new.items
+        ≡ clocks.old.items ++ frame (coded_of instr.now)) }
     ensures stays { IfErr result (λ _. clocks.new.items ≡ clocks.old.items) }
     ensures spells { SpellsCoded (coded_of instr.now) }
 {
@@ -65,10 +68,11 @@ fn put_data(body: &Body<'_>, place: &mut [u8])
     }
 }
 
-/// Where the clocks of an instruction end that begins there, with so many for opcode and address and so many dummies; `None`
-/// where that is more than a block of memory can have.
+/// Where the clocks of an instruction end that begins there, with so many for opcode and address
+/// and so many dummies; `None` where that is more than a block of memory can have.
 fn end_after(start: usize, lead: usize, dummies: usize, body: &Body<'_>) -> Option<usize>
-    ensures { IfSome result (λ end. end ≡ start + (lead + (dummies + load_len (load_in body.now)))) }
+    ensures { IfSome result (λ end. end ≡ start
+        + (lead + (dummies + load_len (load_in body.now)))) }
 {
     start.checked_add(lead.checked_add(dummies.checked_add(body_len(body)?)?)?)
 }

@@ -1,13 +1,14 @@
-//! The listing of a bus script, which a person can read: the chip and the address mode that it is read with, a line for each
-//! step, an end line with the number of steps, each closed by one LF. A line tells its step exactly. `docs/FORMATS.md`,
-//! "Listing", has the format.
+//! The listing of a bus script, which a person can read: the chip and the address mode that it is
+//! read with, a line for each step, an end line with the number of steps, each closed by one LF. A
+//! line tells its step exactly. `docs/FORMATS.md`, "Listing", has the format.
 //!
-//! [`write_listing`] writes the listing of steps that are at hand. [`begin`], then [`write_line`] for each step as it comes,
-//! then [`finish`] with their number write the same. [`write_unended`] leaves the end line out. None of them takes memory.
-//! [`one_listing`] is the law that a listing has one list of steps.
+//! [`write_listing`] writes the listing of steps that are at hand. [`begin`], then [`write_line`]
+//! for each step as it comes, then [`finish`] with their number write the same. [`write_unended`]
+//! leaves the end line out. None of them takes memory. [`one_listing`] is the law that a listing
+//! has one list of steps.
 //!
-//! [`read_listing`] reads a listing. That it refuses none is the law [`faultless_listings`], and that it gives the steps back
-//! [`listing_read_back`].
+//! [`read_listing`] reads a listing. That it refuses none is the law [`faultless_listings`], and
+//! that it gives the steps back [`listing_read_back`].
 #![tactic(auto)]
 
 mod digits;

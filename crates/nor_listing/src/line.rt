@@ -14,19 +14,11 @@ use itoa::Buffer;
 use nor_base::{ByteOut, Failed, Meaning, Step, put_all, put_parts};
 use nor_decode::POLL;
 
-/// Writes the line of a step with its number, which counts from 0, on a chip that is in an address mode, four-byte where
-/// `mode4` says so, and answers the mode after the step: an Enter (B7h) or Leave (E9h) that is sent switches it.
+/// Writes the line of a step with its number, which counts from 0, on a chip that is in an address
+/// mode, four-byte where `mode4` says so (docs/FORMATS.md, section 12). Returns the mode after the
+/// step: an Enter (B7h) or Leave (E9h) that is sent switches it.
 ///
-/// The line is `N ` and then, with OO the opcode, AAAAAAAA an address and ZZZZZZZZ a size in lower-case hexadecimal digits, n a
-/// decimal number of bytes, HEX bytes in hexadecimal digits:
-/// - of a [`Step::Send`] `enable OO`, `disable OO`, `status OO n`, `enter OO`, `leave OO`, `erase OO AAAAAAAA ZZZZZZZZ`,
-///   `program OO AAAAAAAA n HEX`, `quadprogram OO AAAAAAAA n HEX`, `read OO AAAAAAAA n` or `quadread OO AAAAAAAA n`;
-/// - of a [`Step::Poll`] `poll 05`;
-/// - of a [`Step::Verify`] `verify OO AAAAAAAA n HEX` or `quadverify OO AAAAAAAA n HEX`: n bytes are read, and HEX is expected;
-/// - `broken ` and the script's line where the opcode is known and the clocks aren't of its form; `unknown ` and the script's
-///   line where the chip doesn't know the opcode, or a Poll or a Verify has clocks that it may not have.
-///
-/// At `Failed` a proper prefix was taken; it comes from the writer alone, whose count of failures rose by one.
+/// `Failed` comes only from the writer.
 pub fn write_line<W: ByteOut>(
     meaning: &Meaning,
     number: u64,
@@ -35,7 +27,8 @@ pub fn write_line<W: ByteOut>(
     out: &mut W,
 ) -> Result<bool, Failed>
     requires { W.count out.old < 2 ^ 64 - 1 }
-    ensures bytes { Writes (W.held out.old) (W.held out.new) result (line meaning.now number mode4 step.now) }
+    ensures bytes { Writes (W.held out.old) (W.held out.new) result
+        (line meaning.now number mode4 step.now) }
     ensures mode { IfOk result (λ after. after ≡ mode_past meaning.now mode4 step.now) }
     ensures count { Counts (W.count out.old) (W.count out.new) result }
 {
@@ -44,7 +37,7 @@ pub fn write_line<W: ByteOut>(
     put_words(meaning, mode4, step, out)
 }
 
-/// Puts what a step is, and answers the address mode after it.
+/// Puts what a step is, and returns the address mode after it.
 pub(crate) fn put_words<W: ByteOut>(
     meaning: &Meaning,
     mode4: bool,
@@ -52,7 +45,8 @@ pub(crate) fn put_words<W: ByteOut>(
     out: &mut W,
 ) -> Result<bool, Failed>
     requires { W.count out.old < 2 ^ 64 - 1 }
-    ensures bytes { Writes (W.held out.old) (W.held out.new) result (closed (words meaning.now mode4 step.now)) }
+    ensures bytes { Writes (W.held out.old) (W.held out.new) result
+        (closed (words meaning.now mode4 step.now)) }
     ensures mode { IfOk result (λ after. after ≡ mode_past meaning.now mode4 step.now) }
     ensures count { Counts (W.count out.old) (W.count out.new) result }
 {
@@ -74,7 +68,8 @@ pub(crate) fn put_words<W: ByteOut>(
 fn put_poll<W: ByteOut>(clocks: &[u8], out: &mut W) -> Result<(), Failed>
     requires { W.count out.old < 2 ^ 64 - 1 }
     ensures bytes { Writes (W.held out.old) (W.held out.new) result
-        (closed (if bytes_eq clocks.now poll_clocks then codes "poll 05" else codes "unknown " ++ step_line (Poll clocks.now))) }
+        (closed (if bytes_eq clocks.now poll_clocks then codes "poll 05"
+        else codes "unknown " ++ step_line (Poll clocks.now))) }
     ensures count { Counts (W.count out.old) (W.count out.new) result }
 {
     if clocks == POLL.as_slice() {

@@ -1,7 +1,8 @@
 //! The parts of a line's words.
 
 ghost use Rattle.std.specs.Prelude.{◌≡◌, ◌==◌, position, option_map};
-ghost use Rattle.nor_listing.specs.Parts.{address_on, count_on, counted_on, cut, data_after, data_at, data_on, is_bare};
+ghost use Rattle.nor_listing.specs.Parts.{address_on, count_on, counted_on, cut, data_after};
+ghost use Rattle.nor_listing.specs.Parts.{data_at, data_on, is_bare};
 ghost use Rattle.nor_listing.specs.Parts.{opcode_on, place_at, place_on, word_in};
 
 use crate::digits::{byte_of, decimal_of, number_of};

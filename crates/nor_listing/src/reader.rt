@@ -3,7 +3,8 @@
 ghost use Rattle.std.specs.Prelude.{◌≡◌, ◌≤◌, ℕ, List, [], length, IfOk, IfErr, MatchOption};
 ghost use Rattle.nor_base.specs.Chip.{begins4};
 ghost use Rattle.nor_listing.specs.Read.{IsListingOf, Refuses, mode_through};
-ghost use Rattle.nor_listing.specs.Told.{Says, SaysNone, SaysNoneOf, SaysLine, SaysNoLine, AreRead, BeginsNone, numbered};
+ghost use Rattle.nor_listing.specs.Told.{Says, SaysNone, SaysNoneOf, SaysLine, SaysNoLine, AreRead};
+ghost use Rattle.nor_listing.specs.Told.{BeginsNone, numbered};
 ghost use Rattle.nor_listing.specs.declared.fault.ListFault.TheVariants.{Memory};
 
 use crate::fault::ListFault;
@@ -23,19 +24,19 @@ struct Read {
     after: bool,
 }
 
-/// Reads a listing: exactly the texts that [`crate::write_listing`] writes for this meaning and start. Memory is taken for the
-/// steps and for one line.
+/// Reads a listing: exactly the texts that [`crate::write_listing`] writes for this meaning and
+/// start. Memory is taken for the steps and for one line.
 ///
-/// `BadLine` has the number of the first line that a listing hasn't there: the first, where it isn't that of the chip and its
-/// mode; one that is neither that of a step, in the mode that the lines before it leave, nor the end line; the line after the end
-/// line. `Memory` where a growth is refused.
+/// `BadLine` has the number, counted from 1, of the first line that a listing hasn't there, which
+/// may be the line after the text. `Memory` where a growth is refused.
 pub fn read_listing(
     alloc: Global,
     meaning: &Meaning,
     start: &Start,
     text: &[u8],
 ) -> Result<Vec<Step>, ListFault>
-    ensures read { IfOk result (λ steps. IsListingOf meaning.now (begins4 meaning.now start.now) text.now steps.items) }
+    ensures read { IfOk result
+        (λ steps. IsListingOf meaning.now (begins4 meaning.now start.now) text.now steps.items) }
     ensures refused { IfErr result (Refuses meaning.now (begins4 meaning.now start.now) text.now) }
 {
     let mode4 = meaning.begins4(start);
@@ -63,7 +64,8 @@ fn read_lines<'a>(
     steps: &mut Vec<Step>,
 ) -> Result<&'a [u8], ListFault>
     requires { steps.old.items ≡ [] }
-    ensures read { IfOk result (λ rest. AreRead meaning.now first text.now steps.new.items rest.now) }
+    ensures read { IfOk result
+        (λ rest. AreRead meaning.now first text.now steps.new.items rest.now) }
     ensures last { IfOk result (λ rest. BeginsNone meaning.now (length steps.new.items)
         (mode_through meaning.now first steps.new.items) rest.now) }
     ensures refused { IfErr result (λ fault. fault ≡ Memory) }
@@ -100,7 +102,8 @@ fn read_line(
 
 /// The words of a line that begins with a number and a blank.
 fn words_on(number: u64, line: &[u8]) -> Option<&[u8]>
-    ensures { MatchOption result ((words : List ℕ) → line.now ≡ numbered number words → ⊥) (λ words. line.now ≡ numbered number words.now) }
+    ensures { MatchOption result ((words : List ℕ) → line.now ≡ numbered number words → ⊥)
+        (λ words. line.now ≡ numbered number words.now) }
 {
     let mut digits = Buffer::new();
     let Some(rest) = line.strip_prefix(digits.format(number).as_bytes()) else {

@@ -1,6 +1,7 @@
 //! The words of clocks that are sent.
 
-ghost use Rattle.std.specs.Prelude.{◌≡◌, ◌<◌, ◌≤◌, ◌+◌, ◌-◌, ◌^◌, ◌++◌, true, codes, length, take, drop, flat_map, IfOk};
+ghost use Rattle.std.specs.Prelude.{◌≡◌, ◌<◌, ◌≤◌, ◌+◌, ◌-◌, ◌^◌, ◌++◌, true, codes, length, take};
+ghost use Rattle.std.specs.Prelude.{drop, flat_map, IfOk};
 ghost use Rattle.nor_base.specs.Device.{Writes, Counts};
 ghost use Rattle.nor_base.specs.Decoding.{decode, instruction, opcode};
 ghost use Rattle.nor_base.specs.Effect.{is_program};
@@ -19,7 +20,7 @@ use nor_script::{hex_number, hex_pair, put_hexadecimal};
 /// How many bytes of a program are decoded at a time.
 const PART: usize = 128;
 
-/// Puts what a chip sees in clocks that are sent, and answers the address mode after them.
+/// Puts what a chip sees in clocks that are sent, and returns the address mode after them.
 pub(crate) fn put_sent<W: ByteOut>(
     meaning: &Meaning,
     mode4: bool,
@@ -29,7 +30,8 @@ pub(crate) fn put_sent<W: ByteOut>(
     requires { W.count out.old < 2 ^ 64 - 1 }
     ensures bytes { Writes (W.held out.old) (W.held out.new) result
         (closed (send_words meaning.now clocks.now (decode meaning.now mode4 clocks.now))) }
-    ensures mode { IfOk result (λ after. after ≡ mode_by mode4 (decode meaning.now mode4 clocks.now)) }
+    ensures mode { IfOk result (λ after. after
+        ≡ mode_by mode4 (decode meaning.now mode4 clocks.now)) }
     ensures count { Counts (W.count out.old) (W.count out.new) result }
 {
     match decode(clocks, meaning, mode4) {
@@ -48,7 +50,8 @@ pub(crate) fn put_sent<W: ByteOut>(
 #[tactic(auto, unfolding(nor_base::specs::Script::step_line))]
 fn put_line<W: ByteOut>(word: &[u8], clocks: &[u8], out: &mut W) -> Result<(), Failed>
     requires { W.count out.old < 2 ^ 64 - 1 }
-    ensures bytes { Writes (W.held out.old) (W.held out.new) result (closed (word.now ++ step_line (Send clocks.now))) }
+    ensures bytes { Writes (W.held out.old) (W.held out.new) result
+        (closed (word.now ++ step_line (Send clocks.now))) }
     ensures count { Counts (W.count out.old) (W.count out.new) result }
 {
     put_parts(out, &[word, b"x ", clocks, b"\n"])
@@ -75,7 +78,8 @@ fn put_seen<W: ByteOut>(
     requires opcode { 8 ≤ length clocks.now }
     requires room { W.count out.old < 2 ^ 64 - 1 }
     ensures bytes { Writes (W.held out.old) (W.held out.new) result
-        (closed (sent_words meaning.now clocks.now (instruction (transaction_of seen.now)) seen.now.what)) }
+        (closed (sent_words meaning.now clocks.now (instruction (transaction_of seen.now))
+        seen.now.what)) }
     ensures count { Counts (W.count out.old) (W.count out.new) result }
 {
     let op = opcode(clocks);
@@ -110,7 +114,8 @@ pub(crate) fn opcode(clocks: &[u8]) -> u8
 /// Puts a word and an opcode.
 fn put_plain<W: ByteOut>(word: &[u8], op: u8, out: &mut W) -> Result<(), Failed>
     requires { W.count out.old < 2 ^ 64 - 1 }
-    ensures bytes { Writes (W.held out.old) (W.held out.new) result (closed (word.now ++ hex_pair op)) }
+    ensures bytes { Writes (W.held out.old) (W.held out.new) result
+        (closed (word.now ++ hex_pair op)) }
     ensures count { Counts (W.count out.old) (W.count out.new) result }
 {
     put_parts(out, &[word, &hex_pair(op), b"\n"])
@@ -119,7 +124,8 @@ fn put_plain<W: ByteOut>(word: &[u8], op: u8, out: &mut W) -> Result<(), Failed>
 /// Puts a status read of so many bytes.
 fn put_status<W: ByteOut>(op: u8, count: usize, out: &mut W) -> Result<(), Failed>
     requires { W.count out.old < 2 ^ 64 - 1 }
-    ensures bytes { Writes (W.held out.old) (W.held out.new) result (closed (codes "status " ++ (hex_pair op ++ counted count))) }
+    ensures bytes { Writes (W.held out.old) (W.held out.new) result
+        (closed (codes "status " ++ (hex_pair op ++ counted count))) }
     ensures count { Counts (W.count out.old) (W.count out.new) result }
 {
     let mut digits = Buffer::new();
@@ -154,7 +160,8 @@ fn put_program<W: ByteOut>(word: &[u8], op: u8, seen: &Seen<'_>, out: &mut W) ->
     requires room { W.count out.old < 2 ^ 64 - 1 }
     ensures bytes { Writes (W.held out.old) (W.held out.new) result
         (closed (word.now ++ (hex_pair op ++ (in_eight seen.now.address
-        ++ (counted (length (instruction (transaction_of seen.now)).sent) ++ spelled (instruction (transaction_of seen.now)).sent))))) }
+        ++ (counted (length (instruction (transaction_of seen.now)).sent)
+        ++ spelled (instruction (transaction_of seen.now)).sent))))) }
     ensures count { Counts (W.count out.old) (W.count out.new) result }
 {
     put_place(word, op, seen.address, count_sent(seen), b" ", out)?;
@@ -196,7 +203,8 @@ pub(crate) fn put_place<W: ByteOut>(
 fn put_bytes<W: ByteOut>(seen: &Seen<'_>, out: &mut W) -> Result<(), Failed>
     requires program { is_program seen.now.what ≡ true }
     requires room { W.count out.old < 2 ^ 64 - 1 }
-    ensures bytes { Writes (W.held out.old) (W.held out.new) result (flat_map hex_pair (instruction (transaction_of seen.now)).sent) }
+    ensures bytes { Writes (W.held out.old) (W.held out.new) result
+        (flat_map hex_pair (instruction (transaction_of seen.now)).sent) }
     ensures count { Counts (W.count out.old) (W.count out.new) result }
 {
     let len = count_sent(seen);
@@ -240,9 +248,11 @@ fn put_some<W: ByteOut>(
 
 /// Fills a buffer with the bytes that a program sends from one on.
 fn fill(seen: &Seen<'_>, from: usize, bytes: &mut [u8])
-    requires inside { from + length bytes.old ≤ length (instruction (transaction_of seen.now)).sent }
+    requires inside { from + length bytes.old
+        ≤ length (instruction (transaction_of seen.now)).sent }
     requires fits { from + length bytes.old < 2 ^ 64 }
-    ensures { bytes.new ≡ take (length bytes.old) (drop from (instruction (transaction_of seen.now)).sent) }
+    ensures { bytes.new ≡ take (length bytes.old)
+        (drop from (instruction (transaction_of seen.now)).sent) }
 {
     for (i, byte) in bytes.iter_mut().enumerate() {
         *byte = seen.byte(from + i);

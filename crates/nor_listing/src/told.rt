@@ -3,8 +3,10 @@
 ghost use Rattle.std.specs.Prelude.{◌≡◌, ◌≢◌, ◌≤◌, Some, IfOk, option_map};
 ghost use Rattle.nor_base.specs.Run.{poll_clocks};
 ghost use Rattle.nor_base.specs.declared.step.Step.TheVariants.{Poll};
-ghost use Rattle.nor_listing.specs.Parts.{asked_by, clocks_by, data_at, framed, load_by, on_four, place_at, sampled};
-ghost use Rattle.nor_listing.specs.Parts.{sends_in, sends_by, single, status_in, verified_in, verified_by, IsCopied, IsTold, IsToldBy};
+ghost use Rattle.nor_listing.specs.Parts.{asked_by, clocks_by, data_at, framed, load_by, on_four};
+ghost use Rattle.nor_listing.specs.Parts.{place_at, sampled};
+ghost use Rattle.nor_listing.specs.Parts.{sends_in, sends_by, single, status_in, verified_in};
+ghost use Rattle.nor_listing.specs.Parts.{verified_by, IsCopied, IsTold, IsToldBy};
 ghost use Rattle.nor_script.specs.declared.fault.ScriptFault.TheVariants.{Memory};
 ghost use Rattle.nor_select.specs.Coded.{plain as none};
 ghost use Rattle.nor_select.specs.View.{load_in};
@@ -29,8 +31,8 @@ pub(crate) struct Reading {
     symbol: u8,
 }
 
-/// The step that words say, on a chip whose instruction takes this number of address bytes, where it takes some. Of other words it
-/// says something, too.
+/// The step that words say, on a chip whose instruction takes this number of address bytes, where
+/// it takes some. Of other words it says something, too.
 pub(crate) fn step_told(
     alloc: Global,
     meaning: &Meaning,
@@ -182,7 +184,8 @@ fn clocks_told(
     text: &[u8],
 ) -> Result<Option<Vec<u8>>, AllocError>
     requires { width ≤ 4 }
-    ensures { IfOk result (λ found. option_map (λ v. v.items) found ≡ clocks_by meaning.now width word text.now) }
+    ensures { IfOk result (λ found. option_map (λ v. v.items) found
+        ≡ clocks_by meaning.now width word text.now) }
 {
     match word {
         Word::Bare => plain(alloc, opcode_of(text), 0),
@@ -199,7 +202,8 @@ fn clocks_told(
 /// The clocks of an instruction without data.
 fn plain(alloc: Global, place: Option<Place<'_>>, width: u8) -> Result<Option<Vec<u8>>, AllocError>
     requires { width ≤ 4 }
-    ensures { IfOk result (λ found. option_map (λ v. v.items) found ≡ option_map (λ p. framed p width 0 none) (option_map place_at place.entry)) }
+    ensures { IfOk result (λ found. option_map (λ v. v.items) found
+        ≡ option_map (λ p. framed p width 0 none) (option_map place_at place.entry)) }
 {
     match place {
         Some(place) => Ok(Some(clocks_of(alloc, place, width, 0, Body::Plain)?)),
@@ -225,7 +229,8 @@ fn asked(
     parts: Option<Data<'_>>,
 ) -> Result<Option<Vec<u8>>, AllocError>
     requires { width ≤ 4 }
-    ensures { IfOk result (λ found. option_map (λ v. v.items) found ≡ option_map (asked_by width reading) (option_map data_at parts.entry)) }
+    ensures { IfOk result (λ found. option_map (λ v. v.items) found
+        ≡ option_map (asked_by width reading) (option_map data_at parts.entry)) }
 {
     match parts {
         Some(parts) => Ok(Some(sampling(alloc, parts.place, width, reading, parts.count)?)),
@@ -241,7 +246,8 @@ fn programmed(
     text: &[u8],
 ) -> Result<Option<Vec<u8>>, AllocError>
     requires { width ≤ 4 }
-    ensures { IfOk result (λ found. option_map (λ v. v.items) found ≡ sends_in four width text.now) }
+    ensures { IfOk result (λ found. option_map (λ v. v.items) found
+        ≡ sends_in four width text.now) }
 {
     match data_on(text) {
         Some(parts) => sending(alloc, width, four, parts),
@@ -256,7 +262,8 @@ fn sending(
     parts: Data<'_>,
 ) -> Result<Option<Vec<u8>>, AllocError>
     requires { width ≤ 4 }
-    ensures { IfOk result (λ found. option_map (λ v. v.items) found ≡ sends_by four width (data_at parts.entry)) }
+    ensures { IfOk result (λ found. option_map (λ v. v.items) found
+        ≡ sends_by four width (data_at parts.entry)) }
 {
     match bytes_of(alloc, parts.digits)? {
         Some(bytes) => {
@@ -287,7 +294,8 @@ fn sampling(
     count: u64,
 ) -> Result<Vec<u8>, AllocError>
     requires { width ≤ 4 }
-    ensures { IfOk result (λ clocks. clocks.items ≡ sampled (place_at place.entry) width reading count) }
+    ensures { IfOk result (λ clocks. clocks.items
+        ≡ sampled (place_at place.entry) width reading count) }
 {
     let mut clocks = clocks_of(alloc, place, width, reading.dummies, Body::Plain)?;
     let data = count.checked_mul(reading.clocks).ok_or(AllocError)?;
@@ -305,7 +313,8 @@ fn clocks_of(
     body: Body<'_>,
 ) -> Result<Vec<u8>, AllocError>
     requires { width ≤ 4 }
-    ensures { IfOk result (λ clocks. clocks.items ≡ framed (place_at place.entry) width dummies (load_in body.entry)) }
+    ensures { IfOk result (λ clocks. clocks.items
+        ≡ framed (place_at place.entry) width dummies (load_in body.entry)) }
 {
     let instr = Instr {
         op: place.op,

@@ -24,7 +24,8 @@ pub(crate) fn put_verified<W: ByteOut>(
 ) -> Result<(), Failed>
     requires { W.count out.old < 2 ^ 64 - 1 }
     ensures bytes { Writes (W.held out.old) (W.held out.new) result
-        (closed (verify_words clocks.now expect.now (if is_verify clocks.now then decode meaning.now mode4 clocks.now else None))) }
+        (closed (verify_words clocks.now expect.now
+        (if is_verify clocks.now then decode meaning.now mode4 clocks.now else None))) }
     ensures count { Counts (W.count out.old) (W.count out.new) result }
 {
     if !is_verify(clocks) {
@@ -44,7 +45,8 @@ fn put_line<W: ByteOut>(
     out: &mut W,
 ) -> Result<(), Failed>
     requires { W.count out.old < 2 ^ 64 - 1 }
-    ensures bytes { Writes (W.held out.old) (W.held out.new) result (closed (word.now ++ step_line (Verify clocks.now expect.now))) }
+    ensures bytes { Writes (W.held out.old) (W.held out.new) result
+        (closed (word.now ++ step_line (Verify clocks.now expect.now))) }
     ensures count { Counts (W.count out.old) (W.count out.new) result }
 {
     put_all(out, word)?;
@@ -61,7 +63,8 @@ fn put_seen<W: ByteOut>(
     requires opcode { 8 ≤ length clocks.now }
     requires room { W.count out.old < 2 ^ 64 - 1 }
     ensures bytes { Writes (W.held out.old) (W.held out.new) result
-        (closed (read_words clocks.now expect.now (instruction (transaction_of seen.now)) seen.now.what)) }
+        (closed (read_words clocks.now expect.now (instruction (transaction_of seen.now))
+        seen.now.what)) }
     ensures count { Counts (W.count out.old) (W.count out.new) result }
 {
     let op = opcode(clocks);
@@ -84,7 +87,8 @@ fn put_read<W: ByteOut>(
 ) -> Result<(), Failed>
     requires { W.count out.old < 2 ^ 64 - 1 }
     ensures bytes { Writes (W.held out.old) (W.held out.new) result
-        (closed (word.now ++ (hex_pair op ++ (in_eight address ++ (counted count ++ spelled expect.now))))) }
+        (closed (word.now ++ (hex_pair op
+        ++ (in_eight address ++ (counted count ++ spelled expect.now))))) }
     ensures count { Counts (W.count out.old) (W.count out.new) result }
 {
     put_place(word, op, address, count, b" ", out)?;

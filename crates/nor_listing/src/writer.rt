@@ -10,11 +10,12 @@ use crate::line::write_line;
 use itoa::Buffer;
 use nor_base::{ByteOut, Failed, Meaning, Start, Step, put_parts};
 
-/// Writes the listing of steps: the chip and its first address mode, a line for each step, and `end N` with their number. The
-/// mode is that of the start until an Enter (B7h) or Leave (E9h) that is sent. The steps may also be such as no script has.
-/// It takes no memory.
+/// Writes the listing of steps: the chip and its first address mode, a line for each step, and `end
+/// N` with their number. The mode is that of the start until an Enter (B7h) or Leave (E9h) that is
+/// sent. The steps may also be such as no script has. It takes no memory.
 ///
-/// At `Failed` a proper prefix was taken; it comes from the writer alone, whose count of failures rose by one.
+/// At `Failed` a proper prefix was taken; it comes only from the writer, whose count of failures
+/// rose by one.
 pub fn write_listing<W: ByteOut>(
     meaning: &Meaning,
     start: &Start,
@@ -22,17 +23,19 @@ pub fn write_listing<W: ByteOut>(
     out: &mut W,
 ) -> Result<(), Failed>
     requires { W.count out.old < 2 ^ 64 - 1 }
-    ensures bytes { Writes (W.held out.old) (W.held out.new) result (listing meaning.now (begins4 meaning.now start.now) steps.now) }
+    ensures bytes { Writes (W.held out.old) (W.held out.new) result
+        (listing meaning.now (begins4 meaning.now start.now) steps.now) }
     ensures count { Counts (W.count out.old) (W.count out.new) result }
 {
     write_unended(meaning, start, steps, out)?;
     finish(steps.len() as u64, out)
 }
 
-/// Writes the listing of steps without its end line, so that it is none: what is told of steps that something at fault
-/// follows. It takes no memory.
+/// Writes the listing of steps without its end line, so that it is none: what is reported of steps
+/// that something at fault follows. It takes no memory.
 ///
-/// At `Failed` a proper prefix was taken; it comes from the writer alone, whose count of failures rose by one.
+/// At `Failed` a proper prefix was taken; it comes only from the writer, whose count of failures
+/// rose by one.
 pub fn write_unended<W: ByteOut>(
     meaning: &Meaning,
     start: &Start,
@@ -49,10 +52,11 @@ pub fn write_unended<W: ByteOut>(
     put_lines(meaning, mode4, steps, out)
 }
 
-/// Writes the first line: `chip N three`, or `chip N four` where the chip begins in four-byte address mode. N is its size in
-/// bytes.
+/// Writes the first line: `chip N three`, or `chip N four` where the chip begins in four-byte
+/// address mode. N is its size in bytes.
 ///
-/// At `Failed` a proper prefix was taken; it comes from the writer alone, whose count of failures rose by one.
+/// At `Failed` a proper prefix was taken; it comes only from the writer, whose count of failures
+/// rose by one.
 #[tactic(auto, unfolding(crate::specs::Listing::chip_line))]
 pub fn begin<W: ByteOut>(meaning: &Meaning, mode4: bool, out: &mut W) -> Result<(), Failed>
     requires { W.count out.old < 2 ^ 64 - 1 }
@@ -70,7 +74,8 @@ pub fn begin<W: ByteOut>(meaning: &Meaning, mode4: bool, out: &mut W) -> Result<
 
 /// Writes the last line, `end N` with the number of steps, as a script's.
 ///
-/// At `Failed` a proper prefix was taken; it comes from the writer alone, whose count of failures rose by one.
+/// At `Failed` a proper prefix was taken; it comes only from the writer, whose count of failures
+/// rose by one.
 pub fn finish<W: ByteOut>(steps: u64, out: &mut W) -> Result<(), Failed>
     requires { W.count out.old < 2 ^ 64 - 1 }
     ensures bytes { Writes (W.held out.old) (W.held out.new) result (end_line steps) }
@@ -87,7 +92,8 @@ fn put_lines<W: ByteOut>(
     out: &mut W,
 ) -> Result<(), Failed>
     requires { W.count out.old < 2 ^ 64 - 1 }
-    ensures bytes { Writes (W.held out.old) (W.held out.new) result (lines_from meaning.now 0 mode4 steps.now) }
+    ensures bytes { Writes (W.held out.old) (W.held out.new) result
+        (lines_from meaning.now 0 mode4 steps.now) }
     ensures count { Counts (W.count out.old) (W.count out.new) result }
 {
     let mut mode4 = mode4;

@@ -7,7 +7,8 @@ use crate::text::{bare, is_blank};
 use nor_base::Bytes;
 use std::alloc::{AllocError, Global};
 
-/// The bytes that pairs of hexadecimal digits spell, between which blanks may be; None where the text has anything else.
+/// The bytes that pairs of hexadecimal digits spell, between which blanks may be; None where the
+/// text has anything else.
 pub(crate) fn bytes_of(alloc: Global, text: &[u8]) -> Result<Option<Bytes>, AllocError>
     ensures { IfOk result (λ bytes. bytes ≡ bytes_of text.now) }
 {

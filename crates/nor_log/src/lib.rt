@@ -1,4 +1,5 @@
-//! Reads a log of SPI transactions, a line each, as other tools print them: `docs/FORMATS.md`, "Logs", has the format.
+//! Reads a log of SPI transactions, a line each, as other tools print them: `docs/FORMATS.md`,
+//! "Logs", has the format.
 //!
 //! [`read`] gives the steps of its lines, or the number of the first line that is none.
 #![tactic(auto)]

@@ -4,7 +4,8 @@ ghost use Rattle.std.specs.Prelude.{◌≡◌, false, IfOk};
 ghost use Rattle.nor_base.specs.Run.{poll_clocks};
 ghost use Rattle.nor_base.specs.declared.step.Step.TheVariants.{Poll};
 ghost use Rattle.nor_log.specs.declared.line.Said.TheVariants.{Does};
-ghost use Rattle.nor_log.specs.Line.{answer_of, asking, count_read, is_identity, is_register, line_says};
+ghost use Rattle.nor_log.specs.Line.{answer_of, asking, count_read, is_identity, is_register};
+ghost use Rattle.nor_log.specs.Line.{line_says};
 ghost use Rattle.nor_log.specs.Line.{said_by, step_by, text_says};
 
 use crate::bytes::{bytes_of, count_of};

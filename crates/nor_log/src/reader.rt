@@ -29,10 +29,11 @@ impl Model for Log {
     ghost view = { λ log. record { steps = log.steps.items; left_out = log.left_out.items } };
 }
 
-/// Reads a log: the step of each line, in order. `without_identity` leaves out those that only read an identification or a
-/// register, opcodes 9Fh, 15h, 35h, ABh, 90h and 5Ah in their standard form.
+/// Reads a log: the step of each line, in order. `without_identity` leaves out those that only read
+/// an identification or a register, opcodes 9Fh, 15h, 35h, ABh, 90h and 5Ah in their standard form.
 ///
-/// `BadLine` has the number of the first line that says nothing that a log says. `Memory` where a growth is refused.
+/// `BadLine` has the number of the first line that says nothing that a log says. `Memory` where a
+/// growth is refused.
 pub fn read(alloc: Global, text: &[u8], without_identity: bool) -> Result<Log, LogFault>
     ensures read { IfOk result (IsLog without_identity text.now) }
     ensures steps { IfOk result (λ log. AllByRecursion IsStep log.steps) }

@@ -1,11 +1,14 @@
-//! The command line of norprog: `norprog build` writes the script that programs a chip, `norprog plan` prints what that
-//! would erase and program, `norprog check` says whether a script does a job, `norprog run` plays one on a chip in memory,
-//! `norprog list` tells what each step of one is, `norprog draw` draws one as a waveform, `norprog play` plays one on a chip behind
-//! a serprog device, `norprog read` reads such a chip, `norprog flash` programs it, `norprog sfdp` prints what a chip's tables mean, `norprog hex` writes a raw
-//! image as Intel HEX, `norprog script` writes the script of a log, `norprog explain` says what a printed text means.
+//! The command line of norprog: `norprog build` writes the script that programs a chip, `norprog
+//! plan` prints what that would erase and program, `norprog check` says whether a script does a
+//! job, `norprog run` plays one on a chip in memory, `norprog list` tells what each step of one is,
+//! `norprog draw` draws one as a waveform, `norprog play` plays one on a chip behind a serprog
+//! device, `norprog read` reads such a chip, `norprog flash` programs it, `norprog sfdp` prints
+//! what a chip's tables mean, `norprog hex` writes a raw image as Intel HEX, `norprog script`
+//! writes the script of a log, `norprog explain` says what a printed text means.
 //!
-//! The crate `norprog_options` reads the options; `norprog_build`, `norprog_plan`, `norprog_check`, `norprog_sfdp`, `norprog_run`,
-//! `norprog_list`, `norprog_draw`, `norprog_play`, `norprog_read`, `norprog_flash`, `norprog_hex`, `norprog_script` and `norprog_explain` do the work behind them.
+//! The crate `norprog_options` reads the options; `norprog_build`, `norprog_plan`, `norprog_check`,
+//! `norprog_sfdp`, `norprog_run`, `norprog_list`, `norprog_draw`, `norprog_play`, `norprog_read`,
+//! `norprog_flash`, `norprog_hex`, `norprog_script` and `norprog_explain` do the work behind them.
 #![tactic(auto)]
 
 ghost use Rattle.std.specs.Prelude.{◌≡◌, ◌≢◌, ◌<◌, ◌≤◌, ◌-◌, ◌^◌, map, string_bytes, IfOk, IfErr};
@@ -43,8 +46,8 @@ fn main(rt: HostRuntime) -> ExitCode {
     ExitCode::from(main_status(&rt, &mut err))
 }
 
-/// Does what the program's words say, with standard output gathered, and answers the status. Where standard error is a terminal
-/// the progress of a play goes there too.
+/// Does what the program's words say, with standard output gathered, and returns the status. Where
+/// standard error is a terminal the progress of a play goes there too.
 fn main_status<E: ByteOut + Drop>(rt: &HostRuntime, err: &mut Heard<E>) -> u8
     requires { E.count err.old.out < 2 ^ 64 - 1 }
 {
@@ -68,7 +71,8 @@ fn main_status<E: ByteOut + Drop>(rt: &HostRuntime, err: &mut Heard<E>) -> u8
     ended(status, flushed, err)
 }
 
-/// The status of a command whose standard output was flushed: where all but that was done, it is told, and the status is 1.
+/// The status of a command whose standard output was flushed: where all but that was done, it is
+/// reported, and the status is 1.
 fn ended<E: ByteOut>(status: u8, flushed: io::Result<()>, err: &mut E) -> u8
     requires { status ≡ 0 → E.count err.old < 2 ^ 64 - 1 }
     ensures done { IfOk flushed (λ _. (result ≡ status) × (err.new ≡ err.old)) }
@@ -95,9 +99,10 @@ fn words_of(rt: &HostRuntime) -> Result<Vec<String>, Refusal> {
     }
 }
 
-/// Runs the command that the words spell, the program's name not among them. It opens the files that they name, writes
-/// what goes to standard output to `out`, a refusal to `err`, and the progress of a play to `progress`. It answers the status: 0
-/// done, 1 refused or a script that goes wrong or doesn't do its job, 2 usage.
+/// Runs the command that the words spell, the program's name not among them. It opens the files
+/// that they name, writes what goes to standard output to `out`, a refusal to `err`, and the
+/// progress of a play to `progress`. It returns the status: 0 done, 1 refused or a script that goes
+/// wrong or doesn't do its job, 2 usage.
 fn command<S: FileStore, O: ByteOut, E: ByteOut + Drop, P: ByteOut>(
     alloc: Global,
     store: &S,
@@ -111,7 +116,8 @@ fn command<S: FileStore, O: ByteOut, E: ByteOut + Drop, P: ByteOut>(
     requires progress { P.count progress.old < 2 ^ 64 - 1 }
     ensures status { result ≤ 2 }
     ensures quiet { result ≡ 0 → err.new ≡ err.old }
-    ensures answer { AnswersWords (λ heard. E.count heard.out) (λ heard. E.held heard.out) (S.facts store.now)
+    ensures answer { AnswersWords (λ heard. E.count heard.out) (λ heard. E.held heard.out)
+        (S.facts store.now)
         (map string_bytes words.items) (O.held out.old) (O.held out.new) err.old err.new result }
 {
     match asked_by(alloc, words.as_slice()) {
@@ -133,7 +139,8 @@ fn add_details<S: FileStore, E: ByteOut + Drop>(
     status: u8,
     err: &mut Heard<E>,
 )
-    ensures { AddsDetails (λ heard. E.count heard.out) (λ heard. E.held heard.out) (S.facts store.now) details.entry status err.old err.new }
+    ensures { AddsDetails (λ heard. E.count heard.out) (λ heard. E.held heard.out)
+        (S.facts store.now) details.entry status err.old err.new }
 {
     let Some(typed) = details else {
         return;
@@ -150,7 +157,8 @@ fn add_lines<S: FileStore, E: ByteOut + Drop>(
     typed: TypedLine<'_>,
     err: &mut Heard<E>,
 )
-    ensures { AddsLines (λ heard. E.count heard.out) (λ heard. E.held heard.out) (S.facts store.now) typed.entry err.old err.new }
+    ensures { AddsLines (λ heard. E.count heard.out) (λ heard. E.held heard.out) (S.facts store.now)
+        typed.entry err.old err.new }
 {
     let refusal = err.take_line();
     let line = typed.as_line();
@@ -173,7 +181,8 @@ fn answer_to<S: FileStore, O: ByteOut, E: ByteOut, P: ByteOut>(
     requires progress { P.count progress.old < 2 ^ 64 - 1 }
     ensures status { result ≤ 2 }
     ensures quiet { result ≡ 0 → err.new ≡ err.old }
-    ensures answer { AnswersTo (S.facts store.now) asked.entry (O.held out.old) (O.held out.new) (err.new ≡ err.old)
+    ensures answer { AnswersTo (S.facts store.now) asked.entry (O.held out.old) (O.held out.new)
+        (err.new ≡ err.old)
         (E.count err.new ≡ E.count err.old) (E.held err.old) (E.held err.new) result }
 {
     match asked {

@@ -9,7 +9,8 @@ ghost use Rattle.norprog_options.specs.Table.{options_of, with_options};
 use clap::{Arg, ArgAction, Command};
 use std::alloc::{AllocError, Global};
 
-/// The version, the commit and the kit; `make build` writes the commit over the zeros of the program that it has built.
+/// The version, the commit and the kit; `make build` writes the commit over the zeros of the
+/// program that it has built.
 const VERSION: &str =
     "0.1.0\ncommit 0000000000000000000000000000000000000000\nrattle-kit-13f logic dac8208d650f15bf";
 
@@ -103,14 +104,16 @@ const UNIFORM: Choice = Choice {
     name: "uniform",
     takes: Takes::Value("N"),
     required: false,
-    help: "A chip of N bytes without SFDP, with 4 KiB sectors: a decimal multiple of 4096 up to 16777216",
+    help: "A chip of N bytes without SFDP, with 4 KiB sectors: a decimal multiple of 4096 up to \
+        16777216",
 };
 
 const BITS: Choice = Choice {
     name: "bits",
     takes: Takes::Value("T"),
     required: false,
-    help: "Configuration bits of the SFDP sector map, 0 or 1 each; not with --uniform [default: none]",
+    help: "Configuration bits of the SFDP sector map, 0 or 1 each; not with --uniform [default: \
+        none]",
 };
 
 const PART: Choice = Choice {
@@ -159,14 +162,16 @@ const BUSY: Choice = Choice {
     name: "busy",
     takes: Takes::Value("L"),
     required: false,
-    help: "For how many status reads each program or erase is busy, in turn: decimal numbers joined by commas [default: none]",
+    help: "For how many status reads each program or erase is busy, in turn: decimal numbers \
+        joined by commas [default: none]",
 };
 
 const EACH_BUSY: Choice = Choice {
     name: "each-busy",
     takes: Takes::Value("N"),
     required: false,
-    help: "For how many status reads each program and each erase is busy, a decimal number; not with --busy [default: none]",
+    help: "For how many status reads each program and each erase is busy, a decimal number; not \
+        with --busy [default: none]",
 };
 
 const KEEP: Choice = Choice {
@@ -180,7 +185,8 @@ const LIMIT: Choice = Choice {
     name: "limit",
     takes: Takes::Value("N"),
     required: false,
-    help: "The most status reads of one poll, and of play and flash before the first step: a decimal number from 1 [default: 1000000]",
+    help: "The most status reads of one poll, and of play and flash before the first step: a \
+        decimal number from 1 [default: 1000000]",
 };
 
 const PAGE: Choice = Choice {
@@ -264,14 +270,16 @@ const LOG: Choice = Choice {
     name: "log",
     takes: Takes::File,
     required: true,
-    help: "The log: a line for each transaction, as `02 00 00 00 a5`, `9f > 3 bytes` or `poll`. With options of a chip: its listing",
+    help: "The log: a line for each transaction, as `02 00 00 00 a5`, `9f > 3 bytes` or `poll`. \
+        With options of a chip: its listing",
 };
 
 const WITHOUT_IDENTITY: Choice = Choice {
     name: "without-identity",
     takes: Takes::Nothing,
     required: false,
-    help: "Leave out of a log reads of an ID or a register: 9F, 15, 35, AB, 90, 5A [default: keep them]",
+    help: "Leave out of a log reads of an ID or a register: 9F, 15, 35, AB, 90, 5A [default: keep \
+        them]",
 };
 
 const LOG_OUT: Choice = Choice {
@@ -285,21 +293,24 @@ const WITNESS: Choice = Choice {
     name: "witness",
     takes: Takes::Nothing,
     required: false,
-    help: "After a no print a second line: the options of run for a chip that goes wrong so [default: no]",
+    help: "After a no print a second line: the options of run for a chip that goes wrong so \
+        [default: no]",
 };
 
 const TIMES: Choice = Choice {
     name: "times",
     takes: Takes::Nothing,
     required: false,
-    help: "Print after the report how long the chip is busy, and the clocks on the bus [default: no]",
+    help: "Print after the report how long the chip is busy, and the clocks on the bus [default: \
+        no]",
 };
 
 const SHARES: Choice = Choice {
     name: "regions",
     takes: Takes::Nothing,
     required: false,
-    help: "Print after all else a line for each chosen region: how many of its bytes the image gives, and the first [default: no]",
+    help: "Print after all else a line for each chosen region: how many of its bytes the image \
+        gives, and the first [default: no]",
 };
 
 const STRICT: Choice = Choice {
@@ -313,7 +324,8 @@ const MAP: Choice = Choice {
     name: "map",
     takes: Takes::File,
     required: false,
-    help: "A file for a picture of the chip, SVG; norprog replaces what it held. It can't be an input [default: none]",
+    help: "A file for a picture of the chip, SVG; norprog replaces what it held. It can't be an \
+        input [default: none]",
 };
 
 const FROM: Choice = Choice {
@@ -334,7 +346,8 @@ const DEVICE: Choice = Choice {
     name: "device",
     takes: Takes::File,
     required: true,
-    help: "The device that speaks serprog, a tty; first set it by: stty -F DEVICE 115200 raw -echo min 0 time 20",
+    help: "The device that speaks serprog, a tty; first set it by: stty -F DEVICE 115200 raw -echo \
+        min 0 time 20",
 };
 
 const BEFORE: Choice = Choice {
@@ -348,7 +361,8 @@ const RESUME: Choice = Choice {
     name: "resume",
     takes: Takes::File,
     required: false,
-    help: "To go on after a stop: the --before file of the first try. What the image doesn't give comes from it [default: none]",
+    help: "To go on after a stop: the --before file of the first try. What the image doesn't give \
+        comes from it [default: none]",
 };
 
 const DRY_RUN: Choice = Choice {
@@ -362,7 +376,8 @@ const TRUST: Choice = Choice {
     name: "trust",
     takes: Takes::Nothing,
     required: false,
-    help: "Don't check the chip's status, tables and content before the steps, nor read it back after them [default: play does]",
+    help: "Don't check the chip's status, tables and content before the steps, nor read it back \
+        after them [default: play does]",
 };
 
 const WORDS: Choice = Choice {
@@ -376,7 +391,8 @@ const DETAILS: Choice = Choice {
     name: "details",
     takes: Takes::Nothing,
     required: false,
-    help: "After a refusal say more: which value, file or line it is about, and what to do [default: no]",
+    help: "After a refusal say more: which value, file or line it is about, and what to do \
+        [default: no]",
 };
 
 /// The options of every command but explain, which takes words only.
@@ -401,7 +417,8 @@ static FORMS: [Form; 13] = [
     Form {
         name: "build",
         about: "Writes the script that programs the chip, and prints a report of it",
-        example: "Example: norprog build --hex app.hex --base 8000000 --uniform 8192 --content now.bin --out app.script",
+        example: "Example: norprog build --hex app.hex --base 8000000 --uniform 8192 --content \
+            now.bin --out app.script",
         groups: &[
             Group::Image,
             Group::Chip,
@@ -414,7 +431,8 @@ static FORMS: [Form; 13] = [
     Form {
         name: "plan",
         about: "Prints what build would erase and why, what it would program, and its report",
-        example: "Example: norprog plan --hex app.hex --base 8000000 --uniform 8192 --content now.bin",
+        example: "Example: norprog plan --hex app.hex --base 8000000 --uniform 8192 --content \
+            now.bin",
         groups: &[
             Group::Image,
             Group::Chip,
@@ -426,8 +444,10 @@ static FORMS: [Form; 13] = [
     },
     Form {
         name: "check",
-        about: "Says whether a script, from anybody, does the job on every chip that the options describe",
-        example: "Example: norprog check --hex app.hex --base 8000000 --uniform 8192 --content now.bin --script app.script",
+        about: "Says whether a script, from anybody, does the job on every chip that the options \
+            describe",
+        example: "Example: norprog check --hex app.hex --base 8000000 --uniform 8192 --content \
+            now.bin --script app.script",
         groups: &[
             Group::Image,
             Group::Chip,
@@ -440,7 +460,8 @@ static FORMS: [Form; 13] = [
     Form {
         name: "run",
         about: "Plays a script on a chip in memory, and says how it ends",
-        example: "Example: norprog run --uniform 8192 --content now.bin --script app.script --busy 1,2 --out after.bin",
+        example: "Example: norprog run --uniform 8192 --content now.bin --script app.script --busy \
+            1,2 --out after.bin",
         groups: &[
             Group::Chip,
             Group::Content,
@@ -467,7 +488,8 @@ static FORMS: [Form; 13] = [
     Form {
         name: "play",
         about: "Plays a script on a chip through a serprog device, and says how it ends",
-        example: "Example: norprog play --uniform 8388608 --content now.bin --script app.script --device /dev/ttyACM0",
+        example: "Example: norprog play --uniform 8388608 --content now.bin --script app.script \
+            --device /dev/ttyACM0",
         groups: &[Group::Chip, Group::Content, Group::Start, Group::Script],
         choices: &[DEVICE, LIMIT, TRUST],
     },
@@ -480,8 +502,10 @@ static FORMS: [Form; 13] = [
     },
     Form {
         name: "flash",
-        about: "Programs the chip behind a serprog device: reads it twice, keeps what it holds, prints the plan, programs it and reads it back",
-        example: "Example: norprog flash --device /dev/ttyACM0 --hex app.hex --base 8000000 --before before.bin",
+        about: "Programs the chip behind a serprog device: reads it twice, keeps what it holds, \
+            prints the plan, programs it and reads it back",
+        example: "Example: norprog flash --device /dev/ttyACM0 --hex app.hex --base 8000000 \
+            --before before.bin",
         groups: &[Group::Image, Group::Chip],
         choices: &[
             MODE4,
@@ -510,7 +534,8 @@ static FORMS: [Form; 13] = [
     },
     Form {
         name: "script",
-        about: "Writes the script of a log of transactions, as other tools print them, or of what list printed",
+        about: "Writes the script of a log of transactions, as other tools print them, or of what \
+            list printed",
         example: "Example: norprog script --log log.txt --out app.script",
         groups: &[Group::Chip, Group::Start],
         choices: &[LOG, WITHOUT_IDENTITY, LOG_OUT],

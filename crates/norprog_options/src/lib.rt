@@ -1,4 +1,5 @@
-//! The command line of norprog: its commands and their options with help, and which option's text goes to which value.
+//! The command line of norprog: its commands and their options with help, and which option's text
+//! goes to which value.
 #![tactic(auto)]
 
 mod arguments;

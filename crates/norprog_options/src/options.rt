@@ -2,8 +2,12 @@
 
 ghost use Rattle.std.specs.Prelude.{◌≡◌, drop, map, string_bytes, IfErr, IfOk};
 ghost use Rattle.clap.specs.Words.{found_of, kind_of};
-ghost use Rattle.norprog_options.specs.Options.{texts_of, IsBuildIn, IsCheckIn, IsJobIn, IsChipIn, IsDrawIn, IsFlashIn, IsHexIn, IsListIn, IsPlanIn, IsPlayIn, IsReadIn, IsRunIn, IsSetupIn, IsAsked, IsScriptIn};
-ghost use Rattle.norprog_options.specs.Spelled.{IsRefusalOf, IsUnasked, Refuses, Spells, command_names, memory};
+ghost use Rattle.norprog_options.specs.Options.{texts_of, IsBuildIn, IsCheckIn, IsJobIn, IsChipIn};
+ghost use Rattle.norprog_options.specs.Options.{IsDrawIn, IsFlashIn, IsHexIn, IsListIn, IsPlanIn};
+ghost use Rattle.norprog_options.specs.Options.{IsPlayIn, IsReadIn, IsRunIn, IsSetupIn, IsAsked};
+ghost use Rattle.norprog_options.specs.Options.{IsScriptIn};
+ghost use Rattle.norprog_options.specs.Spelled.{IsRefusalOf, IsUnasked, Refuses, Spells};
+ghost use Rattle.norprog_options.specs.Spelled.{command_names, memory};
 ghost use Rattle.norprog_options.specs.Typed.{IsDetailed, IsDetailedBy};
 
 use crate::arguments::norprog;
@@ -45,10 +49,11 @@ pub struct Line<'a> {
     pub details: Option<TypedLine<'a>>,
 }
 
-/// Reads the words after the program's name: a command and its options, by the rules of the command line library.
+/// Reads the words after the program's name: a command and its options, by the rules of the command
+/// line library.
 ///
-/// Words with a fault, and a request for help, are refused with `Text`, which that library wrote; else only `Memory` is, where a
-/// growth is refused.
+/// Words with a fault, and a request for help, are refused with `Text`, which that library wrote;
+/// else only `Memory` is, where a growth is refused.
 pub fn asked_by<'a>(alloc: Global, words: &'a [String]) -> Result<Line<'a>, Refusal>
     ensures line { IfOk result (Spells (map string_bytes words.entry.now)) }
     ensures refused { IfErr result (Refuses (map string_bytes words.entry.now)) }
@@ -152,7 +157,7 @@ fn meaning_asked<'a>(alloc: Global, matches: &ArgMatches<'a>) -> Result<Asked<'a
     }
 }
 
-/// The library's text, or want of memory.
+/// The library's text, or out of memory.
 fn refusal_of(alloc: Global, error: &Error) -> Refusal
     ensures { IsRefusalOf (kind_of error.now) result }
 {

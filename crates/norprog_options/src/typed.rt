@@ -61,7 +61,7 @@ impl<'a> TypedLine<'a> {
     }
 }
 
-/// What stands behind the name of a command, except flags.
+/// What comes after the name of a command, except flags.
 pub(crate) fn line_in<'a>(
     alloc: Global,
     command: &'a str,

@@ -2,7 +2,8 @@
 
 ghost use Rattle.std.specs.Prelude.{◌≡◌, ◌<◌, ◌≤◌, ◌-◌, ◌^◌, true, None, Some, IfOk, IfErr};
 ghost use Rattle.norprog_common.specs.Told.{OrUsage};
-ghost use Rattle.norprog_script.specs.Answer.{IsScripted, RefusesScript, PrintsTally, CutsTally, AnswersScript, done};
+ghost use Rattle.norprog_script.specs.Answer.{IsScripted, RefusesScript, PrintsTally, CutsTally};
+ghost use Rattle.norprog_script.specs.Answer.{AnswersScript, done};
 ghost use Rattle.norprog_script.specs.Request.{is_well_formed};
 ghost use Rattle.norprog_script.specs.Served.{IsTaskOf, Serves};
 
@@ -16,9 +17,10 @@ use norprog_common::{
 };
 use std::alloc::Global;
 
-/// Writes the script of the log on a command line into the file that it names, which is made as none of those that are read. The
-/// log is a listing where something is said of a chip. It prints to `out` how many steps there are, and how many were left out; or a refusal to `err` (docs/FORMATS.md, section 9). It
-/// returns the status: 0 done, 1 refused, 2 usage.
+/// Writes the script of the log on a command line into the file that it names, which is made as
+/// none of those that are read. The log is a listing where something is said of a chip. It prints
+/// to `out` how many steps there are, and how many were left out; or a refusal to `err`
+/// (docs/FORMATS.md, section 9). It returns the status: 0 done, 1 refused, 2 usage.
 pub fn script<S: FileStore, O: ByteOut, E: ByteOut>(
     alloc: Global,
     store: &S,
@@ -30,7 +32,8 @@ pub fn script<S: FileStore, O: ByteOut, E: ByteOut>(
     requires err { E.count err.old < 2 ^ 64 - 1 }
     ensures status { result ≤ 2 }
     ensures quiet { result ≡ 0 → err.new ≡ err.old }
-    ensures answer { AnswersScript (S.facts store.now) given.entry (O.held out.old) (O.held out.new) (err.new ≡ err.old)
+    ensures answer { AnswersScript (S.facts store.now) given.entry (O.held out.old) (O.held out.new)
+        (err.new ≡ err.old)
         (E.count err.new ≡ E.count err.old) (E.held err.old) (E.held err.new) result }
 {
     answered(scripted_in(alloc, store, given, out), err)
@@ -45,12 +48,15 @@ fn scripted_in<S: FileStore, O: ByteOut>(
 ) -> Result<u8, Refusal>
     requires { O.count out.old < 2 ^ 64 - 1 }
     ensures status { IfOk result (λ status. status ≡ 0) }
-    ensures printed { IfOk result (λ _. PrintsTally (Serves (S.facts store.now) given.entry) (S.facts store.now).flushed
+    ensures printed { IfOk result
+        (λ _. PrintsTally (Serves (S.facts store.now) given.entry) (S.facts store.now).flushed
         (O.held out.old) (O.held out.new)) }
-    ensures unprinted { IfErr result (λ _. CutsTally (Serves (S.facts store.now) given.entry) (S.facts store.now).flushed
+    ensures unprinted { IfErr result
+        (λ _. CutsTally (Serves (S.facts store.now) given.entry) (S.facts store.now).flushed
         (O.held out.old) (O.held out.new)) }
     ensures asked { IfOk result (λ _. is_well_formed given.entry ≡ true) }
-    ensures first { IfErr result (OrUsage (is_well_formed given.entry) (RefusesScript (S.facts store.now).lacked
+    ensures first { IfErr result
+        (OrUsage (is_well_formed given.entry) (RefusesScript (S.facts store.now).lacked
         (Serves (S.facts store.now) given.entry))) }
 {
     let request = request_of(given).ok_or(Refusal::Usage)?;
@@ -67,8 +73,10 @@ fn run_script<S: FileStore>(
     store: &S,
     request: ScriptRequest<'_>,
 ) -> Result<Tally, Refusal>
-    ensures written { IfOk result (IsScripted (IsTaskOf (S.facts store.now) request.entry) (S.facts store.now).flushed) }
-    ensures refused { IfErr result (RefusesScript (S.facts store.now).lacked (IsTaskOf (S.facts store.now) request.entry)) }
+    ensures written { IfOk result
+        (IsScripted (IsTaskOf (S.facts store.now) request.entry) (S.facts store.now).flushed) }
+    ensures refused { IfErr result
+        (RefusesScript (S.facts store.now).lacked (IsTaskOf (S.facts store.now) request.entry)) }
 {
     match request.chip {
         Some(setup) => run_listing(alloc, store, setup, request),
@@ -84,8 +92,10 @@ fn run_listing<S: FileStore>(
     request: ScriptRequest<'_>,
 ) -> Result<Tally, Refusal>
     requires { request.chip ≡ Some setup }
-    ensures written { IfOk result (IsScripted (IsTaskOf (S.facts store.now) request.entry) (S.facts store.now).flushed) }
-    ensures refused { IfErr result (RefusesScript (S.facts store.now).lacked (IsTaskOf (S.facts store.now) request.entry)) }
+    ensures written { IfOk result
+        (IsScripted (IsTaskOf (S.facts store.now) request.entry) (S.facts store.now).flushed) }
+    ensures refused { IfErr result
+        (RefusesScript (S.facts store.now).lacked (IsTaskOf (S.facts store.now) request.entry)) }
 {
     let mut places = Vec::new(alloc);
     let tables = noted_tables(alloc, store, setup.chip, &mut places)?;
@@ -105,8 +115,10 @@ fn run_log<S: FileStore>(
     request: ScriptRequest<'_>,
 ) -> Result<Tally, Refusal>
     requires { request.chip ≡ None }
-    ensures written { IfOk result (IsScripted (IsTaskOf (S.facts store.now) request.entry) (S.facts store.now).flushed) }
-    ensures refused { IfErr result (RefusesScript (S.facts store.now).lacked (IsTaskOf (S.facts store.now) request.entry)) }
+    ensures written { IfOk result
+        (IsScripted (IsTaskOf (S.facts store.now) request.entry) (S.facts store.now).flushed) }
+    ensures refused { IfErr result
+        (RefusesScript (S.facts store.now).lacked (IsTaskOf (S.facts store.now) request.entry)) }
 {
     let (log, place) = store.read(alloc, request.log, FileName::Log)?;
     let mut out = store.create(alloc, request.out, FileName::Out, &[place])?;

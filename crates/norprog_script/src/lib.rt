@@ -1,7 +1,9 @@
-//! `norprog script`: the script of a log of transactions, or of a listing (docs/FORMATS.md, sections 9, 12 and 18).
+//! `norprog script`: the script of a log of transactions, or of a listing (docs/FORMATS.md,
+//! sections 9, 12 and 18).
 //!
-//! [`script`] does what the texts of a command line ask for. [`script_log`] and [`script_listing`] do the work, from the bytes
-//! of a log or a listing to those of its script. Whoever reads a command line hands its texts over as [`ScriptArgs`].
+//! [`script`] does what the texts of a command line ask for. [`script_log`] and [`script_listing`]
+//! do the work, from the bytes of a log or a listing to those of its script. Whoever reads a
+//! command line hands its texts over as [`ScriptArgs`].
 #![tactic(auto)]
 
 mod command;

@@ -4,7 +4,8 @@ ghost use Rattle.std.specs.Prelude.{◌≡◌, ◌≢◌, ◌<◌, ◌-◌, ◌^
 ghost use Rattle.nor_job.specs.declared.fault.BuildFault.TheVariants.{Write};
 ghost use Rattle.norprog_common.specs.Content.{CountsWriter};
 ghost use Rattle.norprog_common.specs.declared.faults.Refusal.TheVariants.{Build};
-ghost use Rattle.norprog_script.specs.Written.{listed, WasWritten, RefusesLog, refusal_for as told_of};
+ghost use Rattle.norprog_script.specs.Written.{listed, WasWritten, RefusesLog};
+ghost use Rattle.norprog_script.specs.Written.{refusal_for as told_of};
 
 use crate::tally::Tally;
 use crate::text::write_script;
@@ -14,13 +15,11 @@ use nor_listing::{ListFault, read_listing};
 use norprog_common::{Refusal, known_chip};
 use std::alloc::Global;
 
-/// Writes the script of the steps that a listing lists, by the chip of the inputs and the address mode that it begins in, and
-/// returns how many they are. Except for contradictions the image, the layout, the base and the verifying of the inputs have no
-/// part in it. Memory is taken for the steps.
+/// Writes the script of the steps that a listing lists, by the chip of the inputs and its first
+/// address mode, and returns how many they are. Memory is taken for the steps.
 ///
-/// `Contradiction`, `Sfdp`, `Status` and `ModeImpossible` as a build reports them; `Log` has the number of the first line that a
-/// listing hasn't there; `Write` where `out` fails, which has taken a proper prefix of the script then. `Memory` comes where a
-/// growth is refused. All but `Write` leave `out` as it was.
+/// The first fault is reported: of the inputs, as a build reports it; `Log` with the line; `Write`,
+/// after which `out` has a proper prefix; `Memory`.
 pub fn script_listing<W: ByteOut>(
     alloc: Global,
     inputs: &Inputs<'_>,
@@ -28,8 +27,10 @@ pub fn script_listing<W: ByteOut>(
     out: &mut W,
 ) -> Result<Tally, Refusal>
     requires { W.count out.old < 2 ^ 64 - 1 }
-    ensures written { IfOk result (WasWritten (listed inputs.now) text.now (W.held out.old) (W.held out.new)) }
-    ensures refused { IfErr result (RefusesLog (listed inputs.now) text.now (W.held out.old) (W.held out.new)) }
+    ensures written { IfOk result
+        (WasWritten (listed inputs.now) text.now (W.held out.old) (W.held out.new)) }
+    ensures refused { IfErr result
+        (RefusesLog (listed inputs.now) text.now (W.held out.old) (W.held out.new)) }
     ensures unwritten { IfErr result (λ why. why ≢ Build Write → out.new ≡ out.old) }
     ensures count { CountsWriter (W.count out.old) (W.count out.new) result }
 {

@@ -4,7 +4,8 @@ ghost use Rattle.std.specs.Prelude.{◌≡◌, ◌≢◌, ◌<◌, ◌-◌, ◌^
 ghost use Rattle.nor_job.specs.declared.fault.BuildFault.TheVariants.{Write};
 ghost use Rattle.norprog_common.specs.Content.{CountsWriter};
 ghost use Rattle.norprog_common.specs.declared.faults.Refusal.TheVariants.{Build};
-ghost use Rattle.norprog_script.specs.Written.{foreign, WasWritten, RefusesLog, refusal_of as told_of};
+ghost use Rattle.norprog_script.specs.Written.{foreign, WasWritten, RefusesLog};
+ghost use Rattle.norprog_script.specs.Written.{refusal_of as told_of};
 
 use crate::tally::Tally;
 use crate::text::write_script;
@@ -13,11 +14,13 @@ use nor_log::{LogFault, read};
 use norprog_common::Refusal;
 use std::alloc::Global;
 
-/// Writes the script of a log's lines, in order, and returns how many steps it has. `without_identity` leaves out reads of an
-/// identification or a register. Memory is taken for the steps.
+/// Writes the script of a log's lines, in order, and returns how many steps it has.
+/// `without_identity` leaves out reads of an identification or a register. Memory is taken for the
+/// steps.
 ///
-/// `Log` has the number of the first line that is none of a log's; `Write` where `out` fails, which has taken a proper prefix of
-/// the script then. `Memory` comes where a growth is refused. All but `Write` leave `out` as it was.
+/// `Log` has the number of the first line that is none of a log's; `Write` where `out` fails, which
+/// has taken a proper prefix of the script then. `Memory` comes where a growth is refused. All but
+/// `Write` leave `out` as it was.
 pub fn script_log<W: ByteOut>(
     alloc: Global,
     text: &[u8],
@@ -25,8 +28,10 @@ pub fn script_log<W: ByteOut>(
     out: &mut W,
 ) -> Result<Tally, Refusal>
     requires { W.count out.old < 2 ^ 64 - 1 }
-    ensures written { IfOk result (WasWritten (foreign without_identity) text.now (W.held out.old) (W.held out.new)) }
-    ensures refused { IfErr result (RefusesLog (foreign without_identity) text.now (W.held out.old) (W.held out.new)) }
+    ensures written { IfOk result
+        (WasWritten (foreign without_identity) text.now (W.held out.old) (W.held out.new)) }
+    ensures refused { IfErr result
+        (RefusesLog (foreign without_identity) text.now (W.held out.old) (W.held out.new)) }
     ensures unwritten { IfErr result (λ why. why ≢ Build Write → out.new ≡ out.old) }
     ensures count { CountsWriter (W.count out.old) (W.count out.new) result }
 {

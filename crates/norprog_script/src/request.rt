@@ -2,7 +2,8 @@
 
 ghost use Rattle.std.specs.Prelude.{◌≡◌, ◌||◌, not, is_some, IfSome};
 ghost use Rattle.norprog_common.specs.Setup.{is_setup};
-ghost use Rattle.norprog_script.specs.Request.{is_well_formed, says_chip as said, AsksChip, AsksFor};
+ghost use Rattle.norprog_script.specs.Request.{is_well_formed, says_chip as said, AsksChip};
+ghost use Rattle.norprog_script.specs.Request.{AsksFor};
 
 use norprog_common::{ScriptArgs, Setup, SetupArgs, setup_of};
 
@@ -17,7 +18,8 @@ pub struct ScriptRequest<'a> {
     pub out: &'a str,
 }
 
-/// The request that the values spell. None where one that has to be there isn't, or isn't of its form.
+/// The request that the values spell. None where one that has to be there isn't, or isn't of its
+/// form.
 pub fn request_of<'a>(given: ScriptArgs<'a>) -> Option<ScriptRequest<'a>>
     ensures forms { is_some result ≡ is_well_formed given.entry }
     ensures values { IfSome result (λ request. AsksFor given.entry request) }

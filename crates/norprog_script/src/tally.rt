@@ -18,7 +18,8 @@ pub struct Tally {
 
 /// Writes `steps N` and `left out M`, a line each.
 ///
-/// At `Failed` a proper prefix was taken; it comes only from the writer, whose count of failures rose by one.
+/// At `Failed` a proper prefix was taken; it comes only from the writer, whose count of failures
+/// rose by one.
 #[tactic(auto, unfolding(crate::specs::Tally::tally_text))]
 pub(crate) fn write_tally<W: ByteOut>(tally: Tally, out: &mut W) -> Result<(), Failed>
     requires { W.count out.old < 2 ^ 64 - 1 }

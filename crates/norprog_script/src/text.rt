@@ -11,7 +11,8 @@ use nor_script::{begin, finish, write_step};
 
 /// Writes the script of steps that a script may have. It takes no memory.
 ///
-/// At `Failed` a proper prefix was taken; it comes only from the writer, whose count of failures rose by one.
+/// At `Failed` a proper prefix was taken; it comes only from the writer, whose count of failures
+/// rose by one.
 pub fn write_script<W: ByteOut>(steps: &[Step], out: &mut W) -> Result<(), Failed>
     requires steps { AllByRecursion IsStep steps.now }
     requires room { W.count out.old < 2 ^ 64 - 1 }

@@ -22,8 +22,8 @@ use norprog_sfdp::sfdp;
 use std::fs::{self, File};
 use std::io;
 
-/// Does what is asked for, or tells why the line asks for nothing. What is printed goes to files of these names. Answers the
-/// status.
+/// Does what is asked for, or tells why the line asks for nothing. What is printed goes to files of
+/// these names. Returns the status.
 pub(crate) fn status_of(
     rt: &HostRuntime,
     line: Result<Line<'_>, Refusal>,

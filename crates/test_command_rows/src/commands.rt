@@ -12,8 +12,9 @@ const OUTPUT: &str = "standard.output";
 
 const ERRORS: &str = "standard.error";
 
-/// Does a command line. Found is what it prints, on standard output and then on standard error, or, where parts of that are
-/// handed over, each that isn't in it; its status where that isn't 0; and also that a refused build left a whole script.
+/// Does a command line. Found is what it prints, on standard output and then on standard error, or,
+/// where parts of that are handed over, each that isn't in it; its status where that isn't 0; and
+/// also that a refused build left a whole script.
 pub(crate) fn command(
     rt: &HostRuntime,
     line: &str,
@@ -30,7 +31,8 @@ pub(crate) fn command(
     Ok(())
 }
 
-/// Does a command line, and pushes what it prints, but for the outputs that it sends elsewhere. Answers its status.
+/// Does a command line, and pushes what it prints, but for the outputs that it sends elsewhere.
+/// Returns its status.
 pub(crate) fn answer_to(rt: &HostRuntime, line: &str, printed: &mut String) -> io::Result<u8> {
     let line = line_of(rt.alloc(), line)?;
     let asked = asked_by(rt.alloc(), line.words.as_slice());
@@ -46,8 +48,9 @@ pub(crate) fn answer_to(rt: &HostRuntime, line: &str, printed: &mut String) -> i
     Ok(status)
 }
 
-/// Takes the words of a refusal that no row can bring about, ` | ` and a command line with `--details`. Found is what that says
-/// of the refusal, or, where parts of it are handed over, each that isn't in it.
+/// Takes the words of a refusal that no row can bring about, ` | ` and a command line with
+/// `--details`. Found is what that says of the refusal, or, where parts of it are handed over, each
+/// that isn't in it.
 pub(crate) fn refused(
     rt: &HostRuntime,
     text: &str,

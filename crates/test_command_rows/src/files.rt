@@ -69,7 +69,8 @@ fn holds_row(rt: &HostRuntime, name: &str, given: &[&str], found: &mut String) -
     Ok(tell_lacking(text.as_str(), given, found)?)
 }
 
-/// Does a row that writes the file of this name, by the words behind the name. Answers whether it is one that does.
+/// Does a row that writes the file of this name, by the words behind the name. Returns whether it
+/// is one that does.
 fn write_row(
     rt: &HostRuntime,
     word: &str,
@@ -86,7 +87,8 @@ fn write_row(
     }
 }
 
-/// What a row writes to the file of this name, by the words behind the name; None where it writes none.
+/// What a row writes to the file of this name, by the words behind the name; None where it writes
+/// none.
 fn content_for(
     rt: &HostRuntime,
     word: &str,
@@ -229,7 +231,8 @@ fn has_line(text: &str, line: &str) -> bool {
     false
 }
 
-/// The lines that are handed over, without their signs. A backslash at the last one's end says that no line feed ends it.
+/// The lines that are handed over, without their signs. A backslash at the last one's end says that
+/// no line feed ends it.
 pub(crate) fn lines_of(alloc: Global, given: &[&str]) -> Result<String, AllocError> {
     let mut text = String::new(alloc);
     for line in given {
@@ -238,7 +241,8 @@ pub(crate) fn lines_of(alloc: Global, given: &[&str]) -> Result<String, AllocErr
     Ok(text)
 }
 
-/// Pushes a line with its line feed, or without the backslash at its end that says that none ends it.
+/// Pushes a line with its line feed, or without the backslash at its end that says that none ends
+/// it.
 fn push_given(line: &str, text: &mut String) -> Result<(), AllocError> {
     match line.strip_suffix("\\") {
         Some(front) => text.push_str(front),
@@ -289,8 +293,8 @@ fn push_record(record: usize, text: &mut String) -> Result<(), AllocError> {
     )
 }
 
-/// Changes bytes as a word says: `AT:BYTES` in hexadecimal digits, or `AT:BYTES*N` for the bytes N times. Where they go past
-/// the end 00h stands between.
+/// Changes bytes as a word says: `AT:BYTES` in hexadecimal digits, or `AT:BYTES*N` for the bytes N
+/// times. Where they go past the end 00h stands between.
 fn patch_bytes(alloc: Global, bytes: &mut Vec<u8>, word: &str) -> io::Result<()> {
     let Some((at, digits, times)) = patch_of(word) else {
         return Err(bad());
@@ -353,8 +357,8 @@ fn next_byte(state: &mut u32) -> u8 {
 /// The bytes that are compared at once.
 const PIECE: usize = 4096;
 
-/// Pushes what differs from one to the other, ` AT:BYTES` for each run of bytes that do; and a blank and the size where that
-/// differs.
+/// Pushes what differs from one to the other, ` AT:BYTES` for each run of bytes that do; and a
+/// blank and the size where that differs.
 pub(crate) fn changes(before: &[u8], after: &[u8], found: &mut String) -> Result<(), AllocError> {
     let mut last = usize::MAX;
     let mut start = 0usize;
@@ -371,8 +375,9 @@ pub(crate) fn changes(before: &[u8], after: &[u8], found: &mut String) -> Result
     Ok(())
 }
 
-/// Pushes what differs from one piece to the other, which begin at this address. A run that goes on at the address `last` has
-/// no address of its own. Answers the address behind the last byte that differs.
+/// Pushes what differs from one piece to the other, which begin at this address. A run that goes on
+/// at the address `last` has no address of its own. Returns the address behind the last byte that
+/// differs.
 fn push_changes(
     old: &[u8],
     new: &[u8],
@@ -389,8 +394,8 @@ fn push_changes(
     Ok(last)
 }
 
-/// Pushes a byte that differs, behind its address where that isn't the one that follows the last. Answers the address behind
-/// it.
+/// Pushes a byte that differs, behind its address where that isn't the one that follows the last.
+/// Returns the address behind it.
 fn push_byte(byte: u8, at: usize, last: usize, found: &mut String) -> Result<usize, AllocError> {
     if at != last {
         write!(found, " {at:x}:")?;

@@ -34,12 +34,12 @@ struct Words<'a> {
     script: &'a str,
 }
 
-/// Does a job, whose image is the lines that are handed over and the end record. Its words are of the chip; behind `|` of the
-/// image; and behind another `|` of the script.
+/// Does a job, whose image is the lines that are handed over and the end record. Its words are of
+/// the chip; behind `|` of the image; and behind another `|` of the script.
 ///
-/// Found is the report in one line; the script in short; what `check` says of the script, and of one that does nothing;
-/// and how often `run` played the script well, with what each time has changed in the content. What `plan` prints is found
-/// too where its report is another one.
+/// Found is the report in one line; the script in short; what `check` says of the script, and of
+/// one that does nothing; and how often `run` played the script well, with what each time has
+/// changed in the content. What `plan` prints is found too where its report is another one.
 pub(crate) fn job(
     rt: &HostRuntime,
     words: &str,
@@ -170,8 +170,8 @@ impl Good {
     }
 }
 
-/// Plays the script once, by a line of `run`. Answers what has changed in the content, or what `run` prints where that isn't
-/// `ok`.
+/// Plays the script once, by a line of `run`. Returns what has changed in the content, or what
+/// `run` prints where that isn't `ok`.
 fn play(rt: &HostRuntime, line: &str, content: &[u8]) -> io::Result<String> {
     let mut answer = String::new(rt.alloc());
     answer_to(rt, line, &mut answer)?;

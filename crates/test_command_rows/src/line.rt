@@ -12,8 +12,8 @@ pub(crate) struct Line<'a> {
     pub(crate) err: Option<&'a str>,
 }
 
-/// Takes a command line apart, whose words have blanks between them: `''` is an empty one, and `>FILE` and `2>FILE` tell to
-/// which files the outputs go.
+/// Takes a command line apart, whose words have blanks between them: `''` is an empty one, and
+/// `>FILE` and `2>FILE` tell to which files the outputs go.
 pub(crate) fn line_of(alloc: Global, text: &str) -> Result<Line<'_>, AllocError> {
     let mut line = Line {
         words: Vec::new(alloc),

@@ -1,8 +1,9 @@
 //! Command lines of norprog as rows of data, each with the answer that it is to have.
 //!
-//! Standard input names files of rows, one a line, in the form of `test_samples::rows`. A row is one of norprog's commands
-//! ([`commands`]), a job from its image to what chips hold after it ([`jobs`]), or makes or shows a file ([`files`]). A row
-//! that isn't answered as it says is told with its line, and of each file the number of those that are.
+//! Standard input names files of rows, one a line, in the form of `test_samples::rows`. A row is
+//! one of norprog's commands ([`commands`]), a job from its image to what chips hold after it
+//! ([`jobs`]), or makes or shows a file ([`files`]). A row that isn't answered as it says is
+//! reported with its line, and of each file the number of those that are.
 #![tactic(auto)]
 
 mod answers;

@@ -4,11 +4,12 @@ use crate::commands::command;
 use std::alloc::AllocError;
 use std::io;
 
-/// Does a command with each set of causes, of which the first is to be told: the words are its line without these causes.
+/// Does a command with each set of causes, of which the first is to be told: the words are its line
+/// without these causes.
 ///
-/// Each line that is handed over is a cause, in the order of looking, in three parts with `|` between them: the refusal that
-/// tells it, the words that are given without it, and those with it. Found is for how many sets that is told, and what is
-/// answered in another's place.
+/// Each line that is handed over is a cause, in the order of looking, in three parts with `|`
+/// between them: the refusal that tells it, the words that are given without it, and those with it.
+/// Found is for how many sets that is reported, and what is answered in another's place.
 pub(crate) fn order(
     rt: &HostRuntime,
     words: &str,
@@ -25,7 +26,7 @@ pub(crate) fn order(
     Ok(writeln!(found, "{good} sets")?)
 }
 
-/// Whether the first cause of a set is told, whose lowest bit is the first line's.
+/// Whether the first cause of a set is reported, whose lowest bit is the first line's.
 fn tells_first(
     rt: &HostRuntime,
     words: &str,
@@ -52,7 +53,8 @@ fn tells(answer: &str, refusal: &str) -> bool {
     }
 }
 
-/// Pushes the words of each cause, as it is in the set or not. Answers what tells the first that is.
+/// Pushes the words of each cause, as it is in the set or not. Returns what tells the first that
+/// is.
 fn push_causes<'a>(line: &mut String, given: &[&'a str], set: u64) -> Result<&'a str, AllocError> {
     let mut told = None;
     let mut left = set;

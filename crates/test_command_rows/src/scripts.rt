@@ -7,9 +7,10 @@ const POLL: &str = "p 00000101........";
 
 /// Pushes a script as one line: `script`, then each step, and the end line.
 ///
-/// A step is the bytes that are sent, or `.`, a poll of the status; `HEAD/DATA` has the data on four lanes; `HEAD?BYTES` is a
-/// read that expects these bytes, and `HEAD!BYTES` one on four lanes after eight dummy clocks. Any other line stands in
-/// brackets as it is; ` cut` says that no line feed ends the text. Of an empty text nothing is pushed.
+/// A step is the bytes that are sent, or `.`, a poll of the status; `HEAD/DATA` has the data on
+/// four lanes; `HEAD?BYTES` is a read that expects these bytes, and `HEAD!BYTES` one on four lanes
+/// after eight dummy clocks. Any other line stands in brackets as it is; ` cut` says that no line
+/// feed ends the text. Of an empty text nothing is pushed.
 pub(crate) fn script_line(text: &str, found: &mut String) -> Result<(), AllocError> {
     if text.is_empty() {
         return Ok(());
@@ -117,7 +118,8 @@ fn push_digits(clocks: &[u8], found: &mut String) -> Result<(), AllocError> {
     Ok(())
 }
 
-/// Pushes the digits of letters on four lanes, 0 for `a` to f for `p`; the digits of a read as they are.
+/// Pushes the digits of letters on four lanes, 0 for `a` to f for `p`; the digits of a read as they
+/// are.
 fn push_letters(symbols: &[u8], sign: &str, found: &mut String) -> Result<(), AllocError> {
     for symbol in symbols {
         if sign == "/" {

@@ -170,7 +170,9 @@ pub(crate) const TOPICS: &[Topic] = &[
         "The line of the log with this number is none of a log. One has the bytes that\n\
          were sent, two hexadecimal digits each, as `02 00 00 00 a5`; after `>` the\n\
          bytes that were read, or their number, as `9f > 3 bytes`. Or it is `poll`. What\n\
-         is after `#` doesn't count. The output is empty.",
+         is after `#` doesn't count. With options of a chip the log is a listing: then\n\
+         this isn't the line that the listing of such a chip has there. List the script\n\
+         by the same options, or leave them out. The output is empty.",
     ),
     (
         "content short",
