@@ -1,6 +1,9 @@
 -- What the program answers (this project's).
-use Rattle.std.specs.Prelude.{◌≡◌, ◌<◌, ◌-◌, ◌^◌, ℕ, zero, suc, List, Option, Some, None, Result, Ok, Err}
+use Rattle.std.specs.Prelude.{◌≡◌, ◌⊎◌, ◌<◌, ◌-◌, ◌^◌, ℕ, zero, suc, List, Option, Some, None, Result, Ok, Err}
+use Rattle.std.specs.Io.KnownBytes.{Keeps}
+use Rattle.nor_job.specs.declared.fault.BuildFault.TheVariants.{Write}
 use Rattle.norprog_common.specs.declared.faults.Refusal.{Refusal}
+use Rattle.norprog_common.specs.declared.faults.Refusal.TheVariants.{Build}
 use Rattle.norprog_common.specs.FileStore.{FileFacts}
 use Rattle.norprog_common.specs.Told.{TellsOf}
 use Rattle.norprog_options.specs.declared.options.Asked.{Asked}
@@ -87,3 +90,15 @@ AnswersTyped count held files words before after err_before err_after status (Er
 abbrev pub AnswersWords : {E : Type 0} → (E → ℕ) → (E → Option (List ℕ)) → FileFacts → List (List ℕ) → Option (List ℕ) → Option (List ℕ) → E → E → ℕ → Type 0
 AnswersWords count held files words before after err_before err_after status =
     (read : Result Line Refusal) × AnswersTyped count held files words before after err_before err_after status read
+
+-- the same of a command after which all that it wrote was to go out: the status is the command's; or it was done, and what it wrote
+-- didn't go out, which is reported
+pub record EndsCommand (E : Type 0) (count : E → ℕ) (held : E → Option (List ℕ)) (files : FileFacts) (words : List (List ℕ))
+    (before after : Option (List ℕ)) (err_before err_after : E) (status : ℕ) : Type 0 where
+  pub written : Option (List ℕ)
+  pub answered : E
+  pub own : ℕ
+  pub answers : AnswersWords count held files words before written err_before answered own
+  pub kept : Keeps written after
+  pub ends : ((status ≡ own) × (err_after ≡ answered))
+      ⊎ ((own ≡ 0) × TellsOf (λ told. told ≡ Build Write) (count err_after ≡ count answered) (held answered) (held err_after) status)

@@ -11,11 +11,10 @@
 //! `norprog_flash`, `norprog_hex`, `norprog_script` and `norprog_explain` do the work behind them.
 #![tactic(auto)]
 
-ghost use Rattle.std.specs.Prelude.{◌≡◌, ◌≢◌, ◌<◌, ◌≤◌, ◌-◌, ◌^◌, map, string_bytes, IfOk, IfErr};
-ghost use Rattle.nor_job.specs.declared.fault.BuildFault.TheVariants.{Write as write_fault};
-ghost use Rattle.norprog_common.specs.declared.faults.Refusal.TheVariants.{Build as of_build};
-ghost use Rattle.norprog_common.specs.Told.{TellsOf};
+ghost use Rattle.std.specs.Prelude.{◌≡◌, ◌<◌, ◌≤◌, ◌-◌, ◌^◌, [], map, string_bytes};
+ghost use Rattle.std.specs.Io.Buffered.{writer_buffer, writer_contents};
 ghost use Rattle.norprog_cli.specs.Answers.{AnswersTo, AnswersWords, AddsDetails, AddsLines};
+ghost use Rattle.norprog_cli.specs.Answers.{EndsCommand};
 
 use nor_base::{ByteOut, IntoWrite, Nowhere};
 use norprog_build::build;
@@ -35,7 +34,7 @@ use norprog_run::run;
 use norprog_script::script;
 use norprog_sfdp::sfdp;
 use std::alloc::Global;
-use std::io::{self, BufWriter, ErrorKind, IsTerminal, Write};
+use std::io::{BufWriter, ErrorKind, IsTerminal, Write};
 use std::process::ExitCode;
 
 /// Bytes of standard output that are gathered before they are written.
@@ -61,32 +60,41 @@ fn main_status<E: ByteOut + Drop>(rt: &HostRuntime, err: &mut Heard<E>) -> u8
     };
     let mut out = IntoWrite::new(gathered);
     let files = SystemFiles::new(rt);
-    let status = if rt.stderr().is_terminal() {
+    if rt.stderr().is_terminal() {
         let mut progress = IntoWrite::new(rt.stderr());
-        command(rt.alloc(), &files, words, &mut out, err, &mut progress)
+        command_flushed(rt.alloc(), &files, words, &mut out, err, &mut progress)
     } else {
-        command(rt.alloc(), &files, words, &mut out, err, &mut Nowhere)
-    };
-    let flushed = out.inner.flush();
-    ended(status, flushed, err)
+        command_flushed(rt.alloc(), &files, words, &mut out, err, &mut Nowhere)
+    }
 }
 
-/// The status of a command whose standard output was flushed: where all but that was done, it is
-/// reported, and the status is 1.
-fn ended<E: ByteOut>(status: u8, flushed: io::Result<()>, err: &mut E) -> u8
-    requires { status ≡ 0 → E.count err.old < 2 ^ 64 - 1 }
-    ensures done { IfOk flushed (λ _. (result ≡ status) × (err.new ≡ err.old)) }
-    ensures refused { status ≢ 0 → (result ≡ status) × (err.new ≡ err.old) }
-    ensures told { status ≡ 0 → IfErr flushed (λ _. TellsOf (λ told. told ≡ of_build write_fault)
-        (E.count err.new ≡ E.count err.old) (E.held err.old) (E.held err.new) result) }
+/// Runs a command as [`command`] does, and then has all go out that it wrote to `out`. Returns its
+/// status; 1 where it was done and that failed, which is reported.
+fn command_flushed<S: FileStore, W: Write + Drop, E: ByteOut + Drop, P: ByteOut>(
+    alloc: Global,
+    store: &S,
+    words: Vec<String>,
+    out: &mut IntoWrite<BufWriter<W>>,
+    err: &mut Heard<E>,
+    progress: &mut P,
+) -> u8
+    requires out { out.old.failed < 2 ^ 64 - 2 }
+    requires err { E.count err.old.out < 2 ^ 64 - 1 }
+    requires progress { P.count progress.old < 2 ^ 64 - 1 }
+    ensures ends { EndsCommand (λ heard. E.count heard.out) (λ heard. E.held heard.out)
+        (S.facts store.now) (map string_bytes words.items)
+        (writer_contents W.contents out.old.inner) (writer_contents W.contents out.new.inner)
+        err.old err.new result }
+    ensures out { result ≡ 0 → writer_buffer out.new.inner ≡ [] }
 {
-    match flushed {
+    let status = command(alloc, store, words, out, err, progress);
+    match out.inner.flush() {
         Err(_) if status == 0 => refuse(&Refusal::WRITE, err),
         _ => status,
     }
 }
 
-/// The words behind the program's name.
+/// The words after the program's name.
 fn words_of(rt: &HostRuntime) -> Result<Vec<String>, Refusal> {
     let words = match std::env::args(rt) {
         Ok(words) => words,
