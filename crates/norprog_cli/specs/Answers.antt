@@ -93,7 +93,7 @@ AnswersWords count held files words before after err_before err_after status =
 
 -- the same of a command after which all that it wrote was to go out: the status is the command's; or it was done, and what it wrote
 -- didn't go out, which is reported
-pub record EndsCommand (E : Type 0) (count : E → ℕ) (held : E → Option (List ℕ)) (files : FileFacts) (words : List (List ℕ))
+pub record IsEnd (E : Type 0) (count : E → ℕ) (held : E → Option (List ℕ)) (files : FileFacts) (words : List (List ℕ))
     (before after : Option (List ℕ)) (err_before err_after : E) (status : ℕ) : Type 0 where
   pub written : Option (List ℕ)
   pub answered : E
@@ -102,3 +102,6 @@ pub record EndsCommand (E : Type 0) (count : E → ℕ) (held : E → Option (Li
   pub kept : Keeps written after
   pub ends : ((status ≡ own) × (err_after ≡ answered))
       ⊎ ((own ≡ 0) × TellsOf (λ told. told ≡ Build Write) (count err_after ≡ count answered) (held answered) (held err_after) status)
+
+abbrev pub EndsCommand : {E : Type 0} → (E → ℕ) → (E → Option (List ℕ)) → FileFacts → List (List ℕ) → Option (List ℕ) → Option (List ℕ) → E → E → ℕ → Type 0
+EndsCommand count held files words before after err_before err_after status = IsEnd _ count held files words before after err_before err_after status

@@ -1,0 +1,34 @@
+-- The command's own status; or, where it was done and its last bytes weren't written, that.
+use Rattle.std.proofs.Common.{inl, inr, refl, rules}
+use Rattle.std.specs.Io.Buffered.{writer_contents}
+use Rattle.norprog_cli.proofs.command_flushed.Goals as goal
+
+pub returns-in-Err-clause-ends : goal.returns-in-Err-clause-ends
+returns-in-Err-clause-ends g c = record {
+  written = writer_contents g.W.Write.contents c.command-status.new.out.inner;
+  answered = c.command-status.new.err;
+  own = c.command-status.result;
+  answers = c.command-status.ensures.answer;
+  kept = c.flush.ensures.bytes;
+  ends = inr (search rules, search rules);
+}
+
+pub returns-in_default-clause-ends : goal.returns-in_default-clause-ends
+returns-in_default-clause-ends g c = record {
+  written = writer_contents g.W.Write.contents c.command-status.new.out.inner;
+  answered = c.command-status.new.err;
+  own = c.command-status.result;
+  answers = c.command-status.ensures.answer;
+  kept = c.flush.ensures.bytes;
+  ends = inl (refl, refl);
+}
+
+pub returns-in_default-2-clause-ends : goal.returns-in_default-2-clause-ends
+returns-in_default-2-clause-ends g c = record {
+  written = writer_contents g.W.Write.contents c.command-status.new.out.inner;
+  answered = c.command-status.new.err;
+  own = c.command-status.result;
+  answers = c.command-status.ensures.answer;
+  kept = c.flush.ensures.bytes;
+  ends = inl (refl, refl);
+}
