@@ -9,7 +9,7 @@ use Rattle.std.proofs.lemmas.Bool.{cases_lt}
 use Rattle.std.proofs.lemmas.Grind.{same_number_lists}
 use Rattle.std.proofs.lemmas.List.{take-append-le}
 use Rattle.std.proofs.lemmas.List.FromFn.{length-map-range_with_len, get_or-map-range_with_len}
-use Rattle.nor_base.specs.Device.{Ahead, Unknown, Finite, Endless, Gives, past, first_of, Cuts, Writes}
+use Rattle.nor_base.specs.Device.{Ahead, Unknown, Finite, Endless, Gives, first_of, Cuts, Writes}
 
 pub Appends-append : (a b c : Option (List ℕ)) (xs ys : List ℕ) → Appends a b xs → Appends b c ys → Appends a c (xs ++ ys)
 Appends-append None b c xs ys p q = tt
@@ -61,7 +61,7 @@ Cuts-at f parts d i a b c fits p q =
 
 -- the bytes of the second part are those past the first
 past_the_first : (f g : ℕ → ℕ) (xs ys : List ℕ) (k : ℕ) → length xs ≤ k → k < length (xs ++ ys)
-    → ((j : ℕ) → g j ≡ past (length xs) f j) → ((j : ℕ) → j < length ys → slice_index ys j ≡ g j) → slice_index (xs ++ ys) k ≡ f k
+    → ((j : ℕ) → g j ≡ f (length xs + j)) → ((j : ℕ) → j < length ys → slice_index ys j ≡ g j) → slice_index (xs ++ ys) k ≡ f k
 past_the_first f g xs ys k far fits moved given =
     let within : k - length xs < length ys = omega (arith, length-append xs ys) in
     let whole : length xs + (k - length xs) ≡ k = omega arith in

@@ -2,6 +2,7 @@ pub mod UniformAccepted
 mod TransferLemmas
 mod KindLemmas
 pub mod DeviceLaws
+pub mod SymbolLaws
 pub mod SampledLaws
 pub mod RegionLaws
 pub mod ArrayLaws

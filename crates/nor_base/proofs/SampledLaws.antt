@@ -14,6 +14,7 @@ use Rattle.nor_base.specs.Parameters.{Parameters}
 use Rattle.nor_base.specs.Instructions.{Form, nothing, sends, sends4, samples, samples4, form_of, Row, row_of}
 use Rattle.nor_base.specs.Decoding.{has_lanes, is_bit_sent, is_nibble_sent, is_bit_sampled, is_nibble_sampled, is_idle, are_groups, is_data, address_clocks, dummy_clocks, data_clocks, is_form, Transaction, broken, by_row, has_opcode, opcode, number, transaction, bytes_asked, Instruction, instruction, decode}
 use Rattle.nor_base.specs.Effect.{is_broken}
+use Rattle.nor_base.proofs.SymbolLaws.{by_clock}
 
 found_step : (byte : ℕ) (first : Clock) (rest : List Clock) (c : Clock) (b : Bool) → (symbol first == byte) ≡ b
     → (find (λ clock. symbol clock == byte) rest ≡ Some c → (symbol c == byte) ≡ true)
@@ -43,7 +44,9 @@ clock_known driven sampled byte (Some c) is h = record {
 }
 
 has_clock : (driven sampled byte : ℕ) → has_lanes driven sampled byte ≡ true → HasClock driven sampled byte
-has_clock driven sampled byte h = clock_known driven sampled byte (clock_at byte) refl h
+has_clock driven sampled byte h =
+    clock_known driven sampled byte (clock_at byte) refl
+      (subst (λ o. option_map_or (λ (s : Sample). (s.driven == driven) && (s.sampled == sampled)) o false ≡ true) (by_clock byte) h)
 
 -- whether a symbol is `.`, and whether it is `=`
 abbrev is_dot : ℕ → Bool

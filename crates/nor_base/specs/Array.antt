@@ -1,6 +1,11 @@
 -- A chip's array: a list of bytes, by their addresses from 0 on.
-use Rattle.std.specs.Prelude.{◌⊎◌, ℕ, Bool, ◌<◌, ◌≤◌, nat_lt, List, map}
+use Rattle.std.specs.Prelude.{◌⊎◌, ℕ, Bool, ◌<◌, ◌≤◌, nat_lt, true, false, List, [], ◌∷◌, map}
 use Rattle.std.specs.List.{list_all, list_any, enumerate_from}
+
+-- a list has some elements
+abbrev pub is_filled : {A : Type 0} → List A → Bool
+is_filled [] = false
+is_filled (x ∷ xs) = true
 
 -- numbers below 256
 abbrev pub are_bytes : List ℕ → Bool

@@ -5,7 +5,7 @@ use Rattle.std.specs.Prelude.{◌≡◌, ◌≢◌, ℕ, zero, suc, Bool, true, 
 use Rattle.std.specs.List.{list_any}
 use Rattle.nor_base.specs.declared.meaning.Start.{Start}
 use Rattle.nor_base.specs.declared.meaning.Width.{Width}
-use Rattle.nor_base.specs.declared.meaning.Width.TheVariants.{Three, Both, Four}
+use Rattle.nor_base.specs.declared.meaning.Width.TheVariants.{Three, Four}
 use Rattle.nor_base.specs.Parameters.{Parameters}
 
 -- what is fixed with a chip
@@ -54,9 +54,8 @@ pub record Chip : Type 0 where
   pub to_come : List ℕ
 
 abbrev pub always_four : Width → Bool
-always_four Three = false
-always_four Both = false
 always_four Four = true
+always_four other = false
 
 -- a chip of this meaning and start begins in four-byte mode: the start says so, or it has no other
 abbrev pub begins4 : Parameters → Start → Bool
@@ -75,7 +74,7 @@ IsWhole s c = length c.array ≡ s.meaning.size
 
 -- with this content, before any transaction
 abbrev pub ready : Setting → List ℕ → Chip
-ready s content = resting (first_mode4 s) content s.busy
+ready s content = record { array = content; latch = false; mode4 = first_mode4 s; left = 0; to_come = s.busy }
 
 -- some status reads are left
 abbrev pub is_busy : ℕ → Bool

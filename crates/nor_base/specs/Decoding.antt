@@ -32,16 +32,13 @@ is_nibble_sampled = has_lanes 0 all_lanes
 unfoldable pub is_idle : ℕ → Bool
 is_idle = has_lanes 0 0
 
--- the lanes that a clock drives high, as a mask
-abbrev pub level_at : ℕ → ℕ
-level_at symbol = option_map_or (λ sample. sample.level) (sample_at symbol) 0
+-- the lanes that a clock drives high, as a mask: the levels of all four as a number
+abbrev pub nibble : ℕ → ℕ
+nibble symbol = option_map_or (λ sample. sample.level) (sample_at symbol) 0
 
--- the level of IO0, and of all four lanes as a number
+-- the level of IO0
 unfoldable pub bit : ℕ → ℕ
-bit symbol = level_at symbol % 2
-
-unfoldable pub nibble : ℕ → ℕ
-nibble symbol = level_at symbol
+bit symbol = nibble symbol % 2
 
 -- the number that bits stand for, each by its weight, the first the highest
 abbrev pub number : List ℕ → ℕ
@@ -118,19 +115,15 @@ transaction m mode4 clocks =
 
 -- the bytes that data clocks send
 abbrev pub bytes_sent : Form → List ℕ → List ℕ
-bytes_sent nothing body = []
 bytes_sent sends body = bytes_of_bits body
 bytes_sent sends4 body = bytes_of_nibbles body
-bytes_sent samples body = []
-bytes_sent samples4 body = []
+bytes_sent other body = []
 
 -- how many bytes data clocks sample
 abbrev pub bytes_asked : Form → List ℕ → ℕ
-bytes_asked nothing body = 0
-bytes_asked sends body = 0
-bytes_asked sends4 body = 0
 bytes_asked samples body = length body / 8
 bytes_asked samples4 body = length body / 2
+bytes_asked other body = 0
 
 -- an instruction as the chip sees it
 pub record Instruction : Type 0 where

@@ -10,20 +10,13 @@ pub data Ahead : Type 0 where
   Finite : List ℕ → Ahead
   Endless : (ℕ → ℕ) → Ahead
 
--- the bytes of an endless reader from a place on
-abbrev pub past : ℕ → (ℕ → ℕ) → ℕ → ℕ
-past n byte_at k = byte_at (n + k)
-
 -- a reader that had one thing ahead gave these bytes, and has the other ahead now
 abbrev pub Gives : Ahead → List ℕ → Ahead → Type 0
 Gives Unknown bytes after = ⊤
 Gives (Finite before) bytes (Finite after) = before ≡ bytes ++ after
-Gives (Finite before) bytes Unknown = ⊥
-Gives (Finite before) bytes (Endless after) = ⊥
 Gives (Endless before) bytes (Endless after) =
-    ((k : ℕ) → k < length bytes → slice_index bytes k ≡ before k) × ((k : ℕ) → after k ≡ past (length bytes) before k)
-Gives (Endless before) bytes Unknown = ⊥
-Gives (Endless before) bytes (Finite after) = ⊥
+    ((k : ℕ) → k < length bytes → slice_index bytes k ≡ before k) × ((k : ℕ) → after k ≡ before (length bytes + k))
+Gives before bytes after = ⊥
 
 -- as far as the reader tells, nothing is ahead
 abbrev pub IsAtEnd : Ahead → Type 0

@@ -4,7 +4,7 @@
 use Rattle.std.specs.Prelude.{ℕ, zero, suc, pred, Bool, true, false, ◌+◌, ◌-◌, ◌%◌, ◌==◌, nat_le, nat_lt, not, ◌&&◌, ◌||◌, if◌then◌else◌, List, [], length, replicate, Option, Some, None, Result, Ok, Err, slice_index, slice_range, bit_and, drop}
 use Rattle.std.specs.Option.{option_map_or}
 use Rattle.nor_base.specs.declared.meaning.Switch.{Switch}
-use Rattle.nor_base.specs.declared.meaning.Switch.TheVariants.{Absent, Plain, Latched}
+use Rattle.nor_base.specs.declared.meaning.Switch.TheVariants.{Latched}
 use Rattle.nor_base.specs.declared.instruction.What.{What}
 use Rattle.nor_base.specs.declared.instruction.What.TheVariants as what
 use Rattle.nor_base.specs.declared.wrong.Wrong.{Wrong}
@@ -40,26 +40,19 @@ is_read other = false
 
 abbrev pub has_address : What → Bool
 has_address (what.Erase kind) = true
-has_address what.Program = true
-has_address what.QuadProgram = true
-has_address what.Read = true
-has_address what.QuadRead = true
-has_address other = false
+has_address other = is_program other || is_read other
 
 -- a change of mode that is taken only after a write enable
 abbrev pub is_latched : Switch → Bool
 is_latched Latched = true
-is_latched Absent = false
-is_latched Plain = false
+is_latched other = false
 
 -- the chip takes it only with the latch set
 abbrev pub needs_latch : Parameters → What → Bool
 needs_latch m (what.Erase kind) = true
-needs_latch m what.Program = true
-needs_latch m what.QuadProgram = true
 needs_latch m what.Enter = is_latched m.enter
 needs_latch m what.Leave = is_latched m.leave
-needs_latch m other = false
+needs_latch m other = is_program other
 
 -- an erase from an address where no legal block of its kind starts
 abbrev pub starts_no_block : Parameters → What → ℕ → Bool
@@ -113,14 +106,8 @@ unfoldable pub erased : ℕ → ℕ → List ℕ → List ℕ
 erased start size array = each (λ x old. if nat_le start x && nat_lt x (start + size) then 255 else old) array
 
 -- the chip after a program or an erase: latch clear, busy for the next of the busy times, 0 past their end
-abbrev pub accepting : Setting → Chip → List ℕ → Chip
-accepting s c array = record {
-  array = array;
-  latch = false;
-  mode4 = c.mode4;
-  left = slice_index c.to_come 0;
-  to_come = drop 1 c.to_come;
-}
+abbrev pub accepting : Chip → List ℕ → Chip
+accepting c array = record c { array = array; latch = false; left = slice_index c.to_come 0; to_come = drop 1 c.to_come }
 
 -- the chip after a change of the address mode: a set latch stays where the chip keeps it
 abbrev pub switching : Setting → Chip → Bool → Chip
@@ -133,12 +120,10 @@ after s c i what.Disable = record c { latch = false }
 after s c i what.Status = record c { left = pred c.left }
 after s c i what.Enter = switching s c true
 after s c i what.Leave = switching s c false
-after s c i (what.Erase kind) = accepting s c (erased i.address (block_size s.meaning kind) c.array)
-after s c i what.Program = accepting s c (programmed s.page i.address i.sent c.array)
-after s c i what.QuadProgram = accepting s c (programmed s.page i.address i.sent c.array)
-after s c i what.Read = c
-after s c i what.QuadRead = c
-after s c i what.Broken = c
+after s c i (what.Erase kind) = accepting c (erased i.address (block_size s.meaning kind) c.array)
+after s c i what.Program = accepting c (programmed s.page i.address i.sent c.array)
+after s c i what.QuadProgram = accepting c (programmed s.page i.address i.sent c.array)
+after s c i other = c
 
 -- the status byte: 03h while busy, else 02h with the latch set, else 00h
 abbrev pub status : Chip → ℕ

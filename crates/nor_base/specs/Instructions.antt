@@ -1,12 +1,12 @@
 -- The instruction table: which opcodes a chip of these parameters knows, how many address bytes and dummy clocks
 -- follow, and what the data clocks are (W25Q256JV datasheet, "Instruction Set Table"; JESD216B for the erase kinds, the
 -- 1-1-4 fast read and the four-byte address instructions).
-use Rattle.std.specs.Prelude.{◌≡◌, ℕ, Bool, true, false, ◌&&◌, ◌==◌, if◌then◌else◌, List, [], ◌∷◌, ◌++◌, Option, is_some, option_and_then, Contains, find}
+use Rattle.std.specs.Prelude.{◌≡◌, ℕ, Bool, true, false, ◌&&◌, ◌==◌, if◌then◌else◌, List, [], ◌∷◌, ◌++◌, flat_map, Option, is_some, option_and_then, Contains, find}
 use Rattle.std.specs.Option.{option_map_or}
 use Rattle.nor_base.specs.declared.instruction.What.{What}
 use Rattle.nor_base.specs.declared.instruction.What.TheVariants.{Enable, Disable, Status, Enter, Leave, Erase, Program, QuadProgram, Read, QuadRead, Broken}
 use Rattle.nor_base.specs.declared.meaning.Switch.{Switch}
-use Rattle.nor_base.specs.declared.meaning.Switch.TheVariants.{Absent, Plain, Latched}
+use Rattle.nor_base.specs.declared.meaning.Switch.TheVariants.{Absent}
 use Rattle.nor_base.specs.Parameters.{Parameters, erase_kind, is_live}
 
 -- what the clocks after address and dummies do
@@ -21,17 +21,12 @@ pub data Form : Type 0 where
   samples4 : Form
 
 abbrev pub form_of : What → Form
-form_of Enable = nothing
-form_of Disable = nothing
 form_of Status = samples
-form_of Enter = nothing
-form_of Leave = nothing
-form_of (Erase kind) = nothing
 form_of Program = sends
 form_of QuadProgram = sends4
 form_of Read = samples
 form_of QuadRead = samples4
-form_of Broken = nothing
+form_of other = nothing
 
 -- a row of the instruction table
 pub record Row : Type 0 where
@@ -53,8 +48,7 @@ by_mode mode4 = if mode4 then 4 else 3
 
 abbrev pub is_there : Switch → Bool
 is_there Absent = false
-is_there Plain = true
-is_there Latched = true
+is_there other = true
 
 abbrev pub quad_read_dummies : Parameters → ℕ
 quad_read_dummies m = option_map_or (λ q. q.dummies) m.quad_read 0
@@ -94,9 +88,7 @@ erase_rows m mode4 kind =
 
 -- the instructions whose opcode is a chip's own
 abbrev pub own_rows : Parameters → Bool → List Row
-own_rows m mode4 =
-    quad_read_row m mode4
-    ∷ (erase_rows m mode4 1 ++ (erase_rows m mode4 2 ++ (erase_rows m mode4 3 ++ erase_rows m mode4 4)))
+own_rows m mode4 = quad_read_row m mode4 ∷ flat_map (erase_rows m mode4) (1 ∷ 2 ∷ 3 ∷ 4 ∷ [])
 
 -- the whole table, in an address mode
 abbrev pub table : Parameters → Bool → List Row

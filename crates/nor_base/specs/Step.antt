@@ -3,13 +3,8 @@ use Rattle.std.specs.Prelude.{◌≡◌, ℕ, Bool, false, true, ◌&&◌, List,
 use Rattle.std.specs.List.{list_all}
 use Rattle.nor_base.specs.declared.step.Step.{Step}
 use Rattle.nor_base.specs.declared.step.Step.TheVariants.{Send, Poll, Verify}
-use Rattle.nor_base.specs.Array.{are_bytes}
+use Rattle.nor_base.specs.Array.{is_filled, are_bytes}
 use Rattle.nor_base.specs.Sample.{is_symbol}
-
--- there are some
-abbrev pub is_filled : List ℕ → Bool
-is_filled [] = false
-is_filled (x ∷ xs) = true
 
 -- symbols, and not none
 abbrev pub are_clocks : List ℕ → Bool
@@ -29,9 +24,8 @@ step_clocks (Verify clocks expect) = clocks
 
 -- the bytes that a step expects
 abbrev pub expected : Step → List ℕ
-expected (Send clocks) = []
-expected (Poll clocks) = []
 expected (Verify clocks expect) = expect
+expected other = []
 
 -- a step that reads
 abbrev pub verifies : Step → Bool

@@ -66,5 +66,12 @@ fn are_symbols(clocks: &[u8]) -> bool
 fn all_symbols(clocks: &[u8]) -> bool
     ensures { result ≡ list_all is_symbol clocks.now }
 {
-    clocks.iter().all(|symbol| clock_of(*symbol).is_some())
+    clocks.iter().all(|symbol| is_known(*symbol))
+}
+
+#[tactic(auto, using(crate::proofs::SymbolLaws::known_by_clock))]
+fn is_known(symbol: u8) -> bool
+    ensures { result ≡ is_symbol symbol }
+{
+    clock_of(symbol).is_some()
 }

@@ -101,7 +101,7 @@ effect_same m start q address asked bytes c what.Program some other divides fits
         else if needs_latch m what.Program && not c.latch then Err wrong.Ignored
         else if is_out_of_range m (record { what = what.Program; address = address; sent = bytes; asked = asked }) then Err wrong.OutOfRange
         else if b then Err (barred m)
-        else Ok (accepting (with_page m start q) c array, [])
+        else Ok (accepting c array, [])
 effect_same m start q address asked bytes c what.QuadProgram some other divides fits =
     let near : address % m.page + length bytes ≤ m.page = leb-true (address % m.page + length bytes) m.page (not-false _ fits) in
     ap (λ b. programs q b (programmed q address bytes c.array)) (barred_same m.page q address bytes some other divides near m c.array)
@@ -114,7 +114,7 @@ effect_same m start q address asked bytes c what.QuadProgram some other divides 
         else if needs_latch m what.QuadProgram && not c.latch then Err wrong.Ignored
         else if is_out_of_range m (record { what = what.QuadProgram; address = address; sent = bytes; asked = asked }) then Err wrong.OutOfRange
         else if b then Err (barred m)
-        else Ok (accepting (with_page m start q) c array, [])
+        else Ok (accepting c array, [])
 effect_same m start q address asked bytes c other_what some other divides fits = refl
 
 -- the chips of a kind, with another page

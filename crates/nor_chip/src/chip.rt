@@ -219,7 +219,7 @@ impl<'a> Chip<'a> {
     fn erase(&mut self, kind: u8, start: u32)
         requires { is_legal_block self.old.setting.meaning kind start ≡ true }
         ensures chip { self.new.chip
-            ≡ accepting self.old.setting self.old.chip
+            ≡ accepting self.old.chip
             (erased start (block_size self.old.setting.meaning kind) self.old.chip.array) }
         ensures stays { self.new.setting ≡ self.old.setting }
     {
@@ -235,7 +235,7 @@ impl<'a> Chip<'a> {
         requires program { is_program seen.now.what ≡ true }
         requires inside { seen.now.address < length self.old.chip.array }
         ensures chip { self.new.chip
-            ≡ accepting self.old.setting self.old.chip
+            ≡ accepting self.old.chip
             (programmed self.old.setting.page seen.now.address (sent seen.now)
             self.old.chip.array) }
         ensures stays { self.new.setting ≡ self.old.setting }
@@ -248,7 +248,7 @@ impl<'a> Chip<'a> {
 
     /// The latch is clear, and the chip is busy for the next of its busy times.
     fn accept(&mut self)
-        ensures chip { self.new.chip ≡ accepting self.old.setting self.old.chip
+        ensures chip { self.new.chip ≡ accepting self.old.chip
             self.old.chip.array }
         ensures stays { self.new.setting ≡ self.old.setting }
     {

@@ -5,7 +5,7 @@
 ghost use Rattle.std.specs.Prelude.{◌≡◌, ◌||◌, ◌<◌, ◌≤◌, ◌^◌, length};
 ghost use Rattle.std.specs.List.{list_all};
 ghost use Rattle.nor_base.specs.Decoding.{is_bit_sent, is_nibble_sent, is_bit_sampled};
-ghost use Rattle.nor_base.specs.Decoding.{is_nibble_sampled, is_idle, level_at, bit, number};
+ghost use Rattle.nor_base.specs.Decoding.{is_nibble_sampled, is_idle, nibble, bit, number};
 ghost use Rattle.nor_base.specs.Run.{samples_some, is_verify};
 
 use std::simd::prelude::*;
@@ -133,7 +133,7 @@ fn is_idle(symbol: u8) -> bool
 
 /// The lanes that a clock drives high, as a mask: of a nibble its value.
 pub(crate) fn level(symbol: u8) -> u8
-    ensures level { result ≡ level_at symbol }
+    ensures level { result ≡ nibble symbol }
     ensures lanes { result < 16 }
 {
     match symbol {

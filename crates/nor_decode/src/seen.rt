@@ -54,7 +54,6 @@ fn byte_of_bits(clocks: &[u8], i: usize) -> u8
 }
 
 /// The byte `i` that nibbles send, two clocks for a byte, the high nibble first.
-#[tactic(auto, unfolding(nor_base::specs::Decoding::nibble))]
 fn byte_of_nibbles(clocks: &[u8], i: usize) -> u8
     requires { i < length clocks.now / 2 }
     ensures { result ≡ slice_index (bytes_of_nibbles clocks.now) i }

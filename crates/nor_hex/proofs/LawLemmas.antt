@@ -6,7 +6,7 @@ use Rattle.std.proofs.lemmas.Bool.{eqb-true, eq-eqb, le-leb, le-ltb, ltb-false}
 use Rattle.hex.specs.Hex.{is_hex_digit}
 use Rattle.nor_hex.specs.declared.fault.HexFault.{HexFault}
 use Rattle.nor_hex.specs.declared.fault.HexFault.TheVariants.{NoColon, BadDigit, BadLength, BadSum, BadType}
-use Rattle.nor_hex.specs.Record.{Record, IsRecord, pair_bytes, record_of, fields, has_colon, has_length, has_sum, fits_type, length_field, type_field, data_field}
+use Rattle.nor_hex.specs.Record.{Record, IsRecord, pair_bytes, record_of, fields, has_length, has_sum, fits_type, length_field, type_field, data_field}
 use Rattle.nor_hex.proofs.PairLemmas.{length-pair_bytes}
 use Rattle.nor_hex.proofs.PutLemmas.{take-append_here}
 use Rattle.nor_hex.proofs.RecordLemmas.{at_record, length-complete, fits-complete, length-data}
@@ -92,7 +92,7 @@ last_passed true own other this e = absurd (apart e)
 ok_same : (a b : Record) → item_of a ≡ item_of b → a ≡ b
 ok_same a b e = cc
 
-colon_first : (line : List ℕ) → has_colon line ≡ true → line ≡ 58 ∷ drop 1 line
+colon_first : (line : List ℕ) → (slice_index line 0 == 58) ≡ true → line ≡ 58 ∷ drop 1 line
 colon_first [] e = absurd cc
 colon_first (byte ∷ rest) e = ap (λ b. b ∷ rest) (eqb-true byte 58 e)
 

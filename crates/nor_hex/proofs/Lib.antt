@@ -7,7 +7,7 @@ mod ViewLemmas
 mod ImageLemmas
 mod RecordLemmas
 mod StepLemmas
-mod PutLemmas
+pub mod PutLemmas
 mod FaultLemmas
 mod AcceptLemmas
 mod LawLemmas

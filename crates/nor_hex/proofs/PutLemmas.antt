@@ -4,8 +4,10 @@ use Rattle.std.proofs.Common.{◌≡◌, ◌⊎◌, inl, inr, ℕ, suc, ◌≤�
 use Rattle.std.specs.List.{list_any, find}
 use Rattle.std.proofs.lemmas.List.{reverse-append}
 use Rattle.nor_hex.proofs.ListLemmas.{get-left}
+use Rattle.std.specs.Option.{option_map_or}
+use Rattle.nor_hex.specs.declared.base.Base.TheVariants.{Linear}
 use Rattle.nor_hex.specs.Record.{Record}
-use Rattle.nor_hex.specs.Image.{Lays, Puts, base_after, base_or_linear, is_base}
+use Rattle.nor_hex.specs.Image.{Lays, Puts, base_in, base_after, is_base}
 use Rattle.nor_hex.specs.Steps.{base_past}
 
 -- ---- an element and what stands before it
@@ -65,9 +67,9 @@ puts_split records last address byte puts = by (get-snoc records last puts.place
 
 -- the base after one more record
 pub base_after-last : (records : List Record) (last : Record) → base_past (base_after records) last ≡ base_after (records ++ last ∷ [])
-base_after-last records last = by (is_base last) refl ∙ ap (λ back. base_or_linear (find is_base back)) (sym (reverse-append records (last ∷ [])))
+base_after-last records last = by (is_base last) refl ∙ ap (λ back. option_map_or base_in (find is_base back) (Linear 0)) (sym (reverse-append records (last ∷ [])))
   where
-    by : (b : Bool) → is_base last ≡ b → base_past (base_after records) last ≡ base_or_linear (find is_base (last ∷ reverse records))
+    by : (b : Bool) → is_base last ≡ b → base_past (base_after records) last ≡ option_map_or base_in (find is_base (last ∷ reverse records)) (Linear 0)
     by true e = rw e refl
     by false e = rw e refl
 

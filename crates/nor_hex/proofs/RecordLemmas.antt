@@ -6,13 +6,22 @@ use Rattle.std.proofs.Math.ListN.{length-take, length-drop}
 use Rattle.std.proofs.lemmas.Bool.{eqb-true}
 use Rattle.hex.specs.Hex.{is_hex_digit}
 use Rattle.nor_hex.specs.declared.fault.HexFault.TheVariants.{NoColon, BadDigit, BadLength, BadSum, BadType}
-use Rattle.nor_hex.specs.Record.{digit, pair_bytes, record_of, fields, has_colon, has_length, has_sum, fits_type, length_field, type_field, data_field}
+use Rattle.std.specs.Prelude.{slice_index, ◌==◌}
+use Rattle.nor_hex.specs.Record.{digit, pair_bytes, record_of, fields, has_length, has_sum, fits_type, length_field, type_field, data_field}
 use Rattle.nor_hex.proofs.PairLemmas.{both, length-pair_bytes}
 
 -- the record or its fault, cause by cause
-pub at_no_colon : (n : ℕ) (line : List ℕ) → has_colon line ≡ false → Err (NoColon n) ≡ record_of n line
+abbrev pub begins : List ℕ → Bool
+begins [] = false
+begins (byte ∷ rest) = byte == 58
+
+begins_first : (line : List ℕ) → (slice_index line 0 == 58) ≡ begins line
+begins_first [] = refl
+begins_first (byte ∷ rest) = refl
+
+pub at_no_colon : (n : ℕ) (line : List ℕ) → begins line ≡ false → Err (NoColon n) ≡ record_of n line
 unfolding record_of
-at_no_colon n line e = rw e refl
+at_no_colon n line e = let first : (slice_index line 0 == 58) ≡ false = begins_first line ∙ e in rw first refl
 
 pub at_bad_digit : (n : ℕ) (line digits : List ℕ) → line ≡ 58 ∷ digits → list_all is_hex_digit digits ≡ false → Err (BadDigit n) ≡ record_of n line
 unfolding record_of

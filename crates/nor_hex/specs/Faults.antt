@@ -13,10 +13,6 @@ use Rattle.nor_hex.specs.Image.{Puts, Pairs, addresses, byte_at}
 abbrev pub is_end : Record → Bool
 is_end line = line.kind == 1
 
--- no address is given two different bytes
-abbrev pub IsConsistent : List Record → Type 0
-IsConsistent records = (address a b : ℕ) → Puts records address a → Puts records address b → a ≡ b
-
 -- some address is given two different bytes
 pub record HasConflict (records : List Record) : Type 0 where
   pub address : ℕ
@@ -30,7 +26,7 @@ pub record HasConflict (records : List Record) : Type 0 where
 -- that there is an end record is said where a whole text is accepted
 pub record IsFaultless (records : List Record) : Type 0 where
   pub end_is_last : list_any is_end (take (length records - 1) records) ≡ false
-  pub consistent : IsConsistent records
+  pub consistent : (address a b : ℕ) → Puts records address a → Puts records address b → a ≡ b
 
 -- the text has these records: each line that isn't blank is one, the end record is there once and last, and no address is given two different bytes
 pub record IsAccepted (text : List ℕ) (records : List Record) : Type 0 where

@@ -2,6 +2,7 @@
 -- Intel's "Hexadecimal Object File Format Specification", revision A, "Extended Linear Address Record", "Extended Segment Address Record" and "Data Record". That the linear address 0 is the base before any such record is our own rule.
 use Rattle.std.specs.Prelude.{◌≡◌, ℕ, ◌+◌, ◌<◌, ◌≤◌, ◌*◌, ◌%◌, ◌^◌, ◌==◌, ◌||◌, nat_eq, Bool, if◌then◌else◌, List, length, map, reverse, take, slice_get, slice_index, Option, Some, None}
 use Rattle.std.specs.List.{find}
+use Rattle.std.specs.Option.{option_map_or}
 use Rattle.std.specs.Map.{lookup}
 use Rattle.nor_hex.specs.declared.base.Base.{Base}
 use Rattle.nor_hex.specs.declared.base.Base.TheVariants.{Linear, Segment}
@@ -17,13 +18,9 @@ base_in line =
     let address = slice_index line.bytes 0 * 256 + slice_index line.bytes 1 in
     if line.kind == 2 then Segment address else Linear address
 
-abbrev pub base_or_linear : Option Record → Base
-base_or_linear None = Linear 0
-base_or_linear (Some line) = base_in line
-
 -- the base that rules after some records: that of the last such record, and the linear address 0 where there is none
 abbrev pub base_after : List Record → Base
-base_after earlier = base_or_linear (find is_base (reverse earlier))
+base_after earlier = option_map_or base_in (find is_base (reverse earlier)) (Linear 0)
 
 -- where the data byte at this offset from a base lies: a segment wraps at 64 KiB, and linear addresses at 2^32
 abbrev pub address_of : Base → ℕ → ℕ

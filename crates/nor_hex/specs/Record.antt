@@ -1,6 +1,6 @@
 -- A record of Intel HEX: a colon, and as pairs of hexadecimal digits the record length, the load offset, the record type, the data and the checksum.
 -- Intel's "Hexadecimal Object File Format Specification", revision A, "General Record Format", and for the lengths the sections of the six record types. The order of the causes is our own.
-use Rattle.std.specs.Prelude.{◌≡◌, ℕ, ◌+◌, ◌*◌, ◌/◌, ◌%◌, ◌≤◌, ◌++◌, ◌==◌, ◌&&◌, nat_le, nat_lt, not, Bool, true, false, if◌then◌else◌, List, [], ◌∷◌, length, take, drop, slice_index, Result, Ok, Err, IsTrue, sum}
+use Rattle.std.specs.Prelude.{◌≡◌, ℕ, ◌+◌, ◌*◌, ◌/◌, ◌%◌, ◌≤◌, ◌++◌, ◌==◌, ◌&&◌, ◌||◌, nat_le, nat_lt, not, Bool, true, false, if◌then◌else◌, List, [], ◌∷◌, length, take, drop, slice_index, Result, Ok, Err, IsTrue, sum}
 use Rattle.std.specs.List.{list_all}
 use Rattle.std.specs.Option.{unwrap_or}
 use Rattle.hex.specs.Hex.{hex_digit_value, is_hex_digit}
@@ -23,27 +23,17 @@ abbrev pub pair_bytes : List ℕ → List ℕ
 pair_bytes (high ∷ low ∷ rest) = (digit high * 16 + digit low) ∷ pair_bytes rest
 pair_bytes fewer = []
 
--- the line begins with a colon
-abbrev pub has_colon : List ℕ → Bool
-has_colon [] = false
-has_colon (byte ∷ rest) = byte == 58
-
 -- a record length is right for a record type: data of any length; no data in an end record; a segment or a linear address of two bytes, and a start address of four
 abbrev pub fits_type : ℕ → ℕ → Bool
 fits_type kind len =
     if kind == 1 then len == 0
-    else if kind == 2 then len == 2
-    else if kind == 3 then len == 4
-    else if kind == 4 then len == 2
-    else if kind == 5 then len == 4
+    else if (kind == 2) || (kind == 4) then len == 2
+    else if (kind == 3) || (kind == 5) then len == 4
     else true
 
 -- the fields, by the bytes of the record
 abbrev pub length_field : List ℕ → ℕ
 length_field bytes = slice_index bytes 0
-
-abbrev pub offset_field : List ℕ → ℕ
-offset_field bytes = slice_index bytes 1 * 256 + slice_index bytes 2
 
 abbrev pub type_field : List ℕ → ℕ
 type_field bytes = slice_index bytes 3
@@ -63,12 +53,12 @@ has_sum digits = sum (pair_bytes digits) % 256 == 0
 
 -- the record of digits that have the right length, sum and type
 abbrev pub fields : ℕ → List ℕ → Record
-fields n bytes = record { kind = type_field bytes; offset = offset_field bytes; bytes = data_field bytes; line = n }
+fields n bytes = record { kind = type_field bytes; offset = slice_index bytes 1 * 256 + slice_index bytes 2; bytes = data_field bytes; line = n }
 
 -- the record that a trimmed line is, or the first cause for which it is none
 unfoldable pub record_of : ℕ → List ℕ → Result Record HexFault
 record_of n line =
-    if not (has_colon line) then Err (NoColon n)
+    if not (slice_index line 0 == 58) then Err (NoColon n)
     else if not (list_all is_hex_digit (drop 1 line)) then Err (BadDigit n)
     else if not (has_length (drop 1 line)) then Err (BadLength n)
     else if not (has_sum (drop 1 line)) then Err (BadSum n)

@@ -5,7 +5,7 @@ ghost use Rattle.std.specs.Prelude.{drop, slice_index};
 ghost use Rattle.std.specs.List.{list_all};
 ghost use Rattle.hex.specs.Hex.{is_hex_digit};
 ghost use Rattle.nor_hex.specs.Record.{record_of, pair_bytes, has_length, fits_type, length_field};
-ghost use Rattle.nor_hex.specs.Record.{offset_field, data_field};
+ghost use Rattle.nor_hex.specs.Record.{data_field};
 
 use crate::digits::{are_digits, decode, pair};
 use crate::fault::HexFault;
@@ -96,7 +96,8 @@ pub(crate) fn record_in<'a>(
 fn offset_in(digits: &[u8]) -> u16
     requires digits { IsTrue (list_all is_hex_digit digits.now) }
     requires length { 10 ≤ length digits.now }
-    ensures { result ≡ offset_field (pair_bytes digits.now) }
+    ensures { result ≡ slice_index (pair_bytes digits.now) 1 * 256
+        + slice_index (pair_bytes digits.now) 2 }
 {
     u16::from(pair(digits, 1)) * 256 + u16::from(pair(digits, 2))
 }

@@ -1,12 +1,12 @@
 -- What records in a row lay, each where the base rules that those before it leave.
-use Rattle.std.proofs.Common.{◌≡◌, ◌⊎◌, inl, inr, ℕ, zero, suc, ◌+◌, ◌-◌, ◌*◌, ◌/◌, ◌%◌, ◌<◌, ◌≤◌, ◌^◌, Bool, true, false, List, [], ◌∷◌, ◌++◌, reverse, length, take, drop, map, slice_get, Some, refl, sym, ap, subst, ◌∙◌, append_assoc, append-nil, arith}
-use Rattle.std.specs.List.{find, range_with_len}
+use Rattle.std.proofs.Common.{◌≡◌, ◌⊎◌, inl, inr, ℕ, zero, suc, ◌+◌, ◌-◌, ◌*◌, ◌/◌, ◌%◌, ◌<◌, ◌≤◌, ◌^◌, Bool, true, false, List, [], ◌∷◌, ◌++◌, length, take, drop, map, slice_get, Some, refl, sym, ap, subst, ◌∙◌, append_assoc, append-nil, arith}
+use Rattle.std.specs.List.{range_with_len}
 use Rattle.std.proofs.lemmas.Bool.{cases_lt}
-use Rattle.std.proofs.lemmas.List.{reverse-append}
 use Rattle.std.proofs.lemmas.Option.{slice_get_within}
 use Rattle.nor_hex.specs.Record.{Record}
-use Rattle.nor_hex.specs.Image.{Lays, Puts, base_after, base_or_linear, is_base, address_of}
+use Rattle.nor_hex.specs.Image.{Lays, Puts, base_after, address_of}
 use Rattle.nor_hex.specs.Steps.{base_past}
+use Rattle.nor_hex.proofs.PutLemmas.{base_after-last}
 use Rattle.nor_hex_out.specs.Records.{Entry, linear}
 use Rattle.nor_hex_out.specs.Segments.{row, rows, part_records}
 use Rattle.nor_hex_out.proofs.RecordLemmas.{at_line, numbered}
@@ -17,11 +17,7 @@ Gives n before [] a b = ⊥
 Gives n before (e ∷ es) a b = Lays (base_after before) (at_line n e) a b ⊎ Gives (n + 1) (before ++ at_line n e ∷ []) es a b
 
 one_base_more : (xs : List Record) (r : Record) → base_after (xs ++ r ∷ []) ≡ base_past (base_after xs) r
-one_base_more xs r = ap (λ back. base_or_linear (find is_base back)) (reverse-append xs (r ∷ [])) ∙ sym (by (is_base r) refl)
-  where
-    by : (b : Bool) → is_base r ≡ b → base_past (base_after xs) r ≡ base_or_linear (find is_base (r ∷ reverse xs))
-    by true e = rw e refl
-    by false e = rw e refl
+one_base_more xs r = sym (base_after-last xs r)
 
 to_gives : (xs : List Record) (n : ℕ) (es : List Entry) (place : ℕ) (line : Record) (a b : ℕ) → slice_get (numbered n es) place ≡ Some line
     → Lays (base_after (xs ++ take place (numbered n es))) line a b → Gives n xs es a b

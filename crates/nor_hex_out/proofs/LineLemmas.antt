@@ -9,7 +9,7 @@ use Rattle.std.proofs.lemmas.List.Sums.{suffix_len-take_no}
 use Rattle.bstr.specs.Text.{lines_of, without_terminator, no_cr}
 use Rattle.bstr.proofs.lemmas.LineLemmas.{EndsLine, lines-nil, lines-append, lines-one}
 use Rattle.nor_base.specs.Script.{closed}
-use Rattle.nor_lines.specs.Lines.{is_blank, trimmed, is_filled, filled_from, filled_lines}
+use Rattle.nor_lines.specs.Lines.{is_blank, trimmed, filled_from, filled_lines}
 use Rattle.nor_hex_out.proofs.DigitLemmas.{is_high, high_at}
 
 -- a line of characters past the blanks in the code
@@ -101,7 +101,7 @@ numbered_from : (n : ℕ) (lines : List (List ℕ)) → AllByRecursion IsLine li
 numbered_from n [] all = refl
 numbered_from n (line ∷ lines) all =
     let same : trimmed (without_terminator (closed line)) ≡ line = ap trimmed (cut_off line all.0) ∙ kept line all.0 in
-    ap (λ l. filter is_filled ((n, l) ∷ enumerate_from (n + 1) (map trimmed (map without_terminator (map closed lines))))) same
+    ap (λ l. filter (λ l. nat_lt 0 (length l.1)) ((n, l) ∷ enumerate_from (n + 1) (map trimmed (map without_terminator (map closed lines))))) same
     ∙ cond-true _ _ _ (filled line all.0.some)
     ∙ ap (λ rest. (n, line) ∷ rest) (numbered_from (n + 1) lines all.1)
 

@@ -8,7 +8,7 @@ use Rattle.nor_base.proofs.ListLaws.{all_append}
 use Rattle.nor_hex.specs.declared.fault.HexFault.{HexFault}
 use Rattle.nor_hex.specs.Record.{Record}
 use Rattle.nor_hex.specs.Image.{Pairs, Puts}
-use Rattle.nor_hex.specs.Faults.{is_end, IsAccepted, IsConsistent, IsImage}
+use Rattle.nor_hex.specs.Faults.{is_end, IsAccepted, IsImage}
 use Rattle.nor_hex_out.specs.Records.{Entry, end_record}
 use Rattle.nor_hex_out.specs.Segments.{bytes_in, segment_records, first_segments, image_records, text_of, hex_text}
 use Rattle.nor_hex_out.specs.Laws.{GivesJust}
@@ -95,7 +95,7 @@ module _ (at : ℕ) (bytes : List ℕ) (fits : at + length bytes ≤ 2 ^ 32) whe
   some_same : (x y : ℕ) (o : Option ℕ) → o ≡ Some x → o ≡ Some y → x ≡ y
   some_same x y o e f = cc
 
-  consistent : (n : ℕ) → IsConsistent (numbered 1 (entries n))
+  consistent : (n address a b : ℕ) → Puts (numbered 1 (entries n)) address a → Puts (numbered 1 (entries n)) address b → a ≡ b
   consistent n address a b first second =
       some_same a b (slice_get bytes (address - at)) (puts_stand n address a first).is (puts_stand n address b second).is
 

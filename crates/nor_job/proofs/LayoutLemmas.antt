@@ -3,14 +3,15 @@ use Rattle.std.proofs.Common.{◌≡◌, ℕ, false, List, [], ◌∷◌, None, 
 use Rattle.nor_hex.specs.Image.{Pairs}
 use Rattle.nor_layout.specs.Region.{Region}
 use Rattle.nor_layout.specs.Chosen.{has, is_chosen, first_unknown}
-use Rattle.nor_job.specs.Task.{Task, contradiction, are_named}
+use Rattle.nor_job.specs.Task.{Task, contradiction}
+use Rattle.nor_base.specs.Array.{is_filled}
 use Rattle.nor_job.specs.Causes.{LayoutSays, HasImage, HasRegions}
 
-not_named : (t : Task) → contradiction t ≡ None → t.layout ≡ None → are_named t.regions ≡ false
+not_named : (t : Task) → contradiction t ≡ None → t.layout ≡ None → is_filled t.regions ≡ false
 unfolding contradiction
 not_named t e none = grind arith
 
-no_names : (names : List (List ℕ)) → are_named names ≡ false → names ≡ []
+no_names : (names : List (List ℕ)) → is_filled names ≡ false → names ≡ []
 no_names [] e = refl
 no_names (name ∷ names) e = cc
 

@@ -3,7 +3,7 @@ use Rattle.std.specs.Prelude.{◌≡◌, ℕ, Bool, true, false, ◌%◌, ◌^�
 use Rattle.nor_base.specs.declared.meaning.Part.{Part}
 use Rattle.nor_base.specs.declared.meaning.Width.TheVariants.{Three}
 use Rattle.nor_base.specs.Chip.{IsPossible}
-use Rattle.nor_base.specs.Parameters.{Parameters, erased_only_set}
+use Rattle.nor_base.specs.Parameters.{Parameters}
 use Rattle.nor_base.specs.Uniform.{uniform_of}
 use Rattle.nor_sfdp.specs.declared.fault.SfdpFault.{SfdpFault}
 use Rattle.nor_sfdp.specs.declared.fault.SfdpFault.TheVariants.{Density}
@@ -14,28 +14,20 @@ use Rattle.nor_job.specs.declared.fault.BuildFault.TheVariants as fault
 use Rattle.nor_job.specs.Status.{start_of, status_fault}
 use Rattle.nor_job.specs.Task.{Task, Origin, Sfdp, Uniform}
 
--- a uniform chip may have the size: a multiple of 4096 from 4096 to 16 MiB
-abbrev pub is_uniform_size : ℕ → Bool
-is_uniform_size size = nat_le 4096 size && (nat_le size (2 ^ 24) && (size % 4096 == 0))
-
--- what a size alone says of a chip
+-- what a size alone says of a chip: it is a multiple of 4096 from 4096 to 16 MiB
 unfoldable pub uniform_says : ℕ → Result Parameters SfdpFault
-uniform_says size = if is_uniform_size size then Ok (uniform_of size) else Err Density
+uniform_says size = if nat_le 4096 size && (nat_le size (2 ^ 24) && (size % 4096 == 0)) then Ok (uniform_of size) else Err Density
 
 abbrev pub origin_says : Origin → Part → Result Parameters SfdpFault
 origin_says (Sfdp bytes bits) part = meaning_of bytes bits part
 origin_says (Uniform size) part = uniform_says size
 
--- the profile that programs erased bytes alone is set where it is asked for
-abbrev pub profiled : Bool → Parameters → Parameters
-profiled true m = erased_only_set m
-profiled false m = m
-
--- the chip's parameters by its SFDP bytes or its size, with the profile as asked; or why it has none
+-- the chip's parameters by its SFDP bytes or its size, under the profile that programs erased bytes alone where it is asked for; or
+-- why it has none
 abbrev pub chip_says : Task → Result Parameters SfdpFault
 chip_says t = do
   m ← origin_says t.chip t.part
-  Ok (profiled t.erased_only m)
+  Ok (if t.erased_only then record m { erased_only = true } else m)
 
 -- the inputs give the chip these parameters, it is idle and unprotected as far as its status is told, and it has the mode that it begins in
 pub record HasChip (t : Task) (m : Parameters) : Type 0 where

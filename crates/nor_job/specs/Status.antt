@@ -1,6 +1,7 @@
 -- What a chip's status bits S23 to S0 say of it (W25Q256JV datasheet, status registers 1 to 3).
 use Rattle.std.specs.Prelude.{ℕ, Bool, if◌then◌else◌, [], ◌∷◌, Option, Some, None}
 use Rattle.std.specs.List.{list_any}
+use Rattle.std.specs.Option.{option_map_or}
 use Rattle.nor_base.specs.declared.meaning.Start.{Start}
 use Rattle.nor_sfdp.specs.Bits.{is_set}
 use Rattle.nor_job.specs.Task.{Task}
@@ -20,9 +21,5 @@ status_fault (Some status) =
     else None
 
 -- how the chip begins: ADS (S16) and QE (S9) of its status; where there is none, as is said
-abbrev pub start_by : Option ℕ → Bool → Bool → Start
-start_by (Some status) mode4 quad = record { mode4 = is_set status 16; quad = is_set status 9 }
-start_by None mode4 quad = record { mode4 = mode4; quad = quad }
-
 abbrev pub start_of : Task → Start
-start_of t = start_by t.status t.mode4 t.quad
+start_of t = option_map_or (λ status. record { mode4 = is_set status 16; quad = is_set status 9 }) t.status (record { mode4 = t.mode4; quad = t.quad })

@@ -1,7 +1,8 @@
 -- What a build is asked for, as plain data, and when its parts contradict one another (this project's).
 use Rattle.std.specs.Prelude.{ℕ, Bool, true, false, not, ◌&&◌, ◌||◌, if◌then◌else◌, List, [], ◌∷◌, Option, Some, None, is_some, option_map}
 use Rattle.nor_base.specs.declared.meaning.Part.{Part}
-use Rattle.nor_base.specs.declared.meaning.Part.TheVariants.{Generic, W25q256jv}
+use Rattle.nor_base.specs.Array.{is_filled}
+use Rattle.nor_sfdp.specs.Reading.{is_generic}
 use Rattle.nor_job.specs.declared.inputs.Source.{Source}
 use Rattle.nor_job.specs.declared.inputs.Source.TheVariants as source
 use Rattle.nor_job.specs.declared.inputs.Inputs.TheInside.{Inside}
@@ -43,23 +44,15 @@ task_of inputs = record {
   erased_only = inputs.erased_only;
 }
 
-abbrev pub is_generic : Part → Bool
-is_generic Generic = true
-is_generic W25q256jv = false
-
 abbrev pub is_uniform : Origin → Bool
 is_uniform (Sfdp bytes bits) = false
 is_uniform (Uniform size) = true
-
-abbrev pub are_named : List (List ℕ) → Bool
-are_named [] = false
-are_named (name ∷ names) = true
 
 -- the first contradiction of the inputs: regions without a layout; a status with part Generic; a status together with
 -- `mode4` or `quad`; a uniform chip of another part
 unfoldable pub contradiction : Task → Option ℕ
 contradiction t =
-    if not (is_some t.layout) && are_named t.regions then Some 1
+    if not (is_some t.layout) && is_filled t.regions then Some 1
     else if is_some t.status && is_generic t.part then Some 2
     else if is_some t.status && (t.mode4 || t.quad) then Some 3
     else if is_uniform t.chip && not (is_generic t.part) then Some 4

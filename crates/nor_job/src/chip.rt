@@ -1,8 +1,8 @@
 //! The chip that a build is for.
 
-ghost use Rattle.std.specs.Prelude.{◌≡◌, IsOk, IfOk, IfErr};
+ghost use Rattle.std.specs.Prelude.{◌≡◌, true, if◌then◌else◌, IsOk, IfOk, IfErr};
 ghost use Rattle.nor_base.specs.Parameters.{Parameters};
-ghost use Rattle.nor_job.specs.Chip.{HasChip, RefusesChip, chip_says, uniform_says, profiled};
+ghost use Rattle.nor_job.specs.Chip.{HasChip, RefusesChip, chip_says, uniform_says};
 ghost use Rattle.nor_job.specs.Status.{start_of};
 
 use crate::fault::BuildFault;
@@ -54,7 +54,7 @@ fn uniform(size: u32) -> Result<Meaning, SfdpFault>
 
 /// The meaning under the profile that programs only erased bytes, where that is asked for.
 fn profiled(meaning: Meaning, erased_only: bool) -> Meaning
-    ensures { result ≡ profiled erased_only meaning }
+    ensures { result ≡ (if erased_only then record meaning { erased_only = true } else meaning) }
 {
     if erased_only {
         return meaning.erased_only_set();

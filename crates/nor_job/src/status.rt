@@ -2,7 +2,7 @@
 
 ghost use Rattle.std.specs.Prelude.{◌≡◌, ◌<◌};
 ghost use Rattle.nor_sfdp.specs.Bits.{is_set};
-ghost use Rattle.nor_job.specs.Status.{start_by, status_fault, is_protected};
+ghost use Rattle.nor_job.specs.Status.{start_of, status_fault, is_protected};
 
 use crate::inputs::Inputs;
 use nor_base::Start;
@@ -15,7 +15,7 @@ const QUAD: u32 = 9;
 
 /// How the chip begins: by S16 and S9 of its status or, where there is none, as the inputs say.
 pub(crate) fn start_of(inputs: &Inputs<'_>) -> Start
-    ensures { result ≡ start_by inputs.now.status inputs.now.mode4 inputs.now.quad }
+    ensures { result ≡ start_of inputs.now }
 {
     match inputs.status {
         Some(status) => Start {

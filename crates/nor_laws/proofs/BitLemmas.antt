@@ -22,7 +22,7 @@ are_sent byte h = agree_below_at (λ n. list_all is_bit_sent (bits n)) (λ n. tr
 
 -- the same on four lanes
 number_of_nibbles : (byte : ℕ) → byte < 256 → bytes_of_nibbles (nibbles byte) ≡ byte ∷ []
-unfolding nibbles nibble
+unfolding nibbles
 number_of_nibbles byte h = ap (λ n. n ∷ []) (eqb-true (16 * nibble (0x61 + byte / 16 % 16) + nibble (0x61 + byte % 16)) byte
     (agree_below_at (λ n. (16 * nibble (0x61 + n / 16 % 16) + nibble (0x61 + n % 16)) == n) (λ n. true) 256 byte refl h))
 

@@ -16,7 +16,7 @@ pub status_read : Instruction
 status_read = record { what = what.Status; address = 0; sent = []; asked = 1 }
 
 pub poll_is_status : (m : Parameters) (mode4 : Bool) → decode m mode4 poll_clocks ≡ Some (record { what = what.Status; address = 0; sent = []; asked = 1 })
-unfolding decode transaction by_row has_opcode is_form is_data is_bit_sent is_nibble_sent is_bit_sampled is_nibble_sampled is_idle bit nibble row_of
+unfolding decode transaction by_row has_opcode is_form is_data is_bit_sent is_nibble_sent is_bit_sampled is_nibble_sampled is_idle bit row_of
 poll_is_status m mode4 = refl
 
 -- the chip with so many status reads left

@@ -8,6 +8,7 @@ use Rattle.nor_base.specs.declared.clock.Sample.{Sample}
 use Rattle.nor_base.specs.Sample.{clocks, symbol, clock_at, sample}
 use Rattle.nor_base.specs.Decoding.{has_lanes, is_bit_sent, is_nibble_sent, is_bit_sampled, is_nibble_sampled, is_idle, bit, nibble}
 use Rattle.nor_base.proofs.ListLaws.{found_passes}
+use Rattle.nor_base.proofs.SymbolLaws.{by_clock}
 
 -- a clock's symbol is below 128
 symbol_small : (byte : ℕ) (clock : Clock) → clock_at byte ≡ Some clock → byte < 128
@@ -21,7 +22,9 @@ some_clock byte test None is h = cc
 some_clock byte test (Some clock) is h = symbol_small byte clock is
 
 lanes_small : (driven sampled byte : ℕ) → has_lanes driven sampled byte ≡ true → byte < 128
-lanes_small driven sampled byte h = some_clock byte (λ sample. (sample.driven == driven) && (sample.sampled == sampled)) (clock_at byte) refl h
+lanes_small driven sampled byte h =
+    some_clock byte (λ sample. (sample.driven == driven) && (sample.sampled == sampled)) (clock_at byte) refl
+      (subst (λ o. option_map_or (λ sample. (sample.driven == driven) && (sample.sampled == sampled)) o false ≡ true) (by_clock byte) h)
 
 pub implied : (a b : Bool) → not a || b ≡ true → a ≡ true → b ≡ true
 implied true b h is = h
@@ -38,7 +41,7 @@ bit_is byte h =
 
 -- a nibble is one of sixteen
 pub nibble_is : (byte : ℕ) → is_nibble_sent byte ≡ true → (byte ≡ 0x61 + nibble byte) × (nibble byte < 16)
-unfolding is_nibble_sent nibble
+unfolding is_nibble_sent
 nibble_is byte h =
     let small = lanes_small 15 0 byte h in
     let agree = agree_below_at (λ n. not (is_nibble_sent n) || ((n == 0x61 + nibble n) && nat_lt (nibble n) 16)) (λ n. true) 128 byte refl small in

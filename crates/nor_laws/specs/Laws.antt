@@ -5,7 +5,7 @@ use Rattle.nor_base.specs.declared.clock.Clock.{Clock}
 use Rattle.nor_base.specs.declared.instruction.What.TheVariants as what
 use Rattle.nor_base.specs.declared.step.Step.{Step}
 use Rattle.nor_base.specs.declared.wrong.Wrong.TheVariants as wrong
-use Rattle.nor_base.specs.Sample.{symbol, clock_at, sample, sampled_count}
+use Rattle.nor_base.specs.Sample.{symbol, clock_at, sample, sample_at, sampled_count}
 use Rattle.nor_base.specs.Step.{IsStep}
 use Rattle.nor_base.specs.Script.{IsScript, script_text}
 use Rattle.nor_base.specs.Device.{Ahead, Gives, first_of}
@@ -164,9 +164,12 @@ FirstInParts = (before after : Ahead) (bytes content : List ℕ) (n : ℕ) → G
 abbrev pub GivesInParts : Type 0
 GivesInParts = (before between after : Ahead) (xs ys : List ℕ) → Gives before xs between → Gives between ys after → Gives before (xs ++ ys) after
 
--- a clock is found by its symbol, and no two clocks have the same lanes
+-- a clock is found by its symbol, the lanes do at a symbol what they do at its clock, and no two clocks have the same lanes
 abbrev pub SymbolsFound : Type 0
 SymbolsFound = (clock : Clock) → clock_at (symbol clock) ≡ Some clock
+
+abbrev pub SamplesByClock : Type 0
+SamplesByClock = (byte : ℕ) → sample_at byte ≡ option_map sample (clock_at byte)
 
 abbrev pub SamplesApart : Type 0
 SamplesApart = (c d : Clock) → sample c ≡ sample d → c ≡ d

@@ -6,20 +6,21 @@ pub mod worked;
 
 ghost use Rattle.nor_laws.specs.Spelling.{HasSpelling, OneSpelling, SameSpelling, PollIsFixed};
 ghost use Rattle.nor_laws.specs.Spelling.{VerifyKeeps};
-ghost use Rattle.nor_laws.specs.Laws.{SymbolsFound, SamplesApart, OneText, OneList, TextsApart};
-ghost use Rattle.nor_laws.specs.Laws.{NoProperPrefix, OneRow, FindsRow, RowFound, LegalInRegion};
+ghost use Rattle.nor_laws.specs.Laws.{SymbolsFound, SamplesByClock, SamplesApart, OneText, OneList};
+ghost use Rattle.nor_laws.specs.Laws.{TextsApart, NoProperPrefix, OneRow, FindsRow, RowFound};
 ghost use Rattle.nor_laws.specs.Laws.{LegalOnChip, RegionLegal, BlocksNest, KeepsSize, AsksSampled};
 ghost use Rattle.nor_laws.specs.Laws.{GivesSampled, PollEnds, PollCount, PollNeedsAll};
 ghost use Rattle.nor_laws.specs.Laws.{BoundedIsRun, EventsAreTrail, RunEndsTrail, ProgramPutsByte};
 ghost use Rattle.nor_laws.specs.Laws.{RaisedForByte, NotErasedForByte, ProgramKeepsOthers};
 ghost use Rattle.nor_laws.specs.Laws.{ProgramJudgedByPage, EraseFills, EraseKeepsOthers};
 ghost use Rattle.nor_laws.specs.Laws.{EraseNeverJudged, TargetKeeps, TargetGives, FirstInParts};
-ghost use Rattle.nor_laws.specs.Laws.{GivesInParts};
+ghost use Rattle.nor_laws.specs.Laws.{GivesInParts, LegalInRegion};
 
-/// A clock is found by its symbol, and no two clocks have the same lanes: a list of samples means
-/// its instruction.
+/// A clock is found by its symbol, the lanes do at a symbol what they do at its clock, and no two
+/// clocks have the same lanes: a list of samples means its instruction.
 pub fn symbols()
     ensures found { SymbolsFound }
+    ensures by_clock { SamplesByClock }
     ensures apart { SamplesApart }
 {}
 

@@ -4,7 +4,8 @@ use Rattle.std.specs.List.{list_all, position_or_len}
 use Rattle.std.specs.Str.{bytes_eq}
 use Rattle.std.proofs.lemmas.List.Sums.{fails_before_first}
 use Rattle.std.proofs.lemmas.Bool.{and_parts, ltb-false}
-use Rattle.nor_layout.specs.Region.{Region, is_filled, is_region}
+use Rattle.nor_base.specs.Array.{is_filled}
+use Rattle.nor_layout.specs.Region.{Region, is_region}
 use Rattle.nor_layout.specs.Line.{is_taken}
 use Rattle.nor_layout.specs.Chosen.{first_unknown}
 

@@ -4,6 +4,7 @@ use Rattle.std.proofs.Common.{◌≡◌, ◌∙◌, ℕ, ◌+◌, ◌<◌, ◌�
 use Rattle.std.specs.List.{filter_map}
 use Rattle.std.specs.Prelude.{MatchResult}
 use Rattle.std.specs.Option.{option_to_list}
+use Rattle.std.specs.Result.{result_unwrap_or, result_err}
 use Rattle.std.proofs.Math.Seq.{take-append_seam, get_or-append_seam}
 use Rattle.std.proofs.lemmas.Bool.{cases_lt}
 use Rattle.std.proofs.lemmas.List.{append_assoc, length_push, map_push, get_or_past}
@@ -15,7 +16,7 @@ use Rattle.nor_layout.specs.Region.{Region, AreRegions}
 use Rattle.nor_layout.specs.Line.{line_says, said_below, line_below}
 use Rattle.nor_layout.specs.declared.fault.LayoutFault.{LayoutFault}
 use Rattle.nor_layout.specs.Cause.{fault_of}
-use Rattle.nor_layout.specs.Text.{region_said, regions_of, line_at, cause_said, cause_at, IsLayout, IsFirstFault, Refuses}
+use Rattle.nor_layout.specs.Text.{regions_of, line_at, cause_at, IsLayout, IsFirstFault, Refuses}
 use Rattle.nor_layout.proofs.Sound.{regions_kept}
 
 -- the tests of a region that pass leave it
@@ -25,7 +26,7 @@ tested false true region said e = cc
 tested false false region said e = cc
 
 -- what a line says below others it says alone
-said_alone : (above : List Region) (said : Result (Option Region) Cause) (o : Option Region) → said_below above said ≡ Ok o → region_said said ≡ o
+said_alone : (above : List Region) (said : Result (Option Region) Cause) (o : Option Region) → said_below above said ≡ Ok o → result_unwrap_or said None ≡ o
 said_alone above (Err cause) o e = cc
 said_alone above (Ok None) o e = cc
 said_alone above (Ok (Some region)) o e = tested _ _ region o e
@@ -37,9 +38,9 @@ filter_map_one f x (Some y) e = rw e refl
 -- the regions of one line more
 regions_more : (seen : List (ℕ × List ℕ)) (line : ℕ × List ℕ) (regions : List Region) (o : Option Region) → regions ≡ regions_of seen → Ok o ≡ line_below regions line.1 → regions_of (seen ++ line ∷ []) ≡ regions ++ option_to_list o
 regions_more seen line regions o spelled says =
-    let said : region_said (line_says line.1) ≡ o = said_alone regions (line_says line.1) o (sym says) in
-    filter_map-append (λ (x : ℕ × List ℕ). region_said (line_says x.1)) seen (line ∷ [])
-    ∙ ap (λ x. regions_of seen ++ x) (filter_map_one (λ (x : ℕ × List ℕ). region_said (line_says x.1)) line o said)
+    let said : result_unwrap_or (line_says line.1) None ≡ o = said_alone regions (line_says line.1) o (sym says) in
+    filter_map-append (λ (x : ℕ × List ℕ). result_unwrap_or (line_says x.1) None) seen (line ∷ [])
+    ∙ ap (λ x. regions_of seen ++ x) (filter_map_one (λ (x : ℕ × List ℕ). result_unwrap_or (line_says x.1) None) line o said)
     ∙ ap (λ x. x ++ option_to_list o) (sym spelled)
 
 -- these lines were read: their regions, and no cause; the rest wasn't
@@ -54,13 +55,13 @@ line_here : (lines seen rest : List (ℕ × List ℕ)) (line : ℕ × List ℕ) 
 line_here lines seen rest line all = ap (λ x. line_at x (length seen)) (sym all) ∙ get_or-append_seam seen line rest (0, [])
 
 -- its cause
-cause_here : (lines seen rest : List (ℕ × List ℕ)) (line : ℕ × List ℕ) (regions : List Region) (r : Result (Option Region) Cause) → seen ++ line ∷ rest ≡ lines → regions ≡ regions_of seen → r ≡ line_below regions line.1 → cause_at lines (length seen) ≡ cause_said r
+cause_here : (lines seen rest : List (ℕ × List ℕ)) (line : ℕ × List ℕ) (regions : List Region) (r : Result (Option Region) Cause) → seen ++ line ∷ rest ≡ lines → regions ≡ regions_of seen → r ≡ line_below regions line.1 → cause_at lines (length seen) ≡ result_err r
 cause_here lines seen rest line regions r all spelled says =
     let above : take (length seen) lines ≡ seen = ap (take (length seen)) (sym all) ∙ take-append_seam seen (line ∷ rest) in
-    ap (λ x. cause_said (line_below (regions_of x) (line_at lines (length seen)).1)) above
-    ∙ ap (λ x. cause_said (line_below x (line_at lines (length seen)).1)) (sym spelled)
-    ∙ ap (λ (x : ℕ × List ℕ). cause_said (line_below regions x.1)) (line_here lines seen rest line all)
-    ∙ ap cause_said (sym says)
+    ap (λ x. result_err (line_below (regions_of x) (line_at lines (length seen)).1)) above
+    ∙ ap (λ x. result_err (line_below x (line_at lines (length seen)).1)) (sym spelled)
+    ∙ ap (λ (x : ℕ × List ℕ). result_err (line_below regions x.1)) (line_here lines seen rest line all)
+    ∙ ap result_err (sym says)
 
 -- one line more that is skipped or spells a region
 one_more : (lines seen rest : List (ℕ × List ℕ)) (line : ℕ × List ℕ) (regions after : List Region) (o : Option Region) → IsRead lines seen (line ∷ rest) regions → Ok o ≡ line_below regions line.1 → after ≡ regions ++ option_to_list o → IsRead lines (seen ++ line ∷ []) rest after
@@ -120,7 +121,7 @@ read_further view lines left rest given item regions after o read next tells add
 
 -- past the last line stands no cause
 none_past : (lines : List (ℕ × List ℕ)) (n : ℕ) → length lines ≤ n → cause_at lines n ≡ None
-none_past lines n past = ap (λ (x : ℕ × List ℕ). cause_said (line_below (regions_of (take n lines)) x.1)) (get_or_past lines n (0, []) past)
+none_past lines n past = ap (λ (x : ℕ × List ℕ). result_err (line_below (regions_of (take n lines)) x.1)) (get_or_past lines n (0, []) past)
 
 -- all lines were read
 pub all_read : (text : List ℕ) (seen left : List (ℕ × List ℕ)) (regions : List Region) → IsRead (filled_lines text) seen left regions → left ≡ [] → IsLayout text regions

@@ -1,5 +1,5 @@
 -- What a layout keeps of its regions, line by line.
-use Rattle.std.proofs.Common.{◌≡◌, ◌∙◌, ℕ, ◌<◌, ◌^◌, Bool, true, false, ◌&&◌, if◌then◌else◌, List, [], ◌∷◌, ◌++◌, length, get_or, Option, Some, None, Result, Ok, Err, refl, sym, subst, leb, ltb, arith, append-nil}
+use Rattle.std.proofs.Common.{◌≡◌, ◌∙◌, ℕ, ◌<◌, ◌^◌, ◌==◌, Bool, true, false, ◌&&◌, if◌then◌else◌, List, [], ◌∷◌, ◌++◌, length, get_or, Option, Some, None, Result, Ok, Err, refl, sym, subst, leb, ltb, arith, append-nil}
 use Rattle.std.specs.List.{list_all, All, slice_split}
 use Rattle.std.specs.Option.{option_to_list}
 use Rattle.std.specs.Str.{bytes_eq}
@@ -12,9 +12,10 @@ use Rattle.std.proofs.lemmas.List.Folds.{list_all-append, list_any_at}
 use Rattle.std.proofs.lemmas.List.Quantifiers.{all_pairs_push}
 use Rattle.nor_layout.specs.declared.cause.Cause.{Cause}
 use Rattle.nor_layout.specs.declared.cause.Cause.TheVariants.{EndBeforeStart, RepeatedName, TooMany}
-use Rattle.nor_layout.specs.Region.{Region, is_filled, is_region, AreRegions}
+use Rattle.nor_base.specs.Array.{is_filled}
+use Rattle.nor_layout.specs.Region.{Region, is_region, AreRegions}
 use Rattle.nor_layout.specs.Number.{digits_of, are_digits, number_of}
-use Rattle.nor_layout.specs.Fields.{is_separator, is_colon, fields_of, exactly_two}
+use Rattle.nor_layout.specs.Fields.{is_separator, fields_of, exactly_two}
 use Rattle.nor_lines.specs.Lines.{without_first_blanks}
 use Rattle.nor_layout.specs.Line.{region_between, region_of_offsets, region_of_fields, region_in, is_skipped, or_none, line_says, is_taken, said_below, line_below}
 use Rattle.nor_layout.proofs.Digits.{value_fits}
@@ -58,7 +59,7 @@ second_passes (first ∷ second ∷ third ∷ others) two pass e = cc
 
 of_fields : (fields : List (List ℕ)) (two : Option (List ℕ × List ℕ)) (region : Region) → All (λ x. is_filled x ≡ true) fields → exactly_two fields ≡ two → region_of_fields two ≡ Ok region → is_region region ≡ true
 of_fields fields None region pass is e = cc
-of_fields fields (Some two) region pass is e = of_offsets two.1 (exactly_two (slice_split is_colon two.0)) region (second_passes fields two pass is) e
+of_fields fields (Some two) region pass is e = of_offsets two.1 (exactly_two (slice_split (λ byte. byte == 58) two.0)) region (second_passes fields two pass is) e
 
 -- a line that spells a region spells one that is in order
 spelled_region : (line : List ℕ) (region : Region) → region_in line ≡ Ok region → is_region region ≡ true

@@ -2,6 +2,7 @@
 use Rattle.std.specs.Prelude.{◌≡◌, ℕ, ◌<◌, ◌≤◌, Bool, true, false, not, ◌&&◌, ◌||◌, nat_le, nat_lt, Option, Some, None, List, [], ◌∷◌, position}
 use Rattle.std.specs.List.{list_any}
 use Rattle.std.specs.Str.{bytes_eq}
+use Rattle.nor_base.specs.Array.{is_filled}
 use Rattle.nor_layout.specs.declared.chosen.Interval.{Interval}
 use Rattle.nor_layout.specs.declared.fault.LayoutFault.{LayoutFault}
 use Rattle.nor_layout.specs.declared.fault.LayoutFault.TheVariants.{UnknownRegion, Memory}
@@ -12,17 +13,13 @@ use Rattle.nor_layout.specs.Line.{is_taken}
 abbrev pub is_named : List (List ℕ) → List ℕ → Bool
 is_named names name = list_any (λ other. bytes_eq other name) names
 
-abbrev pub is_empty : List (List ℕ) → Bool
-is_empty [] = true
-is_empty (name ∷ names) = false
-
 -- the address lies in some named region of the layout, both ends included
 abbrev pub lies_in_named : List Region → List (List ℕ) → ℕ → Bool
 lies_in_named regions names address = list_any (λ region. is_named names region.name && (nat_le region.start address && nat_le address region.end)) regions
 
 -- the address is chosen: no region is named, or it lies in some named region of the layout
 abbrev pub is_chosen : List Region → List (List ℕ) → ℕ → Bool
-is_chosen regions names address = is_empty names || lies_in_named regions names address
+is_chosen regions names address = not (is_filled names) || lies_in_named regions names address
 
 -- the index of the first name that no region has
 abbrev pub first_unknown : List Region → List (List ℕ) → Option ℕ

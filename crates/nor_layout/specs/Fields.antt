@@ -1,14 +1,11 @@
 -- The fields of a line.
 use Rattle.std.specs.Prelude.{ℕ, Bool, ◌||◌, ◌==◌, Option, Some, None, List, [], ◌∷◌, filter}
 use Rattle.std.specs.List.{slice_split}
-use Rattle.nor_layout.specs.Region.{is_filled}
+use Rattle.nor_base.specs.Array.{is_filled}
 
 -- a blank or a tab
 abbrev pub is_separator : ℕ → Bool
 is_separator byte = (byte == 32) || (byte == 9)
-
-abbrev pub is_colon : ℕ → Bool
-is_colon byte = byte == 58
 
 -- the parts between separators that aren't empty
 abbrev pub fields_of : List ℕ → List (List ℕ)
@@ -16,7 +13,5 @@ fields_of line = filter is_filled (slice_split is_separator line)
 
 -- the two lists, where there are exactly two
 abbrev pub exactly_two : List (List ℕ) → Option (List ℕ × List ℕ)
-exactly_two [] = None
-exactly_two (first ∷ []) = None
 exactly_two (first ∷ second ∷ []) = Some (first, second)
-exactly_two (first ∷ second ∷ third ∷ others) = None
+exactly_two others = None

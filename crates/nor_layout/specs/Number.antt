@@ -7,8 +7,7 @@ use Rattle.std.specs.Str.Parse.{digits_value}
 -- the text begins with `0x` or `0X`
 abbrev pub has_prefix : List ℕ → Bool
 has_prefix (zero_digit ∷ letter ∷ digits) = (zero_digit == 48) && ((letter == 120) || (letter == 88))
-has_prefix (byte ∷ []) = false
-has_prefix [] = false
+has_prefix fewer = false
 
 -- what stands behind `0x` or `0X`, or all where neither does
 abbrev pub digits_of : List ℕ → List ℕ

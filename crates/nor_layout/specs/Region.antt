@@ -2,16 +2,13 @@
 use Rattle.std.specs.Prelude.{◌≡◌, ℕ, ◌^◌, ◌≤◌, Bool, true, false, ◌&&◌, nat_le, nat_lt, List, [], ◌∷◌, length, AllPairs}
 use Rattle.std.specs.List.{list_all}
 use Rattle.std.specs.Str.{bytes_eq}
+use Rattle.nor_base.specs.Array.{is_filled}
 
 -- the addresses from start to end, both included, under a name of any bytes
 pub record Region : Type 0 where
   pub start : ℕ
   pub end : ℕ
   pub name : List ℕ
-
-abbrev pub is_filled : List ℕ → Bool
-is_filled [] = false
-is_filled (byte ∷ bytes) = true
 
 -- the name has a byte, the end doesn't lie before the start, and both are addresses of 32 bits
 abbrev pub is_region : Region → Bool

@@ -1,5 +1,6 @@
 -- Which texts are layouts, and why the others are none.
 use Rattle.std.specs.Prelude.{◌≡◌, ℕ, ◌<◌, ⊤, Option, Some, None, Result, Ok, Err, List, [], filter_map, take, slice_index_or}
+use Rattle.std.specs.Result.{result_unwrap_or, result_err}
 use Rattle.nor_layout.specs.declared.cause.Cause.{Cause}
 use Rattle.nor_layout.specs.declared.fault.LayoutFault.{LayoutFault}
 use Rattle.nor_layout.specs.declared.fault.LayoutFault.TheVariants.{Memory}
@@ -8,17 +9,9 @@ use Rattle.nor_lines.specs.Lines.{filled_lines}
 use Rattle.nor_layout.specs.Region.{Region}
 use Rattle.nor_layout.specs.Line.{line_says, line_below}
 
-abbrev pub region_said : Result (Option Region) Cause → Option Region
-region_said (Ok said) = said
-region_said (Err cause) = None
-
 -- the regions that numbered lines spell, in their order
 abbrev pub regions_of : List (ℕ × List ℕ) → List Region
-regions_of lines = filter_map (λ line. region_said (line_says line.1)) lines
-
-abbrev pub cause_said : Result (Option Region) Cause → Option Cause
-cause_said (Ok said) = None
-cause_said (Err cause) = Some cause
+regions_of lines = filter_map (λ line. result_unwrap_or (line_says line.1) None) lines
 
 -- the numbered line with this many of the lines above it
 abbrev pub line_at : List (ℕ × List ℕ) → ℕ → ℕ × List ℕ
@@ -26,7 +19,7 @@ line_at lines above = slice_index_or lines above (0, [])
 
 -- the first cause of the line with this many of the lines above it
 abbrev pub cause_at : List (ℕ × List ℕ) → ℕ → Option Cause
-cause_at lines above = cause_said (line_below (regions_of (take above lines)) (line_at lines above).1)
+cause_at lines above = result_err (line_below (regions_of (take above lines)) (line_at lines above).1)
 
 -- the text is a layout with these regions, in the order of their lines: of the lines that aren't blank none has a cause
 pub record IsLayout (text : List ℕ) (regions : List Region) : Type 0 where

@@ -1,9 +1,9 @@
 //! The bytes of a line, cut into fields.
 
-ghost use Rattle.std.specs.Prelude.{◌≡◌};
+ghost use Rattle.std.specs.Prelude.{◌≡◌, ◌==◌};
 ghost use Rattle.std.specs.Option.{option_map};
 ghost use Rattle.std.specs.List.{slice_split};
-ghost use Rattle.nor_layout.specs.Fields.{is_separator, is_colon, fields_of, exactly_two};
+ghost use Rattle.nor_layout.specs.Fields.{is_separator, fields_of, exactly_two};
 
 /// Whether a byte separates fields.
 fn is_separator(byte: u8) -> bool
@@ -28,7 +28,7 @@ pub(crate) fn two_fields(line: &[u8]) -> Option<(&[u8], &[u8])>
 /// What stands on either side of the colon, where a field has exactly one.
 pub(crate) fn two_offsets(field: &[u8]) -> Option<(&[u8], &[u8])>
     ensures { option_map (λ x. (x.0.now, x.1.now)) result
-        ≡ exactly_two (slice_split is_colon field.now) }
+        ≡ exactly_two (slice_split (λ byte. byte == 58) field.now) }
 {
     let mut offsets = field.split(|byte| *byte == b':');
     match (offsets.next(), offsets.next(), offsets.next()) {

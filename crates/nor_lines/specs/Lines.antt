@@ -19,13 +19,9 @@ trimmed line = take (length line - suffix_len is_blank line) line
 abbrev pub lines_of_text : List ℕ → List (List ℕ)
 lines_of_text text = map without_terminator (lines_of text)
 
--- something is left of a numbered line that was trimmed
-abbrev pub is_filled : ℕ × List ℕ → Bool
-is_filled line = nat_lt 0 (length line.1)
-
--- lines with their numbers, the first of them n, trimmed, and without those that are blank
+-- lines with their numbers, the first of them n, trimmed, and without those of which nothing is left
 abbrev pub filled_from : ℕ → List (List ℕ) → List (ℕ × List ℕ)
-filled_from n lines = filter is_filled (enumerate_from n (map trimmed lines))
+filled_from n lines = filter (λ line. nat_lt 0 (length line.1)) (enumerate_from n (map trimmed lines))
 
 -- the lines of a text that aren't blank, counted from 1 with those that are
 abbrev pub filled_lines : List ℕ → List (ℕ × List ℕ)

@@ -9,14 +9,14 @@ use Rattle.nor_base.specs.declared.instruction.What.{What}
 use Rattle.nor_base.specs.declared.instruction.What.TheVariants as what
 use Rattle.nor_base.specs.declared.step.Step.{Step}
 use Rattle.nor_base.specs.declared.step.Step.TheVariants.{Send, Poll, Verify}
-use Rattle.nor_base.specs.Array.{are_bytes}
+use Rattle.nor_base.specs.Array.{are_bytes, is_filled}
 use Rattle.nor_base.specs.Decoding.{opcode, bytes_asked, bytes_of_bits, bytes_of_nibbles}
 use Rattle.nor_base.specs.Instructions.{Form, form_of, sends, sends4}
 use Rattle.nor_decode.proofs.SmallLemmas.{sent_below}
 use Rattle.nor_base.specs.Parameters.{Parameters, block_size}
 use Rattle.nor_base.specs.Sample.{is_symbol}
 use Rattle.nor_base.specs.Script.{hex_digit, hex_pair, step_line}
-use Rattle.nor_base.specs.Step.{IsStep, are_clocks, is_filled, expected, step_clocks}
+use Rattle.nor_base.specs.Step.{IsStep, are_clocks, expected, step_clocks}
 use Rattle.nor_laws.proofs.ScriptLaws.{None_is, Small, small_bytes, up_to}
 use Rattle.nor_listing.specs.Law.{IsListable}
 use Rattle.nor_listing.specs.Listing.{in_eight, counted, spelled, words, line}

@@ -4,7 +4,7 @@ use Rattle.std.specs.Prelude.{codes, not, nat_eq, if◌then◌else◌}
 use Rattle.std.specs.List.{before_first, after_first}
 use Rattle.std.specs.Str.{bytes_eq}
 use Rattle.nor_base.specs.Run.{poll_clocks}
-use Rattle.nor_base.specs.Step.{is_filled}
+use Rattle.nor_base.specs.Array.{is_filled}
 use Rattle.nor_base.specs.declared.step.Step.TheVariants.{Poll}
 use Rattle.nor_log.specs.declared.line.Said.TheVariants.{Nothing, Does}
 use Rattle.nor_log.specs.Line.{is_mark, answer_of, said_by, text_says}

@@ -6,11 +6,11 @@ use Rattle.std.specs.List.{list_all, before_first, after_first, AllByRecursion}
 use Rattle.std.specs.Str.{bytes_eq}
 use Rattle.std.proofs.lemmas.Bool.{and_parts, agree_below_at, ltb-true, lt-ltb}
 use Rattle.nor_base.proofs.ListLaws.{all_append}
-use Rattle.nor_base.specs.Array.{are_bytes}
+use Rattle.nor_base.specs.Array.{are_bytes, is_filled}
 use Rattle.nor_base.specs.Clocks.{bits}
 use Rattle.nor_base.specs.Run.{poll_clocks}
 use Rattle.nor_base.specs.Sample.{is_symbol}
-use Rattle.nor_base.specs.Step.{are_clocks, is_filled, IsStep}
+use Rattle.nor_base.specs.Step.{are_clocks, IsStep}
 use Rattle.nor_base.specs.declared.step.Step.TheVariants.{Poll}
 use Rattle.nor_lines.specs.Lines.{is_blank}
 use Rattle.nor_log.specs.declared.line.Answer.{Answer}

@@ -6,7 +6,7 @@ use Rattle.nor_base.specs.declared.step.Step.{Step}
 use Rattle.nor_base.specs.declared.step.Step.TheVariants.{Send, Poll, Verify}
 use Rattle.nor_base.specs.Clocks.{bits}
 use Rattle.nor_base.specs.Run.{poll_clocks}
-use Rattle.nor_base.specs.Step.{is_filled}
+use Rattle.nor_base.specs.Array.{is_filled}
 use Rattle.nor_log.specs.declared.line.Answer.{Answer}
 use Rattle.nor_log.specs.declared.line.Answer.TheVariants.{Any, Same}
 use Rattle.nor_log.specs.declared.line.Said.{Said}

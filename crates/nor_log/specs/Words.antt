@@ -4,7 +4,7 @@ use Rattle.std.specs.Char.{is_digit, digit_value}
 use Rattle.std.specs.List.{list_all}
 use Rattle.std.specs.Str.{bytes_eq}
 use Rattle.std.specs.Str.Parse.{digits_value}
-use Rattle.nor_base.specs.Step.{is_filled}
+use Rattle.nor_base.specs.Array.{is_filled}
 use Rattle.nor_lines.specs.Lines.{is_blank, trimmed, without_first_blanks}
 
 -- a text without the blanks at its ends

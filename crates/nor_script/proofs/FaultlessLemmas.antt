@@ -12,10 +12,10 @@ use Rattle.std.proofs.lemmas.List.Folds.{list_any-append}
 use Rattle.std.proofs.lemmas.List.Sums.{sum_by-append, sum_by-cons}
 use Rattle.nor_base.specs.declared.step.Step.{Step}
 use Rattle.nor_base.specs.declared.step.Step.TheVariants.{Send, Poll, Verify}
-use Rattle.nor_base.specs.Array.{are_bytes}
+use Rattle.nor_base.specs.Array.{are_bytes, is_filled}
 use Rattle.nor_base.specs.Sample.{is_symbol}
 use Rattle.nor_base.specs.Script.{closed, hex_digit, hex_pair, step_line, header, end_line, step_lines, script_text, IsScript}
-use Rattle.nor_base.specs.Step.{are_clocks, is_filled, IsStep}
+use Rattle.nor_base.specs.Step.{are_clocks, IsStep}
 use Rattle.nor_laws.specs.Laws.{TextsApart}
 use Rattle.nor_script.specs.declared.fault.ScriptFault.{ScriptFault}
 use Rattle.nor_script.specs.declared.fault.ScriptFault.TheVariants.{Header, BadLine, BadSymbol, BadCount, NoEnd, AfterEnd, Memory}

@@ -8,7 +8,8 @@ use Rattle.std.proofs.lemmas.List.Sums.{sum_by-cons, split_at_first, passes_at_f
 use Rattle.nor_base.specs.declared.step.Step.{Step}
 use Rattle.nor_base.specs.declared.step.Step.TheVariants.{Send, Poll, Verify}
 use Rattle.nor_base.specs.Sample.{is_symbol}
-use Rattle.nor_base.specs.Step.{is_filled, are_clocks}
+use Rattle.nor_base.specs.Array.{is_filled}
+use Rattle.nor_base.specs.Step.{are_clocks}
 use Rattle.nor_base.specs.Script.{hex_pair, step_line}
 use Rattle.nor_script.specs.declared.fault.ScriptFault.TheVariants.{Header, BadLine, BadSymbol, BadCount, NoEnd, AfterEnd, Memory}
 use Rattle.nor_script.specs.Line.{clocks_fault, is_blank, are_pairs, SpellsStep, SpellsVerify}
@@ -61,7 +62,7 @@ counted p (x ∷ xs) h = by (p x) (sym (sum_by-cons (λ y. cond (p y) 1 0) x xs)
     by false h later = let below = later (omega arith) in omega arith
 
 filled_bytes : (digits bytes : List ℕ) → digits ≡ flat_map hex_pair bytes → is_filled digits ≡ true → is_filled bytes ≡ true
-filled_bytes digits [] is filled = let none : is_filled [] ≡ true = ap is_filled (sym is) ∙ filled in cc
+filled_bytes digits [] is filled = let none : is_filled {A = ℕ} [] ≡ true = ap is_filled (sym is) ∙ filled in cc
 filled_bytes digits (byte ∷ bytes) is filled = refl
 
 both_true : (a b : Bool) → a ≡ true → b ≡ true → (a && b) ≡ true

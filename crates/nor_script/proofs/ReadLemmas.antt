@@ -11,7 +11,8 @@ use Rattle.std.proofs.lemmas.Slice.Eq.{bytes_eq-Decides}
 use Rattle.std.proofs.lemmas.Grind.{flat_map-append}
 use Rattle.nor_base.specs.declared.step.Step.{Step}
 use Rattle.nor_base.specs.Sample.{is_symbol}
-use Rattle.nor_base.specs.Step.{IsStep, is_filled}
+use Rattle.nor_base.specs.Array.{is_filled}
+use Rattle.nor_base.specs.Step.{IsStep}
 use Rattle.nor_base.specs.Script.{closed, step_line, header, end_line, step_lines, script_text, IsScript}
 use Rattle.nor_script.specs.declared.fault.ScriptFault.{ScriptFault}
 use Rattle.nor_script.specs.declared.fault.ScriptFault.TheVariants.{Header, BadLine, BadSymbol, BadCount, NoEnd, AfterEnd, Memory}

@@ -4,7 +4,8 @@ use Rattle.std.specs.List.{list_all, before_first, after_first}
 use Rattle.std.specs.Str.{bytes_eq}
 use Rattle.nor_base.specs.declared.step.Step.{Step}
 use Rattle.nor_base.specs.Sample.{is_symbol}
-use Rattle.nor_base.specs.Step.{is_filled, IsStep}
+use Rattle.nor_base.specs.Array.{is_filled}
+use Rattle.nor_base.specs.Step.{IsStep}
 use Rattle.nor_base.specs.Script.{step_line}
 use Rattle.nor_script.specs.declared.fault.ScriptFault.{ScriptFault}
 use Rattle.nor_script.specs.declared.fault.ScriptFault.TheVariants.{BadLine, BadSymbol, BadCount}

@@ -1,31 +1,23 @@
--- Configuration bits, one at a time.
-use Rattle.std.proofs.Common.{◌≡◌, ℕ, ◌+◌, ◌*◌, ◌^◌, ◌<◌, ◌≤◌, Bool, true, false, cond, List, [], ◌∷◌, ◌++◌, length, get_or, take, refl, sym, ap, ◌∙◌, add-one, arith}
-use Rattle.std.specs.Prelude.{◌==◌}
-use Rattle.std.proofs.Math.Nat.{pow-suc}
-use Rattle.std.proofs.lemmas.List.{take_more, length_push}
-use Rattle.nor_sfdp.specs.SectorMap.{bit_of, id_of}
+-- The value of a few binary digits.
+use Rattle.std.proofs.Common.{◌≡◌, ℕ, ◌<◌, ◌≤◌, ◌^◌, true, List, [], ◌∷◌, length, take, arith}
+use Rattle.std.proofs.Math.Nat.{pow-le-pow_right}
+use Rattle.std.proofs.lemmas.Bool.{and_parts, ltb-true}
+use Rattle.std.proofs.lemmas.List.{length-take}
+use Rattle.std.proofs.lemmas.Int.Digits.{digits_value-lt}
+use Rattle.std.specs.List.{list_all}
+use Rattle.std.specs.Char.{is_digit, digit_value}
+use Rattle.std.specs.Str.Parse.{AllDigits, digits_value}
 
-weighed : (b : Bool) (p q i j t : ℕ) → p ≡ 2 * q → j ≡ 2 * i + t → cond b p 0 + j ≡ 2 * (cond b q 0 + i) + t
-weighed true p q i j t e f = omega (arith, e, f)
-weighed false p q i j t e f = omega (arith, f)
+all_digits : (digits : List ℕ) → list_all (λ c. is_digit c 2) digits ≡ true → AllDigits 2 digits
+all_digits [] each = tt
+all_digits (c ∷ digits) each =
+    let both = and_parts (is_digit c 2) (list_all (λ c. is_digit c 2) digits) each in
+    (ltb-true (digit_value c) 2 both.0, all_digits digits both.1)
 
-lowest : (b : Bool) → cond b (2 ^ 0) 0 + 0 ≡ 2 * 0 + cond b 1 0
-lowest true = refl
-lowest false = refl
-
-double : (n : ℕ) → 2 ^ (n + 1) ≡ 2 * 2 ^ n
-double n = ap (λ (m : ℕ). 2 ^ m) (add-one n) ∙ pow-suc 2 n ∙ omega arith
-
-id-snoc : (bits : List ℕ) (c : ℕ) → id_of (bits ++ c ∷ []) ≡ 2 * id_of bits + bit_of c
-id-snoc [] c = lowest (c == 49)
-id-snoc (b ∷ bits) c =
-    let twice : 2 ^ length (bits ++ c ∷ []) ≡ 2 * 2 ^ length bits =
-    ap (λ (n : ℕ). 2 ^ n) (length_push bits c) ∙ double (length bits) in
-    weighed (b == 49) (2 ^ length (bits ++ c ∷ [])) (2 ^ length bits) (id_of bits) (id_of (bits ++ c ∷ [])) (bit_of c) twice (id-snoc bits c)
-
-pub id_more : (bits : List ℕ) (i id next : ℕ) → i < length bits → id ≡ id_of (take i bits) → next ≡ 2 * id + bit_of (get_or bits i 0) → next ≡ id_of (take (i + 1) bits)
-id_more bits i id next inside is e =
-    e ∙ ap (λ (n : ℕ). 2 * n + bit_of (get_or bits i 0)) is ∙ sym (ap id_of (take_more bits i 0 inside) ∙ id-snoc (take i bits) (get_or bits i 0))
-
-pub few_more : (i id bit : ℕ) → id < 2 ^ i → bit ≤ 1 → 2 * id + bit < 2 ^ (i + 1)
-few_more i id bit few small = let twice = double i in omega (arith, few, small, twice)
+-- fewer than 8 digits have a value of fewer than 8 bits
+pub value_fits : (digits : List ℕ) (i : ℕ) → i < 8 → list_all (λ c. is_digit c 2) (take i digits) ≡ true → digits_value 2 (take i digits) < 2 ^ 7
+value_fits digits i few each =
+    let below : digits_value 2 (take i digits) < 2 ^ length (take i digits) = digits_value-lt 2 (take i digits) (all_digits (take i digits) each) in
+    let short : length (take i digits) ≤ 7 = omega (arith, length-take i digits) in
+    let power : 2 ^ length (take i digits) ≤ 2 ^ 7 = pow-le-pow_right (omega arith) {i = length (take i digits)} {j = 7} short in
+    omega arith

@@ -1,20 +1,21 @@
 -- The maps, one at a time.
-use Rattle.std.proofs.Common.{◌≡◌, ℕ, zero, suc, ◌+◌, ◌*◌, ◌<◌, ◌≤◌, Bool, true, false, cond, List, ◌∷◌, Option, Some, None, Result, Ok, Err, refl, sym, ap, ◌∙◌, arith}
-use Rattle.std.specs.Option.{option_or}
+use Rattle.std.proofs.Common.{◌≡◌, ℕ, zero, suc, ◌+◌, ◌*◌, ◌<◌, ◌≤◌, ◌==◌, Bool, true, false, cond, List, ◌∷◌, Option, Some, None, Result, Ok, Err, refl, sym, ap, ◌∙◌, arith}
+use Rattle.std.specs.Option.{option_or, option_map_or}
 use Rattle.std.specs.Result.{result_unwrap_or}
 use Rattle.std.specs.List.{find}
 use Rattle.std.specs.Prelude.{IfSome}
 use Rattle.std.proofs.lemmas.Bool.{lt-ltb, le-ltb}
 use Rattle.nor_sfdp.specs.declared.fault.SfdpFault.{SfdpFault}
+use Rattle.nor_sfdp.specs.declared.fault.SfdpFault.TheVariants.{NoMap}
 use Rattle.nor_base.specs.declared.meaning.Region.{Region}
 use Rattle.nor_sfdp.specs.declared.map.SectorMap.{SectorMap}
 use Rattle.nor_sfdp.specs.Bits.{dword_count, word, is_set}
 use Rattle.nor_sfdp.specs.Tables.{◌>>=◌}
-use Rattle.nor_sfdp.specs.SectorMap.{checked_map, maps_from, has_id, found_or, first_map_of, command_count_of, wanted_id, regions_by, mapped_regions}
+use Rattle.nor_sfdp.specs.SectorMap.{checked_map, maps_from, found_or, first_map_of, command_count_of, wanted_id, regions_at, mapped_regions}
 
 -- the answer where a map may have been found before
 abbrev walk : ℕ → List ℕ → ℕ → ℕ → Option SectorMap → Result (Option SectorMap) SfdpFault
-walk n table at id found = maps_from n table at >>= λ maps. Ok (option_or found (find (has_id id) maps))
+walk n table at id found = maps_from n table at >>= λ maps. Ok (option_or found (find (λ (m : SectorMap). m.id == id) maps))
 
 pub record IsWalk (table : List ℕ) (from id at : ℕ) (found : Option SectorMap) : Type 0 where
   pub most : ℕ
@@ -67,8 +68,8 @@ walk_closes table from id at found m inside is last w = sym (w.answer ∙ closed
 
 -- another map follows
 behind : (id : ℕ) (found : Option SectorMap) (m : SectorMap) (rest : Result (List SectorMap) SfdpFault)
-    → ((rest >>= λ others. Ok (m ∷ others)) >>= λ maps. Ok (option_or found (find (has_id id) maps))) ≡ (rest >>= λ maps. Ok (option_or (found_or found m id) (find (has_id id) maps)))
-behind id found m (Ok others) = ap (λ (o : Option SectorMap). Ok o) (find_one (has_id id m) m found (find (has_id id) others))
+    → ((rest >>= λ others. Ok (m ∷ others)) >>= λ maps. Ok (option_or found (find (λ (m : SectorMap). m.id == id) maps))) ≡ (rest >>= λ maps. Ok (option_or (found_or found m id) (find (λ (m : SectorMap). m.id == id) maps)))
+behind id found m (Ok others) = ap (λ (o : Option SectorMap). Ok o) (find_one (m.id == id) m found (find (λ (m : SectorMap). m.id == id) others))
 behind id found m (Err fault) = refl
 
 onward : (n : ℕ) (table : List ℕ) (id at : ℕ) (found : Option SectorMap) (m : SectorMap) → at ≤ dword_count table → Ok m ≡ checked_map table at
@@ -91,7 +92,7 @@ walk_goes_on table from id at found m inside is later more w = by_most table fro
 
 -- what holds of each map holds of the one found
 pub found_holds : (P : SectorMap → Type 0) (found : Option SectorMap) (m : SectorMap) (id : ℕ) → IfSome found P → P m → IfSome (found_or found m id) P
-found_holds P found m id before this = by_test found (has_id id m) m before this where
+found_holds P found m id before this = by_test found (m.id == id) m before this where
   by_test : (found : Option SectorMap) (b : Bool) (m : SectorMap) → IfSome found P → P m → IfSome (option_or found (cond b (Some m) None)) P
   by_test (Some o) b m before this = before
   by_test None true m before this = this
@@ -104,10 +105,10 @@ id_or_0 wanted = result_unwrap_or wanted 0
 -- the regions, where the map is looked for before the configuration bits are known to be accepted
 abbrev pub looked_for : List ℕ → List ℕ → ℕ → ℕ → Result (List Region) SfdpFault
 looked_for table config size commands =
-    first_map_of table (2 * commands + 1) (id_or_0 (wanted_id config commands)) >>= λ found. wanted_id config commands >>= λ _. regions_by table size found
+    first_map_of table (2 * commands + 1) (id_or_0 (wanted_id config commands)) >>= λ found. wanted_id config commands >>= λ _. option_map_or (λ m. regions_at table m size) found (Err NoMap)
 
 commuted : (maps : Result (List SectorMap) SfdpFault) (wanted : Result ℕ SfdpFault) (f : Option SectorMap → Result (List Region) SfdpFault)
-    → (maps >>= λ all. wanted >>= λ id. f (find (has_id id) all)) ≡ ((maps >>= λ all. Ok (find (has_id (id_or_0 wanted)) all)) >>= λ found. wanted >>= λ _. f found)
+    → (maps >>= λ all. wanted >>= λ id. f (find (λ (m : SectorMap). m.id == id) all)) ≡ ((maps >>= λ all. Ok (find (λ (m : SectorMap). m.id == id_or_0 wanted) all)) >>= λ found. wanted >>= λ _. f found)
 commuted (Ok all) (Ok id) f = refl
 commuted (Ok all) (Err fault) f = refl
 commuted (Err fault) wanted f = refl
@@ -119,13 +120,13 @@ no_commands table config size fault is = rw (← is) refl
 pub after_commands : (table config : List ℕ) (size commands : ℕ) → Ok commands ≡ command_count_of table → mapped_regions table config size ≡ looked_for table config size commands
 unfolding mapped_regions first_map_of
 after_commands table config size commands is =
-    rw (← is) (commuted (maps_from (dword_count table) table (2 * commands + 1)) (wanted_id config commands) (regions_by table size))
+    rw (← is) (commuted (maps_from (dword_count table) table (2 * commands + 1)) (wanted_id config commands) (λ found. option_map_or (λ m. regions_at table m size) found (Err NoMap)))
 
 pub no_maps : (table config : List ℕ) (size commands id : ℕ) (fault : SfdpFault) → Ok commands ≡ command_count_of table → id ≡ id_or_0 (wanted_id config commands)
     → Err fault ≡ first_map_of table (2 * commands + 1) id → Err fault ≡ mapped_regions table config size
 no_maps table config size commands id fault counted wanted is =
     let looked : Err fault ≡ first_map_of table (2 * commands + 1) (id_or_0 (wanted_id config commands)) = is ∙ ap (first_map_of table (2 * commands + 1)) wanted in
-    ap (λ (found : Result (Option SectorMap) SfdpFault). found >>= λ f. wanted_id config commands >>= λ _. regions_by table size f) looked
+    ap (λ (found : Result (Option SectorMap) SfdpFault). found >>= λ f. wanted_id config commands >>= λ _. option_map_or (λ m. regions_at table m size) f (Err NoMap)) looked
     ∙ sym (after_commands table config size commands counted)
 
 pub not_wanted : (table config : List ℕ) (size commands id : ℕ) (fault : SfdpFault) (found : Option SectorMap) → Ok commands ≡ command_count_of table
@@ -133,15 +134,15 @@ pub not_wanted : (table config : List ℕ) (size commands id : ℕ) (fault : Sfd
     → Err fault ≡ mapped_regions table config size
 not_wanted table config size commands id fault found counted wanted is refused =
     let looked : Ok found ≡ first_map_of table (2 * commands + 1) (id_or_0 (wanted_id config commands)) = is ∙ ap (first_map_of table (2 * commands + 1)) wanted in
-    ap (λ (w : Result ℕ SfdpFault). w >>= λ _. regions_by table size found) refused
-    ∙ ap (λ (found : Result (Option SectorMap) SfdpFault). found >>= λ f. wanted_id config commands >>= λ _. regions_by table size f) looked
+    ap (λ (w : Result ℕ SfdpFault). w >>= λ _. option_map_or (λ m. regions_at table m size) found (Err NoMap)) refused
+    ∙ ap (λ (found : Result (Option SectorMap) SfdpFault). found >>= λ f. wanted_id config commands >>= λ _. option_map_or (λ m. regions_at table m size) f (Err NoMap)) looked
     ∙ sym (after_commands table config size commands counted)
 
 pub was_wanted : (table config : List ℕ) (size commands id accepted : ℕ) (found : Option SectorMap) → Ok commands ≡ command_count_of table
     → id ≡ id_or_0 (wanted_id config commands) → Ok found ≡ first_map_of table (2 * commands + 1) id → Ok accepted ≡ wanted_id config commands
-    → regions_by table size found ≡ mapped_regions table config size
+    → option_map_or (λ m. regions_at table m size) found (Err NoMap) ≡ mapped_regions table config size
 was_wanted table config size commands id accepted found counted wanted is taken =
     let looked : Ok found ≡ first_map_of table (2 * commands + 1) (id_or_0 (wanted_id config commands)) = is ∙ ap (first_map_of table (2 * commands + 1)) wanted in
-    ap (λ (w : Result ℕ SfdpFault). w >>= λ _. regions_by table size found) taken
-    ∙ ap (λ (found : Result (Option SectorMap) SfdpFault). found >>= λ f. wanted_id config commands >>= λ _. regions_by table size f) looked
+    ap (λ (w : Result ℕ SfdpFault). w >>= λ _. option_map_or (λ m. regions_at table m size) found (Err NoMap)) taken
+    ∙ ap (λ (found : Result (Option SectorMap) SfdpFault). found >>= λ f. wanted_id config commands >>= λ _. option_map_or (λ m. regions_at table m size) f (Err NoMap)) looked
     ∙ sym (after_commands table config size commands counted)

@@ -9,7 +9,11 @@ use Rattle.nor_base.specs.Accepted.{IsRegion}
 use Rattle.nor_sfdp.specs.declared.fault.SfdpFault.TheVariants.{MapSize}
 use Rattle.nor_sfdp.specs.declared.map.SectorMap.{SectorMap}
 use Rattle.nor_sfdp.specs.Bits.{bits, word}
-use Rattle.nor_sfdp.specs.SectorMap.{region_of, region_at, bytes_of, map_regions, regions_at}
+use Rattle.nor_sfdp.specs.SectorMap.{region_of, bytes_of, map_regions, regions_at}
+
+-- the region of DWORD k
+abbrev pub region_at : List ℕ → ℕ → Region
+region_at table k = region_of (word table k)
 
 -- the first n regions that stand from a DWORD on
 abbrev pub regions_from : List ℕ → ℕ → ℕ → List Region

@@ -16,18 +16,13 @@ size_in_bytes density =
     if not (density % 8 == 0) || (density / 8 == 0) || not (density / 8 % 4096 == 0) || nat_lt (2 ^ 28) (density / 8) then Err Density
     else Ok (density / 8)
 
--- a size of 2^N bits, where the first says whether N is past 31: then it is over 256 MiB, and the power isn't looked at
-abbrev pub size_of_power : Bool → ℕ → Result ℕ SfdpFault
-size_of_power true n = Err Density
-size_of_power false n = size_in_bytes (2 ^ n)
-
--- DWORD 2, Flash Memory Density. Bit 31 clear: bits 30:0 are the density in bits, minus one; set: it is 2^N, N in bits 30:0
-abbrev pub size_by : Bool → ℕ → Result ℕ SfdpFault
-size_by true value = size_of_power (nat_lt 31 value) value
-size_by false value = size_in_bytes (value + 1)
-
+-- DWORD 2, Flash Memory Density. Bit 31 clear: bits 30:0 are the density in bits, minus one; set: it is 2^N, N in bits 30:0,
+-- over 256 MiB where N is past 31
 unfoldable pub size_of : ℕ → Result ℕ SfdpFault
-size_of dword2 = size_by (is_set dword2 31) (bits dword2 30 0)
+size_of dword2 =
+    if not (is_set dword2 31) then size_in_bytes (bits dword2 30 0 + 1)
+    else if nat_lt 31 (bits dword2 30 0) then Err Density
+    else size_in_bytes (2 ^ bits dword2 30 0)
 
 -- DWORD 1 bits 18:17, Address Bytes: 00 three, 01 three or four, 10 four, 11 reserved. DWORD 16 bit 30: always four
 unfoldable pub width_of : ℕ → ℕ → Result Width SfdpFault
@@ -47,9 +42,8 @@ page_of dwords dword1 dword11 =
 -- DWORD 16, Enter and Exit 4-Byte Addressing: by the opcode alone, or after a write enable. DWORD 1 bits 18:17 have to
 -- say three or four address bytes, and DWORD 16 bit 30 must not say always four
 unfoldable pub switch_of : Width → Bool → Bool → Switch
-switch_of Three plain latched = Absent
 switch_of Both plain latched = if plain then Plain else (if latched then Latched else Absent)
-switch_of Four plain latched = Absent
+switch_of other plain latched = Absent
 
 -- DWORD 1 bit 22, Supports (1-1-4) Fast Read, and DWORD 3, of it: bits 20:16 wait states, 23:21 mode clocks, 31:24
 -- instruction

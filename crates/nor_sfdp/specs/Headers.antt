@@ -1,14 +1,13 @@
 -- The SFDP header and the parameter headers (JESD216B, 6.2 and 6.3).
-use Rattle.std.specs.Prelude.{ℕ, ◌+◌, ◌*◌, ◌==◌, ◌&&◌, ◌||◌, not, max, nat_lt, Bool, List, [], ◌∷◌, length, map, filter, slice_index, Option, Some, None, Result, Ok, Err, if◌then◌else◌}
-use Rattle.std.specs.List.{find, range_with_len}
+use Rattle.std.specs.Prelude.{ℕ, ◌+◌, ◌*◌, ◌==◌, ◌&&◌, ◌||◌, not, max, nat_eq, nat_lt, Bool, List, [], ◌∷◌, length, map, filter, slice_index, codes, Option, Some, None, Result, Ok, Err, if◌then◌else◌}
+use Rattle.std.specs.List.{find, range_with_len, starts_with}
 use Rattle.nor_sfdp.specs.declared.fault.SfdpFault.{SfdpFault}
 use Rattle.nor_sfdp.specs.declared.fault.SfdpFault.TheVariants.{Signature, Truncated, Major}
 use Rattle.nor_sfdp.specs.declared.header.Header.{Header}
 
 -- `SFDP`
 abbrev pub is_signed : List ℕ → Bool
-is_signed bytes =
-    (slice_index bytes 0 == 0x53) && (slice_index bytes 1 == 0x46) && (slice_index bytes 2 == 0x44) && (slice_index bytes 3 == 0x50)
+is_signed bytes = starts_with nat_eq bytes (codes "SFDP")
 
 -- byte 6: the number of parameter headers, minus one
 unfoldable pub header_count_of : List ℕ → Result ℕ SfdpFault

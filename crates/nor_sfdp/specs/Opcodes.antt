@@ -1,6 +1,7 @@
 -- Which opcodes a chip's own instructions have.
 use Rattle.std.specs.Prelude.{ℕ, suc, Bool, true, false, List, [], ◌∷◌, ◌++◌, Option, Some, None}
 use Rattle.std.specs.List.{list_any}
+use Rattle.std.specs.Option.{option_map_or}
 use Rattle.nor_base.specs.declared.meaning.Erase.{Erase}
 use Rattle.nor_base.specs.declared.meaning.Region.{Region}
 use Rattle.nor_base.specs.Parameters.{allows}
@@ -10,16 +11,11 @@ use Rattle.nor_base.specs.Accepted.{fixed_opcodes}
 abbrev pub is_allowed : List Region → ℕ → Bool
 is_allowed regions kind = list_any (λ region. allows region kind) regions
 
-abbrev pub op4_of : Option ℕ → List ℕ
-op4_of None = []
-op4_of (Some op4) = op4 ∷ []
-
 -- the opcodes of a kind: op and, where it has one, op4 of a kind that some region allows; none of one that is absent or that no
 -- region allows
 abbrev pub kind_opcodes : Option Erase → Bool → List ℕ
-kind_opcodes None allowed = []
-kind_opcodes (Some erase) true = erase.op ∷ op4_of erase.op4
-kind_opcodes (Some erase) false = []
+kind_opcodes (Some erase) true = erase.op ∷ option_map_or (λ op4. op4 ∷ []) erase.op4 []
+kind_opcodes slot allowed = []
 
 -- the opcodes of the kinds that are live, the first of the slots being kind k
 abbrev pub live_opcodes : List Region → ℕ → List (Option Erase) → List ℕ

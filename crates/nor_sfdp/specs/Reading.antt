@@ -1,5 +1,5 @@
 -- What SFDP bytes, configuration bits and the part together say of a chip, or the first fault in the order of looking.
-use Rattle.std.specs.Prelude.{ℕ, ◌==◌, ◌&&◌, Bool, true, false, List, Option, Some, None, is_some, Result, Ok, Err, if◌then◌else◌}
+use Rattle.std.specs.Prelude.{ℕ, ◌==◌, ◌&&◌, not, Bool, true, false, List, Option, Some, None, is_some, Result, Ok, Err, if◌then◌else◌}
 use Rattle.std.specs.List.{list_any}
 use Rattle.nor_base.specs.declared.meaning.Part.{Part}
 use Rattle.nor_base.specs.declared.meaning.Part.TheVariants.{Generic, W25q256jv}
@@ -20,10 +20,10 @@ use Rattle.nor_sfdp.specs.Kinds.{kinds_of}
 use Rattle.nor_sfdp.specs.SectorMap.{regions_of}
 use Rattle.nor_sfdp.specs.Opcodes.{taken_opcodes}
 
--- the part takes quad programs by 32h
-abbrev pub is_quad3 : Part → Bool
-is_quad3 Generic = false
-is_quad3 W25q256jv = true
+-- no part is named
+abbrev pub is_generic : Part → Bool
+is_generic Generic = true
+is_generic W25q256jv = false
 
 -- own: a quad read whose opcode is taken counts as absent
 abbrev pub free_read : List ℕ → Option QuadRead → Option QuadRead
@@ -33,10 +33,9 @@ free_read taken (Some read) = if list_any (λ other. read.op == other) taken the
 -- the parameters, once all that can be refused is read
 abbrev pub parameters_by : Tables → Part → ℕ → Width → Page → List (Option Erase) → List Region → Parameters
 parameters_by tables part size width page kinds regions =
-    let basic = tables.basic in
-    let dword16 = word basic 16 in
+    let dword16 = word tables.basic 16 in
     let offered = word_in tables.four_byte 1 in
-    let read = free_read (taken_opcodes kinds regions) (quad_read_of (word basic 1) (word basic 3)) in
+    let read = free_read (taken_opcodes kinds regions) (quad_read_of (word tables.basic 1) (word tables.basic 3)) in
     record {
       size = size;
       page = page.size;
@@ -53,7 +52,8 @@ parameters_by tables part size width page kinds regions =
       quad_read4 = is_some read && is_set offered 4;
       program4 = is_set offered 6;
       quad4 = is_set offered 7;
-      quad3 = is_quad3 part;
+      -- W25Q256JV datasheet, "Quad Input Page Program (32h)"
+      quad3 = not (is_generic part);
       erased_only = false;
     }
 

@@ -20,9 +20,7 @@ cut_of bytes header =
 
 unfoldable pub cut_where_there : List ℕ → Option Header → Result (Option (List ℕ)) SfdpFault
 cut_where_there bytes None = Ok None
-cut_where_there bytes (Some header) = do
-  table ← cut_of bytes header
-  Ok (Some table)
+cut_where_there bytes (Some header) = cut_of bytes header >>= λ table. Ok (Some table)
 
 -- the table of an ID
 unfoldable pub table_of : List ℕ → ℕ → Result (Option (List ℕ)) SfdpFault
@@ -30,15 +28,11 @@ table_of bytes id = do
   count ← header_count_of bytes
   cut_where_there bytes (newest id (headers_of bytes count))
 
--- FF84h is there, and has no two DWORDs
-abbrev pub is_short : Option Header → Bool
-is_short four_byte = option_map_or (λ header. nat_lt header.dwords 2) four_byte false
-
 -- the tables that a header is there for: FF00h has to be, with nine DWORDs, and FF84h needs two
 abbrev pub tables_by : List ℕ → Option Header → Option Header → Option Header → Result Tables SfdpFault
 tables_by bytes None sectors four_byte = Err NoBasic
 tables_by bytes (Some basic) sectors four_byte =
-    if nat_lt basic.dwords 9 || is_short four_byte then Err ShortTable
+    if nat_lt basic.dwords 9 || option_map_or (λ header. nat_lt header.dwords 2) four_byte false then Err ShortTable
     else (cut_of bytes basic >>= λ basic_table. cut_where_there bytes sectors >>= λ sectors_table. cut_where_there bytes four_byte >>= λ four_byte_table.
     Ok (record { basic = basic_table; sectors = sectors_table; four_byte = four_byte_table }))
 

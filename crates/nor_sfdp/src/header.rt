@@ -50,10 +50,9 @@ pub(crate) fn header_count(bytes: &[u8]) -> Result<usize, SfdpFault>
 
 /// Whether the bytes begin with `SFDP`.
 fn is_signed(bytes: &[u8]) -> bool
-    requires { 4 ≤ length bytes.now }
     ensures { result ≡ is_signed bytes.now }
 {
-    bytes[0] == b'S' && bytes[1] == b'F' && bytes[2] == b'D' && bytes[3] == b'P'
+    bytes.starts_with(b"SFDP")
 }
 
 /// The parameter header with an index, which counts from 0.

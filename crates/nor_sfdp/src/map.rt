@@ -1,13 +1,15 @@
 //! The sector map FF81h.
 
 ghost use Rattle.std.specs.Prelude.{◌≡◌, ◌+◌, ◌*◌, ◌<◌, ◌≤◌, ◌%◌, ◌^◌, [], ◌∷◌, length, Ok, Err};
-ghost use Rattle.std.specs.Prelude.{IfOk, IfSome, IsTrue, MatchResult};
+ghost use Rattle.std.specs.Prelude.{if◌then◌else◌, Some, None, IfOk, IfSome, IsTrue, MatchResult};
 ghost use Rattle.std.specs.List.{list_all, AllByRecursion};
 ghost use Rattle.std.specs.Option.{option_map};
+ghost use Rattle.std.specs.Char.{is_digit};
+ghost use Rattle.std.specs.Str.Parse.{digits_value};
 ghost use Rattle.nor_base.specs.Accepted.{IsRegion};
 ghost use Rattle.nor_sfdp.specs.Bits.{dword_count};
 ghost use Rattle.nor_sfdp.specs.SectorMap.{is_command, command_count_of, checked_map, found_or};
-ghost use Rattle.nor_sfdp.specs.SectorMap.{first_map_of, is_binary_digit, bit_of, id_of, wanted_id};
+ghost use Rattle.nor_sfdp.specs.SectorMap.{first_map_of, wanted_id};
 ghost use Rattle.nor_sfdp.specs.SectorMap.{region_of, bytes_of, regions_at, mapped_regions};
 ghost use Rattle.nor_sfdp.specs.SectorMap.{regions_of};
 
@@ -111,50 +113,32 @@ fn first_map(table: &SfdpTable<'_>, from: usize, id: u32) -> Result<Option<Secto
     Ok(found)
 }
 
-/// Whether a byte is a configuration bit.
-fn is_binary_digit(character: u8) -> bool
-    ensures { result ≡ is_binary_digit character }
-{
-    matches!(character, b'0' | b'1')
-}
-
-/// Whether all bytes are configuration bits.
-fn are_binary_digits(config: &[u8]) -> bool
-    ensures { result ≡ list_all is_binary_digit config.now }
-{
-    config.iter().all(|character| is_binary_digit(*character))
-}
-
-/// The value of a configuration bit.
-fn bit_of(character: u8) -> u32
-    ensures value { result ≡ bit_of character }
-    ensures small { result ≤ 1 }
-{
-    u32::from(character == b'1')
-}
-
 /// The ID that configuration bits give, one for each of so many commands.
 #[tactic(auto, unfolding(crate::specs::SectorMap::wanted_id))]
 fn wanted_id(config: &[u8], commands: usize) -> Result<u32, SfdpFault>
     requires { commands ≤ 8 }
     ensures { result ≡ wanted_id config.now commands }
 {
-    if config.len() != commands || !are_binary_digits(config) {
+    if config.len() != commands {
         return Err(SfdpFault::ConfigBits);
     }
-    Ok(id_of(config))
+    number_of(config).ok_or(SfdpFault::ConfigBits)
 }
 
-/// The number that configuration bits spell, the first the highest.
-fn id_of(config: &[u8]) -> u32
-    requires { length config.now ≤ 8 }
-    ensures { result ≡ id_of config.now }
+/// The number that binary digits spell, the first the highest, or None where a byte is none.
+fn number_of(digits: &[u8]) -> Option<u32>
+    requires { length digits.now ≤ 8 }
+    ensures { result ≡ (if list_all (λ c. is_digit c 2) digits.now
+        then Some (digits_value 2 digits.now) else None) }
 {
-    let mut id = 0;
-    for character in config {
-        id = 2 * id + bit_of(*character);
+    let mut number: u32 = 0;
+    for digit in digits {
+        let Some(bit) = char::from(*digit).to_digit(2) else {
+            return None;
+        };
+        number = number * 2 + bit;
     }
-    id
+    Some(number)
 }
 
 /// The bytes of a region.

@@ -1,12 +1,12 @@
 //! What SFDP bytes say of a chip.
 
 ghost use Rattle.std.specs.Prelude.{◌≡◌, ◌<◌, ◌≤◌, ◌%◌, ◌^◌, ◌==◌, ◌&&◌, false, IfSome, IsSome};
-ghost use Rattle.std.specs.Prelude.{IsTrue, is_some, length};
+ghost use Rattle.std.specs.Prelude.{IsTrue, is_some, length, not};
 ghost use Rattle.std.specs.List.{AllByRecursion, list_any};
 ghost use Rattle.nor_base.specs.Accepted.{IsPowerOfTwo, IsRegion};
 ghost use Rattle.nor_sfdp.specs.Kinds.{IsKind};
 ghost use Rattle.nor_sfdp.specs.SectorMap.{bytes_of};
-ghost use Rattle.nor_sfdp.specs.Reading.{completed, free_read, is_quad3, meaning_of};
+ghost use Rattle.nor_sfdp.specs.Reading.{completed, free_read, is_generic, meaning_of};
 
 use crate::basic::{Page, page_in, quad_read, size, switch, width};
 use crate::fault::SfdpFault;
@@ -90,7 +90,7 @@ fn completed(
 
 /// Whether a part takes quad programs by 32h.
 fn is_quad3(part: Part) -> bool
-    ensures { result ≡ is_quad3 part }
+    ensures { result ≡ not (is_generic part) }
 {
     matches!(part, Part::W25q256jv)
 }

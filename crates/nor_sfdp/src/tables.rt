@@ -1,9 +1,9 @@
 //! The tables behind the parameter headers.
 
-ghost use Rattle.std.specs.Prelude.{◌≡◌, ◌+◌, ◌*◌, ◌<◌, ◌^◌, length};
+ghost use Rattle.std.specs.Prelude.{◌≡◌, ◌+◌, ◌*◌, ◌<◌, ◌^◌, false, nat_lt, length};
 ghost use Rattle.nor_sfdp.specs.Bits.{dword_at, dword_count, word, word_in};
-ghost use Rattle.std.specs.Option.{option_map};
-ghost use Rattle.nor_sfdp.specs.Tables.{cut_of, cut_where_there, is_short, table_of, tables_of};
+ghost use Rattle.std.specs.Option.{option_map, option_map_or};
+ghost use Rattle.nor_sfdp.specs.Tables.{cut_of, cut_where_there, table_of, tables_of};
 
 use crate::fault::SfdpFault;
 use crate::header::{Header, header_count, newest};
@@ -133,7 +133,7 @@ pub(crate) fn tables_in(bytes: &[u8]) -> Result<Tables<'_>, SfdpFault>
 
 /// Whether a four-byte address instruction table is there and has no two DWORDs.
 fn is_short(four_byte: Option<Header>) -> bool
-    ensures { result ≡ is_short four_byte }
+    ensures { result ≡ option_map_or (λ header. nat_lt header.dwords 2) four_byte false }
 {
     four_byte.is_some_and(|header| header.dwords < 2)
 }

@@ -1,6 +1,6 @@
 -- The bytes of an image are bytes.
 use Rattle.std.proofs.Common.{◌≡◌, ℕ, zero, suc, ◌-◌, ◌<◌, ◌&&◌, nat_le, nat_lt, not, Bool, true, false, if◌then◌else◌, List, [], ◌∷◌, map, drop, Some, None, Ok, Err, refl, ◌∙◌, ap, subst, arith}
-use Rattle.std.specs.Prelude.{is_some, slice_get}
+use Rattle.std.specs.Prelude.{◌==◌, is_some, slice_get}
 use Rattle.std.specs.List.{slice_index, list_all}
 use Rattle.std.specs.Option.{unwrap_or}
 use Rattle.std.proofs.lemmas.Bool.{and_parts, leb-true}
@@ -9,7 +9,7 @@ use Rattle.nor_hex.specs.declared.fault.HexFault.{HexFault}
 use Rattle.nor_hex.specs.declared.fault.HexFault.TheVariants.{NoColon, BadDigit, BadLength, BadSum, BadType}
 use Rattle.nor_hex.specs.Faults.{IsImage}
 use Rattle.nor_hex.specs.Image.{Pairs, byte_at}
-use Rattle.nor_hex.specs.Record.{Record, digit, pair_bytes, has_colon, has_length, has_sum, type_field, length_field, fields, record_of}
+use Rattle.nor_hex.specs.Record.{Record, digit, pair_bytes, has_length, has_sum, type_field, length_field, fields, record_of}
 use Rattle.nor_hex.specs.Records.{record_at}
 use Rattle.nor_job.specs.Written.{AreBytes}
 use Rattle.norprog.proofs.Promise.Bytes.{small_take, small_drop}
@@ -53,7 +53,7 @@ record_small : (n : ℕ) (line : List ℕ) (r : Record) → record_of n line ≡
 unfolding record_of
 record_small n line r is =
     let bytes = pair_bytes (drop 1 line) in
-    let same : fields n bytes ≡ r = by_tests (not (has_colon line)) (not (list_all is_digit (drop 1 line))) (not (has_length (drop 1 line))) (not (has_sum (drop 1 line)))
+    let same : fields n bytes ≡ r = by_tests (not (slice_index line 0 == 58)) (not (list_all is_digit (drop 1 line))) (not (has_length (drop 1 line))) (not (has_sum (drop 1 line)))
     (nat_lt 5 (type_field bytes)) (NoColon n) (BadDigit n) (BadLength n) (BadSum n) (BadType n) (fields n bytes) r is in
     subst (λ (s : Record). AreBytes s.bytes) same (small_take (length_field bytes) (drop 4 bytes) (small_drop 4 bytes (pairs_small (drop 1 line))))
 

@@ -11,7 +11,7 @@ use Rattle.nor_base.specs.declared.meaning.Strategy.TheVariants.{S1, S2, S3, S4,
 use Rattle.nor_base.specs.declared.meaning.Switch.{Switch}
 use Rattle.nor_base.specs.declared.meaning.Switch.TheVariants.{Absent, Plain, Latched}
 use Rattle.nor_base.specs.declared.step.Step.TheVariants.{Poll}
-use Rattle.nor_base.specs.Array.{are_bytes}
+use Rattle.nor_base.specs.Array.{are_bytes, is_filled}
 use Rattle.nor_base.specs.Clocks.{bits, nibbles, head_bytes, body_clocks, clocks_of, CanCarry, CanAllBeSpelled}
 use Rattle.nor_base.specs.Instructions.{Form, nothing, sends, sends4, samples, samples4, form_of}
 use Rattle.nor_base.specs.Parameters.{Parameters}
@@ -20,7 +20,7 @@ use Rattle.nor_base.specs.Operations.{Op, erases, writes, reads, takes_dedicated
 use Rattle.nor_base.specs.Run.{poll_clocks}
 use Rattle.nor_base.specs.Sample.{is_symbol}
 use Rattle.nor_base.specs.Spelling.{Instr, Spells, IsStepBy, AreStepsOf, mode_after}
-use Rattle.nor_base.specs.Step.{are_clocks, is_filled, IsStep}
+use Rattle.nor_base.specs.Step.{are_clocks, IsStep}
 use Rattle.nor_laws.specs.Spelling.{HasSpelling}
 use Rattle.nor_steps.specs.Lines.{step_by, steps_of}
 use Rattle.nor_base.proofs.ListLaws.{all_append}

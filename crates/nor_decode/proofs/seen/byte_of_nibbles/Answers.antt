@@ -4,5 +4,4 @@ use Rattle.nor_decode.proofs.ByteLemmas.{nibbles_at}
 use Rattle.nor_decode.proofs.seen.byte_of_nibbles.Goals as goal
 
 pub returns : goal.returns
-unfolding nibble
 returns c = rw (nibbles_at c.args.clocks.now c.args.i c.requires) (cc)

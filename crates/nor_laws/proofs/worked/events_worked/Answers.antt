@@ -15,11 +15,11 @@ use Rattle.nor_laws.specs.Seen.{one_program}
 use Rattle.nor_laws.proofs.worked.events_worked.Goals as goal
 
 pub returns-clause-steps : goal.returns-clause-steps
-unfolding events_from step_events polled_events decode transaction by_row has_opcode is_form is_data is_bit_sent is_nibble_sent is_bit_sampled is_nibble_sampled is_idle bit nibble row_of effect effect_of after answer is_out_of_range is_legal erased programmed is_barred last_byte_for step run polled is_verify
+unfolding events_from step_events polled_events decode transaction by_row has_opcode is_form is_data is_bit_sent is_nibble_sent is_bit_sampled is_nibble_sampled is_idle bit row_of effect effect_of after answer is_out_of_range is_legal erased programmed is_barred last_byte_for step run polled is_verify
 returns-clause-steps c = refl
 
 pub returns-clause-erased : goal.returns-clause-erased
-unfolding events_from step_events polled_events decode transaction by_row has_opcode is_form is_data is_bit_sent is_nibble_sent is_bit_sampled is_nibble_sampled is_idle bit nibble row_of effect effect_of after answer is_out_of_range is_legal erased programmed is_barred last_byte_for step run polled is_verify
+unfolding events_from step_events polled_events decode transaction by_row has_opcode is_form is_data is_bit_sent is_nibble_sent is_bit_sampled is_nibble_sampled is_idle bit row_of effect effect_of after answer is_out_of_range is_legal erased programmed is_barred last_byte_for step run polled is_verify
 returns-clause-erased c = refl
 
 -- the program as it is seen, and the status reads after it
@@ -57,7 +57,7 @@ abbrev left_with : ℕ → Chip
 left_with n = chip_with one_byte_at_5 false false n []
 
 pub returns-clause-unread : goal.returns-clause-unread
-unfolding events_from step_events polled_events decode transaction by_row has_opcode is_form is_data is_bit_sent is_nibble_sent is_bit_sampled is_nibble_sampled is_idle bit nibble row_of effect effect_of after answer is_out_of_range is_legal erased programmed is_barred last_byte_for step run polled is_verify
+unfolding events_from step_events polled_events decode transaction by_row has_opcode is_form is_data is_bit_sent is_nibble_sent is_bit_sampled is_nibble_sampled is_idle bit row_of effect effect_of after answer is_out_of_range is_legal erased programmed is_barred last_byte_for step run polled is_verify
 returns-clause-unread c h =
     let r = h 1 5 programs refl refl in
     later_none one_byte_at_5 one_program 5 (record { step = 0; seen = Some (record { what = what.Enable; address = 0; sent = []; asked = 0 }); chip = chip_with blank true false 0 (2 ∷ []) })

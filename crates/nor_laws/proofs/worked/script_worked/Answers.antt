@@ -19,7 +19,7 @@ pub returns-clause-length : goal.returns-clause-length
 returns-clause-length c = refl
 
 pub returns-clause-idle : goal.returns-clause-idle
-unfolding decode transaction by_row has_opcode is_form is_data is_bit_sent is_nibble_sent is_bit_sampled is_nibble_sampled is_idle bit nibble row_of effect effect_of after answer is_out_of_range is_legal erased programmed is_barred last_byte_for step run polled is_verify trail step_trail polled_trail is_settled
+unfolding decode transaction by_row has_opcode is_form is_data is_bit_sent is_nibble_sent is_bit_sampled is_nibble_sampled is_idle bit row_of effect effect_of after answer is_out_of_range is_legal erased programmed is_barred last_byte_for step run polled is_verify trail step_trail polled_trail is_settled
 returns-clause-idle c = record {
   final = chip_with (0 ∷ replicate 8191 255) false false 0 [];
   good = record { runs = refl; settled = refl };
@@ -27,7 +27,7 @@ returns-clause-idle c = record {
 }
 
 pub returns-clause-busy : goal.returns-clause-busy
-unfolding decode transaction by_row has_opcode is_form is_data is_bit_sent is_nibble_sent is_bit_sampled is_nibble_sampled is_idle bit nibble row_of effect effect_of after answer is_out_of_range is_legal erased programmed is_barred last_byte_for step run polled is_verify trail step_trail polled_trail is_settled
+unfolding decode transaction by_row has_opcode is_form is_data is_bit_sent is_nibble_sent is_bit_sampled is_nibble_sampled is_idle bit row_of effect effect_of after answer is_out_of_range is_legal erased programmed is_barred last_byte_for step run polled is_verify trail step_trail polled_trail is_settled
 returns-clause-busy c = record {
   final = chip_with (0 ∷ replicate 8191 255) false false 0 [];
   good = record { runs = refl; settled = refl };
@@ -35,7 +35,7 @@ returns-clause-busy c = record {
 }
 
 pub returns-clause-busier : goal.returns-clause-busier
-unfolding decode transaction by_row has_opcode is_form is_data is_bit_sent is_nibble_sent is_bit_sampled is_nibble_sampled is_idle bit nibble row_of effect effect_of after answer is_out_of_range is_legal erased programmed is_barred last_byte_for step run polled is_verify trail step_trail polled_trail is_settled
+unfolding decode transaction by_row has_opcode is_form is_data is_bit_sent is_nibble_sent is_bit_sampled is_nibble_sampled is_idle bit row_of effect effect_of after answer is_out_of_range is_legal erased programmed is_barred last_byte_for step run polled is_verify trail step_trail polled_trail is_settled
 returns-clause-busier c = record {
   final = chip_with (0 ∷ replicate 8191 255) false false 0 [];
   good = record { runs = refl; settled = refl };

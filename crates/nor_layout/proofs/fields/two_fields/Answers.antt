@@ -2,7 +2,7 @@ use Rattle.std.proofs.Common.{sym, rules, tests}
 use Rattle.std.proofs.lemmas.Iterator.Splits.{YieldsList-from_slice_split}
 use Rattle.std.proofs.lemmas.Iterator.Consumers.{YieldsList-at, YieldsList-from_filter}
 use Rattle.nor_layout.specs.Fields.{is_separator}
-use Rattle.nor_layout.specs.Region.{is_filled}
+use Rattle.nor_base.specs.Array.{is_filled}
 use Rattle.nor_layout.proofs.Parts.{none_given, one_given, two_given, three_given}
 use Rattle.nor_layout.proofs.fields.two_fields.Goals as goal
 use Rattle.nor_layout.proofs.fields.two_fields.Goals.{in_default-via-in-Some+in-Some+in_default, in_default-via-in-Some+in_default, in_default-via-in_default}

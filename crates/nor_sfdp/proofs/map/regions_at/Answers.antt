@@ -4,8 +4,8 @@ use Rattle.std.specs.List.{AllByRecursion, range_with_len}
 use Rattle.nor_base.specs.declared.meaning.Region.{Region}
 use Rattle.nor_base.specs.Accepted.{IsRegion}
 use Rattle.nor_sfdp.specs.Bits.{bits}
-use Rattle.nor_sfdp.specs.SectorMap.{region_of, region_at, bytes_of, map_regions}
-use Rattle.nor_sfdp.proofs.RegionLemmas.{regions_from, region_pushed, bytes_more, bytes_differ, bytes_pass, bytes_agree, are_regions}
+use Rattle.nor_sfdp.specs.SectorMap.{region_of, bytes_of, map_regions}
+use Rattle.nor_sfdp.proofs.RegionLemmas.{region_at, regions_from, region_pushed, bytes_more, bytes_differ, bytes_pass, bytes_agree, are_regions}
 use Rattle.nor_sfdp.proofs.map.regions_at.Goals as goal
 
 pub returns-then-total-size-clause-regions : goal.returns-then-total-size-clause-regions
