@@ -46,7 +46,7 @@ clock_known driven sampled byte (Some c) is h = record {
 has_clock : (driven sampled byte : ℕ) → has_lanes driven sampled byte ≡ true → HasClock driven sampled byte
 has_clock driven sampled byte h =
     clock_known driven sampled byte (clock_at byte) refl
-      (subst (λ o. option_map_or (λ (s : Sample). (s.driven == driven) && (s.sampled == sampled)) o false ≡ true) (by_clock byte) h)
+    (subst (λ o. option_map_or (λ (s : Sample). (s.driven == driven) && (s.sampled == sampled)) o false ≡ true) (by_clock byte) h)
 
 -- whether a symbol is `.`, and whether it is `=`
 abbrev is_dot : ℕ → Bool

@@ -40,9 +40,16 @@ not_this byte k less = false_from_ne_true (byte == k) (λ is. omega (arith, less
 no_sample : (byte : ℕ) → 128 ≤ byte → sample_at byte ≡ None
 no_sample byte past =
     let high : nat_le byte 0x70 ≡ false = lt-leb byte 0x70 (omega (arith, past)) in
-    rw (not_this byte 0x30 (omega (arith, past)), not_this byte 0x31 (omega (arith, past)), high, and-false (nat_le 0x61 byte),
-        not_this byte 0x2E (omega (arith, past)), not_this byte 0x3D (omega (arith, past)), not_this byte 0x2D (omega (arith, past)))
-      refl
+    rw (
+      not_this byte 0x30 (omega (arith, past)),
+      not_this byte 0x31 (omega (arith, past)),
+      high,
+      and-false (nat_le 0x61 byte),
+      not_this byte 0x2E (omega (arith, past)),
+      not_this byte 0x3D (omega (arith, past)),
+      not_this byte 0x2D (omega (arith, past)),
+    )
+    refl
 
 pub by_clock : (byte : ℕ) → sample_at byte ≡ option_map sample (clock_at byte)
 by_clock byte = elim (cases_lt byte 128) [

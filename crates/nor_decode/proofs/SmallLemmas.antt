@@ -11,13 +11,13 @@ use Rattle.nor_decode.proofs.NumberLemmas.{number_below}
 -- the levels at a symbol, by which of the symbols it is
 level_below : (byte : ℕ) (zero one nibbles dot equals dash : Bool) → nat_le 0x61 byte && nat_le byte 0x70 ≡ nibbles
     → option_map_or (λ s. s.level)
-      (if zero then Some (bit_sample 0)
-      else if one then Some (bit_sample IO0)
-      else if nibbles then Some (nibble_sample (byte - 0x61))
-      else if dot then Some (record { driven = IO2 + IO3; level = IO2 + IO3; sampled = IO1 })
-      else if equals then Some (record { driven = 0; level = 0; sampled = all_lanes })
-      else if dash then Some (record { driven = 0; level = 0; sampled = 0 })
-      else None) 0 < 16
+    (if zero then Some (bit_sample 0)
+    else if one then Some (bit_sample IO0)
+    else if nibbles then Some (nibble_sample (byte - 0x61))
+    else if dot then Some (record { driven = IO2 + IO3; level = IO2 + IO3; sampled = IO1 })
+    else if equals then Some (record { driven = 0; level = 0; sampled = all_lanes })
+    else if dash then Some (record { driven = 0; level = 0; sampled = 0 })
+    else None) 0 < 16
 level_below byte true one nibbles dot equals dash is = omega arith
 level_below byte false true nibbles dot equals dash is = omega arith
 level_below byte false false true dot equals dash is = omega (arith, leb-true byte 0x70 (and_parts (nat_le 0x61 byte) (nat_le byte 0x70) is).1)

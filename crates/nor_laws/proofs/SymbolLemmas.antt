@@ -24,7 +24,7 @@ some_clock byte test (Some clock) is h = symbol_small byte clock is
 lanes_small : (driven sampled byte : ℕ) → has_lanes driven sampled byte ≡ true → byte < 128
 lanes_small driven sampled byte h =
     some_clock byte (λ sample. (sample.driven == driven) && (sample.sampled == sampled)) (clock_at byte) refl
-      (subst (λ o. option_map_or (λ sample. (sample.driven == driven) && (sample.sampled == sampled)) o false ≡ true) (by_clock byte) h)
+    (subst (λ o. option_map_or (λ sample. (sample.driven == driven) && (sample.sampled == sampled)) o false ≡ true) (by_clock byte) h)
 
 pub implied : (a b : Bool) → not a || b ≡ true → a ≡ true → b ≡ true
 implied true b h is = h

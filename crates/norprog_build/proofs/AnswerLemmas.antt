@@ -1,5 +1,5 @@
 -- What was built, and why nothing was, of a job that is asked for.
-use Rattle.std.proofs.Common.{◌≡◌, ℕ, Bool, true, ◌⊎◌, ◌∙◌, inl, inr, refl, List, Option, Some, Result, Ok, Err, IfOk, IfErr}
+use Rattle.std.proofs.Common.{◌≡◌, ℕ, Bool, true, ◌⊎◌, ◌∙◌, inl, inr, refl, List, Option, Some, Result, Ok, Err, IfOk, IfErr, MatchResult}
 use Rattle.std.specs.Prelude.{⊤}
 use Rattle.nor_base.specs.Device.{Ahead}
 use Rattle.nor_job.specs.declared.fault.BuildFault.{BuildFault}
@@ -83,11 +83,3 @@ unsent Asked Sent report of = record {
     built = of.has.built;
   };
 }
-
--- what is answered, as the work ended
-pub answer_is : (asks : Bool) (Done Cut Quiet Works : Type 0) (Work : Refusal → Type 0) (told_before told_after : Option (List ℕ)) (work : Result ℕ Refusal) (status : ℕ)
-    → IfOk work (λ s. s ≡ 0) → IfOk work (λ _. Done) → IfErr work (λ _. Cut) → IfOk work (λ _. asks ≡ true) → IfErr work (OrUsage asks Work)
-    → IfOk work (λ s. (status ≡ s) × Quiet) → IfErr work (λ why. (status ≡ status_after why) × (Works → Appends told_before told_after (printed why)))
-    → Answers asks ((status ≡ 0) × Done × Quiet) Cut Work Works told_before told_after status
-answer_is asks Done Cut Quiet Works Work told_before told_after (Ok s) status zero is cut formed why done told = inl (formed, (done.0 ∙ zero, is, done.1))
-answer_is asks Done Cut Quiet Works Work told_before told_after (Err why) status zero is cut formed first done told = inr (cut, (why, first, told.0, told.1))

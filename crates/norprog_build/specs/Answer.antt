@@ -1,5 +1,5 @@
 -- What is told of a build (this project's).
-use Rattle.std.specs.Prelude.{◌≡◌, ◌⊎◌, ⊤, ℕ, Bool, List, Option, Some, Result, Ok, Err}
+use Rattle.std.specs.Prelude.{◌≡◌, ◌⊎◌, ⊤, ℕ, Bool, List, Option, Some, option_map, Result, Ok, Err}
 use Rattle.std.specs.Io.KnownBytes.{Appends}
 use Rattle.nor_base.specs.Device.{Ahead, Cuts}
 use Rattle.nor_job.specs.declared.fault.BuildFault.{BuildFault}
@@ -12,10 +12,10 @@ use Rattle.norprog_common.specs.declared.faults.FileName.{FileName}
 use Rattle.norprog_common.specs.declared.faults.Refusal.{Refusal}
 use Rattle.norprog_common.specs.declared.faults.Refusal.TheVariants.{Build}
 use Rattle.norprog_common.specs.declared.given.BuildArgs.{BuildArgs}
-use Rattle.norprog_common.specs.FileStore.{FileFacts}
+use Rattle.norprog_common.specs.FileStore.{FileFacts, Change}
 use Rattle.norprog_common.specs.Told.{ForAsked, OfFault, RefusesFor, Answers}
 use Rattle.norprog_build.specs.Served.{asks_build, ServesBuild}
-use Rattle.norprog_common.specs.Served.{Job}
+use Rattle.norprog_common.specs.Served.{Job, MakesFor, MayMakeFor}
 use Rattle.norprog_common.specs.Strict.{Filled, OrEmpty}
 
 -- the job was done, this is its report, and its output is so of what it had taken
@@ -64,11 +64,14 @@ done (Err why) flushed = Err (Build why)
 done (Ok report) (Err e) = Err (Build Write)
 done (Ok report) (Ok u) = Ok report
 
--- what `build` answers to the texts of a command line: the report at status 0, after the script has gone out; or a refusal
-abbrev pub AnswersBuild : FileFacts → BuildArgs → Option (List ℕ) → Option (List ℕ) → Type 0 → Type 0 → Option (List ℕ) → Option (List ℕ) → ℕ → Type 0
-AnswersBuild files given before after Quiet Works told_before told_after status =
+-- what `build` answers to the texts of a command line, where `Made` says which changes it made: the report at status 0, after the
+-- script has gone out, and just the script's file was made; or a refusal, and at most that file was
+abbrev pub AnswersBuild : FileFacts → BuildArgs → (List Change → Type 0) → Option (List ℕ) → Option (List ℕ) → Type 0 → Type 0 → Option (List ℕ) → Option (List ℕ) → ℕ → Type 0
+AnswersBuild files given Made before after Quiet Works told_before told_after status =
     Answers (asks_build given)
-    ((status ≡ 0) × PrintsReport (Filled given.job.strict (ServesBuild files given)) files.flushed before after × Quiet)
-    (CutsReport (Filled given.job.strict (ServesBuild files given)) files.flushed before after)
+    ((status ≡ 0) × PrintsReport (Filled given.job.strict (ServesBuild files given)) files.flushed before after
+    × MakesFor files given.job (option_map (λ t. t.now) given.out) Made × Quiet)
+    (CutsReport (Filled given.job.strict (ServesBuild files given)) files.flushed before after
+    × MayMakeFor files given.job (option_map (λ t. t.now) given.out) Made)
     (RefusesBuild given.job.strict files.lacked (ServesBuild files given))
     Works told_before told_after status

@@ -1,11 +1,13 @@
 //! `build`: from the texts of the command line to the script in its file.
 
-ghost use Rattle.std.specs.Prelude.{◌≡◌, ◌<◌, ◌≤◌, ◌-◌, ◌^◌, Some, true, IfOk, IfErr};
+ghost use Rattle.std.specs.Prelude.{◌≡◌, ◌<◌, ◌≤◌, ◌-◌, ◌^◌, Some, true, option_map};
+ghost use Rattle.std.specs.Prelude.{IfOk, IfErr, MatchResult};
 ghost use Rattle.norprog_common.specs.Told.{OrUsage};
 ghost use Rattle.norprog_build.specs.Served.{asks_build, ServesBuild};
 ghost use Rattle.norprog_build.specs.Answer.{IsBuildReport, RefusesBuild, PrintsReport, CutsReport};
 ghost use Rattle.norprog_build.specs.Answer.{AnswersBuild, done};
-ghost use Rattle.norprog_common.specs.Served.{IsJobOf};
+ghost use Rattle.norprog_common.specs.FileStore.{Adds, MakesIf};
+ghost use Rattle.norprog_common.specs.Served.{IsJobOf, MakesFor, MayMakeFor, input_files_of};
 ghost use Rattle.norprog_common.specs.Strict.{Filled};
 
 use nor_base::{ByteOut, Failed};
@@ -22,6 +24,7 @@ use std::alloc::Global;
 pub fn build<S: FileStore, O: ByteOut, E: ByteOut>(
     alloc: Global,
     store: &S,
+    journal: &mut S::Journal,
     given: BuildArgs<'_>,
     out: &mut O,
     err: &mut E,
@@ -30,22 +33,31 @@ pub fn build<S: FileStore, O: ByteOut, E: ByteOut>(
     requires err { E.count err.old < 2 ^ 64 - 1 }
     ensures status { result ≤ 2 }
     ensures quiet { result ≡ 0 → err.new ≡ err.old }
-    ensures answer { AnswersBuild (S.facts store.now) given.entry (O.held out.old) (O.held out.new)
-        (err.new ≡ err.old)
+    ensures answer { AnswersBuild (S.facts store.now) given.entry
+        (Adds (S.Journal.changes journal.old) (S.Journal.changes journal.new))
+        (O.held out.old) (O.held out.new) (err.new ≡ err.old)
         (E.count err.new ≡ E.count err.old) (E.held err.old) (E.held err.new) result }
 {
-    answered(report_build(alloc, store, given, out), err)
+    answered(report_build(alloc, store, journal, given, out), err)
 }
 
 /// Builds what is asked for, and writes the report.
 fn report_build<S: FileStore, O: ByteOut>(
     alloc: Global,
     store: &S,
+    journal: &mut S::Journal,
     given: BuildArgs<'_>,
     out: &mut O,
 ) -> Result<u8, Refusal>
     requires { O.count out.old < 2 ^ 64 - 1 }
-    ensures status { IfOk result (λ status. status ≡ 0) }
+    ensures done { IfOk result (λ status. (status ≡ 0) × (asks_build given.entry ≡ true)) }
+    ensures journal { MatchResult result
+        (λ _. MakesFor (S.facts store.now) given.entry.job
+        (option_map (λ t. t.now) given.entry.out)
+        (Adds (S.Journal.changes journal.old) (S.Journal.changes journal.new)))
+        (λ _. MayMakeFor (S.facts store.now) given.entry.job
+        (option_map (λ t. t.now) given.entry.out)
+        (Adds (S.Journal.changes journal.old) (S.Journal.changes journal.new))) }
     ensures printed { IfOk result
         (λ _. PrintsReport (Filled given.entry.job.strict
         (ServesBuild (S.facts store.now) given.entry))
@@ -54,7 +66,6 @@ fn report_build<S: FileStore, O: ByteOut>(
         (λ _. CutsReport (Filled given.entry.job.strict
         (ServesBuild (S.facts store.now) given.entry))
         (S.facts store.now).flushed (O.held out.old) (O.held out.new)) }
-    ensures asked { IfOk result (λ _. asks_build given.entry ≡ true) }
     ensures first { IfErr result
         (OrUsage (asks_build given.entry)
         (RefusesBuild given.entry.job.strict (S.facts store.now).lacked
@@ -62,7 +73,7 @@ fn report_build<S: FileStore, O: ByteOut>(
 {
     let request = request_of(given.job).ok_or(Refusal::Usage)?;
     let path = given.out.ok_or(Refusal::Usage)?;
-    let report = run_build(alloc, store, &request, path)?;
+    let report = run_build(alloc, store, journal, &request, path)?;
     match write_report(&report, out) {
         Ok(()) => Ok(0),
         Err(_) => Err(Refusal::WRITE),
@@ -73,9 +84,12 @@ fn report_build<S: FileStore, O: ByteOut>(
 fn run_build<S: FileStore>(
     alloc: Global,
     store: &S,
+    journal: &mut S::Journal,
     request: &Request<'_>,
     path: &str,
 ) -> Result<Report, Refusal>
+    ensures journal { MakesIf (S.facts store.now) (input_files_of request.now) (Some path.now)
+        (Adds (S.Journal.changes journal.old) (S.Journal.changes journal.new)) result }
     ensures built { IfOk result
         (IsBuildReport (Filled request.now.strict
         (IsJobOf (S.facts store.now) request.now (Some path.now)))
@@ -85,11 +99,11 @@ fn run_build<S: FileStore>(
 {
     let mut places = Vec::new(alloc);
     let (texts, mut content, len) = open_job(alloc, store, request, &mut places)?;
-    let mut script = store.create(alloc, path, FileName::Out, places.as_slice())?;
+    let mut script = store.create(journal, alloc, path, FileName::Out, places.as_slice())?;
     let inputs = inputs_of(request, &texts);
     refuse_empty(alloc, request.strict, &inputs, len)?;
     let answer = norprog::build(alloc, &inputs, &mut content, len, &mut script);
-    let flushed = store.flush(&mut script);
+    let flushed = store.flush(script);
     done(answer, flushed)
 }
 

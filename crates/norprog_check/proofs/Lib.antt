@@ -2,6 +2,5 @@ pub mod FaultLemmas
 pub mod LineLemmas
 pub mod CheckLemmas
 mod ReadingLemmas
-mod StopLaws
 mod ServedLemmas
 mod AnswerLemmas

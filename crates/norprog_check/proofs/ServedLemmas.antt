@@ -1,9 +1,11 @@
 -- The job of a request is the one that the texts ask for, and so is the script.
-use Rattle.std.proofs.Common.{◌≡◌, ◌∙◌, Bool, refl, sym, subst, true, is_some, option_map, Option, Some, None, IfSome, List, ℕ}
+use Rattle.std.proofs.Common.{◌≡◌, ◌∙◌, Bool, refl, sym, subst, true, inl, inr, is_some, option_map, Option, Some, None, IfSome, List, ℕ}
 use Rattle.norprog_common.specs.FileStore.{FileFacts, IsTextIn, Named}
 use Rattle.norprog_common.specs.declared.given.CheckArgs.{CheckArgs}
 use Rattle.norprog_common.specs.declared.request.Request.{Request}
-use Rattle.norprog_check.specs.Served.{asks_check, ServesCheck, ServesScript}
+use Rattle.norprog_check.specs.Served.{asks_check, FailsScriptOf, ServesCheck, ServesScript}
+use Rattle.norprog_common.specs.Reading.{FailsReading}
+use Rattle.nor_base.specs.Device.{Ahead}
 use Rattle.norprog_common.specs.Request.{is_well_formed, AsksFor}
 use Rattle.norprog_common.specs.Served.{Job, IsJobOf}
 use Rattle.norprog_common.specs.Strict.{Filled}
@@ -27,12 +29,16 @@ pub script_serves : (files : FileFacts) (given : CheckArgs) (path : List ℕ) �
 script_serves files given path named text of = subst (Named (λ n. IsTextIn files n text)) (sym named) of
 
 pub check_refused : (files : FileFacts) (given : CheckArgs) (o : Option Request) (request : Request) (path : List ℕ) → o ≡ Some request → IfSome o (AsksFor given.job)
-    → option_map (λ t. t.now) given.script ≡ Some path → (why : Refusal) → RefusesAsked request.strict (OrScript files.lacked) (IsJobOf files request None) (IsTextIn files path) why
-    → RefusesAsked given.job.strict (OrScript files.lacked) (ServesCheck files given) (ServesScript files given) why
-check_refused files given o request path some asks script why of =
-    asked_wider_check given.job.strict (OrScript files.lacked) (IsJobOf files request None) (ServesCheck files given) (IsTextIn files path) (ServesScript files given)
+    → option_map (λ t. t.now) given.script ≡ Some path → (Failed : Ahead → Type 0) (why : Refusal)
+    → RefusesAsked request.strict (OrScript files.lacked (FailsReading files Failed path)) (IsJobOf files request None) (IsTextIn files path) Failed why
+    → RefusesAsked given.job.strict (OrScript files.lacked (FailsScriptOf files Failed given)) (ServesCheck files given) (ServesScript files given) Failed why
+check_refused files given o request path some asks script Failed why of =
+    asked_wider_check given.job.strict (OrScript files.lacked (FailsReading files Failed path)) (OrScript files.lacked (FailsScriptOf files Failed given))
+    (IsJobOf files request None) (ServesCheck files given) (IsTextIn files path) (ServesScript files given) Failed
+    (λ name lacks. elim lacks [ inl lacked ↦ inl lacked | inr failed ↦ inr (failed.0, subst (Named (FailsReading files Failed)) (sym script) failed.1) ])
     (check_serves files given o request some asks) (script_serves files given path script) why
-    (subst (λ (strict : Bool). RefusesAsked strict (OrScript files.lacked) (IsJobOf files request None) (IsTextIn files path) why) (asks_of given.job o request some asks).strict of)
+    (subst (λ (strict : Bool). RefusesAsked strict (OrScript files.lacked (FailsReading files Failed path)) (IsJobOf files request None) (IsTextIn files path) Failed why)
+    (asks_of given.job o request some asks).strict of)
 
 pub check_asked : (given : CheckArgs) (o : Option Request) (request : Request) (path : List ℕ) → o ≡ Some request → is_some o ≡ is_well_formed given.job
     → option_map (λ t. t.now) given.script ≡ Some path → asks_check given ≡ true

@@ -1,6 +1,8 @@
 -- The job and the script that a command line of `check` names (this project's).
 use Rattle.std.specs.Prelude.{ℕ, List, None, option_map, Bool, ◌&&◌, is_some}
+use Rattle.nor_base.specs.Device.{Ahead}
 use Rattle.norprog_common.specs.FileStore.{FileFacts, IsTextIn, Named}
+use Rattle.norprog_common.specs.Reading.{FailsReading}
 use Rattle.norprog_common.specs.declared.given.CheckArgs.{CheckArgs}
 use Rattle.norprog_common.specs.Request.{is_well_formed}
 use Rattle.norprog_common.specs.Served.{Job, Serves}
@@ -15,3 +17,7 @@ ServesCheck files given = Serves files given.job None
 -- the text is that of the script's file
 abbrev pub ServesScript : FileFacts → CheckArgs → List ℕ → Type 0
 ServesScript files given text = Named (λ name. IsTextIn files name text) (option_map (λ t. t.now) given.script)
+
+-- a reader of that file has failed
+abbrev pub FailsScriptOf : FileFacts → (Ahead → Type 0) → CheckArgs → Type 0
+FailsScriptOf files Failed given = Named (FailsReading files Failed) (option_map (λ t. t.now) given.script)

@@ -12,6 +12,7 @@ use Rattle.norprog_check.specs.declared.fault.StreamStop.{StreamStop}
 use Rattle.norprog_check.specs.declared.fault.StreamStop.TheVariants as stop
 use Rattle.norprog_check.specs.Checked.{AreTaken, IsChecked, IsLate, IsOfContent, failures_of}
 use Rattle.norprog_check.specs.Content.{StopsRead}
+use Rattle.norprog_common.specs.Reading.{GivesSome}
 
 -- a text that the first device had ahead is a script; and of a text that the second had ahead this is what was found
 pub record ChecksText (t : Task) (len : ℕ) (first over again rest before after : Ahead) (found : Finding) : Type 0 where
@@ -26,11 +27,11 @@ RefusesTask t len (stop.Check (Build why)) = RefusesInputs t len why
 RefusesTask t len other = ⊥
 
 -- why the first reading doesn't go through: a text that its device had ahead has this fault first; or the device failed (its
--- count tells it), or a growth was refused
+-- count tells it) after it gave the beginning of what it had ahead, or a growth was refused
 abbrev pub ReadingCause : Ahead → Ahead → StreamStop → Type 0
 ReadingCause first over (stop.Check (Script why)) = HadText first over (λ text. IsFault text why)
 ReadingCause first over (stop.Check (Build fault.Memory)) = ⊤
-ReadingCause first over (stop.First failed) = ⊤
+ReadingCause first over (stop.First failed) = GivesSome first over
 ReadingCause first over other = ⊥
 
 -- the inputs are accepted, and the first reading didn't go through
@@ -50,11 +51,11 @@ pub record StopsAtContent (t : Task) (len : ℕ) (first over before after : Ahea
   pub cause : ContentCause len before after why
 
 -- why the second reading doesn't go through: a text that its device had ahead has this fault first; or the device failed (its
--- count tells it), or a growth was refused
+-- count tells it) after it gave the beginning of what it had ahead, or a growth was refused
 abbrev pub FeedingCause : Ahead → Ahead → StreamStop → Type 0
 FeedingCause again rest (stop.Check (Script why)) = HadText again rest (λ text. IsFault text why)
 FeedingCause again rest (stop.Check (Build fault.Memory)) = ⊤
-FeedingCause again rest (stop.Again failed) = ⊤
+FeedingCause again rest (stop.Again failed) = GivesSome again rest
 FeedingCause again rest other = ⊥
 
 -- the inputs are accepted, the first reading went through, the reader gave the whole content, and the second reading didn't

@@ -6,7 +6,8 @@ ghost use Rattle.norprog_check.specs.Line.{finding_text};
 ghost use Rattle.norprog_common.specs.FileStore.{DoNotFail, IsTextIn, IsTextOfFile};
 ghost use Rattle.norprog_common.specs.declared.faults.FileName.TheVariants.{Script};
 ghost use Rattle.norprog_common.specs.Told.{OrScript, OrUsage};
-ghost use Rattle.norprog_check.specs.Served.{asks_check, ServesCheck, ServesScript};
+ghost use Rattle.norprog_check.specs.Served.{asks_check, FailsScriptOf, ServesCheck, ServesScript};
+ghost use Rattle.norprog_common.specs.Reading.{FailsReading, FailsScript, HasFailed, IsTextRead};
 ghost use Rattle.norprog_common.specs.Served.{job_with, Is, IsJobOf};
 ghost use Rattle.norprog_common.specs.Strict.{Filled};
 ghost use Rattle.norprog_check.specs.Answer.{verdict_status, stop_refusal, stream_refusal};
@@ -43,7 +44,8 @@ pub fn check<S: FileStore, O: ByteOut, E: ByteOut>(
     requires err { E.count err.old < 2 ^ 64 - 1 }
     ensures status { result ≤ 2 }
     ensures quiet { result ≡ 0 → err.new ≡ err.old }
-    ensures answer { AnswersCheck (S.facts store.now) given.entry (O.held out.old) (O.held out.new)
+    ensures answer { AnswersCheck (S.facts store.now) (HasFailed S.Input.ahead S.Input.count)
+        given.entry (O.held out.old) (O.held out.new)
         (err.new ≡ err.old)
         (E.count err.new ≡ E.count err.old) (E.held err.old) (E.held err.new) result }
 {
@@ -85,9 +87,11 @@ fn report_check<S: FileStore, O: ByteOut>(
     ensures asked { IfOk result (λ _. asks_check given.entry ≡ true) }
     ensures first { IfErr result
         (OrUsage (asks_check given.entry)
-        (RefusesAsked given.entry.job.strict (OrScript (S.facts store.now).lacked)
+        (RefusesAsked given.entry.job.strict (OrScript (S.facts store.now).lacked
+        (FailsScriptOf (S.facts store.now) (HasFailed S.Input.ahead S.Input.count) given.entry))
         (ServesCheck (S.facts store.now) given.entry)
-        (ServesScript (S.facts store.now) given.entry))) }
+        (ServesScript (S.facts store.now) given.entry)
+        (HasFailed S.Input.ahead S.Input.count))) }
 {
     let request = request_of(given.job).ok_or(Refusal::Usage)?;
     let path = given.script.ok_or(Refusal::Usage)?;
@@ -109,8 +113,10 @@ fn run_check<S: FileStore>(
         (IsCheckFinding (Filled request.now.strict (IsJobOf (S.facts store.now) request.now None))
         (IsTextIn (S.facts store.now) path.now)) }
     ensures refused { IfErr result
-        (RefusesAsked request.now.strict (OrScript (S.facts store.now).lacked)
-        (IsJobOf (S.facts store.now) request.now None) (IsTextIn (S.facts store.now) path.now)) }
+        (RefusesAsked request.now.strict (OrScript (S.facts store.now).lacked
+        (FailsReading (S.facts store.now) (HasFailed S.Input.ahead S.Input.count) path.now))
+        (IsJobOf (S.facts store.now) request.now None) (IsTextIn (S.facts store.now) path.now)
+        (HasFailed S.Input.ahead S.Input.count)) }
 {
     let mut places = Vec::new(alloc);
     let (texts, mut content, len) = open_job(alloc, store, request, &mut places)?;
@@ -133,8 +139,10 @@ fn check_file<F: ByteIn + Drop, R: ByteIn>(
     ensures checked { IfOk result
         (IsCheckFinding (Is (job_with inputs.now (R.ahead content.old) len None))
         (IsTextOfFile F.ahead script)) }
-    ensures refused { IfErr result (RefusesCheck (λ told. told ≡ Script)
-        (Is (job_with inputs.now (R.ahead content.old) len None)) (IsTextOfFile F.ahead script)) }
+    ensures refused { IfErr result (RefusesCheck
+        (λ told. (told ≡ Script) × FailsScript F.ahead (HasFailed F.ahead F.count) script)
+        (Is (job_with inputs.now (R.ahead content.old) len None)) (IsTextRead F.ahead script)
+        (HasFailed R.ahead R.count)) }
 {
     match script {
         ScriptFile::Twice(mut first, mut again) => {

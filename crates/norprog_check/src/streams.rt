@@ -22,7 +22,8 @@ use crate::readings::{Said, feed_script};
 use nor_base::ByteIn;
 use nor_check::StepChecker;
 use nor_job::{Inputs, job_of};
-use nor_script::{ReadFault, count_steps, faultless_scripts};
+use nor_script::{ReadFault, faultless_scripts};
+use norprog_common::look_through;
 use std::alloc::Global;
 
 /// [`crate::check_script`] of a script that is read twice and never held: `first` for its faults,
@@ -88,8 +89,8 @@ fn read_first<F: ByteIn>(alloc: Global, first: &mut F) -> Result<(), StreamStop>
     ensures stopped { IfErr result (ReadingCause (F.ahead first.old) (F.ahead first.new)) }
     ensures count { CountsStop of_first (F.count first.old) (F.count first.new) result }
 {
-    match count_steps(alloc, first) {
-        Ok(_) => Ok(()),
+    match look_through(alloc, first) {
+        Ok(()) => Ok(()),
         Err(fault) => Err(first_stop(fault)),
     }
 }

@@ -1,10 +1,11 @@
 -- What the program answers (this project's).
-use Rattle.std.specs.Prelude.{◌≡◌, ◌⊎◌, ◌<◌, ◌-◌, ◌^◌, ℕ, zero, suc, List, Option, Some, None, Result, Ok, Err}
+use Rattle.std.specs.Prelude.{◌≡◌, ◌⊎◌, ◌<◌, ◌-◌, ◌^◌, ℕ, zero, suc, List, [], Option, Some, None, Result, Ok, Err}
 use Rattle.std.specs.Io.KnownBytes.{Keeps}
+use Rattle.nor_base.specs.Device.{Ahead}
 use Rattle.nor_job.specs.declared.fault.BuildFault.TheVariants.{Write}
 use Rattle.norprog_common.specs.declared.faults.Refusal.{Refusal}
 use Rattle.norprog_common.specs.declared.faults.Refusal.TheVariants.{Build}
-use Rattle.norprog_common.specs.FileStore.{FileFacts}
+use Rattle.norprog_common.specs.FileStore.{FileFacts, Change}
 use Rattle.norprog_common.specs.Told.{TellsOf}
 use Rattle.norprog_options.specs.declared.options.Asked.{Asked}
 use Rattle.norprog_options.specs.declared.options.Asked.TheVariants as command
@@ -29,34 +30,35 @@ use Rattle.norprog_read.specs.Answer.{AnswersRead}
 use Rattle.norprog_run.specs.Answer.{AnswersRun}
 use Rattle.norprog_script.specs.Answer.{AnswersScript}
 
--- to what is asked for, each command its answer, by what is known of files by their names
-abbrev pub AnswersTo : FileFacts → Asked → Option (List ℕ) → Option (List ℕ) → Type 0 → Type 0 → Option (List ℕ) → Option (List ℕ) → ℕ → Type 0
-AnswersTo files (command.Build given) before after Quiet Works told_before told_after status =
-    AnswersBuild files given before after Quiet Works told_before told_after status
-AnswersTo files (command.Plan given) before after Quiet Works told_before told_after status =
-    AnswersPlan files given before after Quiet Works told_before told_after status
-AnswersTo files (command.Check given) before after Quiet Works told_before told_after status =
-    AnswersCheck files given before after Quiet Works told_before told_after status
-AnswersTo files (command.Run given) before after Quiet Works told_before told_after status =
-    AnswersRun files given before after Quiet Works told_before told_after status
-AnswersTo files (command.List given) before after Quiet Works told_before told_after status =
-    AnswersList files given before after Quiet Works told_before told_after status
-AnswersTo files (command.Draw given) before after Quiet Works told_before told_after status =
-    (after ≡ before) × AnswersDraw files given Quiet Works told_before told_after status
-AnswersTo files (command.Play given) before after Quiet Works told_before told_after status =
-    AnswersPlay files given before after Quiet Works told_before told_after status
-AnswersTo files (command.Read given) before after Quiet Works told_before told_after status =
-    AnswersRead files given before after Quiet Works told_before told_after status
-AnswersTo files (command.Flash given) before after Quiet Works told_before told_after status =
-    AnswersFlash files given before after Quiet Works told_before told_after status
-AnswersTo files (command.Sfdp given) before after Quiet Works told_before told_after status =
-    AnswersChip files given before after Quiet Works told_before told_after status
-AnswersTo files (command.Hex given) before after Quiet Works told_before told_after status =
-    (after ≡ before) × AnswersHex files given Quiet Works told_before told_after status
-AnswersTo files (command.Script given) before after Quiet Works told_before told_after status =
-    AnswersScript files given before after Quiet Works told_before told_after status
-AnswersTo files (command.Explain words) before after Quiet Works told_before told_after status =
-    AnswersExplain (explained topics words.items) before after Quiet Works told_before told_after status
+-- to what is asked for, each command its answer, by what is known of files by their names. `Failed` says what a reader had ahead that
+-- has failed, `Made` which files and devices were changed; a command that isn't handed the journal changes none
+abbrev pub AnswersTo : FileFacts → (Ahead → Type 0) → (List Change → Type 0) → Asked → Option (List ℕ) → Option (List ℕ) → Type 0 → Type 0 → Option (List ℕ) → Option (List ℕ) → ℕ → Type 0
+AnswersTo files Failed Made (command.Build given) before after Quiet Works told_before told_after status =
+    AnswersBuild files given Made before after Quiet Works told_before told_after status
+AnswersTo files Failed Made (command.Plan given) before after Quiet Works told_before told_after status =
+    AnswersPlan files given Made before after Quiet Works told_before told_after status
+AnswersTo files Failed Made (command.Check given) before after Quiet Works told_before told_after status =
+    Made [] × AnswersCheck files Failed given before after Quiet Works told_before told_after status
+AnswersTo files Failed Made (command.Run given) before after Quiet Works told_before told_after status =
+    AnswersRun files Failed given Made before after Quiet Works told_before told_after status
+AnswersTo files Failed Made (command.List given) before after Quiet Works told_before told_after status =
+    Made [] × AnswersList files given before after Quiet Works told_before told_after status
+AnswersTo files Failed Made (command.Draw given) before after Quiet Works told_before told_after status =
+    (after ≡ before) × AnswersDraw files given Made Quiet Works told_before told_after status
+AnswersTo files Failed Made (command.Play given) before after Quiet Works told_before told_after status =
+    AnswersPlay files Failed given Made before after Quiet Works told_before told_after status
+AnswersTo files Failed Made (command.Read given) before after Quiet Works told_before told_after status =
+    AnswersRead files given Made before after Quiet Works told_before told_after status
+AnswersTo files Failed Made (command.Flash given) before after Quiet Works told_before told_after status =
+    AnswersFlash files given Made before after Quiet Works told_before told_after status
+AnswersTo files Failed Made (command.Sfdp given) before after Quiet Works told_before told_after status =
+    Made [] × AnswersChip files given before after Quiet Works told_before told_after status
+AnswersTo files Failed Made (command.Hex given) before after Quiet Works told_before told_after status =
+    (after ≡ before) × AnswersHex files given Made Quiet Works told_before told_after status
+AnswersTo files Failed Made (command.Script given) before after Quiet Works told_before told_after status =
+    AnswersScript files given Made before after Quiet Works told_before told_after status
+AnswersTo files Failed Made (command.Explain words) before after Quiet Works told_before told_after status =
+    Made [] × AnswersExplain (explained topics words.items) before after Quiet Works told_before told_after status
 
 -- more of a refusal was written, by what stands on the command line
 abbrev pub AddsLines : {E : Type 0} → (E → ℕ) → (E → Option (List ℕ)) → FileFacts → TypedLine → E → E → Type 0
@@ -71,37 +73,38 @@ AddsDetails count held files (Some typed) zero before after = after ≡ before
 AddsDetails count held files (Some typed) (suc status) before after = AddsLines count held files typed before after
 
 -- a command line has its command's answer, and then more of a refusal
-pub record AnswersLine (E : Type 0) (count : E → ℕ) (held : E → Option (List ℕ)) (files : FileFacts) (before after : Option (List ℕ))
-    (err_before err_after : E) (status : ℕ) (line : Line) : Type 0 where
+pub record AnswersLine (E : Type 0) (count : E → ℕ) (held : E → Option (List ℕ)) (files : FileFacts) (Failed : Ahead → Type 0)
+    (Made : List Change → Type 0) (before after : Option (List ℕ)) (err_before err_after : E) (status : ℕ) (line : Line) : Type 0 where
   pub answered : E
-  pub answers : AnswersTo files line.asked before after (answered ≡ err_before) (count answered ≡ count err_before) (held err_before)
+  pub answers : AnswersTo files Failed Made line.asked before after (answered ≡ err_before) (count answered ≡ count err_before) (held err_before)
       (held answered) status
   pub details : AddsDetails count held files line.details status answered err_after
 
 -- to the command line that the words are its answer; to words that are refused, why
-abbrev pub AnswersTyped : {E : Type 0} → (E → ℕ) → (E → Option (List ℕ)) → FileFacts → List (List ℕ) → Option (List ℕ) → Option (List ℕ) → E → E → ℕ
+abbrev pub AnswersTyped : {E : Type 0} → (E → ℕ) → (E → Option (List ℕ)) → FileFacts → (Ahead → Type 0) → (List Change → Type 0) → List (List ℕ) → Option (List ℕ) → Option (List ℕ) → E → E → ℕ
     → Result Line Refusal → Type 0
-AnswersTyped count held files words before after err_before err_after status (Ok line) =
-    Spells words line × AnswersLine _ count held files before after err_before err_after status line
-AnswersTyped count held files words before after err_before err_after status (Err why) =
-    Refuses words why × (after ≡ before) × TellsOf (λ told. told ≡ why) (count err_after ≡ count err_before) (held err_before) (held err_after) status
+AnswersTyped count held files Failed Made words before after err_before err_after status (Ok line) =
+    Spells words line × AnswersLine _ count held files Failed Made before after err_before err_after status line
+AnswersTyped count held files Failed Made words before after err_before err_after status (Err why) =
+    Refuses words why × Made [] × (after ≡ before) × TellsOf (λ told. told ≡ why) (count err_after ≡ count err_before) (held err_before) (held err_after) status
 
 -- what the program answers to words
-abbrev pub AnswersWords : {E : Type 0} → (E → ℕ) → (E → Option (List ℕ)) → FileFacts → List (List ℕ) → Option (List ℕ) → Option (List ℕ) → E → E → ℕ → Type 0
-AnswersWords count held files words before after err_before err_after status =
-    (read : Result Line Refusal) × AnswersTyped count held files words before after err_before err_after status read
+abbrev pub AnswersWords : {E : Type 0} → (E → ℕ) → (E → Option (List ℕ)) → FileFacts → (Ahead → Type 0) → (List Change → Type 0) → List (List ℕ) → Option (List ℕ) → Option (List ℕ) → E → E → ℕ → Type 0
+AnswersWords count held files Failed Made words before after err_before err_after status =
+    (read : Result Line Refusal) × AnswersTyped count held files Failed Made words before after err_before err_after status read
 
 -- the same of a command after which all that it wrote was to go out: the status is the command's; or it was done, and what it wrote
 -- didn't go out, which is reported
-pub record IsEnd (E : Type 0) (count : E → ℕ) (held : E → Option (List ℕ)) (files : FileFacts) (words : List (List ℕ))
+pub record IsEnd (E : Type 0) (count : E → ℕ) (held : E → Option (List ℕ)) (files : FileFacts) (Failed : Ahead → Type 0)
+    (Made : List Change → Type 0) (words : List (List ℕ))
     (before after : Option (List ℕ)) (err_before err_after : E) (status : ℕ) : Type 0 where
   pub written : Option (List ℕ)
   pub answered : E
   pub own : ℕ
-  pub answers : AnswersWords count held files words before written err_before answered own
+  pub answers : AnswersWords count held files Failed Made words before written err_before answered own
   pub kept : Keeps written after
   pub ends : ((status ≡ own) × (err_after ≡ answered))
       ⊎ ((own ≡ 0) × TellsOf (λ told. told ≡ Build Write) (count err_after ≡ count answered) (held answered) (held err_after) status)
 
-abbrev pub EndsCommand : {E : Type 0} → (E → ℕ) → (E → Option (List ℕ)) → FileFacts → List (List ℕ) → Option (List ℕ) → Option (List ℕ) → E → E → ℕ → Type 0
-EndsCommand count held files words before after err_before err_after status = IsEnd _ count held files words before after err_before err_after status
+abbrev pub EndsCommand : {E : Type 0} → (E → ℕ) → (E → Option (List ℕ)) → FileFacts → (Ahead → Type 0) → (List Change → Type 0) → List (List ℕ) → Option (List ℕ) → Option (List ℕ) → E → E → ℕ → Type 0
+EndsCommand count held files Failed Made words before after err_before err_after status = IsEnd _ count held files Failed Made words before after err_before err_after status

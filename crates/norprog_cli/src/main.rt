@@ -13,13 +13,15 @@
 
 ghost use Rattle.std.specs.Prelude.{◌≡◌, ◌<◌, ◌≤◌, ◌-◌, ◌^◌, [], map, string_bytes};
 ghost use Rattle.std.specs.Io.Buffered.{writer_buffer, writer_contents};
+ghost use Rattle.norprog_common.specs.FileStore.{Adds};
+ghost use Rattle.norprog_common.specs.Reading.{HasFailed};
 ghost use Rattle.norprog_cli.specs.Answers.{AnswersTo, AnswersWords, AddsDetails, AddsLines};
 ghost use Rattle.norprog_cli.specs.Answers.{EndsCommand};
 
 use nor_base::{ByteOut, IntoWrite, Nowhere};
 use norprog_build::build;
 use norprog_check::check;
-use norprog_common::{FileStore, Refusal, SystemFiles, refuse};
+use norprog_common::{FileStore, Refusal, SystemFiles, Unrecorded, refuse};
 use norprog_details::{Heard, write_details};
 use norprog_draw::draw;
 use norprog_explain::explain;
@@ -60,11 +62,28 @@ fn main_status<E: ByteOut + Drop>(rt: &HostRuntime, err: &mut Heard<E>) -> u8
     };
     let mut out = IntoWrite::new(gathered);
     let files = SystemFiles::new(rt);
+    let mut journal = Unrecorded;
     if rt.stderr().is_terminal() {
         let mut progress = IntoWrite::new(rt.stderr());
-        command_flushed(rt.alloc(), &files, words, &mut out, err, &mut progress)
+        command_flushed(
+            rt.alloc(),
+            &files,
+            &mut journal,
+            words,
+            &mut out,
+            err,
+            &mut progress,
+        )
     } else {
-        command_flushed(rt.alloc(), &files, words, &mut out, err, &mut Nowhere)
+        command_flushed(
+            rt.alloc(),
+            &files,
+            &mut journal,
+            words,
+            &mut out,
+            err,
+            &mut Nowhere,
+        )
     }
 }
 
@@ -73,6 +92,7 @@ fn main_status<E: ByteOut + Drop>(rt: &HostRuntime, err: &mut Heard<E>) -> u8
 fn command_flushed<S: FileStore, W: Write + Drop, E: ByteOut + Drop, P: ByteOut>(
     alloc: Global,
     store: &S,
+    journal: &mut S::Journal,
     words: Vec<String>,
     out: &mut IntoWrite<BufWriter<W>>,
     err: &mut Heard<E>,
@@ -82,12 +102,14 @@ fn command_flushed<S: FileStore, W: Write + Drop, E: ByteOut + Drop, P: ByteOut>
     requires err { E.count err.old.out < 2 ^ 64 - 1 }
     requires progress { P.count progress.old < 2 ^ 64 - 1 }
     ensures ends { EndsCommand (λ heard. E.count heard.out) (λ heard. E.held heard.out)
-        (S.facts store.now) (map string_bytes words.items)
+        (S.facts store.now) (HasFailed S.Input.ahead S.Input.count)
+        (Adds (S.Journal.changes journal.old) (S.Journal.changes journal.new))
+        (map string_bytes words.items)
         (writer_contents W.contents out.old.inner) (writer_contents W.contents out.new.inner)
         err.old err.new result }
     ensures out { result ≡ 0 → writer_buffer out.new.inner ≡ [] }
 {
-    let status = command(alloc, store, words, out, err, progress);
+    let status = command(alloc, store, journal, words, out, err, progress);
     match out.inner.flush() {
         Err(_) if status == 0 => refuse(&Refusal::WRITE, err),
         _ => status,
@@ -114,6 +136,7 @@ fn words_of(rt: &HostRuntime) -> Result<Vec<String>, Refusal> {
 fn command<S: FileStore, O: ByteOut, E: ByteOut + Drop, P: ByteOut>(
     alloc: Global,
     store: &S,
+    journal: &mut S::Journal,
     words: Vec<String>,
     out: &mut O,
     err: &mut Heard<E>,
@@ -125,13 +148,14 @@ fn command<S: FileStore, O: ByteOut, E: ByteOut + Drop, P: ByteOut>(
     ensures status { result ≤ 2 }
     ensures quiet { result ≡ 0 → err.new ≡ err.old }
     ensures answer { AnswersWords (λ heard. E.count heard.out) (λ heard. E.held heard.out)
-        (S.facts store.now)
+        (S.facts store.now) (HasFailed S.Input.ahead S.Input.count)
+        (Adds (S.Journal.changes journal.old) (S.Journal.changes journal.new))
         (map string_bytes words.items) (O.held out.old) (O.held out.new) err.old err.new result }
 {
     match asked_by(alloc, words.as_slice()) {
         Ok(line) => {
             let Line { asked, details } = line;
-            let status = answer_to(alloc, store, asked, out, err, progress);
+            let status = answer_to(alloc, store, journal, asked, out, err, progress);
             add_details(alloc, store, details, status, err);
             status
         }
@@ -179,6 +203,7 @@ fn add_lines<S: FileStore, E: ByteOut + Drop>(
 fn answer_to<S: FileStore, O: ByteOut, E: ByteOut, P: ByteOut>(
     alloc: Global,
     store: &S,
+    journal: &mut S::Journal,
     asked: Asked<'_>,
     out: &mut O,
     err: &mut E,
@@ -189,23 +214,26 @@ fn answer_to<S: FileStore, O: ByteOut, E: ByteOut, P: ByteOut>(
     requires progress { P.count progress.old < 2 ^ 64 - 1 }
     ensures status { result ≤ 2 }
     ensures quiet { result ≡ 0 → err.new ≡ err.old }
-    ensures answer { AnswersTo (S.facts store.now) asked.entry (O.held out.old) (O.held out.new)
+    ensures answer { AnswersTo (S.facts store.now)
+        (HasFailed S.Input.ahead S.Input.count)
+        (Adds (S.Journal.changes journal.old) (S.Journal.changes journal.new))
+        asked.entry (O.held out.old) (O.held out.new)
         (err.new ≡ err.old)
         (E.count err.new ≡ E.count err.old) (E.held err.old) (E.held err.new) result }
 {
     match asked {
-        Asked::Build(given) => build(alloc, store, given, out, err),
-        Asked::Plan(given) => plan(alloc, store, given, out, err),
+        Asked::Build(given) => build(alloc, store, journal, given, out, err),
+        Asked::Plan(given) => plan(alloc, store, journal, given, out, err),
         Asked::Check(given) => check(alloc, store, given, out, err),
-        Asked::Run(given) => run(alloc, store, given, out, err),
+        Asked::Run(given) => run(alloc, store, journal, given, out, err),
         Asked::List(given) => list(alloc, store, given, out, err),
-        Asked::Draw(given) => draw(alloc, store, given, err),
-        Asked::Play(given) => play(alloc, store, given, out, err, progress),
-        Asked::Read(given) => read(alloc, store, given, out, err),
-        Asked::Flash(given) => flash(alloc, store, given, out, err, progress),
+        Asked::Draw(given) => draw(alloc, store, journal, given, err),
+        Asked::Play(given) => play(alloc, store, journal, given, out, err, progress),
+        Asked::Read(given) => read(alloc, store, journal, given, out, err),
+        Asked::Flash(given) => flash(alloc, store, journal, given, out, err, progress),
         Asked::Sfdp(given) => sfdp(alloc, store, given, out, err),
-        Asked::Hex(given) => hex(alloc, store, given, err),
-        Asked::Script(given) => script(alloc, store, given, out, err),
+        Asked::Hex(given) => hex(alloc, store, journal, given, err),
+        Asked::Script(given) => script(alloc, store, journal, given, out, err),
         Asked::Explain(words) => explain(words.as_slice(), out, err),
     }
 }

@@ -2,5 +2,7 @@ mod NumberLemmas
 mod LineLemmas
 pub mod ToldLemmas
 pub mod StoreLemmas
+pub mod ReadingLemmas
 pub mod ServedLemmas
 pub mod StrictLemmas
+pub mod JournalLemmas

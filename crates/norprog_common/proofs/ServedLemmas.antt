@@ -1,5 +1,5 @@
 -- Which job a request has, and that it is the one that its texts ask for.
-use Rattle.std.proofs.Common.{◌≡◌, ◌∙◌, ap, refl, sym, subst, Bool, true, false, ok_or, ◌&&◌, is_some, option_map, Option, Some, None, IfSome, Result, Err, List, ℕ}
+use Rattle.std.proofs.Common.{◌≡◌, ◌∙◌, ap, refl, sym, subst, Bool, true, false, ok_or, ◌⊎◌, inl, inr, ◌&&◌, is_some, option_map, Option, Some, None, IfSome, Result, Err, List, ℕ}
 use Rattle.nor_base.specs.Device.{Ahead}
 use Rattle.nor_job.specs.Task.{Task}
 use Rattle.nor_job.specs.Task as job
@@ -7,10 +7,12 @@ use Rattle.norprog_common.specs.declared.faults.Refusal.{Refusal}
 use Rattle.norprog_common.specs.declared.faults.Refusal.TheVariants.{Usage}
 use Rattle.norprog_common.specs.Chip.{Origin, origin_of, task_chip}
 use Rattle.norprog_common.specs.FileStore.{FileFacts, IsMadeApart, Named, WhereNamed}
+use Rattle.norprog_common.specs.FileStore.{Change, MakesNamed, MayMake}
 use Rattle.norprog_common.specs.Told.{OrUsage}
 use Rattle.norprog_common.specs.declared.given.Given.{Given}
 use Rattle.norprog_common.specs.declared.request.Request.{Request}
 use Rattle.norprog_common.specs.Request.{is_well_formed, AsksFor}
+use Rattle.norprog_common.specs.Served.{MakesFor, MayMakeFor}
 use Rattle.norprog_common.specs.Served.{task_by, Job, job_with, Is, AreGiven, IsJobOf, input_files_of, input_files_asked, Serves, Held}
 
 -- there is something of an option where there is one
@@ -46,6 +48,21 @@ job_of files request out t content len begun held given is opened made =
 -- the files of a request are those that the texts name
 same_inputs : (given : Given) (request : Request) → AsksFor given request → input_files_of request ≡ input_files_asked given (origin_of request.chip)
 same_inputs given request asks = rw (asks.hex, asks.layout, asks.content) refl
+
+-- what was made for a request was made for the texts that ask for it
+pub makes_for : (files : FileFacts) (given : Given) (request : Request) (out named : Option (List ℕ)) (Made : List Change → Type 0) → named ≡ out → AsksFor given request
+    → MakesNamed files (input_files_of request) out Made → MakesFor files given named Made
+makes_for files given request out named Made same asks made = (
+  origin_of request.chip,
+  asks.chip,
+  subst (λ inputs. MakesNamed files inputs named Made) (same_inputs given request asks)
+      (subst (λ name. MakesNamed files (input_files_of request) name Made) (sym same) made),
+)
+
+pub may_make_for : (files : FileFacts) (given : Given) (request : Request) (out named : Option (List ℕ)) (Made : List Change → Type 0) → named ≡ out → AsksFor given request
+    → MayMake files (input_files_of request) out Made → MayMakeFor files given named Made
+may_make_for files given request out named Made same asks (inl none) = inl none
+may_make_for files given request out named Made same asks (inr made) = inr (makes_for files given request out named Made same asks made)
 
 -- a job of a request that the texts ask for is one that they ask for
 pub serves : (files : FileFacts) (given : Given) (request : Request) (out named : Option (List ℕ)) → named ≡ out → AsksFor given request

@@ -1,5 +1,5 @@
 -- Which file gave what, and took what (this project's).
-use Rattle.std.specs.Prelude.{◌≡◌, ◌⊎◌, ⊤, ℕ, List, [], ◌∷◌, ◌++◌, Option, Some, None}
+use Rattle.std.specs.Prelude.{◌≡◌, ◌⊎◌, ⊤, ℕ, List, [], ◌∷◌, ◌++◌, Option, Some, None, Result, Ok, Err}
 use Rattle.nor_base.specs.Device.{Ahead}
 use Rattle.nor_script.specs.Stream.{IsTextOf}
 use Rattle.norprog_common.specs.Chip.{Origin, Sfdp, Uniform}
@@ -11,9 +11,9 @@ use Rattle.norprog_common.specs.declared.files.ScriptFile.TheVariants.{Twice, He
 -- what is known of files, each by its name. `gave`: the file gave these bytes, read whole. `opened`: it was opened, this is ahead
 -- of its reader, and this is its length in bytes. `stood`: it was opened, and stood at this place. `made`: it was made, or emptied,
 -- at none of these places, and held this then. `fresh`: no file of this name was there, and the one that was made held this.
--- `flushed`: some file that was made had taken this, and all of it has gone out. `lacked`: of a file that is told so some couldn't be
--- used. `device`: the device of this name was opened to be read and written; it had this yet to give, and had taken this, where that is
--- known
+-- `flushed`: some file that was made had taken this, all of it has gone out, and the file took nothing after it. `lacked`: of a file
+-- that is told so some couldn't be used. `device`: the device of this name was opened to be read and written; it had this yet to give,
+-- and had taken this, where that is known. `left`: a device that was opened took nothing after this
 pub record FileFacts : Type 1 where
   pub gave : List ℕ → List ℕ → Type 0
   pub opened : List ℕ → Ahead → ℕ → Type 0
@@ -23,6 +23,7 @@ pub record FileFacts : Type 1 where
   pub flushed : Option (List ℕ) → Type 0
   pub lacked : FileName → Type 0
   pub device : List ℕ → Option (List ℕ) → Option (List ℕ) → Type 0
+  pub left : Option (List ℕ) → Type 0
 
 -- of the system's files nothing is known
 abbrev pub nothing_known : FileFacts
@@ -35,7 +36,26 @@ nothing_known = record {
   flushed = λ held. ⊤;
   lacked = λ told. ⊤;
   device = λ name remaining contents. ⊤;
+  left = λ contents. ⊤;
 }
+
+-- what was done to a file or a device. `Emptied`: an output of this name was made, or emptied, as none of the files at these places.
+-- `Created`: a file of this name was made where none was. `Opened`: the device of this name was opened to be written to
+pub data Change : Type 0 where
+  Emptied : List ℕ → List FileId → Change
+  Created : List ℕ → Change
+  Opened : List ℕ → Change
+
+-- the changes so far, where they are known, grow by just these
+abbrev pub Adds : Option (List Change) → Option (List Change) → List Change → Type 0
+Adds None after changes = ⊤
+Adds (Some xs) None changes = ⊥
+Adds (Some xs) (Some ys) changes = ys ≡ xs ++ changes
+
+-- they grow by this one; where it is refused by none, or by it
+abbrev pub Tries : {T E : Type 0} → Option (List Change) → Option (List Change) → Change → Result T E → Type 0
+Tries before after change (Ok x) = Adds before after (change ∷ [])
+Tries before after change (Err why) = Adds before after [] ⊎ Adds before after (change ∷ [])
 
 -- the tables of a chip are what the file of its name gave; a chip of a size has no file
 abbrev pub AreTables : FileFacts → Origin → List ℕ → Type 0
@@ -60,6 +80,24 @@ Notes files names before after = (places : List FileId) × StoodAt files names p
 -- the output of this name was made as none of the files of those names, and held this then
 abbrev pub IsMadeApart : FileFacts → List (List ℕ) → List ℕ → Option (List ℕ) → Type 0
 IsMadeApart files inputs name held = (places : List FileId) × StoodAt files inputs places × files.made name places held
+
+-- the changes were just this: the output of this name was made, once, as none of the files of those names
+abbrev pub MakesOutput : FileFacts → List (List ℕ) → List ℕ → (List Change → Type 0) → Type 0
+MakesOutput files inputs name Made = (places : List FileId) × StoodAt files inputs places × Made (Emptied name places ∷ [])
+
+-- just that of an output that is named; none where none is
+abbrev pub MakesNamed : FileFacts → List (List ℕ) → Option (List ℕ) → (List Change → Type 0) → Type 0
+MakesNamed files inputs (Some name) Made = MakesOutput files inputs name Made
+MakesNamed files inputs None Made = Made []
+
+-- at most that
+abbrev pub MayMake : FileFacts → List (List ℕ) → Option (List ℕ) → (List Change → Type 0) → Type 0
+MayMake files inputs out Made = Made [] ⊎ MakesNamed files inputs out Made
+
+-- just that by work that is done; at most that by work that isn't
+abbrev pub MakesIf : {T E : Type 0} → FileFacts → List (List ℕ) → Option (List ℕ) → (List Change → Type 0) → Result T E → Type 0
+MakesIf files inputs out Made (Ok x) = MakesNamed files inputs out Made
+MakesIf files inputs out Made (Err why) = MayMake files inputs out Made
 
 -- a file is named, and it has this
 abbrev pub Named : (List ℕ → Type 0) → Option (List ℕ) → Type 0

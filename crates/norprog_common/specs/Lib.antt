@@ -10,3 +10,4 @@ pub mod Wrongs
 pub mod Request
 pub mod Served
 pub mod Strict
+pub mod Reading

@@ -1,9 +1,10 @@
 -- The job that a command line asks for (this project's). `files` is what is known of files by their names.
-use Rattle.std.specs.Prelude.{◌≡◌, ℕ, List, ◌++◌, Option, Some, option_map, option_to_list}
+use Rattle.std.specs.Prelude.{◌≡◌, ◌⊎◌, ℕ, List, [], ◌++◌, Option, Some, option_map, option_to_list}
 use Rattle.nor_base.specs.Device.{Ahead}
 use Rattle.nor_job.specs.Task.{Task}
 use Rattle.norprog_common.specs.Chip.{Origin, origin_of, task_chip}
 use Rattle.norprog_common.specs.FileStore.{FileFacts, AreTables, IsMadeApart, Named, WhereNamed, tables_file}
+use Rattle.norprog_common.specs.FileStore.{Change, MakesNamed}
 use Rattle.norprog_common.specs.Values.{part_of, base_of, said_status}
 use Rattle.norprog_common.specs.declared.inputs.Texts.{Texts}
 use Rattle.norprog_common.specs.declared.given.Given.{Given}
@@ -108,3 +109,13 @@ pub record Serves (files : FileFacts) (given : Given) (out : Option (List ℕ)) 
   pub verify : j.task.verify ≡ given.verify
   pub erased_only : j.task.erased_only ≡ given.erased_only
   pub made : WhereNamed (IsMadeApart files (input_files_asked given origin)) out j.begun
+
+-- the output of the job that the texts ask for was made, if it has one, as none of the files that they name, and nothing else was
+-- changed
+abbrev pub MakesFor : FileFacts → Given → Option (List ℕ) → (List Change → Type 0) → Type 0
+MakesFor files given out Made =
+    (origin : Origin) × (asked_chip given ≡ Some origin) × MakesNamed files (input_files_asked given origin) out Made
+
+-- at most that
+abbrev pub MayMakeFor : FileFacts → Given → Option (List ℕ) → (List Change → Type 0) → Type 0
+MayMakeFor files given out Made = Made [] ⊎ MakesFor files given out Made

@@ -28,9 +28,9 @@ RefusesFor Lacked Fault Done (Build Memory) = ⊤
 RefusesFor Lacked Fault Done (Build Write) = Fault (Build Write) ⊎ Done
 RefusesFor Lacked Fault Done why = Fault why
 
--- a script's file may also fail where it is read
-abbrev pub OrScript : (FileName → Type 0) → FileName → Type 0
-OrScript Lacked name = Lacked name ⊎ (name ≡ Script)
+-- a script's file may also be told where a reading of it failed
+abbrev pub OrScript : (FileName → Type 0) → Type 0 → FileName → Type 0
+OrScript Lacked Failed name = Lacked name ⊎ ((name ≡ Script) × Failed)
 
 -- such a refusal ends with this status, and where the writer works its text was written
 abbrev pub TellsOf : (Refusal → Type 0) → Type 0 → Option (List ℕ) → Option (List ℕ) → ℕ → Type 0

@@ -1,7 +1,8 @@
 //! The files that a command line names.
 
-ghost use Rattle.std.specs.Prelude.{◌≡◌, ◌≤◌, ◌^◌, length, true, IfOk, IfErr, MatchResult};
-ghost use Rattle.std.specs.Fs.{metadata_mode};
+ghost use Rattle.std.specs.Prelude.{◌≡◌, ◌≤◌, ◌^◌, length, true};
+ghost use Rattle.std.specs.Prelude.{All, IfOk, IfErr, IfSome, MatchResult};
+ghost use Rattle.std.specs.Fs.{IsDir, file_type, metadata_len, metadata_mode};
 ghost use Rattle.norprog_common.specs.declared.faults.FileName.TheVariants.{Device, Script};
 ghost use Rattle.norprog_common.specs.Files.{RefusesFile, IsOfFiles, is_character_device};
 
@@ -98,10 +99,21 @@ pub(crate) fn open_script<R: Files>(
         return Ok((ScriptFile::Held(held), place));
     }
     let (again, same, _len) = open_input(rt, path, name)?;
-    if same != place {
-        return Err(Refusal::File(name));
-    }
+    only_same(place, same, name)?;
     Ok((ScriptFile::Twice(first, again), place))
+}
+
+/// Refuses a file that was opened again, where it has come to be another one.
+fn only_same(first: FileId, again: FileId, name: FileName) -> Result<(), Refusal>
+    ensures same { IfOk result (λ _. again ≡ first) }
+    ensures refused { IfErr result (RefusesFile name) }
+    ensures files { IfErr result IsOfFiles }
+{
+    if again == first {
+        Ok(())
+    } else {
+        Err(Refusal::File(name))
+    }
 }
 
 /// Whether an open file is known to be a regular one.
@@ -128,19 +140,30 @@ pub(crate) fn open_input<R: Files>(
         Ok(file) => file,
         Err(error) => return Err(refusal_of(&error, name)),
     };
-    let metadata = match file.metadata() {
-        Ok(metadata) => metadata,
-        Err(error) => return Err(refusal_of(&error, name)),
-    };
-    if metadata.is_dir() {
-        return Err(Refusal::File(name));
+    let (place, len) = described(file.metadata(), name)?;
+    Ok((file, place, len))
+}
+
+/// Which file it is and how many bytes it has, unless it is a folder.
+fn described(metadata: io::Result<Metadata>, name: FileName) -> Result<(FileId, u64), Refusal>
+    ensures described { IfOk result (λ file. MatchResult metadata
+        (λ m. (file.1 ≡ metadata_len m) × (IsDir (file_type m) → ⊥)) (λ _. ⊥)) }
+    ensures refused { IfErr result (RefusesFile name) }
+    ensures files { IfErr result IsOfFiles }
+{
+    match metadata {
+        Ok(metadata) if metadata.is_dir() => Err(Refusal::File(name)),
+        Ok(metadata) => Ok((id_of(&metadata), metadata.len())),
+        Err(error) => Err(refusal_of(&error, name)),
     }
-    let place = FileId {
+}
+
+/// Which file of the system has this metadata.
+fn id_of(metadata: &Metadata) -> FileId {
+    FileId {
         device: metadata.dev(),
         inode: metadata.ino(),
-    };
-    let len = metadata.len();
-    Ok((file, place, len))
+    }
 }
 
 /// Makes an output file, or empties the one that is there, unless it is one of the inputs.
@@ -156,9 +179,7 @@ pub(crate) fn create_output<R: Files>(
     ensures refused { IfErr result (RefusesFile name) }
     ensures files { IfErr result IsOfFiles }
 {
-    if is_input(rt, path, inputs) {
-        return Err(Refusal::File(name));
-    }
+    only_apart(place_of(rt, path), inputs, name)?;
     match fs::create(rt, path) {
         Ok(file) => Ok(file),
         Err(error) => Err(refusal_of(&error, name)),
@@ -252,14 +273,24 @@ fn is_character_device(mode: u32) -> bool
     mode / 4096 % 16 == 2
 }
 
-/// Whether the file of this name is there and is one of the inputs.
-fn is_input<R: Files>(rt: &R, path: &str, inputs: &[FileId]) -> bool {
+/// Which file has this name, where there is one.
+fn place_of<R: Files>(rt: &R, path: &str) -> Option<FileId> {
     match fs::metadata(rt, path) {
-        Ok(metadata) => inputs.contains(&FileId {
-            device: metadata.dev(),
-            inode: metadata.ino(),
-        }),
-        Err(_) => false,
+        Ok(metadata) => Some(id_of(&metadata)),
+        Err(_) => None,
+    }
+}
+
+/// Refuses a file that is there and is one of the inputs.
+fn only_apart(found: Option<FileId>, inputs: &[FileId], name: FileName) -> Result<(), Refusal>
+    ensures apart { IfOk result (λ _. IfSome found
+        (λ place. All (λ input. input ≡ place → ⊥) inputs.now)) }
+    ensures refused { IfErr result (RefusesFile name) }
+    ensures files { IfErr result IsOfFiles }
+{
+    match found {
+        Some(place) if inputs.contains(&place) => Err(Refusal::File(name)),
+        Some(_) | None => Ok(()),
     }
 }
 

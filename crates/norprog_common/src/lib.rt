@@ -9,6 +9,7 @@ mod faults;
 mod files;
 mod given;
 mod inputs;
+mod looked;
 mod opened;
 mod request;
 mod setup;
@@ -27,11 +28,12 @@ pub use given::{
     PlayArgs, ReadArgs, RunArgs, ScriptArgs, SetupArgs,
 };
 pub use inputs::{Texts, inputs_of};
+pub use looked::look_through;
 pub use opened::open_job;
 pub use request::{Request, request_of};
 pub use setup::{Setup, known_chip, setup_inputs, setup_of};
-pub use store::{FileStore, noted_tables, tables_of};
+pub use store::{FileStore, Journal, noted_tables, tables_of};
 pub use strict::refuse_empty;
-pub use system_files::SystemFiles;
+pub use system_files::{SystemFiles, Unrecorded};
 pub use values::{base, decimal, limit, part, status};
 pub use wrongs::wrong_number;

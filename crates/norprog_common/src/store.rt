@@ -1,12 +1,13 @@
 //! Files by name.
 
-ghost use Rattle.std.specs.Prelude.{◌≡◌, ◌≤◌, ◌^◌, length, IfOk, IfErr};
-ghost use Rattle.std.specs.Io.KnownBytes.{Keeps};
+ghost use Rattle.std.specs.Prelude.{◌≡◌, ◌≤◌, ◌^◌, [], ◌∷◌, length, IfOk, IfErr, MatchResult};
+ghost use Rattle.std.specs.Prelude.{List, Option};
 ghost use Rattle.norprog_common.specs.Chip.{origin_of};
 ghost use Rattle.norprog_common.specs.declared.faults.FileName.TheVariants.{Device, Script, Sfdp};
 ghost use Rattle.norprog_common.specs.Files.{RefusesFile, TellsFile};
 ghost use Rattle.norprog_common.specs.FileStore.{AreTables, FileFacts, IsOfScript, DoNotFail};
 ghost use Rattle.norprog_common.specs.FileStore.{Notes, tables_file};
+ghost use Rattle.norprog_common.specs.FileStore.{Adds, Change, Created, Emptied, Opened, Tries};
 
 use crate::chip::Chip;
 use crate::faults::{FileName, Refusal};
@@ -14,6 +15,13 @@ use crate::files::{FileId, ScriptFile};
 use nor_base::{ByteIn, ByteOut, Failed};
 use std::alloc::Global;
 use std::io::{Read, Write};
+
+/// What was made, emptied or opened to be written to, in order. No call of a store makes one: who
+/// is handed one can't hide a change.
+pub trait Journal {
+    /// The changes so far, where they are known.
+    ghost changes: { Self → Option (List Change) };
+}
 
 /// Files by name. What a file gave, or took, is left open: what is proved of every store holds of
 /// the system's files.
@@ -29,6 +37,9 @@ pub trait FileStore {
 
     /// What a character device is written by.
     type ToDevice: Write + Drop;
+
+    /// Which files and devices were changed.
+    type Journal: Journal;
 
     /// What its files gave and took.
     ghost facts: { Self → FileFacts };
@@ -80,6 +91,7 @@ pub trait FileStore {
     /// is refused.
     fn create(
         &self,
+        journal: &mut Self::Journal,
         alloc: Global,
         path: &str,
         name: FileName,
@@ -88,6 +100,8 @@ pub trait FileStore {
         ensures made { IfOk result
             (λ file. (facts self.now).made path.now inputs.now (Self.Output.held file)) }
         ensures count { IfOk result (λ file. Self.Output.count file ≡ 0) }
+        ensures journal { Tries (Self.Journal.changes journal.old)
+            (Self.Journal.changes journal.new) (Emptied path.now inputs.now) result }
         ensures refused { IfErr result (RefusesFile name) }
         ensures lacked { IfErr result (TellsFile (facts self.now).lacked) };
 
@@ -96,29 +110,49 @@ pub trait FileStore {
     ///
     /// Where there is one, and where it can't be made, `File` of `name`; `Memory` where a growth is
     /// refused.
-    fn create_new(&self, alloc: Global, path: &str, name: FileName) -> Result<Self::Output, Refusal>
+    fn create_new(
+        &self,
+        journal: &mut Self::Journal,
+        alloc: Global,
+        path: &str,
+        name: FileName,
+    ) -> Result<Self::Output, Refusal>
         ensures fresh { IfOk result
             (λ file. (facts self.now).fresh path.now (Self.Output.held file)) }
         ensures count { IfOk result (λ file. Self.Output.count file ≡ 0) }
+        ensures journal { Tries (Self.Journal.changes journal.old)
+            (Self.Journal.changes journal.new) (Created path.now) result }
         ensures refused { IfErr result (RefusesFile name) }
         ensures lacked { IfErr result (TellsFile (facts self.now).lacked) };
 
-    /// Has all go out that a file took. `Failed` where some of it may not have.
-    fn flush(&self, file: &mut Self::Output) -> Result<(), Failed>
-        ensures flushed { IfOk result (λ _. (facts self.now).flushed (Self.Output.held file.old)) }
-        ensures bytes { Keeps (Self.Output.held file.old) (Self.Output.held file.new) };
+    /// Has all go out that a file took, and closes it. `Failed` where some of it may not have gone
+    /// out.
+    fn flush(&self, file: Self::Output) -> Result<(), Failed>
+        ensures { IfOk result (λ _. (facts self.now).flushed (Self.Output.held file)) };
 
     /// Opens a character device twice, to read from it and to write to it. Nothing else is opened
     /// to write, nor changed.
     ///
     /// Where it isn't one, can't be opened or asked, `File` of `Device`; `Memory` where the system
     /// says that it lacks that.
-    fn open_device(&self, path: &str) -> Result<(Self::FromDevice, Self::ToDevice), Refusal>
+    fn open_device(
+        &self,
+        journal: &mut Self::Journal,
+        path: &str,
+    ) -> Result<(Self::FromDevice, Self::ToDevice), Refusal>
         ensures opened { IfOk result (λ device.
             (facts self.now).device path.now (Self.FromDevice.remaining device.0)
             (Self.ToDevice.contents device.1)) }
+        ensures journal { MatchResult result
+            (λ _. Adds (Self.Journal.changes journal.old) (Self.Journal.changes journal.new)
+            (Opened path.now ∷ []))
+            (λ _. Adds (Self.Journal.changes journal.old) (Self.Journal.changes journal.new) []) }
         ensures refused { IfErr result (RefusesFile Device) }
         ensures lacked { IfErr result (TellsFile (facts self.now).lacked) };
+
+    /// Closes what a device was written by, so that nothing more goes to it.
+    fn close_device(&self, to: Self::ToDevice)
+        ensures { (facts self.now).left (Self.ToDevice.contents to) };
 
     /// Whether a regular file of this name is there, which is read again without a wait. None is
     /// opened.

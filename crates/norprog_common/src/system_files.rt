@@ -1,5 +1,6 @@
 //! The files of the system as a store.
 
+ghost use Rattle.std.specs.Prelude.{◌≡◌, is_ok};
 ghost use Rattle.norprog_common.specs.FileStore.{DoNotFail};
 
 use crate::faults::{FileName, Refusal};
@@ -7,11 +8,11 @@ use crate::files::{
     FileId, ScriptFile, create_fresh, create_output, is_regular_file, open_device, open_error,
     open_input, open_script, read_whole,
 };
-use crate::store::FileStore;
+use crate::store::{FileStore, Journal};
 use nor_base::{Failed, FromRead, IntoWrite};
 use std::alloc::Global;
 use std::fs::Files;
-use std::io::{BufWriter, Read, Write};
+use std::io::{self, BufWriter, Read, Write};
 
 /// Bytes that are gathered before they are written to a file.
 const BUFFER: usize = 65536;
@@ -29,6 +30,16 @@ impl<'a, R: Files> SystemFiles<'a, R> {
     }
 }
 
+/// The journal of the system's files, which holds nothing.
+#[derive(Drop)]
+pub struct Unrecorded;
+
+impl Journal for Unrecorded {
+    ghost use Rattle.std.specs.Prelude.{None};
+
+    ghost changes = { λ _. None };
+}
+
 impl<'a, R: Files> FileStore for SystemFiles<'a, R> {
     ghost use Rattle.norprog_common.specs.FileStore.{nothing_known};
 
@@ -39,6 +50,8 @@ impl<'a, R: Files> FileStore for SystemFiles<'a, R> {
     type FromDevice = R::File;
 
     type ToDevice = R::File;
+
+    type Journal = Unrecorded;
 
     ghost facts = { λ _. nothing_known };
 
@@ -71,6 +84,7 @@ impl<'a, R: Files> FileStore for SystemFiles<'a, R> {
 
     fn create(
         &self,
+        _journal: &mut Unrecorded,
         alloc: Global,
         path: &str,
         name: FileName,
@@ -85,6 +99,7 @@ impl<'a, R: Files> FileStore for SystemFiles<'a, R> {
 
     fn create_new(
         &self,
+        _journal: &mut Unrecorded,
         alloc: Global,
         path: &str,
         name: FileName,
@@ -96,16 +111,19 @@ impl<'a, R: Files> FileStore for SystemFiles<'a, R> {
         }
     }
 
-    fn flush(&self, file: &mut IntoWrite<BufWriter<R::File>>) -> Result<(), Failed> {
-        match file.inner.flush() {
-            Ok(()) => Ok(()),
-            Err(_) => Err(Failed),
-        }
+    fn flush(&self, mut file: IntoWrite<BufWriter<R::File>>) -> Result<(), Failed> {
+        gone_out(file.inner.flush())
     }
 
-    fn open_device(&self, path: &str) -> Result<(R::File, R::File), Refusal> {
+    fn open_device(
+        &self,
+        _journal: &mut Unrecorded,
+        path: &str,
+    ) -> Result<(R::File, R::File), Refusal> {
         open_device(self.files, path)
     }
+
+    fn close_device(&self, _to: R::File) {}
 
     fn is_regular(&self, path: &str) -> bool {
         is_regular_file(self.files, path)
@@ -114,6 +132,16 @@ impl<'a, R: Files> FileStore for SystemFiles<'a, R> {
     fn trouble(&self, alloc: Global, path: &str) -> Option<String> {
         let error = open_error(self.files, path)?;
         format!(in alloc; "{error}").ok()
+    }
+}
+
+/// A flush that failed is a failure.
+fn gone_out(flushed: io::Result<()>) -> Result<(), Failed>
+    ensures { is_ok result ≡ is_ok flushed }
+{
+    match flushed {
+        Ok(()) => Ok(()),
+        Err(_) => Err(Failed),
     }
 }
 

@@ -1,5 +1,5 @@
 -- What is drawn for a request is what its texts ask for, and what is so of it is so of that.
-use Rattle.std.proofs.Common.{◌≡◌, option_map, option_to_list, true, refl, sym, subst, List, [], ◌∷◌, ℕ, Option, Some, Result, Ok, Err, IfOk, IfErr, inl, inr}
+use Rattle.std.proofs.Common.{◌≡◌, ◌∙◌, option_map, option_to_list, Bool, true, refl, sym, subst, List, [], ◌∷◌, ℕ, Option, Some, Result, Ok, Err, IfOk, IfErr, inl, inr}
 use Rattle.std.specs.Prelude.{⊤}
 use Rattle.nor_base.specs.declared.step.Step.{Step}
 use Rattle.nor_base.specs.Device.{Writes, Cuts}
@@ -7,11 +7,12 @@ use Rattle.std.specs.Io.KnownBytes.{Appends}
 use Rattle.nor_base.specs.Script.{IsScript}
 use Rattle.nor_job.specs.declared.fault.BuildFault.TheVariants as fault
 use Rattle.nor_waves.specs.Waves.{waves}
-use Rattle.norprog_common.specs.FileStore.{FileFacts, IsMadeApart, Named}
+use Rattle.norprog_common.specs.FileStore.{FileFacts, IsMadeApart, Named, Change, MakesNamed, MayMake, MakesIf}
 use Rattle.norprog_common.specs.declared.faults.FileName.{FileName}
 use Rattle.norprog_common.specs.declared.faults.Refusal.{Refusal}
 use Rattle.norprog_common.specs.declared.faults.Refusal.TheVariants.{Text, Usage, File, Build, Page, Script, BinSize, Steps, EmptyRegion, Log}
-use Rattle.norprog_common.specs.Told.{OrUsage}
+use Rattle.norprog_common.specs.Told.{OrUsage, Answers}
+use Rattle.norprog_common.specs.Lines.{printed, status_after}
 use Rattle.norprog_common.proofs.ToldLemmas.{refuses_wider, or_usage}
 use Rattle.norprog_common.specs.declared.given.DrawArgs.{DrawArgs}
 use Rattle.norprog_draw.specs.declared.request.DrawRequest.{DrawRequest}
@@ -151,3 +152,14 @@ module _ (files : FileFacts) (request : DrawRequest) (text : List ℕ) (gave : f
     done_is_refused (Err e) flushed r put is = rw is (was_cut put)
     done_is_refused (Ok x) (Err e) r put is = rw is (inr (was_drawn (λ held. ⊤) tt put))
     done_is_refused (Ok x) (Ok u) r put is = rw is tt
+
+-- what is answered, as the work ended
+pub answer_is : (files : FileFacts) (names : List (List ℕ)) (out : Option (List ℕ)) (Made : List Change → Type 0) (asks : Bool) (Done Quiet Works : Type 0)
+    (Work : Refusal → Type 0) (told_before told_after : Option (List ℕ)) (work : Result ℕ Refusal) (status : ℕ)
+    → IfOk work (λ s. s ≡ 0) → MakesIf files names out Made work → IfOk work (λ _. Done) → IfOk work (λ _. asks ≡ true) → IfErr work (OrUsage asks Work)
+    → IfOk work (λ s. (status ≡ s) × Quiet) → IfErr work (λ why. (status ≡ status_after why) × (Works → Appends told_before told_after (printed why)))
+    → Answers asks ((status ≡ 0) × Done × MakesNamed files names out Made × Quiet) (MayMake files names out Made) Work Works told_before told_after status
+answer_is files names out Made asks Done Quiet Works Work told_before told_after (Ok s) status zero made is formed why done told =
+    inl (formed, (done.0 ∙ zero, is, made, done.1))
+answer_is files names out Made asks Done Quiet Works Work told_before told_after (Err why) status zero made is formed first done told =
+    inr (made, (why, first, told.0, told.1))

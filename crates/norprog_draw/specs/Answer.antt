@@ -1,10 +1,10 @@
 -- What is told of a drawing (this project's).
-use Rattle.std.specs.Prelude.{◌≡◌, ⊤, ℕ, List, Option, Result, Ok, Err}
+use Rattle.std.specs.Prelude.{◌≡◌, ⊤, ℕ, List, Option, option_map, option_to_list, Result, Ok, Err}
 use Rattle.nor_job.specs.declared.fault.BuildFault.TheVariants.{Write}
 use Rattle.norprog_common.specs.declared.faults.FileName.{FileName}
 use Rattle.norprog_common.specs.declared.faults.Refusal.{Refusal}
 use Rattle.norprog_common.specs.declared.faults.Refusal.TheVariants.{Build, Script, Steps}
-use Rattle.norprog_common.specs.FileStore.{FileFacts}
+use Rattle.norprog_common.specs.FileStore.{FileFacts, Change, MakesNamed, MayMake}
 use Rattle.norprog_common.specs.Told.{ForAsked, RefusesFor, Answers}
 use Rattle.norprog_common.specs.declared.given.DrawArgs.{DrawArgs}
 use Rattle.norprog_draw.specs.Drawn.{WasDrawn, WasCut, RefusesSteps}
@@ -49,11 +49,13 @@ done (Err e) flushed = Err (Build Write)
 done (Ok drawn) (Err e) = Err (Build Write)
 done (Ok drawn) (Ok u) = Ok 0
 
--- what `draw` answers to the texts of a command line: status 0 where it was drawn and has gone out, or a refusal. It prints nothing else
-abbrev pub AnswersDraw : FileFacts → DrawArgs → Type 0 → Type 0 → Option (List ℕ) → Option (List ℕ) → ℕ → Type 0
-AnswersDraw files given Quiet Works told_before told_after status =
+-- what `draw` answers to the texts of a command line, where `Made` says which changes it made: status 0 where it was drawn and has
+-- gone out, and just the output was made; or a refusal, and at most that was. It prints nothing else
+abbrev pub AnswersDraw : FileFacts → DrawArgs → (List Change → Type 0) → Type 0 → Type 0 → Option (List ℕ) → Option (List ℕ) → ℕ → Type 0
+AnswersDraw files given Made Quiet Works told_before told_after status =
     Answers (is_well_formed given)
-    ((status ≡ 0) × IsDrawing (Serves files given) (Makes files given) files.flushed × Quiet)
-    (Unit {0})
+    ((status ≡ 0) × IsDrawing (Serves files given) (Makes files given) files.flushed
+    × MakesNamed files (option_to_list (option_map (λ t. t.now) given.script)) (option_map (λ t. t.now) given.out) Made × Quiet)
+    (MayMake files (option_to_list (option_map (λ t. t.now) given.script)) (option_map (λ t. t.now) given.out) Made)
     (RefusesDraw files.lacked (Serves files given) (Makes files given))
     Works told_before told_after status

@@ -1,6 +1,8 @@
 //! `draw`: from the texts of the command line to a waveform in its file.
 
-ghost use Rattle.std.specs.Prelude.{◌≡◌, ◌<◌, ◌≤◌, ◌-◌, ◌^◌, true, IfOk, IfErr};
+ghost use Rattle.std.specs.Prelude.{◌≡◌, ◌<◌, ◌≤◌, ◌-◌, ◌^◌, [], ◌∷◌, true, IfOk, IfErr};
+ghost use Rattle.std.specs.Prelude.{Some, option_map, option_to_list};
+ghost use Rattle.norprog_common.specs.FileStore.{Adds, MakesIf};
 ghost use Rattle.norprog_common.specs.Told.{OrUsage};
 ghost use Rattle.norprog_draw.specs.Answer.{IsDrawing, RefusesDraw, AnswersDraw, done};
 ghost use Rattle.norprog_draw.specs.Request.{is_well_formed};
@@ -18,21 +20,32 @@ use std::alloc::Global;
 pub fn draw<S: FileStore, E: ByteOut>(
     alloc: Global,
     store: &S,
+    journal: &mut S::Journal,
     given: DrawArgs<'_>,
     err: &mut E,
 ) -> u8
     requires { E.count err.old < 2 ^ 64 - 1 }
     ensures status { result ≤ 2 }
     ensures quiet { result ≡ 0 → err.new ≡ err.old }
-    ensures answer { AnswersDraw (S.facts store.now) given.entry (err.new ≡ err.old)
+    ensures answer { AnswersDraw (S.facts store.now) given.entry
+        (Adds (S.Journal.changes journal.old) (S.Journal.changes journal.new)) (err.new ≡ err.old)
         (E.count err.new ≡ E.count err.old) (E.held err.old) (E.held err.new) result }
 {
-    answered(drawn_in(alloc, store, given), err)
+    answered(drawn_in(alloc, store, journal, given), err)
 }
 
 /// Draws what is asked for.
-fn drawn_in<S: FileStore>(alloc: Global, store: &S, given: DrawArgs<'_>) -> Result<u8, Refusal>
+fn drawn_in<S: FileStore>(
+    alloc: Global,
+    store: &S,
+    journal: &mut S::Journal,
+    given: DrawArgs<'_>,
+) -> Result<u8, Refusal>
     ensures status { IfOk result (λ status. status ≡ 0) }
+    ensures journal { MakesIf (S.facts store.now)
+        (option_to_list (option_map (λ t. t.now) given.entry.script))
+        (option_map (λ t. t.now) given.entry.out)
+        (Adds (S.Journal.changes journal.old) (S.Journal.changes journal.new)) result }
     ensures drawn { IfOk result (λ _. IsDrawing (Serves (S.facts store.now) given.entry)
         (Makes (S.facts store.now) given.entry) (S.facts store.now).flushed) }
     ensures asked { IfOk result (λ _. is_well_formed given.entry ≡ true) }
@@ -41,12 +54,20 @@ fn drawn_in<S: FileStore>(alloc: Global, store: &S, given: DrawArgs<'_>) -> Resu
         (Makes (S.facts store.now) given.entry))) }
 {
     let request = request_of(given).ok_or(Refusal::Usage)?;
-    run_draw(alloc, store, request)
+    run_draw(alloc, store, journal, request)
 }
 
 /// Reads the script of a request, and then makes the output and draws into it.
-fn run_draw<S: FileStore>(alloc: Global, store: &S, request: DrawRequest<'_>) -> Result<u8, Refusal>
+fn run_draw<S: FileStore>(
+    alloc: Global,
+    store: &S,
+    journal: &mut S::Journal,
+    request: DrawRequest<'_>,
+) -> Result<u8, Refusal>
     ensures status { IfOk result (λ status. status ≡ 0) }
+    ensures journal { MakesIf (S.facts store.now) (request.entry.script.now ∷ [])
+        (Some request.entry.out.now)
+        (Adds (S.Journal.changes journal.old) (S.Journal.changes journal.new)) result }
     ensures drawn { IfOk result (λ _. IsDrawing (IsTaskOf (S.facts store.now) request.entry)
         (IsMadeFor (S.facts store.now) request.entry) (S.facts store.now).flushed) }
     ensures refused { IfErr result
@@ -55,9 +76,9 @@ fn run_draw<S: FileStore>(alloc: Global, store: &S, request: DrawRequest<'_>) ->
 {
     let (script, place) = store.read(alloc, request.script, FileName::Script)?;
     let steps = steps_of(alloc, script.as_slice(), request.from)?;
-    let mut out = store.create(alloc, request.out, FileName::Out, &[place])?;
+    let mut out = store.create(journal, alloc, request.out, FileName::Out, &[place])?;
     let answer = draw_steps(steps.as_slice(), request.from, request.count, &mut out);
-    let flushed = store.flush(&mut out);
+    let flushed = store.flush(out);
     done(answer, flushed)
 }
 

@@ -4,18 +4,10 @@ use Rattle.nor_base.specs.declared.wrong.Wrong.TheVariants.{PollNever}
 use Rattle.nor_base.specs.Script.{closed, hex_pair}
 use Rattle.nor_probe.specs.declared.difference.Difference.{Difference}
 use Rattle.nor_script.specs.Hexadecimal.{hex_number}
-use Rattle.nor_serprog.specs.declared.fault.Fault.{Fault}
-use Rattle.nor_serprog.specs.declared.fault.Fault.TheVariants as fault
 use Rattle.norprog_common.specs.Wrongs.{wrong_number}
+use Rattle.norprog_device.specs.Line.{fault_word}
 use Rattle.norprog_failure.specs.declared.failure.Failure.{Failure}
 use Rattle.norprog_failure.specs.declared.failure.Failure.TheVariants as failure
-
-abbrev pub fault_word : Fault → List ℕ
-fault_word fault.Read = codes "read"
-fault_word fault.Write = codes "write"
-fault_word fault.Silent = codes "silent"
-fault_word fault.Nak = codes "nak"
-fault_word fault.Differs = codes "differs"
 
 -- `wrong N at K`, and LF
 abbrev pub wrong_line : ℕ → ℕ → List ℕ

@@ -2,7 +2,8 @@
 //! section 14).
 //!
 //! [`failure_of`] has the failure of a step from what the exchange with the device gave,
-//! [`failure_by`] that of a read after all steps. [`write_failure`] writes its line.
+//! [`failure_by`] that of a read after all steps. [`write_failure`] writes its line,
+//! [`write_wrong`] that of a number of what goes wrong.
 #![tactic(auto)]
 
 mod failure;
@@ -10,5 +11,5 @@ mod line;
 mod reported;
 
 pub use failure::Failure;
-pub use line::{word, write_failure};
+pub use line::{write_failure, write_wrong};
 pub use reported::{failure_by, failure_of};

@@ -3,15 +3,15 @@
 ghost use Rattle.std.specs.Prelude.{◌≡◌, ◌<◌, ◌-◌, ◌^◌};
 ghost use Rattle.nor_base.specs.Device.{Writes, Counts};
 ghost use Rattle.norprog_failure.specs.declared.failure.Failure.TheVariants.{Differs, Gives};
-ghost use Rattle.norprog_failure.specs.Line.{failed_line, failure_line, fault_word, wrong_line};
+ghost use Rattle.norprog_failure.specs.Line.{failed_line, failure_line, wrong_line};
 
 use crate::failure::Failure;
 use itoa::Buffer;
 use nor_base::{ByteOut, Failed, Wrong, put_parts};
 use nor_probe::Difference;
 use nor_script::{hex_number, hex_pair};
-use nor_serprog::Fault;
 use norprog_common::wrong_number;
+use norprog_device::word;
 
 /// Writes why a step isn't done, in a line: `failed at K WHY`, with the step in decimal, counted
 /// from 0; for a device that stays busy `wrong 6 at K`. It takes no memory.
@@ -77,8 +77,10 @@ fn write_gives<W: ByteOut>(step: u64, chip: u8, want: u8, writer: &mut W) -> Res
     )
 }
 
-/// Writes `wrong N at K`.
-fn write_wrong<W: ByteOut>(number: u8, step: u64, writer: &mut W) -> Result<(), Failed>
+/// Writes `wrong N at K`, with both numbers in decimal. It takes no memory.
+///
+/// `Failed` comes only from the writer.
+pub fn write_wrong<W: ByteOut>(number: u8, step: u64, writer: &mut W) -> Result<(), Failed>
     requires { W.count writer.old < 2 ^ 64 - 1 }
     ensures bytes { Writes (W.held writer.old) (W.held writer.new) result (wrong_line number step) }
     ensures count { Counts (W.count writer.old) (W.count writer.new) result }
@@ -115,17 +117,4 @@ fn write_failed<W: ByteOut>(step: u64, why: &[u8], writer: &mut W) -> Result<(),
             b"\n",
         ],
     )
-}
-
-/// The word of an exchange that ended early.
-pub fn word(fault: Fault) -> &'static [u8]
-    ensures { result.now ≡ fault_word fault }
-{
-    match fault {
-        Fault::Read => b"read",
-        Fault::Write => b"write",
-        Fault::Silent => b"silent",
-        Fault::Nak => b"nak",
-        Fault::Differs => b"differs",
-    }
 }

@@ -1,16 +1,22 @@
 -- A job after the handshake, and then the pins were let go.
-use Rattle.std.proofs.Common.{ℕ, List, Option, Result, Ok, Err, IfOk, IfErr, inr}
-use Rattle.nor_base.specs.Device.{Ahead}
+use Rattle.std.proofs.Common.{ℕ, List, [], ◌∷◌, Option, Result, Ok, Err, IfOk, IfErr, inl, inr, refl}
+use Rattle.nor_base.specs.Device.{Ahead, ahead_of}
 use Rattle.nor_serprog.specs.declared.limits.Limits.{Limits}
 use Rattle.nor_serprog.specs.Greeting.{Greeted}
 use Rattle.nor_serprog.specs.Line.{TestsLine}
-use Rattle.norprog_common.specs.FileStore.{FileFacts}
-use Rattle.norprog_device.specs.Opened.{LetsGo}
+use Rattle.norprog_common.specs.FileStore.{FileFacts, Adds, Change, Created, Opened}
+use Rattle.norprog_common.proofs.JournalLemmas.{adds_both}
+use Rattle.norprog_common.specs.declared.faults.Refusal.{Refusal}
+use Rattle.norprog_common.specs.Files.{TellsFile}
+use Rattle.norprog_device.specs.Opened.{IsUntouched, LetsGo}
 use Rattle.norprog_flash.specs.declared.ending.Ending.{Ending}
 use Rattle.norprog_flash.specs.declared.ending.Unflashed.{Unflashed}
+use Rattle.norprog_flash.specs.declared.ending.Unflashed.TheVariants.{Refused}
 use Rattle.norprog_flash.specs.declared.job.Job.{Job}
-use Rattle.norprog_flash.specs.Opened.{HasFlashedOpened, HasFlashedTested}
-use Rattle.norprog_flash.specs.Stops.{StopsBegun, StopsOpened, StopsTested}
+use Rattle.norprog_flash.specs.Answer.{IsUnbegunOn}
+use Rattle.norprog_flash.specs.Early.{IsSoundEarly}
+use Rattle.norprog_flash.specs.Opened.{HasFlashedOpened, HasFlashedTested, IsFlashedOn}
+use Rattle.norprog_flash.specs.Stops.{StopsBegun, StopsOpened, StopsTested, StopsWork}
 
 pub opened_by : {E : Type 0} (files : FileFacts) (job : Job) (h i j k : Option (List ℕ)) (a b c d : Ahead) (o p : Option (List ℕ)) (limits : Limits)
     (r : Result Ending E) → Greeted h i a b (Ok limits) → IfOk r (HasFlashedTested files job limits i j b c o p)
@@ -28,11 +34,11 @@ opened_by files job h i j k a b c d o p limits (Ok ending) greeted tested releas
 opened_by files job h i j k a b c d o p limits (Err why) greeted tested released = tt
 
 -- or it wasn't begun
-pub stopped_by : {T : Type 0} (files : FileFacts) (job : Job) (h i j k : Option (List ℕ)) (a b c d : Ahead) (o p : Option (List ℕ)) (limits : Limits)
-    (r : Result T Unflashed) → Greeted h i a b (Ok limits) → IfErr r (StopsTested files i j b c limits job o p) → LetsGo j k c d limits.pins
-    → IfErr r (StopsOpened files h k a d job o p)
-stopped_by files job h i j k a b c d o p limits (Ok ending) greeted stops released = tt
-stopped_by files job h i j k a b c d o p limits (Err why) greeted stops released = inr (record {
+pub stopped_by : {T : Type 0} (files : FileFacts) (Made : List Change → Type 0) (job : Job) (h i j k : Option (List ℕ)) (a b c d : Ahead)
+    (o p : Option (List ℕ)) (limits : Limits) (r : Result T Unflashed) → Greeted h i a b (Ok limits)
+    → IfErr r (StopsTested files Made i j b c limits job o p) → LetsGo j k c d limits.pins → IfErr r (StopsOpened files Made h k a d job o p)
+stopped_by files Made job h i j k a b c d o p limits (Ok ending) greeted stops released = tt
+stopped_by files Made job h i j k a b c d o p limits (Err why) greeted stops released = inr (record {
   held = i;
   ahead = b;
   limits = limits;
@@ -43,8 +49,108 @@ stopped_by files job h i j k a b c d o p limits (Err why) greeted stops released
   released = released;
 })
 
-pub stopped_after : {T : Type 0} (files : FileFacts) (job : Job) (h i j : Option (List ℕ)) (a b c : Ahead) (o p : Option (List ℕ)) (limits : Limits)
-    (r : Result T Unflashed) → TestsLine h i a b (Ok tt) limits → IfErr r (StopsBegun files i j b c job o p)
-    → IfErr r (StopsTested files h j a c limits job o p)
-stopped_after files job h i j a b c o p limits (Ok ending) tested begun = tt
-stopped_after files job h i j a b c o p limits (Err why) tested begun = inr (record { held = i; ahead = b; tested = tested; begun = begun })
+pub stopped_after : {T : Type 0} (files : FileFacts) (Made : List Change → Type 0) (job : Job) (h i j : Option (List ℕ)) (a b c : Ahead)
+    (o p : Option (List ℕ)) (limits : Limits) (r : Result T Unflashed) → TestsLine h i a b (Ok tt) limits
+    → IfErr r (StopsBegun files Made i j b c job o p) → IfErr r (StopsTested files Made h j a c limits job o p)
+stopped_after files Made job h i j a b c o p limits (Ok ending) tested begun = tt
+stopped_after files Made job h i j a b c o p limits (Err why) tested begun =
+    inr (record { held = i; ahead = b; tested = tested; begun = begun })
+
+-- on the device that was opened
+pub flashed_on : {E : Type 0} (files : FileFacts) (device : List ℕ) (job : Job) (remaining contents held : Option (List ℕ)) (ahead : Ahead)
+    (o p : Option (List ℕ)) (r : Result Ending E) → files.device device remaining contents → files.left held
+    → IfOk r (HasFlashedOpened files job contents held (ahead_of remaining) ahead o p) → IfOk r (IsFlashedOn (files.device device) files job o p)
+flashed_on files device job remaining contents held ahead o p (Ok ending) opened left flashed = record {
+  remaining = remaining;
+  contents = contents;
+  opened = opened;
+  held = held;
+  ahead = ahead;
+  flashed = flashed;
+  left = left;
+}
+flashed_on files device job remaining contents held ahead o p (Err why) opened left flashed = tt
+
+-- ---- after other changes
+module _ (files : FileFacts) (Made Other : List Change → Type 0) (wider : (xs : List Change) → Made xs → Other xs) (job : Job)
+    (o p : Option (List ℕ)) (why : Unflashed) where
+  work_wider : (h i : Option (List ℕ)) (a b : Ahead) → StopsWork files Made h i a b job o p why → StopsWork files Other h i a b job o p why
+  work_wider h i a b (inl (same, inl before)) = inl (same, inl (wider [] before.0, before.1))
+  work_wider h i a b (inl (same, inr late)) = inl (
+    same,
+    inr (record {
+      reading = late.reading;
+      read = late.read;
+      refusal = late.refusal;
+      is = late.is;
+      fails = late.fails;
+      made = elim late.made [ inl none ↦ inl (wider [] none) | inr one ↦ inr (wider (Created job.before.now ∷ []) one) ];
+    }),
+  )
+  work_wider h i a b (inr late) = inr (record {
+    reading = late.reading;
+    read = late.read;
+    saved = late.saved;
+    made = wider (Created job.before.now ∷ []) late.made;
+    refusal = late.refusal;
+    is = late.is;
+    cause = late.cause;
+  })
+
+  tested_wider : (h i : Option (List ℕ)) (a b : Ahead) (limits : Limits) → StopsTested files Made h i a b limits job o p why
+      → StopsTested files Other h i a b limits job o p why
+  tested_wider h i a b limits (inl fault) = inl (fault.0, fault.1, fault.2, wider [] fault.3, fault.4)
+  tested_wider h i a b limits (inr after) = inr (record {
+    held = after.held;
+    ahead = after.ahead;
+    tested = after.tested;
+    begun = record {
+      stop = work_wider after.held i after.ahead b after.begun.stop;
+      harmless = after.begun.harmless;
+    };
+  })
+
+  pub opened_wider : (h i : Option (List ℕ)) (a b : Ahead) → StopsOpened files Made h i a b job o p why → StopsOpened files Other h i a b job o p why
+  opened_wider h i a b (inl fault) = inl (fault.0, fault.1, fault.2, wider [] fault.3, fault.4)
+  opened_wider h i a b (inr greeted) = inr (record {
+    held = greeted.held;
+    ahead = greeted.ahead;
+    limits = greeted.limits;
+    greeted = greeted.greeted;
+    held_late = greeted.held_late;
+    ahead_late = greeted.ahead_late;
+    stops = tested_wider greeted.held greeted.held_late greeted.ahead greeted.ahead_late greeted.limits greeted.stops;
+    released = greeted.released;
+  })
+
+-- or the job on the device that was opened stopped so
+pub unbegun_on : {T : Type 0} (files : FileFacts) (device : List ℕ) (job : Job) (remaining contents held : Option (List ℕ)) (ahead : Ahead)
+    (o p : Option (List ℕ)) (before mid after : Option (List Change)) (r : Result T Unflashed) → Adds before mid (Opened device ∷ [])
+    → IsSoundEarly job → files.device device remaining contents → files.left held
+    → IfErr r (StopsOpened files (Adds mid after) contents held (ahead_of remaining) ahead job o p)
+    → IfErr r (IsUnbegunOn files device (Adds before after) job o p)
+unbegun_on files device job remaining contents held ahead o p before mid after (Ok ending) first sound opened left stops = tt
+unbegun_on files device job remaining contents held ahead o p before mid after (Err why) first sound opened left stops = inr (
+  sound,
+  inr (record {
+    remaining = remaining;
+    contents = contents;
+    opened = opened;
+    held = held;
+    ahead = ahead;
+    stops = opened_wider files (Adds mid after) (λ next. Adds before after (Opened device ∷ next))
+        (λ xs made. adds_both before mid after (Opened device ∷ []) xs first made) job o p why contents held (ahead_of remaining) ahead stops;
+    left = left;
+  }),
+)
+
+pub made_on : {T E : Type 0} (device name : List ℕ) (before mid after : Option (List Change)) (r : Result T E) → Adds before mid (Opened device ∷ [])
+    → IfOk r (λ _. Adds mid after (Created name ∷ [])) → IfOk r (λ _. Adds before after (Opened device ∷ Created name ∷ []))
+made_on device name before mid after (Ok x) first made = adds_both before mid after (Opened device ∷ []) (Created name ∷ []) first made
+made_on device name before mid after (Err why) first made = tt
+
+-- or it couldn't be opened
+pub unopened : (files : FileFacts) (device : List ℕ) (Made : List Change → Type 0) (job : Job) (o : Option (List ℕ)) (refusal : Refusal)
+    → IsSoundEarly job → TellsFile files.lacked refusal → IsUntouched files device Made refusal
+    → IsUnbegunOn files device Made job o o (Refused refusal)
+unopened files device Made job o refusal sound lacks untouched = inr (sound, inl (refusal, refl, lacks, untouched, refl))

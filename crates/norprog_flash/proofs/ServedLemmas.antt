@@ -1,6 +1,6 @@
 -- The job is the one that the texts ask for.
-use Rattle.std.proofs.Common.{◌≡◌, ℕ, true, List, Option, Result, Ok, Err, IfOk, IfErr, inl, inr, is_some, ap, ◌∙◌}
-use Rattle.norprog_common.specs.FileStore.{FileFacts}
+use Rattle.std.proofs.Common.{◌≡◌, ℕ, true, List, [], ◌∷◌, Option, Result, Ok, Err, IfOk, IfErr, inr, is_some, ap, ◌∙◌, subst}
+use Rattle.norprog_common.specs.FileStore.{FileFacts, Change, Created, Opened}
 use Rattle.norprog_common.specs.declared.given.FlashArgs.{FlashArgs}
 use Rattle.norprog_flash.specs.declared.ending.Ending.{Ending}
 use Rattle.norprog_flash.specs.declared.ending.Unflashed.{Unflashed}
@@ -19,22 +19,29 @@ pub wanted : (given : FlashArgs) (request : FlashRequest) (file : List ℕ) (ask
     → ask.content ≡ true
 wanted given request file ask asks is = is.content ∙ (ap is_some asks.read.out ∙ ap is_some asks.before)
 
-pub ending_by : {E : Type 0} (files : FileFacts) (given : FlashArgs) (request : FlashRequest) (job : Job) (o p : Option (List ℕ)) (r : Result Ending E)
-    → is_well_formed given ≡ true → AsksFor given request → IsJobOf files request job → IfOk r (λ _. IsSoundEarly job)
-    → IfOk r (IsFlashedOn (files.device request.read.device.now) files job o p) → IfOk r (IsEndingOf files given o p)
-ending_by files given request job o p (Ok ending) formed asks is sound flashed = record {
+pub ending_by : {E : Type 0} (files : FileFacts) (given : FlashArgs) (request : FlashRequest) (Made : List Change → Type 0) (job : Job)
+    (o p : Option (List ℕ)) (r : Result Ending E) → is_well_formed given ≡ true → AsksFor given request → IsJobOf files request job
+    → IfOk r (λ _. IsSoundEarly job) → IfOk r (IsFlashedOn (files.device request.read.device.now) files job o p)
+    → IfOk r (λ _. Made (Opened request.read.device.now ∷ Created job.before.now ∷ [])) → IfOk r (IsEndingOf files given Made o p)
+ending_by files given request Made job o p (Ok ending) formed asks is sound flashed made = record {
   formed = formed;
   request = request;
   asks = asks;
-  ends = record { job = job; is = is; sound = sound; flashed = flashed };
+  ends = record {
+    job = job;
+    is = is;
+    sound = sound;
+    flashed = flashed;
+    made = subst (λ (name : List ℕ). Made (Opened request.read.device.now ∷ Created name ∷ [])) is.before made;
+  };
 }
-ending_by files given request job o p (Err why) formed asks is sound flashed = tt
+ending_by files given request Made job o p (Err why) formed asks is sound flashed made = tt
 
-pub unbegun_by : {T : Type 0} (files : FileFacts) (given : FlashArgs) (request : FlashRequest) (job : Job) (o p : Option (List ℕ)) (r : Result T Unflashed)
-    → is_well_formed given ≡ true → AsksFor given request → IsJobOf files request job
-    → IfErr r (IsUnbegunOn files (files.device request.read.device.now) job o p) → IfErr r (IsUnbegunFor files given o p)
-unbegun_by files given request job o p (Ok ending) formed asks is unbegun = tt
-unbegun_by files given request job o p (Err why) formed asks is stops = inr (record {
+pub unbegun_by : {T : Type 0} (files : FileFacts) (given : FlashArgs) (request : FlashRequest) (Made : List Change → Type 0) (job : Job)
+    (o p : Option (List ℕ)) (r : Result T Unflashed) → is_well_formed given ≡ true → AsksFor given request → IsJobOf files request job
+    → IfErr r (IsUnbegunOn files request.read.device.now Made job o p) → IfErr r (IsUnbegunFor files given Made o p)
+unbegun_by files given request Made job o p (Ok ending) formed asks is unbegun = tt
+unbegun_by files given request Made job o p (Err why) formed asks is stops = inr (record {
   formed = formed;
   request = request;
   asks = asks;

@@ -1,5 +1,5 @@
 -- Why work isn't begun on a chip that was read.
-use Rattle.std.proofs.Common.{◌≡◌, ◌∙◌, ℕ, Bool, false, List, length, Option, unwrap_or, inl, inr, refl, sym, ap, subst}
+use Rattle.std.proofs.Common.{◌≡◌, ◌∙◌, ◌⊎◌, ℕ, Bool, false, List, [], ◌∷◌, length, Option, unwrap_or, inl, inr, refl, sym, ap, subst}
 use Rattle.nor_base.specs.declared.meaning.Start.{Start}
 use Rattle.nor_base.specs.Device.{Ahead}
 use Rattle.nor_job.specs.declared.fault.BuildFault.{BuildFault}
@@ -7,12 +7,14 @@ use Rattle.nor_job.specs.declared.fault.BuildFault.TheVariants.{ContentSize}
 use Rattle.nor_job.specs.Status.{start_of}
 use Rattle.nor_job.specs.Task.{Task}
 use Rattle.nor_probe.specs.Status.{suits}
-use Rattle.nor_reader.specs.Harmless.{HasSentHarmless}
+use Rattle.nor_reader.specs.Harmless.{HasSentHarmless, SendsHarmless}
 use Rattle.nor_reader.proofs.HarmlessLemmas.{whole_sent}
 use Rattle.norprog_common.specs.declared.faults.Refusal.{Refusal}
 use Rattle.norprog_common.specs.declared.faults.Refusal.TheVariants.{Build}
-use Rattle.norprog_common.specs.FileStore.{FileFacts}
+use Rattle.norprog_common.specs.FileStore.{FileFacts, Adds, Change, Created}
 use Rattle.norprog_common.specs.Strict.{RefusesEmpty}
+use Rattle.norprog_common.proofs.JournalLemmas.{adds_none}
+use Rattle.norprog_flash.specs.declared.ending.Unflashed.{Unflashed}
 use Rattle.norprog_flash.specs.declared.ending.Unflashed.TheVariants.{Refused, Unlike, Closed}
 use Rattle.norprog_flash.specs.declared.job.Job.{Job}
 use Rattle.norprog_flash.specs.Begun.{HasRead, start_at}
@@ -44,21 +46,28 @@ pub unfilled : (h i : Option (List ℕ)) (a b : Ahead) (job : Job) (r : Reading)
     → RefusesEmpty job.strict (flash_task job r.tables.items) (length r.content.items) why → StopsBefore h i a b job (Refused why)
 unfilled h i a b job r read why empty = inr (record { reading = r; read = read; unsuited = empty })
 
-pub unsaved : (files : FileFacts) (h i : Option (List ℕ)) (a b : Ahead) (job : Job) (o : Option (List ℕ)) (r : Reading) → HasRead job h i a b r
-    → HasSentHarmless h i → (why : Refusal) → FailsToSave files.lacked why → StopsBegun files h i a b job o o (Refused why)
-unsaved files h i a b job o r read sent why fails = record {
-  stop = inl (refl, inr (record { reading = r; read = read; refusal = why; is = refl; fails = fails }));
+pub unread : (files : FileFacts) (before : Option (List Change)) (h i : Option (List ℕ)) (a b : Ahead) (job : Job) (o : Option (List ℕ))
+    (why : Unflashed) → StopsBefore h i a b job why → SendsHarmless h i → StopsBegun files (Adds before before) h i a b job o o why
+unread files before h i a b job o why stops harmless =
+    record { stop = inl (refl, inl (adds_none before before refl, stops)); harmless = harmless }
+
+pub unsaved : (files : FileFacts) (h i : Option (List ℕ)) (a b : Ahead) (job : Job) (o : Option (List ℕ)) (r : Reading)
+    → HasRead job h i a b r → HasSentHarmless h i → (why : Refusal) → FailsToSave files.lacked why → (before after : Option (List Change))
+    → Adds before after [] ⊎ Adds before after (Created job.before.now ∷ []) → StopsBegun files (Adds before after) h i a b job o o (Refused why)
+unsaved files h i a b job o r read sent why fails before after made = record {
+  stop = inl (refl, inr (record { reading = r; read = read; refusal = why; is = refl; fails = fails; made = made }));
   harmless = whole_sent h i sent;
 }
 
-pub unplanned : (files : FileFacts) (h i : Option (List ℕ)) (a b : Ahead) (job : Job) (o p : Option (List ℕ)) (r : Reading) → HasRead job h i a b r
-    → HasSentHarmless h i → (content : List ℕ) → content ≡ r.content.items → IsSaved files job.before.now content → (why : Refusal)
-    → CantPlan job r o p why → StopsBegun files h i a b job o p (Refused why)
-unplanned files h i a b job o p r read sent content same saved why cause = record {
+pub unplanned : (files : FileFacts) (Made : List Change → Type 0) (h i : Option (List ℕ)) (a b : Ahead) (job : Job) (o p : Option (List ℕ)) (r : Reading)
+    → HasRead job h i a b r → HasSentHarmless h i → (content : List ℕ) → content ≡ r.content.items → IsSaved files job.before.now content
+    → Made (Created job.before.now ∷ []) → (why : Refusal) → CantPlan job r o p why → StopsBegun files Made h i a b job o p (Refused why)
+unplanned files Made h i a b job o p r read sent content same saved made why cause = record {
   stop = inr (record {
     reading = r;
     read = read;
     saved = subst (IsSaved files job.before.now) same saved;
+    made = made;
     refusal = why;
     is = refl;
     cause = cause;

@@ -1,12 +1,12 @@
 -- What `flash` reports to the texts of a command line (this project's).
-use Rattle.std.specs.Prelude.{◌≡◌, ◌⊎◌, ℕ, Bool, true, false, List, [], ◌++◌, if◌then◌else◌, Option, unwrap_or}
+use Rattle.std.specs.Prelude.{◌≡◌, ◌⊎◌, ℕ, Bool, true, false, List, [], ◌∷◌, ◌++◌, if◌then◌else◌, Option, unwrap_or}
 use Rattle.std.specs.Io.KnownBytes.{Appends}
 use Rattle.nor_base.specs.declared.meaning.Part.{Part}
 use Rattle.nor_base.specs.declared.meaning.Part.TheVariants.{Generic}
 use Rattle.nor_base.specs.Device.{Cuts}
 use Rattle.nor_job.specs.declared.fault.BuildFault.{BuildFault}
 use Rattle.nor_job.specs.declared.fault.BuildFault.TheVariants.{Write}
-use Rattle.norprog_common.specs.FileStore.{FileFacts}
+use Rattle.norprog_common.specs.FileStore.{FileFacts, Change, Created, Opened}
 use Rattle.norprog_common.specs.Files.{TellsFile}
 use Rattle.norprog_common.specs.Lines.{printed, status_after}
 use Rattle.norprog_common.specs.Setup.{family_asked}
@@ -16,6 +16,7 @@ use Rattle.norprog_common.specs.declared.faults.Refusal.{Refusal}
 use Rattle.norprog_common.specs.declared.faults.Refusal.TheVariants.{Build}
 use Rattle.norprog_common.specs.declared.given.FlashArgs.{FlashArgs}
 use Rattle.norprog_device.specs.Line.{device_line}
+use Rattle.norprog_device.specs.Opened.{IsUntouched}
 use Rattle.norprog_flash.specs.declared.ending.Ending.{Ending}
 use Rattle.norprog_flash.specs.declared.ending.Unflashed.{Unflashed}
 use Rattle.norprog_flash.specs.declared.ending.Unflashed.TheVariants.{Refused, Device, Unlike, Closed}
@@ -31,46 +32,53 @@ use Rattle.norprog_flash.specs.Stops.{StopsOn}
 use Rattle.norprog_read.specs.Answer.{Reports}
 use Rattle.norprog_read.specs.Line.{unlike_line}
 
--- the job of a request ended so on the device that it names
-pub record EndsRequest (files : FileFacts) (request : FlashRequest) (out_before out_after : Option (List ℕ)) (ending : Ending) : Type 0 where
+-- the job of a request ended so on the device that it names; just that was opened, and the file for what the chip held was made
+pub record EndsRequest (files : FileFacts) (request : FlashRequest) (Made : List Change → Type 0) (out_before out_after : Option (List ℕ))
+    (ending : Ending) : Type 0 where
   pub job : Job
   pub is : IsJobOf files request job
   pub sound : IsSoundEarly job
   pub flashed : IsFlashedOn (files.device request.read.device.now) files job out_before out_after ending
+  pub made : Made (Opened request.read.device.now ∷ Created request.before.now ∷ [])
 
 -- what the texts ask for did
-pub record IsEndingOf (files : FileFacts) (given : FlashArgs) (out_before out_after : Option (List ℕ)) (ending : Ending) : Type 0 where
+pub record IsEndingOf (files : FileFacts) (given : FlashArgs) (Made : List Change → Type 0) (out_before out_after : Option (List ℕ))
+    (ending : Ending) : Type 0 where
   pub formed : is_well_formed given ≡ true
   pub request : FlashRequest
   pub asks : AsksFor given request
-  pub ends : EndsRequest files request out_before out_after ending
+  pub ends : EndsRequest files request Made out_before out_after ending
 
--- the device couldn't be opened, and nothing was printed; or the job on its chip stopped so
-abbrev pub IsUnbegunBy : FileFacts → (Option (List ℕ) → Option (List ℕ) → Type 0) → Job → Option (List ℕ) → Option (List ℕ) → Unflashed → Type 0
-IsUnbegunBy files Opened job out_before out_after why =
-    ((refusal : Refusal) × (why ≡ Refused refusal) × TellsFile files.lacked refusal × (out_after ≡ out_before))
-    ⊎ StopsOn Opened files job out_before out_after why
+-- the device of this name couldn't be opened, or memory ran out before anything was sent, and nothing was printed; or it was opened,
+-- and the job on its chip stopped so
+abbrev pub IsUnbegunBy : FileFacts → List ℕ → (List Change → Type 0) → Job → Option (List ℕ) → Option (List ℕ) → Unflashed → Type 0
+IsUnbegunBy files device Made job out_before out_after why =
+    ((refusal : Refusal) × (why ≡ Refused refusal) × TellsFile files.lacked refusal × IsUntouched files device Made refusal
+    × (out_after ≡ out_before))
+    ⊎ StopsOn (files.device device) files (λ next. Made (Opened device ∷ next)) job out_before out_after why
 
 -- a fault of the job shows before its chip is read: no device was opened, and nothing was printed; or none does, and then so
-abbrev pub IsUnbegunOn : FileFacts → (Option (List ℕ) → Option (List ℕ) → Type 0) → Job → Option (List ℕ) → Option (List ℕ) → Unflashed → Type 0
-IsUnbegunOn files Opened job out_before out_after why =
-    ((fault : BuildFault) × (why ≡ Refused (Build fault)) × RefusesEarly job fault × (out_after ≡ out_before))
-    ⊎ (IsSoundEarly job × IsUnbegunBy files Opened job out_before out_after why)
+abbrev pub IsUnbegunOn : FileFacts → List ℕ → (List Change → Type 0) → Job → Option (List ℕ) → Option (List ℕ) → Unflashed → Type 0
+IsUnbegunOn files device Made job out_before out_after why =
+    ((fault : BuildFault) × (why ≡ Refused (Build fault)) × RefusesEarly job fault × Made [] × (out_after ≡ out_before))
+    ⊎ (IsSoundEarly job × IsUnbegunBy files device Made job out_before out_after why)
 
 -- the job of a request stopped so on the device that it names
-pub record StopsRequest (files : FileFacts) (given : FlashArgs) (out_before out_after : Option (List ℕ)) (why : Unflashed) : Type 0 where
+pub record StopsRequest (files : FileFacts) (given : FlashArgs) (Made : List Change → Type 0) (out_before out_after : Option (List ℕ))
+    (why : Unflashed) : Type 0 where
   pub formed : is_well_formed given ≡ true
   pub request : FlashRequest
   pub asks : AsksFor given request
   pub job : Job
   pub is : IsJobOf files request job
-  pub stops : IsUnbegunOn files (files.device request.read.device.now) job out_before out_after why
+  pub stops : IsUnbegunOn files request.read.device.now Made job out_before out_after why
 
--- the texts ask for nothing, or a file couldn't be used, or memory ran out, and nothing was sent or printed; or the job wasn't begun
-abbrev pub IsUnbegunFor : FileFacts → FlashArgs → Option (List ℕ) → Option (List ℕ) → Unflashed → Type 0
-IsUnbegunFor files given out_before out_after why =
-    ((refusal : Refusal) × (why ≡ Refused refusal) × OrUsage (is_well_formed given) (TellsFile files.lacked) refusal × (out_after ≡ out_before))
-    ⊎ StopsRequest files given out_before out_after why
+-- the texts ask for nothing, or a file couldn't be used, or memory ran out, and nothing was changed or printed; or the job wasn't begun
+abbrev pub IsUnbegunFor : FileFacts → FlashArgs → (List Change → Type 0) → Option (List ℕ) → Option (List ℕ) → Unflashed → Type 0
+IsUnbegunFor files given Made out_before out_after why =
+    ((refusal : Refusal) × (why ≡ Refused refusal) × OrUsage (is_well_formed given) (TellsFile files.lacked) refusal × Made []
+    × (out_after ≡ out_before))
+    ⊎ StopsRequest files given Made out_before out_after why
 
 -- the part that is named, else that of which nothing is known
 abbrev pub family_of : FlashArgs → Part
@@ -118,23 +126,25 @@ ReportsUnflashed (Closed bits) family before after Quiet Works told_before told_
     Reports (closed_line family bits) 1 before after Quiet Works told_before told_after status
 
 -- what the texts ask for ended so: the lines of the plan were printed, and that is what was written of the ending
-pub record PrintsEnding (files : FileFacts) (given : FlashArgs) (before after : Option (List ℕ)) (Quiet Works : Type 0)
-    (told_before told_after : Option (List ℕ)) (status : ℕ) : Type 0 where
+pub record PrintsEnding (files : FileFacts) (given : FlashArgs) (Made : List Change → Type 0) (before after : Option (List ℕ))
+    (Quiet Works : Type 0) (told_before told_after : Option (List ℕ)) (status : ℕ) : Type 0 where
   pub ending : Ending
   pub middle : Option (List ℕ)
-  pub is : IsEndingOf files given before middle ending
+  pub is : IsEndingOf files given Made before middle ending
   pub reported : ReportsEnding ending given middle after Quiet Works told_before told_after status
 
 -- it wasn't begun, and that is what was written of it
-pub record PrintsUnflashed (files : FileFacts) (given : FlashArgs) (before after : Option (List ℕ)) (Quiet Works : Type 0)
-    (told_before told_after : Option (List ℕ)) (status : ℕ) : Type 0 where
+pub record PrintsUnflashed (files : FileFacts) (given : FlashArgs) (Made : List Change → Type 0) (before after : Option (List ℕ))
+    (Quiet Works : Type 0) (told_before told_after : Option (List ℕ)) (status : ℕ) : Type 0 where
   pub why : Unflashed
   pub middle : Option (List ℕ)
-  pub is : IsUnbegunFor files given before middle why
+  pub is : IsUnbegunFor files given Made before middle why
   pub reported : ReportsUnflashed why (family_of given) middle after Quiet Works told_before told_after status
 
--- what `flash` answers to the texts of a command line: an ending; or why nothing that changes a chip was sent
-abbrev pub AnswersFlash : FileFacts → FlashArgs → Option (List ℕ) → Option (List ℕ) → Type 0 → Type 0 → Option (List ℕ) → Option (List ℕ) → ℕ → Type 0
-AnswersFlash files given before after Quiet Works told_before told_after status =
-    PrintsEnding files given before after Quiet Works told_before told_after status
-    ⊎ PrintsUnflashed files given before after Quiet Works told_before told_after status
+-- what `flash` answers to the texts of a command line, where `Made` says which changes it made: an ending; or why nothing that changes
+-- a chip was sent
+abbrev pub AnswersFlash : FileFacts → FlashArgs → (List Change → Type 0) → Option (List ℕ) → Option (List ℕ) → Type 0 → Type 0 → Option (List ℕ)
+    → Option (List ℕ) → ℕ → Type 0
+AnswersFlash files given Made before after Quiet Works told_before told_after status =
+    PrintsEnding files given Made before after Quiet Works told_before told_after status
+    ⊎ PrintsUnflashed files given Made before after Quiet Works told_before told_after status

@@ -1,5 +1,5 @@
 -- What shows of a job before its chip is read (this project's).
-use Rattle.std.specs.Prelude.{◌≡◌, ℕ, Bool, true, false, List, []}
+use Rattle.std.specs.Prelude.{ℕ, Bool, true, false, List, []}
 use Rattle.nor_job.specs.declared.fault.BuildFault.{BuildFault}
 use Rattle.nor_job.specs.Task.{Task}
 use Rattle.norprog_flash.specs.declared.job.Job.{Job}

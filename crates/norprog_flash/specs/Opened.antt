@@ -30,7 +30,8 @@ pub record HasFlashedOpened (files : FileFacts) (job : Job) (held_before held_af
   pub tested : HasFlashedTested files job limits held held_late ahead ahead_late out_before out_after ending
   pub released : LetsGo held_late held_after ahead_late ahead_after limits.pins
 
--- the device that was named was opened, had this yet to give, and had taken that; and the job on its chip ended so
+-- the device that was named was opened, had this yet to give, and had taken that; the job on its chip ended so, and nothing was sent
+-- after that
 pub record IsFlashedOn (Device : Option (List ℕ) → Option (List ℕ) → Type 0) (files : FileFacts) (job : Job) (out_before out_after : Option (List ℕ))
     (ending : Ending) : Type 0 where
   pub remaining : Option (List ℕ)
@@ -39,3 +40,4 @@ pub record IsFlashedOn (Device : Option (List ℕ) → Option (List ℕ) → Typ
   pub held : Option (List ℕ)
   pub ahead : Ahead
   pub flashed : HasFlashedOpened files job contents held (ahead_of remaining) ahead out_before out_after ending
+  pub left : files.left held

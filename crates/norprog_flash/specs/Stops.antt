@@ -1,5 +1,5 @@
 -- Why work isn't begun; and that nothing went over the wire till then that changes what a chip holds (this project's).
-use Rattle.std.specs.Prelude.{◌≡◌, ◌⊎◌, ℕ, Bool, false, not, ◌&&◌, List, length, Option, unwrap_or, Ok, Err, ◌≢◌}
+use Rattle.std.specs.Prelude.{◌≡◌, ◌⊎◌, ℕ, Bool, false, not, ◌&&◌, List, [], ◌∷◌, length, Option, unwrap_or, Ok, Err, ◌≢◌}
 use Rattle.nor_base.specs.declared.meaning.Start.{Start}
 use Rattle.nor_base.specs.Device.{Ahead, ahead_of}
 use Rattle.nor_base.specs.Parameters.{Parameters}
@@ -15,7 +15,7 @@ use Rattle.nor_serprog.specs.Greeting.{Greeted}
 use Rattle.nor_serprog.specs.Line.{TestsLine}
 use Rattle.norprog_common.specs.declared.faults.Refusal.{Refusal}
 use Rattle.norprog_common.specs.declared.faults.Refusal.TheVariants.{Build}
-use Rattle.norprog_common.specs.FileStore.{FileFacts}
+use Rattle.norprog_common.specs.FileStore.{FileFacts, Change, Created}
 use Rattle.norprog_common.specs.Strict.{RefusesEmpty}
 use Rattle.norprog_device.specs.declared.fault.DeviceFault.TheVariants.{Greet, Line}
 use Rattle.norprog_device.specs.Opened.{LetsGo}
@@ -70,14 +70,15 @@ StopsBefore held_before held_after ahead_before ahead_after job why =
     StopsReading held_before held_after ahead_before ahead_after job.ask why
     ⊎ StopsUnsuited held_before held_after ahead_before ahead_after job why
 
--- it was read, and what it holds couldn't be saved
-pub record StopsUnsaved (files : FileFacts) (held_before held_after : Option (List ℕ)) (ahead_before ahead_after : Ahead) (job : Job)
-    (why : Unflashed) : Type 0 where
+-- it was read, and what it holds couldn't be saved; the file may have been made
+pub record StopsUnsaved (files : FileFacts) (Made : List Change → Type 0) (held_before held_after : Option (List ℕ)) (ahead_before ahead_after : Ahead)
+    (job : Job) (why : Unflashed) : Type 0 where
   pub reading : Reading
   pub read : HasRead job held_before held_after ahead_before ahead_after reading
   pub refusal : Refusal
   pub is : why ≡ Refused refusal
   pub fails : FailsToSave files.lacked refusal
+  pub made : Made [] ⊎ Made (Created job.before.now ∷ [])
 
 -- work is resumed from a dump that hasn't the chip's length, and nothing was printed; or the work from the content to the target, for which some lines of the plan may have been printed, couldn't be planned or printed
 abbrev pub CantPlan : Job → Reading → Option (List ℕ) → Option (List ℕ) → Refusal → Type 0
@@ -87,68 +88,74 @@ CantPlan job r out_before out_after why =
     (unwrap_or (dump_of job) r.content.items) out_before out_after fault)
 
 -- it was read and saved, and its work couldn't be planned or printed
-pub record StopsUnplanned (files : FileFacts) (held_before held_after : Option (List ℕ)) (ahead_before ahead_after : Ahead) (job : Job)
-    (out_before out_after : Option (List ℕ)) (why : Unflashed) : Type 0 where
+pub record StopsUnplanned (files : FileFacts) (Made : List Change → Type 0) (held_before held_after : Option (List ℕ))
+    (ahead_before ahead_after : Ahead) (job : Job) (out_before out_after : Option (List ℕ)) (why : Unflashed) : Type 0 where
   pub reading : Reading
   pub read : HasRead job held_before held_after ahead_before ahead_after reading
   pub saved : IsSaved files job.before.now reading.content.items
+  pub made : Made (Created job.before.now ∷ [])
   pub refusal : Refusal
   pub is : why ≡ Refused refusal
   pub cause : CantPlan job reading out_before out_after refusal
 
--- one of these; nothing was printed but of a plan
-abbrev pub StopsWork : FileFacts → Option (List ℕ) → Option (List ℕ) → Ahead → Ahead → Job → Option (List ℕ) → Option (List ℕ) → Unflashed → Type 0
-StopsWork files held_before held_after ahead_before ahead_after job out_before out_after why =
-    ((out_after ≡ out_before) × (StopsBefore held_before held_after ahead_before ahead_after job why
-    ⊎ StopsUnsaved files held_before held_after ahead_before ahead_after job why))
-    ⊎ StopsUnplanned files held_before held_after ahead_before ahead_after job out_before out_after why
+-- one of these; nothing was made except that file, and nothing printed except of a plan
+abbrev pub StopsWork : FileFacts → (List Change → Type 0) → Option (List ℕ) → Option (List ℕ) → Ahead → Ahead → Job → Option (List ℕ) → Option (List ℕ)
+    → Unflashed → Type 0
+StopsWork files Made held_before held_after ahead_before ahead_after job out_before out_after why =
+    ((out_after ≡ out_before) × ((Made [] × StopsBefore held_before held_after ahead_before ahead_after job why)
+    ⊎ StopsUnsaved files Made held_before held_after ahead_before ahead_after job why))
+    ⊎ StopsUnplanned files Made held_before held_after ahead_before ahead_after job out_before out_after why
 
 -- and then only operations were asked for that change nothing
-pub record StopsBegun (files : FileFacts) (held_before held_after : Option (List ℕ)) (ahead_before ahead_after : Ahead) (job : Job)
-    (out_before out_after : Option (List ℕ)) (why : Unflashed) : Type 0 where
-  pub stop : StopsWork files held_before held_after ahead_before ahead_after job out_before out_after why
+pub record StopsBegun (files : FileFacts) (Made : List Change → Type 0) (held_before held_after : Option (List ℕ)) (ahead_before ahead_after : Ahead)
+    (job : Job) (out_before out_after : Option (List ℕ)) (why : Unflashed) : Type 0 where
+  pub stop : StopsWork files Made held_before held_after ahead_before ahead_after job out_before out_after why
   pub harmless : SendsHarmless held_before held_after
 
 -- the line was tested, and then that
-pub record StopsAfter (files : FileFacts) (held_before held_after : Option (List ℕ)) (ahead_before ahead_after : Ahead) (limits : Limits) (job : Job)
-    (out_before out_after : Option (List ℕ)) (why : Unflashed) : Type 0 where
+pub record StopsAfter (files : FileFacts) (Made : List Change → Type 0) (held_before held_after : Option (List ℕ)) (ahead_before ahead_after : Ahead)
+    (limits : Limits) (job : Job) (out_before out_after : Option (List ℕ)) (why : Unflashed) : Type 0 where
   pub held : Option (List ℕ)
   pub ahead : Ahead
   pub tested : TestsLine held_before held ahead_before ahead (Ok tt) limits
-  pub begun : StopsBegun files held held_after ahead ahead_after job out_before out_after why
+  pub begun : StopsBegun files Made held held_after ahead ahead_after job out_before out_after why
 
 -- the test of the line stopped, or so
-abbrev pub StopsTested : FileFacts → Option (List ℕ) → Option (List ℕ) → Ahead → Ahead → Limits → Job → Option (List ℕ) → Option (List ℕ) → Unflashed → Type 0
-StopsTested files held_before held_after ahead_before ahead_after limits job out_before out_after why =
+abbrev pub StopsTested : FileFacts → (List Change → Type 0) → Option (List ℕ) → Option (List ℕ) → Ahead → Ahead → Limits → Job → Option (List ℕ)
+    → Option (List ℕ) → Unflashed → Type 0
+StopsTested files Made held_before held_after ahead_before ahead_after limits job out_before out_after why =
     ((fault : Fault) × (why ≡ Device (Line fault)) × TestsLine held_before held_after ahead_before ahead_after (Err fault) limits
-    × (out_after ≡ out_before))
-    ⊎ StopsAfter files held_before held_after ahead_before ahead_after limits job out_before out_after why
+    × Made [] × (out_after ≡ out_before))
+    ⊎ StopsAfter files Made held_before held_after ahead_before ahead_after limits job out_before out_after why
 
 -- the handshake was done, what came after it stopped so, and the pins were let go
-pub record StopsGreeted (files : FileFacts) (held_before held_after : Option (List ℕ)) (ahead_before ahead_after : Ahead) (job : Job)
-    (out_before out_after : Option (List ℕ)) (why : Unflashed) : Type 0 where
+pub record StopsGreeted (files : FileFacts) (Made : List Change → Type 0) (held_before held_after : Option (List ℕ))
+    (ahead_before ahead_after : Ahead) (job : Job) (out_before out_after : Option (List ℕ)) (why : Unflashed) : Type 0 where
   pub held : Option (List ℕ)
   pub ahead : Ahead
   pub limits : Limits
   pub greeted : Greeted held_before held ahead_before ahead (Ok limits)
   pub held_late : Option (List ℕ)
   pub ahead_late : Ahead
-  pub stops : StopsTested files held held_late ahead ahead_late limits job out_before out_after why
+  pub stops : StopsTested files Made held held_late ahead ahead_late limits job out_before out_after why
   pub released : LetsGo held_late held_after ahead_late ahead_after limits.pins
 
 -- the handshake stopped, or so
-abbrev pub StopsOpened : FileFacts → Option (List ℕ) → Option (List ℕ) → Ahead → Ahead → Job → Option (List ℕ) → Option (List ℕ) → Unflashed → Type 0
-StopsOpened files held_before held_after ahead_before ahead_after job out_before out_after why =
+abbrev pub StopsOpened : FileFacts → (List Change → Type 0) → Option (List ℕ) → Option (List ℕ) → Ahead → Ahead → Job → Option (List ℕ)
+    → Option (List ℕ) → Unflashed → Type 0
+StopsOpened files Made held_before held_after ahead_before ahead_after job out_before out_after why =
     ((fault : GreetFault) × (why ≡ Device (Greet fault)) × Greeted held_before held_after ahead_before ahead_after (Err fault)
-    × (out_after ≡ out_before))
-    ⊎ StopsGreeted files held_before held_after ahead_before ahead_after job out_before out_after why
+    × Made [] × (out_after ≡ out_before))
+    ⊎ StopsGreeted files Made held_before held_after ahead_before ahead_after job out_before out_after why
 
--- the device that was named was opened, had this yet to give, and had taken that; and then the job on its chip stopped so
-pub record StopsOn (Opened : Option (List ℕ) → Option (List ℕ) → Type 0) (files : FileFacts) (job : Job) (out_before out_after : Option (List ℕ))
-    (why : Unflashed) : Type 0 where
+-- the device that was named was opened, had this yet to give, and had taken that; then the job on its chip stopped so, and nothing was
+-- sent after that
+pub record StopsOn (Opened : Option (List ℕ) → Option (List ℕ) → Type 0) (files : FileFacts) (Made : List Change → Type 0) (job : Job)
+    (out_before out_after : Option (List ℕ)) (why : Unflashed) : Type 0 where
   pub remaining : Option (List ℕ)
   pub contents : Option (List ℕ)
   pub opened : Opened remaining contents
   pub held : Option (List ℕ)
   pub ahead : Ahead
-  pub stops : StopsOpened files contents held (ahead_of remaining) ahead job out_before out_after why
+  pub stops : StopsOpened files Made contents held (ahead_of remaining) ahead job out_before out_after why
+  pub left : files.left held

@@ -1,11 +1,12 @@
 //! A chip that is read, saved and planned for.
 
-ghost use Rattle.std.specs.Prelude.{◌≡◌, ◌<◌, ◌≤◌, ◌+◌, ◌-◌, ◌^◌, [], true, length, unwrap_or};
+ghost use Rattle.std.specs.Prelude.{◌≡◌, ◌<◌, ◌≤◌, ◌+◌, ◌-◌, ◌^◌, [], ◌∷◌, true, length, unwrap_or};
 ghost use Rattle.std.specs.Prelude.{IfOk, IfErr, MatchResult};
 ghost use Rattle.nor_base.specs.Device.{HaveRoom};
 ghost use Rattle.nor_probe.specs.Status.{suits};
 ghost use Rattle.nor_job.specs.Shares.{HasNoneEmpty};
 ghost use Rattle.nor_job.specs.Status.{start_of};
+ghost use Rattle.norprog_common.specs.FileStore.{Adds, Created};
 ghost use Rattle.norprog_common.specs.Strict.{RefusesEmpty};
 ghost use Rattle.norprog_flash.specs.Begun.{HasRead, HasPlanned, start_at};
 ghost use Rattle.norprog_flash.specs.Task.{dump_of, flash_task};
@@ -40,6 +41,7 @@ pub(crate) struct Begun {
 pub(crate) fn begin<S: FileStore, R: ByteIn, W: ByteOut, O: ByteOut>(
     alloc: Global,
     store: &S,
+    journal: &mut S::Journal,
     from: &mut R,
     to: &mut W,
     limits: &Limits,
@@ -56,18 +58,22 @@ pub(crate) fn begin<S: FileStore, R: ByteIn, W: ByteOut, O: ByteOut>(
         × GivesBy begun.reading.meaning (start_of (flash_task job.now begun.reading.tables.items))
         begun.by) }
     ensures stops { IfErr result
-        (StopsBegun (S.facts store.now) (W.held to.old) (W.held to.new) (R.ahead from.old)
-        (R.ahead from.new) job.now
-        (O.held out.old) (O.held out.new)) }
+        (StopsBegun (S.facts store.now)
+        (Adds (S.Journal.changes journal.old) (S.Journal.changes journal.new)) (W.held to.old)
+        (W.held to.new) (R.ahead from.old) (R.ahead from.new) job.now (O.held out.old)
+        (O.held out.new)) }
+    ensures made { IfOk result (λ _. Adds (S.Journal.changes journal.old)
+        (S.Journal.changes journal.new) (Created job.now.before.now ∷ [])) }
     ensures reads_room { R.count from.new ≤ R.count from.old + 1 }
     ensures writes_room { W.count to.new ≤ W.count to.old + 1 }
-    ensures out_count { IfOk result (λ _. O.count out.new ≡ O.count out.old) }
-    ensures out_room { O.count out.new ≤ O.count out.old + 1 }
+    ensures out_counts { IfOk result (λ _. O.count out.new ≡ O.count out.old)
+        × (O.count out.new ≤ O.count out.old + 1) }
 {
     let (reading, by) = read_suited(alloc, from, to, limits, job)?;
     save(
         alloc,
         store,
+        journal,
         job.before,
         FileName::Before,
         reading.content.as_slice(),

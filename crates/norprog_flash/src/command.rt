@@ -1,10 +1,12 @@
 //! `flash`: from the texts of the command line to the line of an ending.
 
-ghost use Rattle.std.specs.Prelude.{◌≡◌, ◌<◌, ◌≤◌, ◌-◌, ◌+◌, ◌^◌, true, option_map, IfOk, IfErr};
+ghost use Rattle.std.specs.Prelude.{◌≡◌, ◌<◌, ◌≤◌, ◌-◌, ◌+◌, ◌^◌, [], ◌∷◌, true, option_map};
+ghost use Rattle.std.specs.Prelude.{IfOk, IfErr};
 ghost use Rattle.std.specs.Io.KnownBytes.{Appends};
 ghost use Rattle.nor_job.specs.declared.fault.BuildFault.{BuildFault};
 ghost use Rattle.nor_job.specs.declared.fault.BuildFault.TheVariants.{Write};
 ghost use Rattle.norprog_common.specs.declared.faults.Refusal.TheVariants.{Build};
+ghost use Rattle.norprog_common.specs.FileStore.{Adds, Created, Opened};
 ghost use Rattle.norprog_common.specs.Lines.{printed};
 ghost use Rattle.norprog_flash.specs.Answer.{AnswersFlash, IsEndingOf, IsUnbegunFor, IsUnbegunOn};
 ghost use Rattle.norprog_flash.specs.Answer.{ReportsUnflashed, family_of};
@@ -27,10 +29,12 @@ use std::alloc::Global;
 
 /// Does what the texts of a command line of `flash` ask for. Its lines go to `out`; a refusal, and
 /// how to go on with a chip that may hold a part of the work, to `err`; how far it is to `progress`
-/// (docs/FORMATS.md, section 14). Returns 0 where all was done, 1 where not, 2 for usage.
+/// (docs/FORMATS.md, section 14). The device is closed at last. Returns 0 where all was done, 1
+/// where not, 2 for usage.
 pub fn flash<S: FileStore, O: ByteOut, E: ByteOut, P: ByteOut>(
     alloc: Global,
     store: &S,
+    journal: &mut S::Journal,
     given: FlashArgs<'_>,
     out: &mut O,
     err: &mut E,
@@ -41,11 +45,12 @@ pub fn flash<S: FileStore, O: ByteOut, E: ByteOut, P: ByteOut>(
     requires progress { P.count progress.old < 2 ^ 64 - 1 }
     ensures status { result ≤ 2 }
     ensures quiet { result ≡ 0 → err.new ≡ err.old }
-    ensures answer { AnswersFlash (S.facts store.now) given.entry (O.held out.old) (O.held out.new)
-        (err.new ≡ err.old)
+    ensures answer { AnswersFlash (S.facts store.now) given.entry
+        (Adds (S.Journal.changes journal.old) (S.Journal.changes journal.new))
+        (O.held out.old) (O.held out.new) (err.new ≡ err.old)
         (E.count err.new ≡ E.count err.old) (E.held err.old) (E.held err.new) result }
 {
-    match flash_texts(alloc, store, &given, out, progress) {
+    match flash_texts(alloc, store, journal, &given, out, progress) {
         Ok(ending) => report_ending(ending, &given, out, err),
         Err(why) => report_unflashed(why, family_of(&given), out, err),
     }
@@ -99,6 +104,7 @@ fn end_line<E: ByteOut>(written: Result<(), Failed>, err: &mut E) -> u8
 fn flash_texts<S: FileStore, O: ByteOut, P: ByteOut>(
     alloc: Global,
     store: &S,
+    journal: &mut S::Journal,
     given: &FlashArgs<'_>,
     out: &mut O,
     progress: &mut P,
@@ -106,9 +112,13 @@ fn flash_texts<S: FileStore, O: ByteOut, P: ByteOut>(
     requires out { O.count out.old < 2 ^ 64 - 1 }
     requires progress { P.count progress.old < 2 ^ 64 - 1 }
     ensures ends { IfOk result
-        (IsEndingOf (S.facts store.now) given.now (O.held out.old) (O.held out.new)) }
+        (IsEndingOf (S.facts store.now) given.now
+        (Adds (S.Journal.changes journal.old) (S.Journal.changes journal.new))
+        (O.held out.old) (O.held out.new)) }
     ensures unbegun { IfErr result
-        (IsUnbegunFor (S.facts store.now) given.now (O.held out.old) (O.held out.new)) }
+        (IsUnbegunFor (S.facts store.now) given.now
+        (Adds (S.Journal.changes journal.old) (S.Journal.changes journal.new))
+        (O.held out.old) (O.held out.new)) }
     ensures count { IfOk result (λ _. O.count out.new ≡ O.count out.old) }
     ensures room { O.count out.new ≤ O.count out.old + 1 }
 {
@@ -146,14 +156,15 @@ fn flash_texts<S: FileStore, O: ByteOut, P: ByteOut>(
         strict,
         dry: dry_run,
     };
-    flash_device(alloc, store, read.device, &job, out, progress)
+    flash_device(alloc, store, journal, read.device, &job, out, progress)
 }
 
 /// Does a job on the chip behind the device of this name, which is opened only where the job has no
-/// fault that shows before.
+/// fault that shows before, and closed at the end.
 fn flash_device<S: FileStore, O: ByteOut, P: ByteOut>(
     alloc: Global,
     store: &S,
+    journal: &mut S::Journal,
     device: &str,
     job: &Job<'_>,
     out: &mut O,
@@ -168,17 +179,25 @@ fn flash_device<S: FileStore, O: ByteOut, P: ByteOut>(
         (O.held out.old)
         (O.held out.new)) }
     ensures unbegun { IfErr result
-        (IsUnbegunOn (S.facts store.now) ((S.facts store.now).device device.now) job.now
+        (IsUnbegunOn (S.facts store.now) device.now
+        (Adds (S.Journal.changes journal.old) (S.Journal.changes journal.new)) job.now
         (O.held out.old)
         (O.held out.new)) }
-    ensures count { IfOk result (λ _. O.count out.new ≡ O.count out.old) }
-    ensures room { O.count out.new ≤ O.count out.old + 1 }
+    ensures made { IfOk result (λ _. Adds (S.Journal.changes journal.old)
+        (S.Journal.changes journal.new)
+        (Opened device.now ∷ Created job.now.before.now ∷ [])) }
+    ensures counts { IfOk result (λ _. O.count out.new ≡ O.count out.old)
+        × (O.count out.new ≤ O.count out.old + 1) }
 {
     look_at(alloc, job)?;
-    let (from, to) = open_port(alloc, store, device)?;
+    let (from, to) = open_port(alloc, store, journal, device)?;
     let mut from = FromRead::new(from);
     let mut to = IntoWrite::new(to);
-    flash_opened(alloc, store, &mut from, &mut to, job, out, progress)
+    let flashed = flash_opened(
+        alloc, store, journal, &mut from, &mut to, job, out, progress,
+    );
+    store.close_device(to.into_inner());
+    flashed
 }
 
 /// Refuses a job for the first fault that shows before its chip is read.

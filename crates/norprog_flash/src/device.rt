@@ -1,9 +1,11 @@
 //! Work on the chip behind a device, after its handshake.
 
-ghost use Rattle.std.specs.Prelude.{◌≡◌, ◌<◌, ◌≤◌, ◌+◌, ◌-◌, ◌^◌, true, false, IfOk, IfErr};
+ghost use Rattle.std.specs.Prelude.{◌≡◌, ◌<◌, ◌≤◌, ◌+◌, ◌-◌, ◌^◌, [], ◌∷◌, true, false};
+ghost use Rattle.std.specs.Prelude.{IfOk, IfErr};
 ghost use Rattle.nor_base.specs.Device.{HaveRoom};
 ghost use Rattle.nor_job.specs.Status.{start_of};
 ghost use Rattle.nor_reader.specs.Laws.{GivesBy};
+ghost use Rattle.norprog_common.specs.FileStore.{Adds, Created};
 ghost use Rattle.norprog_flash.specs.Begun.{IsPlannedOn};
 ghost use Rattle.norprog_flash.specs.Ended.{EndsFlash};
 ghost use Rattle.norprog_flash.specs.Stops.{StopsBegun};
@@ -29,6 +31,7 @@ use std::alloc::Global;
 pub fn flash_chip<S: FileStore, R: ByteIn, W: ByteOut, O: ByteOut, P: ByteOut>(
     alloc: Global,
     store: &S,
+    journal: &mut S::Journal,
     from: &mut R,
     to: &mut W,
     limits: &Limits,
@@ -46,17 +49,20 @@ pub fn flash_chip<S: FileStore, R: ByteIn, W: ByteOut, O: ByteOut, P: ByteOut>(
         (R.ahead from.old)
         (R.ahead from.new) (O.held out.old) (O.held out.new)) }
     ensures stops { IfErr result
-        (StopsBegun (S.facts store.now) (W.held to.old) (W.held to.new) (R.ahead from.old)
-        (R.ahead from.new) job.now
-        (O.held out.old) (O.held out.new)) }
+        (StopsBegun (S.facts store.now)
+        (Adds (S.Journal.changes journal.old) (S.Journal.changes journal.new)) (W.held to.old)
+        (W.held to.new) (R.ahead from.old) (R.ahead from.new) job.now (O.held out.old)
+        (O.held out.new)) }
+    ensures made { IfOk result (λ _. Adds (S.Journal.changes journal.old)
+        (S.Journal.changes journal.new) (Created job.now.before.now ∷ [])) }
     ensures reads_room { R.count from.new ≤ R.count from.old + 2 }
     ensures writes_room { W.count to.new ≤ W.count to.old + 2 }
-    ensures out_count { IfOk result (λ _. O.count out.new ≡ O.count out.old) }
-    ensures out_room { O.count out.new ≤ O.count out.old + 1 }
+    ensures out_counts { IfOk result (λ _. O.count out.new ≡ O.count out.old)
+        × (O.count out.new ≤ O.count out.old + 1) }
 {
     closes();
     breaks();
-    let begun = begin(alloc, store, from, to, limits, job, out)?;
+    let begun = begin(alloc, store, journal, from, to, limits, job, out)?;
     if job.dry {
         return Ok(Ending::Planned);
     }

@@ -1,6 +1,7 @@
 //! Work on the chip behind a device, from its handshake on.
 
-ghost use Rattle.std.specs.Prelude.{◌≡◌, ◌≤◌, ◌<◌, ◌+◌, ◌-◌, ◌^◌, true, IfOk, IfErr};
+ghost use Rattle.std.specs.Prelude.{◌≡◌, ◌≤◌, ◌<◌, ◌+◌, ◌-◌, ◌^◌, [], ◌∷◌, true, IfOk, IfErr};
+ghost use Rattle.norprog_common.specs.FileStore.{Adds, Created};
 ghost use Rattle.norprog_flash.specs.Stops.{StopsOpened, StopsTested};
 ghost use Rattle.norprog_flash.specs.Opened.{HasFlashedOpened, HasFlashedTested};
 
@@ -21,6 +22,7 @@ use std::alloc::Global;
 pub fn flash_opened<S: FileStore, R: ByteIn, W: ByteOut, O: ByteOut, P: ByteOut>(
     alloc: Global,
     store: &S,
+    journal: &mut S::Journal,
     from: &mut R,
     to: &mut W,
     job: &Job<'_>,
@@ -37,17 +39,20 @@ pub fn flash_opened<S: FileStore, R: ByteIn, W: ByteOut, O: ByteOut, P: ByteOut>
         (R.ahead from.old)
         (R.ahead from.new) (O.held out.old) (O.held out.new)) }
     ensures stops { IfErr result
-        (StopsOpened (S.facts store.now) (W.held to.old) (W.held to.new) (R.ahead from.old)
-        (R.ahead from.new) job.now
-        (O.held out.old) (O.held out.new)) }
-    ensures out_count { IfOk result (λ _. O.count out.new ≡ O.count out.old) }
-    ensures out_room { O.count out.new ≤ O.count out.old + 1 }
+        (StopsOpened (S.facts store.now)
+        (Adds (S.Journal.changes journal.old) (S.Journal.changes journal.new)) (W.held to.old)
+        (W.held to.new) (R.ahead from.old) (R.ahead from.new) job.now (O.held out.old)
+        (O.held out.new)) }
+    ensures made { IfOk result (λ _. Adds (S.Journal.changes journal.old)
+        (S.Journal.changes journal.new) (Created job.now.before.now ∷ [])) }
+    ensures out_counts { IfOk result (λ _. O.count out.new ≡ O.count out.old)
+        × (O.count out.new ≤ O.count out.old + 1) }
 {
     let limits = match greet(from, to) {
         Ok(limits) => limits,
         Err(why) => return Err(Unflashed::Device(DeviceFault::Greet(why))),
     };
-    let ended = flash_tested(alloc, store, from, to, &limits, job, out, progress);
+    let ended = flash_tested(alloc, store, journal, from, to, &limits, job, out, progress);
     let_go(from, to, limits.pins);
     ended
 }
@@ -56,6 +61,7 @@ pub fn flash_opened<S: FileStore, R: ByteIn, W: ByteOut, O: ByteOut, P: ByteOut>
 fn flash_tested<S: FileStore, R: ByteIn, W: ByteOut, O: ByteOut, P: ByteOut>(
     alloc: Global,
     store: &S,
+    journal: &mut S::Journal,
     from: &mut R,
     to: &mut W,
     limits: &Limits,
@@ -73,16 +79,19 @@ fn flash_tested<S: FileStore, R: ByteIn, W: ByteOut, O: ByteOut, P: ByteOut>(
         (R.ahead from.old)
         (R.ahead from.new) (O.held out.old) (O.held out.new)) }
     ensures stops { IfErr result
-        (StopsTested (S.facts store.now) (W.held to.old) (W.held to.new) (R.ahead from.old)
-        (R.ahead from.new) limits.now
-        job.now (O.held out.old) (O.held out.new)) }
+        (StopsTested (S.facts store.now)
+        (Adds (S.Journal.changes journal.old) (S.Journal.changes journal.new)) (W.held to.old)
+        (W.held to.new) (R.ahead from.old) (R.ahead from.new) limits.now job.now
+        (O.held out.old) (O.held out.new)) }
     ensures counts { R.count from.new ≤ R.count from.old + 2
         × W.count to.new ≤ W.count to.old + 2 }
-    ensures out_count { IfOk result (λ _. O.count out.new ≡ O.count out.old) }
-    ensures out_room { O.count out.new ≤ O.count out.old + 1 }
+    ensures made { IfOk result (λ _. Adds (S.Journal.changes journal.old)
+        (S.Journal.changes journal.new) (Created job.now.before.now ∷ [])) }
+    ensures out_counts { IfOk result (λ _. O.count out.new ≡ O.count out.old)
+        × (O.count out.new ≤ O.count out.old + 1) }
 {
     match test_line(from, to, limits) {
-        Ok(()) => flash_chip(alloc, store, from, to, limits, job, out, progress),
+        Ok(()) => flash_chip(alloc, store, journal, from, to, limits, job, out, progress),
         Err(why) => Err(Unflashed::Device(DeviceFault::Line(why))),
     }
 }

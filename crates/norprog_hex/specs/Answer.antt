@@ -1,12 +1,12 @@
 -- What `hex` answers (this project's).
-use Rattle.std.specs.Prelude.{◌≡◌, ◌⊎◌, ⊤, ℕ, ◌+◌, ◌≤◌, ◌<◌, ◌^◌, List, Option, Result, Ok, Err}
+use Rattle.std.specs.Prelude.{◌≡◌, ◌⊎◌, ⊤, ℕ, ◌+◌, ◌≤◌, ◌<◌, ◌^◌, List, Option, option_map, option_to_list, Result, Ok, Err}
 use Rattle.nor_base.specs.Device.{Ahead}
 use Rattle.nor_job.specs.declared.fault.BuildFault.TheVariants as fault
 use Rattle.norprog_common.specs.declared.faults.FileName.TheVariants as file
 use Rattle.norprog_common.specs.declared.faults.Refusal.{Refusal}
 use Rattle.norprog_common.specs.declared.faults.Refusal.TheVariants.{File, Build, BinSize}
 use Rattle.norprog_common.specs.declared.given.HexArgs.{HexArgs}
-use Rattle.norprog_common.specs.FileStore.{FileFacts}
+use Rattle.norprog_common.specs.FileStore.{FileFacts, Change, MakesNamed, MayMake}
 use Rattle.norprog_common.specs.Told.{ForAsked, Answers}
 use Rattle.norprog_hex.specs.Converted.{WasConverted, WasBegun, WasCut}
 use Rattle.norprog_hex.specs.Request.{is_well_formed}
@@ -46,12 +46,14 @@ RefusesHex files Opened Asked (Build fault.Memory) = ⊤
 RefusesHex files Opened Asked (Build fault.Write) = ForAsked HexTask Asked IsCut ⊎ ForAsked HexTask Asked (IsWritten (λ held. ⊤))
 RefusesHex files Opened Asked other = ⊥
 
--- what `hex` answers to the texts of a command line: status 0 where it was written and has gone out, or a refusal. It prints nothing else
-abbrev pub AnswersHex : FileFacts → HexArgs → Type 0 → Type 0 → Option (List ℕ) → Option (List ℕ) → ℕ → Type 0
-AnswersHex files given Quiet Works told_before told_after status =
+-- what `hex` answers to the texts of a command line, where `Made` says which changes it made: status 0 where it was written and has
+-- gone out, and just the output was made; or a refusal, and at most that was. It prints nothing else
+abbrev pub AnswersHex : FileFacts → HexArgs → (List Change → Type 0) → Type 0 → Type 0 → Option (List ℕ) → Option (List ℕ) → ℕ → Type 0
+AnswersHex files given Made Quiet Works told_before told_after status =
     Answers (is_well_formed given)
-    ((status ≡ 0) × ForAsked HexTask (Serves files given) (IsWritten files.flushed) × Quiet)
-    (Unit {0})
+    ((status ≡ 0) × ForAsked HexTask (Serves files given) (IsWritten files.flushed)
+    × MakesNamed files (option_to_list (option_map (λ t. t.now) given.bin)) (option_map (λ t. t.now) given.out) Made × Quiet)
+    (MayMake files (option_to_list (option_map (λ t. t.now) given.bin)) (option_map (λ t. t.now) given.out) Made)
     (RefusesHex files (ServesBin files given) (Serves files given))
     Works told_before told_after status
 

@@ -1,6 +1,8 @@
 //! `hex`: from the texts of the command line to a HEX text in its file.
 
-ghost use Rattle.std.specs.Prelude.{◌≡◌, ◌+◌, ◌<◌, ◌≤◌, ◌-◌, ◌^◌, true, IfOk, IfErr};
+ghost use Rattle.std.specs.Prelude.{◌≡◌, ◌+◌, ◌<◌, ◌≤◌, ◌-◌, ◌^◌, [], ◌∷◌, true, IfOk, IfErr};
+ghost use Rattle.std.specs.Prelude.{Some, option_map, option_to_list};
+ghost use Rattle.norprog_common.specs.FileStore.{Adds, MakesIf};
 ghost use Rattle.norprog_common.specs.Told.{ForAsked, OrUsage};
 ghost use Rattle.norprog_hex.specs.Answer.{IsWritten, RefusesHex, AnswersHex, done};
 ghost use Rattle.norprog_hex.specs.Request.{is_well_formed};
@@ -21,21 +23,32 @@ const PAST: u64 = 1 << 32;
 pub fn hex<S: FileStore, E: ByteOut>(
     alloc: Global,
     store: &S,
+    journal: &mut S::Journal,
     given: HexArgs<'_>,
     err: &mut E,
 ) -> u8
     requires { E.count err.old < 2 ^ 64 - 1 }
     ensures status { result ≤ 2 }
     ensures quiet { result ≡ 0 → err.new ≡ err.old }
-    ensures answer { AnswersHex (S.facts store.now) given.entry (err.new ≡ err.old)
+    ensures answer { AnswersHex (S.facts store.now) given.entry
+        (Adds (S.Journal.changes journal.old) (S.Journal.changes journal.new)) (err.new ≡ err.old)
         (E.count err.new ≡ E.count err.old) (E.held err.old) (E.held err.new) result }
 {
-    answered(converted_in(alloc, store, given), err)
+    answered(converted_in(alloc, store, journal, given), err)
 }
 
 /// Writes what is asked for.
-fn converted_in<S: FileStore>(alloc: Global, store: &S, given: HexArgs<'_>) -> Result<u8, Refusal>
+fn converted_in<S: FileStore>(
+    alloc: Global,
+    store: &S,
+    journal: &mut S::Journal,
+    given: HexArgs<'_>,
+) -> Result<u8, Refusal>
     ensures status { IfOk result (λ status. status ≡ 0) }
+    ensures journal { MakesIf (S.facts store.now)
+        (option_to_list (option_map (λ t. t.now) given.entry.bin))
+        (option_map (λ t. t.now) given.entry.out)
+        (Adds (S.Journal.changes journal.old) (S.Journal.changes journal.new)) result }
     ensures written { IfOk result
         (λ _. ForAsked HexTask (Serves (S.facts store.now) given.entry)
         (IsWritten (S.facts store.now).flushed)) }
@@ -45,12 +58,20 @@ fn converted_in<S: FileStore>(alloc: Global, store: &S, given: HexArgs<'_>) -> R
         (Serves (S.facts store.now) given.entry))) }
 {
     let request = request_of(given).ok_or(Refusal::Usage)?;
-    run_hex(alloc, store, request)
+    run_hex(alloc, store, journal, request)
 }
 
 /// Opens the raw image of a request, and has it written where it fits.
-fn run_hex<S: FileStore>(alloc: Global, store: &S, request: HexRequest<'_>) -> Result<u8, Refusal>
+fn run_hex<S: FileStore>(
+    alloc: Global,
+    store: &S,
+    journal: &mut S::Journal,
+    request: HexRequest<'_>,
+) -> Result<u8, Refusal>
     ensures status { IfOk result (λ status. status ≡ 0) }
+    ensures journal { MakesIf (S.facts store.now) (request.entry.bin.now ∷ [])
+        (Some request.entry.out.now)
+        (Adds (S.Journal.changes journal.old) (S.Journal.changes journal.new)) result }
     ensures written { IfOk result
         (λ _. ForAsked HexTask (IsTaskOf (S.facts store.now) request.entry)
         (IsWritten (S.facts store.now).flushed)) }
@@ -62,9 +83,9 @@ fn run_hex<S: FileStore>(alloc: Global, store: &S, request: HexRequest<'_>) -> R
     if len > PAST - u64::from(request.at) {
         return Err(Refusal::BinSize);
     }
-    let mut out = store.create(alloc, request.out, FileName::Out, &[place])?;
+    let mut out = store.create(journal, alloc, request.out, FileName::Out, &[place])?;
     let answer = write_bin(alloc, &mut bin, len, request.at, &mut out);
-    let flushed = store.flush(&mut out);
+    let flushed = store.flush(out);
     done(answer, flushed)
 }
 

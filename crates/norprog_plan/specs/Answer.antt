@@ -27,9 +27,9 @@ use Rattle.norprog_common.specs.declared.faults.FileName.{FileName}
 use Rattle.norprog_common.specs.declared.faults.Refusal.{Refusal}
 use Rattle.norprog_common.specs.declared.faults.Refusal.TheVariants.{Build}
 use Rattle.norprog_common.specs.declared.given.PlanArgs.{PlanArgs}
-use Rattle.norprog_common.specs.FileStore.{FileFacts}
+use Rattle.norprog_common.specs.FileStore.{FileFacts, Change}
 use Rattle.norprog_common.specs.Told.{ForAsked, OfFault, RefusesFor, Answers}
-use Rattle.norprog_common.specs.Served.{Job}
+use Rattle.norprog_common.specs.Served.{Job, MakesFor, MayMakeFor}
 use Rattle.norprog_common.specs.Strict.{Filled, OrEmpty}
 use Rattle.norprog_plan.specs.declared.outline.Shows.{Shows}
 use Rattle.norprog_plan.specs.Regions.{EndsWith}
@@ -175,12 +175,14 @@ RefusesPlan strict Lacked Sent shows Asked before after =
     RefusesFor Lacked (OrEmpty strict Asked (OfFault (IsPlanFault (Filled strict Asked))))
     (FailsToDraw (Filled strict Asked) ⊎ FailsToPrint Sent shows (Filled strict Asked) before after)
 
--- what `plan` answers to the texts of a command line: the lines and the report at status 0, after the picture has gone out where one
--- is asked for; or a refusal
-abbrev pub AnswersPlan : FileFacts → PlanArgs → Option (List ℕ) → Option (List ℕ) → Type 0 → Type 0 → Option (List ℕ) → Option (List ℕ) → ℕ → Type 0
-AnswersPlan files given before after Quiet Works told_before told_after status =
+-- what `plan` answers to the texts of a command line, where `Made` says which changes it made: the lines and the report at status 0,
+-- after the picture has gone out where one is asked for, and just its file was made; or a refusal, and at most that was
+abbrev pub AnswersPlan : FileFacts → PlanArgs → (List Change → Type 0) → Option (List ℕ) → Option (List ℕ) → Type 0 → Type 0 → Option (List ℕ) → Option (List ℕ) → ℕ → Type 0
+AnswersPlan files given Made before after Quiet Works told_before told_after status =
     Answers (asks_plan given)
-    ((status ≡ 0) × PrintsPlan files.flushed (shows_of given) (Filled given.job.strict (ServesPlan files given)) before after × Quiet)
-    (CutsPlan files.flushed (shows_of given) (Filled given.job.strict (ServesPlan files given)) before after)
+    ((status ≡ 0) × PrintsPlan files.flushed (shows_of given) (Filled given.job.strict (ServesPlan files given)) before after
+    × MakesFor files given.job (option_map (λ t. t.now) given.map) Made × Quiet)
+    (CutsPlan files.flushed (shows_of given) (Filled given.job.strict (ServesPlan files given)) before after
+    × MayMakeFor files given.job (option_map (λ t. t.now) given.map) Made)
     (RefusesPlan given.job.strict files.lacked files.flushed (shows_of given) (ServesPlan files given) before after)
     Works told_before told_after status

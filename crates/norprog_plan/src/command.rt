@@ -2,19 +2,20 @@
 //! program, and why.
 
 ghost use Rattle.std.specs.Prelude.{◌≡◌, ◌⊎◌, ◌<◌, ◌≤◌, ◌-◌, ◌^◌, ◌++◌, true, [], length, Err};
-ghost use Rattle.std.specs.Prelude.{IfOk, IfErr, IfSome, option_map};
+ghost use Rattle.std.specs.Prelude.{IfOk, IfErr, IfSome, MatchResult, option_map};
 ghost use Rattle.std.specs.Io.KnownBytes.{Appends};
 ghost use Rattle.nor_base.specs.Device.{Cuts};
 ghost use Rattle.nor_job.specs.declared.fault.BuildFault.TheVariants.{Write};
 ghost use Rattle.norprog_common.specs.declared.faults.Refusal.TheVariants.{Build};
 ghost use Rattle.norprog_common.specs.Files.{TellsFile};
-ghost use Rattle.norprog_common.specs.FileStore.{IsMadeApart, WhereNamed};
+ghost use Rattle.norprog_common.specs.FileStore.{Adds, IsMadeApart, MakesIf, WhereNamed};
 ghost use Rattle.norprog_common.specs.Strict.{Filled};
 ghost use Rattle.norprog_common.specs.Told.{ForAsked, OrUsage};
 ghost use Rattle.norprog_plan.specs.Served.{asks_plan, shows_of, ServesPlan};
 ghost use Rattle.norprog_plan.specs.Answer.{IsPart, IsWhole, StopsAsked, PrintsPlan, CutsPlan};
 ghost use Rattle.norprog_plan.specs.Answer.{RefusesPlan, AnswersPlan};
 ghost use Rattle.norprog_common.specs.Served.{Job, IsJobOf, AreGiven, held_in, input_files_of};
+ghost use Rattle.norprog_common.specs.Served.{MakesFor, MayMakeFor};
 
 use crate::outline::{Outline, Shows, outline_job};
 use nor_base::{ByteOut, put_all, put_parts};
@@ -31,6 +32,7 @@ use std::alloc::Global;
 pub fn plan<S: FileStore, O: ByteOut, E: ByteOut>(
     alloc: Global,
     store: &S,
+    journal: &mut S::Journal,
     given: PlanArgs<'_>,
     out: &mut O,
     err: &mut E,
@@ -39,22 +41,32 @@ pub fn plan<S: FileStore, O: ByteOut, E: ByteOut>(
     requires err { E.count err.old < 2 ^ 64 - 1 }
     ensures status { result ≤ 2 }
     ensures quiet { result ≡ 0 → err.new ≡ err.old }
-    ensures answer { AnswersPlan (S.facts store.now) given.entry (O.held out.old) (O.held out.new)
+    ensures answer { AnswersPlan (S.facts store.now) given.entry
+        (Adds (S.Journal.changes journal.old) (S.Journal.changes journal.new))
+        (O.held out.old) (O.held out.new)
         (err.new ≡ err.old)
         (E.count err.new ≡ E.count err.old) (E.held err.old) (E.held err.new) result }
 {
-    answered(report_plan(alloc, store, given, out), err)
+    answered(report_plan(alloc, store, journal, given, out), err)
 }
 
 /// Plans what is asked for, and prints what tells it.
 fn report_plan<S: FileStore, O: ByteOut>(
     alloc: Global,
     store: &S,
+    journal: &mut S::Journal,
     given: PlanArgs<'_>,
     out: &mut O,
 ) -> Result<u8, Refusal>
     requires { O.count out.old < 2 ^ 64 - 1 }
-    ensures status { IfOk result (λ status. status ≡ 0) }
+    ensures done { IfOk result (λ status. (status ≡ 0) × (asks_plan given.entry ≡ true)) }
+    ensures journal { MatchResult result
+        (λ _. MakesFor (S.facts store.now) given.entry.job
+        (option_map (λ t. t.now) given.entry.map)
+        (Adds (S.Journal.changes journal.old) (S.Journal.changes journal.new)))
+        (λ _. MayMakeFor (S.facts store.now) given.entry.job
+        (option_map (λ t. t.now) given.entry.map)
+        (Adds (S.Journal.changes journal.old) (S.Journal.changes journal.new))) }
     ensures printed { IfOk result
         (λ _. PrintsPlan (S.facts store.now).flushed (shows_of given.entry)
         (Filled given.entry.job.strict (ServesPlan (S.facts store.now) given.entry))
@@ -63,7 +75,6 @@ fn report_plan<S: FileStore, O: ByteOut>(
         (λ _. CutsPlan (S.facts store.now).flushed (shows_of given.entry)
         (Filled given.entry.job.strict (ServesPlan (S.facts store.now) given.entry))
         (O.held out.old) (O.held out.new)) }
-    ensures asked { IfOk result (λ _. asks_plan given.entry ≡ true) }
     ensures first { IfErr result
         (OrUsage (asks_plan given.entry)
         (RefusesPlan given.entry.job.strict (S.facts store.now).lacked
@@ -77,7 +88,8 @@ fn report_plan<S: FileStore, O: ByteOut>(
         map,
     } = given;
     let request = request_of(job).ok_or(Refusal::Usage)?;
-    let Outline { lines, rest } = run_plan(alloc, store, &request, Shows { times, regions }, map);
+    let shows = Shows { times, regions };
+    let Outline { lines, rest } = run_plan(alloc, store, journal, &request, shows, map);
     match rest {
         Ok(rest) => print_whole(lines.as_slice(), rest.as_slice(), out),
         Err(refusal) => Err(print_lines(lines.as_slice(), refusal, out)),
@@ -132,10 +144,14 @@ struct PlanFiles<I, O> {
 fn run_plan<S: FileStore>(
     alloc: Global,
     store: &S,
+    journal: &mut S::Journal,
     request: &Request<'_>,
     shows: Shows,
     map: Option<&str>,
 ) -> Outline
+    ensures journal { MakesIf (S.facts store.now) (input_files_of request.now)
+        (option_map (λ t. t.now) map.entry)
+        (Adds (S.Journal.changes journal.old) (S.Journal.changes journal.new)) result.rest }
     ensures whole { IfOk result.rest (λ rest. ForAsked Job
         (Filled request.now.strict
         (IsJobOf (S.facts store.now) request.now (option_map (λ t. t.now) map.entry)))
@@ -147,7 +163,7 @@ fn run_plan<S: FileStore>(
     ensures refused { IfErr result.rest (StopsAsked request.now.strict (S.facts store.now).lacked
         (IsJobOf (S.facts store.now) request.now (option_map (λ t. t.now) map.entry))) }
 {
-    match open_files(alloc, store, request, map) {
+    match open_files(alloc, store, journal, request, map) {
         Ok(files) => {
             let PlanFiles {
                 texts,
@@ -181,6 +197,7 @@ fn unplanned(alloc: Global, refusal: Refusal) -> Outline
 fn open_files<S: FileStore>(
     alloc: Global,
     store: &S,
+    journal: &mut S::Journal,
     request: &Request<'_>,
     map: Option<&str>,
 ) -> Result<PlanFiles<S::Input, S::Output>, Refusal>
@@ -189,17 +206,20 @@ fn open_files<S: FileStore>(
     ensures content { IfOk result
         (λ files. (S.facts store.now).opened request.now.content.now (S.Input.ahead files.content)
         files.len) }
-    ensures count { IfOk result (λ files. S.Input.count files.content ≡ 0) }
+    ensures journal { MakesIf (S.facts store.now) (input_files_of request.now)
+        (option_map (λ t. t.now) map.entry)
+        (Adds (S.Journal.changes journal.old) (S.Journal.changes journal.new)) result }
     ensures made { IfOk result
         (λ files. WhereNamed (IsMadeApart (S.facts store.now) (input_files_of request.now))
         (option_map (λ t. t.now) map.entry) (option_map S.Output.held files.map)) }
-    ensures fresh { IfOk result (λ files. IfSome files.map (λ file. S.Output.count file ≡ 0)) }
+    ensures fresh { IfOk result (λ files. (S.Input.count files.content ≡ 0)
+        × IfSome files.map (λ file. S.Output.count file ≡ 0)) }
     ensures lacked { IfErr result (TellsFile (S.facts store.now).lacked) }
 {
     let mut places = Vec::new(alloc);
     let (texts, content, len) = open_job(alloc, store, request, &mut places)?;
     let map = match map {
-        Some(path) => Some(store.create(alloc, path, FileName::Map, places.as_slice())?),
+        Some(path) => Some(store.create(journal, alloc, path, FileName::Map, places.as_slice())?),
         None => None,
     };
     Ok(PlanFiles {

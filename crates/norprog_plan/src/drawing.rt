@@ -30,16 +30,16 @@ pub(crate) fn draw_file<S: FileStore>(
     inputs: &Inputs<'_>,
     text: &[u8],
     rest: &[u8],
-    file: &mut S::Output,
+    mut file: S::Output,
 ) -> Result<(), Refusal>
-    requires { S.Output.count file.old < 2 ^ 64 - 1 }
+    requires { S.Output.count file < 2 ^ 64 - 1 }
     ensures drawn { (report : Report) (len : ℕ) (ahead : Ahead)
         (of : IsLines text.now report inputs.now len ahead)
-        → IfOk result (λ _. IsDrawn (S.facts store.now).flushed (S.Output.held file.old) inputs.now
+        → IfOk result (λ _. IsDrawn (S.facts store.now).flushed (S.Output.held file) inputs.now
         of.planned.m (read_lines of) rest.now) }
     ensures refused { IfErr result LacksOutput }
 {
-    draw(alloc, inputs, text, rest, file)?;
+    draw(alloc, inputs, text, rest, &mut file)?;
     match store.flush(file) {
         Ok(()) => Ok(()),
         Err(_) => Err(Refusal::WRITE),

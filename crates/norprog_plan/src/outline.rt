@@ -132,8 +132,8 @@ fn rest_of<S: FileStore>(
         ⊎ ((is_some map ≡ true) × (why ≡ Build Write))) }
 {
     let rest = behind_lines(alloc, inputs, report, lines, times)?;
-    if let Some(mut file) = map {
-        draw_file(alloc, store, inputs, lines, rest.as_slice(), &mut file)?;
+    if let Some(file) = map {
+        draw_file(alloc, store, inputs, lines, rest.as_slice(), file)?;
         return Ok(rest);
     }
     Ok(rest)

@@ -15,15 +15,15 @@ use Rattle.nor_probe.specs.declared.difference.Mismatch.TheVariants as mismatch
 use Rattle.nor_base.specs.Parameters.{Parameters}
 use Rattle.norprog_play.specs.declared.access.Access.{Access}
 use Rattle.norprog_play.specs.declared.ending.Ending.TheVariants.{Failed}
-use Rattle.norprog_play.specs.declared.ending.Failure.{Failure}
-use Rattle.norprog_play.specs.declared.ending.Failure.TheVariants as failure
+use Rattle.norprog_failure.specs.declared.failure.Failure.{Failure}
+use Rattle.norprog_failure.specs.declared.failure.Failure.TheVariants as failure
 use Rattle.nor_base.specs.Sample.{sampled_count}
 use Rattle.nor_base.specs.Step.{step_clocks}
 use Rattle.norprog_play.specs.Carried.{IsCarried, AreCarried, IsFirstNotCarried}
 use Rattle.norprog_play.specs.Asked.{Begins}
 use Rattle.norprog_play.specs.Expected.{Expectation}
-use Rattle.norprog_play.specs.Failure.{FailsAs, read_address, other_byte}
-use Rattle.norprog_play.specs.Ending.{EndsComparing, IsUnlikeAfter, MayBegin, failure_by}
+use Rattle.norprog_failure.specs.Reported.{FailsAs, read_address, other_byte, failure_by}
+use Rattle.norprog_play.specs.Ending.{EndsComparing, IsUnlikeAfter, MayBegin}
 use Rattle.norprog_play.specs.Moment.{Moment, DoesAll, StopsAt, StopsStep}
 use Rattle.norprog_play.proofs.TogetherLemmas.{head_of, all_right}
 

@@ -11,8 +11,8 @@ use Rattle.nor_serprog.specs.declared.limits.Limits.{Limits}
 use Rattle.norprog_play.specs.declared.access.Access.{Access}
 use Rattle.norprog_play.specs.declared.ending.Ending.{Ending}
 use Rattle.norprog_play.specs.declared.ending.Ending.TheVariants.{Done, Wrong as GoesWrong, No, Unlike, Failed}
-use Rattle.norprog_play.specs.declared.ending.Failure.{Failure}
-use Rattle.norprog_play.specs.declared.ending.Failure.TheVariants as failure
+use Rattle.norprog_failure.specs.declared.failure.Failure.{Failure}
+use Rattle.norprog_failure.specs.declared.failure.Failure.TheVariants as failure
 use Rattle.norprog_play.specs.declared.ending.Unlike.{Unlike as Unlikeness}
 use Rattle.norprog_play.specs.declared.ending.Unlike.TheVariants as unlike
 use Rattle.norprog_play.specs.Asked.{IsIdentified, BeginsWith, Begins, IsUnknown}

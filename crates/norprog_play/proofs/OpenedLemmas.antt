@@ -1,5 +1,5 @@
 -- Where memory is refused after the handshake.
-use Rattle.std.proofs.Common.{◌≡◌, ◌∙◌, ap, ℕ, List, Option, Ok, Err, Result, sym, subst}
+use Rattle.std.proofs.Common.{◌≡◌, ◌∙◌, ap, ℕ, List, [], ◌∷◌, Option, Ok, Err, Result, inr, refl, sym, subst}
 use Rattle.std.specs.Prelude.{MatchResult, IsErrAnd}
 use Rattle.nor_base.specs.declared.meaning.Start.{Start}
 use Rattle.nor_base.specs.declared.step.Step.{Step}
@@ -10,7 +10,7 @@ use Rattle.nor_serprog.specs.Greeting.{Greeted}
 use Rattle.nor_serprog.specs.Line.{TestsLine}
 use Rattle.nor_job.specs.declared.fault.BuildFault.TheVariants.{Memory}
 use Rattle.nor_serprog.specs.declared.limits.Limits.{Limits}
-use Rattle.norprog_common.specs.declared.faults.FileName.{FileName}
+use Rattle.norprog_common.specs.FileStore.{FileFacts, Change, Opened as Opening}
 use Rattle.norprog_common.specs.declared.faults.Refusal.TheVariants.{Build}
 use Rattle.norprog_play.specs.declared.ending.Ending.{Ending}
 use Rattle.norprog_device.specs.declared.fault.DeviceFault.{DeviceFault}
@@ -26,9 +26,9 @@ use Rattle.norprog_play.specs.Opened.{FailsTest, GreetsSo, HasPlayed, Releases, 
 use Rattle.norprog_play.specs.Played.{EndsOnDevice, Stands, StopsPlay}
 
 pub for_memory : {T : Type 0} (P : T → Type 0) (limits : Limits) (before after : Moment) (r : Result T Unplayed) → IsErrAnd r (λ why. why ≡ Refused (Build Memory))
-    → GreetsSo before after (Ok limits) → MatchResult r P (StopsBefore before after)
+    → GreetsSo before after (Ok limits) → MatchResult r P (StopsBefore limits before after)
 for_memory P limits before after (Ok x) is greets = absurd is
-for_memory P limits before after (Err why) is greets = subst (StopsBefore before after) (sym is) (limits, greets)
+for_memory P limits before after (Err why) is greets = subst (StopsBefore limits before after) (sym is) greets
 
 -- a test of the line after a handshake
 pub opens_so : (held held' held'' : Option (List ℕ)) (ahead ahead' ahead'' : Ahead) (limits limits' : Limits) → limits' ≡ limits → Greeted held held' ahead ahead' (Ok limits)
@@ -52,11 +52,12 @@ has_played limits limits' turns turns' x m before between after steps ending sam
 }
 
 -- a play on that device of steps that may be played
-pub known_ends : (Lacked : FileName → Type 0) (Opened : Option (List ℕ) → Option (List ℕ) → Type 0) (limit turns : ℕ) (limits : Limits) (x : Expectation) (m : Parameters) (content : List ℕ) (steps : List Step) (before reached after : Moment)
-    → MayPlay (chip_with m x.start content) steps → Stands Opened m x.start content before → turns ≡ limit → Releases limits.pins reached after → (r : Result Ending Unplayed)
-    → MatchResult r (λ ending. HasPlayed limits turns x m before steps ending reached) (StopsBefore before reached)
-    → MatchResult r (EndsOnDevice Opened limit x m content steps) (StopsPlay Lacked Opened m x.start content steps)
-known_ends Lacked Opened limit turns limits x m content steps before reached after may stands same released (Ok ending) is = record {
+pub known_ends : (files : FileFacts) (name : List ℕ) (Made : List Change → Type 0) (limit turns : ℕ) (limits : Limits) (x : Expectation) (m : Parameters) (content : List ℕ) (steps : List Step) (before reached after : Moment)
+    → MayPlay (chip_with m x.start content) steps → Stands (files.device name) m x.start content before → turns ≡ limit → Releases limits.pins reached after → files.left after.held
+    → Made (Opening name ∷ []) → (r : Result Ending Unplayed)
+    → MatchResult r (λ ending. HasPlayed limits turns x m before steps ending reached) (StopsBefore limits before reached)
+    → MatchResult r (EndsOnDevice files name Made limit x m content steps) (StopsPlay files name Made m x.start content steps)
+known_ends files name Made limit turns limits x m content steps before reached after may stands same released left made (Ok ending) is = record {
   may = may;
   before = before;
   reached = reached;
@@ -65,11 +66,23 @@ known_ends Lacked Opened limit turns limits x m content steps before reached aft
   stands = stands;
   played = subst (λ n. HasPlayed limits n x m before steps ending reached) same is;
   released = released;
+  left = left;
+  made = made;
 }
-known_ends Lacked Opened limit turns limits x m content steps before reached after may stands same released (Err (Device why)) is =
-    record { may = may; before = before; reached = reached; after = after; stands = stands; greeted = is; pins = limits.pins; released = released }
-known_ends Lacked Opened limit turns limits x m content steps before reached after may stands same released (Err (Refused (Build Memory))) is = tt
-known_ends Lacked Opened limit turns limits x m content steps before reached after may stands same released (Err (Refused other)) is = absurd is
+known_ends files name Made limit turns limits x m content steps before reached after may stands same released left made (Err (Device why)) is = (
+  limits.pins,
+  record { may = may; before = before; reached = reached; after = after; stands = stands; greeted = is; released = released; left = left; made = made },
+)
+known_ends files name Made limit turns limits x m content steps before reached after may stands same released left made (Err (Refused (Build Memory))) is = inr (
+  refl,
+  (limits, record { may = may; before = before; reached = reached; after = after; stands = stands; greeted = is; released = released; left = left; made = made }),
+)
+known_ends files name Made limit turns limits x m content steps before reached after may stands same released left made (Err (Refused other)) is = absurd is
+
+-- what is handed on of a refusal
+pub handed : {T : Type 0} (P : T → Type 0) (Q : Unplayed → Type 0) (why : Unplayed) (r : Result T Unplayed) → IsErrAnd r (λ other. other ≡ why) → Q why → MatchResult r P Q
+handed P Q why (Ok x) is of = absurd is
+handed P Q why (Err other) is of = subst Q (sym is) of
 
 -- a chip in memory beside a reader and a writer as they were opened
 pub stands_so : (Opened : Option (List ℕ) → Option (List ℕ) → Type 0) (m : Parameters) (start : Start) (content : List ℕ) (shown : Shown) (contents remaining contents' remaining' : Option (List ℕ))

@@ -1,5 +1,5 @@
 -- The play that a request has is the one that its texts ask for.
-use Rattle.std.proofs.Common.{◌≡◌, option_map, Some, ◌∙◌, ap, Bool, refl, sym, subst, List, ℕ, true, Result, Ok, Err, IfOk, IfErr}
+use Rattle.std.proofs.Common.{◌≡◌, ◌+◌, arith, inl, inr, option_map, Some, ◌∙◌, ap, Bool, refl, sym, subst, List, [], ℕ, true, false, Result, Ok, Err, IfOk, IfErr}
 use Rattle.std.specs.Prelude.{MatchResult}
 use Rattle.nor_base.specs.declared.meaning.Part.{Part}
 use Rattle.nor_base.specs.declared.meaning.Start.{Start}
@@ -8,21 +8,26 @@ use Rattle.nor_base.specs.Device.{Ahead}
 use Rattle.nor_base.specs.Parameters.{Parameters}
 use Rattle.nor_job.specs.Status.{start_of}
 use Rattle.nor_job.specs.Task.{Task}
+use Rattle.nor_job.specs.declared.fault.BuildFault.TheVariants as fault
 use Rattle.norprog_common.specs.declared.faults.FileName.{FileName}
+use Rattle.norprog_common.specs.declared.faults.FileName.TheVariants as file
 use Rattle.norprog_common.specs.declared.faults.Refusal.{Refusal}
+use Rattle.norprog_common.specs.declared.faults.Refusal.TheVariants.{Usage, File, Build}
 use Rattle.norprog_common.specs.declared.given.PlayArgs.{PlayArgs}
 use Rattle.norprog_common.specs.Chip.{origin_of}
 use Rattle.norprog_common.specs.Files.{TellsFile}
 use Rattle.norprog_common.specs.Setup.{setup_task}
-use Rattle.norprog_common.specs.FileStore.{AreTables, FileFacts, IsAheadIn, Named}
+use Rattle.norprog_common.specs.FileStore.{AreTables, Change, FileFacts, IsAheadIn, Named}
+use Rattle.norprog_common.specs.Content.{of_reader}
+use Rattle.norprog_common.specs.Reading.{GivesSome, HasFailed}
 use Rattle.norprog_common.proofs.ToldLemmas.{asked_wider, refuses_wider, by_fault, by_files, or_usage}
 use Rattle.norprog_play.specs.declared.ending.Ending.{Ending}
 use Rattle.norprog_play.specs.declared.request.PlayRequest.{PlayRequest}
 use Rattle.norprog_play.specs.declared.unplayed.Unplayed.{Unplayed}
 use Rattle.norprog_play.specs.declared.unplayed.Unplayed.TheVariants.{Refused, Device}
-use Rattle.norprog_play.specs.Answer.{IsEndingOf, IsEnding, IsStopOf, IsPlayFault, RefusesPlay, IsGreetingOf, IsUnplayed, RefusesToPlay}
-use Rattle.norprog_play.specs.Job.{IsReady, RefusesJob}
-use Rattle.norprog_play.specs.Played.{Ends, EndsGreeting, StopsPlay}
+use Rattle.norprog_play.specs.Answer.{Blames, IsEndingOf, IsEnding, IsHaltOf, IsHalt, IsStopOf, IsPlayFault, RefusesPlay, IsUnplayed, RefusesToPlay}
+use Rattle.norprog_play.specs.Job.{IsReady, RefusesJob, of_script}
+use Rattle.norprog_play.specs.Played.{Ends, StopsPlay}
 use Rattle.norprog_play.specs.Request.{is_well_formed, AsksFor}
 use Rattle.norprog_play.specs.Served.{PlayTask, IsTaskOf, Serves, expectation}
 use Rattle.norprog_play.specs.Expected.{Expectation}
@@ -39,33 +44,43 @@ serves files given request asks t of = record {
   trusted = rw of.trusted asks.trust;
 }
 
-ending_asked : (files : FileFacts) (given : PlayArgs) (request : PlayRequest) (ending : Ending) → AsksFor given request
-    → IsEnding files (IsTaskOf files request) ending → IsEnding files (Serves files given) ending
-ending_asked files given request ending asks of =
-    asked_wider PlayTask (IsTaskOf files request) (Serves files given) (IsEndingOf files ending) (serves files given request asks) of
-
-pub endings_asked : (files : FileFacts) (given : PlayArgs) (request : PlayRequest) (r : Result Ending Unplayed) → AsksFor given request
-    → IfOk r (IsEnding files (IsTaskOf files request)) → IfOk r (IsEnding files (Serves files given))
-endings_asked files given request (Ok ending) asks of = ending_asked files given request ending asks of
-endings_asked files given request (Err why) asks of = tt
+pub endings_asked : (files : FileFacts) (Made : List Change → Type 0) (given : PlayArgs) (request : PlayRequest) (r : Result Ending Unplayed) → AsksFor given request
+    → IfOk r (IsEnding files Made (IsTaskOf files request)) → IfOk r (IsEnding files Made (Serves files given))
+endings_asked files Made given request (Ok ending) asks of =
+    asked_wider PlayTask (IsTaskOf files request) (Serves files given) (IsEndingOf files Made ending) (serves files given request asks) of
+endings_asked files Made given request (Err why) asks of = tt
 
 -- and why it isn't played
-pub refusals_asked : (files : FileFacts) (given : PlayArgs) (request : PlayRequest) (r : Result Ending Unplayed) → AsksFor given request
-    → is_well_formed given ≡ true → IfErr r (IsUnplayed files (IsTaskOf files request))
-    → IfErr r (RefusesToPlay files given)
-refusals_asked files given request (Ok ending) asks formed of = tt
-refusals_asked files given request (Err (Refused why)) asks formed of = or_usage _ _ _ formed (
-    refuses_wider files.lacked files.lacked (IsPlayFault (IsTaskOf files request)) (IsPlayFault (Serves files given))
-    ⊥ ⊥
-    (λ name lacks. lacks) (λ why of. asked_wider PlayTask (IsTaskOf files request) (Serves files given) (IsStopOf why) (serves files given request asks) of)
-    (λ none. none) why of
-    )
-refusals_asked files given request (Err (Device why)) asks formed of =
-    (formed, asked_wider PlayTask (IsTaskOf files request) (Serves files given) (IsGreetingOf files why) (serves files given request asks) of)
+module _ (files : FileFacts) (Failed : Ahead → Type 0) (Made : List Change → Type 0) (given : PlayArgs) (request : PlayRequest) (asks : AsksFor given request) where
+  halt_asked : (why : Unplayed) → IsHalt files Made (IsTaskOf files request) why → IsHalt files Made (Serves files given) why
+  halt_asked why of = asked_wider PlayTask (IsTaskOf files request) (Serves files given) (IsHaltOf files Made why) (serves files given request asks) of
 
--- a file that couldn't be used
-pub lacked_refused : (Lacked : FileName → Type 0) (Asked : PlayTask → Type 0) (why : Refusal) → TellsFile Lacked why → RefusesPlay Lacked Asked why
-lacked_refused Lacked Asked why = by_files Lacked Lacked (IsPlayFault Asked) ⊥ why (λ name lacks. lacks)
+  refusal_asked : (why : Refusal) → RefusesPlay files.lacked Failed (IsTaskOf files request) why → RefusesPlay files.lacked Failed (Serves files given) why
+  refusal_asked why of =
+      refuses_wider files.lacked files.lacked (IsPlayFault Failed (IsTaskOf files request)) (IsPlayFault Failed (Serves files given)) ⊥ ⊥ (λ name lacks. lacks)
+      (λ why of. asked_wider PlayTask (IsTaskOf files request) (Serves files given) (IsStopOf Failed why) (serves files given request asks) of) (λ none. none) why of
+
+  pub refusals_asked : (r : Result Ending Unplayed) → is_well_formed given ≡ true → IfErr r (IsUnplayed files Failed Made (IsTaskOf files request))
+      → IfErr r (RefusesToPlay files Failed Made given)
+  refusals_asked (Ok ending) formed of = tt
+  refusals_asked (Err (Refused why)) formed (inl of) = inl (or_usage _ _ _ formed (refusal_asked why of.0), of.1)
+  refusals_asked (Err (Refused why)) formed (inr of) = inr (formed, halt_asked (Refused why) of)
+  refusals_asked (Err (Device why)) formed of = (formed, halt_asked (Device why) of)
+
+-- a file that couldn't be used, before any device was opened
+pub lacked_refused : (files : FileFacts) (Failed : Ahead → Type 0) (Made : List Change → Type 0) (Asked : PlayTask → Type 0) (why : Refusal) → TellsFile files.lacked why → Made []
+    → IsUnplayed files Failed Made Asked (Refused why)
+lacked_refused files Failed Made Asked why lacks none = inl (by_files files.lacked files.lacked (IsPlayFault Failed Asked) ⊥ why (λ name lacks. lacks) lacks, none)
+
+-- what is blamed has failed
+module _ {F : Type 0} (ahead : F → Ahead) (count : F → ℕ) (script script' content content' : F) (t : Task) (len : ℕ) where
+  pub blames : (why : Refusal) → RefusesJob t (ahead script) (ahead script') len (ahead content) (ahead content') why → GivesSome (ahead script) (ahead script')
+      → count script' ≡ count script + of_script why → count content' ≡ count content + of_reader why → Blames (HasFailed ahead count) (ahead script) (ahead content) why
+  blames (File file.Script) p gave scripts contents =
+      let one : count script' ≡ count script + 1 = scripts in record { reader = script'; gave = gave; failed = omega (arith, one) }
+  blames (Build fault.Read) p gave scripts contents =
+      let one : count content' ≡ count content + 1 = contents in record { reader = content'; gave = (p.2.0, p.2.2); failed = omega (arith, one) }
+  blames other p gave scripts contents = tt
 
 -- the chip that is expected, by what the code says of how it begins and of its tables
 abbrev expected_of : Part → Start → List ℕ → Bool → Expectation
@@ -92,30 +107,55 @@ module _ (files : FileFacts) (request : PlayRequest) (tables : List ℕ) (t : Ta
   asked : IsTaskOf files request task
   asked = record { chip = record { tables = tables; gave = tables_gave; task = same }; script = script_opened; content = opened; device = refl; limit = refl; trusted = refl }
 
-  pub no_job : (rest after : Ahead) (why : Refusal) → RefusesJob t script rest len before after why → RefusesPlay files.lacked (IsTaskOf files request) why
-  no_job rest after why refused = by_fault files.lacked (IsPlayFault (IsTaskOf files request)) _ why (record {
-    it = task;
-    asked = asked;
-    has = record { rest = rest; after = after; refused = refused };
-  })
+  pub no_job : (Failed : Ahead → Type 0) (Made : List Change → Type 0) (rest after : Ahead) (why : Refusal) → RefusesJob t script rest len before after why → Blames Failed script before why → Made []
+      → IsUnplayed files Failed Made (IsTaskOf files request) (Refused why)
+  no_job Failed Made rest after why refused blamed none = inl (
+    by_fault files.lacked (IsPlayFault Failed (IsTaskOf files request)) _ why (record {
+      it = task;
+      asked = asked;
+      has = record { rest = rest; after = after; refused = refused; blamed = blamed };
+    }),
+    none,
+  )
 
-  module _ (rest after : Ahead) (m : Parameters) (steps : List Step) (content : List ℕ) (ready : IsReady t script rest len before after m steps content)
-      (x : Expectation) (is_so : x ≡ expectation task) where
-    pub was_played : (r : Result Ending Unplayed) → MatchResult r (Ends (files.device request.device.now) request.limit x m content steps) (StopsPlay files.lacked (files.device request.device.now) m x.start content steps)
-        → IfOk r (IsEnding files (IsTaskOf files request))
+  module _ (Failed : Ahead → Type 0) (Made : List Change → Type 0) (rest after : Ahead) (m : Parameters) (steps : List Step) (content : List ℕ)
+      (ready : IsReady t script rest len before after m steps content) (x : Expectation) (is_so : x ≡ expectation task) where
+    pub was_played : (r : Result Ending Unplayed)
+        → MatchResult r (Ends files request.device.now Made request.limit x m content steps) (StopsPlay files request.device.now Made m x.start content steps)
+        → IfOk r (IsEnding files Made (IsTaskOf files request))
     was_played (Ok ending) is = record {
       it = task;
       asked = asked;
-      has = record { rest = rest; after = after; m = m; steps = steps; content = content; ready = ready; ends = subst (λ (y : Expectation). Ends (files.device request.device.now) request.limit y m content steps ending) is_so is };
+      has = record {
+        rest = rest;
+        after = after;
+        m = m;
+        steps = steps;
+        content = content;
+        ready = ready;
+        ends = subst (λ (y : Expectation). Ends files request.device.now Made request.limit y m content steps ending) is_so is;
+      };
     }
     was_played (Err why) is = tt
 
-    pub was_stopped : (r : Result Ending Unplayed) → MatchResult r (Ends (files.device request.device.now) request.limit x m content steps) (StopsPlay files.lacked (files.device request.device.now) m x.start content steps)
-        → IfErr r (IsUnplayed files (IsTaskOf files request))
-    was_stopped (Ok ending) is = tt
-    was_stopped (Err (Refused why)) is = by_files files.lacked files.lacked (IsPlayFault (IsTaskOf files request)) _ why (λ name lacks. lacks) is
-    was_stopped (Err (Device why)) is = record {
+    halted : (why : Unplayed) → StopsPlay files request.device.now Made m x.start content steps why → IsHalt files Made (IsTaskOf files request) why
+    halted why is = record {
       it = task;
       asked = asked;
-      has = record { rest = rest; after = after; m = m; steps = steps; content = content; ready = ready; stops = subst (λ (y : Expectation). EndsGreeting (files.device request.device.now) m y.start content steps why) is_so is };
+      has = record {
+        rest = rest;
+        after = after;
+        m = m;
+        steps = steps;
+        content = content;
+        ready = ready;
+        stops = subst (λ (y : Expectation). StopsPlay files request.device.now Made m y.start content steps why) is_so is;
+      };
     }
+
+    pub was_stopped : (r : Result Ending Unplayed)
+        → MatchResult r (Ends files request.device.now Made request.limit x m content steps) (StopsPlay files request.device.now Made m x.start content steps)
+        → IfErr r (IsUnplayed files Failed Made (IsTaskOf files request))
+    was_stopped (Ok ending) is = tt
+    was_stopped (Err (Refused why)) is = inr (halted (Refused why) is)
+    was_stopped (Err (Device why)) is = halted (Device why) is

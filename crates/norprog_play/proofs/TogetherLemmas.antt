@@ -30,8 +30,8 @@ use Rattle.nor_serprog.specs.declared.limits.Limits.{Limits}
 use Rattle.nor_serprog.specs.Done.{HasDone, HasStopped, HasDoneAll}
 use Rattle.nor_serprog.specs.Follow.{Follows, Operates}
 use Rattle.nor_serprog.specs.Row.{CutsRow, HasHalted, IsRow, StopsWithin}
-use Rattle.norprog_play.specs.declared.ending.Failure.{Failure}
-use Rattle.norprog_play.specs.Failure.{FailsAs}
+use Rattle.norprog_failure.specs.declared.failure.Failure.{Failure}
+use Rattle.norprog_failure.specs.Reported.{FailsAs}
 use Rattle.norprog_play.specs.Moment.{Moment, IsTaken, Does, DoesAll, StopsAt, StopsFollowing, StopsStep}
 use Rattle.norprog_play.specs.Together.{AreTaken, GivesExpected, IsPlain, MayGoTogether, StopsAlone}
 use Rattle.norprog_play.proofs.FollowedLemmas.{Goes, GoesOn}

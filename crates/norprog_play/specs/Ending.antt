@@ -6,13 +6,13 @@ use Rattle.nor_base.specs.Parameters.{Parameters}
 use Rattle.nor_base.specs.Run.{trail}
 use Rattle.nor_play.specs.Play.{play}
 use Rattle.nor_probe.specs.declared.difference.Mismatch.{Mismatch}
-use Rattle.nor_probe.specs.declared.difference.Mismatch.TheVariants as mismatch
 use Rattle.nor_serprog.specs.declared.limits.Limits.{Limits}
 use Rattle.norprog_play.specs.declared.access.Access.{Access}
 use Rattle.norprog_play.specs.declared.ending.Ending.{Ending}
 use Rattle.norprog_play.specs.declared.ending.Ending.TheVariants.{Done, Wrong as GoesWrong, No, Unlike, Failed}
-use Rattle.norprog_play.specs.declared.ending.Failure.{Failure}
-use Rattle.norprog_play.specs.declared.ending.Failure.TheVariants as failure
+use Rattle.norprog_failure.specs.Reported.{failure_by}
+use Rattle.norprog_failure.specs.declared.failure.Failure.{Failure}
+use Rattle.norprog_failure.specs.declared.failure.Failure.TheVariants as failure
 use Rattle.norprog_play.specs.declared.ending.Unlike.{Unlike as Unlikeness}
 use Rattle.norprog_play.specs.Access.{access_of}
 use Rattle.norprog_play.specs.Asked.{Begins, IsUnknown}
@@ -75,11 +75,6 @@ pub record StopsOnDevice (limits : Limits) (turns : ℕ) (x : Expectation) (m : 
   pub between : Moment
   pub begins : Begins x limits turns access Wanted before between
   pub stops : StopsAt m limits turns between steps at failed after
-
--- how a comparison that ended so is reported where it comes after the steps
-abbrev pub failure_by : Mismatch → Failure
-failure_by (mismatch.Exchange why) = failure.Exchange why
-failure_by (mismatch.Differs d) = failure.Differs d
 
 -- they were all done, but the chip behind the device isn't known to hold what they leave on the chip in memory
 pub record IsUnlikeAfter (limits : Limits) (turns : ℕ) (x : Expectation) (access : Access) (Wanted : ℕ → Type 0) (Again : List ℕ → ℕ → Type 0)

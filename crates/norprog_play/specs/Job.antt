@@ -1,5 +1,5 @@
 -- What is to be played on which chip, and why that isn't known (this project's).
-use Rattle.std.specs.Prelude.{◌≡◌, ◌≢◌, ⊤, ℕ, List, length}
+use Rattle.std.specs.Prelude.{◌≡◌, ◌≢◌, ⊤, ℕ, ◌+◌, List, length, Result, Ok, Err}
 use Rattle.nor_base.specs.declared.step.Step.{Step}
 use Rattle.nor_base.specs.Device.{Ahead, Gives, IsAtEnd}
 use Rattle.nor_base.specs.Parameters.{Parameters}
@@ -52,6 +52,15 @@ RefusesJob t script script' len before after (Build fault.ContentShort) =
 RefusesJob t script script' len before after (Build fault.Read) = HasSized t len × HadText script script' IsSpelled × ReadsLess len before after
 RefusesJob t script script' len before after (Build fault.Memory) = HasSized t len
 RefusesJob t script script' len before after other = RefusesSize t len other
+
+-- the count of failures of the script's reader rises by one exactly where its file is told
+abbrev pub of_script : Refusal → ℕ
+of_script (File file.Script) = 1
+of_script other = 0
+
+abbrev pub CountsScript : {T : Type 0} → ℕ → ℕ → Result T Refusal → Type 0
+CountsScript before after (Ok x) = after ≡ before
+CountsScript before after (Err why) = after ≡ before + of_script why
 
 -- a refusal that comes before any content is read
 abbrev pub IsEarly : Refusal → Type 0

@@ -4,7 +4,6 @@ pub mod Access
 pub mod Expected
 pub mod Tables
 pub mod Asked
-pub mod Failure
 pub mod Carried
 pub mod Rehearsal
 pub mod Ending

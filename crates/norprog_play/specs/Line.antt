@@ -1,36 +1,19 @@
 -- The line that tells how a script ends on a device (this project's).
 use Rattle.std.specs.Prelude.{ℕ, ◌/◌, ◌%◌, Bool, true, false, List, ◌∷◌, ◌++◌, codes, decimal}
-use Rattle.nor_base.specs.declared.wrong.Wrong.TheVariants.{PollNever}
 use Rattle.nor_base.specs.Script.{closed}
 use Rattle.nor_serprog.specs.declared.fault.Fault.{Fault}
 use Rattle.nor_base.specs.Script.{hex_pair}
-use Rattle.nor_probe.specs.declared.difference.Difference.{Difference}
 use Rattle.nor_probe.specs.declared.difference.Mismatch.{Mismatch}
 use Rattle.nor_probe.specs.declared.difference.Mismatch.TheVariants as mismatch
-use Rattle.nor_script.specs.Hexadecimal.{hex_number}
-use Rattle.norprog_play.specs.declared.ending.Failure.{Failure}
-use Rattle.norprog_play.specs.declared.ending.Failure.TheVariants as failure
 use Rattle.norprog_play.specs.declared.ending.Unlike.{Unlike as Unlikeness}
 use Rattle.norprog_play.specs.declared.ending.Unlike.TheVariants as unlike
 use Rattle.nor_check.specs.declared.verdict.Verdict.TheVariants.{No as Says}
 use Rattle.norprog_check.specs.Line.{verdict_text}
 use Rattle.norprog_common.specs.Wrongs.{wrong_number}
 use Rattle.norprog_device.specs.Line.{fault_word}
+use Rattle.norprog_failure.specs.Line.{failure_line, other_line, wrong_line}
 use Rattle.norprog_play.specs.declared.ending.Ending.{Ending}
 use Rattle.norprog_play.specs.declared.ending.Ending.TheVariants.{Done, Wrong, No, Unlike, Failed}
-
--- `wrong N at K`, and LF
-abbrev pub wrong_line : ℕ → ℕ → List ℕ
-wrong_line number step = closed (codes "wrong " ++ (decimal number ++ (codes " at " ++ decimal step)))
-
--- `failed at K WHY`, and LF
-abbrev pub failed_line : ℕ → List ℕ → List ℕ
-failed_line step why = closed (codes "failed at " ++ (decimal step ++ (codes " " ++ why)))
-
--- the address of a byte that is another, the chip's and the one that was wanted, behind and between these texts, and LF
-abbrev pub other_line : List ℕ → List ℕ → Difference → List ℕ
-other_line front last d =
-    front ++ (hex_number d.address ++ (codes " chip " ++ (hex_pair d.chip ++ (last ++ (hex_pair d.want ++ codes "\n")))))
 
 -- `unlike` and the word of an exchange, and LF
 abbrev pub exchange_line : Fault → List ℕ
@@ -56,15 +39,6 @@ unlike_line (unlike.Status status) = status_line status
 unlike_line (unlike.Registers status) = registers_line status
 unlike_line (unlike.Tables why) = mismatch_line (codes "unlike tables at ") (codes " file ") why
 unlike_line (unlike.Content why) = mismatch_line (codes "unlike differs at ") (codes " dump ") why
-
--- why a step isn't done; a device that stays busy is a poll that never ends
-abbrev pub failure_line : ℕ → Failure → List ℕ
-failure_line step (failure.Exchange why) = failed_line step (fault_word why)
-failure_line step failure.Busy = wrong_line (wrong_number PollNever) step
-failure_line step failure.Carried = failed_line step (codes "carried")
-failure_line step (failure.Differs d) = codes "failed at " ++ (decimal step ++ other_line (codes " differs at ") (codes " want ") d)
-failure_line step (failure.Gives chip want) =
-    codes "failed at " ++ (decimal step ++ (codes " differs chip " ++ (hex_pair chip ++ (codes " want " ++ (hex_pair want ++ codes "\n")))))
 
 -- `ok N`, and `blank` on a line before it where the content says nothing of which chip it is
 abbrev pub done_line : ℕ → Bool → List ℕ

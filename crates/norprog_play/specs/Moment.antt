@@ -9,8 +9,8 @@ use Rattle.nor_base.specs.Device.{Ahead, ahead_of}
 use Rattle.nor_base.specs.Port.{Shown, Transacts}
 use Rattle.nor_serprog.specs.declared.fault.Reason.{Reason}
 use Rattle.nor_serprog.specs.declared.limits.Limits.{Limits}
-use Rattle.norprog_play.specs.declared.ending.Failure.{Failure}
-use Rattle.norprog_play.specs.Failure.{FailsAs}
+use Rattle.norprog_failure.specs.declared.failure.Failure.{Failure}
+use Rattle.norprog_failure.specs.Reported.{FailsAs}
 use Rattle.nor_base.specs.Parameters.{Parameters}
 use Rattle.nor_serprog.specs.Follow.{Follows}
 use Rattle.nor_serprog.specs.Row.{AreAhead, CutsRow, IsRow}

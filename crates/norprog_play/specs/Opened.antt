@@ -38,11 +38,11 @@ pub record HasPlayed (limits : Limits) (turns : ℕ) (x : Expectation) (m : Para
   pub greets : GreetsSo before between (Ok limits)
   pub ends : EndsSo limits turns x m between steps ending after
 
--- the handshake ended early; or memory was refused after it
-abbrev pub StopsBefore : Moment → Moment → Unplayed → Type 0
-StopsBefore before after (Device why) = GreetsSo before after (Err why)
-StopsBefore before after (Refused (Build Memory)) = (limits : Limits) × GreetsSo before after (Ok limits)
-StopsBefore before after other = ⊥
+-- the handshake ended early; or the device reported these limits, and then memory was refused, with nothing done after the handshake
+abbrev pub StopsBefore : Limits → Moment → Moment → Unplayed → Type 0
+StopsBefore limits before after (Device why) = GreetsSo before after (Err why)
+StopsBefore limits before after (Refused (Build Memory)) = GreetsSo before after (Ok limits)
+StopsBefore limits before after other = ⊥
 
 -- the device was asked to drive the pins of the chip no more, whatever it answered
 pub record LetsGo (before after : Moment) : Type 0 where

@@ -1,13 +1,16 @@
 -- How a play on a chip behind a device ends (this project's). `Opened` says of the device that was named what it had yet to give, and
 -- what it had taken, as it was opened.
-use Rattle.std.specs.Prelude.{◌≡◌, ◌⊎◌, ℕ, Bool, List, Option, Err}
+use Rattle.std.specs.Prelude.{◌≡◌, ◌⊎◌, ℕ, Bool, List, [], ◌∷◌, Option, Result, Ok, Err}
 use Rattle.nor_base.specs.declared.meaning.Start.{Start}
 use Rattle.nor_base.specs.declared.step.Step.{Step}
 use Rattle.nor_base.specs.Parameters.{Parameters}
 use Rattle.norprog_device.specs.declared.fault.DeviceFault.{DeviceFault}
 use Rattle.nor_serprog.specs.declared.limits.Limits.{Limits}
-use Rattle.norprog_common.specs.declared.faults.FileName.{FileName}
+use Rattle.nor_job.specs.declared.fault.BuildFault.TheVariants.{Memory}
+use Rattle.norprog_common.specs.declared.faults.Refusal.TheVariants.{Build}
 use Rattle.norprog_common.specs.Files.{TellsFile}
+use Rattle.norprog_common.specs.FileStore.{FileFacts, Change, Opened as Opening}
+use Rattle.norprog_device.specs.Opened.{IsUntouched}
 use Rattle.norprog_play.specs.declared.ending.Ending.{Ending}
 use Rattle.norprog_play.specs.declared.unplayed.Unplayed.{Unplayed}
 use Rattle.norprog_play.specs.declared.unplayed.Unplayed.TheVariants.{Refused, Device}
@@ -23,36 +26,51 @@ pub record Stands (Opened : Option (List ℕ) → Option (List ℕ) → Type 0) 
   pub opened : Opened remaining contents
   pub is : now ≡ moment (chip_with m start content) contents remaining
 
--- the steps might be played, and so they ended on that device beside the chip in memory; then its pins were released
-pub record EndsOnDevice (Opened : Option (List ℕ) → Option (List ℕ) → Type 0) (limit : ℕ) (x : Expectation) (m : Parameters) (content : List ℕ)
+-- the steps might be played, and so they ended on that device beside the chip in memory; then its pins were released, and nothing more
+-- went to it. It was opened once, and nothing else was changed
+pub record EndsOnDevice (files : FileFacts) (name : List ℕ) (Made : List Change → Type 0) (limit : ℕ) (x : Expectation) (m : Parameters) (content : List ℕ)
     (steps : List Step) (ending : Ending) : Type 0 where
   pub may : MayPlay (chip_with m x.start content) steps
   pub before : Moment
   pub reached : Moment
   pub after : Moment
   pub limits : Limits
-  pub stands : Stands Opened m x.start content before
+  pub stands : Stands (files.device name) m x.start content before
   pub played : HasPlayed limits limit x m before steps ending reached
   pub released : Releases limits.pins reached after
+  pub left : files.left after.held
+  pub made : Made (Opening name ∷ [])
 
--- they ended so only in memory, or on that device
-abbrev pub Ends : (Option (List ℕ) → Option (List ℕ) → Type 0) → ℕ → Expectation → Parameters → List ℕ → List Step → Ending → Type 0
-Ends Opened limit x m content steps ending =
-    EndsInMemory (chip_with m x.start content) steps ending ⊎ EndsOnDevice Opened limit x m content steps ending
+-- they ended so only in memory, and no device was opened; or on that device
+abbrev pub Ends : FileFacts → List ℕ → (List Change → Type 0) → ℕ → Expectation → Parameters → List ℕ → List Step → Ending → Type 0
+Ends files name Made limit x m content steps ending =
+    (EndsInMemory (chip_with m x.start content) steps ending × Made []) ⊎ EndsOnDevice files name Made limit x m content steps ending
 
--- they might be played, but the handshake with that device ended so
-pub record EndsGreeting (Opened : Option (List ℕ) → Option (List ℕ) → Type 0) (m : Parameters) (start : Start) (content : List ℕ) (steps : List Step)
-    (why : DeviceFault) : Type 0 where
+-- they might be played, and the handshake with that device ended so; nothing went out after it, except that the pins were released
+-- where `pins` says that the device drives them. It was opened once, and nothing else was changed
+pub record HasGreeted (files : FileFacts) (name : List ℕ) (Made : List Change → Type 0) (m : Parameters) (start : Start) (content : List ℕ)
+    (steps : List Step) (greeting : Result Limits DeviceFault) (pins : Bool) : Type 0 where
   pub may : MayPlay (chip_with m start content) steps
   pub before : Moment
   pub reached : Moment
   pub after : Moment
-  pub stands : Stands Opened m start content before
-  pub greeted : GreetsSo before reached (Err why)
-  pub pins : Bool
+  pub stands : Stands (files.device name) m start content before
+  pub greeted : GreetsSo before reached greeting
   pub released : Releases pins reached after
+  pub left : files.left after.held
+  pub made : Made (Opening name ∷ [])
 
--- why they aren't played: that, or a device that can't be opened, or out of memory
-abbrev pub StopsPlay : (FileName → Type 0) → (Option (List ℕ) → Option (List ℕ) → Type 0) → Parameters → Start → List ℕ → List Step → Unplayed → Type 0
-StopsPlay Lacked Opened m start content steps (Device why) = EndsGreeting Opened m start content steps why
-StopsPlay Lacked Opened m start content steps (Refused why) = TellsFile Lacked why
+-- the handshake ended early
+abbrev pub EndsGreeting : FileFacts → List ℕ → (List Change → Type 0) → Parameters → Start → List ℕ → List Step → DeviceFault → Type 0
+EndsGreeting files name Made m start content steps why = (pins : Bool) × HasGreeted files name Made m start content steps (Err why) pins
+
+-- memory was refused after it
+abbrev pub EndsForMemory : FileFacts → List ℕ → (List Change → Type 0) → Parameters → Start → List ℕ → List Step → Type 0
+EndsForMemory files name Made m start content steps = (limits : Limits) × HasGreeted files name Made m start content steps (Ok limits) limits.pins
+
+-- why they aren't played: that; or a device that can't be opened, or memory was refused, and no device was opened, or it was left as
+-- it was opened
+abbrev pub StopsPlay : FileFacts → List ℕ → (List Change → Type 0) → Parameters → Start → List ℕ → List Step → Unplayed → Type 0
+StopsPlay files name Made m start content steps (Device why) = EndsGreeting files name Made m start content steps why
+StopsPlay files name Made m start content steps (Refused why) =
+    (TellsFile files.lacked why × IsUntouched files name Made why) ⊎ ((why ≡ Build Memory) × EndsForMemory files name Made m start content steps)

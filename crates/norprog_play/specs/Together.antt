@@ -10,8 +10,8 @@ use Rattle.nor_serprog.specs.declared.fault.Reason.{Reason}
 use Rattle.nor_serprog.specs.declared.limits.Limits.{Limits}
 use Rattle.nor_serprog.specs.Done.{IsDoable}
 use Rattle.nor_serprog.specs.Follow.{Follows}
-use Rattle.norprog_play.specs.declared.ending.Failure.{Failure}
-use Rattle.norprog_play.specs.Failure.{FailsAs}
+use Rattle.norprog_failure.specs.declared.failure.Failure.{Failure}
+use Rattle.norprog_failure.specs.Reported.{FailsAs}
 use Rattle.norprog_play.specs.Moment.{Moment}
 
 -- what comes back for a step is known before: nothing, a status, or the bytes that are expected

@@ -4,6 +4,8 @@ ghost use Rattle.std.specs.Prelude.{◌≡◌, ◌<◌, ◌≤◌, ◌-◌, ◌^
 ghost use Rattle.std.specs.Prelude.{MatchResult};
 ghost use Rattle.nor_base.specs.Chip.{IsPossible};
 ghost use Rattle.nor_base.specs.Run.{trail};
+ghost use Rattle.norprog_common.specs.FileStore.{Adds};
+ghost use Rattle.norprog_common.specs.Reading.{HasFailed};
 ghost use Rattle.norprog_play.specs.Answer.{IsEnding, IsUnplayed, RefusesToPlay, AnswersPlay};
 ghost use Rattle.norprog_play.specs.Early.{MayPlay, chip_with};
 ghost use Rattle.norprog_play.specs.Expected.{expectation_of};
@@ -33,6 +35,7 @@ use std::alloc::Global;
 pub fn play<S: FileStore, O: ByteOut, E: ByteOut, P: ByteOut>(
     alloc: Global,
     store: &S,
+    journal: &mut S::Journal,
     given: PlayArgs<'_>,
     out: &mut O,
     err: &mut E,
@@ -43,11 +46,12 @@ pub fn play<S: FileStore, O: ByteOut, E: ByteOut, P: ByteOut>(
     requires progress { P.count progress.old < 2 ^ 64 - 1 }
     ensures status { result ≤ 2 }
     ensures quiet { result ≡ 0 → err.new ≡ err.old }
-    ensures answer { AnswersPlay (S.facts store.now) given.entry (O.held out.old) (O.held out.new)
-        (err.new ≡ err.old)
+    ensures answer { AnswersPlay (S.facts store.now) (HasFailed S.Input.ahead S.Input.count)
+        given.entry (Adds (S.Journal.changes journal.old) (S.Journal.changes journal.new))
+        (O.held out.old) (O.held out.new) (err.new ≡ err.old)
         (E.count err.new ≡ E.count err.old) (E.held err.old) (E.held err.new) result }
 {
-    match ending_of(alloc, store, given, progress) {
+    match ending_of(alloc, store, journal, given, progress) {
         Ok(ending) => report_ending(&ending, out, err),
         Err(Unplayed::Refused(refusal)) => refuse(&refusal, err),
         Err(Unplayed::Device(fault)) => refuse_device(fault, err),
@@ -58,31 +62,41 @@ pub fn play<S: FileStore, O: ByteOut, E: ByteOut, P: ByteOut>(
 fn ending_of<S: FileStore, P: ByteOut>(
     alloc: Global,
     store: &S,
+    journal: &mut S::Journal,
     given: PlayArgs<'_>,
     progress: &mut P,
 ) -> Result<Ending, Unplayed>
     requires { P.count progress.old < 2 ^ 64 - 1 }
     ensures played { IfOk result
-        (IsEnding (S.facts store.now) (Serves (S.facts store.now) given.entry)) }
+        (IsEnding (S.facts store.now)
+        (Adds (S.Journal.changes journal.old) (S.Journal.changes journal.new))
+        (Serves (S.facts store.now) given.entry)) }
     ensures asked { IfOk result (λ _. is_well_formed given.entry ≡ true) }
-    ensures first { IfErr result (RefusesToPlay (S.facts store.now) given.entry) }
+    ensures first { IfErr result
+        (RefusesToPlay (S.facts store.now) (HasFailed S.Input.ahead S.Input.count)
+        (Adds (S.Journal.changes journal.old) (S.Journal.changes journal.new)) given.entry) }
 {
     let request = request_of(given).ok_or(Refusal::Usage)?;
-    play_request(alloc, store, request, progress)
+    play_request(alloc, store, journal, request, progress)
 }
 
 /// Opens the files of a request in their order, and plays.
 fn play_request<S: FileStore, P: ByteOut>(
     alloc: Global,
     store: &S,
+    journal: &mut S::Journal,
     request: PlayRequest<'_>,
     progress: &mut P,
 ) -> Result<Ending, Unplayed>
     requires { P.count progress.old < 2 ^ 64 - 1 }
     ensures played { IfOk result
-        (IsEnding (S.facts store.now) (IsTaskOf (S.facts store.now) request.entry)) }
+        (IsEnding (S.facts store.now)
+        (Adds (S.Journal.changes journal.old) (S.Journal.changes journal.new))
+        (IsTaskOf (S.facts store.now) request.entry)) }
     ensures refused { IfErr result
-        (IsUnplayed (S.facts store.now) (IsTaskOf (S.facts store.now) request.entry)) }
+        (IsUnplayed (S.facts store.now) (HasFailed S.Input.ahead S.Input.count)
+        (Adds (S.Journal.changes journal.old) (S.Journal.changes journal.new))
+        (IsTaskOf (S.facts store.now) request.entry)) }
 {
     let tables = tables_of(alloc, store, request.setup.chip)?;
     let (mut content, _place, len) = store.open(request.content, FileName::Content)?;
@@ -98,6 +112,7 @@ fn play_request<S: FileStore, P: ByteOut>(
     play_job(
         alloc,
         store,
+        journal,
         job,
         expected,
         request.device,
@@ -110,6 +125,7 @@ fn play_request<S: FileStore, P: ByteOut>(
 fn play_job<S: FileStore, P: ByteOut>(
     alloc: Global,
     store: &S,
+    journal: &mut S::Journal,
     job: Job,
     expected: Expected<'_>,
     device: &str,
@@ -120,9 +136,11 @@ fn play_job<S: FileStore, P: ByteOut>(
     requires mode { IsPossible job.meaning expected.start }
     requires progress { P.count progress.old < 2 ^ 64 - 1 }
     ensures { MatchResult result
-        (Ends ((S.facts store.now).device device.now) limit (expectation_of expected.entry)
-        job.meaning job.content.items job.steps.items)
-        (StopsPlay (S.facts store.now).lacked ((S.facts store.now).device device.now) job.meaning
+        (Ends (S.facts store.now) device.now
+        (Adds (S.Journal.changes journal.old) (S.Journal.changes journal.new)) limit
+        (expectation_of expected.entry) job.meaning job.content.items job.steps.items)
+        (StopsPlay (S.facts store.now) device.now
+        (Adds (S.Journal.changes journal.old) (S.Journal.changes journal.new)) job.meaning
         expected.entry.start job.content.items job.steps.items) }
 {
     let Job {
@@ -137,6 +155,7 @@ fn play_job<S: FileStore, P: ByteOut>(
         Early::Goes { transactions } => play_known(
             alloc,
             store,
+            journal,
             &meaning,
             expected,
             content,
@@ -153,6 +172,7 @@ fn play_job<S: FileStore, P: ByteOut>(
 fn play_known<S: FileStore, P: ByteOut>(
     alloc: Global,
     store: &S,
+    journal: &mut S::Journal,
     meaning: &Meaning,
     expected: Expected<'_>,
     content: Vec<u8>,
@@ -170,12 +190,14 @@ fn play_known<S: FileStore, P: ByteOut>(
         (chip_with meaning.now expected.start content.items).chip steps.now) }
     requires progress { P.count progress.old < 2 ^ 64 - 1 }
     ensures { MatchResult result
-        (EndsOnDevice ((S.facts store.now).device device.now) limit (expectation_of expected.entry)
-        meaning.now content.items steps.now)
-        (StopsPlay (S.facts store.now).lacked ((S.facts store.now).device device.now) meaning.now
+        (EndsOnDevice (S.facts store.now) device.now
+        (Adds (S.Journal.changes journal.old) (S.Journal.changes journal.new)) limit
+        (expectation_of expected.entry) meaning.now content.items steps.now)
+        (StopsPlay (S.facts store.now) device.now
+        (Adds (S.Journal.changes journal.old) (S.Journal.changes journal.new)) meaning.now
         expected.entry.start content.items steps.now) }
 {
-    let (from, to) = open_port(alloc, store, device)?;
+    let (from, to) = open_port(alloc, store, journal, device)?;
     let chip = Chip::new(meaning, expected.start, content, Vec::new(alloc), false);
     let mut port = Shadowed::new(chip, from, to, widest(), limit);
     let ended = greet_and_play(
@@ -188,5 +210,6 @@ fn play_known<S: FileStore, P: ByteOut>(
         progress,
     );
     release_pins(&mut port);
+    store.close_device(port.to.inner);
     ended
 }

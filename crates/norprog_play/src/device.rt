@@ -9,7 +9,7 @@ ghost use Rattle.nor_base.specs.Step.{step_clocks};
 ghost use Rattle.nor_chip.specs.Ready.{ready_chip};
 ghost use Rattle.norprog_play.specs.Early.{GoesWellInMemory};
 ghost use Rattle.norprog_play.specs.Moment.{moment};
-ghost use Rattle.norprog_play.specs.Ending.{EndsComparing, EndsSo, MayBegin, SaysBlank, failure_by};
+ghost use Rattle.norprog_play.specs.Ending.{EndsComparing, EndsSo, MayBegin, SaysBlank};
 ghost use Rattle.norprog_play.specs.Expected.{expectation_of};
 ghost use Rattle.nor_cells.specs.Cells.{IsInCellOf};
 ghost use Rattle.nor_cells.specs.Marks.{IsMarked};
@@ -17,7 +17,7 @@ ghost use Rattle.nor_cells.specs.Wrap.{ShowsWrap};
 
 use crate::access::{Access, access_of};
 use crate::asked::begin;
-use crate::ending::{Ending, Failure};
+use crate::ending::Ending;
 use crate::expected::Expected;
 use crate::follow::{Halt, follow_steps};
 use crate::likeness::compare_unless_trusted;
@@ -25,8 +25,8 @@ use crate::step::widest;
 use crate::within::carried;
 use nor_base::{ByteOut, Meaning, Step};
 use nor_cells::{compared_cells, first_held, mark_wraps};
-use nor_probe::Mismatch;
 use nor_serprog::Shadowed;
+use norprog_failure::{Failure, failure_by};
 use std::alloc::{AllocError, Global};
 use std::io::{Read, Write};
 
@@ -151,15 +151,5 @@ fn says_blank(expected: Expected<'_>, content: &[u8]) -> bool
     match first_held(content) {
         Some(_) => false,
         None => true,
-    }
-}
-
-/// How a comparison that ended so is reported where it comes after the steps.
-fn failure_by(why: Mismatch) -> Failure
-    ensures { result ≡ failure_by why }
-{
-    match why {
-        Mismatch::Exchange(fault) => Failure::Exchange(fault),
-        Mismatch::Differs(difference) => Failure::Differs(difference),
     }
 }

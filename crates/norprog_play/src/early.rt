@@ -4,11 +4,12 @@ ghost use Rattle.std.specs.Prelude.{◌≡◌, ◌-◌, ◌^◌, false, length, 
 ghost use Rattle.nor_base.specs.Chip.{IsPossible};
 ghost use Rattle.norprog_play.specs.Early.{chip_with, EndsEarly};
 
-use crate::ending::{Ending, Failure};
+use crate::ending::Ending;
 use crate::rehearsal::{Rehearsal, rehearse};
 use crate::within::carried;
 use nor_base::{Meaning, Start, Step};
 use nor_serprog::Limits;
+use norprog_failure::Failure;
 use std::alloc::{AllocError, Global};
 
 /// The most that a request has room for: no device can do more bytes in one operation.

@@ -2,8 +2,9 @@
 
 use nor_base::Wrong;
 use nor_check::Why;
-use nor_probe::{Difference, Mismatch};
+use nor_probe::Mismatch;
 use nor_serprog::Fault;
+use norprog_failure::Failure;
 
 /// How a script ends on a device.
 #[derive(Clone, Copy, PartialEq, Eq, Drop)]
@@ -62,24 +63,4 @@ pub enum Unlike {
     Tables(Mismatch),
     /// A byte that it holds is another, or the reading of these stopped.
     Content(Mismatch),
-}
-
-/// Why a step isn't done.
-#[derive(Clone, Copy, PartialEq, Eq, Drop)]
-pub enum Failure {
-    /// Its exchange ended early.
-    Exchange(Fault),
-    /// The chip stays busy.
-    Busy,
-    /// It is no operation of the device.
-    Carried,
-    /// Of a step that reads the chip's bytes the first that is another.
-    Differs(Difference),
-    /// Of another step the first byte that is another.
-    Gives {
-        /// What came.
-        chip: u8,
-        /// What the chip in memory gave.
-        want: u8,
-    },
 }

@@ -9,17 +9,16 @@ ghost use Rattle.nor_base.specs.Step.{expected, step_clocks};
 ghost use Rattle.nor_progress.specs.Far.{HasRoom};
 ghost use Rattle.nor_serprog.specs.Row.{IsRow};
 ghost use Rattle.norprog_play.specs.Carried.{AreCarried};
-ghost use Rattle.norprog_play.specs.Failure.{FailsAs};
+ghost use Rattle.norprog_failure.specs.Reported.{FailsAs};
 ghost use Rattle.norprog_play.specs.Moment.{moment, Does, DoesAll, StopsAt, IsTaken};
 ghost use Rattle.norprog_play.specs.Together.{MayGoTogether, StopsAlone};
 
-use crate::ending::Failure;
-use crate::failure::failure_of;
 use crate::together::{expected, row_of, take_row};
 use nor_base::{ByteOut, Meaning, PortFault, Step, sampled};
 use nor_chip::Port;
 use nor_progress::Progress;
 use nor_serprog::{Reason, Shadowed, do_row};
+use norprog_failure::{Failure, failure_of};
 use std::io::{Read, Write};
 
 /// Why a device didn't go on, and at which step.

@@ -54,10 +54,9 @@ pub fn greet_and_play<R: Read + Drop, W: Write + Drop, P: ByteOut>(
         (moment port.old.chip (W.contents port.old.to.inner) (R.remaining port.old.from.inner))
         steps.now ending
         (moment port.new.chip (W.contents port.new.to.inner) (R.remaining port.new.from.inner)))
-        (λ why. StopsBefore (moment port.old.chip (W.contents port.old.to.inner)
-        (R.remaining port.old.from.inner))
-        (moment port.new.chip (W.contents port.new.to.inner) (R.remaining port.new.from.inner))
-        why) }
+        (StopsBefore port.new.limits
+        (moment port.old.chip (W.contents port.old.to.inner) (R.remaining port.old.from.inner))
+        (moment port.new.chip (W.contents port.new.to.inner) (R.remaining port.new.from.inner))) }
     ensures room { port.new.failed ≤ port.old.failed + 1 }
 {
     greet_and_test(port)?;

@@ -6,7 +6,8 @@ ghost use Rattle.nor_job.specs.Status.{start_of};
 ghost use Rattle.norprog_common.specs.Content.{CountsReader};
 ghost use Rattle.nor_script.specs.Stream.{HadText};
 ghost use Rattle.norprog_play.specs.Job.{IsSized, IsReady, RefusesSize, RefusesScript, RefusesJob};
-ghost use Rattle.norprog_play.specs.Job.{IsOfChip, IsEarly};
+ghost use Rattle.norprog_common.specs.Reading.{GivesSome};
+ghost use Rattle.norprog_play.specs.Job.{CountsScript, IsOfChip, IsEarly};
 
 use crate::script::read_steps;
 use nor_base::{ByteIn, Meaning, Start, Step};
@@ -47,7 +48,9 @@ pub fn job_of<A: ByteIn, R: ByteIn>(
         (R.ahead content.old) (R.ahead content.new)) }
     ensures unread { IfErr result (λ why. (IsOfChip why → script.new ≡ script.old)
         × (IsEarly why → content.new ≡ content.old)) }
-    ensures count { CountsReader (R.count content.old) (R.count content.new) result }
+    ensures counts { CountsReader (R.count content.old) (R.count content.new) result
+        × CountsScript (A.count script.old) (A.count script.new) result
+        × GivesSome (A.ahead script.old) (A.ahead script.new) }
 {
     let (meaning, start) = sized_chip(inputs, len)?;
     let steps = steps_of(alloc, script)?;
@@ -67,6 +70,8 @@ fn steps_of<A: ByteIn>(alloc: Global, script: &mut A) -> Result<Vec<Step>, Refus
         (λ steps. HadText (A.ahead script.old) (A.ahead script.new)
         (λ text. IsScript text steps.items)) }
     ensures refused { IfErr result (RefusesScript (A.ahead script.old) (A.ahead script.new)) }
+    ensures gave { GivesSome (A.ahead script.old) (A.ahead script.new) }
+    ensures count { CountsScript (A.count script.old) (A.count script.new) result }
 {
     match read_steps(alloc, script) {
         Ok(steps) => Ok(steps),

@@ -2,14 +2,13 @@
 
 ghost use Rattle.std.specs.Prelude.{◌≡◌, ◌<◌, ◌-◌, ◌^◌};
 ghost use Rattle.nor_base.specs.Device.{Writes, Counts};
-ghost use Rattle.norprog_play.specs.declared.ending.Failure.TheVariants.{Differs, Gives};
-ghost use Rattle.norprog_play.specs.Line.{done_line, ending_line, failed_line, failure_line};
-ghost use Rattle.norprog_play.specs.Line.{exchange_line, mismatch_line, other_line, registers_line};
-ghost use Rattle.norprog_play.specs.Line.{status_line, unlike_line, wrong_line};
+ghost use Rattle.norprog_failure.specs.Line.{other_line};
+ghost use Rattle.norprog_play.specs.Line.{done_line, ending_line, exchange_line, mismatch_line};
+ghost use Rattle.norprog_play.specs.Line.{registers_line, status_line, unlike_line};
 
-use crate::ending::{Ending, Failure, Unlike};
+use crate::ending::{Ending, Unlike};
 use itoa::Buffer;
-use nor_base::{ByteOut, Failed, Wrong, put_all, put_parts};
+use nor_base::{ByteOut, Failed, put_all, put_parts};
 use nor_check::Verdict;
 use nor_probe::{Difference, Mismatch};
 use nor_script::{hex_number, hex_pair};
@@ -17,6 +16,7 @@ use nor_serprog::Fault;
 use norprog_check::write_verdict;
 use norprog_common::wrong_number;
 use norprog_device::word;
+use norprog_failure::{write_failure, write_wrong};
 
 /// Writes the line of an ending (docs/FORMATS.md, section 14), closed by LF, with counts in
 /// decimal, addresses in eight and bytes in two lower-case hexadecimal digits. It takes no memory.
@@ -153,107 +153,6 @@ fn write_difference<W: ByteOut>(
             &hex_pair(d.chip),
             last,
             &hex_pair(d.want),
-            b"\n",
-        ],
-    )
-}
-
-/// Writes why a step isn't done.
-fn write_failure<W: ByteOut>(step: u64, why: Failure, writer: &mut W) -> Result<(), Failed>
-    requires { W.count writer.old < 2 ^ 64 - 1 }
-    ensures bytes { Writes (W.held writer.old) (W.held writer.new) result (failure_line step why) }
-    ensures count { Counts (W.count writer.old) (W.count writer.new) result }
-{
-    match why {
-        Failure::Exchange(fault) => write_failed(step, word(fault), writer),
-        Failure::Busy => write_wrong(wrong_number(Wrong::PollNever), step, writer),
-        Failure::Carried => write_failed(step, b"carried", writer),
-        Failure::Differs(d) => write_other(step, d, writer),
-        Failure::Gives { chip, want } => write_gives(step, chip, want, writer),
-    }
-}
-
-/// Writes `failed at K differs at AAAAAAAA chip HH want HH`.
-fn write_other<W: ByteOut>(step: u64, d: Difference, writer: &mut W) -> Result<(), Failed>
-    requires { W.count writer.old < 2 ^ 64 - 1 }
-    ensures bytes { Writes (W.held writer.old) (W.held writer.new) result
-        (failure_line step (Differs d)) }
-    ensures count { Counts (W.count writer.old) (W.count writer.new) result }
-{
-    let mut place = Buffer::new();
-    put_parts(
-        writer,
-        &[
-            b"failed at ",
-            place.format(step).as_bytes(),
-            b" differs at ",
-            &hex_number(d.address),
-            b" chip ",
-            &hex_pair(d.chip),
-            b" want ",
-            &hex_pair(d.want),
-            b"\n",
-        ],
-    )
-}
-
-/// Writes `failed at K differs chip HH want HH`.
-fn write_gives<W: ByteOut>(step: u64, chip: u8, want: u8, writer: &mut W) -> Result<(), Failed>
-    requires { W.count writer.old < 2 ^ 64 - 1 }
-    ensures bytes { Writes (W.held writer.old) (W.held writer.new) result
-        (failure_line step (Gives chip want)) }
-    ensures count { Counts (W.count writer.old) (W.count writer.new) result }
-{
-    let mut place = Buffer::new();
-    put_parts(
-        writer,
-        &[
-            b"failed at ",
-            place.format(step).as_bytes(),
-            b" differs chip ",
-            &hex_pair(chip),
-            b" want ",
-            &hex_pair(want),
-            b"\n",
-        ],
-    )
-}
-
-/// Writes `wrong N at K`.
-fn write_wrong<W: ByteOut>(number: u8, step: u64, writer: &mut W) -> Result<(), Failed>
-    requires { W.count writer.old < 2 ^ 64 - 1 }
-    ensures bytes { Writes (W.held writer.old) (W.held writer.new) result (wrong_line number step) }
-    ensures count { Counts (W.count writer.old) (W.count writer.new) result }
-{
-    let mut digits = Buffer::new();
-    let mut place = Buffer::new();
-    put_parts(
-        writer,
-        &[
-            b"wrong ",
-            digits.format(number).as_bytes(),
-            b" at ",
-            place.format(step).as_bytes(),
-            b"\n",
-        ],
-    )
-}
-
-/// Writes `failed at K WHY`.
-fn write_failed<W: ByteOut>(step: u64, why: &[u8], writer: &mut W) -> Result<(), Failed>
-    requires { W.count writer.old < 2 ^ 64 - 1 }
-    ensures bytes { Writes (W.held writer.old) (W.held writer.new) result
-        (failed_line step why.now) }
-    ensures count { Counts (W.count writer.old) (W.count writer.new) result }
-{
-    let mut place = Buffer::new();
-    put_parts(
-        writer,
-        &[
-            b"failed at ",
-            place.format(step).as_bytes(),
-            b" ",
-            why,
             b"\n",
         ],
     )

@@ -4,6 +4,7 @@ ghost use Rattle.std.specs.Prelude.{◌≡◌, ◌<◌, ◌-◌, ◌^◌, [], �
 ghost use Rattle.nor_base.specs.Script.{IsScript};
 ghost use Rattle.nor_script.specs.Stream.{CountsRead, HadText, StopsReader};
 ghost use Rattle.nor_script.specs.View.{step_of};
+ghost use Rattle.norprog_common.specs.Reading.{GivesSome};
 ghost use Rattle.nor_script.specs.declared.fault.ScriptFault.TheVariants.{Memory};
 
 use nor_base::{ByteIn, Bytes, Step};
@@ -20,6 +21,7 @@ pub(crate) fn read_steps<A: ByteIn>(alloc: Global, script: &mut A) -> Result<Vec
         (λ steps. HadText (A.ahead script.old) (A.ahead script.new)
         (λ text. IsScript text steps.items)) }
     ensures stopped { IfErr result (StopsReader (A.ahead script.old) (A.ahead script.new)) }
+    ensures gave { GivesSome (A.ahead script.old) (A.ahead script.new) }
     ensures count { CountsRead (A.count script.old) (A.count script.new) result }
 {
     let mut steps = Vec::new(alloc);

@@ -9,10 +9,11 @@ ghost use Rattle.norprog_common.specs.Lines.{printed};
 ghost use Rattle.norprog_play.specs.State.{is_partial, is_sent, state_told, status_of};
 ghost use Rattle.norprog_play.specs.State.{ReportsEnding};
 
-use crate::ending::{Ending, Failure};
+use crate::ending::Ending;
 use crate::line::write_ending;
 use nor_base::{ByteOut, Failed, put_all};
 use norprog_common::{Refusal, refuse};
+use norprog_failure::Failure;
 
 /// What is written where the chip may hold a part of what the steps do.
 const STATE: &[u8] =

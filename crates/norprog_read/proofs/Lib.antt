@@ -5,3 +5,4 @@ mod HarmlessLemmas
 mod ServedLemmas
 mod LineLemmas
 mod OpenedLemmas
+mod MadeLemmas

@@ -11,9 +11,6 @@ use Rattle.norprog_read.specs.declared.asked.Known.TheVariants as known
 use Rattle.norprog_read.specs.declared.asked.Reading.{Reading}
 use Rattle.norprog_read.specs.declared.fault.Unread.{Unread}
 use Rattle.norprog_read.specs.declared.fault.Unread.TheVariants.{Refused, Device, Unlike}
-use Rattle.nor_job.specs.declared.fault.BuildFault.TheVariants.{Write}
-use Rattle.norprog_common.specs.declared.faults.FileName.{FileName}
-use Rattle.norprog_common.specs.declared.faults.Refusal.TheVariants.{File, Build}
 use Rattle.norprog_device.specs.declared.fault.DeviceFault.{DeviceFault}
 use Rattle.norprog_device.specs.declared.fault.DeviceFault.TheVariants.{Greet, Line}
 use Rattle.norprog_device.specs.Opened.{LetsGo}
@@ -92,44 +89,3 @@ tested_stops h i j a b c limits ask (Ok reading) tested stops = tt
 tested_stops h i j a b c limits ask (Err (Device why)) tested stops = absurd (no_device i j b c ask why stops)
 tested_stops h i j a b c limits ask (Err (Refused why)) tested stops = record { held = i; ahead = b; tested = tested; stops = stops }
 tested_stops h i j a b c limits ask (Err (Unlike why)) tested stops = record { held = i; ahead = b; tested = tested; stops = stops }
-
--- nor by a file of the command line, nor by an output
-no_refusal_of_file : (ask : Ask) (by : Known) (name : FileName) → RefusesFile ask by (Refused (File name)) → ⊥
-no_refusal_of_file ask known.Own name p = p
-no_refusal_of_file ask (known.Tables file) name p = p
-no_refusal_of_file ask (known.Uniform size) name p = p
-
-no_tables_of_file : (h i : Option (List ℕ)) (a b : Ahead) (by : Known) (name : FileName) → StopsAsked h i a b by (Refused (File name)) → ⊥
-no_tables_of_file h i a b known.Own name p = p
-no_tables_of_file h i a b (known.Tables file) name (inl p) = p
-no_tables_of_file h i a b (known.Tables file) name (inr p) = p.2
-no_tables_of_file h i a b (known.Uniform size) name p = p
-
-pub never_file : (h i : Option (List ℕ)) (a b : Ahead) (ask : Ask) (name : FileName) → StopsChip h i a b ask (Refused (File name)) → ⊥
-never_file h i a b ask name (inl (inl p)) = no_refusal_of_file ask ask.known name p.2
-never_file h i a b ask name (inl (inr p)) = p
-never_file h i a b ask name (inr (inl p)) = p.stop
-never_file h i a b ask name (inr (inr (inl p))) = no_tables_of_file p.held i p.ahead b ask.known name p.stop
-never_file h i a b ask name (inr (inr (inr (inl p)))) = p.refused
-never_file h i a b ask name (inr (inr (inr (inr (inl p))))) = p.stop
-never_file h i a b ask name (inr (inr (inr (inr (inr p))))) = elim p.stop [ inl stop ↦ stop | inr other ↦ other ]
-
-no_refusal_of_write : (ask : Ask) (by : Known) → RefusesFile ask by (Refused (Build Write)) → ⊥
-no_refusal_of_write ask known.Own p = p
-no_refusal_of_write ask (known.Tables file) p = p
-no_refusal_of_write ask (known.Uniform size) p = p
-
-no_tables_of_write : (h i : Option (List ℕ)) (a b : Ahead) (by : Known) → StopsAsked h i a b by (Refused (Build Write)) → ⊥
-no_tables_of_write h i a b known.Own p = p
-no_tables_of_write h i a b (known.Tables file) (inl p) = p
-no_tables_of_write h i a b (known.Tables file) (inr p) = p.2
-no_tables_of_write h i a b (known.Uniform size) p = p
-
-pub never_write : (h i : Option (List ℕ)) (a b : Ahead) (ask : Ask) → StopsChip h i a b ask (Refused (Build Write)) → ⊥
-never_write h i a b ask (inl (inl p)) = no_refusal_of_write ask ask.known p.2
-never_write h i a b ask (inl (inr p)) = p
-never_write h i a b ask (inr (inl p)) = p.stop
-never_write h i a b ask (inr (inr (inl p))) = no_tables_of_write p.held i p.ahead b ask.known p.stop
-never_write h i a b ask (inr (inr (inr (inl p)))) = p.refused
-never_write h i a b ask (inr (inr (inr (inr (inl p))))) = p.stop
-never_write h i a b ask (inr (inr (inr (inr (inr p))))) = elim p.stop [ inl stop ↦ stop | inr other ↦ other ]

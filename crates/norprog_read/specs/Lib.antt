@@ -3,6 +3,7 @@ pub mod Content
 pub mod Chip
 pub mod Stops
 pub mod Saved
+pub mod Made
 pub mod Opened
 pub mod Line
 pub mod Request

@@ -1,13 +1,13 @@
 -- A chip that was read, or wasn't, from the handshake on (this project's).
-use Rattle.std.specs.Prelude.{◌⊎◌, ℕ, List, Option, Ok, Err}
+use Rattle.std.specs.Prelude.{◌⊎◌, ℕ, List, [], ◌∷◌, Option, Ok, Err}
 use Rattle.nor_base.specs.Device.{Ahead, ahead_of}
 use Rattle.nor_serprog.specs.declared.limits.Limits.{Limits}
 use Rattle.nor_serprog.specs.Greeting.{Greeted}
 use Rattle.nor_serprog.specs.Line.{TestsLine}
-use Rattle.norprog_common.specs.declared.faults.FileName.{FileName}
 use Rattle.norprog_common.specs.Files.{TellsFile}
+use Rattle.norprog_common.specs.FileStore.{FileFacts, Change, Opened as Opening}
 use Rattle.norprog_device.specs.declared.fault.DeviceFault.TheVariants.{Greet, Line}
-use Rattle.norprog_device.specs.Opened.{LetsGo}
+use Rattle.norprog_device.specs.Opened.{IsUntouched, LetsGo}
 use Rattle.norprog_read.specs.declared.asked.Ask.{Ask}
 use Rattle.norprog_read.specs.declared.asked.Reading.{Reading}
 use Rattle.norprog_read.specs.declared.fault.Unread.{Unread}
@@ -69,25 +69,35 @@ StopsOpened held_before held_after ahead_before ahead_after ask (Device (Greet w
 StopsOpened held_before held_after ahead_before ahead_after ask why =
     StopsGreeted held_before held_after ahead_before ahead_after ask why
 
--- the device that was named was opened, had this yet to give, and had taken that; and the chip behind it was read so
-pub record IsReadOn (Opened : Option (List ℕ) → Option (List ℕ) → Type 0) (ask : Ask) (r : Reading) : Type 0 where
+-- the device that was named was opened, had this yet to give, and had taken that; the chip behind it was read so, and nothing was sent
+-- after that
+pub record IsReadOn (Opened : Option (List ℕ) → Option (List ℕ) → Type 0) (Left : Option (List ℕ) → Type 0) (ask : Ask) (r : Reading)
+    : Type 0 where
   pub remaining : Option (List ℕ)
   pub contents : Option (List ℕ)
   pub opened : Opened remaining contents
   pub held : Option (List ℕ)
   pub ahead : Ahead
   pub read : HasReadOpened contents held (ahead_of remaining) ahead ask r
+  pub left : Left held
 
 -- or that stopped so
-pub record StopsOnDevice (Opened : Option (List ℕ) → Option (List ℕ) → Type 0) (ask : Ask) (why : Unread) : Type 0 where
+pub record StopsOnDevice (Opened : Option (List ℕ) → Option (List ℕ) → Type 0) (Left : Option (List ℕ) → Type 0) (ask : Ask) (why : Unread)
+    : Type 0 where
   pub remaining : Option (List ℕ)
   pub contents : Option (List ℕ)
   pub opened : Opened remaining contents
   pub held : Option (List ℕ)
   pub ahead : Ahead
   pub stops : StopsOpened contents held (ahead_of remaining) ahead ask why
+  pub left : Left held
 
--- why the chip behind that device isn't read: it couldn't be opened, or that stopped so
-abbrev pub IsUnreadOn : (FileName → Type 0) → (Option (List ℕ) → Option (List ℕ) → Type 0) → Ask → Unread → Type 0
-IsUnreadOn Lacked Opened ask (Refused why) = TellsFile Lacked why ⊎ StopsOnDevice Opened ask (Refused why)
-IsUnreadOn Lacked Opened ask why = StopsOnDevice Opened ask why
+-- the device of this name was opened, and that stopped so
+abbrev pub StopsNamed : FileFacts → List ℕ → (List Change → Type 0) → Ask → Unread → Type 0
+StopsNamed files device Made ask why = Made (Opening device ∷ []) × StopsOnDevice (files.device device) files.left ask why
+
+-- why the chip behind it isn't read: it couldn't be opened, or memory ran out before anything was sent; or that
+abbrev pub IsUnreadOn : FileFacts → List ℕ → (List Change → Type 0) → Ask → Unread → Type 0
+IsUnreadOn files device Made ask (Refused why) =
+    (TellsFile files.lacked why × IsUntouched files device Made why) ⊎ StopsNamed files device Made ask (Refused why)
+IsUnreadOn files device Made ask why = StopsNamed files device Made ask why

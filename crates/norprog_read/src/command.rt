@@ -1,11 +1,14 @@
 //! `read`: from the texts of the command line to the lines of a chip that was read.
 
-ghost use Rattle.std.specs.Prelude.{◌≡◌, ◌≤◌, ◌<◌, ◌-◌, ◌^◌, true, option_map, IfOk, IfErr};
+ghost use Rattle.std.specs.Prelude.{◌≡◌, ◌≤◌, ◌<◌, ◌-◌, ◌^◌, ◌∷◌, [], ◌++◌, true, option_map};
+ghost use Rattle.std.specs.Prelude.{IfOk, IfErr, MatchResult};
 ghost use Rattle.norprog_common.specs.Chip.{origin_of};
 ghost use Rattle.norprog_common.specs.Files.{TellsFile};
+ghost use Rattle.norprog_common.specs.FileStore.{Adds, Opened};
 ghost use Rattle.norprog_read.specs.Answer.{AnswersRead, AreSavedIf, IsKept, IsUnread};
 ghost use Rattle.norprog_read.specs.Answer.{PrintsReading, Reports};
 ghost use Rattle.norprog_read.specs.Line.{reading_text, unlike_line};
+ghost use Rattle.norprog_read.specs.Made.{creates, MakesFirst};
 ghost use Rattle.norprog_read.specs.Opened.{IsReadOn, IsUnreadOn};
 ghost use Rattle.norprog_read.specs.Request.{is_well_formed};
 ghost use Rattle.norprog_read.specs.Saved.{FailsToSave};
@@ -24,10 +27,12 @@ use std::alloc::Global;
 
 /// Does what the texts of a command line of `read` ask for: the lines go to `out`, a refusal to
 /// `err` (docs/FORMATS.md, sections 9 and 14). Outputs are made only where no file of that name is
-/// there, after all came twice alike. Returns the status: 0 read, 1 not so or refused, 2 usage.
+/// there, after all came twice alike and the device was closed. Returns the status: 0 read, 1 not
+/// so or refused, 2 usage.
 pub fn read<S: FileStore, O: ByteOut, E: ByteOut>(
     alloc: Global,
     store: &S,
+    journal: &mut S::Journal,
     given: ReadArgs<'_>,
     out: &mut O,
     err: &mut E,
@@ -36,13 +41,15 @@ pub fn read<S: FileStore, O: ByteOut, E: ByteOut>(
     requires err { E.count err.old < 2 ^ 64 - 1 }
     ensures status { result ≤ 2 }
     ensures quiet { result ≡ 0 → err.new ≡ err.old }
-    ensures done { result ≡ 0 → PrintsReading (S.facts store.now) given.entry (O.held out.old)
-        (O.held out.new) }
-    ensures answer { AnswersRead (S.facts store.now) given.entry (O.held out.old) (O.held out.new)
-        (err.new ≡ err.old)
+    ensures done { result ≡ 0 → PrintsReading (S.facts store.now) given.entry
+        (Adds (S.Journal.changes journal.old) (S.Journal.changes journal.new))
+        (O.held out.old) (O.held out.new) }
+    ensures answer { AnswersRead (S.facts store.now) given.entry
+        (Adds (S.Journal.changes journal.old) (S.Journal.changes journal.new))
+        (O.held out.old) (O.held out.new) (err.new ≡ err.old)
         (E.count err.new ≡ E.count err.old) (E.held err.old) (E.held err.new) result }
 {
-    match read_texts(alloc, store, given) {
+    match read_texts(alloc, store, journal, given) {
         Ok(reading) => report_reading(&reading, out, err),
         Err(Unread::Unlike(why)) => report_unlike(why, out, err),
         Err(Unread::Device(fault)) => refuse_device(fault, err),
@@ -83,17 +90,20 @@ fn report_unlike<O: ByteOut, E: ByteOut>(why: Unlike, out: &mut O, err: &mut E) 
 fn read_texts<S: FileStore>(
     alloc: Global,
     store: &S,
+    journal: &mut S::Journal,
     given: ReadArgs<'_>,
 ) -> Result<Reading, Unread>
-    ensures kept { IfOk result (IsKept (S.facts store.now) given.entry) }
+    ensures kept { IfOk result (IsKept (S.facts store.now) given.entry
+        (Adds (S.Journal.changes journal.old) (S.Journal.changes journal.new))) }
     ensures asked { IfOk result (λ _. is_well_formed given.entry ≡ true) }
-    ensures unread { IfErr result (IsUnread (S.facts store.now) given.entry) }
+    ensures unread { IfErr result (IsUnread (S.facts store.now) given.entry
+        (Adds (S.Journal.changes journal.old) (S.Journal.changes journal.new))) }
 {
     let request = request_of(given).ok_or(Refusal::Usage)?;
     let file = file_of(alloc, store, request.chip)?;
     let ask = ask_of(request, file.as_slice());
-    let reading = read_device(alloc, store, request.device, &ask)?;
-    save_all(alloc, store, request, &reading)?;
+    let reading = read_device(alloc, store, journal, request.device, &ask)?;
+    save_all(alloc, store, journal, request, &reading)?;
     Ok(reading)
 }
 
@@ -115,27 +125,34 @@ pub fn file_of<S: FileStore>(
     }
 }
 
-/// Reads the chip behind the device of this name.
+/// Reads the chip behind the device of this name, and closes the device.
 fn read_device<S: FileStore>(
     alloc: Global,
     store: &S,
+    journal: &mut S::Journal,
     device: &str,
     ask: &Ask<'_>,
 ) -> Result<Reading, Unread>
-    ensures read { IfOk result (IsReadOn ((S.facts store.now).device device.now) ask.now) }
-    ensures unread { IfErr result
-        (IsUnreadOn (S.facts store.now).lacked ((S.facts store.now).device device.now) ask.now) }
+    ensures read { IfOk result (IsReadOn ((S.facts store.now).device device.now)
+        (S.facts store.now).left ask.now) }
+    ensures opened { IfOk result (λ _. Adds (S.Journal.changes journal.old)
+        (S.Journal.changes journal.new) (Opened device.now ∷ [])) }
+    ensures unread { IfErr result (IsUnreadOn (S.facts store.now) device.now
+        (Adds (S.Journal.changes journal.old) (S.Journal.changes journal.new)) ask.now) }
 {
-    let (from, to) = open_port(alloc, store, device)?;
+    let (from, to) = open_port(alloc, store, journal, device)?;
     let mut from = FromRead::new(from);
     let mut to = IntoWrite::new(to);
-    read_opened(alloc, &mut from, &mut to, ask)
+    let read = read_opened(alloc, &mut from, &mut to, ask);
+    store.close_device(to.into_inner());
+    read
 }
 
 /// Makes the outputs that are named.
 fn save_all<S: FileStore>(
     alloc: Global,
     store: &S,
+    journal: &mut S::Journal,
     request: ReadRequest<'_>,
     reading: &Reading,
 ) -> Result<(), Refusal>
@@ -145,25 +162,48 @@ fn save_all<S: FileStore>(
     ensures content { IfOk result
         (λ _. AreSavedIf (S.facts store.now) (option_map (λ t. t.now) request.entry.out)
         reading.now.content.items) }
+    ensures journal { MatchResult result
+        (λ _. Adds (S.Journal.changes journal.old) (S.Journal.changes journal.new)
+        (creates (option_map (λ t. t.now) request.entry.tables)
+        ++ creates (option_map (λ t. t.now) request.entry.out)))
+        (λ _. MakesFirst (creates (option_map (λ t. t.now) request.entry.tables)
+        ++ creates (option_map (λ t. t.now) request.entry.out))
+        (Adds (S.Journal.changes journal.old) (S.Journal.changes journal.new))) }
     ensures fails { IfErr result (FailsToSave (S.facts store.now).lacked) }
 {
-    if let Some(path) = request.tables {
-        save(
-            alloc,
-            store,
-            path,
-            FileName::Tables,
-            reading.tables.as_slice(),
-        )?;
+    let tables = reading.tables.as_slice();
+    save_if(
+        alloc,
+        store,
+        journal,
+        request.tables,
+        FileName::Tables,
+        tables,
+    )?;
+    let content = reading.content.as_slice();
+    save_if(alloc, store, journal, request.out, FileName::Out, content)
+}
+
+/// Makes an output, where one is named.
+fn save_if<S: FileStore>(
+    alloc: Global,
+    store: &S,
+    journal: &mut S::Journal,
+    path: Option<&str>,
+    name: FileName,
+    bytes: &[u8],
+) -> Result<(), Refusal>
+    ensures saved { IfOk result
+        (λ _. AreSavedIf (S.facts store.now) (option_map (λ t. t.now) path.entry) bytes.now) }
+    ensures journal { MatchResult result
+        (λ _. Adds (S.Journal.changes journal.old) (S.Journal.changes journal.new)
+        (creates (option_map (λ t. t.now) path.entry)))
+        (λ _. MakesFirst (creates (option_map (λ t. t.now) path.entry))
+        (Adds (S.Journal.changes journal.old) (S.Journal.changes journal.new))) }
+    ensures fails { IfErr result (FailsToSave (S.facts store.now).lacked) }
+{
+    match path {
+        Some(path) => save(alloc, store, journal, path, name, bytes),
+        None => Ok(()),
     }
-    if let Some(path) = request.out {
-        save(
-            alloc,
-            store,
-            path,
-            FileName::Out,
-            reading.content.as_slice(),
-        )?;
-    }
-    Ok(())
 }

@@ -1,6 +1,6 @@
 -- The play that a request has is the one that its texts ask for.
-use Rattle.std.proofs.Common.{◌≡◌, Bor, option_map, refl, sym, subst, inl, inr, List, [], ◌∷◌, ◌++◌, ℕ, None, Some, true, Option, Result, Ok, Err, IfOk, IfErr}
-use Rattle.std.specs.Prelude.{⊤}
+use Rattle.std.proofs.Common.{◌≡◌, ◌⊎◌, ◌+◌, Bor, ap, arith, option_map, refl, sym, subst, inl, inr, List, [], ◌∷◌, ◌++◌, ℕ, None, Some, true, Option, Result, Ok, Err, IfOk, IfErr}
+use Rattle.std.specs.Prelude.{⊤, MatchResult}
 use Rattle.nor_base.specs.Device.{Ahead}
 use Rattle.nor_job.specs.Task.{Task}
 use Rattle.nor_job.specs.declared.fault.BuildFault.TheVariants as fault
@@ -13,20 +13,23 @@ use Rattle.norprog_common.specs.declared.faults.Refusal.TheVariants.{Text, Usage
 use Rattle.norprog_common.specs.Chip.{origin_of}
 use Rattle.norprog_common.specs.Files.{TellsFile}
 use Rattle.norprog_common.specs.Setup.{setup_task}
-use Rattle.norprog_common.specs.FileStore.{FileFacts, AreTables, GoesOut, IsMadeApart, IsTextIn, Named, Notes, WhereNamed, tables_file}
+use Rattle.norprog_common.specs.FileStore.{FileFacts, Change, Emptied, Adds, Tries, MakesNamed, MayMake, AreTables, GoesOut, IsMadeApart, IsTextIn, Named, Notes, WhereNamed, tables_file}
 use Rattle.norprog_common.proofs.StoreLemmas.{made_apart, more_noted, one_noted}
+use Rattle.norprog_common.proofs.JournalLemmas.{adds_none, may_make, output_made}
+use Rattle.norprog_common.specs.Content.{CountsReader, of_reader}
+use Rattle.norprog_common.specs.Reading.{FailsReading, HasFailed}
 use Rattle.norprog_common.specs.Told.{RefusesFor, OrScript}
-use Rattle.norprog_common.proofs.ToldLemmas.{asked_wider, by_fault, by_files, refuses_wider, or_usage}
+use Rattle.norprog_common.proofs.ToldLemmas.{by_fault, by_files, refuses_wider, or_usage}
 use Rattle.norprog_run.specs.declared.request.ChipBehaviour.{ChipBehaviour}
 use Rattle.norprog_common.specs.declared.given.RunArgs.{RunArgs}
 use Rattle.norprog_run.specs.declared.request.RunRequest.{RunRequest}
 use Rattle.norprog_run.specs.declared.verdict.Verdict.{Verdict}
-use Rattle.norprog_run.specs.Answer.{WasPlayedSo, IsPlayVerdict, IsStopOf, IsPlayFault, RefusesRun, RefusesToRun}
+use Rattle.norprog_run.specs.Answer.{WasPlayedSo, IsPlayVerdict, BlamesContent, IsStopOf, IsPlayFault, RefusesRun, RefusesToRun}
 use Rattle.norprog_run.specs.Play.{WasPlayed}
-use Rattle.norprog_run.specs.Refusals.{RefusesPlay}
+use Rattle.norprog_run.specs.Refusals.{RefusesPaged, RefusesPlay}
 use Rattle.norprog_run.specs.Request.{is_well_formed, AsksFor, RefusesGiven}
-use Rattle.norprog_run.specs.Streams.{PlaysStreams, RefusesStreams}
-use Rattle.norprog_run.specs.Served.{PlayTask, play_with, Is, IsMadeFor, IsTaskOf, input_files_of, input_files_asked, Serves, ServesScript}
+use Rattle.norprog_run.specs.Streams.{CountsScript, PlaysStreams, RefusesStreams}
+use Rattle.norprog_run.specs.Served.{PlayTask, play_with, Is, IsMadeFor, IsTaskOf, input_files_of, input_files_asked, FailsScriptOf, MakesFor, MayMakeFor, Serves, ServesScript}
 
 -- the files of a request are those that the texts name
 same_inputs : (given : RunArgs) (request : RunRequest) → AsksFor given request → input_files_of request ≡ input_files_asked given (origin_of request.setup.chip)
@@ -63,12 +66,28 @@ verdict_wider Asked Other P Q Sent verdict tasks texts of = record {
   has = record { before = of.has.before; after = of.has.after; out = of.has.out; played = played_wider P Q _ _ _ _ _ _ verdict texts of.has.played };
 }
 
-refusal_wider : (Lacked : FileName → Type 0) (Asked Other : PlayTask → Type 0) (P Q : List ℕ → Type 0) → ((t : PlayTask) → Asked t → Other t) → ((text : List ℕ) → P text → Q text)
-    → (why : Refusal) → RefusesRun Lacked Asked P why → RefusesRun Lacked Other Q why
-refusal_wider Lacked Asked Other P Q tasks texts why =
-    refuses_wider Lacked Lacked (IsPlayFault Asked) (IsPlayFault Other) ((verdict : Verdict) × IsPlayVerdict Asked P (λ held. ⊤) verdict)
+on_wider : (P Q : List ℕ → Type 0) (F : Ahead → Type 0) (why : Refusal) (t : PlayTask) → ((text : List ℕ) → P text → Q text) → IsStopOf P F why t → IsStopOf Q F why t
+on_wider P Q F why t texts (inl chip) = inl chip
+on_wider P Q F why t texts (inr on) = inr (record {
+  text = on.text;
+  script = texts on.text on.script;
+  after = on.after;
+  held_before = on.held_before;
+  held_after = on.held_after;
+  refused = on.refused;
+  blamed = on.blamed;
+})
+
+stop_wider : (Asked Other : PlayTask → Type 0) (P Q : List ℕ → Type 0) (F : Ahead → Type 0) → ((t : PlayTask) → Asked t → Other t) → ((text : List ℕ) → P text → Q text)
+    → (why : Refusal) → IsPlayFault Asked P F why → IsPlayFault Other Q F why
+stop_wider Asked Other P Q F tasks texts why of = record { it = of.it; asked = tasks of.it of.asked; has = on_wider P Q F why of.it texts of.has }
+
+refusal_wider : (L M : FileName → Type 0) (Asked Other : PlayTask → Type 0) (P Q : List ℕ → Type 0) (F : Ahead → Type 0) → ((name : FileName) → L name → M name)
+    → ((t : PlayTask) → Asked t → Other t) → ((text : List ℕ) → P text → Q text) → (why : Refusal) → RefusesRun L Asked P F why → RefusesRun M Other Q F why
+refusal_wider L M Asked Other P Q F files tasks texts why =
+    refuses_wider L M (IsPlayFault Asked P F) (IsPlayFault Other Q F) ((verdict : Verdict) × IsPlayVerdict Asked P (λ held. ⊤) verdict)
     ((verdict : Verdict) × IsPlayVerdict Other Q (λ held. ⊤) verdict)
-    (λ name lacks. lacks) (λ why of. asked_wider PlayTask Asked Other (IsStopOf why) tasks of)
+    files (stop_wider Asked Other P Q F tasks texts)
     (λ late. (late.0, verdict_wider Asked Other P Q (λ held. ⊤) late.0 tasks texts late.1)) why
 
 pub verdicts_wider : (Asked Other : PlayTask → Type 0) (P Q : List ℕ → Type 0) (Sent : Option (List ℕ) → Type 0) → ((t : PlayTask) → Asked t → Other t)
@@ -76,10 +95,10 @@ pub verdicts_wider : (Asked Other : PlayTask → Type 0) (P Q : List ℕ → Typ
 verdicts_wider Asked Other P Q Sent tasks texts (Ok verdict) of = verdict_wider Asked Other P Q Sent verdict tasks texts of
 verdicts_wider Asked Other P Q Sent tasks texts (Err why) of = tt
 
-pub refusals_wider : (Lacked : FileName → Type 0) (Asked Other : PlayTask → Type 0) (P Q : List ℕ → Type 0) → ((t : PlayTask) → Asked t → Other t)
-    → ((text : List ℕ) → P text → Q text) → (r : Result Verdict Refusal) → IfErr r (RefusesRun Lacked Asked P) → IfErr r (RefusesRun Lacked Other Q)
-refusals_wider Lacked Asked Other P Q tasks texts (Ok verdict) of = tt
-refusals_wider Lacked Asked Other P Q tasks texts (Err why) of = refusal_wider Lacked Asked Other P Q tasks texts why of
+pub refusals_wider : (L M : FileName → Type 0) (Asked Other : PlayTask → Type 0) (P Q : List ℕ → Type 0) (F : Ahead → Type 0) → ((name : FileName) → L name → M name)
+    → ((t : PlayTask) → Asked t → Other t) → ((text : List ℕ) → P text → Q text) → (r : Result Verdict Refusal) → IfErr r (RefusesRun L Asked P F) → IfErr r (RefusesRun M Other Q F)
+refusals_wider L M Asked Other P Q F files tasks texts (Ok verdict) of = tt
+refusals_wider L M Asked Other P Q F files tasks texts (Err why) of = refusal_wider L M Asked Other P Q F files tasks texts why of
 
 module _ (files : FileFacts) (given : RunArgs) (request : RunRequest) (asks : AsksFor given request) where
   verdict_asked : (Sent : Option (List ℕ) → Type 0) (verdict : Verdict) → IsPlayVerdict (IsTaskOf files request) (IsTextIn files request.script.now) Sent verdict
@@ -87,9 +106,15 @@ module _ (files : FileFacts) (given : RunArgs) (request : RunRequest) (asks : As
   verdict_asked Sent verdict = verdict_wider (IsTaskOf files request) (Serves files given) (IsTextIn files request.script.now) (ServesScript files given) Sent verdict
       (serves files given request asks) (serves_script files given request asks)
 
-  refusal_asked : (why : Refusal) → RefusesRun (OrScript files.lacked) (IsTaskOf files request) (IsTextIn files request.script.now) why
-      → RefusesRun (OrScript files.lacked) (Serves files given) (ServesScript files given) why
-  refusal_asked = refusal_wider (OrScript files.lacked) (IsTaskOf files request) (Serves files given) (IsTextIn files request.script.now) (ServesScript files given)
+  refusal_asked : (F : Ahead → Type 0) (why : Refusal)
+      → RefusesRun (OrScript files.lacked (FailsReading files F request.script.now)) (IsTaskOf files request) (IsTextIn files request.script.now) F why
+      → RefusesRun (OrScript files.lacked (FailsScriptOf files F given)) (Serves files given) (ServesScript files given) F why
+  refusal_asked F = refusal_wider (OrScript files.lacked (FailsReading files F request.script.now)) (OrScript files.lacked (FailsScriptOf files F given))
+      (IsTaskOf files request) (Serves files given) (IsTextIn files request.script.now) (ServesScript files given) F
+      (λ name lacks. elim lacks [
+        | inl lacked ↦ inl lacked
+        | inr failed ↦ inr (failed.0, subst (λ s. Named (FailsReading files F) (option_map (λ t. t.now) s)) (sym asks.beside.script) failed.1)
+      ])
       (serves files given request asks) (serves_script files given request asks)
 
   -- the same of whichever came
@@ -99,10 +124,28 @@ module _ (files : FileFacts) (given : RunArgs) (request : RunRequest) (asks : As
   verdicts_asked Sent (Ok verdict) of = verdict_asked Sent verdict of
   verdicts_asked Sent (Err why) of = tt
 
-  pub refusals_asked : (r : Result Verdict Refusal) → is_well_formed given ≡ true → IfErr r (RefusesRun (OrScript files.lacked) (IsTaskOf files request) (IsTextIn files request.script.now))
-      → IfErr r (RefusesToRun files given)
-  refusals_asked (Ok verdict) formed of = tt
-  refusals_asked (Err why) formed of = inl (or_usage _ _ why formed (refusal_asked why of))
+  pub refusals_asked : (F : Ahead → Type 0) (r : Result Verdict Refusal) → is_well_formed given ≡ true
+      → IfErr r (RefusesRun (OrScript files.lacked (FailsReading files F request.script.now)) (IsTaskOf files request) (IsTextIn files request.script.now) F)
+      → IfErr r (RefusesToRun files F given)
+  refusals_asked F (Ok verdict) formed of = tt
+  refusals_asked F (Err why) formed of = inl (or_usage _ _ why formed (refusal_asked F why of))
+
+  -- the output that was made is the one that they ask for
+  makes_asked : (Made : List Change → Type 0) → MakesNamed files (input_files_of request) (option_map (λ t. t.now) request.out) Made → MakesFor files given Made
+  makes_asked Made of = (
+    request.setup,
+    asks.beside.setup,
+    subst (λ inputs. MakesNamed files inputs (option_map (λ t. t.now) given.out) Made) (same_inputs given request asks)
+        (subst (λ s. MakesNamed files (input_files_of request) (option_map (λ t. t.now) s) Made) asks.beside.out of),
+  )
+
+  pub made_asked : (Made : List Change → Type 0) (r : Result Verdict Refusal)
+      → MatchResult r (λ _. MakesNamed files (input_files_of request) (option_map (λ t. t.now) request.out) Made)
+      (λ _. MayMake files (input_files_of request) (option_map (λ t. t.now) request.out) Made)
+      → MatchResult r (λ _. MakesFor files given Made) (λ _. MayMakeFor files given Made)
+  made_asked Made (Ok verdict) of = makes_asked Made of
+  made_asked Made (Err why) (inl none) = inl none
+  made_asked Made (Err why) (inr one) = inr (makes_asked Made one)
 
 -- what the player answered
 
@@ -112,40 +155,84 @@ module _ (t : Task) (bench : ChipBehaviour) (len : ℕ) (before after : Ahead) (
   of_play text (Ok verdict) played = record { text = text; script = refl; rest = after; played = played }
   of_play text (Err why) played = tt
 
-  stopped : (begun : Option (Option (List ℕ))) (text : List ℕ) (why : Refusal) → RefusesPlay t bench text len before after held held' why
-      → RefusesFor (λ told. told ≡ file.Script) (IsPlayFault (Is (play_with t bench before len begun))) ⊥ why
-  stopped begun text why refused = by_fault (λ told. told ≡ file.Script) (IsPlayFault (Is (play_with t bench before len begun))) ⊥ why (record {
-    it = play_with t bench before len begun;
+  -- of a script that is read twice
+  pub of_streams : (first first' again again' : Ahead) (r : Result Verdict Refusal) → IfOk r (PlaysStreams t bench first first' again again' len before after held held')
+      → IfOk r (WasPlayedSo (λ text. (rest : Ahead) × IsTextOf again rest text) t bench before len held held')
+  of_streams first first' again again' (Ok verdict) p = record { text = p.1.0; script = (again', p.1.1); rest = after; played = p.1.2 }
+  of_streams first first' again again' (Err why) p = tt
+
+module _ {R : Type 0} (ahead : R → Ahead) (count : R → ℕ) (content rest : R) (t : Task) (bench : ChipBehaviour) (len : ℕ) (held held' : Option (List ℕ))
+    (begun : Option (Option (List ℕ))) (Spoken : List ℕ → Type 0) (Lacked : FileName → Type 0) where
+  abbrev Told : Refusal → Type 0
+  Told = RefusesFor Lacked (IsPlayFault (Is (play_with t bench (ahead content) len begun)) Spoken (HasFailed ahead count)) ⊥
+
+  -- the content's reader is blamed where it failed
+  blamed : (text : List ℕ) (why : Refusal) → RefusesPlay t bench text len (ahead content) (ahead rest) held held' why → count rest ≡ count content + of_reader why
+      → BlamesContent (HasFailed ahead count (ahead content)) why
+  blamed text (Build fault.Read) refused counts = let one : count rest ≡ count content + 1 = counts in record { reader = rest; gave = (refused.1.0, refused.1.2); failed = omega (arith, one) }
+  blamed text other refused counts = tt
+
+  stopped : (text : List ℕ) (why : Refusal) → Spoken text → RefusesPlay t bench text len (ahead content) (ahead rest) held held' why
+      → count rest ≡ count content + of_reader why → Told why
+  stopped text why is refused counts = by_fault Lacked (IsPlayFault (Is (play_with t bench (ahead content) len begun)) Spoken (HasFailed ahead count)) ⊥ why (record {
+    it = play_with t bench (ahead content) len begun;
     asked = refl;
-    has = record { text = text; after = after; held_before = held; held_after = held'; refused = refused };
+    has = inr (record {
+      text = text;
+      script = is;
+      after = ahead rest;
+      held_before = held;
+      held_after = held';
+      refused = refused;
+      blamed = blamed text why refused counts;
+    });
   })
 
-  pub of_stop : (begun : Option (Option (List ℕ))) (text : List ℕ) (r : Result Verdict Refusal) → IfErr r (RefusesPlay t bench text len before after held held')
-      → IfErr r (RefusesFor (λ told. told ≡ file.Script) (IsPlayFault (Is (play_with t bench before len begun))) ⊥)
-  of_stop begun text (Ok verdict) refused = tt
-  of_stop begun text (Err why) refused = stopped begun text why refused
+  chipless : (why : Refusal) → RefusesPaged t bench.page len why → Told why
+  chipless why refused = by_fault Lacked (IsPlayFault (Is (play_with t bench (ahead content) len begun)) Spoken (HasFailed ahead count)) ⊥ why (record {
+    it = play_with t bench (ahead content) len begun;
+    asked = refl;
+    has = inl refused;
+  })
+
+  pub of_stop : (text : List ℕ) (r : Result Verdict Refusal) → Spoken text → IfErr r (RefusesPlay t bench text len (ahead content) (ahead rest) held held')
+      → CountsReader (count content) (count rest) r → IfErr r Told
+  of_stop text (Ok verdict) is refused counts = tt
+  of_stop text (Err why) is refused counts = stopped text why is refused counts
 
   -- of a script that is read twice
-  module _ (first first' again again' : Ahead) where
-    pub of_streams : (r : Result Verdict Refusal) → IfOk r (PlaysStreams t bench first first' again again' len before after held held')
-        → IfOk r (WasPlayedSo (λ text. (rest : Ahead) × IsTextOf again rest text) t bench before len held held')
-    of_streams (Ok verdict) p = record { text = p.1.0; script = (again', p.1.1); rest = after; played = p.1.2 }
-    of_streams (Err why) p = tt
+  module _ {F : Type 0} (ahead_of : F → Ahead) (count_of : F → ℕ) (first first' again again' : F) (Untouched : Type 0) (untouched : Untouched → again' ≡ again)
+      (wide : (text : List ℕ) → IsTextOf (ahead_of first) (ahead_of first') text ⊎ IsTextOf (ahead_of again) (ahead_of again') text → Spoken text)
+      (lacks : HasFailed ahead_of count_of (ahead_of first) ⊎ HasFailed ahead_of count_of (ahead_of again) → Lacked file.Script) where
+    abbrev Why : Refusal → Type 0
+    Why = RefusesStreams t bench (ahead_of first) (ahead_of first') (ahead_of again) (ahead_of again') len (ahead content) (ahead rest) held held' Untouched
 
-    streams_stop : (begun : Option (Option (List ℕ))) (Untouched : Type 0) (why : Refusal)
-        → RefusesStreams t bench first first' again again' len before after held held' Untouched why → RefusesFor (λ told. told ≡ file.Script) (IsPlayFault (Is (play_with t bench before len begun))) ⊥ why
-    streams_stop begun Untouched (Script why) p = elim p [ inl q ↦ stopped begun q.0.0 (Script why) q.0.2 | inr q ↦ stopped begun q.2.0 (Script why) q.2.2 ]
-    streams_stop begun Untouched (Build fault.ContentShort) p = stopped begun p.0 (Build fault.ContentShort) p.2
-    streams_stop begun Untouched (Build fault.Read) p = stopped begun p.0 (Build fault.Read) p.2
-    streams_stop begun Untouched (Build fault.Write) p = stopped begun p.1.0 (Build fault.Write) p.1.2
-    streams_stop begun Untouched (Build fault.Memory) p = tt
-    streams_stop begun Untouched (File file.Script) p = inl refl
-    streams_stop begun Untouched other p = stopped begun [] other p
+    -- one of its readers failed
+    lost : Why (File file.Script) → CountsScript {T = Verdict} (count_of first) (count_of first') (count_of again) (count_of again') (Err (File file.Script))
+        → HasFailed ahead_of count_of (ahead_of first) ⊎ HasFailed ahead_of count_of (ahead_of again)
+    lost p (inl c) = let one : count_of first' ≡ count_of first + 1 = c.0 in inl (record { reader = first'; gave = p.1; failed = omega (arith, one) })
+    lost p (inr c) =
+        let one : count_of again' ≡ count_of again + 1 = c.1 in
+        elim p.2 [
+          | inl same ↦ let kept = ap count_of (untouched same) in absurd (omega (arith, one, kept))
+          | inr q ↦ inr (record { reader = again'; gave = q.2; failed = omega (arith, one) })
+        ]
 
-    pub of_streams_stop : (begun : Option (Option (List ℕ))) (Untouched : Type 0) (r : Result Verdict Refusal)
-        → IfErr r (RefusesStreams t bench first first' again again' len before after held held' Untouched) → IfErr r (RefusesFor (λ told. told ≡ file.Script) (IsPlayFault (Is (play_with t bench before len begun))) ⊥)
-    of_streams_stop begun Untouched (Ok verdict) p = tt
-    of_streams_stop begun Untouched (Err why) p = streams_stop begun Untouched why p
+    streams_stop : (why : Refusal) → Why why → count rest ≡ count content + of_reader why
+        → CountsScript {T = Verdict} (count_of first) (count_of first') (count_of again) (count_of again') (Err why) → Told why
+    streams_stop (Script why) p counts script =
+        elim p [ inl q ↦ stopped q.0.0 (Script why) (wide q.0.0 (inl q.0.1)) q.0.2 counts | inr q ↦ stopped q.2.0 (Script why) (wide q.2.0 (inr q.2.1)) q.2.2 counts ]
+    streams_stop (Build fault.ContentShort) p counts script = stopped p.0 (Build fault.ContentShort) (wide p.0 (inl p.1)) p.2 counts
+    streams_stop (Build fault.Read) p counts script = stopped p.0 (Build fault.Read) (wide p.0 (inl p.1)) p.2 counts
+    streams_stop (Build fault.Write) p counts script = stopped p.1.0 (Build fault.Write) (wide p.1.0 (inr p.1.1)) p.1.2 counts
+    streams_stop (Build fault.Memory) p counts script = tt
+    streams_stop (File file.Script) p counts script = inl (lacks (lost p script))
+    streams_stop other p counts script = chipless other p
+
+    pub of_streams_stop : (r : Result Verdict Refusal) → IfErr r Why → CountsReader (count content) (count rest) r
+        → CountsScript (count_of first) (count_of first') (count_of again) (count_of again') r → IfErr r Told
+    of_streams_stop (Ok verdict) p counts script = tt
+    of_streams_stop (Err why) p counts script = streams_stop why p counts script
 
 -- what was played of the files that a request names
 
@@ -163,17 +250,39 @@ pub made_for : (files : FileFacts) (request : RunRequest) (path : List ℕ) (pla
 made_for files request path places chip bench tables content len is same gave opened made t of =
     subst (IsTaskOf files request) (sym of.is) (asked_of files request chip bench tables content len (Some of.held) is same gave opened (made of.held of.made))
 
--- the output that is asked for was made as none of the files that were noted: the tables', the content's and the script's
-pub made_beside : (files : FileFacts) (request : RunRequest) (path : Bor (List ℕ)) (none tables noted places inputs : List FileId) (content script : FileId)
-    (held : Option (List ℕ)) → request.out ≡ Some path → none ≡ [] → Notes files (tables_file (origin_of request.setup.chip)) none tables
-    → files.stood request.content.now content → noted ≡ tables ++ content ∷ [] → files.stood request.script.now script → places ≡ noted ++ script ∷ []
-    → inputs ≡ places → files.made path.now inputs held → WhereNamed (IsMadeApart files (input_files_of request)) (option_map (λ t. t.now) request.out) (Some held)
-made_beside files request path none tables noted places inputs content script held asked first of_chip of_content pushed of_script last same made =
+-- the files that a request names were noted: the tables', the content's and the script's
+pub all_noted : (files : FileFacts) (request : RunRequest) (none tables noted places : List FileId) (content script : FileId)
+    → Notes files (tables_file (origin_of request.setup.chip)) none tables → files.stood request.content.now content → noted ≡ tables ++ content ∷ []
+    → files.stood request.script.now script → places ≡ noted ++ script ∷ [] → Notes files (input_files_of request) none places
+all_noted files request none tables noted places content script of_chip of_content pushed of_script last =
     let chip = tables_file (origin_of request.setup.chip) in
     let two = more_noted files chip (request.content.now ∷ []) none tables noted of_chip (one_noted files request.content.now content tables noted of_content pushed) in
-    let all = more_noted files (chip ++ request.content.now ∷ []) (request.script.now ∷ []) none noted places two
-    (one_noted files request.script.now script noted places of_script last) in
+    more_noted files (chip ++ request.content.now ∷ []) (request.script.now ∷ []) none noted places two
+    (one_noted files request.script.now script noted places of_script last)
+
+-- the output that is asked for was made as none of them
+pub made_beside : (files : FileFacts) (request : RunRequest) (path : Bor (List ℕ)) (none places inputs : List FileId) (held : Option (List ℕ)) → request.out ≡ Some path → none ≡ []
+    → Notes files (input_files_of request) none places → inputs ≡ places → files.made path.now inputs held
+    → WhereNamed (IsMadeApart files (input_files_of request)) (option_map (λ t. t.now) request.out) (Some held)
+made_beside files request path none places inputs held asked first all same made =
     rw asked (made_apart files (input_files_of request) path.now none places inputs held first all same made)
+
+-- and nothing else was changed
+pub named_made : (files : FileFacts) (request : RunRequest) (path : Bor (List ℕ)) (none places inputs : List FileId) (before after : Option (List Change)) (r : Result Verdict Refusal)
+    → request.out ≡ Some path → none ≡ [] → Notes files (input_files_of request) none places → inputs ≡ places → Tries before after (Emptied path.now inputs) r
+    → MatchResult r (λ _. MakesNamed files (input_files_of request) (option_map (λ t. t.now) request.out) (Adds before after))
+    (λ _. MayMake files (input_files_of request) (option_map (λ t. t.now) request.out) (Adds before after))
+named_made files request path none places inputs before after (Ok verdict) asked first all same made =
+    rw asked (output_made files (input_files_of request) path.now none places inputs (Adds before after) first all same made)
+named_made files request path none places inputs before after (Err why) asked first all same made =
+    rw asked (may_make {T = Verdict} files (input_files_of request) path.now none places inputs before after (Err why) first all same made)
+
+-- where no output is named nothing was
+pub none_made : (files : FileFacts) (request : RunRequest) (before after : Option (List Change)) (r : Result Verdict Refusal) → request.out ≡ None → after ≡ before
+    → MatchResult r (λ _. MakesNamed files (input_files_of request) (option_map (λ t. t.now) request.out) (Adds before after))
+    (λ _. MayMake files (input_files_of request) (option_map (λ t. t.now) request.out) (Adds before after))
+none_made files request before after (Ok verdict) asked same = rw asked (adds_none before after same)
+none_made files request before after (Err why) asked same = inl (adds_none before after same)
 
 module _ (Asked : PlayTask → Type 0) (P Q : List ℕ → Type 0) (chip : Task) (bench : ChipBehaviour) (content : Ahead) (len : ℕ) (begun : Option (Option (List ℕ)))
     (asked : Asked (play_with chip bench content len begun)) (texts : (text : List ℕ) → P text → Q text) (before after : Option (List ℕ)) where
@@ -190,21 +299,22 @@ module _ (Asked : PlayTask → Type 0) (P Q : List ℕ → Type 0) (chip : Task)
   all_played Sent (Ok verdict) out of = one_played Sent verdict out of
   all_played Sent (Err why) out of = tt
 
-pub one_refused : (Lacked : FileName → Type 0) (Asked : PlayTask → Type 0) (Spoken : List ℕ → Type 0) (t : PlayTask) (asked : Asked t) (why : Refusal) → RefusesFor (λ told. told ≡ file.Script) (IsPlayFault (Is t)) ⊥ why
-    → RefusesRun (OrScript Lacked) Asked Spoken why
-one_refused Lacked Asked Spoken t asked why =
-    refuses_wider (λ told. told ≡ file.Script) (OrScript Lacked) (IsPlayFault (Is t)) (IsPlayFault Asked) ⊥ ((verdict : Verdict) × IsPlayVerdict Asked Spoken (λ held. ⊤) verdict)
-    (λ name is. inr is) (λ why of. asked_wider PlayTask (Is t) Asked (IsStopOf why) (λ u same. subst Asked (sym same) asked) of) (λ none. absurd none) why
+pub one_refused : (L M : FileName → Type 0) (Asked : PlayTask → Type 0) (P Q : List ℕ → Type 0) (F : Ahead → Type 0) (t : PlayTask) (asked : Asked t) → ((name : FileName) → L name → M name)
+    → ((text : List ℕ) → P text → Q text) → (why : Refusal) → RefusesFor L (IsPlayFault (Is t) P F) ⊥ why → RefusesRun M Asked Q F why
+one_refused L M Asked P Q F t asked files texts why =
+    refuses_wider L M (IsPlayFault (Is t) P F) (IsPlayFault Asked Q F) ⊥ ((verdict : Verdict) × IsPlayVerdict Asked Q (λ held. ⊤) verdict)
+    files (stop_wider (Is t) Asked P Q F (λ u same. subst Asked (sym same) asked) texts) (λ none. absurd none) why
 
 -- a file that couldn't be used
-pub lacked_refused : (Lacked : FileName → Type 0) (Asked : PlayTask → Type 0) (Spoken : List ℕ → Type 0) (why : Refusal) → TellsFile Lacked why → RefusesRun (OrScript Lacked) Asked Spoken why
-lacked_refused Lacked Asked Spoken why =
-    by_files Lacked (OrScript Lacked) (IsPlayFault Asked) ((verdict : Verdict) × IsPlayVerdict Asked Spoken (λ held. ⊤) verdict) why (λ name is. inl is)
+pub lacked_refused : (Lacked : FileName → Type 0) (Lost : Type 0) (Asked : PlayTask → Type 0) (Spoken : List ℕ → Type 0) (F : Ahead → Type 0) (why : Refusal) → TellsFile Lacked why
+    → RefusesRun (OrScript Lacked Lost) Asked Spoken F why
+lacked_refused Lacked Lost Asked Spoken F why =
+    by_files Lacked (OrScript Lacked Lost) (IsPlayFault Asked Spoken F) ((verdict : Verdict) × IsPlayVerdict Asked Spoken (λ held. ⊤) verdict) why (λ name is. inl is)
 
-pub all_refused : (Lacked : FileName → Type 0) (Asked : PlayTask → Type 0) (Spoken : List ℕ → Type 0) (t : PlayTask) (asked : Asked t) (r : Result Verdict Refusal)
-    → IfErr r (RefusesFor (λ told. told ≡ file.Script) (IsPlayFault (Is t)) ⊥) → IfErr r (RefusesRun (OrScript Lacked) Asked Spoken)
-all_refused Lacked Asked Spoken t asked (Ok verdict) of = tt
-all_refused Lacked Asked Spoken t asked (Err why) of = one_refused Lacked Asked Spoken t asked why of
+pub all_refused : (L M : FileName → Type 0) (Asked : PlayTask → Type 0) (P Q : List ℕ → Type 0) (F : Ahead → Type 0) (t : PlayTask) (asked : Asked t) → ((name : FileName) → L name → M name)
+    → ((text : List ℕ) → P text → Q text) → (r : Result Verdict Refusal) → IfErr r (RefusesFor L (IsPlayFault (Is t) P F) ⊥) → IfErr r (RefusesRun M Asked Q F)
+all_refused L M Asked P Q F t asked files texts (Ok verdict) of = tt
+all_refused L M Asked P Q F t asked files texts (Err why) of = one_refused L M Asked P Q F t asked files texts why of
 
 -- where only the verdict's line, or what the chip holds, didn't go out, the play was one that was asked for
 goes : (Sent : Option (List ℕ) → Type 0) (begun : Option (Option (List ℕ))) (before after : Option (List ℕ)) → GoesOut Sent begun before after
@@ -212,10 +322,10 @@ goes : (Sent : Option (List ℕ) → Type 0) (begun : Option (Option (List ℕ))
 goes Sent (Some held) before after out = (out.0, tt)
 goes Sent None before after out = tt
 
-pub late_refused : (files : FileFacts) (given : RunArgs) (verdict : Verdict) → is_well_formed given ≡ true
+pub late_refused : (files : FileFacts) (Failed : Ahead → Type 0) (given : RunArgs) (verdict : Verdict) → is_well_formed given ≡ true
     → IsPlayVerdict (Serves files given) (ServesScript files given) files.flushed verdict
-    → RefusesToRun files given (Build fault.Write)
-late_refused files given verdict formed of = inl (or_usage _ _ _ formed (inr (
+    → RefusesToRun files Failed given (Build fault.Write)
+late_refused files Failed given verdict formed of = inl (or_usage _ _ _ formed (inr (
   verdict,
   record {
     it = of.it;
@@ -225,26 +335,26 @@ late_refused files given verdict formed of = inl (or_usage _ _ _ formed (inr (
 )))
 
 -- texts that ask for nothing, and want of memory
-pub given_refused : (files : FileFacts) (given : RunArgs) (why : Refusal) → RefusesGiven given why
-    → RefusesToRun files given why
-given_refused files given Usage refused = inl (rw refused refl)
-given_refused files given (Build fault.Memory) refused = inr refl
-given_refused files given (Build (fault.Contradiction number)) refused = absurd refused
-given_refused files given (Build (fault.Hex why)) refused = absurd refused
-given_refused files given (Build (fault.Layout why)) refused = absurd refused
-given_refused files given (Build (fault.Sfdp why)) refused = absurd refused
-given_refused files given (Build (fault.Status number)) refused = absurd refused
-given_refused files given (Build fault.ModeImpossible) refused = absurd refused
-given_refused files given (Build fault.ContentSize) refused = absurd refused
-given_refused files given (Build (fault.Plan why)) refused = absurd refused
-given_refused files given (Build fault.ContentShort) refused = absurd refused
-given_refused files given (Build fault.Read) refused = absurd refused
-given_refused files given (Build fault.Write) refused = absurd refused
-given_refused files given (Text words) refused = absurd refused
-given_refused files given (File name) refused = absurd refused
-given_refused files given Page refused = absurd refused
-given_refused files given (Script why) refused = absurd refused
-given_refused files given BinSize refused = absurd refused
-given_refused files given (Steps number) refused = absurd refused
-given_refused files given (EmptyRegion index) refused = absurd refused
-given_refused files given (Log line) refused = absurd refused
+pub given_refused : (files : FileFacts) (Failed : Ahead → Type 0) (given : RunArgs) (why : Refusal) → RefusesGiven given why
+    → RefusesToRun files Failed given why
+given_refused files Failed given Usage refused = inl (rw refused refl)
+given_refused files Failed given (Build fault.Memory) refused = inr refl
+given_refused files Failed given (Build (fault.Contradiction number)) refused = absurd refused
+given_refused files Failed given (Build (fault.Hex why)) refused = absurd refused
+given_refused files Failed given (Build (fault.Layout why)) refused = absurd refused
+given_refused files Failed given (Build (fault.Sfdp why)) refused = absurd refused
+given_refused files Failed given (Build (fault.Status number)) refused = absurd refused
+given_refused files Failed given (Build fault.ModeImpossible) refused = absurd refused
+given_refused files Failed given (Build fault.ContentSize) refused = absurd refused
+given_refused files Failed given (Build (fault.Plan why)) refused = absurd refused
+given_refused files Failed given (Build fault.ContentShort) refused = absurd refused
+given_refused files Failed given (Build fault.Read) refused = absurd refused
+given_refused files Failed given (Build fault.Write) refused = absurd refused
+given_refused files Failed given (Text words) refused = absurd refused
+given_refused files Failed given (File name) refused = absurd refused
+given_refused files Failed given Page refused = absurd refused
+given_refused files Failed given (Script why) refused = absurd refused
+given_refused files Failed given BinSize refused = absurd refused
+given_refused files Failed given (Steps number) refused = absurd refused
+given_refused files Failed given (EmptyRegion index) refused = absurd refused
+given_refused files Failed given (Log line) refused = absurd refused

@@ -21,6 +21,7 @@ use Rattle.norprog_run.specs.declared.verdict.Verdict.{Verdict}
 use Rattle.norprog_run.specs.Kind.{kind_setting}
 use Rattle.norprog_run.specs.Play.{page_of, IsSized, setting_of}
 use Rattle.norprog_common.specs.Content.{StopsReading}
+use Rattle.norprog_common.specs.Reading.{GivesSome}
 use Rattle.norprog_run.specs.Refusals.{RefusesPaged, RefusesPlay, IsEarly}
 use Rattle.norprog_run.specs.Streams.{PlaysText, RefusesScript, StopsText, PlaysStreams, RefusesStreams, IsOfChip, CountsScript, refusal_of}
 
@@ -35,12 +36,12 @@ kind_is t bench kind start page = rw (start, page) refl
 module _ (t : Task) (bench : ChipBehaviour) (kind : Kind) (len : ℕ) (sized : IsSized t bench.page len kind.meaning) (start : kind.start ≡ start_of t)
     (page : kind.page ≡ page_of bench.page kind.meaning) (first first' again again' before after : Ahead) (held held' : Option (List ℕ)) (Untouched : Type 0) where
   -- the first reading found no script
-  pub first_refused : (why : Refusal) → RefusesScript first first' why → Untouched
+  pub first_refused : (why : Refusal) → RefusesScript first first' why → GivesSome first first' → Untouched
       → RefusesStreams t bench first first' again again' len before after held held' Untouched why
-  first_refused (Script why) p same = inl (text_wider first first' _ _ (λ text is. ((kind.meaning, sized), is)) p, same)
-  first_refused (File file.Script) p same = ((kind.meaning, sized), inl same)
-  first_refused (Build fault.Memory) p same = (kind.meaning, sized)
-  first_refused other p same = absurd p
+  first_refused (Script why) p gave same = inl (text_wider first first' _ _ (λ text is. ((kind.meaning, sized), is)) p, same)
+  first_refused (File file.Script) p gave same = ((kind.meaning, sized), gave, inl same)
+  first_refused (Build fault.Memory) p gave same = (kind.meaning, sized)
+  first_refused other p gave same = absurd p
 
   module _ (looked : HadText first first' IsSpelled) where
     -- the content wasn't read
@@ -51,13 +52,13 @@ module _ (t : Task) (bench : ChipBehaviour) (kind : Kind) (len : ℕ) (sized : I
     content_refused (Build fault.Memory) p = (kind.meaning, sized)
     content_refused other p = absurd p
 
-    module _ (content : List ℕ) (whole : length content ≡ len) (given : Gives before content after) where
+    module _ (gave : GivesSome first first') (content : List ℕ) (whole : length content ≡ len) (given : Gives before content after) where
       -- the second reading found no script, or the writer failed
       pub again_refused : (why : Refusal) → StopsText again again' (kind_setting kind bench) (ready (kind_setting kind bench) content) bench.limit held held' why
           → RefusesStreams t bench first first' again again' len before after held held' Untouched why
       again_refused (Script why) p =
           inr (looked, (content, whole, given), text_wider again again' _ _ (λ text is. ((kind.meaning, sized), is)) p)
-      again_refused (File file.Script) p = ((kind.meaning, sized), inr (looked, (content, whole, given)))
+      again_refused (File file.Script) p = ((kind.meaning, sized), gave, inr (looked, (content, whole, given), p))
       again_refused (Build fault.Memory) p = (kind.meaning, sized)
       again_refused (Build fault.Write) p =
           let here = subst (λ (s : Setting). StopsText again again' s (ready s content) bench.limit held held' (Build fault.Write)) (kind_is t bench kind start page) p in (
@@ -171,13 +172,23 @@ content_not_chip A len before after (Build fault.Memory) p is = absurd is
 content_not_chip A len before after other p is = absurd p
 
 -- the fault of a reading is told of the text
+pub script_told : (before after : Ahead) (fault : ReadFault) → StopsReader before after fault → GivesSome before after → RefusesScript before after (refusal_of fault)
+script_told before after (read.Script script.Memory) p gave = tt
+script_told before after (read.Script (script.Header line)) p gave = p
+script_told before after (read.Script (script.BadLine line)) p gave = p
+script_told before after (read.Script (script.BadSymbol line)) p gave = p
+script_told before after (read.Script (script.BadCount line)) p gave = p
+script_told before after (read.Script (script.NoEnd line)) p gave = p
+script_told before after (read.Script (script.AfterEnd line)) p gave = p
+script_told before after (read.Device failed) p gave = gave
+
 pub fault_told : (before after : Ahead) (s : Setting) (c : Chip) (limit : ℕ) (held held' : Option (List ℕ)) (fault : ReadFault) → StopsReader before after fault
-    → StopsText before after s c limit held held' (refusal_of fault)
-fault_told before after s c limit held held' (read.Script script.Memory) p = tt
-fault_told before after s c limit held held' (read.Script (script.Header line)) p = p
-fault_told before after s c limit held held' (read.Script (script.BadLine line)) p = p
-fault_told before after s c limit held held' (read.Script (script.BadSymbol line)) p = p
-fault_told before after s c limit held held' (read.Script (script.BadCount line)) p = p
-fault_told before after s c limit held held' (read.Script (script.NoEnd line)) p = p
-fault_told before after s c limit held held' (read.Script (script.AfterEnd line)) p = p
-fault_told before after s c limit held held' (read.Device failed) p = tt
+    → GivesSome before after → StopsText before after s c limit held held' (refusal_of fault)
+fault_told before after s c limit held held' (read.Script script.Memory) p gave = tt
+fault_told before after s c limit held held' (read.Script (script.Header line)) p gave = p
+fault_told before after s c limit held held' (read.Script (script.BadLine line)) p gave = p
+fault_told before after s c limit held held' (read.Script (script.BadSymbol line)) p gave = p
+fault_told before after s c limit held held' (read.Script (script.BadCount line)) p gave = p
+fault_told before after s c limit held held' (read.Script (script.NoEnd line)) p gave = p
+fault_told before after s c limit held held' (read.Script (script.AfterEnd line)) p gave = p
+fault_told before after s c limit held held' (read.Device failed) p gave = gave

@@ -3,19 +3,19 @@ use Rattle.std.specs.Prelude.{◌≡◌, ◌⊎◌, ⊤, ℕ, true, List, Option
 use Rattle.std.specs.Io.KnownBytes.{Appends}
 use Rattle.nor_base.specs.Device.{Ahead, Cuts}
 use Rattle.nor_job.specs.Task.{Task}
-use Rattle.nor_job.specs.declared.fault.BuildFault.TheVariants.{Memory}
+use Rattle.nor_job.specs.declared.fault.BuildFault.TheVariants.{Memory, Read}
 use Rattle.norprog_common.specs.declared.faults.FileName.{FileName}
 use Rattle.norprog_common.specs.declared.faults.Refusal.{Refusal}
 use Rattle.norprog_common.specs.declared.faults.Refusal.TheVariants.{Build}
 use Rattle.norprog_common.specs.declared.given.RunArgs.{RunArgs}
-use Rattle.norprog_common.specs.FileStore.{FileFacts, GoesOut}
+use Rattle.norprog_common.specs.FileStore.{FileFacts, Change, GoesOut}
 use Rattle.norprog_common.specs.Told.{ForAsked, RefusesFor, OrScript, OrUsage, TellsOf}
 use Rattle.norprog_run.specs.Request.{is_well_formed}
 use Rattle.norprog_run.specs.declared.request.ChipBehaviour.{ChipBehaviour}
 use Rattle.norprog_run.specs.declared.verdict.Verdict.{Verdict}
 use Rattle.norprog_run.specs.Play.{WasPlayed}
-use Rattle.norprog_run.specs.Refusals.{RefusesPlay}
-use Rattle.norprog_run.specs.Served.{PlayTask, Serves, ServesScript}
+use Rattle.norprog_run.specs.Refusals.{RefusesPaged, RefusesPlay}
+use Rattle.norprog_run.specs.Served.{PlayTask, Serves, ServesScript, FailsScriptOf, MakesFor, MayMakeFor}
 use Rattle.norprog_run.specs.Verdict.{verdict_line, status_of}
 
 -- a text that is so was played on that chip, on that bench, and this is how it ended
@@ -36,20 +36,32 @@ pub record IsVerdictOf (Script : List ℕ → Type 0) (Sent : Option (List ℕ) 
 abbrev pub IsPlayVerdict : (PlayTask → Type 0) → (List ℕ → Type 0) → (Option (List ℕ) → Type 0) → Verdict → Type 0
 IsPlayVerdict Asked Script Sent verdict = ForAsked PlayTask Asked (IsVerdictOf Script Sent verdict)
 
--- why some text isn't played on that chip, on that bench
-pub record IsStopOf (why : Refusal) (t : PlayTask) : Type 0 where
+-- Read says that the content's reader failed
+abbrev pub BlamesContent : Type 0 → Refusal → Type 0
+BlamesContent Failed (Build Read) = Failed
+BlamesContent Failed other = ⊤
+
+-- why a text that is so isn't played on that chip, on that bench; `Failed`: a reader that had this ahead has failed
+pub record StopsOn (Script : List ℕ → Type 0) (Failed : Ahead → Type 0) (why : Refusal) (t : PlayTask) : Type 0 where
   pub text : List ℕ
+  pub script : Script text
   pub after : Ahead
   pub held_before : Option (List ℕ)
   pub held_after : Option (List ℕ)
   pub refused : RefusesPlay t.chip t.bench text t.len t.content after held_before held_after why
+  pub blamed : BlamesContent (Failed t.content) why
 
-abbrev pub IsPlayFault : (PlayTask → Type 0) → Refusal → Type 0
-IsPlayFault Asked why = ForAsked PlayTask Asked (IsStopOf why)
+-- that; or there is no such chip to play on, whatever the text
+abbrev pub IsStopOf : (List ℕ → Type 0) → (Ahead → Type 0) → Refusal → PlayTask → Type 0
+IsStopOf Script Failed why t = RefusesPaged t.chip t.bench.page t.len why ⊎ StopsOn Script Failed why t
+
+abbrev pub IsPlayFault : (PlayTask → Type 0) → (List ℕ → Type 0) → (Ahead → Type 0) → Refusal → Type 0
+IsPlayFault Asked Script Failed why = ForAsked PlayTask Asked (IsStopOf Script Failed why)
 
 -- why a play that was asked for has no verdict; that of one that was played may have failed to go out
-abbrev pub RefusesRun : (FileName → Type 0) → (PlayTask → Type 0) → (List ℕ → Type 0) → Refusal → Type 0
-RefusesRun Lacked Asked Script = RefusesFor Lacked (IsPlayFault Asked) ((verdict : Verdict) × IsPlayVerdict Asked Script (λ held. ⊤) verdict)
+abbrev pub RefusesRun : (FileName → Type 0) → (PlayTask → Type 0) → (List ℕ → Type 0) → (Ahead → Type 0) → Refusal → Type 0
+RefusesRun Lacked Asked Script Failed =
+    RefusesFor Lacked (IsPlayFault Asked Script Failed) ((verdict : Verdict) × IsPlayVerdict Asked Script (λ held. ⊤) verdict)
 
 -- the line of the verdict of a play that was asked for was printed, whose status it is
 abbrev pub PrintsVerdict : (PlayTask → Type 0) → (List ℕ → Type 0) → (Option (List ℕ) → Type 0) → Option (List ℕ) → Option (List ℕ) → ℕ → Type 0
@@ -63,14 +75,18 @@ CutsVerdict Asked Script Sent before after =
 
 -- why what the texts of a command line ask for isn't run: usage where they ask for nothing, else a refusal of the work; or want of
 -- memory, which the busy times may meet while they are read
-abbrev pub RefusesToRun : FileFacts → RunArgs → Refusal → Type 0
-RefusesToRun files given why =
-    OrUsage (is_well_formed given) (RefusesRun (OrScript files.lacked) (Serves files given) (ServesScript files given)) why ⊎ (why ≡ Build Memory)
+abbrev pub RefusesToRun : FileFacts → (Ahead → Type 0) → RunArgs → Refusal → Type 0
+RefusesToRun files Failed given why =
+    OrUsage (is_well_formed given)
+    (RefusesRun (OrScript files.lacked (FailsScriptOf files Failed given)) (Serves files given) (ServesScript files given) Failed) why ⊎ (why ≡ Build Memory)
 
--- what `run` answers to the texts of a command line: the line of the verdict, whose status it is, after what the chip holds has gone
--- out; or a refusal
-abbrev pub AnswersRun : FileFacts → RunArgs → Option (List ℕ) → Option (List ℕ) → Type 0 → Type 0 → Option (List ℕ) → Option (List ℕ) → ℕ → Type 0
-AnswersRun files given before after Quiet Works told_before told_after status =
-    ((is_well_formed given ≡ true) × PrintsVerdict (Serves files given) (ServesScript files given) files.flushed before after status × Quiet)
+-- what `run` answers to the texts of a command line, where `Made` says which changes it made, and `Failed` that a reader of the store
+-- that had this ahead has failed: the line of the verdict, whose status it is, after what the chip holds has gone out into the output
+-- that it made, if one is named; or a refusal, and at most that output was made
+abbrev pub AnswersRun : FileFacts → (Ahead → Type 0) → RunArgs → (List Change → Type 0) → Option (List ℕ) → Option (List ℕ) → Type 0 → Type 0 → Option (List ℕ) → Option (List ℕ) → ℕ → Type 0
+AnswersRun files Failed given Made before after Quiet Works told_before told_after status =
+    ((is_well_formed given ≡ true) × PrintsVerdict (Serves files given) (ServesScript files given) files.flushed before after status
+    × MakesFor files given Made × Quiet)
     ⊎ (CutsVerdict (Serves files given) (ServesScript files given) files.flushed before after
-    × TellsOf (RefusesToRun files given) Works told_before told_after status)
+    × TellsOf (RefusesToRun files Failed given) Works told_before told_after status
+    × MayMakeFor files given Made)

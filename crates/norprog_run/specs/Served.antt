@@ -1,12 +1,14 @@
 -- The play that a command line of `run` asks for (this project's). `files` is what is known of files by their names.
-use Rattle.std.specs.Prelude.{◌≡◌, ℕ, List, ◌++◌, Option, Some, option_map, option_to_list}
+use Rattle.std.specs.Prelude.{◌≡◌, ◌⊎◌, ℕ, List, [], ◌++◌, Option, Some, option_map, option_to_list}
 use Rattle.nor_base.specs.Device.{Ahead}
 use Rattle.nor_chip.specs.Busy.{times_of}
 use Rattle.nor_job.specs.Task.{Task}
 use Rattle.norprog_common.specs.declared.files.FileId.{FileId}
 use Rattle.norprog_common.specs.Chip.{Origin, origin_of}
-use Rattle.norprog_common.specs.Setup.{IsSetupTask, ServesSetup}
-use Rattle.norprog_common.specs.FileStore.{FileFacts, IsMadeApart, IsTextIn, Named, WhereNamed, tables_file}
+use Rattle.norprog_common.specs.Reading.{FailsReading}
+use Rattle.norprog_common.specs.declared.setup.Setup.{Setup}
+use Rattle.norprog_common.specs.Setup.{AsksSetup, IsSetupTask, ServesSetup}
+use Rattle.norprog_common.specs.FileStore.{FileFacts, Change, IsMadeApart, MakesNamed, IsTextIn, Named, WhereNamed, tables_file}
 use Rattle.norprog_common.specs.Values.{limit_of, said_number}
 use Rattle.norprog_run.specs.declared.request.ChipBehaviour.{ChipBehaviour}
 use Rattle.norprog_common.specs.declared.given.RunArgs.{RunArgs}
@@ -69,3 +71,17 @@ pub record Serves (files : FileFacts) (given : RunArgs) (t : PlayTask) : Type 0 
 -- the text is that of the script's file
 abbrev pub ServesScript : FileFacts → RunArgs → List ℕ → Type 0
 ServesScript files given text = Named (λ name. IsTextIn files name text) (option_map (λ t. t.now) given.script)
+
+-- a reader of that file has failed
+abbrev pub FailsScriptOf : FileFacts → (Ahead → Type 0) → RunArgs → Type 0
+FailsScriptOf files Failed given = Named (FailsReading files Failed) (option_map (λ t. t.now) given.script)
+
+-- the output that the texts ask for was made, if they name one, as none of the files that they name, and nothing else was changed
+abbrev pub MakesFor : FileFacts → RunArgs → (List Change → Type 0) → Type 0
+MakesFor files given Made =
+    (setup : Setup) × AsksSetup given.setup setup
+    × MakesNamed files (input_files_asked given (origin_of setup.chip)) (option_map (λ t. t.now) given.out) Made
+
+-- at most that
+abbrev pub MayMakeFor : FileFacts → RunArgs → (List Change → Type 0) → Type 0
+MayMakeFor files given Made = Made [] ⊎ MakesFor files given Made

@@ -15,6 +15,7 @@ use Rattle.norprog_common.specs.declared.faults.FileName.TheVariants as file
 use Rattle.norprog_common.specs.declared.faults.Refusal.{Refusal}
 use Rattle.norprog_common.specs.declared.faults.Refusal.TheVariants.{File, Build, Script}
 use Rattle.norprog_common.specs.Lines.{script_refusal}
+use Rattle.norprog_common.specs.Reading.{GivesSome}
 use Rattle.norprog_run.specs.declared.request.ChipBehaviour.{ChipBehaviour}
 use Rattle.norprog_run.specs.declared.verdict.Verdict.{Verdict}
 use Rattle.norprog_run.specs.Play.{IsSized, EndsSo, WasPlayed}
@@ -29,10 +30,11 @@ abbrev pub refusal_of : ReadFault → Refusal
 refusal_of (read.Script why) = script_refusal why
 refusal_of (read.Device failed) = File file.Script
 
--- why a reading is no script: its first fault; or the device failed, or memory was refused
+-- why a reading is no script: its first fault; or the device failed after it gave the beginning of what it had ahead, or memory was
+-- refused
 abbrev pub RefusesScript : Ahead → Ahead → Refusal → Type 0
 RefusesScript before after (Script why) = HadText before after (λ text. IsFault text why)
-RefusesScript before after (File file.Script) = ⊤
+RefusesScript before after (File file.Script) = GivesSome before after
 RefusesScript before after (Build fault.Memory) = ⊤
 RefusesScript before after other = ⊥
 
@@ -70,7 +72,8 @@ RefusesStreams t bench first first' again again' len before after held held' Unt
     HadText first first' IsSpelled × HadText again again' (λ text. RefusesPlay t bench text len before after held held' (Build fault.Write))
 RefusesStreams t bench first first' again again' len before after held held' Untouched (Build fault.Memory) = (m : Parameters) × IsSized t bench.page len m
 RefusesStreams t bench first first' again again' len before after held held' Untouched (File file.Script) =
-    ((m : Parameters) × IsSized t bench.page len m) × (Untouched ⊎ (HadText first first' IsSpelled × ReadsWhole len before after))
+    ((m : Parameters) × IsSized t bench.page len m) × GivesSome first first'
+    × (Untouched ⊎ (HadText first first' IsSpelled × ReadsWhole len before after × GivesSome again again'))
 RefusesStreams t bench first first' again again' len before after held held' Untouched other = RefusesPaged t bench.page len other
 
 -- a refusal of the chip, which comes before anything is read

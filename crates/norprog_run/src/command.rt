@@ -1,17 +1,18 @@
 //! `run`: from the texts of the command line to the line of a verdict.
 
 ghost use Rattle.std.specs.Prelude.{◌≡◌, ◌<◌, ◌≤◌, ◌-◌, ◌^◌, List, ℕ, Some, true, Option, IfOk};
-ghost use Rattle.std.specs.Prelude.{IfErr};
-ghost use Rattle.nor_base.specs.Device.{HaveRoom};
+ghost use Rattle.std.specs.Prelude.{IfErr, MatchResult, option_map};
 ghost use Rattle.std.specs.Io.KnownBytes.{Appends};
-ghost use Rattle.norprog_common.specs.FileStore.{DoNotFail, IsTextIn, IsTextOfFile};
+ghost use Rattle.norprog_common.specs.FileStore.{Adds, DoNotFail, Emptied, IsTextIn, IsTextOfFile};
+ghost use Rattle.norprog_common.specs.FileStore.{MakesNamed, MayMake, Tries};
+ghost use Rattle.norprog_common.specs.Reading.{FailsReading, FailsScript, HasFailed, IsTextRead};
 ghost use Rattle.norprog_common.specs.declared.faults.FileName.TheVariants.{Script};
 ghost use Rattle.norprog_common.specs.Told.{RefusesFor, OrScript};
 ghost use Rattle.norprog_run.specs.Answer.{WasPlayedSo, IsPlayFault, IsPlayVerdict, CutsVerdict};
 ghost use Rattle.norprog_run.specs.Answer.{RefusesRun, RefusesToRun, AnswersRun};
 ghost use Rattle.norprog_run.specs.Request.{is_well_formed};
 ghost use Rattle.norprog_run.specs.Served.{play_with, Is, IsMadeFor, IsTaskOf, Serves};
-ghost use Rattle.norprog_run.specs.Served.{ServesScript};
+ghost use Rattle.norprog_run.specs.Served.{ServesScript, MakesFor, MayMakeFor, input_files_of};
 ghost use Rattle.norprog_run.specs.Verdict.{verdict_line};
 
 use crate::play::play_script;
@@ -31,6 +32,7 @@ use std::alloc::Global;
 pub fn run<S: FileStore, O: ByteOut, E: ByteOut>(
     alloc: Global,
     store: &S,
+    journal: &mut S::Journal,
     given: RunArgs<'_>,
     out: &mut O,
     err: &mut E,
@@ -39,11 +41,12 @@ pub fn run<S: FileStore, O: ByteOut, E: ByteOut>(
     requires err { E.count err.old < 2 ^ 64 - 1 }
     ensures status { result ≤ 2 }
     ensures quiet { result ≡ 0 → err.new ≡ err.old }
-    ensures answer { AnswersRun (S.facts store.now) given.entry (O.held out.old) (O.held out.new)
-        (err.new ≡ err.old)
+    ensures answer { AnswersRun (S.facts store.now) (HasFailed S.Input.ahead S.Input.count)
+        given.entry (Adds (S.Journal.changes journal.old) (S.Journal.changes journal.new))
+        (O.held out.old) (O.held out.new) (err.new ≡ err.old)
         (E.count err.new ≡ E.count err.old) (E.held err.old) (E.held err.new) result }
 {
-    match report_run(alloc, store, given, out) {
+    match report_run(alloc, store, journal, given, out) {
         Ok(verdict) => status_of(&verdict),
         Err(refusal) => refuse(&refusal, err),
     }
@@ -53,21 +56,27 @@ pub fn run<S: FileStore, O: ByteOut, E: ByteOut>(
 fn report_run<S: FileStore, O: ByteOut>(
     alloc: Global,
     store: &S,
+    journal: &mut S::Journal,
     given: RunArgs<'_>,
     out: &mut O,
 ) -> Result<Verdict, Refusal>
     requires { O.count out.old < 2 ^ 64 - 1 }
     ensures played { IfOk result (IsPlayVerdict (Serves (S.facts store.now) given.entry)
         (ServesScript (S.facts store.now) given.entry) (S.facts store.now).flushed) }
-    ensures printed { IfOk result (λ verdict.
-        Appends (O.held out.old) (O.held out.new) (verdict_line verdict)) }
+    ensures printed { IfOk result (λ verdict. (is_well_formed given.entry ≡ true)
+        × Appends (O.held out.old) (O.held out.new) (verdict_line verdict)) }
     ensures unprinted { IfErr result (λ _. CutsVerdict (Serves (S.facts store.now) given.entry)
         (ServesScript (S.facts store.now) given.entry) (S.facts store.now).flushed (O.held out.old)
         (O.held out.new)) }
-    ensures asked { IfOk result (λ _. is_well_formed given.entry ≡ true) }
-    ensures first { IfErr result (RefusesToRun (S.facts store.now) given.entry) }
+    ensures journal { MatchResult result
+        (λ _. MakesFor (S.facts store.now) given.entry
+        (Adds (S.Journal.changes journal.old) (S.Journal.changes journal.new)))
+        (λ _. MayMakeFor (S.facts store.now) given.entry
+        (Adds (S.Journal.changes journal.old) (S.Journal.changes journal.new))) }
+    ensures first { IfErr result
+        (RefusesToRun (S.facts store.now) (HasFailed S.Input.ahead S.Input.count) given.entry) }
 {
-    let verdict = verdict_of(alloc, store, given)?;
+    let verdict = verdict_of(alloc, store, journal, given)?;
     match write_verdict(&verdict, out) {
         Ok(()) => Ok(verdict),
         Err(_) => Err(Refusal::WRITE),
@@ -78,30 +87,47 @@ fn report_run<S: FileStore, O: ByteOut>(
 fn verdict_of<S: FileStore>(
     alloc: Global,
     store: &S,
+    journal: &mut S::Journal,
     given: RunArgs<'_>,
 ) -> Result<Verdict, Refusal>
     ensures played { IfOk result (IsPlayVerdict (Serves (S.facts store.now) given.entry)
         (ServesScript (S.facts store.now) given.entry) (S.facts store.now).flushed) }
     ensures asked { IfOk result (λ _. is_well_formed given.entry ≡ true) }
-    ensures first { IfErr result (RefusesToRun (S.facts store.now) given.entry) }
+    ensures journal { MatchResult result
+        (λ _. MakesFor (S.facts store.now) given.entry
+        (Adds (S.Journal.changes journal.old) (S.Journal.changes journal.new)))
+        (λ _. MayMakeFor (S.facts store.now) given.entry
+        (Adds (S.Journal.changes journal.old) (S.Journal.changes journal.new))) }
+    ensures first { IfErr result
+        (RefusesToRun (S.facts store.now) (HasFailed S.Input.ahead S.Input.count) given.entry) }
 {
     let request = request_of(alloc, given)?;
-    play_request(alloc, store, request)
+    play_request(alloc, store, journal, request)
 }
 
 /// Opens the files of a request in their order, and plays.
 fn play_request<S: FileStore>(
     alloc: Global,
     store: &S,
+    journal: &mut S::Journal,
     request: RunRequest<'_>,
 ) -> Result<Verdict, Refusal>
     requires { 0 < request.bench.limit }
     ensures played { IfOk result (IsPlayVerdict (IsTaskOf (S.facts store.now) request.entry)
         (IsTextIn (S.facts store.now) request.entry.script.now) (S.facts store.now).flushed) }
     ensures refused { IfErr result
-        (RefusesRun (OrScript (S.facts store.now).lacked)
+        (RefusesRun (OrScript (S.facts store.now).lacked (FailsReading (S.facts store.now)
+        (HasFailed S.Input.ahead S.Input.count) request.entry.script.now))
         (IsTaskOf (S.facts store.now) request.entry)
-        (IsTextIn (S.facts store.now) request.entry.script.now)) }
+        (IsTextIn (S.facts store.now) request.entry.script.now)
+        (HasFailed S.Input.ahead S.Input.count)) }
+    ensures journal { MatchResult result
+        (λ _. MakesNamed (S.facts store.now) (input_files_of request.entry)
+        (option_map (λ t. t.now) request.entry.out)
+        (Adds (S.Journal.changes journal.old) (S.Journal.changes journal.new)))
+        (λ _. MayMake (S.facts store.now) (input_files_of request.entry)
+        (option_map (λ t. t.now) request.entry.out)
+        (Adds (S.Journal.changes journal.old) (S.Journal.changes journal.new))) }
 {
     let mut places = Vec::new(alloc);
     let sfdp = noted_tables(alloc, store, request.setup.chip, &mut places)?;
@@ -114,6 +140,7 @@ fn play_request<S: FileStore>(
         Some(path) => play_to(
             alloc,
             store,
+            journal,
             path,
             places.as_slice(),
             &inputs,
@@ -139,6 +166,7 @@ fn play_request<S: FileStore>(
 fn play_to<S: FileStore>(
     alloc: Global,
     store: &S,
+    journal: &mut S::Journal,
     path: &str,
     places: &[FileId],
     inputs: &Inputs<'_>,
@@ -149,18 +177,22 @@ fn play_to<S: FileStore>(
 ) -> Result<Verdict, Refusal>
     requires limit { 0 < bench.limit }
     requires script { DoNotFail S.Input.count script }
-    requires reader { S.Input.count content.old < 2 ^ 64 - 1 }
+    requires reader { S.Input.count content.old ≡ 0 }
     ensures played { IfOk result (IsPlayVerdict
         (IsMadeFor (S.facts store.now) path.now places.now inputs.now bench
         (S.Input.ahead content.old) len)
         (IsTextOfFile S.Input.ahead script) (S.facts store.now).flushed) }
-    ensures refused { IfErr result (RefusesRun (OrScript (S.facts store.now).lacked)
+    ensures refused { IfErr result (RefusesRun (OrScript (S.facts store.now).lacked
+        (FailsScript S.Input.ahead (HasFailed S.Input.ahead S.Input.count) script))
         (IsMadeFor (S.facts store.now) path.now places.now inputs.now bench
-        (S.Input.ahead content.old) len) (IsTextOfFile S.Input.ahead script)) }
+        (S.Input.ahead content.old) len) (IsTextRead S.Input.ahead script)
+        (HasFailed S.Input.ahead S.Input.count)) }
+    ensures journal { Tries (S.Journal.changes journal.old) (S.Journal.changes journal.new)
+        (Emptied path.now places.now) result }
 {
-    let mut file = store.create(alloc, path, FileName::Out, places)?;
+    let mut file = store.create(journal, alloc, path, FileName::Out, places)?;
     let verdict = play_file(alloc, inputs, bench, script, content, len, &mut file)?;
-    match store.flush(&mut file) {
+    match store.flush(file) {
         Ok(()) => Ok(verdict),
         Err(_) => Err(Refusal::WRITE),
     }
@@ -178,13 +210,15 @@ fn play_file<F: ByteIn + Drop, R: ByteIn, W: ByteOut>(
 ) -> Result<Verdict, Refusal>
     requires limit { 0 < bench.limit }
     requires script { DoNotFail F.count script }
-    requires room { HaveRoom (R.count content.old) (W.count out.old) }
+    requires room { (R.count content.old ≡ 0) × (W.count out.old < 2 ^ 64 - 1) }
     ensures played { IfOk result
         (WasPlayedSo (IsTextOfFile F.ahead script) inputs.now bench (R.ahead content.old) len
         (W.held out.old) (W.held out.new)) }
     ensures refused { (begun : Option (Option (List ℕ)))
-        → IfErr result (RefusesFor (λ told. told ≡ Script)
-        (IsPlayFault (Is (play_with inputs.now bench (R.ahead content.old) len begun))) ⊥) }
+        → IfErr result (RefusesFor
+        (λ told. (told ≡ Script) × FailsScript F.ahead (HasFailed F.ahead F.count) script)
+        (IsPlayFault (Is (play_with inputs.now bench (R.ahead content.old) len begun))
+        (IsTextRead F.ahead script) (HasFailed R.ahead R.count)) ⊥) }
 {
     match script {
         ScriptFile::Twice(mut first, mut again) => play_streams(

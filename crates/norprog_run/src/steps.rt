@@ -6,6 +6,7 @@ ghost use Rattle.nor_play.specs.Numbered.{PlaysNumbered};
 ghost use Rattle.nor_play.specs.Play.{CountsPlay};
 ghost use Rattle.nor_script.specs.Stream.{CountsRead, HadText, StopsReader};
 ghost use Rattle.nor_script.specs.View.{step_of};
+ghost use Rattle.norprog_common.specs.Reading.{GivesSome};
 ghost use Rattle.norprog_run.specs.Steps.{Steps, Ends};
 ghost use Rattle.norprog_run.specs.Streams.{PlaysText};
 
@@ -32,6 +33,7 @@ pub(crate) fn play_text<A: ByteIn>(
     ensures played { IfOk result (λ verdict. HadText (A.ahead script.old) (A.ahead script.new)
         (PlaysText chip.old.setting chip.old.chip limit verdict chip.new.chip)) }
     ensures refused { IfErr result (StopsReader (A.ahead script.old) (A.ahead script.new)) }
+    ensures gave { GivesSome (A.ahead script.old) (A.ahead script.new) }
     ensures count { CountsRead (A.count script.old) (A.count script.new) result }
 {
     let mut reader = StepReader::begin(alloc, script)?;

@@ -10,6 +10,7 @@ ghost use Rattle.nor_job.specs.Wanted.{ReadsWithin};
 ghost use Rattle.norprog_common.specs.declared.faults.Refusal.TheVariants.{Build};
 ghost use Rattle.nor_script.specs.Stream.{HadText, IsSpelled};
 ghost use Rattle.norprog_run.specs.Kind.{kind_setting};
+ghost use Rattle.norprog_common.specs.Reading.{GivesSome};
 ghost use Rattle.norprog_common.specs.Content.{CountsReader, CountsWriter};
 ghost use Rattle.norprog_run.specs.Streams.{PlaysText, StopsText, PlaysStreams, RefusesStreams};
 ghost use Rattle.norprog_run.specs.Streams.{IsOfChip, IsOfContent, CountsScript, CountsOne};
@@ -22,8 +23,8 @@ use crate::verdict::Verdict;
 use nor_base::{ByteIn, ByteOut, put_all};
 use nor_chip::Chip;
 use nor_job::Inputs;
-use nor_script::{ReadFault, count_steps};
-use norprog_common::{FileName, Refusal, read_content};
+use nor_script::ReadFault;
+use norprog_common::{FileName, Refusal, look_through, read_content};
 use std::alloc::Global;
 
 /// [`crate::play_script`] of a script that is read twice and never held: `first` for its faults,
@@ -75,10 +76,11 @@ fn check_script<F: ByteIn>(alloc: Global, script: &mut F) -> Result<(), Refusal>
     requires { F.count script.old < 2 ^ 64 - 1 }
     ensures text { IfOk result (λ _. HadText (F.ahead script.old) (F.ahead script.new) IsSpelled) }
     ensures refused { IfErr result (RefusesScript (F.ahead script.old) (F.ahead script.new)) }
+    ensures gave { GivesSome (F.ahead script.old) (F.ahead script.new) }
     ensures count { CountsOne (F.count script.old) (F.count script.new) result }
 {
-    match count_steps(alloc, script) {
-        Ok(_) => Ok(()),
+    match look_through(alloc, script) {
+        Ok(()) => Ok(()),
         Err(fault) => Err(refusal_of(fault)),
     }
 }

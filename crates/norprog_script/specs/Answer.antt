@@ -7,11 +7,11 @@ use Rattle.norprog_common.specs.declared.faults.FileName.{FileName}
 use Rattle.norprog_common.specs.declared.faults.Refusal.{Refusal}
 use Rattle.norprog_common.specs.declared.faults.Refusal.TheVariants.{Build}
 use Rattle.norprog_common.specs.declared.given.ScriptArgs.{ScriptArgs}
-use Rattle.norprog_common.specs.FileStore.{FileFacts}
+use Rattle.norprog_common.specs.FileStore.{FileFacts, Change}
 use Rattle.norprog_common.specs.Told.{ForAsked, RefusesFor, Answers}
 use Rattle.norprog_script.specs.declared.tally.Tally.{Tally}
 use Rattle.norprog_script.specs.Request.{is_well_formed}
-use Rattle.norprog_script.specs.Served.{LogTask, Serves}
+use Rattle.norprog_script.specs.Served.{LogTask, Serves, MakesScript, MayMakeScript}
 use Rattle.norprog_script.specs.Tally.{tally_text}
 use Rattle.norprog_script.specs.Written.{WasWritten, RefusesLog}
 
@@ -54,11 +54,12 @@ done (Err why) flushed = Err why
 done (Ok tally) (Err e) = Err (Build Write)
 done (Ok tally) (Ok u) = Ok tally
 
--- what `script` answers to the texts of a command line: the number of steps at status 0, after the script has gone out; or a refusal
-abbrev pub AnswersScript : FileFacts → ScriptArgs → Option (List ℕ) → Option (List ℕ) → Type 0 → Type 0 → Option (List ℕ) → Option (List ℕ) → ℕ → Type 0
-AnswersScript files given before after Quiet Works told_before told_after status =
+-- what `script` answers to the texts of a command line, where `Made` says which changes it made: the number of steps at status 0,
+-- after the script has gone out, and just the output was made; or a refusal, and at most that was
+abbrev pub AnswersScript : FileFacts → ScriptArgs → (List Change → Type 0) → Option (List ℕ) → Option (List ℕ) → Type 0 → Type 0 → Option (List ℕ) → Option (List ℕ) → ℕ → Type 0
+AnswersScript files given Made before after Quiet Works told_before told_after status =
     Answers (is_well_formed given)
-    ((status ≡ 0) × PrintsTally (Serves files given) files.flushed before after × Quiet)
-    (CutsTally (Serves files given) files.flushed before after)
+    ((status ≡ 0) × PrintsTally (Serves files given) files.flushed before after × MakesScript files given Made × Quiet)
+    (CutsTally (Serves files given) files.flushed before after × MayMakeScript files given Made)
     (RefusesScript files.lacked (Serves files given))
     Works told_before told_after status

@@ -1,8 +1,8 @@
 -- The script of a log that a command line of `script` asks for (this project's). `files` is what is known of files by their names.
-use Rattle.std.specs.Prelude.{◌≡◌, ℕ, Bool, List, [], ◌∷◌, ◌++◌, Option, None, Some, option_map, option_to_list}
+use Rattle.std.specs.Prelude.{◌≡◌, ◌⊎◌, ℕ, Bool, List, [], ◌∷◌, ◌++◌, Option, None, Some, option_map, option_to_list}
 use Rattle.nor_job.specs.Task.{Task}
 use Rattle.norprog_common.specs.Chip.{origin_of}
-use Rattle.norprog_common.specs.FileStore.{FileFacts, IsMadeApart, Named, tables_file}
+use Rattle.norprog_common.specs.FileStore.{FileFacts, Change, IsMadeApart, MakesNamed, Named, tables_file}
 use Rattle.norprog_common.specs.Setup.{IsSetupTask}
 use Rattle.norprog_common.specs.declared.given.ScriptArgs.{ScriptArgs}
 use Rattle.norprog_common.specs.declared.setup.Setup.{Setup}
@@ -44,3 +44,12 @@ pub record Serves (files : FileFacts) (given : ScriptArgs) (t : LogTask) : Type 
   pub from : ServesSource files given t.from
   pub made : Named (λ name. IsMadeApart files (chip_file from.chip ++ option_to_list (option_map (λ t. t.now) given.log)) name t.begun)
       (option_map (λ t. t.now) given.out)
+
+-- the output that they name was made, as none of the files that are read, and nothing else was changed; or at most that
+abbrev pub MakesScript : FileFacts → ScriptArgs → (List Change → Type 0) → Type 0
+MakesScript files given Made =
+    (chip : Option Setup) × AsksChip given.setup chip
+    × MakesNamed files (chip_file chip ++ option_to_list (option_map (λ t. t.now) given.log)) (option_map (λ t. t.now) given.out) Made
+
+abbrev pub MayMakeScript : FileFacts → ScriptArgs → (List Change → Type 0) → Type 0
+MayMakeScript files given Made = Made [] ⊎ MakesScript files given Made

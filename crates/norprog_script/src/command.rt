@@ -1,11 +1,14 @@
 //! `script`: from the texts of the command line to the script in its file.
 
-ghost use Rattle.std.specs.Prelude.{◌≡◌, ◌<◌, ◌≤◌, ◌-◌, ◌^◌, true, None, Some, IfOk, IfErr};
+ghost use Rattle.std.specs.Prelude.{◌≡◌, ◌<◌, ◌≤◌, ◌-◌, ◌^◌, [], ◌∷◌, ◌++◌, true, None, Some};
+ghost use Rattle.std.specs.Prelude.{IfOk, IfErr, MatchResult};
+ghost use Rattle.norprog_common.specs.FileStore.{Adds, MakesIf};
 ghost use Rattle.norprog_common.specs.Told.{OrUsage};
 ghost use Rattle.norprog_script.specs.Answer.{IsScripted, RefusesScript, PrintsTally, CutsTally};
 ghost use Rattle.norprog_script.specs.Answer.{AnswersScript, done};
 ghost use Rattle.norprog_script.specs.Request.{is_well_formed};
-ghost use Rattle.norprog_script.specs.Served.{IsTaskOf, Serves};
+ghost use Rattle.norprog_script.specs.Served.{IsTaskOf, Serves, chip_file};
+ghost use Rattle.norprog_script.specs.Served.{MakesScript, MayMakeScript};
 
 use crate::listing::script_listing;
 use crate::log::script_log;
@@ -24,6 +27,7 @@ use std::alloc::Global;
 pub fn script<S: FileStore, O: ByteOut, E: ByteOut>(
     alloc: Global,
     store: &S,
+    journal: &mut S::Journal,
     given: ScriptArgs<'_>,
     out: &mut O,
     err: &mut E,
@@ -32,35 +36,42 @@ pub fn script<S: FileStore, O: ByteOut, E: ByteOut>(
     requires err { E.count err.old < 2 ^ 64 - 1 }
     ensures status { result ≤ 2 }
     ensures quiet { result ≡ 0 → err.new ≡ err.old }
-    ensures answer { AnswersScript (S.facts store.now) given.entry (O.held out.old) (O.held out.new)
+    ensures answer { AnswersScript (S.facts store.now) given.entry
+        (Adds (S.Journal.changes journal.old) (S.Journal.changes journal.new))
+        (O.held out.old) (O.held out.new)
         (err.new ≡ err.old)
         (E.count err.new ≡ E.count err.old) (E.held err.old) (E.held err.new) result }
 {
-    answered(scripted_in(alloc, store, given, out), err)
+    answered(scripted_in(alloc, store, journal, given, out), err)
 }
 
 /// Does what is asked for, and prints how many steps there are.
 fn scripted_in<S: FileStore, O: ByteOut>(
     alloc: Global,
     store: &S,
+    journal: &mut S::Journal,
     given: ScriptArgs<'_>,
     out: &mut O,
 ) -> Result<u8, Refusal>
     requires { O.count out.old < 2 ^ 64 - 1 }
-    ensures status { IfOk result (λ status. status ≡ 0) }
+    ensures done { IfOk result (λ status. (status ≡ 0) × (is_well_formed given.entry ≡ true)) }
+    ensures journal { MatchResult result
+        (λ _. MakesScript (S.facts store.now) given.entry
+        (Adds (S.Journal.changes journal.old) (S.Journal.changes journal.new)))
+        (λ _. MayMakeScript (S.facts store.now) given.entry
+        (Adds (S.Journal.changes journal.old) (S.Journal.changes journal.new))) }
     ensures printed { IfOk result
         (λ _. PrintsTally (Serves (S.facts store.now) given.entry) (S.facts store.now).flushed
         (O.held out.old) (O.held out.new)) }
     ensures unprinted { IfErr result
         (λ _. CutsTally (Serves (S.facts store.now) given.entry) (S.facts store.now).flushed
         (O.held out.old) (O.held out.new)) }
-    ensures asked { IfOk result (λ _. is_well_formed given.entry ≡ true) }
     ensures first { IfErr result
         (OrUsage (is_well_formed given.entry) (RefusesScript (S.facts store.now).lacked
         (Serves (S.facts store.now) given.entry))) }
 {
     let request = request_of(given).ok_or(Refusal::Usage)?;
-    let tally = run_script(alloc, store, request)?;
+    let tally = run_script(alloc, store, journal, request)?;
     match write_tally(tally, out) {
         Ok(()) => Ok(0),
         Err(_) => Err(Refusal::WRITE),
@@ -71,16 +82,20 @@ fn scripted_in<S: FileStore, O: ByteOut>(
 fn run_script<S: FileStore>(
     alloc: Global,
     store: &S,
+    journal: &mut S::Journal,
     request: ScriptRequest<'_>,
 ) -> Result<Tally, Refusal>
+    ensures journal { MakesIf (S.facts store.now)
+        (chip_file request.entry.chip ++ request.entry.log.now ∷ []) (Some request.entry.out.now)
+        (Adds (S.Journal.changes journal.old) (S.Journal.changes journal.new)) result }
     ensures written { IfOk result
         (IsScripted (IsTaskOf (S.facts store.now) request.entry) (S.facts store.now).flushed) }
     ensures refused { IfErr result
         (RefusesScript (S.facts store.now).lacked (IsTaskOf (S.facts store.now) request.entry)) }
 {
     match request.chip {
-        Some(setup) => run_listing(alloc, store, setup, request),
-        None => run_log(alloc, store, request),
+        Some(setup) => run_listing(alloc, store, journal, setup, request),
+        None => run_log(alloc, store, journal, request),
     }
 }
 
@@ -88,10 +103,14 @@ fn run_script<S: FileStore>(
 fn run_listing<S: FileStore>(
     alloc: Global,
     store: &S,
+    journal: &mut S::Journal,
     setup: Setup<'_>,
     request: ScriptRequest<'_>,
 ) -> Result<Tally, Refusal>
     requires { request.chip ≡ Some setup }
+    ensures journal { MakesIf (S.facts store.now)
+        (chip_file request.entry.chip ++ request.entry.log.now ∷ []) (Some request.entry.out.now)
+        (Adds (S.Journal.changes journal.old) (S.Journal.changes journal.new)) result }
     ensures written { IfOk result
         (IsScripted (IsTaskOf (S.facts store.now) request.entry) (S.facts store.now).flushed) }
     ensures refused { IfErr result
@@ -101,10 +120,16 @@ fn run_listing<S: FileStore>(
     let tables = noted_tables(alloc, store, setup.chip, &mut places)?;
     let (listing, place) = store.read(alloc, request.log, FileName::Log)?;
     places.push(place)?;
-    let mut out = store.create(alloc, request.out, FileName::Out, places.as_slice())?;
+    let mut out = store.create(
+        journal,
+        alloc,
+        request.out,
+        FileName::Out,
+        places.as_slice(),
+    )?;
     let inputs = setup_inputs(setup, tables.as_slice());
     let answer = script_listing(alloc, &inputs, listing.as_slice(), &mut out);
-    let flushed = store.flush(&mut out);
+    let flushed = store.flush(out);
     done(answer, flushed)
 }
 
@@ -112,18 +137,22 @@ fn run_listing<S: FileStore>(
 fn run_log<S: FileStore>(
     alloc: Global,
     store: &S,
+    journal: &mut S::Journal,
     request: ScriptRequest<'_>,
 ) -> Result<Tally, Refusal>
     requires { request.chip ≡ None }
+    ensures journal { MakesIf (S.facts store.now)
+        (chip_file request.entry.chip ++ request.entry.log.now ∷ []) (Some request.entry.out.now)
+        (Adds (S.Journal.changes journal.old) (S.Journal.changes journal.new)) result }
     ensures written { IfOk result
         (IsScripted (IsTaskOf (S.facts store.now) request.entry) (S.facts store.now).flushed) }
     ensures refused { IfErr result
         (RefusesScript (S.facts store.now).lacked (IsTaskOf (S.facts store.now) request.entry)) }
 {
     let (log, place) = store.read(alloc, request.log, FileName::Log)?;
-    let mut out = store.create(alloc, request.out, FileName::Out, &[place])?;
+    let mut out = store.create(journal, alloc, request.out, FileName::Out, &[place])?;
     let answer = script_log(alloc, log.as_slice(), request.without_identity, &mut out);
-    let flushed = store.flush(&mut out);
+    let flushed = store.flush(out);
     done(answer, flushed)
 }
 

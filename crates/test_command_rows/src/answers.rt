@@ -5,7 +5,7 @@ ghost use Rattle.std.specs.Prelude.{◌<◌, ◌-◌, ◌^◌};
 use nor_base::{ByteOut, IntoWrite, Nowhere};
 use norprog_build::build;
 use norprog_check::check;
-use norprog_common::{Refusal, SystemFiles, refuse};
+use norprog_common::{Refusal, SystemFiles, Unrecorded, refuse};
 use norprog_details::{Heard, write_details};
 use norprog_draw::draw;
 use norprog_explain::explain;
@@ -88,19 +88,20 @@ fn answer(
 {
     let alloc = rt.alloc();
     let files = SystemFiles::new(rt);
+    let mut journal = Unrecorded;
     match asked {
-        Asked::Build(given) => build(alloc, &files, given, out, err),
-        Asked::Plan(given) => plan(alloc, &files, given, out, err),
+        Asked::Build(given) => build(alloc, &files, &mut journal, given, out, err),
+        Asked::Plan(given) => plan(alloc, &files, &mut journal, given, out, err),
         Asked::Check(given) => check(alloc, &files, given, out, err),
-        Asked::Run(given) => run(alloc, &files, given, out, err),
+        Asked::Run(given) => run(alloc, &files, &mut journal, given, out, err),
         Asked::List(given) => list(alloc, &files, given, out, err),
-        Asked::Draw(given) => draw(alloc, &files, given, err),
-        Asked::Play(given) => play(alloc, &files, given, out, err, &mut Nowhere),
-        Asked::Read(given) => read(alloc, &files, given, out, err),
-        Asked::Flash(given) => flash(alloc, &files, given, out, err, &mut Nowhere),
+        Asked::Draw(given) => draw(alloc, &files, &mut journal, given, err),
+        Asked::Play(given) => play(alloc, &files, &mut journal, given, out, err, &mut Nowhere),
+        Asked::Read(given) => read(alloc, &files, &mut journal, given, out, err),
+        Asked::Flash(given) => flash(alloc, &files, &mut journal, given, out, err, &mut Nowhere),
         Asked::Sfdp(given) => sfdp(alloc, &files, given, out, err),
-        Asked::Hex(given) => hex(alloc, &files, given, err),
-        Asked::Script(given) => script(alloc, &files, given, out, err),
+        Asked::Hex(given) => hex(alloc, &files, &mut journal, given, err),
+        Asked::Script(given) => script(alloc, &files, &mut journal, given, out, err),
         Asked::Explain(words) => explain(words.as_slice(), out, err),
     }
 }

@@ -10,7 +10,7 @@ use norprog_build::build;
 use norprog_check::check;
 use norprog_common::{
     BuildArgs, CheckArgs, ChipArgs, FileId, FileName, FileStore, Given, Refusal, RunArgs,
-    ScriptFile, SetupArgs,
+    ScriptFile, SetupArgs, Unrecorded,
 };
 use norprog_run::run;
 use std::alloc::Global;
@@ -69,6 +69,8 @@ impl<'a> FileStore for Memory<'a> {
 
     type ToDevice = Vec<u8>;
 
+    type Journal = Unrecorded;
+
     ghost facts = { λ _. nothing_known };
 
     fn read(
@@ -104,6 +106,7 @@ impl<'a> FileStore for Memory<'a> {
 
     fn create(
         &self,
+        _journal: &mut Unrecorded,
         alloc: Global,
         _path: &str,
         _name: FileName,
@@ -114,6 +117,7 @@ impl<'a> FileStore for Memory<'a> {
 
     fn create_new(
         &self,
+        _journal: &mut Unrecorded,
         alloc: Global,
         _path: &str,
         _name: FileName,
@@ -121,19 +125,20 @@ impl<'a> FileStore for Memory<'a> {
         Ok(IntoWrite::new(Vec::new(alloc)))
     }
 
-    fn flush(&self, file: &mut IntoWrite<Vec<u8>>) -> Result<(), Failed> {
-        match file.inner.clone() {
-            Ok(taken) => {
-                let _ = self.flushed.replace(taken);
-                Ok(())
-            }
-            Err(_) => Err(Failed),
-        }
+    fn flush(&self, file: IntoWrite<Vec<u8>>) -> Result<(), Failed> {
+        let _ = self.flushed.replace(file.inner);
+        Ok(())
     }
 
-    fn open_device(&self, _path: &str) -> Result<(&'a [u8], Vec<u8>), Refusal> {
+    fn open_device(
+        &self,
+        _journal: &mut Unrecorded,
+        _path: &str,
+    ) -> Result<(&'a [u8], Vec<u8>), Refusal> {
         Err(Refusal::File(FileName::Device))
     }
+
+    fn close_device(&self, _to: Vec<u8>) {}
 }
 
 /// A chip of 8 KiB.
@@ -211,7 +216,7 @@ fn builds(rt: &impl Abort, alloc: Global, store: &Memory<'_>) {
     };
     let mut out = IntoWrite::new(Vec::new(alloc));
     let mut err = IntoWrite::new(Vec::new(alloc));
-    let built = build(alloc, store, given, &mut out, &mut err);
+    let built = build(alloc, store, &mut Unrecorded, given, &mut out, &mut err);
     same(rt, "the build", built, 0);
     let script = store.flushed.replace(Vec::new(alloc));
     holds(rt, "the script", script.as_slice() == ONE_BYTE.as_bytes());
@@ -237,7 +242,8 @@ fn checks(rt: &impl Abort, alloc: Global, store: &Memory<'_>) {
 fn plays(rt: &impl Abort, alloc: Global, store: &Memory<'_>) {
     let mut out = IntoWrite::new(Vec::new(alloc));
     let mut err = IntoWrite::new(Vec::new(alloc));
-    let played = run(alloc, store, one_play(), &mut out, &mut err);
+    let mut journal = Unrecorded;
+    let played = run(alloc, store, &mut journal, one_play(), &mut out, &mut err);
     same(rt, "the play", played, 0);
     holds(rt, "its line", out.inner.as_slice() == b"ok 3\n".as_slice());
     let after = store.flushed.replace(Vec::new(alloc));

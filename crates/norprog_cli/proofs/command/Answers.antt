@@ -1,5 +1,6 @@
 -- The command's answer, then more of its refusal; or why the words are refused.
 use Rattle.std.proofs.Common.{Ok, Err, map, refl, string_bytes, subst}
+use Rattle.norprog_common.proofs.JournalLemmas.{adds_none}
 use Rattle.norprog_options.specs.Spelled.{Refuses, Spells}
 use Rattle.norprog_cli.proofs.command.Goals as goal
 
@@ -17,6 +18,7 @@ returns-clause-answer g c = (
   Err c.in-Err.refusal,
   (
     subst (λ words. Refuses (map string_bytes words) c.in-Err.refusal) c.as_slice.ensures.value c.in-Err.ensures.refused,
+    adds_none _ _ refl,
     refl,
     (c.in-Err.refusal, refl, c.refuse.ensures.status, c.refuse.ensures.told),
   ),

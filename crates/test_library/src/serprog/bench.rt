@@ -7,6 +7,7 @@ use crate::serprog::memory::Memory;
 use crate::serprog::programmer::{Fault, FromProgrammer, Programmer, ToProgrammer};
 use crate::serprog::store::Store;
 use nor_base::{FromRead, IntoWrite};
+use norprog_common::Unrecorded;
 use norprog_flash::{Ending, Job, Unflashed, flash_opened};
 use std::alloc::{AllocError, Global};
 use std::cell::Cell;
@@ -64,6 +65,7 @@ fn flashed_by<'a>(
     let ended = flash_opened(
         alloc,
         &store,
+        &mut Unrecorded,
         &mut from,
         &mut to,
         job,

@@ -11,7 +11,7 @@ use crate::serprog::scripts::{CELL, DONE, GREETED, GREETING, MANY, REST, STATUS,
 use crate::serprog::store::{FromLine, Store, ToLine};
 use nor_base::{FromRead, IntoWrite, Part, put_parts};
 use nor_script::hex_pair;
-use norprog_common::{FileStore, refuse};
+use norprog_common::{FileStore, Unrecorded, refuse};
 use norprog_device::refuse_device;
 use norprog_flash::{Ending, Job, Unflashed, flash_opened, write_ending};
 use norprog_read::{Ask, Known, write_unlike};
@@ -642,7 +642,7 @@ fn flashes(rt: &impl Abort, alloc: Global, row: &Row) -> Result<(), AllocError> 
     let left = Cell::new(answers.len());
     let saved = Cell::new(Vec::new(alloc));
     let store = store_of(alloc, row, answers.as_slice(), &put, &left, &saved);
-    match store.open_device("device") {
+    match store.open_device(&mut Unrecorded, "device") {
         Ok(line) => works(rt, alloc, &store, line, row)?,
         Err(_) => holds(rt, "a device", false),
     }
@@ -709,6 +709,7 @@ fn works(
     let ended = flash_opened(
         alloc,
         store,
+        &mut Unrecorded,
         &mut from,
         &mut to,
         &job,

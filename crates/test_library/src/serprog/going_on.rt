@@ -6,7 +6,7 @@ use crate::serprog::canned::{End, Held};
 use crate::serprog::flashes::stopped_answers;
 use crate::serprog::store::Store;
 use nor_base::{Bytes, IntoWrite};
-use norprog_common::ChipArgs;
+use norprog_common::{ChipArgs, Unrecorded};
 use norprog_flash::{FlashArgs, flash};
 use std::alloc::{AllocError, Global};
 use std::cell::Cell;
@@ -96,7 +96,16 @@ fn told_of(
     let mut out = IntoWrite::new(Held::new(alloc, 1000));
     let mut err = IntoWrite::new(Held::new(alloc, 1000));
     let mut progress = IntoWrite::new(Held::new(alloc, 1000));
-    let status = flash(alloc, &store, given, &mut out, &mut err, &mut progress);
+    let mut journal = Unrecorded;
+    let status = flash(
+        alloc,
+        &store,
+        &mut journal,
+        given,
+        &mut out,
+        &mut err,
+        &mut progress,
+    );
     same(rt, "the status", status, 1);
     let printed = out.into_inner().bytes;
     holds(

@@ -6,7 +6,7 @@ use crate::serprog::canned::{End, Held};
 use crate::serprog::line::{ANSWERS, PUT, joined};
 use crate::serprog::store::Store;
 use nor_base::IntoWrite;
-use norprog_common::{ChipArgs, PlayArgs, SetupArgs};
+use norprog_common::{ChipArgs, PlayArgs, SetupArgs, Unrecorded};
 use norprog_play::play;
 use std::alloc::{AllocError, Global};
 use std::cell::Cell;
@@ -670,7 +670,16 @@ fn tells<'a>(
     let mut out = IntoWrite::new(Held::new(alloc, row.room));
     let mut err = IntoWrite::new(Held::new(alloc, 1000));
     let mut progress = IntoWrite::new(Held::new(alloc, 1000));
-    let code = play(alloc, &store, given(row), &mut out, &mut err, &mut progress);
+    let mut journal = Unrecorded;
+    let code = play(
+        alloc,
+        &store,
+        &mut journal,
+        given(row),
+        &mut out,
+        &mut err,
+        &mut progress,
+    );
     holds(rt, "the line", out.inner.bytes.as_slice() == row.line);
     let told = joined(alloc, row.told)?;
     holds(

@@ -5,7 +5,7 @@ ghost use Rattle.norprog_common.specs.Files.{RefusesFile, IsOfFiles};
 
 use crate::serprog::canned::{Canned, End};
 use nor_base::{Failed, FromRead, IntoWrite};
-use norprog_common::{FileId, FileName, FileStore, Refusal, ScriptFile};
+use norprog_common::{FileId, FileName, FileStore, Refusal, ScriptFile, Unrecorded};
 use std::alloc::Global;
 use std::cell::Cell;
 use std::io;
@@ -108,6 +108,8 @@ impl<'a> FileStore for Store<'a> {
 
     type ToDevice = ToLine<'a>;
 
+    type Journal = Unrecorded;
+
     ghost facts = { λ _. nothing_known };
 
     fn read(
@@ -143,6 +145,7 @@ impl<'a> FileStore for Store<'a> {
 
     fn create(
         &self,
+        _journal: &mut Unrecorded,
         _alloc: Global,
         _path: &str,
         name: FileName,
@@ -153,6 +156,7 @@ impl<'a> FileStore for Store<'a> {
 
     fn create_new(
         &self,
+        _journal: &mut Unrecorded,
         alloc: Global,
         _path: &str,
         name: FileName,
@@ -163,20 +167,19 @@ impl<'a> FileStore for Store<'a> {
         }
     }
 
-    fn flush(&self, file: &mut IntoWrite<Vec<u8>>) -> Result<(), Failed> {
+    fn flush(&self, file: IntoWrite<Vec<u8>>) -> Result<(), Failed> {
         let Some(saved) = self.saved else {
             return Err(Failed);
         };
-        match file.inner.clone() {
-            Ok(taken) => {
-                let _ = saved.replace(taken);
-                Ok(())
-            }
-            Err(_) => Err(Failed),
-        }
+        let _ = saved.replace(file.inner);
+        Ok(())
     }
 
-    fn open_device(&self, _path: &str) -> Result<(FromLine<'a>, ToLine<'a>), Refusal> {
+    fn open_device(
+        &self,
+        _journal: &mut Unrecorded,
+        _path: &str,
+    ) -> Result<(FromLine<'a>, ToLine<'a>), Refusal> {
         let canned = Canned {
             answers: self.answers,
             silent: 0,
@@ -192,4 +195,6 @@ impl<'a> FileStore for Store<'a> {
         };
         Ok((from, to))
     }
+
+    fn close_device(&self, _to: ToLine<'a>) {}
 }

@@ -2,7 +2,7 @@
 use Rattle.norprog_build.specs.Answer.{PrintsReport, CutsReport, RefusesBuild}
 use Rattle.norprog_build.specs.Served.{asks_build, ServesBuild}
 use Rattle.norprog_common.specs.Strict.{Filled}
-use Rattle.norprog_build.proofs.AnswerLemmas.{answer_is}
+use Rattle.norprog_common.proofs.ToldLemmas.{answer_is}
 use Rattle.norprog_build.proofs.command.build.Goals as goal
 
 pub returns-clause-answer : goal.returns-clause-answer
@@ -12,6 +12,6 @@ returns-clause-answer g c =
     answer_is (asks_build c.args.given)
     (PrintsReport (Filled strict (ServesBuild files c.args.given)) files.flushed (g.O.ByteOut.held c.args.out.now) (g.O.ByteOut.held c.report_build.new.out))
     (CutsReport (Filled strict (ServesBuild files c.args.given)) files.flushed (g.O.ByteOut.held c.args.out.now) (g.O.ByteOut.held c.report_build.new.out))
-    _ _ (RefusesBuild strict files.lacked (ServesBuild files c.args.given)) _ _ c.report_build.result c.answered.result
-    c.report_build.ensures.status c.report_build.ensures.printed c.report_build.ensures.unprinted c.report_build.ensures.asked c.report_build.ensures.first
+    _ _ _ _ (RefusesBuild strict files.lacked (ServesBuild files c.args.given)) _ _ c.report_build.result c.answered.result
+    c.report_build.ensures.done c.report_build.ensures.journal c.report_build.ensures.printed c.report_build.ensures.unprinted c.report_build.ensures.first
     c.answered.ensures.done c.answered.ensures.told

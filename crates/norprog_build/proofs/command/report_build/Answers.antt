@@ -1,5 +1,5 @@
 -- What was built is what the texts ask for.
-use Rattle.std.proofs.Common.{ap, inr, is_some, Some, option_map, ◌&&◌}
+use Rattle.std.proofs.Common.{ap, inr, refl, is_some, Some, option_map, ◌&&◌}
 use Rattle.nor_base.proofs.FaultLaws.{handed_on}
 use Rattle.norprog_common.proofs.ToldLemmas.{asked_wider, or_usage}
 use Rattle.norprog_build.specs.Served.{asks_build, ServesBuild}
@@ -66,7 +66,9 @@ returns-in_err-request-clause-first g c =
     (no_job (asks_build c.args.given) c.args.given.job c.request_of.result _ c.in_err-request.field-0.0
     (ap (λ b. b && is_some c.args.given.out)) c.request_of.ensures.forms c.in_err-request.ensures.ok_part c.in_err-request.ensures.value)
 
-pub returns-in-Ok-clause-asked : goal.returns-in-Ok-clause-asked
-returns-in-Ok-clause-asked g c =
-    build_asked c.args.given c.request_of.result c.in_ok-request.request c.in_ok-path.path.now
-    c.in_ok-request.ensures.ok_part c.request_of.ensures.forms (ap (option_map (λ t. t.now)) c.in_ok-path.ensures.ok_part)
+pub returns-in-Ok-clause-done : goal.returns-in-Ok-clause-done
+returns-in-Ok-clause-done g c = (
+  refl,
+  build_asked c.args.given c.request_of.result c.in_ok-request.request c.in_ok-path.path.now
+      c.in_ok-request.ensures.ok_part c.request_of.ensures.forms (ap (option_map (λ t. t.now)) c.in_ok-path.ensures.ok_part),
+)

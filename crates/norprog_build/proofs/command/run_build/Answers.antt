@@ -1,5 +1,7 @@
 -- The report, or the fault, is that of the request's job.
 use Rattle.std.proofs.Common.{Some}
+use Rattle.norprog_common.specs.FileStore.{Adds}
+use Rattle.norprog_common.proofs.JournalLemmas.{made_anyway, output_made}
 use Rattle.norprog_common.proofs.StoreLemmas.{made_apart}
 use Rattle.norprog_common.specs.Served.{IsJobOf, held_in, input_files_of}
 use Rattle.nor_base.proofs.FaultLaws.{handed_on}
@@ -16,7 +18,7 @@ returns-clause-built g c =
     let asked = job_of files c.args.request.now (Some c.args.path.now) c.inputs_of-inputs.result _ _ (Some _) (held_in c.in_ok-texts.texts)
     c.in_ok-texts.ensures.given c.inputs_of-inputs.ensures c.in_ok-texts.ensures.content made in
     report_of (Filled c.args.request.now.strict (IsJobOf files c.args.request.now (Some c.args.path.now))) files.flushed _ _ _ _ _ _ c.build-answer.result c.flush-flushed.result _ (asked, c.in_ok-refuse_empty.ensures.filled)
-    c.build-answer.ensures.built c.flush-flushed.ensures.flushed c.done.ensures
+    c.build-answer.ensures.built c.flush-flushed.ensures c.done.ensures
 
 pub returns-clause-refused : goal.returns-clause-refused
 returns-clause-refused g c =
@@ -37,3 +39,14 @@ returns-in_err-refuse_empty-clause-refused g c =
     c.in_ok-texts.ensures.given c.inputs_of-inputs.ensures c.in_ok-texts.ensures.content made in
     handed_on _ _ _ c.from_residual-in_err-refuse_empty.ensures.1
     (empty_refused c.args.request.now.strict files.lacked (IsJobOf files c.args.request.now (Some c.args.path.now)) _ _ asked c.in_err-refuse_empty.ensures.refused)
+
+-- the output was made once, as none of the files that were opened before it
+pub returns-clause-journal : goal.returns-clause-journal
+returns-clause-journal g c =
+    let files = g.S.FileStore.facts c.args.store.now in
+    let changes = g.S.Journal.Journal.changes in
+    let names = input_files_of c.args.request.now in
+    let Made = Adds (changes c.args.journal.now) (changes c.create.new.journal) in
+    let made = output_made files names c.args.path.now _ _ _ Made
+    c.new-places.ensures.items c.in_ok-texts.ensures.noted c.as_slice.ensures.value c.in_ok-script.ensures.journal in
+    made_anyway files names (Some c.args.path.now) Made c.done.result made

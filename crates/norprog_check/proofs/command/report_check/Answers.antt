@@ -1,6 +1,7 @@
 -- The verdict is on what the texts ask for.
 use Rattle.std.proofs.Common.{ap, inr, is_some, None, option_map, ◌&&◌}
 use Rattle.norprog_common.specs.FileStore.{IsTextIn}
+use Rattle.norprog_common.specs.Reading.{HasFailed}
 use Rattle.norprog_common.specs.Strict.{Filled}
 use Rattle.nor_base.proofs.FaultLaws.{handed_on}
 use Rattle.norprog_common.proofs.ToldLemmas.{or_usage}
@@ -28,7 +29,7 @@ returns-in_err-found-clause-first g c =
     c.in_ok-request.ensures.ok_part c.request_of.ensures.forms script in
     handed_on _ _ _ c.from_residual-in_err-found.ensures.1
     (or_usage _ _ _ formed (check_refused files c.args.given c.request_of.result c.in_ok-request.request c.in_ok-path.path.now
-    c.in_ok-request.ensures.ok_part c.request_of.ensures.values script _ c.in_err-found.ensures.refused))
+    c.in_ok-request.ensures.ok_part c.request_of.ensures.values script (HasFailed g.S.Input.ByteIn.ahead g.S.Input.ByteIn.count) _ c.in_err-found.ensures.refused))
 
 pub returns-clause-unprinted : goal.returns-clause-unprinted
 returns-clause-unprinted g c =

@@ -3,6 +3,8 @@ use Rattle.std.proofs.Common.{None, inr}
 use Rattle.norprog_common.specs.FileStore.{IsTextIn}
 use Rattle.norprog_common.specs.Told.{OrScript}
 use Rattle.norprog_common.proofs.StoreLemmas.{text_in}
+use Rattle.norprog_common.specs.Reading.{FailsReading, HasFailed}
+use Rattle.norprog_common.proofs.ReadingLemmas.{fails_in, read_in}
 use Rattle.norprog_common.specs.Served.{IsJobOf, held_in}
 use Rattle.norprog_common.specs.Strict.{Filled}
 use Rattle.nor_base.proofs.FaultLaws.{handed_on}
@@ -21,16 +23,23 @@ returns-clause-checked g c =
 pub returns-clause-refused : goal.returns-clause-refused
 returns-clause-refused g c =
     let files = g.S.FileStore.facts c.args.store.now in
+    let ahead = g.S.Input.ByteIn.ahead in
+    let Failed = HasFailed ahead g.S.Input.ByteIn.count in
+    let Lacks = OrScript files.lacked (FailsReading files Failed c.args.path.now) in
+    let of = c.in_ok-script.ensures.script in
     let asked = job_of files c.args.request.now None c.inputs_of-inputs.result _ _ None (held_in c.in_ok-texts.texts)
     c.in_ok-texts.ensures.given c.inputs_of-inputs.ensures c.in_ok-texts.ensures.content tt in
-    asked_refused c.args.request.now.strict (OrScript files.lacked) (IsJobOf files c.args.request.now None) (IsTextIn files c.args.path.now) c.check_file.result
-    (refusals_wider _ (OrScript files.lacked) _ (Filled c.args.request.now.strict (IsJobOf files c.args.request.now None)) _ (IsTextIn files c.args.path.now) (λ name is. inr is) (of_one (Filled c.args.request.now.strict (IsJobOf files c.args.request.now None)) _ (asked, c.in_ok-refuse_empty.ensures.filled))
-    (λ text of. text_in files c.args.path.now g.S.Input.ByteIn.ahead c.in_ok-script.script text c.in_ok-script.ensures.script of) c.check_file.result c.check_file.ensures.refused)
+    asked_refused c.args.request.now.strict Lacks (IsJobOf files c.args.request.now None) (IsTextIn files c.args.path.now) Failed c.check_file.result
+    (refusals_wider _ Lacks _ (Filled c.args.request.now.strict (IsJobOf files c.args.request.now None)) _ (IsTextIn files c.args.path.now) Failed
+    (λ name is. inr (is.0, fails_in files c.args.path.now ahead Failed c.in_ok-script.script of is.1))
+    (of_one (Filled c.args.request.now.strict (IsJobOf files c.args.request.now None)) _ (asked, c.in_ok-refuse_empty.ensures.filled))
+    (λ text is. read_in files c.args.path.now ahead c.in_ok-script.script text of is) c.check_file.result c.check_file.ensures.refused)
 
 pub returns-in_err-refuse_empty-clause-refused : goal.returns-in_err-refuse_empty-clause-refused
 returns-in_err-refuse_empty-clause-refused g c =
     let files = g.S.FileStore.facts c.args.store.now in
+    let Failed = HasFailed g.S.Input.ByteIn.ahead g.S.Input.ByteIn.count in
     let asked = job_of files c.args.request.now None c.inputs_of-inputs.result _ _ None (held_in c.in_ok-texts.texts)
     c.in_ok-texts.ensures.given c.inputs_of-inputs.ensures c.in_ok-texts.ensures.content tt in
     handed_on _ _ _ c.from_residual-in_err-refuse_empty.ensures.1
-    (empty_refused c.args.request.now.strict (OrScript files.lacked) (IsJobOf files c.args.request.now None) (IsTextIn files c.args.path.now) _ _ asked c.in_err-refuse_empty.ensures.refused)
+    (empty_refused c.args.request.now.strict (OrScript files.lacked (FailsReading files Failed c.args.path.now)) (IsJobOf files c.args.request.now None) (IsTextIn files c.args.path.now) Failed _ _ asked c.in_err-refuse_empty.ensures.refused)

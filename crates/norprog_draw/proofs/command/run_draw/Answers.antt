@@ -16,7 +16,7 @@ returns-clause-drawn g c =
     (c.in_ok-script.place ∷ [], (c.in_ok-script.ensures.stood, tt), c.in_ok-out.ensures.made) c.draw_steps-answer.result c.flush-flushed.result _
     (subst (λ (steps : List Step). Writes (g.S.Output.ByteOut.held c.in_ok-out.out) (g.S.Output.ByteOut.held c.draw_steps-answer.new.out) c.draw_steps-answer.result
     (waves (part c.args.request.from c.args.request.count steps))) c.as_slice-2.ensures.value c.draw_steps-answer.ensures.bytes)
-    c.flush-flushed.ensures.flushed c.done.ensures
+    c.flush-flushed.ensures c.done.ensures
 
 pub returns-clause-refused : goal.returns-clause-refused
 returns-clause-refused g c =

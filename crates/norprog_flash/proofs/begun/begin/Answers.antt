@@ -1,24 +1,33 @@
--- What was read couldn't be saved, or its work couldn't be planned.
+-- The chip wasn't read, what was read couldn't be saved, or its work couldn't be planned.
 use Rattle.nor_base.proofs.FaultLaws.{handed_on}
+use Rattle.norprog_common.specs.FileStore.{Adds}
 use Rattle.norprog_flash.specs.declared.ending.Unflashed.TheVariants.{Refused}
 use Rattle.norprog_flash.specs.Stops.{StopsBegun}
-use Rattle.norprog_flash.proofs.StopsLemmas.{unplanned, unsaved}
+use Rattle.norprog_flash.proofs.StopsLemmas.{unplanned, unread, unsaved}
 use Rattle.norprog_flash.proofs.begun.begin.Goals as goal
+
+pub returns-in_err-reading-clause-stops : goal.returns-in_err-reading-clause-stops
+returns-in_err-reading-clause-stops g c =
+    handed_on (StopsBegun (g.S.FileStore.facts c.args.store.now) (Adds _ _) _ _ _ _ c.args.job.now _ _) _ c.in_err-reading.field-0.0
+    c.from_residual.ensures.1
+    (unread (g.S.FileStore.facts c.args.store.now) _ _ _ _ _ c.args.job.now _ c.in_err-reading.field-0.0 c.in_err-reading.ensures.stops
+    c.in_err-reading.ensures.harmless)
 
 pub returns-in_err-save-clause-stops : goal.returns-in_err-save-clause-stops
 returns-in_err-save-clause-stops g c =
-    handed_on (StopsBegun (g.S.FileStore.facts c.args.store.now) _ _ _ _ c.args.job.now _ _) _ (Refused c.in_err-save.field-0.0)
+    handed_on (StopsBegun (g.S.FileStore.facts c.args.store.now) (Adds _ _) _ _ _ _ c.args.job.now _ _) _ (Refused c.in_err-save.field-0.0)
     c.from_residual-in_err-save.ensures.1
     (unsaved (g.S.FileStore.facts c.args.store.now) (g.W.ByteOut.held c.args.to.now) (g.W.ByteOut.held c.read_suited.new.to)
     (g.R.ByteIn.ahead c.args.from.now) (g.R.ByteIn.ahead c.read_suited.new.from) c.args.job.now (g.O.ByteOut.held c.args.out.now)
-    c.in_ok-reading.reading c.in_ok-reading.ensures.read c.in_ok-reading.ensures.harmless c.in_err-save.field-0.0 c.in_err-save.ensures.fails)
+    c.in_ok-reading.reading c.in_ok-reading.ensures.read c.in_ok-reading.ensures.harmless c.in_err-save.field-0.0 c.in_err-save.ensures.fails _ _
+    c.in_err-save.ensures.journal)
 
 pub returns-in_err-work-clause-stops : goal.returns-in_err-work-clause-stops
 returns-in_err-work-clause-stops g c =
-    handed_on (StopsBegun (g.S.FileStore.facts c.args.store.now) _ _ _ _ c.args.job.now _ _) _ (Refused c.in_err-work.field-0.0)
+    handed_on (StopsBegun (g.S.FileStore.facts c.args.store.now) (Adds _ _) _ _ _ _ c.args.job.now _ _) _ (Refused c.in_err-work.field-0.0)
     c.from_residual-in_err-work.ensures.1
-    (unplanned (g.S.FileStore.facts c.args.store.now) (g.W.ByteOut.held c.args.to.now) (g.W.ByteOut.held c.read_suited.new.to)
+    (unplanned (g.S.FileStore.facts c.args.store.now) (Adds _ _) (g.W.ByteOut.held c.args.to.now) (g.W.ByteOut.held c.read_suited.new.to)
     (g.R.ByteIn.ahead c.args.from.now) (g.R.ByteIn.ahead c.read_suited.new.from) c.args.job.now (g.O.ByteOut.held c.args.out.now)
     (g.O.ByteOut.held c.plan_for.new.out) c.in_ok-reading.reading c.in_ok-reading.ensures.read c.in_ok-reading.ensures.harmless
-    c.as_slice.result.now c.as_slice.ensures.value c.in_ok-save.ensures.saved c.in_err-work.field-0.0
+    c.as_slice.result.now c.as_slice.ensures.value c.in_ok-save.ensures.saved c.in_ok-save.ensures.journal c.in_err-work.field-0.0
     c.in_err-work.ensures.refused)

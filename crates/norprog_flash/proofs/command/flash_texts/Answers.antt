@@ -1,5 +1,6 @@
 -- The job of the texts, and its ending.
 use Rattle.std.proofs.Common.{◌≡◌, ℕ, true, List, rules, subst, refl}
+use Rattle.norprog_common.specs.FileStore.{Adds}
 use Rattle.norprog_flash.specs.Request.{is_well_formed, AsksFor}
 use Rattle.norprog_flash.proofs.ServedLemmas.{ending_by, unbegun_by, wanted}
 use Rattle.norprog_read.specs.Request.{IsAskOf}
@@ -16,7 +17,7 @@ returns-clause-ends g c =
     let asks : AsksFor c.args.given.now c.in_ok-request.request = search rules in
     let formed : is_well_formed c.args.given.now ≡ true = search rules in
     let e = subst (λ (file : List ℕ). IsAskOf c.in_ok-request.request.read file c.ask_of-asked.result) c.as_slice.ensures.value c.ask_of-asked.ensures in
-    ending_by files c.args.given.now c.in_ok-request.request _ _ _ c.flash_device.result formed asks
+    ending_by files c.args.given.now c.in_ok-request.request (Adds _ _) _ _ _ c.flash_device.result formed asks
     (record {
       held = c.in_ok-files.files;
       given = c.in_ok-files.ensures.given;
@@ -31,7 +32,7 @@ returns-clause-ends g c =
       strict = refl;
       dry = refl;
     })
-    c.flash_device.ensures.sound c.flash_device.ensures.flashed
+    c.flash_device.ensures.sound c.flash_device.ensures.flashed c.flash_device.ensures.made
 
 pub returns-clause-unbegun : goal.returns-clause-unbegun
 returns-clause-unbegun g c =
@@ -39,7 +40,7 @@ returns-clause-unbegun g c =
     let asks : AsksFor c.args.given.now c.in_ok-request.request = search rules in
     let formed : is_well_formed c.args.given.now ≡ true = search rules in
     let e = subst (λ (file : List ℕ). IsAskOf c.in_ok-request.request.read file c.ask_of-asked.result) c.as_slice.ensures.value c.ask_of-asked.ensures in
-    unbegun_by files c.args.given.now c.in_ok-request.request _ _ _ c.flash_device.result formed asks
+    unbegun_by files c.args.given.now c.in_ok-request.request (Adds _ _) _ _ _ c.flash_device.result formed asks
     (record {
       held = c.in_ok-files.files;
       given = c.in_ok-files.ensures.given;

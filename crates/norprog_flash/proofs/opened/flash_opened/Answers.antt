@@ -1,4 +1,5 @@
 -- The parts of the wire, one after the other.
+use Rattle.norprog_common.specs.FileStore.{Adds}
 use Rattle.norprog_flash.proofs.OpenedLemmas.{opened_by, stopped_by}
 use Rattle.norprog_flash.proofs.opened.flash_opened.Goals as goal
 
@@ -9,5 +10,5 @@ returns-clause-ends g c =
 
 pub returns-clause-stops : goal.returns-clause-stops
 returns-clause-stops g c =
-    stopped_by (g.S.FileStore.facts c.args.store.now) c.args.job.now _ _ _ _ _ _ _ _ _ _ c.in-Ok.limits c.flash_tested-ended.result
+    stopped_by (g.S.FileStore.facts c.args.store.now) (Adds _ _) c.args.job.now _ _ _ _ _ _ _ _ _ _ c.in-Ok.limits c.flash_tested-ended.result
     c.in-Ok.ensures.greeted c.flash_tested-ended.ensures.stops c.let_go.ensures.goes

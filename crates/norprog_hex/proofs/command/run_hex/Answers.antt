@@ -21,7 +21,7 @@ pub returns-clause-written : goal.returns-clause-written
 returns-clause-written g c =
     let files = g.S.FileStore.facts c.args.store.now in
     done_is_written files c.args.request _ c.in_ok-bin.len c.in_ok-bin.ensures.opened _ _ (c.in_ok-bin.place ∷ [], (c.in_ok-bin.ensures.stood, tt), c.in_ok-out.ensures.made)
-    (omega (arith, c.if-len-from.false, c.from.ensures)) _ c.write_bin-answer.result c.flush-flushed.result _ c.write_bin-answer.ensures.converted c.flush-flushed.ensures.flushed c.done.ensures
+    (omega (arith, c.if-len-from.false, c.from.ensures)) _ c.write_bin-answer.result c.flush-flushed.result _ c.write_bin-answer.ensures.converted c.flush-flushed.ensures c.done.ensures
 
 pub returns-clause-refused : goal.returns-clause-refused
 returns-clause-refused g c =

@@ -1,5 +1,7 @@
 -- The ending, or why there is none, is of what the texts ask for.
 use Rattle.std.proofs.Common.{rules, ◌≡◌, true}
+use Rattle.norprog_common.specs.FileStore.{Adds}
+use Rattle.norprog_common.specs.Reading.{HasFailed}
 use Rattle.norprog_play.specs.Request.{is_well_formed, AsksFor}
 use Rattle.norprog_play.proofs.ServedLemmas.{endings_asked, refusals_asked}
 use Rattle.norprog_play.proofs.command.ending_of.Goals as goal
@@ -7,10 +9,11 @@ use Rattle.norprog_play.proofs.command.ending_of.Goals as goal
 pub returns-clause-played : goal.returns-clause-played
 returns-clause-played g c =
     let asks : AsksFor c.args.given c.in_ok-request.request = search rules in
-    endings_asked (g.S.FileStore.facts c.args.store.now) c.args.given c.in_ok-request.request _ asks c.play_request.ensures.played
+    endings_asked (g.S.FileStore.facts c.args.store.now) (Adds (g.S.Journal.Journal.changes c.args.journal.now) (g.S.Journal.Journal.changes c.play_request.new.journal)) c.args.given c.in_ok-request.request _ asks c.play_request.ensures.played
 
 pub returns-clause-first : goal.returns-clause-first
 returns-clause-first g c =
     let asks : AsksFor c.args.given c.in_ok-request.request = search rules in
     let formed : is_well_formed c.args.given ≡ true = search rules in
-    refusals_asked (g.S.FileStore.facts c.args.store.now) c.args.given c.in_ok-request.request _ asks formed c.play_request.ensures.refused
+    refusals_asked (g.S.FileStore.facts c.args.store.now) (HasFailed g.S.Input.ByteIn.ahead g.S.Input.ByteIn.count)
+    (Adds (g.S.Journal.Journal.changes c.args.journal.now) (g.S.Journal.Journal.changes c.play_request.new.journal)) c.args.given c.in_ok-request.request asks _ formed c.play_request.ensures.refused

@@ -1,13 +1,15 @@
 -- The ending, or why there is none, is of the request's chip, script, content, limit and trust.
-use Rattle.std.proofs.Common.{◌≡◌, ap, sym, subst}
+use Rattle.std.proofs.Common.{◌≡◌, ap, refl, sym, subst}
 use Rattle.nor_job.specs.Task.{Task}
 use Rattle.norprog_common.specs.Chip.{origin_of}
-use Rattle.norprog_common.specs.FileStore.{AreTables}
+use Rattle.norprog_common.specs.FileStore.{Adds, AreTables}
+use Rattle.norprog_common.specs.Reading.{HasFailed}
+use Rattle.norprog_common.proofs.JournalLemmas.{adds_none}
 use Rattle.nor_base.proofs.FaultLaws.{handed_on}
 use Rattle.norprog_play.specs.declared.unplayed.Unplayed.TheVariants.{Refused}
 use Rattle.norprog_play.specs.Answer.{IsUnplayed}
 use Rattle.norprog_play.specs.Served.{IsTaskOf}
-use Rattle.norprog_play.proofs.ServedLemmas.{expected_so, is_ahead_in, lacked_refused, no_job, was_played, was_stopped}
+use Rattle.norprog_play.proofs.ServedLemmas.{blames, expected_so, is_ahead_in, lacked_refused, no_job, was_played, was_stopped}
 use Rattle.norprog_play.proofs.command.play_request.Goals as goal
 
 pub returns-in_err-job-clause-refused : goal.returns-in_err-job-clause-refused
@@ -15,8 +17,12 @@ returns-in_err-job-clause-refused g c =
     let files = g.S.FileStore.facts c.args.store.now in
     let tables = subst (AreTables files (origin_of c.args.request.setup.chip)) (sym c.as_slice.ensures.value) c.in_ok-tables.ensures.tables in
     let script = is_ahead_in files c.args.request.script.now _ _ c.in_ok-script.ensures.opened in
+    let ahead = g.S.Input.ByteIn.ahead in
+    let count = g.S.Input.ByteIn.count in
     handed_on _ _ _ c.from_residual-in_err-job.ensures.1
-    (no_job files c.args.request _ _ _ _ _ c.setup_inputs-inputs.ensures tables script c.in_ok-content.ensures.opened _ _ _ c.in_err-job.ensures.refused)
+    (no_job files c.args.request _ _ _ _ _ c.setup_inputs-inputs.ensures tables script c.in_ok-content.ensures.opened (HasFailed ahead count) _ _ _ _ c.in_err-job.ensures.refused
+    (blames ahead count _ _ _ _ _ _ _ c.in_err-job.ensures.refused c.in_err-job.ensures.counts.2 c.in_err-job.ensures.counts.1 c.in_err-job.ensures.counts.0)
+    (adds_none _ _ refl))
 
 pub returns-clause-played : goal.returns-clause-played
 returns-clause-played g c =
@@ -25,7 +31,8 @@ returns-clause-played g c =
     let script = is_ahead_in files c.args.request.script.now _ _ c.in_ok-script.ensures.opened in
     let family : c.args.request.setup.part ≡ c.setup_inputs-inputs.result.part = sym (ap (λ (t : Task). t.part) c.setup_inputs-inputs.ensures) in
     let same = expected_so c.setup_inputs-inputs.result c.args.request.setup.part c.in_ok-job.job.start c.known_tables.result.now c.args.request.trust family c.in_ok-job.ensures.ready.0 c.known_tables.ensures.tables in
-    was_played files c.args.request _ _ _ _ _ c.setup_inputs-inputs.ensures tables script c.in_ok-content.ensures.opened _ _ c.in_ok-job.job.meaning
+    was_played files c.args.request _ _ _ _ _ c.setup_inputs-inputs.ensures tables script c.in_ok-content.ensures.opened (HasFailed g.S.Input.ByteIn.ahead g.S.Input.ByteIn.count)
+    (Adds (g.S.Journal.Journal.changes c.args.journal.now) (g.S.Journal.Journal.changes c.play_job.new.journal)) _ _ c.in_ok-job.job.meaning
     c.in_ok-job.job.steps.items c.in_ok-job.job.content.items c.in_ok-job.ensures.ready.1 _ same c.play_job.result c.play_job.ensures
 
 pub returns-clause-refused : goal.returns-clause-refused
@@ -35,23 +42,30 @@ returns-clause-refused g c =
     let script = is_ahead_in files c.args.request.script.now _ _ c.in_ok-script.ensures.opened in
     let family : c.args.request.setup.part ≡ c.setup_inputs-inputs.result.part = sym (ap (λ (t : Task). t.part) c.setup_inputs-inputs.ensures) in
     let same = expected_so c.setup_inputs-inputs.result c.args.request.setup.part c.in_ok-job.job.start c.known_tables.result.now c.args.request.trust family c.in_ok-job.ensures.ready.0 c.known_tables.ensures.tables in
-    was_stopped files c.args.request _ _ _ _ _ c.setup_inputs-inputs.ensures tables script c.in_ok-content.ensures.opened _ _ c.in_ok-job.job.meaning
+    was_stopped files c.args.request _ _ _ _ _ c.setup_inputs-inputs.ensures tables script c.in_ok-content.ensures.opened (HasFailed g.S.Input.ByteIn.ahead g.S.Input.ByteIn.count)
+    (Adds (g.S.Journal.Journal.changes c.args.journal.now) (g.S.Journal.Journal.changes c.play_job.new.journal)) _ _ c.in_ok-job.job.meaning
     c.in_ok-job.job.steps.items c.in_ok-job.job.content.items c.in_ok-job.ensures.ready.1 _ same c.play_job.result c.play_job.ensures
 
 pub returns-in_err-tables-clause-refused : goal.returns-in_err-tables-clause-refused
 returns-in_err-tables-clause-refused g c =
     let files = g.S.FileStore.facts c.args.store.now in
-    handed_on (IsUnplayed files (IsTaskOf files c.args.request)) _ (Refused c.in_err-tables.field-0.0) c.from_residual.ensures.1
-    (lacked_refused files.lacked (IsTaskOf files c.args.request) c.in_err-tables.field-0.0 c.in_err-tables.ensures.lacked)
+    let Failed = HasFailed g.S.Input.ByteIn.ahead g.S.Input.ByteIn.count in
+    let before = g.S.Journal.Journal.changes c.args.journal.now in
+    handed_on (IsUnplayed files Failed (Adds before before) (IsTaskOf files c.args.request)) _ (Refused c.in_err-tables.field-0.0) c.from_residual.ensures.1
+    (lacked_refused files Failed (Adds before before) (IsTaskOf files c.args.request) c.in_err-tables.field-0.0 c.in_err-tables.ensures.lacked (adds_none _ _ refl))
 
 pub returns-in_err-content-clause-refused : goal.returns-in_err-content-clause-refused
 returns-in_err-content-clause-refused g c =
     let files = g.S.FileStore.facts c.args.store.now in
-    handed_on (IsUnplayed files (IsTaskOf files c.args.request)) _ (Refused c.in_err-content.field-0.0) c.from_residual-in_err-content.ensures.1
-    (lacked_refused files.lacked (IsTaskOf files c.args.request) c.in_err-content.field-0.0 c.in_err-content.ensures.lacked)
+    let Failed = HasFailed g.S.Input.ByteIn.ahead g.S.Input.ByteIn.count in
+    let before = g.S.Journal.Journal.changes c.args.journal.now in
+    handed_on (IsUnplayed files Failed (Adds before before) (IsTaskOf files c.args.request)) _ (Refused c.in_err-content.field-0.0) c.from_residual-in_err-content.ensures.1
+    (lacked_refused files Failed (Adds before before) (IsTaskOf files c.args.request) c.in_err-content.field-0.0 c.in_err-content.ensures.lacked (adds_none _ _ refl))
 
 pub returns-in_err-script-clause-refused : goal.returns-in_err-script-clause-refused
 returns-in_err-script-clause-refused g c =
     let files = g.S.FileStore.facts c.args.store.now in
-    handed_on (IsUnplayed files (IsTaskOf files c.args.request)) _ (Refused c.in_err-script.field-0.0) c.from_residual-in_err-script.ensures.1
-    (lacked_refused files.lacked (IsTaskOf files c.args.request) c.in_err-script.field-0.0 c.in_err-script.ensures.lacked)
+    let Failed = HasFailed g.S.Input.ByteIn.ahead g.S.Input.ByteIn.count in
+    let before = g.S.Journal.Journal.changes c.args.journal.now in
+    handed_on (IsUnplayed files Failed (Adds before before) (IsTaskOf files c.args.request)) _ (Refused c.in_err-script.field-0.0) c.from_residual-in_err-script.ensures.1
+    (lacked_refused files Failed (Adds before before) (IsTaskOf files c.args.request) c.in_err-script.field-0.0 c.in_err-script.ensures.lacked (adds_none _ _ refl))

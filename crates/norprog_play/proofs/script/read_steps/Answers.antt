@@ -6,6 +6,7 @@ use Rattle.nor_script.specs.Stream.{reading, Advances, CountsStep, HasRead, Stop
 use Rattle.nor_script.proofs.StreamLaws.{has_begun, has_more}
 use Rattle.nor_script.proofs.TextLaws.{script_of, stops_header, stops_step, stops_memory}
 use Rattle.nor_base.proofs.FaultLaws.{handed_on}
+use Rattle.norprog_common.proofs.ReadingLemmas.{header_gave, more_gave, step_gave}
 use Rattle.norprog_play.proofs.script.read_steps.Goals as goal
 
 pub returns-in_err-reader-clause-stopped : goal.returns-in_err-reader-clause-stopped
@@ -66,3 +67,27 @@ returns-clause-read g c =
     let read : Advances now next c.loop-reader.reader.steps c.advance.new.self.step (Ok false) =
     subst (λ b. Advances now next c.loop-reader.reader.steps c.advance.new.self.step (Ok b)) c.if-branch.false c.in_ok-advance.ensures.step in
     script_of (g.A.ByteIn.ahead c.args.script.now) now next c.loop-reader.steps.items c.loop-reader.reader.steps c.advance.new.self.step v.read v.number read
+
+pub returns-in_err-reader-clause-gave : goal.returns-in_err-reader-clause-gave
+returns-in_err-reader-clause-gave g c = header_gave _ _ c.in_err-reader.field-0.0 c.in_err-reader.ensures.begun
+
+pub returns-in_err-advance-clause-gave : goal.returns-in_err-advance-clause-gave
+returns-in_err-advance-clause-gave g c =
+    step_gave _ (reading (g.A.ByteIn.ahead c.loop-reader.script) c.loop-reader.reader.held) (reading (g.A.ByteIn.ahead c.advance.new.source) c.advance.new.self.held)
+    c.loop-reader.steps.items c.loop-reader.reader.steps c.advance.new.self.step c.in_err-advance.field-0.0 c.loop-reader.invariant.read c.in_err-advance.ensures.step
+
+pub returns-in_err-keep-clause-gave : goal.returns-in_err-keep-clause-gave
+returns-in_err-keep-clause-gave g c =
+    let now = (reading (g.A.ByteIn.ahead c.loop-reader.script) c.loop-reader.reader.held) in
+    let next = (reading (g.A.ByteIn.ahead c.advance.new.source) c.advance.new.self.held) in
+    let read : Advances now next c.loop-reader.reader.steps c.advance.new.self.step (Ok true) =
+    subst (λ b. Advances now next c.loop-reader.reader.steps c.advance.new.self.step (Ok b)) c.if-branch.true c.in_ok-advance.ensures.step in
+    more_gave _ now next c.loop-reader.steps.items _ c.loop-reader.invariant.read read.0
+
+pub returns-clause-gave : goal.returns-clause-gave
+returns-clause-gave g c =
+    let now = (reading (g.A.ByteIn.ahead c.loop-reader.script) c.loop-reader.reader.held) in
+    let next = (reading (g.A.ByteIn.ahead c.advance.new.source) c.advance.new.self.held) in
+    let read : Advances now next c.loop-reader.reader.steps c.advance.new.self.step (Ok false) =
+    subst (λ b. Advances now next c.loop-reader.reader.steps c.advance.new.self.step (Ok b)) c.if-branch.false c.in_ok-advance.ensures.step in
+    more_gave _ now next c.loop-reader.steps.items _ c.loop-reader.invariant.read read.0

@@ -1,8 +1,16 @@
--- The device that was named, read so.
+-- The device that was named, read so, or not, and then closed.
 use Rattle.std.proofs.Common.{rules}
-use Rattle.norprog_read.proofs.OpenedLemmas.{read_on}
+use Rattle.norprog_common.specs.FileStore.{Adds}
+use Rattle.norprog_read.proofs.OpenedLemmas.{read_on, unread_on}
 use Rattle.norprog_read.proofs.command.read_device.Goals as goal
 
 pub returns-clause-read : goal.returns-clause-read
 returns-clause-read g c =
-    read_on ((g.S.FileStore.facts c.args.store.now).device c.args.device.now) c.args.ask.now _ _ _ _ c.read_opened.result (search rules) c.read_opened.ensures.read
+    let files = g.S.FileStore.facts c.args.store.now in
+    read_on (files.device c.args.device.now) files.left c.args.ask.now _ _ _ _ c.read_opened-read.result (search rules) c.read_opened-read.ensures.read
+    (search rules)
+
+pub returns-clause-unread : goal.returns-clause-unread
+returns-clause-unread g c =
+    unread_on (g.S.FileStore.facts c.args.store.now) c.args.device.now (Adds _ _) c.args.ask.now _ _ _ _ (search rules) (search rules) (search rules)
+    c.read_opened-read.result c.read_opened-read.ensures.stops

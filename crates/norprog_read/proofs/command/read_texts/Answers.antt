@@ -1,12 +1,13 @@
--- Why it isn't read, and why what was read isn't kept.
+-- What is kept; why it isn't read, and why what was read isn't kept.
 use Rattle.std.proofs.Common.{◌≡◌, true, option_map, rules, sym, subst}
 use Rattle.nor_base.proofs.FaultLaws.{handed_on}
 use Rattle.norprog_common.specs.Chip.{origin_of}
+use Rattle.norprog_common.specs.FileStore.{Adds}
 use Rattle.norprog_read.specs.declared.fault.Unread.TheVariants.{Refused}
 use Rattle.norprog_read.specs.Answer.{IsUnread}
 use Rattle.norprog_read.specs.Request.{is_well_formed, AsksFor}
 use Rattle.norprog_read.specs.Served.{AreTablesIf}
-use Rattle.norprog_read.proofs.ServedLemmas.{unread, unsaved}
+use Rattle.norprog_read.proofs.ServedLemmas.{kept, unread, unsaved}
 use Rattle.norprog_read.proofs.command.read_texts.Goals as goal
 
 pub returns-in_err-reading-clause-unread : goal.returns-in_err-reading-clause-unread
@@ -15,9 +16,9 @@ returns-in_err-reading-clause-unread g c =
     let asks : AsksFor c.args.given c.in_ok-request.request = search rules in
     let formed : is_well_formed c.args.given ≡ true = search rules in
     let gave = subst (AreTablesIf files (option_map origin_of c.in_ok-request.request.chip)) (sym c.as_slice.ensures.value) c.in_ok-file.ensures.file in
-    handed_on (IsUnread files c.args.given) _ c.in_err-reading.field-0.0 c.from_residual-in_err-reading.ensures.1
-    (unread files c.args.given c.in_ok-request.request c.as_slice.result.now c.ask_of-ask.result asks gave c.ask_of-ask.ensures formed c.in_err-reading.field-0.0
-    c.in_err-reading.ensures.unread)
+    handed_on (IsUnread files c.args.given (Adds _ _)) _ c.in_err-reading.field-0.0 c.from_residual-in_err-reading.ensures.1
+    (unread files c.args.given c.in_ok-request.request c.as_slice.result.now c.ask_of-ask.result asks gave c.ask_of-ask.ensures (Adds _ _) formed
+    c.in_err-reading.field-0.0 c.in_err-reading.ensures.unread)
 
 pub returns-in_err-save_all-clause-unread : goal.returns-in_err-save_all-clause-unread
 returns-in_err-save_all-clause-unread g c =
@@ -25,6 +26,16 @@ returns-in_err-save_all-clause-unread g c =
     let asks : AsksFor c.args.given c.in_ok-request.request = search rules in
     let formed : is_well_formed c.args.given ≡ true = search rules in
     let gave = subst (AreTablesIf files (option_map origin_of c.in_ok-request.request.chip)) (sym c.as_slice.ensures.value) c.in_ok-file.ensures.file in
-    handed_on (IsUnread files c.args.given) _ (Refused c.in_err-save_all.field-0.0) c.from_residual-in_err-save_all.ensures.1
-    (unsaved files c.args.given c.in_ok-request.request c.as_slice.result.now c.ask_of-ask.result asks gave c.ask_of-ask.ensures formed c.in_ok-reading.reading
-    c.in_ok-reading.ensures.read c.in_err-save_all.field-0.0 c.in_err-save_all.ensures.fails)
+    handed_on (IsUnread files c.args.given (Adds _ _)) _ (Refused c.in_err-save_all.field-0.0) c.from_residual-in_err-save_all.ensures.1
+    (unsaved files c.args.given c.in_ok-request.request c.as_slice.result.now c.ask_of-ask.result asks gave c.ask_of-ask.ensures _ _ _
+    c.in_ok-reading.ensures.opened c.in_ok-reading.reading c.in_ok-reading.ensures.read formed c.in_err-save_all.field-0.0
+    c.in_err-save_all.ensures.fails c.in_err-save_all.ensures.journal)
+
+pub returns-clause-kept : goal.returns-clause-kept
+returns-clause-kept g c =
+    let files = g.S.FileStore.facts c.args.store.now in
+    let asks : AsksFor c.args.given c.in_ok-request.request = search rules in
+    let gave = subst (AreTablesIf files (option_map origin_of c.in_ok-request.request.chip)) (sym c.as_slice.ensures.value) c.in_ok-file.ensures.file in
+    kept files c.args.given c.in_ok-request.request c.as_slice.result.now c.ask_of-ask.result asks gave c.ask_of-ask.ensures _ _ _
+    c.in_ok-reading.ensures.opened c.in_ok-reading.reading c.in_ok-reading.ensures.read c.in_ok-save_all.ensures.journal
+    c.in_ok-save_all.ensures.tables c.in_ok-save_all.ensures.content

@@ -1,13 +1,15 @@
 -- What was played is of the chip, the content and the script of the request's files.
-use Rattle.std.proofs.Common.{List, ℕ, None, refl, sym, subst}
+use Rattle.std.proofs.Common.{List, ℕ, None, inl, inr, refl, sym, subst}
 use Rattle.norprog_common.specs.Chip.{origin_of}
 use Rattle.norprog_common.specs.FileStore.{AreTables, IsTextIn, IsTextOfFile}
 use Rattle.norprog_common.proofs.StoreLemmas.{text_in}
+use Rattle.norprog_common.specs.Reading.{FailsReading, FailsScript, HasFailed, IsTextRead}
+use Rattle.norprog_common.proofs.ReadingLemmas.{fails_in, read_in}
 use Rattle.norprog_common.specs.Told.{OrScript}
 use Rattle.nor_base.proofs.FaultLaws.{handed_on}
 use Rattle.norprog_run.specs.Answer.{RefusesRun}
 use Rattle.norprog_run.specs.Served.{IsTaskOf}
-use Rattle.norprog_run.proofs.ServedLemmas.{asked_of, made_for, made_beside, all_played, all_refused, lacked_refused, verdicts_wider, refusals_wider}
+use Rattle.norprog_run.proofs.ServedLemmas.{all_noted, asked_of, made_for, made_beside, named_made, none_made, all_played, all_refused, lacked_refused, verdicts_wider, refusals_wider}
 use Rattle.norprog_run.proofs.command.play_request.Goals as goal
 
 pub returns-clause-played : goal.returns-clause-played
@@ -24,19 +26,24 @@ pub returns-clause-refused : goal.returns-clause-refused
 returns-clause-refused g c =
     let files = g.S.FileStore.facts c.args.store.now in
     let request = c.args.request in
+    let ahead = g.S.Input.ByteIn.ahead in
+    let Failed = HasFailed ahead g.S.Input.ByteIn.count in
+    let of = c.in_ok-script.ensures.script in
     let tables = subst (AreTables files (origin_of request.setup.chip)) (sym c.as_slice.ensures.value) c.in_ok-sfdp.ensures.tables in
     let asked = asked_of files request c.setup_inputs-inputs.result request.bench _ _ c.in_ok-content.len None c.setup_inputs-inputs.ensures refl tables
     c.in_ok-content.ensures.opened (rw c.in-None.is tt) in
-    all_refused files.lacked (IsTaskOf files request) (IsTextIn files request.script.now) _ asked c.play_file.result (c.play_file.ensures.refused None)
+    all_refused _ (OrScript files.lacked (FailsReading files Failed request.script.now)) (IsTaskOf files request) (IsTextRead ahead c.in_ok-script.script) (IsTextIn files request.script.now) Failed _ asked
+    (λ name is. inr (is.0, fails_in files request.script.now ahead Failed c.in_ok-script.script of is.1))
+    (λ text is. read_in files request.script.now ahead c.in_ok-script.script text of is) c.play_file.result (c.play_file.ensures.refused None)
 
 pub returns-in-Some-clause-played : goal.returns-in-Some-clause-played
 returns-in-Some-clause-played g c =
     let files = g.S.FileStore.facts c.args.store.now in
     let request = c.args.request in
     let tables = subst (AreTables files (origin_of request.setup.chip)) (sym c.as_slice.ensures.value) c.in_ok-sfdp.ensures.tables in
+    let noted = all_noted files request _ _ _ _ _ _ c.in_ok-sfdp.ensures.noted c.in_ok-content.ensures.stood c.in_ok-push.ensures.items c.in_ok-script.ensures.stood c.in_ok-push-2.ensures.items in
     let tasks = made_for files request c.in-Some.path.now _ c.setup_inputs-inputs.result request.bench _ _ c.in_ok-content.len c.setup_inputs-inputs.ensures refl tables
-    c.in_ok-content.ensures.opened (λ held made. made_beside files request c.in-Some.path _ _ _ _ _ _ _ held c.in-Some.is c.new-places.ensures.items c.in_ok-sfdp.ensures.noted
-    c.in_ok-content.ensures.stood c.in_ok-push.ensures.items c.in_ok-script.ensures.stood c.in_ok-push-2.ensures.items c.as_slice-in-Some.ensures.value made) in
+    c.in_ok-content.ensures.opened (λ held made. made_beside files request c.in-Some.path _ _ _ held c.in-Some.is c.new-places.ensures.items noted c.as_slice-in-Some.ensures.value made) in
     let texts : (text : List ℕ) → IsTextOfFile g.S.Input.ByteIn.ahead c.in_ok-script.script text → IsTextIn files request.script.now text =
     λ text of. text_in files request.script.now _ c.in_ok-script.script text c.in_ok-script.ensures.script of in
     verdicts_wider _ (IsTaskOf files request) _ (IsTextIn files request.script.now) files.flushed tasks texts c.play_to.result c.play_to.ensures.played
@@ -45,28 +52,45 @@ pub returns-in-Some-clause-refused : goal.returns-in-Some-clause-refused
 returns-in-Some-clause-refused g c =
     let files = g.S.FileStore.facts c.args.store.now in
     let request = c.args.request in
+    let ahead = g.S.Input.ByteIn.ahead in
+    let Failed = HasFailed ahead g.S.Input.ByteIn.count in
+    let of = c.in_ok-script.ensures.script in
     let tables = subst (AreTables files (origin_of request.setup.chip)) (sym c.as_slice.ensures.value) c.in_ok-sfdp.ensures.tables in
+    let noted = all_noted files request _ _ _ _ _ _ c.in_ok-sfdp.ensures.noted c.in_ok-content.ensures.stood c.in_ok-push.ensures.items c.in_ok-script.ensures.stood c.in_ok-push-2.ensures.items in
     let tasks = made_for files request c.in-Some.path.now _ c.setup_inputs-inputs.result request.bench _ _ c.in_ok-content.len c.setup_inputs-inputs.ensures refl tables
-    c.in_ok-content.ensures.opened (λ held made. made_beside files request c.in-Some.path _ _ _ _ _ _ _ held c.in-Some.is c.new-places.ensures.items c.in_ok-sfdp.ensures.noted
-    c.in_ok-content.ensures.stood c.in_ok-push.ensures.items c.in_ok-script.ensures.stood c.in_ok-push-2.ensures.items c.as_slice-in-Some.ensures.value made) in
-    let texts : (text : List ℕ) → IsTextOfFile g.S.Input.ByteIn.ahead c.in_ok-script.script text → IsTextIn files request.script.now text =
-    λ text of. text_in files request.script.now _ c.in_ok-script.script text c.in_ok-script.ensures.script of in
-    refusals_wider (OrScript files.lacked) _ (IsTaskOf files request) _ (IsTextIn files request.script.now) tasks texts c.play_to.result c.play_to.ensures.refused
+    c.in_ok-content.ensures.opened (λ held made. made_beside files request c.in-Some.path _ _ _ held c.in-Some.is c.new-places.ensures.items noted c.as_slice-in-Some.ensures.value made) in
+    refusals_wider (OrScript files.lacked (FailsScript ahead Failed c.in_ok-script.script)) (OrScript files.lacked (FailsReading files Failed request.script.now)) _ (IsTaskOf files request) (IsTextRead ahead c.in_ok-script.script)
+    (IsTextIn files request.script.now) Failed
+    (λ name is. elim is [ inl lacked ↦ inl lacked | inr failed ↦ inr (failed.0, fails_in files request.script.now ahead Failed c.in_ok-script.script of failed.1) ])
+    tasks (λ text is. read_in files request.script.now ahead c.in_ok-script.script text of is) c.play_to.result c.play_to.ensures.refused
+
+pub returns-in-Some-clause-journal : goal.returns-in-Some-clause-journal
+returns-in-Some-clause-journal g c =
+    let files = g.S.FileStore.facts c.args.store.now in
+    let request = c.args.request in
+    let noted = all_noted files request _ _ _ _ _ _ c.in_ok-sfdp.ensures.noted c.in_ok-content.ensures.stood c.in_ok-push.ensures.items c.in_ok-script.ensures.stood c.in_ok-push-2.ensures.items in
+    named_made files request c.in-Some.path _ _ _ _ _ c.play_to.result c.in-Some.is c.new-places.ensures.items noted c.as_slice-in-Some.ensures.value c.play_to.ensures.journal
+
+pub returns-clause-journal : goal.returns-clause-journal
+returns-clause-journal g c = none_made (g.S.FileStore.facts c.args.store.now) c.args.request _ _ c.play_file.result c.in-None.is refl
 
 pub returns-in_err-sfdp-clause-refused : goal.returns-in_err-sfdp-clause-refused
 returns-in_err-sfdp-clause-refused g c =
     let files = g.S.FileStore.facts c.args.store.now in
-    handed_on (RefusesRun (OrScript files.lacked) (IsTaskOf files c.args.request) (IsTextIn files c.args.request.script.now)) _ _ c.from_residual.ensures.1
-    (lacked_refused files.lacked (IsTaskOf files c.args.request) (IsTextIn files c.args.request.script.now) c.in_err-sfdp.field-0.0 c.in_err-sfdp.ensures.lacked)
+    let Failed = HasFailed g.S.Input.ByteIn.ahead g.S.Input.ByteIn.count in
+    handed_on (RefusesRun (OrScript files.lacked (FailsReading files Failed c.args.request.script.now)) (IsTaskOf files c.args.request) (IsTextIn files c.args.request.script.now) Failed) _ _ c.from_residual.ensures.1
+    (lacked_refused files.lacked (FailsReading files Failed c.args.request.script.now) (IsTaskOf files c.args.request) (IsTextIn files c.args.request.script.now) Failed c.in_err-sfdp.field-0.0 c.in_err-sfdp.ensures.lacked)
 
 pub returns-in_err-content-clause-refused : goal.returns-in_err-content-clause-refused
 returns-in_err-content-clause-refused g c =
     let files = g.S.FileStore.facts c.args.store.now in
-    handed_on (RefusesRun (OrScript files.lacked) (IsTaskOf files c.args.request) (IsTextIn files c.args.request.script.now)) _ _ c.from_residual-in_err-content.ensures.1
-    (lacked_refused files.lacked (IsTaskOf files c.args.request) (IsTextIn files c.args.request.script.now) c.in_err-content.field-0.0 c.in_err-content.ensures.lacked)
+    let Failed = HasFailed g.S.Input.ByteIn.ahead g.S.Input.ByteIn.count in
+    handed_on (RefusesRun (OrScript files.lacked (FailsReading files Failed c.args.request.script.now)) (IsTaskOf files c.args.request) (IsTextIn files c.args.request.script.now) Failed) _ _ c.from_residual-in_err-content.ensures.1
+    (lacked_refused files.lacked (FailsReading files Failed c.args.request.script.now) (IsTaskOf files c.args.request) (IsTextIn files c.args.request.script.now) Failed c.in_err-content.field-0.0 c.in_err-content.ensures.lacked)
 
 pub returns-in_err-script-clause-refused : goal.returns-in_err-script-clause-refused
 returns-in_err-script-clause-refused g c =
     let files = g.S.FileStore.facts c.args.store.now in
-    handed_on (RefusesRun (OrScript files.lacked) (IsTaskOf files c.args.request) (IsTextIn files c.args.request.script.now)) _ _ c.from_residual-in_err-script.ensures.1
-    (lacked_refused files.lacked (IsTaskOf files c.args.request) (IsTextIn files c.args.request.script.now) c.in_err-script.field-0.0 c.in_err-script.ensures.lacked)
+    let Failed = HasFailed g.S.Input.ByteIn.ahead g.S.Input.ByteIn.count in
+    handed_on (RefusesRun (OrScript files.lacked (FailsReading files Failed c.args.request.script.now)) (IsTaskOf files c.args.request) (IsTextIn files c.args.request.script.now) Failed) _ _ c.from_residual-in_err-script.ensures.1
+    (lacked_refused files.lacked (FailsReading files Failed c.args.request.script.now) (IsTaskOf files c.args.request) (IsTextIn files c.args.request.script.now) Failed c.in_err-script.field-0.0 c.in_err-script.ensures.lacked)

@@ -2,6 +2,8 @@
 use Rattle.std.proofs.Common.{inr, refl, Some}
 use Rattle.nor_base.proofs.FaultLaws.{handed_on}
 use Rattle.norprog_common.specs.FileStore.{IsTextOfFile}
+use Rattle.norprog_common.specs.Reading.{FailsScript, HasFailed, IsTextRead}
+use Rattle.norprog_common.proofs.ReadingLemmas.{file_read}
 use Rattle.norprog_common.specs.Told.{OrScript}
 use Rattle.norprog_run.specs.Answer.{RefusesRun}
 use Rattle.norprog_run.specs.Served.{IsMadeFor, play_with}
@@ -11,12 +13,15 @@ use Rattle.norprog_run.proofs.command.play_to.Goals as goal
 pub returns-in_err-verdict-clause-refused : goal.returns-in_err-verdict-clause-refused
 returns-in_err-verdict-clause-refused g c =
     let files = g.S.FileStore.facts c.args.store.now in
-    let Asked = IsMadeFor files c.args.path.now c.args.places.now c.args.inputs.now c.args.bench (g.S.Input.ByteIn.ahead c.args.content.now) c.args.len in
-    let Spoken = IsTextOfFile g.S.Input.ByteIn.ahead c.args.script in
-    let t = play_with c.args.inputs.now c.args.bench (g.S.Input.ByteIn.ahead c.args.content.now) c.args.len (Some (g.S.Output.ByteOut.held c.in_ok-file.file)) in
+    let ahead = g.S.Input.ByteIn.ahead in
+    let Failed = HasFailed ahead g.S.Input.ByteIn.count in
+    let Asked = IsMadeFor files c.args.path.now c.args.places.now c.args.inputs.now c.args.bench (ahead c.args.content.now) c.args.len in
+    let Spoken = IsTextRead ahead c.args.script in
+    let t = play_with c.args.inputs.now c.args.bench (ahead c.args.content.now) c.args.len (Some (g.S.Output.ByteOut.held c.in_ok-file.file)) in
     let asked : Asked t = record { held = _; made = c.in_ok-file.ensures.made; is = refl } in
-    handed_on (RefusesRun (OrScript files.lacked) Asked Spoken) _ _ c.from_residual-in_err-verdict.ensures.1
-    (one_refused files.lacked Asked Spoken t asked _ (c.in_err-verdict.ensures.refused _))
+    let Lacks = OrScript files.lacked (FailsScript ahead Failed c.args.script) in
+    handed_on (RefusesRun Lacks Asked Spoken Failed) _ _ c.from_residual-in_err-verdict.ensures.1
+    (one_refused _ Lacks Asked Spoken Spoken Failed t asked (λ name is. inr is) (λ text of. of) _ (c.in_err-verdict.ensures.refused _))
 
 pub returns-in-Ok-clause-played : goal.returns-in-Ok-clause-played
 returns-in-Ok-clause-played g c =
@@ -25,13 +30,13 @@ returns-in-Ok-clause-played g c =
     let Spoken = IsTextOfFile g.S.Input.ByteIn.ahead c.args.script in
     let t = play_with c.args.inputs.now c.args.bench (g.S.Input.ByteIn.ahead c.args.content.now) c.args.len (Some (g.S.Output.ByteOut.held c.in_ok-file.file)) in
     let asked : Asked t = record { held = _; made = c.in_ok-file.ensures.made; is = refl } in
-    one_played Asked Spoken Spoken _ _ _ _ _ asked (λ text of. of) _ _ files.flushed c.in_ok-verdict.verdict (refl, c.in-Ok.ensures.flushed) c.in_ok-verdict.ensures.played
+    one_played Asked Spoken Spoken _ _ _ _ _ asked (λ text of. of) _ _ files.flushed c.in_ok-verdict.verdict (refl, c.in-Ok.ensures) c.in_ok-verdict.ensures.played
 
-pub returns-clause-refused : goal.returns-clause-refused
-returns-clause-refused g c =
+pub returns-in-Err-clause-refused : goal.returns-in-Err-clause-refused
+returns-in-Err-clause-refused g c =
     let files = g.S.FileStore.facts c.args.store.now in
     let Asked = IsMadeFor files c.args.path.now c.args.places.now c.args.inputs.now c.args.bench (g.S.Input.ByteIn.ahead c.args.content.now) c.args.len in
     let Spoken = IsTextOfFile g.S.Input.ByteIn.ahead c.args.script in
     let t = play_with c.args.inputs.now c.args.bench (g.S.Input.ByteIn.ahead c.args.content.now) c.args.len (Some (g.S.Output.ByteOut.held c.in_ok-file.file)) in
     let asked : Asked t = record { held = _; made = c.in_ok-file.ensures.made; is = refl } in
-    inr (c.in_ok-verdict.verdict, one_played Asked Spoken Spoken _ _ _ _ _ asked (λ text of. of) _ _ (λ held. Unit {0}) c.in_ok-verdict.verdict (refl, tt) c.in_ok-verdict.ensures.played)
+    inr (c.in_ok-verdict.verdict, one_played Asked Spoken (IsTextRead g.S.Input.ByteIn.ahead c.args.script) _ _ _ _ _ asked (λ text of. file_read g.S.Input.ByteIn.ahead c.args.script text of) _ _ (λ held. Unit {0}) c.in_ok-verdict.verdict (refl, tt) c.in_ok-verdict.ensures.played)

@@ -6,6 +6,7 @@ use Rattle.nor_script.specs.Stream.{reading, Advances, CountsStep, StopsReader}
 use Rattle.nor_script.proofs.StreamLaws.{has_begun, has_more}
 use Rattle.nor_base.proofs.FaultLaws.{handed_on}
 use Rattle.nor_script.proofs.TextLaws.{stops_header, stops_step, stops_memory}
+use Rattle.norprog_common.proofs.ReadingLemmas.{header_gave, more_gave, step_gave}
 use Rattle.norprog_run.proofs.StepsLemmas.{Stands, stands_next, fed_of, kept_of, all_played, went_wrong}
 use Rattle.norprog_run.proofs.steps.play_text.Goals as goal
 
@@ -108,3 +109,42 @@ returns-clause-played g c =
     let over : Advances b after steps step (Ok false) = subst (λ b'. Advances b after steps step (Ok b')) c.if-branch.false c.in_ok-advance.ensures.step in
     all_played (g.A.ByteIn.ahead c.args.script.now) b after v.above steps step v.read v.number over c.args.chip.now c.loop-reader.chip c.args.limit c.loop-reader.player
     c.verdict_of.result (subst (Stands c.args.chip.now c.loop-reader.chip c.args.limit v.above c.loop-reader.player) c.in-None.is v.stands) c.verdict_of.ensures
+
+pub returns-in_err-reader-clause-gave : goal.returns-in_err-reader-clause-gave
+returns-in_err-reader-clause-gave g c = header_gave _ _ c.in_err-reader.field-0.0 c.in_err-reader.ensures.begun
+
+pub returns-in_err-advance-clause-gave : goal.returns-in_err-advance-clause-gave
+returns-in_err-advance-clause-gave g c =
+    let v = c.loop-reader.invariant in
+    step_gave _ (reading (g.A.ByteIn.ahead c.loop-reader.script) c.loop-reader.reader.held) (reading (g.A.ByteIn.ahead c.advance.new.source) c.advance.new.self.held)
+    v.above c.loop-reader.reader.steps c.advance.new.self.step c.in_err-advance.field-0.0 v.read c.in_err-advance.ensures.step
+
+pub returns-in_err-wrong-clause-gave : goal.returns-in_err-wrong-clause-gave
+returns-in_err-wrong-clause-gave g c =
+    let v = c.loop-reader.invariant in
+    let b = reading (g.A.ByteIn.ahead c.loop-reader.script) c.loop-reader.reader.held in
+    let after = reading (g.A.ByteIn.ahead c.advance.new.source) c.advance.new.self.held in
+    let steps = c.loop-reader.reader.steps in
+    let step = c.advance.new.self.step in
+    let read : Advances b after steps step (Ok true) = subst (λ b'. Advances b after steps step (Ok b')) c.if-branch.true c.in_ok-advance.ensures.step in
+    more_gave _ b after v.above _ v.read read.0
+
+pub returns-in-Some-clause-gave : goal.returns-in-Some-clause-gave
+returns-in-Some-clause-gave g c =
+    let v = c.loop-reader.invariant in
+    let b = reading (g.A.ByteIn.ahead c.loop-reader.script) c.loop-reader.reader.held in
+    let after = reading (g.A.ByteIn.ahead c.advance.new.source) c.advance.new.self.held in
+    let steps = c.loop-reader.reader.steps in
+    let step = c.advance.new.self.step in
+    let over : Advances b after steps step (Ok false) = subst (λ b'. Advances b after steps step (Ok b')) c.if-branch.false c.in_ok-advance.ensures.step in
+    more_gave _ b after v.above _ v.read over.0
+
+pub returns-clause-gave : goal.returns-clause-gave
+returns-clause-gave g c =
+    let v = c.loop-reader.invariant in
+    let b = reading (g.A.ByteIn.ahead c.loop-reader.script) c.loop-reader.reader.held in
+    let after = reading (g.A.ByteIn.ahead c.advance.new.source) c.advance.new.self.held in
+    let steps = c.loop-reader.reader.steps in
+    let step = c.advance.new.self.step in
+    let over : Advances b after steps step (Ok false) = subst (λ b'. Advances b after steps step (Ok b')) c.if-branch.false c.in_ok-advance.ensures.step in
+    more_gave _ b after v.above _ v.read over.0

@@ -1,6 +1,10 @@
--- The text is that of the steps counted.
+-- What stops the reading is told of its text.
+use Rattle.std.proofs.Common.{sym, subst}
+use Rattle.norprog_run.specs.Streams.{RefusesScript}
+use Rattle.norprog_run.proofs.StreamLemmas.{script_told}
 use Rattle.norprog_run.proofs.streams.check_script.Goals as goal
 
-pub returns-in-Ok-clause-text : goal.returns-in-Ok-clause-text
-returns-in-Ok-clause-text g c =
-    let had = c.in-Ok.ensures.read in (had.0, had.1, record { steps = had.2.steps; script = had.2.is_script })
+pub returns-in-Err-clause-refused : goal.returns-in-Err-clause-refused
+returns-in-Err-clause-refused g c =
+    subst (RefusesScript (g.F.ByteIn.ahead c.args.script.now) (g.F.ByteIn.ahead c.look_through.new.script)) (sym c.refusal_of.ensures)
+    (script_told _ _ c.in-Err.fault c.in-Err.ensures.stopped c.in-Err.ensures.gave)

@@ -12,4 +12,4 @@ returns-in-Err-clause-stopped g c =
     let told = g.W.ByteOut.held c.args.out.now in
     subst (StopsText (g.A.ByteIn.ahead c.args.script.now) (g.A.ByteIn.ahead c.play_text.new.script) s (ready s c.args.array.items) c.args.bench.limit told told)
     (sym c.refusal_of.ensures)
-    (fault_told _ _ s (ready s c.args.array.items) c.args.bench.limit told told c.in-Err.fault c.in-Err.ensures.refused)
+    (fault_told _ _ s (ready s c.args.array.items) c.args.bench.limit told told c.in-Err.fault c.in-Err.ensures.refused c.in-Err.ensures.gave)

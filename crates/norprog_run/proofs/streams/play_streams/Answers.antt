@@ -17,7 +17,7 @@ returns-in_err-check_script-clause-refused g c =
     (first_refused c.args.inputs.now c.args.bench c.in_ok-kind.kind c.args.len c.in_ok-kind.ensures.sized c.in_ok-kind.ensures.start c.in_ok-kind.ensures.page
     (g.F.ByteIn.ahead c.args.first.now) (g.F.ByteIn.ahead c.check_script.new.script) (g.A.ByteIn.ahead c.args.again.now) (g.A.ByteIn.ahead c.args.again.now)
     (g.R.ByteIn.ahead c.args.content.now) (g.R.ByteIn.ahead c.args.content.now) (g.W.ByteOut.held c.args.out.now) (g.W.ByteOut.held c.args.out.now)
-    (c.args.again.now ≡ c.args.again.now × c.args.content.now ≡ c.args.content.now) c.in_err-check_script.field-0.0 c.in_err-check_script.ensures.refused (refl, refl))
+    (c.args.again.now ≡ c.args.again.now × c.args.content.now ≡ c.args.content.now) c.in_err-check_script.field-0.0 c.in_err-check_script.ensures.refused c.in_err-check_script.ensures.gave (refl, refl))
 
 pub returns-in_err-array-clause-refused : goal.returns-in_err-array-clause-refused
 returns-in_err-array-clause-refused g c =
@@ -49,7 +49,7 @@ returns-clause-played g c =
     (g.F.ByteIn.ahead c.args.first.now) (g.F.ByteIn.ahead c.check_script.new.script) (g.A.ByteIn.ahead c.args.again.now) (g.A.ByteIn.ahead c.play_on.new.script)
     (g.R.ByteIn.ahead c.args.content.now) (g.R.ByteIn.ahead c.read_content.new.content)
     (g.W.ByteOut.held c.args.out.now) (g.W.ByteOut.held c.play_on.new.out) (c.play_on.new.script ≡ c.args.again.now × c.read_content.new.content ≡ c.args.content.now)
-    c.in_ok-check_script.ensures.text c.in_ok-array.array.items (c.in_ok-array.ensures.length ∙ size ∙ sym sized.size) c.in_ok-array.ensures.given c.play_on.result c.play_on.ensures.played
+    c.in_ok-check_script.ensures.text c.in_ok-check_script.ensures.gave c.in_ok-array.array.items (c.in_ok-array.ensures.length ∙ size ∙ sym sized.size) c.in_ok-array.ensures.given c.play_on.result c.play_on.ensures.played
 
 pub returns-clause-refused : goal.returns-clause-refused
 returns-clause-refused g c =
@@ -59,7 +59,7 @@ returns-clause-refused g c =
     (g.F.ByteIn.ahead c.args.first.now) (g.F.ByteIn.ahead c.check_script.new.script) (g.A.ByteIn.ahead c.args.again.now) (g.A.ByteIn.ahead c.play_on.new.script)
     (g.R.ByteIn.ahead c.args.content.now) (g.R.ByteIn.ahead c.read_content.new.content)
     (g.W.ByteOut.held c.args.out.now) (g.W.ByteOut.held c.play_on.new.out) (c.play_on.new.script ≡ c.args.again.now × c.read_content.new.content ≡ c.args.content.now)
-    c.in_ok-check_script.ensures.text c.in_ok-array.array.items (c.in_ok-array.ensures.length ∙ size ∙ sym sized.size) c.in_ok-array.ensures.given c.play_on.result c.play_on.ensures.stopped
+    c.in_ok-check_script.ensures.text c.in_ok-check_script.ensures.gave c.in_ok-array.array.items (c.in_ok-array.ensures.length ∙ size ∙ sym sized.size) c.in_ok-array.ensures.given c.play_on.result c.play_on.ensures.stopped
 
 pub returns-in_err-kind-clause-refused : goal.returns-in_err-kind-clause-refused
 returns-in_err-kind-clause-refused g c =

@@ -15,7 +15,7 @@ returns-clause-written g c =
     (of_listing files c.args.request c.args.setup _ c.setup_inputs-inputs.result c.requires tables c.setup_inputs-inputs.ensures)
     (apart_listing files c.args.request c.args.setup _ _ _ _ _ _ c.requires c.new-places.ensures.items c.in_ok-tables.ensures.noted c.in_ok-listing.ensures.stood
     c.in_ok-push.ensures.items c.as_slice.ensures.value c.in_ok-out.ensures.made) c.script_listing-answer.result
-    c.flush-flushed.result _ c.script_listing-answer.ensures.written c.flush-flushed.ensures.flushed c.done.ensures
+    c.flush-flushed.result _ c.script_listing-answer.ensures.written c.flush-flushed.ensures c.done.ensures
 
 pub returns-clause-refused : goal.returns-clause-refused
 returns-clause-refused g c =

@@ -10,7 +10,7 @@ returns-clause-written g c =
     let gave = subst (files.gave c.args.request.log.now) (sym c.as_slice.ensures.value) c.in_ok-log.ensures.gave in
     done_is_written files c.args.request _ (foreign c.args.request.without_identity) _ _ gave (of_foreign files c.args.request c.requires)
     (apart_foreign files c.args.request _ c.requires (c.in_ok-log.place ∷ [], (c.in_ok-log.ensures.stood, tt), c.in_ok-out.ensures.made)) c.script_log-answer.result
-    c.flush-flushed.result _ c.script_log-answer.ensures.written c.flush-flushed.ensures.flushed c.done.ensures
+    c.flush-flushed.result _ c.script_log-answer.ensures.written c.flush-flushed.ensures c.done.ensures
 
 pub returns-clause-refused : goal.returns-clause-refused
 returns-clause-refused g c =

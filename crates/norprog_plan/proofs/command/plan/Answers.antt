@@ -1,0 +1,18 @@
+-- What is answered is what the work came to.
+use Rattle.norprog_common.specs.Strict.{Filled}
+use Rattle.norprog_common.proofs.ToldLemmas.{answer_is}
+use Rattle.norprog_plan.specs.Answer.{PrintsPlan, CutsPlan, RefusesPlan}
+use Rattle.norprog_plan.specs.Served.{asks_plan, shows_of, ServesPlan}
+use Rattle.norprog_plan.proofs.command.plan.Goals as goal
+
+pub returns-clause-answer : goal.returns-clause-answer
+returns-clause-answer g c =
+    let files = g.S.FileStore.facts c.args.store.now in
+    let strict = c.args.given.job.strict in
+    let Asked = Filled strict (ServesPlan files c.args.given) in
+    let before = g.O.ByteOut.held c.args.out.now in
+    let after = g.O.ByteOut.held c.report_plan.new.out in
+    answer_is (asks_plan c.args.given) (PrintsPlan files.flushed (shows_of c.args.given) Asked before after) (CutsPlan files.flushed (shows_of c.args.given) Asked before after)
+    _ _ _ _ (RefusesPlan strict files.lacked files.flushed (shows_of c.args.given) (ServesPlan files c.args.given) before after) _ _ c.report_plan.result c.answered.result
+    c.report_plan.ensures.done c.report_plan.ensures.journal c.report_plan.ensures.printed c.report_plan.ensures.unprinted c.report_plan.ensures.first
+    c.answered.ensures.done c.answered.ensures.told
