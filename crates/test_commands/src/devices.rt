@@ -197,9 +197,8 @@ pub(crate) fn run_check<'d>(
     len: u64,
 ) -> Done<'d, Result<Verdict, CheckStop>> {
     let mut reader = FromRead::new(reader);
-    let answer = match check_script(alloc, inputs, script.as_bytes(), &mut reader, len) {
-        Ok(found) => Ok(found.verdict),
-        Err(stop) => Err(stop),
-    };
+    let answer = check_script(alloc, inputs, script.as_bytes(), &mut reader, len).map(
+        |found| found.verdict,
+    );
     with_devices(answer, reader, IntoWrite::new(writer(alloc, 0)))
 }
