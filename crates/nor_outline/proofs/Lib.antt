@@ -1,7 +1,7 @@
 mod RangeLemmas
 mod ReasonLemmas
-mod TextLemmas
+mod UnitLemmas
 mod WalkLemmas
 mod Reached
-mod TellLemmas
+mod StretchLemmas
 pub mod PlanText

@@ -36,14 +36,14 @@ find_same f g (suc n) start same =
     ap (λ b. if b then Some start else find f (range_with_len (start + 1) n)) (same start (omega arith) (omega arith))
     ∙ ap (λ o. if g start then Some start else o) (find_same f g n (start + 1) (λ x from upto. same x (omega arith) (omega arith)))
 
-pub flat_same : (f g : ℕ → List ℕ) (n start : ℕ) → ((x : ℕ) → start ≤ x → x < start + n → f x ≡ g x)
+pub flat_same : {A : Type 0} (f g : ℕ → List A) (n start : ℕ) → ((x : ℕ) → start ≤ x → x < start + n → f x ≡ g x)
     → flat_map f (range_with_len start n) ≡ flat_map g (range_with_len start n)
 flat_same f g zero start same = refl
 flat_same f g (suc n) start same =
     ap (λ xs. xs ++ flat_map f (range_with_len (start + 1) n)) (same start (omega arith) (omega arith))
     ∙ ap (λ xs. g start ++ xs) (flat_same f g n (start + 1) (λ x from upto. same x (omega arith) (omega arith)))
 
-pub flat_none : (f : ℕ → List ℕ) (n start : ℕ) → ((x : ℕ) → start ≤ x → x < start + n → f x ≡ []) → flat_map f (range_with_len start n) ≡ []
+pub flat_none : {A : Type 0} (f : ℕ → List A) (n start : ℕ) → ((x : ℕ) → start ≤ x → x < start + n → f x ≡ []) → flat_map f (range_with_len start n) ≡ []
 flat_none f zero start none = refl
 flat_none f (suc n) start none =
     ap (λ xs. xs ++ flat_map f (range_with_len (start + 1) n)) (none start (omega arith) (omega arith))

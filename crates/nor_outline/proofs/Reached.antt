@@ -13,7 +13,7 @@ use Rattle.nor_base.specs.Units.{WorkUnit, pages, page_unit, block_unit, unit_by
 use Rattle.nor_geometry.specs.declared.unit.PlanUnit.{PlanUnit}
 use Rattle.nor_geometry.specs.declared.unit.PlanUnit.TheVariants as unit
 use Rattle.nor_geometry.specs.Plan.{IsWindow, IsPlan, plan_unit}
-use Rattle.nor_outline.specs.Outline.{IsPlanned}
+use Rattle.nor_outline.specs.Parts.{IsPlanned}
 use Rattle.nor_pages.specs.Runs.{IsUnit}
 use Rattle.nor_steps.proofs.OpLemmas.{all_at}
 use Rattle.nor_base.proofs.ListLaws.{all_append}

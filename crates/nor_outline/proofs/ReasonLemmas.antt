@@ -19,7 +19,9 @@ use Rattle.nor_plan_laws.proofs.Erased.Reached.{four, small}
 use Rattle.nor_plan_laws.proofs.Erased.Needed.{holds_smallest}
 use Rattle.nor_erase.proofs.Runs.{same_smallest, at_address}
 use Rattle.nor_erase.proofs.Tiling.{IsSame, smallest_same}
-use Rattle.nor_outline.specs.Outline.{MayErase, reason, reason_at}
+use Rattle.nor_outline.specs.Outline.{reason, reason_at}
+use Rattle.nor_outline.specs.Parts.{MayErase}
+use Rattle.nor_plan_read.specs.declared.line.PlanLine.{PlanLine}
 use Rattle.nor_outline.proofs.RangeLemmas.{flat_none}
 
 -- no smallest block lies across an address
@@ -73,7 +75,7 @@ first_border m b accepted legal some = record {
   ];
 }
 
-if_not : (n : ℕ) (x : ℕ) (t : List ℕ) → n < x → (if n == x then t else []) ≡ []
+if_not : (n : ℕ) (x : ℕ) (t : List PlanLine) → n < x → (if n == x then t else []) ≡ []
 if_not n x t less = elim (cases_Bool (n == x)) [
   | inl is ↦ let same = eqb-true n x is in absurd (omega arith)
   | inr is ↦ rw is refl

@@ -1,76 +1,82 @@
--- The lines that tell a plan (this project's).
-use Rattle.std.specs.Prelude.{◌≡◌, ℕ, Bool, true, ◌==◌, if◌then◌else◌, List, [], ◌++◌, length, map, flat_map, Option, Some, None}
+-- The lines of a plan (this project's).
+use Rattle.std.specs.Prelude.{◌≡◌, ℕ, Bool, false, ◌==◌, ◌+◌, ◌<◌, ◌≤◌, if◌then◌else◌, ⊤, List, [], ◌∷◌, ◌++◌, length, map, flat_map, Option, Some, None}
 use Rattle.std.specs.List.{find, range_with_len}
 use Rattle.std.specs.Option.{option_map_or}
 use Rattle.nor_base.specs.declared.meaning.Start.{Start}
 use Rattle.nor_base.specs.declared.meaning.Strategy.{Strategy}
 use Rattle.nor_base.specs.Parameters.{Parameters}
-use Rattle.nor_base.specs.Blocks.{Block, IsLegalBlock, smallest}
-use Rattle.nor_base.specs.Need.{is_due}
+use Rattle.nor_base.specs.Blocks.{Block, smallest}
+use Rattle.nor_base.specs.Need.{is_due, is_at_fault}
 use Rattle.nor_base.specs.Operations.{erasing}
+use Rattle.nor_base.specs.Planned.{planned_units}
 use Rattle.nor_base.specs.Programs.{Program}
-use Rattle.nor_base.specs.Strategies.{strategy, reaches}
+use Rattle.nor_base.specs.Strategies.{strategy}
 use Rattle.nor_base.specs.Units.{WorkUnit}
-use Rattle.nor_geometry.specs.declared.unit.PlanUnit.{PlanUnit}
-use Rattle.nor_geometry.specs.declared.unit.PlanUnit.TheVariants as unit
-use Rattle.nor_geometry.specs.Plan.{HasPart}
-use Rattle.nor_pages.specs.declared.run.Run.{Run}
-use Rattle.nor_pages.specs.Runs.{run_program, unit_start}
+use Rattle.nor_geometry.specs.Plan.{HasPart, IsFault}
+use Rattle.nor_plan_read.specs.declared.line.PlanLine.{PlanLine}
 use Rattle.nor_plan_read.specs.declared.line.PlanLine.TheVariants as line
-use Rattle.nor_plan_read.specs.Lines.{line_text}
-
--- the line of a block: its start, its size, and the opcode that erases it
-abbrev pub erase_line : Parameters → Strategy → Block → List ℕ
-erase_line m by b = line_text (line.Erase b.start b.size (erasing m by b).op)
-
--- the line of a program: the address of the first byte, and how many there are
-abbrev pub program_line : Program → List ℕ
-program_line p = line_text (line.Program p.at (length p.bytes))
+use Rattle.nor_plan_read.specs.Lines.{lines_text}
+use Rattle.nor_steps.specs.declared.fault.StepsFault.{StepsFault}
+use Rattle.nor_steps.specs.declared.fault.StepsFault.TheVariants as fault
+use Rattle.nor_steps.specs.Work.{stretch_units}
 
 -- of a smallest block's start, and of some address that is due in it, if there is one
-abbrev pub because : ℕ → Option ℕ → List ℕ
+abbrev pub because : ℕ → Option ℕ → List PlanLine
 because start None = []
-because start (Some cause) = line_text (line.Because start cause)
+because start (Some cause) = line.Because start cause ∷ []
 
 -- of so many bytes from a start on: why the smallest block there is erased, the lowest address in it that is due
-abbrev pub reason : (ℕ → Bool) → ℕ → ℕ → List ℕ
+abbrev pub reason : (ℕ → Bool) → ℕ → ℕ → List PlanLine
 reason due start size = because start (find due (range_with_len start size))
 
 -- why the smallest legal block that starts at an address is erased; nothing where none starts
-abbrev pub reason_at : Parameters → (ℕ → Bool) → ℕ → List ℕ
+abbrev pub reason_at : Parameters → (ℕ → Bool) → ℕ → List PlanLine
 reason_at m due a = option_map_or (λ b. if b.start == a then reason due b.start b.size else []) (smallest m a) []
 
 -- why a block is erased: for each address of it, rising, at which a smallest legal block starts
-unfoldable pub reasons : Parameters → (ℕ → Bool) → ℕ → ℕ → List ℕ
+abbrev pub reasons : Parameters → (ℕ → Bool) → ℕ → ℕ → List PlanLine
 reasons m due start size = flat_map (reason_at m due) (range_with_len start size)
 
-abbrev pub erase_lines : Parameters → Strategy → (ℕ → Bool) → Option Block → List ℕ
+-- a block that is erased: its start, its size and the opcode that erases it, and why
+abbrev pub erase_lines : Parameters → Strategy → (ℕ → Bool) → Option Block → List PlanLine
 erase_lines m by due None = []
-erase_lines m by due (Some b) = erase_line m by b ++ reasons m due b.start b.size
+erase_lines m by due (Some b) = line.Erase b.start b.size (erasing m by b).op ∷ reasons m due b.start b.size
+
+-- a program: the address of the first byte, and how many there are
+abbrev pub program_line : Program → PlanLine
+program_line p = line.Program p.at (length p.bytes)
 
 -- the lines of a unit: its erase with the reasons, and its programs
+abbrev pub unit_plan : Parameters → Strategy → (ℕ → Bool) → WorkUnit → List PlanLine
+unit_plan m by due u = erase_lines m by due u.erase ++ map program_line u.programs
+
+-- the lines of the planned work of a content and its target
+abbrev pub plan_of : Parameters → Start → List ℕ → List ℕ → List PlanLine
+plan_of m start have want = flat_map (unit_plan m (strategy m start) (is_due m have want)) (planned_units m start have want)
+
+-- the text of the lines of a unit, by the content and the target of the chip
 abbrev pub unit_lines : Parameters → Strategy → List ℕ → List ℕ → WorkUnit → List ℕ
-unit_lines m by content target u = erase_lines m by (is_due m content target) u.erase ++ flat_map program_line u.programs
+unit_lines m by content target u = lines_text (unit_plan m by (is_due m content target) u)
 
--- a unit with its programs
-abbrev pub with_programs : Parameters → PlanUnit → List Program → WorkUnit
-with_programs m (unit.Block b) programs = record { erase = Some b; start = b.start; size = b.size; programs = programs }
-with_programs m (unit.Page start) programs = record { erase = None; start = start; size = m.page; programs = programs }
+-- the lines of the units that start in a stretch of so many bytes from an address on
+abbrev pub stretch_plan : Parameters → Strategy → ℕ → ℕ → List ℕ → List ℕ → List PlanLine
+stretch_plan m by at count content target = flat_map (unit_plan m by (is_due m content target)) (stretch_units m by at count content target)
 
--- a text is the lines of a unit, whatever the rest of the chip holds and must hold
-abbrev pub IsOutline : Parameters → Strategy → PlanUnit → List Run → List ℕ → List ℕ → List ℕ → Type 0
-IsOutline m by planned runs have want text =
-    (content target : List ℕ) → HasPart content have (unit_start planned) → HasPart target want (unit_start planned)
-    → text ≡ unit_lines m by content target (with_programs m planned (map (run_program target) runs))
+-- no address of a stretch is at fault
+abbrev pub IsFaultless : Parameters → Strategy → ℕ → ℕ → List ℕ → List ℕ → Type 0
+IsFaultless m by at count content target = (x : ℕ) → at ≤ x → x < at + count → is_at_fault m by content target x ≡ false
 
--- a block that the strategy of some start may erase
-pub record MayErase (m : Parameters) (by : Strategy) (b : Block) : Type 0 where
-  pub start : Start
-  pub its_strategy : by ≡ strategy m start
-  pub legal : IsLegalBlock m b
-  pub reached : reaches by m b.kind b.start ≡ true
+-- these are the lines of a stretch, and no address of it is at fault
+pub record IsStretchPlanOf (m : Parameters) (by : Strategy) (at count : ℕ) (content target : List ℕ) (lines : List PlanLine) : Type 0 where
+  pub are : stretch_plan m by at count content target ≡ lines
+  pub sound : IsFaultless m by at count content target
 
--- so is the block of a unit that has so many bytes
-abbrev pub IsPlanned : Parameters → Strategy → PlanUnit → ℕ → Type 0
-IsPlanned m by (unit.Block b) count = (count ≡ b.size) × MayErase m by b
-IsPlanned m by (unit.Page start) count = Unit {0}
+-- so it is whatever the rest of the chip holds and must hold
+abbrev pub IsStretchPlan : Parameters → Strategy → ℕ → List ℕ → List ℕ → List PlanLine → Type 0
+IsStretchPlan m by at have want lines = (content target : List ℕ) → HasPart content have at → HasPart target want at → IsStretchPlanOf m by at (length have) content target lines
+
+-- why there are none: an address is at fault, the lowest is named; or a growth was refused
+abbrev pub RefusesLines : Parameters → Strategy → ℕ → List ℕ → List ℕ → StepsFault → Type 0
+RefusesLines m by at have want (fault.Plan why) = IsFault m by at have want why
+RefusesLines m by at have want fault.Memory = ⊤
+RefusesLines m by at have want fault.Write = ⊥

@@ -1,13 +1,17 @@
 //! The lines of a plan, and how much its steps are.
 
 ghost use Rattle.std.specs.Prelude.{◌≡◌, ◌≤◌, length, IfOk, IfErr};
+ghost use Rattle.nor_geometry.specs.Plan.{IsWindow};
+ghost use Rattle.nor_outline.specs.Outline.{IsStretchPlan, RefusesLines};
 ghost use Rattle.nor_outline.specs.Told.{unit_outline};
 ghost use Rattle.nor_select.specs.Streamed.{last};
 ghost use Rattle.nor_steps.specs.declared.fault.StepsFault.TheVariants.{Memory};
+ghost use Rattle.nor_steps.specs.Texts.{IsTold};
 ghost use Rattle.nor_steps.specs.Writing.{fresh};
 
-use crate::window::write_window;
+use crate::window::window_lines;
 use nor_base::{ByteOut, Meaning, Start, Strategy};
+use nor_plan_read::{PlanLine, write_lines};
 use nor_steps::{StepWriter, StepsFault, Tally, Unwritten, WorkWriter};
 use std::alloc::Global;
 use std::marker::Model;
@@ -44,6 +48,35 @@ impl<'m> PlanWriter<'m> {
         }
     }
 
+    /// Plans the units that start in a window of the chip, as [`window_lines`] does. Returns how
+    /// much their steps are, and their lines.
+    ///
+    /// `Plan` names the lowest address at fault. `Memory` where a growth is refused; `Write` never.
+    pub fn window_plan(
+        &mut self,
+        alloc: Global,
+        at: u32,
+        have: &[u8],
+        want: &[u8],
+    ) -> Result<(Tally, Vec<PlanLine>), StepsFault>
+        requires lengths { length have.now ≡ length want.now }
+        requires window { IsWindow self.old.streaming.meaning self.old.streaming.by at
+            (length have.now) }
+        ensures told { IfOk result
+            (λ plan. IsTold self.old self.new at have.now want.now plan.0) }
+        ensures lines { IfOk result
+            (λ plan. IsStretchPlan self.old.streaming.meaning self.old.streaming.by at have.now
+            want.now plan.1.items) }
+        ensures stopped { IfErr result
+            (RefusesLines self.old.streaming.meaning self.old.streaming.by at have.now want.now) }
+    {
+        let meaning = self.steps.meaning();
+        let strategy = self.steps.strategy();
+        let told = self.steps.more(alloc, at, have, want, &mut Unwritten)?;
+        let lines = window_lines(alloc, meaning, strategy, at, have, want)?;
+        Ok((told, lines))
+    }
+
     /// How many steps leave the mode that the work entered, at most three.
     ///
     /// `Memory` where a growth is refused.
@@ -69,10 +102,8 @@ impl<'m> WorkWriter for PlanWriter<'m> {
         want: &[u8],
         out: &mut W,
     ) -> Result<Tally, StepsFault> {
-        let meaning = self.steps.meaning();
-        let strategy = self.steps.strategy();
-        let told = self.steps.more(alloc, at, have, want, &mut Unwritten)?;
-        write_window(alloc, meaning, strategy, at, have, want, out)?;
+        let (told, lines) = self.window_plan(alloc, at, have, want)?;
+        write_lines(&lines, out)?;
         Ok(told)
     }
 }

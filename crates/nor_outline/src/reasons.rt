@@ -1,34 +1,32 @@
 //! Why a block is erased.
 
-ghost use Rattle.std.specs.Prelude.{◌≡◌, ◌≤◌, ◌<◌, ◌+◌, ◌-◌, ◌^◌, length};
-ghost use Rattle.nor_base.specs.Device.{Writes, Counts};
-ghost use Rattle.nor_outline.specs.Outline.{MayErase, reason, reasons};
-ghost use Rattle.nor_outline.specs.Parts.{due_in};
+ghost use Rattle.std.specs.Prelude.{◌≡◌, ◌≤◌, ◌+◌, ◌++◌, length, IfOk};
+ghost use Rattle.nor_outline.specs.Outline.{reason, reasons};
+ghost use Rattle.nor_outline.specs.Parts.{MayErase, due_in};
 
-use nor_base::{ByteOut, Failed, Meaning, Strategy};
+use nor_base::{Meaning, Strategy};
 use nor_erase::first_due;
 use nor_geometry::{Block, smallest};
 use nor_plan_laws::blocks;
-use nor_plan_read::{PlanLine, write_line};
+use nor_plan_read::PlanLine;
+use std::alloc::AllocError;
 
-/// Puts a line for each smallest block of a block, rising, in which a byte is due: `have` and
+/// Appends a line for each smallest block of a block, rising, in which a byte is due: `have` and
 /// `want` are the block's bytes.
-pub(crate) fn put_reasons<W: ByteOut>(
+pub(crate) fn push_reasons(
     meaning: &Meaning,
     strategy: Strategy,
     block: Block,
     have: &[u8],
     want: &[u8],
-    out: &mut W,
-) -> Result<(), Failed>
+    lines: &mut Vec<PlanLine>,
+) -> Result<(), AllocError>
     requires lengths { length have.now ≡ length want.now }
     requires count { length want.now ≡ block.size }
     requires block { MayErase meaning.now strategy block }
-    requires room { W.count out.old < 2 ^ 64 - 1 }
-    ensures bytes { Writes (W.held out.old) (W.held out.new) result
-        (reasons meaning.now (due_in meaning.now have.now want.now block.start) block.start
+    ensures { IfOk result (λ _. lines.new.items ≡ lines.old.items
+        ++ reasons meaning.now (due_in meaning.now have.now want.now block.start) block.start
         block.size) }
-    ensures count { Counts (W.count out.old) (W.count out.new) result }
 {
     meaning.acceptance();
     blocks();
@@ -40,29 +38,28 @@ pub(crate) fn put_reasons<W: ByteOut>(
             return Ok(());
         };
         let end = done + least.size as usize;
-        put_reason(meaning, start, &have[done..end], &want[done..end], out)?;
+        push_reason(meaning, start, &have[done..end], &want[done..end], lines)?;
         done = end;
     }
     Ok(())
 }
 
-/// Puts the line of bytes that begin at an address, where one of them is due.
-fn put_reason<W: ByteOut>(
+/// Appends the line of bytes that begin at an address, where one of them is due.
+fn push_reason(
     meaning: &Meaning,
     start: u32,
     have: &[u8],
     want: &[u8],
-    out: &mut W,
-) -> Result<(), Failed>
+    lines: &mut Vec<PlanLine>,
+) -> Result<(), AllocError>
     requires lengths { length have.now ≡ length want.now }
     requires inside { start + length have.now ≤ meaning.now.size }
-    requires room { W.count out.old < 2 ^ 64 - 1 }
-    ensures bytes { Writes (W.held out.old) (W.held out.new) result
-        (reason (due_in meaning.now have.now want.now start) start (length have.now)) }
-    ensures count { Counts (W.count out.old) (W.count out.new) result }
+    ensures { IfOk result (λ _. lines.new.items ≡ lines.old.items
+        ++ reason (due_in meaning.now have.now want.now start) start (length have.now)) }
 {
-    match first_due(meaning, start, have, want) {
-        None => Ok(()),
-        Some(cause) => write_line(PlanLine::Because { start, cause }, out),
-    }
+    let Some(cause) = first_due(meaning, start, have, want) else {
+        return Ok(());
+    };
+    lines.push(PlanLine::Because { start, cause })?;
+    Ok(())
 }

@@ -4,12 +4,27 @@ ghost use Rattle.std.specs.Prelude.{◌≡◌, ◌<◌, ◌-◌, ◌^◌};
 ghost use Rattle.nor_base.specs.Device.{Writes, Counts};
 ghost use Rattle.nor_base.specs.Script.{closed};
 ghost use Rattle.nor_plan_read.specs.declared.line.PlanLine.TheVariants.{Erase, Because, Program};
-ghost use Rattle.nor_plan_read.specs.Lines.{line_text, line_words};
+ghost use Rattle.nor_plan_read.specs.Lines.{line_text, line_words, lines_text};
 
 use crate::line::PlanLine;
 use itoa::Buffer;
 use nor_base::{ByteOut, Failed, put_parts};
 use nor_script::{hex_number, hex_pair};
+
+/// Writes lines of a plan one after another, each closed by LF. [`read_plan`](crate::read_plan)
+/// reads just these lines of that text.
+///
+/// It takes no memory. At `Failed` a proper prefix was taken; it comes only from the writer.
+pub fn write_lines<W: ByteOut>(lines: &[PlanLine], out: &mut W) -> Result<(), Failed>
+    requires { W.count out.old < 2 ^ 64 - 1 }
+    ensures bytes { Writes (W.held out.old) (W.held out.new) result (lines_text lines.now) }
+    ensures count { Counts (W.count out.old) (W.count out.new) result }
+{
+    for line in lines {
+        write_line(*line, out)?;
+    }
+    Ok(())
+}
 
 /// Writes a line of a plan, closed by LF. The number of bytes of a program is in decimal, all other
 /// numbers are in lower-case hexadecimal digits. Without its LF it is a text of which

@@ -22,7 +22,7 @@ use Rattle.nor_times.specs.declared.times.Times.{Times}
 use Rattle.nor_times.specs.Busy.{typical_of, worst_of, busy_of}
 use Rattle.nor_times.specs.UnitTimes.{block_time, bytes_time, unit_sum}
 use Rattle.nor_times.specs.Law.{ErasesAreNamed, BusyIsOfUnits}
-use Rattle.nor_times.specs.Plan.{reasons, erase_lines, program_line, unit_plan}
+use Rattle.nor_outline.specs.Outline.{reasons, erase_lines, program_line, unit_plan}
 use Rattle.nor_times.proofs.LineLemmas.{IsQuiet, reasons_quiet}
 
 -- what a number of a line is: none of a reason; of a block that may be erased, and of a program

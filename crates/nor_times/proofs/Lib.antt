@@ -4,7 +4,6 @@ mod ClockLemmas
 mod LineLemmas
 mod UnitLemmas
 mod ScriptLemmas
-mod TextLemmas
 mod SmallLemmas
 mod NameLemmas
 mod BusyLemmas

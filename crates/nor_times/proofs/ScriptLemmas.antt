@@ -24,7 +24,7 @@ use Rattle.nor_plan_laws.specs.Able.{BlocksStay}
 use Rattle.nor_plan_laws.specs.Least.{ErasesBlocks}
 use Rattle.nor_plan_laws.proofs.Units.Wider.{some_page}
 use Rattle.nor_times.specs.Bus.{Doing, steps_clocks, switch_clocks, mode_clocks, is_work, lines_clocks, bus_of}
-use Rattle.nor_times.specs.Plan.{erase_lines, program_line, unit_plan}
+use Rattle.nor_outline.specs.Outline.{erase_lines, program_line, unit_plan}
 use Rattle.nor_times.specs.Law.{BusIsOfScript}
 use Rattle.nor_times.proofs.ClockLemmas.{instr_clocks, clocks_are, clocks_steps, op_clocks}
 use Rattle.nor_times.proofs.UnitLemmas.{ops_clocks, IsPlan, stretch_clocks}

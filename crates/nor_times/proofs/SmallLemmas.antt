@@ -19,7 +19,7 @@ use Rattle.nor_base.proofs.RegionLaws.{legal_on_chip}
 use Rattle.nor_plan_laws.proofs.Erased.Best.{smallest_of}
 use Rattle.nor_plan_laws.proofs.Erased.Erasing.{erased_for, there}
 use Rattle.nor_plan_read.specs.Lines.{IsSmall}
-use Rattle.nor_times.specs.Plan.{because, reason_at, erase_lines, program_line, unit_plan}
+use Rattle.nor_outline.specs.Outline.{because, reason_at, erase_lines, program_line, unit_plan}
 use Rattle.nor_base.proofs.ListLaws.{all_append}
 use Rattle.nor_times.proofs.LineLemmas.{BeginsIn, programs_in}
 

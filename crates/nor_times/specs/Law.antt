@@ -8,14 +8,13 @@ use Rattle.nor_base.specs.Blocks.{Block, IsLegalBlock, kinds}
 use Rattle.nor_base.specs.Operations.{erasing}
 use Rattle.nor_base.specs.Planned.{IsWorkable, planned, planned_units}
 use Rattle.nor_base.specs.Strategies.{strategy, reaches}
-use Rattle.nor_outline.specs.Outline.{unit_lines}
+use Rattle.nor_outline.specs.Outline.{unit_lines, plan_of}
 use Rattle.nor_plan_read.specs.Lines.{IsText}
 use Rattle.nor_steps.specs.Lines.{steps_of}
 use Rattle.nor_times.specs.declared.times.Times.{Times}
 use Rattle.nor_times.specs.Busy.{is_named, busy_of}
 use Rattle.nor_times.specs.UnitTimes.{units_busy}
 use Rattle.nor_times.specs.Bus.{bus_of, steps_clocks}
-use Rattle.nor_times.specs.Plan.{plan_of}
 
 -- the clocks that the lines of a plan give are those of the steps of its instructions, each poll once
 abbrev pub BusIsOfScript : Type 0

@@ -8,10 +8,11 @@ use nor_base::{IntoWrite, Start};
 use nor_erase::plan;
 use nor_geometry::{PlanFault, PlanUnit, strategy, window_size};
 use nor_job::BuildFault;
-use nor_outline::write_window;
+use nor_outline::window_lines;
 use nor_pages::{Run, split};
+use nor_plan_read::{PlanLine, write_lines};
 use nor_steps::StepsFault;
-use std::alloc::AllocError;
+use std::alloc::{AllocError, Global};
 use std::io;
 use test_samples::words::{ODD, byte, hexadecimal};
 
@@ -88,9 +89,8 @@ pub(crate) fn window(asked: &Asked<'_, '_>, is_text: bool, out: &mut String) -> 
     if !is_text {
         return put_units(plan(asked.alloc, chip, by, at, &have, &want), out);
     }
-    let mut lines = IntoWrite::new(Vec::new(asked.alloc));
-    let ended = write_window(asked.alloc, chip, by, at, &have, &want, &mut lines);
-    put_lines(&lines.into_inner(), ended, out)
+    let planned = window_lines(asked.alloc, chip, by, at, &have, &want);
+    put_lines(asked.alloc, planned, out)
 }
 
 /// Puts the units of a window, or why there are none.
@@ -108,14 +108,21 @@ fn put_units(planned: Result<Vec<PlanUnit>, PlanFault>, out: &mut String) -> io:
     Ok(())
 }
 
-/// Puts the lines of a window, and the fault that ended them.
-fn put_lines(lines: &[u8], ended: Result<(), StepsFault>, out: &mut String) -> io::Result<()> {
-    out.push_str(str::from_utf8(lines).ok().ok_or(ODD)?)?;
-    match ended {
-        Ok(()) => Ok(()),
-        Err(StepsFault::Plan(fault)) => put_fault(out, BuildFault::Plan(fault)),
-        Err(_) => Err(ODD.into()),
-    }
+/// Puts the lines of a window, or why there are none.
+fn put_lines(
+    alloc: Global,
+    planned: Result<Vec<PlanLine>, StepsFault>,
+    out: &mut String,
+) -> io::Result<()> {
+    let lines = match planned {
+        Ok(lines) => lines,
+        Err(StepsFault::Plan(fault)) => return put_fault(out, BuildFault::Plan(fault)),
+        Err(_) => return Err(ODD.into()),
+    };
+    let mut text = IntoWrite::new(Vec::new(alloc));
+    write_lines(&lines, &mut text).ok().ok_or(ODD)?;
+    out.push_str(str::from_utf8(&text.into_inner()).ok().ok_or(ODD)?)?;
+    Ok(())
 }
 
 /// Tells the runs of a unit: `page START`, or `block START SIZE KIND`.

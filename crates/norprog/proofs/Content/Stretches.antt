@@ -12,7 +12,7 @@ use Rattle.nor_base.specs.Operations.{Op, unit_ops}
 use Rattle.nor_geometry.specs.declared.fault.PlanFault.{PlanFault}
 use Rattle.nor_geometry.specs.declared.fault.PlanFault.TheVariants as plan
 use Rattle.nor_geometry.specs.Plan.{HasPart, IsLowestAt, IsFault, IsFaultOf}
-use Rattle.nor_outline.specs.Told.{IsFaultless}
+use Rattle.nor_outline.specs.Outline.{IsFaultless}
 use Rattle.nor_steps.specs.Work.{stretch_units, stretch_ops, IsWork, IsWorkOf}
 use Rattle.nor_steps.specs.Writing.{Writing, written_on}
 use Rattle.nor_plan_laws.proofs.Erased.Needed.{units_join}

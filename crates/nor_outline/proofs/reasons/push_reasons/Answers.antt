@@ -1,21 +1,18 @@
 -- Each smallest block starts where the one before it ends.
-use Rattle.std.proofs.Common.{◌≡◌, ℕ, ◌+◌, ◌≤◌, ◌<◌, List, length, refl, ◌∙◌, ap, subst, arith, rules}
-use Rattle.std.specs.Io.KnownBytes.{Appends}
+use Rattle.std.proofs.Common.{◌≡◌, ℕ, ◌+◌, ◌++◌, ◌≤◌, ◌<◌, List, length, sym, ◌∙◌, ap, subst, arith, rules, append-nil}
 use Rattle.nor_base.specs.Blocks.{Block, Holds}
 use Rattle.nor_base.specs.Parameters.{Parameters}
 use Rattle.nor_base.specs.declared.meaning.Strategy.{Strategy}
 use Rattle.nor_base.specs.Accepted.{IsAccepted}
-use Rattle.nor_base.proofs.DeviceLaws.{Appends-none, Writes-cut}
 use Rattle.nor_base.proofs.RegionLaws.{legal_on_chip}
 use Rattle.nor_geometry.specs.Legal.{IsSmallestAt}
 use Rattle.nor_geometry.proofs.KindLemmas.{placed}
 use Rattle.nor_plan_laws.specs.Able.{BlocksStay}
 use Rattle.nor_plan_laws.proofs.Units.Ranges.{length-range}
-use Rattle.nor_outline.specs.Outline.{MayErase, reasons}
-use Rattle.nor_outline.specs.Parts.{due_in}
+use Rattle.nor_outline.specs.Parts.{MayErase}
 use Rattle.nor_outline.proofs.ReasonLemmas.{IsBorder, IsNextIn, first_border, next_in}
-use Rattle.nor_outline.proofs.WalkLemmas.{one_more, cut_there}
-use Rattle.nor_outline.proofs.reasons.put_reasons.Goals as goal
+use Rattle.nor_outline.proofs.WalkLemmas.{lines, one_more}
+use Rattle.nor_outline.proofs.reasons.push_reasons.Goals as goal
 
 -- the smallest block at the next place
 next_at : (m : Parameters) (by : Strategy) (b : Block) (have want : List ℕ) (start done : ℕ) (least : Block) → BlocksStay → IsAccepted m → MayErase m by b
@@ -26,24 +23,23 @@ next_at m by b have want start done least stay accepted may lengths count less s
     next_in m by b (b.start + done) least stay accepted may held border (subst (λ n. IsSmallestAt m by (n + done) least) starts is)
 
 pub loop-done-init : goal.loop-done-init
-loop-done-init g c =
+loop-done-init c =
     let place : c.args.block.start ≡ c.args.block.start + 0 = omega arith in
     let p = placed c.args.meaning.now c.args.block c.acceptance.ensures c.requires.block.legal in
     record {
       upto = omega arith;
       border = subst (IsBorder c.args.meaning.now) place (first_border c.args.meaning.now c.args.block c.acceptance.ensures c.requires.block.legal p.some);
-      put = Appends-none _;
-      count = refl;
+      pushed = sym (append-nil c.args.lines.now.items);
     }
 
 pub overflow_add-start : goal.overflow_add-start
-overflow_add-start g c =
+overflow_add-start c =
     let start : c.block.inside.start ≡ c.args.block.start = ap (λ (b : Block). b.start) c.block.view_is in
     let fits = legal_on_chip c.args.meaning.now c.args.block c.acceptance.ensures c.requires.block.legal in
     omega (arith, fits, start, c.acceptance.ensures.size_high)
 
-pub slice_bounds-put_reason-end : goal.slice_bounds-put_reason-end
-slice_bounds-put_reason-end g c =
+pub slice_bounds-push_reason-end : goal.slice_bounds-push_reason-end
+slice_bounds-push_reason-end c =
     let start : c.block.inside.start ≡ c.args.block.start = ap (λ (b : Block). b.start) c.block.view_is in
     let size : c.least.inside.size ≡ c.in-Some.least.size = ap (λ (b : Block). b.size) c.least.view_is in
     let next = next_at c.args.meaning.now c.args.strategy c.args.block c.args.have.now c.args.want.now c.block.inside.start c.loop-done.done c.in-Some.least c.blocks-2.ensures.blocks
@@ -51,8 +47,8 @@ slice_bounds-put_reason-end g c =
     let upto : c.loop-done.done + c.least.inside.size ≤ length c.args.have.now = omega (arith, next.fits, size) in
     search rules
 
-pub put_reason-requires-clause-inside : goal.put_reason-requires-clause-inside
-put_reason-requires-clause-inside g c =
+pub push_reason-requires-clause-inside : goal.push_reason-requires-clause-inside
+push_reason-requires-clause-inside c =
     let start : c.block.inside.start ≡ c.args.block.start = ap (λ (b : Block). b.start) c.block.view_is in
     let size : c.least.inside.size ≡ c.in-Some.least.size = ap (λ (b : Block). b.size) c.least.view_is in
     let next = next_at c.args.meaning.now c.args.strategy c.args.block c.args.have.now c.args.want.now c.block.inside.start c.loop-done.done c.in-Some.least c.blocks-2.ensures.blocks
@@ -61,20 +57,8 @@ put_reason-requires-clause-inside g c =
     let fits = legal_on_chip c.args.meaning.now c.args.block c.acceptance.ensures c.requires.block.legal in
     omega (arith, fits, start, length-range c.args.have.now c.loop-done.done (c.loop-done.done + c.least.inside.size) (omega arith) upto)
 
-pub returns-in_err-put_reason-clause-bytes : goal.returns-in_err-put_reason-clause-bytes
-returns-in_err-put_reason-clause-bytes g c =
-    let start : c.block.inside.start ≡ c.args.block.start = ap (λ (b : Block). b.start) c.block.view_is in
-    let size : c.least.inside.size ≡ c.in-Some.least.size = ap (λ (b : Block). b.size) c.least.view_is in
-    let next = next_at c.args.meaning.now c.args.strategy c.args.block c.args.have.now c.args.want.now c.block.inside.start c.loop-done.done c.in-Some.least c.blocks-2.ensures.blocks
-    c.acceptance.ensures c.requires.block c.requires.lengths c.requires.count c.loop-done-test.true start c.loop-done.invariant.border c.in-Some.ensures in
-    let upto : c.loop-done.done + c.least.inside.size ≤ length c.args.have.now = omega (arith, next.fits, size) in
-    Writes-cut _ _ _ _ c.from_residual.ensures.0
-    (cut_there c.args.meaning.now c.args.block c.in-Some.least c.args.have.now c.args.want.now c.block.inside.start c.loop-done.done c.least.inside.size
-    (g.W.ByteOut.held c.args.out.now) (g.W.ByteOut.held c.loop-done.out) (g.W.ByteOut.held c.put_reason.new.out) start size
-    (c.requires.lengths ∙ c.requires.count) upto next c.loop-done.invariant.put c.in_err-put_reason.ensures.bytes)
-
 pub loop-done-preserved : goal.loop-done-preserved
-loop-done-preserved g c =
+loop-done-preserved c =
     let start : c.block.inside.start ≡ c.args.block.start = ap (λ (b : Block). b.start) c.block.view_is in
     let size : c.least.inside.size ≡ c.in-Some.least.size = ap (λ (b : Block). b.size) c.least.view_is in
     let next = next_at c.args.meaning.now c.args.strategy c.args.block c.args.have.now c.args.want.now c.block.inside.start c.loop-done.done c.in-Some.least c.blocks-2.ensures.blocks
@@ -84,15 +68,13 @@ loop-done-preserved g c =
     record {
       upto = upto;
       border = subst (IsBorder c.args.meaning.now) place next.border;
-      put = one_more c.args.meaning.now c.args.block c.in-Some.least c.args.have.now c.args.want.now c.block.inside.start c.loop-done.done c.least.inside.size
-          (g.W.ByteOut.held c.args.out.now) (g.W.ByteOut.held c.loop-done.out) (g.W.ByteOut.held c.put_reason.new.out) start size upto next
-          c.loop-done.invariant.put c.in_ok-put_reason.ensures.bytes;
-      count = c.in_ok-put_reason.ensures.count ∙ c.loop-done.invariant.count;
+      pushed = one_more c.args.meaning.now c.args.block c.in-Some.least c.args.have.now c.args.want.now c.block.inside.start c.loop-done.done c.least.inside.size
+          c.args.lines.now.items c.loop-done.lines.items c.push_reason.new.lines.items start size upto next
+          c.loop-done.invariant.pushed c.in_ok-push_reason.ensures;
     }
 
-pub returns-clause-bytes : goal.returns-clause-bytes
-unfolding reasons
-returns-clause-bytes g c =
+pub returns : goal.returns
+returns c =
     let all : c.loop-done.done ≡ c.args.block.size = omega (arith, c.loop-done.invariant.upto, c.requires.lengths, c.requires.count) in
-    subst (λ n. Appends (g.W.ByteOut.held c.args.out.now) (g.W.ByteOut.held c.loop-done.out)
-    (reasons c.args.meaning.now (due_in c.args.meaning.now c.args.have.now c.args.want.now c.args.block.start) c.args.block.start n)) all c.loop-done.invariant.put
+    c.loop-done.invariant.pushed
+    ∙ ap (λ n. c.args.lines.now.items ++ lines c.args.meaning.now c.args.have.now c.args.want.now c.args.block.start c.args.block.start n) all

@@ -1,6 +1,6 @@
--- The text of a unit by its own bytes is that of the whole chip's.
-use Rattle.std.proofs.Common.{◌≡◌, ℕ, ◌+◌, ◌-◌, ◌<◌, ◌≤◌, ◌==◌, not, ◌&&◌, if◌then◌else◌, Bool, List, [], ◌∷◌, ◌++◌, length, map, Option, Some, None, refl, sym, ◌∙◌, ap, arith, append_assoc}
-use Rattle.std.specs.Prelude.{flat_map, slice_index}
+-- The lines of a unit by its own bytes are those by the whole chip's.
+use Rattle.std.proofs.Common.{◌≡◌, ℕ, ◌+◌, ◌-◌, ◌<◌, ◌≤◌, ◌==◌, not, ◌&&◌, if◌then◌else◌, Bool, List, [], ◌∷◌, ◌++◌, length, map, Option, Some, None, refl, sym, ◌∙◌, ap, arith}
+use Rattle.std.specs.Prelude.{slice_index}
 use Rattle.std.specs.List.{slice_range, AllByRecursion}
 use Rattle.nor_base.specs.declared.meaning.Strategy.{Strategy}
 use Rattle.nor_base.specs.Parameters.{Parameters}
@@ -8,6 +8,7 @@ use Rattle.nor_base.specs.Accepted.{IsAccepted}
 use Rattle.nor_base.specs.Blocks.{Block, IsLegalBlock, smallest}
 use Rattle.nor_base.specs.Effect.{may_program}
 use Rattle.nor_base.specs.Need.{is_due}
+use Rattle.nor_base.specs.Operations.{erasing}
 use Rattle.nor_plan_laws.proofs.Units.Ranges.{length-range, range_at}
 use Rattle.nor_plan_laws.proofs.Erased.Needed.{holds_smallest}
 use Rattle.nor_geometry.specs.declared.unit.PlanUnit.{PlanUnit}
@@ -15,11 +16,10 @@ use Rattle.nor_geometry.specs.declared.unit.PlanUnit.TheVariants as unit
 use Rattle.nor_geometry.specs.Plan.{HasPart}
 use Rattle.nor_erase.proofs.Runs.{at_address}
 use Rattle.nor_pages.specs.declared.run.Run.{Run}
-use Rattle.nor_pages.specs.Runs.{run_program, unit_start, LiesBetween, AreBetween}
-use Rattle.nor_outline.specs.Outline.{program_line, because, reason, reason_at, reasons, erase_line, IsPlanned, IsOutline}
-use Rattle.nor_plan_read.specs.declared.line.PlanLine.TheVariants.{Program}
-use Rattle.nor_plan_read.specs.Lines.{line_text}
-use Rattle.nor_outline.specs.Parts.{due_in, run_line, part_text}
+use Rattle.nor_pages.specs.Runs.{run_program, unit_start, LiesBetween, AreBetween, IsSplit}
+use Rattle.nor_outline.specs.Outline.{program_line, because, reason, reason_at, reasons, erase_lines}
+use Rattle.nor_plan_read.specs.declared.line.PlanLine.TheVariants.{Erase, Program}
+use Rattle.nor_outline.specs.Parts.{due_in, run_line, part_lines, AreUnitLines, IsPlanned}
 use Rattle.nor_outline.proofs.RangeLemmas.{find_same, flat_same}
 
 due_by : (m : Parameters) (old old' new new' : ℕ) → old ≡ old' → new ≡ new'
@@ -51,7 +51,6 @@ reason_same due other start size same = ap (because start) (find_same due other 
 -- the reasons within a block are by the bytes of the block
 reasons_same : (m : Parameters) (b : Block) (due other : ℕ → Bool) → IsAccepted m → IsLegalBlock m b
     → ((x : ℕ) → b.start ≤ x → x < b.start + b.size → due x ≡ other x) → reasons m due b.start b.size ≡ reasons m other b.start b.size
-unfolding reasons
 reasons_same m b due other accepted legal same =
     flat_same (reason_at m due) (reason_at m other) b.size b.start (λ x from upto. by_found x from upto (smallest m x) refl)
   where
@@ -65,24 +64,25 @@ reasons_same m b due other accepted legal same =
 run_told : (target : List ℕ) (r : Run) → r.at + r.len ≤ length target → run_line r ≡ program_line (run_program target r)
 run_told target r fits =
     let size : r.len ≡ length (slice_range target r.at (r.at + r.len)) = omega (arith, length-range target r.at (r.at + r.len) (omega arith) fits) in
-    ap (λ n. line_text (Program r.at n)) size
+    ap (λ n. Program r.at n) size
 
 runs_told : (target : List ℕ) (low high : ℕ) (runs : List Run) → high ≤ length target → AllByRecursion (LiesBetween low high) runs
-    → flat_map run_line runs ≡ flat_map program_line (map (run_program target) runs)
+    → map run_line runs ≡ map program_line (map (run_program target) runs)
 runs_told target low high [] fits each = refl
 runs_told target low high (r ∷ runs) fits each =
-    ap (λ xs. xs ++ flat_map run_line runs) (run_told target r (omega (arith, each.0.upto)))
-    ∙ ap (λ xs. program_line (run_program target r) ++ xs) (runs_told target low high runs fits each.1)
+    ap (λ l. l ∷ map run_line runs) (run_told target r (omega (arith, each.0.upto)))
+    ∙ ap (λ ls. program_line (run_program target r) ∷ ls) (runs_told target low high runs fits each.1)
 
-pub part_outline : (m : Parameters) (by : Strategy) (planned : PlanUnit) (runs : List Run) (have want : List ℕ) → IsAccepted m → length have ≡ length want
+pub part_told : (m : Parameters) (by : Strategy) (planned : PlanUnit) (runs : List Run) (have want : List ℕ) → IsAccepted m → length have ≡ length want
     → IsPlanned m by planned (length want) → AreBetween (unit_start planned) (unit_start planned + length want) (length want) runs
-    → IsOutline m by planned runs have want (part_text m by planned runs have want)
-part_outline m by (unit.Block b) runs have want accepted lengths is between content target first second =
-    let its_reasons = reasons_same m b (due_in m have want b.start) (is_due m content target) accepted is.1.legal
-    (λ x from upto. due_whole m content target have want b.start x first second lengths from (omega (arith, upto, is.0))) in
-    let its_runs = runs_told target b.start (b.start + length want) runs second.fits between.each in
-    ap (λ xs. erase_line m by b ++ (xs ++ flat_map run_line runs)) its_reasons
-    ∙ ap (λ xs. erase_line m by b ++ (reasons m (is_due m content target) b.start b.size ++ xs)) its_runs
-    ∙ sym (append_assoc (erase_line m by b) (reasons m (is_due m content target) b.start b.size) (flat_map program_line (map (run_program target) runs)))
-part_outline m by (unit.Page start) runs have want accepted lengths is between content target first second =
-    runs_told target start (start + length want) runs second.fits between.each
+    → IsSplit m planned have want runs → AreUnitLines m by planned have want (part_lines m by planned runs have want)
+part_told m by (unit.Block b) runs have want accepted lengths is between split content level target part has =
+    let due = is_due m content target in
+    let its_reasons = reasons_same m b (due_in m have want b.start) due accepted is.1.legal
+    (λ x from upto. due_whole m content target have want b.start x part has.1 lengths from (omega (arith, upto, is.0))) in
+    let its_runs = runs_told target b.start (b.start + length want) runs has.1.fits between.each in
+    ap (λ ps. erase_lines m by due (Some b) ++ map program_line ps) (sym (split level target has.0 has.1))
+    ∙ ap (λ ls. erase_lines m by due (Some b) ++ ls) (sym its_runs)
+    ∙ ap (λ ls. Erase b.start b.size (erasing m by b).op ∷ (ls ++ map run_line runs)) (sym its_reasons)
+part_told m by (unit.Page start) runs have want accepted lengths is between split content level target part has =
+    ap (map program_line) (sym (split level target has.0 has.1)) ∙ sym (runs_told target start (start + length want) runs has.1.fits between.each)

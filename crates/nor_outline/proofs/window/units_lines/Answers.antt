@@ -1,36 +1,34 @@
 -- One unit after another.
-use Rattle.std.proofs.Common.{refl, sym, ◌∙◌, ap, subst, arith, ◌+◌, ◌-◌, rules}
+use Rattle.std.proofs.Common.{sym, ◌∙◌, ap, subst, arith, ◌+◌, ◌-◌, rules}
 use Rattle.nor_base.specs.Parameters.{Parameters}
-use Rattle.nor_outline.specs.Outline.{IsPlanned}
+use Rattle.nor_outline.specs.Parts.{IsPlanned}
 use Rattle.nor_pages.specs.Runs.{IsUnit, unit_start}
 use Rattle.nor_steps.specs.Units.{unit_size}
-use Rattle.nor_base.proofs.FaultLaws.{handed_on}
 use Rattle.nor_steps.proofs.WindowLemmas.{unit_length}
-use Rattle.nor_outline.proofs.TellLemmas.{lies_here, told_none, next_here, cut_here, told_all}
-use Rattle.nor_outline.proofs.window.tell_units.Goals as goal
+use Rattle.nor_outline.proofs.StretchLemmas.{AreSofar, lies_here, sofar_none, next_here, all_lines}
+use Rattle.nor_outline.proofs.window.units_lines.Goals as goal
 
 pub loop-unit-init : goal.loop-unit-init
-loop-unit-init g c = record {
-  told = told_none c.args.meaning.now c.args.strategy _ c.args.at c.args.have.now c.args.want.now;
-  count = refl;
-}
+loop-unit-init c =
+    subst (AreSofar c.args.meaning.now c.args.strategy c.args.at c.args.have.now c.args.want.now 0) (sym c.new-lines.ensures.items)
+    (sofar_none c.args.meaning.now c.args.strategy c.args.at c.args.have.now c.args.want.now)
 
 pub bounds-low-requires-clause-from : goal.bounds-low-requires-clause-from
-bounds-low-requires-clause-from g c =
+bounds-low-requires-clause-from c =
     let p = c.requires.planned in
     let lies = lies_here c.args.meaning.now c.args.strategy c.args.at c.args.have.now c.args.want.now c.args.units.now c.loop-unit.unit-index c.unit-item.result p c.unit-item.is c.loop-unit-test.true in
     lies.low
 
 pub bounds-low-requires-clause-small : goal.bounds-low-requires-clause-small
-bounds-low-requires-clause-small g c =
+bounds-low-requires-clause-small c =
     let page = ap (λ (m : Parameters). m.page) c.meaning.view_is in
     let size = ap (λ n. unit_size n c.unit-item.result) page in
     let p = c.requires.planned in
     let lies = lies_here c.args.meaning.now c.args.strategy c.args.at c.args.have.now c.args.want.now c.args.units.now c.loop-unit.unit-index c.unit-item.result p c.unit-item.is c.loop-unit-test.true in
     omega (arith, size, lies.high, lies.fits)
 
-pub slice_bounds-tell_unit-end : goal.slice_bounds-tell_unit-end
-slice_bounds-tell_unit-end g c =
+pub slice_bounds-push_lines-end : goal.slice_bounds-push_lines-end
+slice_bounds-push_lines-end c =
     let page = ap (λ (m : Parameters). m.page) c.meaning.view_is in
     let size = ap (λ n. unit_size n c.unit-item.result) page in
     let high = c.bounds-low.ensures.high ∙ ap (λ s. unit_start c.unit-item.result - c.args.at + s) size in
@@ -38,8 +36,8 @@ slice_bounds-tell_unit-end g c =
     let lies = lies_here c.args.meaning.now c.args.strategy c.args.at c.args.have.now c.args.want.now c.args.units.now c.loop-unit.unit-index c.unit-item.result p c.unit-item.is c.loop-unit-test.true in
     omega (arith, lies.low, lies.high, high)
 
-pub slice_bounds-tell_unit-end-in-loop-unit : goal.slice_bounds-tell_unit-end-in-loop-unit
-slice_bounds-tell_unit-end-in-loop-unit g c =
+pub slice_bounds-push_lines-end-in-loop-unit : goal.slice_bounds-push_lines-end-in-loop-unit
+slice_bounds-push_lines-end-in-loop-unit c =
     let page = ap (λ (m : Parameters). m.page) c.meaning.view_is in
     let size = ap (λ n. unit_size n c.unit-item.result) page in
     let high = c.bounds-low.ensures.high ∙ ap (λ s. unit_start c.unit-item.result - c.args.at + s) size in
@@ -47,8 +45,8 @@ slice_bounds-tell_unit-end-in-loop-unit g c =
     let lies = lies_here c.args.meaning.now c.args.strategy c.args.at c.args.have.now c.args.want.now c.args.units.now c.loop-unit.unit-index c.unit-item.result p c.unit-item.is c.loop-unit-test.true in
     omega (arith, lies.low, lies.high, p.lengths, high)
 
-pub tell_unit-requires-clause-unit : goal.tell_unit-requires-clause-unit
-tell_unit-requires-clause-unit g c =
+pub push_lines-requires-clause-unit : goal.push_lines-requires-clause-unit
+push_lines-requires-clause-unit c =
     let page = ap (λ (m : Parameters). m.page) c.meaning.view_is in
     let size = ap (λ n. unit_size n c.unit-item.result) page in
     let high = c.bounds-low.ensures.high ∙ ap (λ s. unit_start c.unit-item.result - c.args.at + s) size in
@@ -57,8 +55,8 @@ tell_unit-requires-clause-unit g c =
     let long = unit_length c.args.want.now c.bounds-low.result.0 c.bounds-low.result.1 _ _ _ c.bounds-low.ensures.low high (omega (arith, lies.low, lies.high, p.lengths)) in
     (search rules, subst (λ n. IsUnit c.args.meaning.now c.unit-item.result n) (sym long) lies.stretch)
 
-pub tell_unit-requires-clause-planned : goal.tell_unit-requires-clause-planned
-tell_unit-requires-clause-planned g c =
+pub push_lines-requires-clause-planned : goal.push_lines-requires-clause-planned
+push_lines-requires-clause-planned c =
     let page = ap (λ (m : Parameters). m.page) c.meaning.view_is in
     let size = ap (λ n. unit_size n c.unit-item.result) page in
     let high = c.bounds-low.ensures.high ∙ ap (λ s. unit_start c.unit-item.result - c.args.at + s) size in
@@ -67,29 +65,16 @@ tell_unit-requires-clause-planned g c =
     let long = unit_length c.args.want.now c.bounds-low.result.0 c.bounds-low.result.1 _ _ _ c.bounds-low.ensures.low high (omega (arith, lies.low, lies.high, p.lengths)) in
     subst (λ n. IsPlanned c.args.meaning.now c.args.strategy c.unit-item.result n) (sym long) lies.planned
 
-pub returns-in_err-tell_unit-clause-stopped : goal.returns-in_err-tell_unit-clause-stopped
-returns-in_err-tell_unit-clause-stopped g c =
-    let page = ap (λ (m : Parameters). m.page) c.meaning.view_is in
-    let size = ap (λ n. unit_size n c.unit-item.result) page in
-    let high = c.bounds-low.ensures.high ∙ ap (λ s. unit_start c.unit-item.result - c.args.at + s) size in
-    handed_on _ _ c.in_err-tell_unit.field-0.0 c.from_residual.ensures.1
-    (cut_here c.args.meaning.now c.args.strategy _ _ _ c.args.at c.args.have.now c.args.want.now c.args.units.now c.loop-unit.unit-index c.unit-item.result _ _
-    c.in_err-tell_unit.field-0.0 c.requires.planned c.loop-unit.invariant.told c.unit-item.is c.loop-unit-test.true c.bounds-low.ensures.low high
-    c.in_err-tell_unit.ensures.why c.in_err-tell_unit.ensures.told)
-
 pub loop-unit-preserved : goal.loop-unit-preserved
-loop-unit-preserved g c =
+loop-unit-preserved c =
     let page = ap (λ (m : Parameters). m.page) c.meaning.view_is in
     let size = ap (λ n. unit_size n c.unit-item.result) page in
     let high = c.bounds-low.ensures.high ∙ ap (λ s. unit_start c.unit-item.result - c.args.at + s) size in
-    record {
-      told =
-          next_here c.args.meaning.now c.args.strategy _ _ _ c.args.at c.args.have.now c.args.want.now c.args.units.now c.loop-unit.unit-index c.unit-item.result _ _
-          c.requires.planned c.loop-unit.invariant.told c.unit-item.is c.loop-unit-test.true c.bounds-low.ensures.low high c.in_ok-tell_unit.ensures.told;
-      count = c.in_ok-tell_unit.ensures.count ∙ c.loop-unit.invariant.count;
-    }
+    let its = c.in_ok-push_lines.ensures.lines in
+    next_here c.args.meaning.now c.args.strategy c.args.at c.args.have.now c.args.want.now c.args.units.now c.loop-unit.unit-index c.unit-item.result _ _ _ its.0 _
+    c.requires.planned c.loop-unit.invariant c.unit-item.is c.loop-unit-test.true c.bounds-low.ensures.low high its.1 its.2
 
-pub returns-clause-told : goal.returns-clause-told
-returns-clause-told g c =
-    told_all c.args.meaning.now c.args.strategy _ _ c.args.at c.args.have.now c.args.want.now c.args.units.now c.loop-unit.unit-index c.requires.planned
-    c.loop-unit.invariant.told (omega (arith, c.loop-unit-test.false))
+pub returns-clause-lines : goal.returns-clause-lines
+returns-clause-lines c =
+    all_lines c.args.meaning.now c.args.strategy c.args.at c.args.have.now c.args.want.now c.args.units.now c.loop-unit.unit-index _ c.requires.planned
+    c.loop-unit.invariant (omega (arith, c.loop-unit-test.false))
