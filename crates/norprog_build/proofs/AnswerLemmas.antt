@@ -1,5 +1,5 @@
 -- What was built, and why nothing was, of a job that is asked for.
-use Rattle.std.proofs.Common.{◌≡◌, ℕ, Bool, true, ◌⊎◌, ◌∙◌, inl, inr, refl, List, Option, Some, Result, Ok, Err, IfOk, IfErr, MatchResult}
+use Rattle.std.proofs.Common.{◌≡◌, ℕ, Bool, ◌⊎◌, inl, inr, refl, List, Option, Some, Result, Ok, Err, IfOk, IfErr}
 use Rattle.std.specs.Prelude.{⊤}
 use Rattle.nor_base.specs.Device.{Ahead}
 use Rattle.nor_job.specs.declared.fault.BuildFault.{BuildFault}
@@ -10,10 +10,9 @@ use Rattle.norprog.specs.declared.report.Report.{Report}
 use Rattle.norprog_common.specs.declared.faults.FileName.{FileName}
 use Rattle.norprog_common.specs.declared.faults.Refusal.{Refusal}
 use Rattle.norprog_common.specs.declared.faults.Refusal.TheVariants.{Build}
-use Rattle.std.specs.Io.KnownBytes.{Appends}
-use Rattle.norprog_common.specs.Lines.{printed, status_after}
-use Rattle.norprog_common.specs.Told.{OfFault, OrUsage, Answers}
-use Rattle.norprog_common.proofs.ToldLemmas.{asked_wider, fault_wider, by_fault, refuses_wider}
+use Rattle.norprog_common.specs.Files.{TellsFile}
+use Rattle.norprog_common.specs.Told.{OfFault}
+use Rattle.norprog_common.proofs.ToldLemmas.{asked_wider, fault_wider, by_fault, by_files, refuses_wider}
 use Rattle.norprog_build.specs.Answer.{IsReportOf, IsBuildReport, IsFaultOf, IsBuildFault, RefusesBuild, done}
 use Rattle.norprog_common.specs.Served.{Job, job_with}
 use Rattle.norprog_common.specs.Strict.{Filled, OrEmpty, RefusesEmpty}
@@ -58,13 +57,19 @@ pub empty_refused : (strict : Bool) (Lacked : FileName → Type 0) (Asked : Job 
 empty_refused strict Lacked Asked =
     by_empty strict Lacked Asked (OfFault (IsBuildFault (Filled strict Asked))) ((report : Report) × IsBuildReport (Filled strict Asked) (λ held. ⊤) report)
 
-pub build_wider : (strict : Bool) (Lacked : FileName → Type 0) (A B : Job → Type 0) → ((j : Job) → A j → B j) → (why : Refusal) → RefusesBuild strict Lacked A why
-    → RefusesBuild strict Lacked B why
-build_wider strict Lacked A B wider =
+-- a file that couldn't be used
+pub file_refused : (strict : Bool) (L M : FileName → Type 0) (Asked : Job → Type 0) (why : Refusal) → ((told : FileName) → L told → M told) → TellsFile L why
+    → RefusesBuild strict M Asked why
+file_refused strict L M Asked =
+    by_files L M (OrEmpty strict Asked (OfFault (IsBuildFault (Filled strict Asked)))) ((report : Report) × IsBuildReport (Filled strict Asked) (λ held. ⊤) report)
+
+pub build_wider : (strict : Bool) (L M : FileName → Type 0) (A B : Job → Type 0) → ((told : FileName) → L told → M told) → ((j : Job) → A j → B j) → (why : Refusal)
+    → RefusesBuild strict L A why → RefusesBuild strict M B why
+build_wider strict L M A B files wider =
     let filled = filled_wider strict A B wider in
-    refuses_wider Lacked Lacked (OrEmpty strict A (OfFault (IsBuildFault (Filled strict A)))) (OrEmpty strict B (OfFault (IsBuildFault (Filled strict B))))
+    refuses_wider L M (OrEmpty strict A (OfFault (IsBuildFault (Filled strict A)))) (OrEmpty strict B (OfFault (IsBuildFault (Filled strict B))))
     ((report : Report) × IsBuildReport (Filled strict A) (λ held. ⊤) report) ((report : Report) × IsBuildReport (Filled strict B) (λ held. ⊤) report)
-    (λ name lacks. lacks)
+    files
     (empty_wider strict A B (OfFault (IsBuildFault (Filled strict A))) (OfFault (IsBuildFault (Filled strict B))) wider
     (fault_wider (IsBuildFault (Filled strict A)) (IsBuildFault (Filled strict B)) (λ why of. asked_wider Job (Filled strict A) (Filled strict B) (IsFaultOf why) filled of)))
     (λ late. (late.0, asked_wider Job (Filled strict A) (Filled strict B) (IsReportOf (λ held. ⊤) late.0) filled late.1))

@@ -12,10 +12,10 @@ use Rattle.norprog_common.specs.declared.faults.FileName.{FileName}
 use Rattle.norprog_common.specs.declared.faults.Refusal.{Refusal}
 use Rattle.norprog_common.specs.declared.faults.Refusal.TheVariants.{Build}
 use Rattle.norprog_common.specs.declared.given.BuildArgs.{BuildArgs}
-use Rattle.norprog_common.specs.FileStore.{FileFacts, Change}
+use Rattle.norprog_common.specs.FileStore.{FileFacts, Change, Lacks}
 use Rattle.norprog_common.specs.Told.{ForAsked, OfFault, RefusesFor, Answers}
 use Rattle.norprog_build.specs.Served.{asks_build, ServesBuild}
-use Rattle.norprog_common.specs.Served.{Job, MakesFor, MayMakeFor}
+use Rattle.norprog_common.specs.Served.{Job, MakesFor, MayMakeFor, out_path, paths_asked}
 use Rattle.norprog_common.specs.Strict.{Filled, OrEmpty}
 
 -- the job was done, this is its report, and its output is so of what it had taken
@@ -73,5 +73,5 @@ AnswersBuild files given Made before after Quiet Works told_before told_after st
     × MakesFor files given.job (option_map (λ t. t.now) given.out) Made × Quiet)
     (CutsReport (Filled given.job.strict (ServesBuild files given)) files.flushed before after
     × MayMakeFor files given.job (option_map (λ t. t.now) given.out) Made)
-    (RefusesBuild given.job.strict files.lacked (ServesBuild files given))
+    (RefusesBuild given.job.strict (Lacks files (paths_asked given.job (out_path (option_map (λ t. t.now) given.out)))) (ServesBuild files given))
     Works told_before told_after status

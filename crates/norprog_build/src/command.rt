@@ -6,8 +6,9 @@ ghost use Rattle.norprog_common.specs.Told.{OrUsage};
 ghost use Rattle.norprog_build.specs.Served.{asks_build, ServesBuild};
 ghost use Rattle.norprog_build.specs.Answer.{IsBuildReport, RefusesBuild, PrintsReport, CutsReport};
 ghost use Rattle.norprog_build.specs.Answer.{AnswersBuild, done};
-ghost use Rattle.norprog_common.specs.FileStore.{Adds, MakesIf};
+ghost use Rattle.norprog_common.specs.FileStore.{Adds, Lacks, MakesIf};
 ghost use Rattle.norprog_common.specs.Served.{IsJobOf, MakesFor, MayMakeFor, input_files_of};
+ghost use Rattle.norprog_common.specs.Served.{out_path, paths_asked, paths_of};
 ghost use Rattle.norprog_common.specs.Strict.{Filled};
 
 use nor_base::{ByteOut, Failed};
@@ -68,7 +69,8 @@ fn report_build<S: FileStore, O: ByteOut>(
         (S.facts store.now).flushed (O.held out.old) (O.held out.new)) }
     ensures first { IfErr result
         (OrUsage (asks_build given.entry)
-        (RefusesBuild given.entry.job.strict (S.facts store.now).lacked
+        (RefusesBuild given.entry.job.strict (Lacks (S.facts store.now)
+        (paths_asked given.entry.job (out_path (option_map (λ t. t.now) given.entry.out))))
         (ServesBuild (S.facts store.now) given.entry))) }
 {
     let request = request_of(given.job).ok_or(Refusal::Usage)?;
@@ -94,7 +96,8 @@ fn run_build<S: FileStore>(
         (IsBuildReport (Filled request.now.strict
         (IsJobOf (S.facts store.now) request.now (Some path.now)))
         (S.facts store.now).flushed) }
-    ensures refused { IfErr result (RefusesBuild request.now.strict (S.facts store.now).lacked
+    ensures refused { IfErr result (RefusesBuild request.now.strict
+        (Lacks (S.facts store.now) (paths_of request.now (out_path (Some path.now))))
         (IsJobOf (S.facts store.now) request.now (Some path.now))) }
 {
     let mut places = Vec::new(alloc);

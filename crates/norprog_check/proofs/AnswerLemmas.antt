@@ -21,7 +21,8 @@ use Rattle.norprog_common.specs.declared.faults.FileName.{FileName}
 use Rattle.norprog_common.specs.declared.faults.FileName.TheVariants as file
 use Rattle.norprog_common.specs.declared.faults.Refusal.{Refusal}
 use Rattle.norprog_common.specs.declared.faults.Refusal.TheVariants.{Text, Usage, File, Build, Page, Script, BinSize, Steps, EmptyRegion, Log}
-use Rattle.norprog_common.proofs.ToldLemmas.{by_fault, refuses_wider}
+use Rattle.norprog_common.proofs.ToldLemmas.{by_fault, by_files, refuses_wider}
+use Rattle.norprog_common.specs.Files.{TellsFile}
 use Rattle.norprog_common.specs.Reading.{GivesSome, HasFailed}
 use Rattle.norprog_common.specs.Served.{Job, Is}
 use Rattle.norprog_common.specs.Strict.{Filled, OrEmpty, RefusesEmpty}
@@ -233,6 +234,12 @@ asked_wider_check strict L M A B P Q F files wider more =
     files
     (empty_wider strict A B (IsCheckFault (Filled strict A) P F) (IsCheckFault (Filled strict B) Q F) wider (check_fault_wider (Filled strict A) (Filled strict B) P Q F filled more))
     (λ late. (late.0, verdict_wider (Filled strict A) (Filled strict B) P Q filled more late.0 late.1))
+
+-- and a file that couldn't be used as that
+pub lacked_refused : (strict : Bool) (L M : FileName → Type 0) (A : Job → Type 0) (P : List ℕ → Type 0) (F : Ahead → Type 0) (why : Refusal)
+    → ((name : FileName) → L name → M name) → TellsFile L why → RefusesAsked strict M A P F why
+lacked_refused strict L M A P F =
+    by_files L M (OrEmpty strict A (IsCheckFault (Filled strict A) P F)) ((found : Finding) × IsCheckFinding (Filled strict A) P found)
 
 pub empty_refused : (strict : Bool) (L : FileName → Type 0) (A : Job → Type 0) (P : List ℕ → Type 0) (F : Ahead → Type 0) (j : Job) (why : Refusal) → A j → RefusesEmpty strict j.task j.len why
     → RefusesAsked strict L A P F why

@@ -19,9 +19,9 @@ use Rattle.norprog_common.specs.declared.faults.FileName.TheVariants as file
 use Rattle.norprog_common.specs.declared.faults.Refusal.TheVariants.{File, Build, Script}
 use Rattle.norprog_common.specs.Lines.{script_refusal}
 use Rattle.norprog_common.specs.declared.given.CheckArgs.{CheckArgs}
-use Rattle.norprog_common.specs.FileStore.{FileFacts}
+use Rattle.norprog_common.specs.FileStore.{FileFacts, Lacks}
 use Rattle.norprog_common.specs.Told.{ForAsked, RefusesFor, OrScript, Answers}
-use Rattle.norprog_check.specs.Served.{asks_check, ServesCheck, ServesScript, FailsScriptOf}
+use Rattle.norprog_check.specs.Served.{asks_check, check_paths, ServesCheck, ServesScript, FailsScriptOf}
 use Rattle.norprog_common.specs.Served.{Job}
 use Rattle.norprog_common.specs.Strict.{Filled, OrEmpty}
 
@@ -102,5 +102,5 @@ AnswersCheck files Failed given before after Quiet Works told_before told_after 
     Answers (asks_check given)
     (PrintsJudgement given.witness (Filled given.job.strict (ServesCheck files given)) (ServesScript files given) before after status × Quiet)
     (CutsVerdict given.witness (Filled given.job.strict (ServesCheck files given)) (ServesScript files given) before after)
-    (RefusesAsked given.job.strict (OrScript files.lacked (FailsScriptOf files Failed given)) (ServesCheck files given) (ServesScript files given) Failed)
+    (RefusesAsked given.job.strict (OrScript (Lacks files (check_paths given)) (FailsScriptOf files Failed given)) (ServesCheck files given) (ServesScript files given) Failed)
     Works told_before told_after status

@@ -1,15 +1,20 @@
 -- The job and the script that a command line of `check` names (this project's).
-use Rattle.std.specs.Prelude.{ℕ, List, None, option_map, Bool, ◌&&◌, is_some}
+use Rattle.std.specs.Prelude.{ℕ, List, Option, None, option_map, Bool, ◌&&◌, is_some}
 use Rattle.nor_base.specs.Device.{Ahead}
 use Rattle.norprog_common.specs.FileStore.{FileFacts, IsTextIn, Named}
 use Rattle.norprog_common.specs.Reading.{FailsReading}
+use Rattle.norprog_common.specs.declared.faults.FileName.{FileName}
 use Rattle.norprog_common.specs.declared.given.CheckArgs.{CheckArgs}
 use Rattle.norprog_common.specs.Request.{is_well_formed}
-use Rattle.norprog_common.specs.Served.{Job, Serves}
+use Rattle.norprog_common.specs.Served.{Job, Serves, paths_asked, script_path}
 
 -- a job, and the name of the script's file
 abbrev pub asks_check : CheckArgs → Bool
 asks_check given = is_well_formed given.job && is_some given.script
+
+-- the name that each option gives
+abbrev pub check_paths : CheckArgs → FileName → Option (List ℕ)
+check_paths given = paths_asked given.job (script_path (option_map (λ t. t.now) given.script))
 
 abbrev pub ServesCheck : FileFacts → CheckArgs → Job → Type 0
 ServesCheck files given = Serves files given.job None

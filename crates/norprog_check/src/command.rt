@@ -1,14 +1,15 @@
 //! `check`: from the texts of the command line to what is found of a script.
 
-ghost use Rattle.std.specs.Prelude.{◌≡◌, ◌<◌, ◌≤◌, ◌-◌, ◌^◌, None, true, IfOk, IfErr};
+ghost use Rattle.std.specs.Prelude.{◌≡◌, ◌<◌, ◌≤◌, ◌-◌, ◌^◌, Some, None, true, IfOk, IfErr};
 ghost use Rattle.std.specs.Io.KnownBytes.{Appends};
 ghost use Rattle.norprog_check.specs.Line.{finding_text};
-ghost use Rattle.norprog_common.specs.FileStore.{DoNotFail, IsTextIn, IsTextOfFile};
+ghost use Rattle.norprog_common.specs.FileStore.{DoNotFail, IsTextIn, IsTextOfFile, Lacks};
 ghost use Rattle.norprog_common.specs.declared.faults.FileName.TheVariants.{Script};
 ghost use Rattle.norprog_common.specs.Told.{OrScript, OrUsage};
-ghost use Rattle.norprog_check.specs.Served.{asks_check, FailsScriptOf, ServesCheck, ServesScript};
+ghost use Rattle.norprog_check.specs.Served.{asks_check, check_paths, FailsScriptOf};
+ghost use Rattle.norprog_check.specs.Served.{ServesCheck, ServesScript};
 ghost use Rattle.norprog_common.specs.Reading.{FailsReading, FailsScript, HasFailed, IsTextRead};
-ghost use Rattle.norprog_common.specs.Served.{job_with, Is, IsJobOf};
+ghost use Rattle.norprog_common.specs.Served.{job_with, paths_of, script_path, Is, IsJobOf};
 ghost use Rattle.norprog_common.specs.Strict.{Filled};
 ghost use Rattle.norprog_check.specs.Answer.{verdict_status, stop_refusal, stream_refusal};
 ghost use Rattle.norprog_check.specs.Answer.{IsCheckFinding, RefusesCheck, RefusesAsked};
@@ -87,7 +88,8 @@ fn report_check<S: FileStore, O: ByteOut>(
     ensures asked { IfOk result (λ _. asks_check given.entry ≡ true) }
     ensures first { IfErr result
         (OrUsage (asks_check given.entry)
-        (RefusesAsked given.entry.job.strict (OrScript (S.facts store.now).lacked
+        (RefusesAsked given.entry.job.strict
+        (OrScript (Lacks (S.facts store.now) (check_paths given.entry))
         (FailsScriptOf (S.facts store.now) (HasFailed S.Input.ahead S.Input.count) given.entry))
         (ServesCheck (S.facts store.now) given.entry)
         (ServesScript (S.facts store.now) given.entry)
@@ -113,7 +115,8 @@ fn run_check<S: FileStore>(
         (IsCheckFinding (Filled request.now.strict (IsJobOf (S.facts store.now) request.now None))
         (IsTextIn (S.facts store.now) path.now)) }
     ensures refused { IfErr result
-        (RefusesAsked request.now.strict (OrScript (S.facts store.now).lacked
+        (RefusesAsked request.now.strict (OrScript (Lacks (S.facts store.now)
+        (paths_of request.now (script_path (Some path.now))))
         (FailsReading (S.facts store.now) (HasFailed S.Input.ahead S.Input.count) path.now))
         (IsJobOf (S.facts store.now) request.now None) (IsTextIn (S.facts store.now) path.now)
         (HasFailed S.Input.ahead S.Input.count)) }

@@ -1,7 +1,7 @@
 -- Changes one after the other, and the output of a command.
-use Rattle.std.proofs.Common.{◌≡◌, ◌∙◌, ℕ, List, [], ◌∷◌, ◌++◌, ◌⊎◌, inl, inr, refl, sym, ap, Option, Some, None, Result, Ok, Err, append-nil, append_assoc, subst}
+use Rattle.std.proofs.Common.{◌≡◌, ◌∙◌, ℕ, List, [], ◌∷◌, ◌++◌, inl, inr, sym, ap, Option, Some, None, Result, Ok, Err, append-nil, append_assoc, subst}
 use Rattle.norprog_common.specs.declared.files.FileId.{FileId}
-use Rattle.norprog_common.specs.FileStore.{FileFacts, StoodAt, Notes}
+use Rattle.norprog_common.specs.FileStore.{FileFacts, Notes}
 use Rattle.norprog_common.specs.FileStore.{Change, Emptied, Adds, Tries, MakesOutput, MakesNamed, MayMake, MakesIf}
 
 pub adds_none : (a b : Option (List Change)) → b ≡ a → Adds a b []

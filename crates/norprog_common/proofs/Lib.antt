@@ -6,3 +6,4 @@ pub mod ReadingLemmas
 pub mod ServedLemmas
 pub mod StrictLemmas
 pub mod JournalLemmas
+pub mod LackedLemmas

@@ -1,11 +1,11 @@
 -- Which job a request has, and that it is the one that its texts ask for.
-use Rattle.std.proofs.Common.{◌≡◌, ◌∙◌, ap, refl, sym, subst, Bool, true, false, ok_or, ◌⊎◌, inl, inr, ◌&&◌, is_some, option_map, Option, Some, None, IfSome, Result, Err, List, ℕ}
+use Rattle.std.proofs.Common.{◌≡◌, ◌∙◌, ap, refl, sym, subst, Bool, true, false, ok_or, inl, inr, ◌&&◌, is_some, option_map, Option, Some, None, IfSome, Result, Err, List, ℕ}
 use Rattle.nor_base.specs.Device.{Ahead}
 use Rattle.nor_job.specs.Task.{Task}
 use Rattle.nor_job.specs.Task as job
 use Rattle.norprog_common.specs.declared.faults.Refusal.{Refusal}
 use Rattle.norprog_common.specs.declared.faults.Refusal.TheVariants.{Usage}
-use Rattle.norprog_common.specs.Chip.{Origin, origin_of, task_chip}
+use Rattle.norprog_common.specs.Chip.{origin_of, task_chip}
 use Rattle.norprog_common.specs.FileStore.{FileFacts, IsMadeApart, Named, WhereNamed}
 use Rattle.norprog_common.specs.FileStore.{Change, MakesNamed, MayMake}
 use Rattle.norprog_common.specs.Told.{OrUsage}

@@ -2,7 +2,7 @@
 use Rattle.std.proofs.Common.{◌≡◌, ℕ, List, Bool, ◌≢◌, true, Option, Some, None, Result, Ok, Err, IfOk, IfErr}
 use Rattle.nor_job.specs.declared.fault.BuildFault.{BuildFault}
 use Rattle.nor_job.specs.declared.fault.BuildFault.TheVariants as fault
-use Rattle.nor_job.specs.Shares.{HasFirstEmpty, HasNoneEmpty}
+use Rattle.nor_job.specs.Shares.{HasNoneEmpty}
 use Rattle.nor_job.specs.Causes.{AreAccepted}
 use Rattle.nor_job.specs.Task.{Task}
 use Rattle.nor_base.specs.Parameters.{Parameters}

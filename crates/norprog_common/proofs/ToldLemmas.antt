@@ -1,5 +1,5 @@
 -- Refusals: which command line has one, and why.
-use Rattle.std.proofs.Common.{◌≡◌, ◌∙◌, ℕ, Bool, true, inl, inr, List, Option, None, Result, Ok, Err, IfOk, IfErr, MatchResult, ◌<◌, arith}
+use Rattle.std.proofs.Common.{◌≡◌, ◌∙◌, ℕ, Bool, true, inl, inr, List, Option, Result, Ok, Err, IfOk, IfErr, MatchResult, ◌<◌, arith}
 use Rattle.std.specs.Io.KnownBytes.{Appends}
 use Rattle.nor_job.specs.declared.fault.BuildFault.{BuildFault}
 use Rattle.nor_job.specs.declared.fault.BuildFault.TheVariants as fault

@@ -11,9 +11,9 @@ use Rattle.norprog_common.specs.declared.files.ScriptFile.TheVariants.{Twice, He
 -- what is known of files, each by its name. `gave`: the file gave these bytes, read whole. `opened`: it was opened, this is ahead
 -- of its reader, and this is its length in bytes. `stood`: it was opened, and stood at this place. `made`: it was made, or emptied,
 -- at none of these places, and held this then. `fresh`: no file of this name was there, and the one that was made held this.
--- `flushed`: some file that was made had taken this, all of it has gone out, and the file took nothing after it. `lacked`: of a file
--- that is told so some couldn't be used. `device`: the device of this name was opened to be read and written; it had this yet to give,
--- and had taken this, where that is known. `left`: a device that was opened took nothing after this
+-- `flushed`: some file that was made had taken this, all of it has gone out, and the file took nothing after it. `lacked`: the file
+-- of this name, which is told so, couldn't be used. `device`: the device of this name was opened to be read and written; it had this
+-- yet to give, and had taken this, where that is known. `left`: a device that was opened took nothing after this
 pub record FileFacts : Type 1 where
   pub gave : List ℕ → List ℕ → Type 0
   pub opened : List ℕ → Ahead → ℕ → Type 0
@@ -21,7 +21,7 @@ pub record FileFacts : Type 1 where
   pub made : List ℕ → List FileId → Option (List ℕ) → Type 0
   pub fresh : List ℕ → Option (List ℕ) → Type 0
   pub flushed : Option (List ℕ) → Type 0
-  pub lacked : FileName → Type 0
+  pub lacked : List ℕ → FileName → Type 0
   pub device : List ℕ → Option (List ℕ) → Option (List ℕ) → Type 0
   pub left : Option (List ℕ) → Type 0
 
@@ -34,7 +34,7 @@ nothing_known = record {
   made = λ name places held. ⊤;
   fresh = λ name held. ⊤;
   flushed = λ held. ⊤;
-  lacked = λ told. ⊤;
+  lacked = λ name told. ⊤;
   device = λ name remaining contents. ⊤;
   left = λ contents. ⊤;
 }
@@ -66,6 +66,11 @@ AreTables files (Uniform size) tables = ⊤
 abbrev pub tables_file : Origin → List (List ℕ)
 tables_file (Sfdp name bits) = name ∷ []
 tables_file (Uniform size) = []
+
+-- the name that the option of a chip's tables gives, where there is one
+abbrev pub tables_name : Origin → Option (List ℕ)
+tables_name (Sfdp name bits) = Some name
+tables_name (Uniform size) = None
 
 -- the files of these names stood at these places, one at each
 abbrev pub StoodAt : FileFacts → List (List ℕ) → List FileId → Type 0
@@ -103,6 +108,14 @@ MakesIf files inputs out Made (Err why) = MayMake files inputs out Made
 abbrev pub Named : (List ℕ → Type 0) → Option (List ℕ) → Type 0
 Named Has (Some name) = Has name
 Named Has None = ⊥
+
+-- the file that this option names couldn't be used, and is told as this
+abbrev pub LacksNamed : FileFacts → Option (List ℕ) → FileName → Type 0
+LacksNamed files named told = Named (λ name. files.lacked name told) named
+
+-- the file that is told so is the one that its option names, and couldn't be used; `paths` has the name that each option gives
+abbrev pub Lacks : FileFacts → (FileName → Option (List ℕ)) → FileName → Type 0
+Lacks files paths told = LacksNamed files (paths told) told
 
 -- where a file is named there is something that it has; where none is there is nothing
 abbrev pub WhereNamed : {A : Type 0} → (List ℕ → A → Type 0) → Option (List ℕ) → Option A → Type 0

@@ -1,11 +1,13 @@
 -- The job that a command line asks for (this project's). `files` is what is known of files by their names.
-use Rattle.std.specs.Prelude.{◌≡◌, ◌⊎◌, ℕ, List, [], ◌++◌, Option, Some, option_map, option_to_list}
+use Rattle.std.specs.Prelude.{◌≡◌, ◌⊎◌, ℕ, List, [], ◌++◌, Option, Some, None, option_map, option_to_list}
 use Rattle.nor_base.specs.Device.{Ahead}
 use Rattle.nor_job.specs.Task.{Task}
 use Rattle.norprog_common.specs.Chip.{Origin, origin_of, task_chip}
-use Rattle.norprog_common.specs.FileStore.{FileFacts, AreTables, IsMadeApart, Named, WhereNamed, tables_file}
+use Rattle.norprog_common.specs.FileStore.{FileFacts, AreTables, IsMadeApart, Named, WhereNamed, tables_file, tables_name}
 use Rattle.norprog_common.specs.FileStore.{Change, MakesNamed}
 use Rattle.norprog_common.specs.Values.{part_of, base_of, said_status}
+use Rattle.norprog_common.specs.declared.faults.FileName.{FileName}
+use Rattle.norprog_common.specs.declared.faults.FileName.TheVariants.{Hex, Layout, Sfdp, Content, Script, Out, Map}
 use Rattle.norprog_common.specs.declared.inputs.Texts.{Texts}
 use Rattle.norprog_common.specs.declared.given.Given.{Given}
 use Rattle.norprog_common.specs.declared.request.Request.{Request}
@@ -78,6 +80,41 @@ input_files_of request = input_files (Some request.hex.now) (option_map (λ t. t
 abbrev pub input_files_asked : Given → Origin → List (List ℕ)
 input_files_asked given origin =
     input_files (option_map (λ t. t.now) given.hex) (option_map (λ t. t.now) given.layout) origin (option_map (λ t. t.now) given.content)
+
+-- the name that each option of a job gives: of the image, the layout, the tables and the content these, of another its own
+abbrev pub job_paths : Option (List ℕ) → Option (List ℕ) → Option (List ℕ) → Option (List ℕ) → (FileName → Option (List ℕ)) → FileName → Option (List ℕ)
+job_paths hex layout tables content own Hex = hex
+job_paths hex layout tables content own Layout = layout
+job_paths hex layout tables content own Sfdp = tables
+job_paths hex layout tables content own Content = content
+job_paths hex layout tables content own other = own other
+
+-- those of a request, and those that the texts give
+abbrev pub paths_of : Request → (FileName → Option (List ℕ)) → FileName → Option (List ℕ)
+paths_of request =
+    job_paths (Some request.hex.now) (option_map (λ t. t.now) request.layout) (tables_name (origin_of request.chip)) (Some request.content.now)
+
+abbrev pub paths_asked : Given → (FileName → Option (List ℕ)) → FileName → Option (List ℕ)
+paths_asked given =
+    job_paths (option_map (λ t. t.now) given.hex) (option_map (λ t. t.now) given.layout) (option_map (λ t. t.now) given.sfdp)
+    (option_map (λ t. t.now) given.content)
+
+-- the only file beside those: the output, the map, the script
+abbrev pub out_path : Option (List ℕ) → FileName → Option (List ℕ)
+out_path name Out = name
+out_path name other = None
+
+abbrev pub map_path : Option (List ℕ) → FileName → Option (List ℕ)
+map_path name Map = name
+map_path name other = None
+
+abbrev pub script_path : Option (List ℕ) → FileName → Option (List ℕ)
+script_path name Script = name
+script_path name other = None
+
+-- none
+abbrev pub no_path : FileName → Option (List ℕ)
+no_path told = None
 
 -- the job of a request, whose output has this name: the files of its names gave what its task has, the content's file was opened,
 -- and the output was made, as none of them

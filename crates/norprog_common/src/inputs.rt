@@ -3,8 +3,9 @@
 ghost use Rattle.std.specs.Prelude.{◌≡◌, [], ◌∷◌, IfOk, IfErr, option_map, option_to_list};
 ghost use Rattle.norprog_common.specs.declared.faults.FileName.TheVariants.{Layout};
 ghost use Rattle.norprog_common.specs.Files.{RefusesFile, TellsFile};
-ghost use Rattle.norprog_common.specs.FileStore.{Notes, WhereNamed};
-ghost use Rattle.norprog_common.specs.Served.{task_by, held_in, text_files_of, AreGiven};
+ghost use Rattle.norprog_common.specs.FileStore.{Lacks, LacksNamed, Notes, WhereNamed};
+ghost use Rattle.norprog_common.specs.Served.{task_by, held_in, no_path, paths_of};
+ghost use Rattle.norprog_common.specs.Served.{text_files_of, AreGiven};
 
 use crate::chip::source_of;
 use crate::faults::{FileName, Refusal};
@@ -35,7 +36,8 @@ pub(crate) fn read_texts<S: FileStore>(
     ensures noted { IfOk result
         (λ _. Notes (S.facts store.now) (text_files_of request.now) places.old.items
         places.new.items) }
-    ensures lacked { IfErr result (TellsFile (S.facts store.now).lacked) }
+    ensures lacked { IfErr result
+        (TellsFile (Lacks (S.facts store.now) (paths_of request.now no_path))) }
 {
     let hex = read_noted(alloc, store, request.hex, FileName::Hex, places)?;
     let layout = read_layout(alloc, store, request.layout, places)?;
@@ -57,7 +59,8 @@ fn read_layout<S: FileStore>(
         (λ _. Notes (S.facts store.now) (option_to_list (option_map (λ t. t.now) path.entry))
         places.old.items places.new.items) }
     ensures refused { IfErr result (RefusesFile Layout) }
-    ensures lacked { IfErr result (TellsFile (S.facts store.now).lacked) }
+    ensures lacked { IfErr result
+        (TellsFile (LacksNamed (S.facts store.now) (option_map (λ t. t.now) path.entry))) }
 {
     match path {
         Some(path) => Ok(Some(read_noted(alloc, store, path, FileName::Layout, places)?)),
@@ -77,7 +80,7 @@ fn read_noted<S: FileStore>(
     ensures noted { IfOk result
         (λ _. Notes (S.facts store.now) (path.now ∷ []) places.old.items places.new.items) }
     ensures refused { IfErr result (RefusesFile name) }
-    ensures lacked { IfErr result (TellsFile (S.facts store.now).lacked) }
+    ensures lacked { IfErr result (TellsFile ((S.facts store.now).lacked path.now)) }
 {
     let (bytes, place) = store.read(alloc, path, name)?;
     places.push(place)?;

@@ -2,8 +2,8 @@
 
 ghost use Rattle.std.specs.Prelude.{◌≡◌, IfOk, IfErr};
 ghost use Rattle.norprog_common.specs.Files.{TellsFile};
-ghost use Rattle.norprog_common.specs.FileStore.{Notes};
-ghost use Rattle.norprog_common.specs.Served.{held_in, input_files_of, AreGiven};
+ghost use Rattle.norprog_common.specs.FileStore.{Lacks, Notes};
+ghost use Rattle.norprog_common.specs.Served.{held_in, input_files_of, no_path, paths_of, AreGiven};
 
 use crate::faults::{FileName, Refusal};
 use crate::files::FileId;
@@ -27,7 +27,8 @@ pub fn open_job<S: FileStore>(
     ensures noted { IfOk result
         (λ _. Notes (S.facts store.now) (input_files_of request.now) places.old.items
         places.new.items) }
-    ensures lacked { IfErr result (TellsFile (S.facts store.now).lacked) }
+    ensures lacked { IfErr result
+        (TellsFile (Lacks (S.facts store.now) (paths_of request.now no_path))) }
 {
     let texts = read_texts(alloc, store, request, places)?;
     let (content, place, len) = store.open(request.content, FileName::Content)?;

@@ -6,7 +6,7 @@ ghost use Rattle.norprog_common.specs.Chip.{origin_of};
 ghost use Rattle.norprog_common.specs.declared.faults.FileName.TheVariants.{Device, Script, Sfdp};
 ghost use Rattle.norprog_common.specs.Files.{RefusesFile, TellsFile};
 ghost use Rattle.norprog_common.specs.FileStore.{AreTables, FileFacts, IsOfScript, DoNotFail};
-ghost use Rattle.norprog_common.specs.FileStore.{Notes, tables_file};
+ghost use Rattle.norprog_common.specs.FileStore.{LacksNamed, Notes, tables_file, tables_name};
 ghost use Rattle.norprog_common.specs.FileStore.{Adds, Change, Created, Emptied, Opened, Tries};
 
 use crate::chip::Chip;
@@ -53,7 +53,7 @@ pub trait FileStore {
         ensures stood { IfOk result (λ read. (facts self.now).stood path.now read.1) }
         ensures length { IfOk result (λ read. length read.0.items ≤ 2 ^ 36) }
         ensures refused { IfErr result (RefusesFile name) }
-        ensures lacked { IfErr result (TellsFile (facts self.now).lacked) };
+        ensures lacked { IfErr result (TellsFile ((facts self.now).lacked path.now)) };
 
     /// Opens a file that isn't a folder, and returns which one it is and its length in bytes.
     ///
@@ -65,7 +65,7 @@ pub trait FileStore {
         ensures stood { IfOk result (λ file. (facts self.now).stood path.now file.1) }
         ensures count { IfOk result (λ file. Self.Input.count file.0 ≡ 0) }
         ensures refused { IfErr result (RefusesFile name) }
-        ensures lacked { IfErr result (TellsFile (facts self.now).lacked) };
+        ensures lacked { IfErr result (TellsFile ((facts self.now).lacked path.now)) };
 
     /// Opens a script's file twice, where it is a regular one, so that it needn't be held; any
     /// other is read whole. Returns which file it is as well.
@@ -82,7 +82,7 @@ pub trait FileStore {
         ensures stood { IfOk result (λ script. (facts self.now).stood path.now script.1) }
         ensures count { IfOk result (λ script. DoNotFail Self.Input.count script.0) }
         ensures refused { IfErr result (RefusesFile Script) }
-        ensures lacked { IfErr result (TellsFile (facts self.now).lacked) };
+        ensures lacked { IfErr result (TellsFile ((facts self.now).lacked path.now)) };
 
     /// Makes an output file, or empties the one that is there, unless it is one of the inputs. What
     /// is written to it goes out where it is flushed, if not before.
@@ -103,7 +103,7 @@ pub trait FileStore {
         ensures journal { Tries (Self.Journal.changes journal.old)
             (Self.Journal.changes journal.new) (Emptied path.now inputs.now) result }
         ensures refused { IfErr result (RefusesFile name) }
-        ensures lacked { IfErr result (TellsFile (facts self.now).lacked) };
+        ensures lacked { IfErr result (TellsFile ((facts self.now).lacked path.now)) };
 
     /// Makes an output file where no file of that name is there; none is emptied or written over.
     /// What is written to it goes out where it is flushed, if not before.
@@ -123,7 +123,7 @@ pub trait FileStore {
         ensures journal { Tries (Self.Journal.changes journal.old)
             (Self.Journal.changes journal.new) (Created path.now) result }
         ensures refused { IfErr result (RefusesFile name) }
-        ensures lacked { IfErr result (TellsFile (facts self.now).lacked) };
+        ensures lacked { IfErr result (TellsFile ((facts self.now).lacked path.now)) };
 
     /// Has all go out that a file took, and closes it. `Failed` where some of it may not have gone
     /// out.
@@ -148,7 +148,7 @@ pub trait FileStore {
             (Opened path.now ∷ []))
             (λ _. Adds (Self.Journal.changes journal.old) (Self.Journal.changes journal.new) []) }
         ensures refused { IfErr result (RefusesFile Device) }
-        ensures lacked { IfErr result (TellsFile (facts self.now).lacked) };
+        ensures lacked { IfErr result (TellsFile ((facts self.now).lacked path.now)) };
 
     /// Closes what a device was written by, so that nothing more goes to it.
     fn close_device(&self, to: Self::ToDevice)
@@ -177,7 +177,8 @@ pub fn tables_of<S: FileStore>(alloc: Global, store: &S, chip: Chip<'_>) -> Resu
     ensures tables { IfOk result
         (λ tables. AreTables (S.facts store.now) (origin_of chip.entry) tables.items) }
     ensures refused { IfErr result (RefusesFile Sfdp) }
-    ensures lacked { IfErr result (TellsFile (S.facts store.now).lacked) }
+    ensures lacked { IfErr result
+        (TellsFile (LacksNamed (S.facts store.now) (tables_name (origin_of chip.entry)))) }
 {
     noted_tables(alloc, store, chip, &mut Vec::new(alloc))
 }
@@ -200,7 +201,8 @@ pub fn noted_tables<S: FileStore>(
         (λ _. Notes (S.facts store.now) (tables_file (origin_of chip.entry)) places.old.items
         places.new.items) }
     ensures refused { IfErr result (RefusesFile Sfdp) }
-    ensures lacked { IfErr result (TellsFile (S.facts store.now).lacked) }
+    ensures lacked { IfErr result
+        (TellsFile (LacksNamed (S.facts store.now) (tables_name (origin_of chip.entry)))) }
 {
     match chip {
         Chip::Sfdp { file, bits: _ } => {

@@ -32,7 +32,7 @@ pub fn open_port<S: FileStore>(
         (IsUntouched (S.facts store.now) device.now
         (Adds (S.Journal.changes journal.old) (S.Journal.changes journal.new))) }
     ensures refused { IfErr result (RefusesFile Device) }
-    ensures lacked { IfErr result (TellsFile (S.facts store.now).lacked) }
+    ensures lacked { IfErr result (TellsFile ((S.facts store.now).lacked device.now)) }
 {
     let (from, to) = store.open_device(journal, device)?;
     match BufReader::new(alloc, from) {

@@ -1,5 +1,5 @@
 -- What is drawn for a request is what its texts ask for, and what is so of it is so of that.
-use Rattle.std.proofs.Common.{◌≡◌, ◌∙◌, option_map, option_to_list, Bool, true, refl, sym, subst, List, [], ◌∷◌, ℕ, Option, Some, Result, Ok, Err, IfOk, IfErr, inl, inr}
+use Rattle.std.proofs.Common.{◌≡◌, ◌∙◌, option_map, option_to_list, Bool, true, false, refl, sym, subst, List, [], ℕ, Option, Result, Ok, Err, IfOk, IfErr, inl, inr}
 use Rattle.std.specs.Prelude.{⊤}
 use Rattle.nor_base.specs.declared.step.Step.{Step}
 use Rattle.nor_base.specs.Device.{Writes, Cuts}
@@ -7,19 +7,22 @@ use Rattle.std.specs.Io.KnownBytes.{Appends}
 use Rattle.nor_base.specs.Script.{IsScript}
 use Rattle.nor_job.specs.declared.fault.BuildFault.TheVariants as fault
 use Rattle.nor_waves.specs.Waves.{waves}
-use Rattle.norprog_common.specs.FileStore.{FileFacts, IsMadeApart, Named, Change, MakesNamed, MayMake, MakesIf}
+use Rattle.norprog_common.specs.FileStore.{FileFacts, IsMadeApart, Named, Change, Lacks, MakesNamed, MayMake, MakesIf}
+use Rattle.norprog_common.specs.Files.{RefusesFile, TellsFile}
+use Rattle.norprog_common.proofs.LackedLemmas.{lacks_same}
 use Rattle.norprog_common.specs.declared.faults.FileName.{FileName}
+use Rattle.norprog_common.specs.declared.faults.FileName.TheVariants as file
 use Rattle.norprog_common.specs.declared.faults.Refusal.{Refusal}
 use Rattle.norprog_common.specs.declared.faults.Refusal.TheVariants.{Text, Usage, File, Build, Page, Script, BinSize, Steps, EmptyRegion, Log}
 use Rattle.norprog_common.specs.Told.{OrUsage, Answers}
 use Rattle.norprog_common.specs.Lines.{printed, status_after}
-use Rattle.norprog_common.proofs.ToldLemmas.{refuses_wider, or_usage}
+use Rattle.norprog_common.proofs.ToldLemmas.{by_files, refuses_wider, or_usage}
 use Rattle.norprog_common.specs.declared.given.DrawArgs.{DrawArgs}
 use Rattle.norprog_draw.specs.declared.request.DrawRequest.{DrawRequest}
-use Rattle.norprog_draw.specs.Answer.{IsDrawingOf, IsDrawing, IsStopOf, IsDrawFault, RefusesDraw, done}
+use Rattle.norprog_draw.specs.Answer.{IsDrawingOf, IsDrawing, IsStopOf, IsDrawFault, IsUnmade, RefusesDraw, done}
 use Rattle.norprog_draw.specs.Drawn.{part, IsThere, IsWaveform, RefusesSteps}
 use Rattle.norprog_draw.specs.Request.{is_well_formed, AsksFor}
-use Rattle.norprog_draw.specs.Served.{DrawTask, IsTaskOf, IsMadeFor, Serves, Makes}
+use Rattle.norprog_draw.specs.Served.{DrawTask, IsTaskOf, IsMadeFor, Serves, Makes, paths_asked, paths_of}
 
 -- what a request has is what the texts ask for
 serves : (files : FileFacts) (given : DrawArgs) (request : DrawRequest) → AsksFor given request → (t : DrawTask) → IsTaskOf files request t → Serves files given t
@@ -74,12 +77,21 @@ pub drawings_asked : {T : Type 0} (files : FileFacts) (given : DrawArgs) (reques
 drawings_asked files given request (Ok x) asks of = drawing_asked files given request files.flushed asks of
 drawings_asked files given request (Err why) asks of = tt
 
+-- the files of a request are those that the texts name
+same_paths : (given : DrawArgs) (request : DrawRequest) → AsksFor given request → Path (FileName → Option (List ℕ)) (paths_of request) (paths_asked given)
+same_paths given request asks = rw (asks.script, asks.out) refl
+
+-- a file that couldn't be used
+pub file_refused : (Lacked : FileName → Type 0) (Asked : DrawTask → Type 0) (Made : Option (List ℕ) → Type 0) (why : Refusal) → TellsFile Lacked why
+    → RefusesDraw Lacked Asked Made why
+file_refused Lacked Asked Made why lacks = by_files Lacked Lacked (IsDrawFault Asked Made) (IsDrawing Asked Made (λ held. ⊤)) why (λ told is. is) lacks
+
 refusal_asked : (files : FileFacts) (given : DrawArgs) (request : DrawRequest) (why : Refusal) → AsksFor given request
-    → RefusesDraw files.lacked (IsTaskOf files request) (IsMadeFor files request) why → RefusesDraw files.lacked (Serves files given) (Makes files given) why
+    → RefusesDraw (Lacks files (paths_of request)) (IsTaskOf files request) (IsMadeFor files request) why → RefusesDraw (Lacks files (paths_asked given)) (Serves files given) (Makes files given) why
 refusal_asked files given request why asks =
-    refuses_wider files.lacked files.lacked (IsDrawFault (IsTaskOf files request) (IsMadeFor files request)) (IsDrawFault (Serves files given) (Makes files given))
+    refuses_wider (Lacks files (paths_of request)) (Lacks files (paths_asked given)) (IsDrawFault (IsTaskOf files request) (IsMadeFor files request)) (IsDrawFault (Serves files given) (Makes files given))
     (IsDrawing (IsTaskOf files request) (IsMadeFor files request) (λ held. ⊤)) (IsDrawing (Serves files given) (Makes files given) (λ held. ⊤))
-    (λ name lacks. lacks)
+    (lacks_same files (paths_of request) (paths_asked given) (same_paths given request asks))
     (λ why of. record {
       it = of.it;
       asked = serves files given request asks of.it of.asked;
@@ -89,8 +101,8 @@ refusal_asked files given request why asks =
 
 -- the same of whichever came
 pub refusals_asked : {T : Type 0} (files : FileFacts) (given : DrawArgs) (request : DrawRequest) (r : Result T Refusal)
-    → AsksFor given request → is_well_formed given ≡ true → IfErr r (RefusesDraw files.lacked (IsTaskOf files request) (IsMadeFor files request))
-    → IfErr r (OrUsage (is_well_formed given) (RefusesDraw files.lacked (Serves files given) (Makes files given)))
+    → AsksFor given request → is_well_formed given ≡ true → IfErr r (RefusesDraw (Lacks files (paths_of request)) (IsTaskOf files request) (IsMadeFor files request))
+    → IfErr r (OrUsage (is_well_formed given) (RefusesDraw (Lacks files (paths_asked given)) (Serves files given) (Makes files given)))
 refusals_asked files given request (Ok x) asks formed of = tt
 refusals_asked files given request (Err why) asks formed of = or_usage _ _ _ formed (refusal_asked files given request why asks of)
 
@@ -103,7 +115,7 @@ module _ (files : FileFacts) (request : DrawRequest) (text : List ℕ) (gave : f
   asked = record { text = gave; from = refl; count = refl }
 
   -- one that has no steps to draw
-  pub steps_refused : (why : Refusal) → RefusesSteps text request.from why → RefusesDraw files.lacked (IsTaskOf files request) (IsMadeFor files request) why
+  pub steps_refused : (why : Refusal) → RefusesSteps text request.from why → RefusesDraw (Lacks files (paths_of request)) (IsTaskOf files request) (IsMadeFor files request) why
   steps_refused (Script why) is = record { it = task; asked = asked; has = is }
   steps_refused (Steps number) is = record { it = task; asked = asked; has = is }
   steps_refused (Build fault.Memory) is = tt
@@ -138,7 +150,7 @@ module _ (files : FileFacts) (request : DrawRequest) (text : List ℕ) (gave : f
       has = record { begun = before; made = made; after = after; sent = sent; drawn = record { bytes = _; is = waveform; put = put } };
     }
 
-    was_cut : Cuts before after (waves (part request.from request.count steps)) → RefusesDraw files.lacked (IsTaskOf files request) (IsMadeFor files request) (Build fault.Write)
+    was_cut : Cuts before after (waves (part request.from request.count steps)) → RefusesDraw (Lacks files (paths_of request)) (IsTaskOf files request) (IsMadeFor files request) (Build fault.Write)
     was_cut put = inl (record { it = task; asked = asked; has = record { begun = before; made = made; after = after; cut = record { bytes = _; is = waveform; put = put } } })
 
     pub done_is_drawn : {T U E F : Type 0} (answer : Result T E) (flushed : Result U F) (r : Result ℕ Refusal) → Writes before after answer (waves (part request.from request.count steps))
@@ -148,18 +160,44 @@ module _ (files : FileFacts) (request : DrawRequest) (text : List ℕ) (gave : f
     done_is_drawn (Ok x) (Ok u) r put sent is = rw is (was_drawn files.flushed sent put)
 
     pub done_is_refused : {T U E F : Type 0} (answer : Result T E) (flushed : Result U F) (r : Result ℕ Refusal) → Writes before after answer (waves (part request.from request.count steps))
-        → r ≡ done answer flushed → IfErr r (RefusesDraw files.lacked (IsTaskOf files request) (IsMadeFor files request))
+        → r ≡ done answer flushed → IfErr r (RefusesDraw (Lacks files (paths_of request)) (IsTaskOf files request) (IsMadeFor files request))
     done_is_refused (Err e) flushed r put is = rw is (was_cut put)
     done_is_refused (Ok x) (Err e) r put is = rw is (inr (was_drawn (λ held. ⊤) tt put))
     done_is_refused (Ok x) (Ok u) r put is = rw is tt
 
+-- nothing was made, whatever is told
+pub unmade_any : (P : Type 0) → P → (why : Refusal) → IsUnmade P why
+unmade_any P none (File file.Script) = none
+unmade_any P none (File other) = tt
+unmade_any P none (Script why) = none
+unmade_any P none (Steps number) = none
+unmade_any P none other = tt
+
+-- an output that couldn't be made is told by another name
+pub unmade_out : (P : Type 0) (why : Refusal) → RefusesFile file.Out why → IsUnmade P why
+unmade_out P (File told) named = subst (λ (n : FileName). IsUnmade P (File n)) (sym named) tt
+unmade_out P (Build fault.Memory) named = tt
+unmade_out P other named = absurd named
+
+-- an output that was made failed
+pub unmade_done : {T U E F : Type 0} (P : Type 0) (answer : Result T E) (flushed : Result U F) (r : Result ℕ Refusal) → r ≡ done answer flushed → IfErr r (IsUnmade P)
+unmade_done P (Err e) flushed r is = rw is tt
+unmade_done P (Ok x) (Err e) r is = rw is tt
+unmade_done P (Ok x) (Ok u) r is = rw is tt
+
+and_unmade : (asks : Bool) (Work : Refusal → Type 0) (P : Type 0) (why : Refusal) → OrUsage asks Work why → IsUnmade P why
+    → OrUsage asks (λ why. Work why × IsUnmade P why) why
+and_unmade true Work P why first unmade = (first, unmade)
+and_unmade false Work P why first unmade = first
+
 -- what is answered, as the work ended
 pub answer_is : (files : FileFacts) (names : List (List ℕ)) (out : Option (List ℕ)) (Made : List Change → Type 0) (asks : Bool) (Done Quiet Works : Type 0)
     (Work : Refusal → Type 0) (told_before told_after : Option (List ℕ)) (work : Result ℕ Refusal) (status : ℕ)
-    → IfOk work (λ s. s ≡ 0) → MakesIf files names out Made work → IfOk work (λ _. Done) → IfOk work (λ _. asks ≡ true) → IfErr work (OrUsage asks Work)
+    → IfOk work (λ s. s ≡ 0) → MakesIf files names out Made work → IfOk work (λ _. Done) → IfOk work (λ _. asks ≡ true) → IfErr work (OrUsage asks Work) → IfErr work (IsUnmade (Made []))
     → IfOk work (λ s. (status ≡ s) × Quiet) → IfErr work (λ why. (status ≡ status_after why) × (Works → Appends told_before told_after (printed why)))
-    → Answers asks ((status ≡ 0) × Done × MakesNamed files names out Made × Quiet) (MayMake files names out Made) Work Works told_before told_after status
-answer_is files names out Made asks Done Quiet Works Work told_before told_after (Ok s) status zero made is formed why done told =
+    → Answers asks ((status ≡ 0) × Done × MakesNamed files names out Made × Quiet) (MayMake files names out Made) (λ why. Work why × IsUnmade (Made []) why) Works
+    told_before told_after status
+answer_is files names out Made asks Done Quiet Works Work told_before told_after (Ok s) status zero made is formed why unmade done told =
     inl (formed, (done.0 ∙ zero, is, made, done.1))
-answer_is files names out Made asks Done Quiet Works Work told_before told_after (Err why) status zero made is formed first done told =
-    inr (made, (why, first, told.0, told.1))
+answer_is files names out Made asks Done Quiet Works Work told_before told_after (Err why) status zero made is formed first unmade done told =
+    inr (made, (why, and_unmade asks Work (Made []) why first unmade, told.0, told.1))

@@ -1,15 +1,16 @@
 -- What is told of a drawing (this project's).
-use Rattle.std.specs.Prelude.{◌≡◌, ⊤, ℕ, List, Option, option_map, option_to_list, Result, Ok, Err}
+use Rattle.std.specs.Prelude.{◌≡◌, ⊤, ℕ, List, [], Option, option_map, option_to_list, Result, Ok, Err}
 use Rattle.nor_job.specs.declared.fault.BuildFault.TheVariants.{Write}
 use Rattle.norprog_common.specs.declared.faults.FileName.{FileName}
+use Rattle.norprog_common.specs.declared.faults.FileName.TheVariants as file
 use Rattle.norprog_common.specs.declared.faults.Refusal.{Refusal}
-use Rattle.norprog_common.specs.declared.faults.Refusal.TheVariants.{Build, Script, Steps}
-use Rattle.norprog_common.specs.FileStore.{FileFacts, Change, MakesNamed, MayMake}
+use Rattle.norprog_common.specs.declared.faults.Refusal.TheVariants.{Build, File, Script, Steps}
+use Rattle.norprog_common.specs.FileStore.{FileFacts, Change, Lacks, MakesNamed, MayMake}
 use Rattle.norprog_common.specs.Told.{ForAsked, RefusesFor, Answers}
 use Rattle.norprog_common.specs.declared.given.DrawArgs.{DrawArgs}
 use Rattle.norprog_draw.specs.Drawn.{WasDrawn, WasCut, RefusesSteps}
 use Rattle.norprog_draw.specs.Request.{is_well_formed}
-use Rattle.norprog_draw.specs.Served.{DrawTask, Serves, Makes}
+use Rattle.norprog_draw.specs.Served.{DrawTask, Serves, Makes, paths_asked}
 
 -- these steps of the text were drawn into the output that was made, and it is so of what that had taken
 pub record IsDrawingOf (Made Sent : Option (List ℕ) → Type 0) (t : DrawTask) : Type 0 where
@@ -43,6 +44,14 @@ IsDrawFault Asked Made why = ForAsked DrawTask Asked (IsStopOf Made why)
 abbrev pub RefusesDraw : (FileName → Type 0) → (DrawTask → Type 0) → (Option (List ℕ) → Type 0) → Refusal → Type 0
 RefusesDraw Lacked Asked Made = RefusesFor Lacked (IsDrawFault Asked Made) (IsDrawing Asked Made (λ held. ⊤))
 
+-- before the output is made it is known that the script can be read, and is one that has the first step: `Nothing` says that nothing
+-- was made
+abbrev pub IsUnmade : Type 0 → Refusal → Type 0
+IsUnmade Nothing (File file.Script) = Nothing
+IsUnmade Nothing (Script why) = Nothing
+IsUnmade Nothing (Steps number) = Nothing
+IsUnmade Nothing other = ⊤
+
 -- status 0 where the steps were drawn and the file was flushed as well
 abbrev pub done : {T U E F : Type 0} → Result T E → Result U F → Result ℕ Refusal
 done (Err e) flushed = Err (Build Write)
@@ -50,12 +59,13 @@ done (Ok drawn) (Err e) = Err (Build Write)
 done (Ok drawn) (Ok u) = Ok 0
 
 -- what `draw` answers to the texts of a command line, where `Made` says which changes it made: status 0 where it was drawn and has
--- gone out, and just the output was made; or a refusal, and at most that was. It prints nothing else
+-- gone out, and just the output was made; or a refusal, and at most that was, none for a script that isn't drawn. It prints nothing
+-- else
 abbrev pub AnswersDraw : FileFacts → DrawArgs → (List Change → Type 0) → Type 0 → Type 0 → Option (List ℕ) → Option (List ℕ) → ℕ → Type 0
 AnswersDraw files given Made Quiet Works told_before told_after status =
     Answers (is_well_formed given)
     ((status ≡ 0) × IsDrawing (Serves files given) (Makes files given) files.flushed
     × MakesNamed files (option_to_list (option_map (λ t. t.now) given.script)) (option_map (λ t. t.now) given.out) Made × Quiet)
     (MayMake files (option_to_list (option_map (λ t. t.now) given.script)) (option_map (λ t. t.now) given.out) Made)
-    (RefusesDraw files.lacked (Serves files given) (Makes files given))
+    (λ why. RefusesDraw (Lacks files (paths_asked given)) (Serves files given) (Makes files given) why × IsUnmade (Made []) why)
     Works told_before told_after status

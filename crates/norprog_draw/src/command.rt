@@ -2,11 +2,13 @@
 
 ghost use Rattle.std.specs.Prelude.{◌≡◌, ◌<◌, ◌≤◌, ◌-◌, ◌^◌, [], ◌∷◌, true, IfOk, IfErr};
 ghost use Rattle.std.specs.Prelude.{Some, option_map, option_to_list};
-ghost use Rattle.norprog_common.specs.FileStore.{Adds, MakesIf};
+ghost use Rattle.norprog_common.specs.FileStore.{Adds, Lacks, MakesIf};
 ghost use Rattle.norprog_common.specs.Told.{OrUsage};
-ghost use Rattle.norprog_draw.specs.Answer.{IsDrawing, RefusesDraw, AnswersDraw, done};
+ghost use Rattle.norprog_draw.specs.Answer.{IsDrawing, IsUnmade, RefusesDraw, AnswersDraw};
+ghost use Rattle.norprog_draw.specs.Answer.{done};
 ghost use Rattle.norprog_draw.specs.Request.{is_well_formed};
 ghost use Rattle.norprog_draw.specs.Served.{IsTaskOf, IsMadeFor, Serves, Makes};
+ghost use Rattle.norprog_draw.specs.Served.{paths_asked, paths_of};
 
 use crate::request::{DrawRequest, request_of};
 use crate::script::{draw_steps, steps_of};
@@ -50,8 +52,11 @@ fn drawn_in<S: FileStore>(
         (Makes (S.facts store.now) given.entry) (S.facts store.now).flushed) }
     ensures asked { IfOk result (λ _. is_well_formed given.entry ≡ true) }
     ensures first { IfErr result (OrUsage (is_well_formed given.entry)
-        (RefusesDraw (S.facts store.now).lacked (Serves (S.facts store.now) given.entry)
+        (RefusesDraw (Lacks (S.facts store.now) (paths_asked given.entry))
+        (Serves (S.facts store.now) given.entry)
         (Makes (S.facts store.now) given.entry))) }
+    ensures unmade { IfErr result (IsUnmade
+        (Adds (S.Journal.changes journal.old) (S.Journal.changes journal.new) [])) }
 {
     let request = request_of(given).ok_or(Refusal::Usage)?;
     run_draw(alloc, store, journal, request)
@@ -71,8 +76,11 @@ fn run_draw<S: FileStore>(
     ensures drawn { IfOk result (λ _. IsDrawing (IsTaskOf (S.facts store.now) request.entry)
         (IsMadeFor (S.facts store.now) request.entry) (S.facts store.now).flushed) }
     ensures refused { IfErr result
-        (RefusesDraw (S.facts store.now).lacked (IsTaskOf (S.facts store.now) request.entry)
+        (RefusesDraw (Lacks (S.facts store.now) (paths_of request.entry))
+        (IsTaskOf (S.facts store.now) request.entry)
         (IsMadeFor (S.facts store.now) request.entry)) }
+    ensures unmade { IfErr result (IsUnmade
+        (Adds (S.Journal.changes journal.old) (S.Journal.changes journal.new) [])) }
 {
     let (script, place) = store.read(alloc, request.script, FileName::Script)?;
     let steps = steps_of(alloc, script.as_slice(), request.from)?;

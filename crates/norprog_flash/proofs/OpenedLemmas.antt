@@ -7,8 +7,7 @@ use Rattle.nor_serprog.specs.Line.{TestsLine}
 use Rattle.norprog_common.specs.FileStore.{FileFacts, Adds, Change, Created, Opened}
 use Rattle.norprog_common.proofs.JournalLemmas.{adds_both}
 use Rattle.norprog_common.specs.declared.faults.Refusal.{Refusal}
-use Rattle.norprog_common.specs.Files.{TellsFile}
-use Rattle.norprog_device.specs.Opened.{IsUntouched, LetsGo}
+use Rattle.norprog_device.specs.Opened.{IsUntouched, LacksDevice, LetsGo}
 use Rattle.norprog_flash.specs.declared.ending.Ending.{Ending}
 use Rattle.norprog_flash.specs.declared.ending.Unflashed.{Unflashed}
 use Rattle.norprog_flash.specs.declared.ending.Unflashed.TheVariants.{Refused}
@@ -83,6 +82,7 @@ module _ (files : FileFacts) (Made Other : List Change → Type 0) (wider : (xs 
       read = late.read;
       refusal = late.refusal;
       is = late.is;
+      told = late.told;
       fails = late.fails;
       made = elim late.made [ inl none ↦ inl (wider [] none) | inr one ↦ inr (wider (Created job.before.now ∷ []) one) ];
     }),
@@ -151,6 +151,6 @@ made_on device name before mid after (Err why) first made = tt
 
 -- or it couldn't be opened
 pub unopened : (files : FileFacts) (device : List ℕ) (Made : List Change → Type 0) (job : Job) (o : Option (List ℕ)) (refusal : Refusal)
-    → IsSoundEarly job → TellsFile files.lacked refusal → IsUntouched files device Made refusal
+    → IsSoundEarly job → LacksDevice files device refusal → IsUntouched files device Made refusal
     → IsUnbegunOn files device Made job o o (Refused refusal)
 unopened files device Made job o refusal sound lacks untouched = inr (sound, inl (refusal, refl, lacks, untouched, refl))

@@ -1,18 +1,43 @@
 -- The job is the one that the texts ask for.
-use Rattle.std.proofs.Common.{◌≡◌, ℕ, true, List, [], ◌∷◌, Option, Result, Ok, Err, IfOk, IfErr, inr, is_some, ap, ◌∙◌, subst}
-use Rattle.norprog_common.specs.FileStore.{FileFacts, Change, Created, Opened}
+use Rattle.std.proofs.Common.{◌≡◌, ℕ, true, List, [], ◌∷◌, Option, Result, Ok, Err, IfOk, IfErr, inl, inr, is_some, option_map, refl, sym, ap, ◌∙◌, subst}
+use Rattle.norprog_common.specs.FileStore.{FileFacts, Change, Created, Lacks, Opened}
+use Rattle.norprog_common.specs.Chip.{origin_of}
+use Rattle.norprog_common.specs.Files.{TellsFile}
+use Rattle.norprog_common.specs.declared.faults.FileName.{FileName}
+use Rattle.norprog_common.specs.declared.faults.Refusal.{Refusal}
 use Rattle.norprog_common.specs.declared.given.FlashArgs.{FlashArgs}
 use Rattle.norprog_flash.specs.declared.ending.Ending.{Ending}
 use Rattle.norprog_flash.specs.declared.ending.Unflashed.{Unflashed}
+use Rattle.norprog_flash.specs.declared.ending.Unflashed.TheVariants.{Refused}
 use Rattle.norprog_flash.specs.declared.job.Job.{Job}
 use Rattle.norprog_flash.specs.declared.request.FlashRequest.{FlashRequest}
 use Rattle.norprog_flash.specs.Answer.{IsEndingOf, IsUnbegunFor, IsUnbegunOn}
 use Rattle.norprog_flash.specs.Early.{IsSoundEarly}
 use Rattle.norprog_flash.specs.Opened.{IsFlashedOn}
 use Rattle.norprog_flash.specs.Request.{is_well_formed, AsksFor}
-use Rattle.norprog_flash.specs.Served.{IsJobOf}
+use Rattle.norprog_flash.specs.Served.{paths_asked, paths_of, IsJobOf}
+use Rattle.norprog_common.proofs.ToldLemmas.{or_usage}
+use Rattle.norprog_read.proofs.LackedLemmas.{tables_are}
 use Rattle.norprog_read.specs.declared.asked.Ask.{Ask}
 use Rattle.norprog_read.specs.Request.{IsAskOf}
+
+-- a file that couldn't be used by the request is one that the texts name
+lacks_asked : (files : FileFacts) (given : FlashArgs) (request : FlashRequest) → AsksFor given request → (why : Refusal)
+    → TellsFile (Lacks files (paths_of request)) why → TellsFile (Lacks files (paths_asked given)) why
+lacks_asked files given request asks why lacks =
+    let tables = tables_are given.chip (option_map origin_of request.read.chip) asks.read.chip in
+    let same : Path (FileName → Option (List ℕ)) (paths_of request) (paths_asked given) = rw (asks.hex, sym asks.layout, tables, sym asks.resume) refl in
+    subst (λ (paths : FileName → Option (List ℕ)). TellsFile (Lacks files paths) why) same lacks
+
+pub lacked_by : (files : FileFacts) (given : FlashArgs) (request : FlashRequest) (Made : List Change → Type 0) (o : Option (List ℕ)) → AsksFor given request
+    → is_well_formed given ≡ true → Made [] → (why : Refusal) → TellsFile (Lacks files (paths_of request)) why → IsUnbegunFor files given Made o o (Refused why)
+lacked_by files given request Made o asks formed none why lacks = inl (
+  why,
+  refl,
+  or_usage (is_well_formed given) (TellsFile (Lacks files (paths_asked given))) why formed (lacks_asked files given request asks why lacks),
+  none,
+  refl,
+)
 
 -- the content is wanted, since it is saved
 pub wanted : (given : FlashArgs) (request : FlashRequest) (file : List ℕ) (ask : Ask) → AsksFor given request → IsAskOf request.read file ask

@@ -9,6 +9,7 @@ use Rattle.nor_job.specs.Task.{Task}
 use Rattle.nor_probe.specs.Status.{suits}
 use Rattle.nor_reader.specs.Harmless.{HasSentHarmless, SendsHarmless}
 use Rattle.nor_reader.proofs.HarmlessLemmas.{whole_sent}
+use Rattle.norprog_common.specs.declared.faults.FileName.TheVariants as file
 use Rattle.norprog_common.specs.declared.faults.Refusal.{Refusal}
 use Rattle.norprog_common.specs.declared.faults.Refusal.TheVariants.{Build}
 use Rattle.norprog_common.specs.FileStore.{FileFacts, Adds, Change, Created}
@@ -52,10 +53,11 @@ unread files before h i a b job o why stops harmless =
     record { stop = inl (refl, inl (adds_none before before refl, stops)); harmless = harmless }
 
 pub unsaved : (files : FileFacts) (h i : Option (List ℕ)) (a b : Ahead) (job : Job) (o : Option (List ℕ)) (r : Reading)
-    → HasRead job h i a b r → HasSentHarmless h i → (why : Refusal) → FailsToSave files.lacked why → (before after : Option (List Change))
+    → HasRead job h i a b r → HasSentHarmless h i → (why : Refusal) → FailsToSave (λ told. told ≡ file.Before) why
+    → FailsToSave (files.lacked job.before.now) why → (before after : Option (List Change))
     → Adds before after [] ⊎ Adds before after (Created job.before.now ∷ []) → StopsBegun files (Adds before after) h i a b job o o (Refused why)
-unsaved files h i a b job o r read sent why fails before after made = record {
-  stop = inl (refl, inr (record { reading = r; read = read; refusal = why; is = refl; fails = fails; made = made }));
+unsaved files h i a b job o r read sent why told fails before after made = record {
+  stop = inl (refl, inr (record { reading = r; read = read; refusal = why; is = refl; told = told; fails = fails; made = made }));
   harmless = whole_sent h i sent;
 }
 

@@ -6,7 +6,7 @@ use Rattle.nor_base.specs.declared.meaning.Part.TheVariants.{Generic}
 use Rattle.nor_base.specs.Device.{Cuts}
 use Rattle.nor_job.specs.declared.fault.BuildFault.{BuildFault}
 use Rattle.nor_job.specs.declared.fault.BuildFault.TheVariants.{Write}
-use Rattle.norprog_common.specs.FileStore.{FileFacts, Change, Created, Opened}
+use Rattle.norprog_common.specs.FileStore.{FileFacts, Change, Created, Lacks, Opened}
 use Rattle.norprog_common.specs.Files.{TellsFile}
 use Rattle.norprog_common.specs.Lines.{printed, status_after}
 use Rattle.norprog_common.specs.Setup.{family_asked}
@@ -16,7 +16,7 @@ use Rattle.norprog_common.specs.declared.faults.Refusal.{Refusal}
 use Rattle.norprog_common.specs.declared.faults.Refusal.TheVariants.{Build}
 use Rattle.norprog_common.specs.declared.given.FlashArgs.{FlashArgs}
 use Rattle.norprog_device.specs.Line.{device_line}
-use Rattle.norprog_device.specs.Opened.{IsUntouched}
+use Rattle.norprog_device.specs.Opened.{IsUntouched, LacksDevice}
 use Rattle.norprog_flash.specs.declared.ending.Ending.{Ending}
 use Rattle.norprog_flash.specs.declared.ending.Unflashed.{Unflashed}
 use Rattle.norprog_flash.specs.declared.ending.Unflashed.TheVariants.{Refused, Device, Unlike, Closed}
@@ -26,7 +26,7 @@ use Rattle.norprog_flash.specs.Early.{IsSoundEarly, RefusesEarly}
 use Rattle.norprog_flash.specs.Line.{closed_line, ending_line, is_partial, status_of}
 use Rattle.norprog_flash.specs.Opened.{IsFlashedOn}
 use Rattle.norprog_flash.specs.Request.{is_well_formed, AsksFor}
-use Rattle.norprog_flash.specs.Served.{IsJobOf}
+use Rattle.norprog_flash.specs.Served.{paths_asked, IsJobOf}
 use Rattle.norprog_flash.specs.State.{state_line}
 use Rattle.norprog_flash.specs.Stops.{StopsOn}
 use Rattle.norprog_read.specs.Answer.{Reports}
@@ -53,7 +53,7 @@ pub record IsEndingOf (files : FileFacts) (given : FlashArgs) (Made : List Chang
 -- and the job on its chip stopped so
 abbrev pub IsUnbegunBy : FileFacts → List ℕ → (List Change → Type 0) → Job → Option (List ℕ) → Option (List ℕ) → Unflashed → Type 0
 IsUnbegunBy files device Made job out_before out_after why =
-    ((refusal : Refusal) × (why ≡ Refused refusal) × TellsFile files.lacked refusal × IsUntouched files device Made refusal
+    ((refusal : Refusal) × (why ≡ Refused refusal) × LacksDevice files device refusal × IsUntouched files device Made refusal
     × (out_after ≡ out_before))
     ⊎ StopsOn (files.device device) files (λ next. Made (Opened device ∷ next)) job out_before out_after why
 
@@ -76,7 +76,7 @@ pub record StopsRequest (files : FileFacts) (given : FlashArgs) (Made : List Cha
 -- the texts ask for nothing, or a file couldn't be used, or memory ran out, and nothing was changed or printed; or the job wasn't begun
 abbrev pub IsUnbegunFor : FileFacts → FlashArgs → (List Change → Type 0) → Option (List ℕ) → Option (List ℕ) → Unflashed → Type 0
 IsUnbegunFor files given Made out_before out_after why =
-    ((refusal : Refusal) × (why ≡ Refused refusal) × OrUsage (is_well_formed given) (TellsFile files.lacked) refusal × Made []
+    ((refusal : Refusal) × (why ≡ Refused refusal) × OrUsage (is_well_formed given) (TellsFile (Lacks files (paths_asked given))) refusal × Made []
     × (out_after ≡ out_before))
     ⊎ StopsRequest files given Made out_before out_after why
 

@@ -1,12 +1,15 @@
 -- The job that a command line of `flash` asks for (this project's). `files` is what is known of files by their names.
-use Rattle.std.specs.Prelude.{◌≡◌, option_map}
+use Rattle.std.specs.Prelude.{◌≡◌, ℕ, List, Option, Some, None, option_map}
 use Rattle.norprog_common.specs.Chip.{origin_of}
+use Rattle.norprog_common.specs.declared.faults.FileName.{FileName}
+use Rattle.norprog_common.specs.declared.faults.FileName.TheVariants as file
+use Rattle.norprog_common.specs.declared.given.FlashArgs.{FlashArgs}
 use Rattle.norprog_common.specs.FileStore.{FileFacts, WhereNamed}
 use Rattle.norprog_flash.specs.declared.files.Files.{Files}
 use Rattle.norprog_flash.specs.declared.job.Job.{Job}
 use Rattle.norprog_flash.specs.declared.request.FlashRequest.{FlashRequest}
 use Rattle.norprog_read.specs.Request.{IsAskOf}
-use Rattle.norprog_read.specs.Served.{AreTablesIf}
+use Rattle.norprog_read.specs.Served.{tables_named, AreTablesIf}
 
 -- each is what the file of its name gave
 pub record AreGiven (facts : FileFacts) (request : FlashRequest) (held : Files) : Type 0 where
@@ -29,3 +32,23 @@ pub record IsJobOf (facts : FileFacts) (request : FlashRequest) (job : Job) : Ty
   pub before : job.before.now ≡ request.before.now
   pub strict : job.strict ≡ request.strict
   pub dry : job.dry ≡ request.dry_run
+
+-- the name that each option gives of a file that is read before the device is opened: of the image, the layout, the tables and the
+-- older content these, of another none
+abbrev pub flash_paths : Option (List ℕ) → Option (List ℕ) → Option (List ℕ) → Option (List ℕ) → FileName → Option (List ℕ)
+flash_paths hex layout tables resume file.Hex = hex
+flash_paths hex layout tables resume file.Layout = layout
+flash_paths hex layout tables resume file.Sfdp = tables
+flash_paths hex layout tables resume file.Resume = resume
+flash_paths hex layout tables resume other = None
+
+-- those of a request, and those that the texts give
+abbrev pub paths_of : FlashRequest → FileName → Option (List ℕ)
+paths_of request =
+    flash_paths (Some request.hex.now) (option_map (λ t. t.now) request.layout) (tables_named (option_map origin_of request.read.chip))
+    (option_map (λ t. t.now) request.resume)
+
+abbrev pub paths_asked : FlashArgs → FileName → Option (List ℕ)
+paths_asked given =
+    flash_paths (option_map (λ t. t.now) given.hex) (option_map (λ t. t.now) given.layout) (option_map (λ t. t.now) given.chip.sfdp)
+    (option_map (λ t. t.now) given.resume)

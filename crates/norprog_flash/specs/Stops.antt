@@ -13,6 +13,7 @@ use Rattle.nor_serprog.specs.declared.fault.GreetFault.{GreetFault}
 use Rattle.nor_serprog.specs.declared.limits.Limits.{Limits}
 use Rattle.nor_serprog.specs.Greeting.{Greeted}
 use Rattle.nor_serprog.specs.Line.{TestsLine}
+use Rattle.norprog_common.specs.declared.faults.FileName.TheVariants as file
 use Rattle.norprog_common.specs.declared.faults.Refusal.{Refusal}
 use Rattle.norprog_common.specs.declared.faults.Refusal.TheVariants.{Build}
 use Rattle.norprog_common.specs.FileStore.{FileFacts, Change, Created}
@@ -70,14 +71,15 @@ StopsBefore held_before held_after ahead_before ahead_after job why =
     StopsReading held_before held_after ahead_before ahead_after job.ask why
     ⊎ StopsUnsuited held_before held_after ahead_before ahead_after job why
 
--- it was read, and what it holds couldn't be saved; the file may have been made
+-- it was read, and what it holds couldn't be saved in its file, which may have been made
 pub record StopsUnsaved (files : FileFacts) (Made : List Change → Type 0) (held_before held_after : Option (List ℕ)) (ahead_before ahead_after : Ahead)
     (job : Job) (why : Unflashed) : Type 0 where
   pub reading : Reading
   pub read : HasRead job held_before held_after ahead_before ahead_after reading
   pub refusal : Refusal
   pub is : why ≡ Refused refusal
-  pub fails : FailsToSave files.lacked refusal
+  pub told : FailsToSave (λ told. told ≡ file.Before) refusal
+  pub fails : FailsToSave (files.lacked job.before.now) refusal
   pub made : Made [] ⊎ Made (Created job.before.now ∷ [])
 
 -- work is resumed from a dump that hasn't the chip's length, and nothing was printed; or the work from the content to the target, for which some lines of the plan may have been printed, couldn't be planned or printed

@@ -2,9 +2,9 @@
 
 ghost use Rattle.std.specs.Prelude.{◌≡◌, option_map, IfOk, IfErr};
 ghost use Rattle.norprog_common.specs.Chip.{origin_of};
-ghost use Rattle.norprog_common.specs.Files.{TellsFile};
-ghost use Rattle.norprog_common.specs.FileStore.{WhereNamed};
-ghost use Rattle.norprog_flash.specs.Served.{AreGiven};
+ghost use Rattle.norprog_common.specs.Files.{RefusesFile, TellsFile};
+ghost use Rattle.norprog_common.specs.FileStore.{Lacks, LacksNamed, WhereNamed};
+ghost use Rattle.norprog_flash.specs.Served.{paths_of, AreGiven};
 
 use crate::request::FlashRequest;
 use norprog_common::{FileName, FileStore, Refusal};
@@ -29,7 +29,8 @@ pub(crate) fn read_files<S: FileStore>(
     request: &FlashRequest<'_>,
 ) -> Result<Files, Refusal>
     ensures given { IfOk result (AreGiven (S.facts store.now) request.now) }
-    ensures lacked { IfErr result (TellsFile (S.facts store.now).lacked) }
+    ensures lacked { IfErr result
+        (TellsFile (Lacks (S.facts store.now) (paths_of request.now))) }
 {
     let (hex, _place) = store.read(alloc, request.hex, FileName::Hex)?;
     let layout = read_if(alloc, store, request.layout, FileName::Layout)?;
@@ -53,7 +54,9 @@ fn read_if<S: FileStore>(
     ensures given { IfOk result
         (λ held. WhereNamed (S.facts store.now).gave (option_map (λ t. t.now) path.entry)
         (option_map (λ bytes. bytes.items) held)) }
-    ensures lacked { IfErr result (TellsFile (S.facts store.now).lacked) }
+    ensures refused { IfErr result (RefusesFile name) }
+    ensures lacked { IfErr result
+        (TellsFile (LacksNamed (S.facts store.now) (option_map (λ t. t.now) path.entry))) }
 {
     match path {
         Some(path) => {

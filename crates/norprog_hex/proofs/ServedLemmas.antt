@@ -1,22 +1,26 @@
 -- What is written for a request is what its texts ask for, and what is so of it is so of that.
-use Rattle.std.proofs.Common.{◌≡◌, ◌+◌, ◌<◌, ◌≤◌, ◌^◌, option_map, option_to_list, true, refl, sym, subst, List, [], ◌∷◌, ℕ, Option, Result, Ok, Err, IfOk, IfErr, inl, inr}
+use Rattle.std.proofs.Common.{◌≡◌, ◌∙◌, ◌+◌, ◌<◌, ◌≤◌, ◌^◌, option_map, option_to_list, Bool, true, false, refl, sym, subst, List, [], ◌∷◌, ℕ, Option, Result, Ok, Err, IfOk, IfErr, inl, inr}
 use Rattle.std.specs.Prelude.{⊤, IsErrAnd}
 use Rattle.nor_base.specs.Device.{Ahead}
 use Rattle.nor_base.proofs.FaultLaws.{handed_on}
 use Rattle.nor_job.specs.declared.fault.BuildFault.TheVariants as fault
-use Rattle.norprog_common.specs.FileStore.{FileFacts, IsMadeApart, Named}
+use Rattle.std.specs.Io.KnownBytes.{Appends}
+use Rattle.norprog_common.specs.FileStore.{Change, FileFacts, IsMadeApart, Lacks, MakesIf, MakesNamed, MayMake, Named}
+use Rattle.norprog_common.specs.Lines.{printed, status_after}
 use Rattle.norprog_common.specs.Files.{TellsFile, RefusesFile}
+use Rattle.norprog_common.specs.declared.faults.FileName.{FileName}
 use Rattle.norprog_common.specs.declared.faults.FileName.TheVariants as file
 use Rattle.norprog_common.specs.declared.faults.Refusal.{Refusal}
 use Rattle.norprog_common.specs.declared.faults.Refusal.TheVariants.{File, Build, BinSize}
-use Rattle.norprog_common.specs.Told.{ForAsked, OrUsage}
+use Rattle.norprog_common.specs.Told.{Answers, ForAsked, OrUsage}
+use Rattle.norprog_common.proofs.LackedLemmas.{lacks_same}
 use Rattle.norprog_common.proofs.ToldLemmas.{asked_wider, or_usage}
 use Rattle.norprog_common.specs.declared.given.HexArgs.{HexArgs}
 use Rattle.norprog_hex.specs.declared.request.HexRequest.{HexRequest}
-use Rattle.norprog_hex.specs.Answer.{Fits, IsTooLong, IsWritten, IsCut, IsBegun, RefusesHex, done}
+use Rattle.norprog_hex.specs.Answer.{Fits, IsTooLong, IsUnmade, IsWritten, IsCut, IsBegun, RefusesHex, done}
 use Rattle.norprog_hex.specs.Converted.{WasConverted, StopsConverting}
 use Rattle.norprog_hex.specs.Request.{is_well_formed, AsksFor}
-use Rattle.norprog_hex.specs.Served.{BinTask, HexTask, IsBinOf, IsTaskOf, ServesBin, Serves}
+use Rattle.norprog_hex.specs.Served.{BinTask, HexTask, IsBinOf, IsTaskOf, ServesBin, Serves, paths_asked, paths_of}
 
 -- what a request has is what the texts ask for
 serves_bin : (files : FileFacts) (given : HexArgs) (request : HexRequest) → AsksFor given request → (t : BinTask) → IsBinOf files request t → ServesBin files given t
@@ -38,39 +42,45 @@ written_asked files given request (Ok x) asks of = asked_wider HexTask (IsTaskOf
 written_asked files given request (Err why) asks of = tt
 
 -- with more of either task no refusal is lost
-wider : (files : FileFacts) (O P : BinTask → Type 0) (A B : HexTask → Type 0) → ((t : BinTask) → O t → P t) → ((t : HexTask) → A t → B t) → (why : Refusal)
-    → RefusesHex files O A why → RefusesHex files P B why
-wider files O P A B opened asked (File file.Bin) is = elim is [ inl lacks ↦ inl lacks | inr work ↦ inr (asked_wider HexTask A B IsBegun asked work) ]
-wider files O P A B opened asked (File file.Out) is = (is.0, asked_wider BinTask O P Fits opened is.1)
-wider files O P A B opened asked BinSize is = asked_wider BinTask O P IsTooLong opened is
-wider files O P A B opened asked (Build fault.Memory) is = tt
-wider files O P A B opened asked (Build fault.Write) is =
+wider : (L M : FileName → Type 0) (O P : BinTask → Type 0) (A B : HexTask → Type 0) → ((told : FileName) → L told → M told) → ((t : BinTask) → O t → P t) → ((t : HexTask) → A t → B t) → (why : Refusal)
+    → RefusesHex L O A why → RefusesHex M P B why
+wider L M O P A B files opened asked (File file.Bin) is = elim is [ inl lacks ↦ inl (files file.Bin lacks) | inr work ↦ inr (asked_wider HexTask A B IsBegun asked work) ]
+wider L M O P A B files opened asked (File file.Out) is = (files file.Out is.0, asked_wider BinTask O P Fits opened is.1)
+wider L M O P A B files opened asked BinSize is = asked_wider BinTask O P IsTooLong opened is
+wider L M O P A B files opened asked (Build fault.Memory) is = tt
+wider L M O P A B files opened asked (Build fault.Write) is =
     elim is [ inl cut ↦ inl (asked_wider HexTask A B IsCut asked cut) | inr late ↦ inr (asked_wider HexTask A B (IsWritten (λ held. ⊤)) asked late) ]
-wider files O P A B opened asked other is = absurd is
+wider L M O P A B files opened asked other is = absurd is
+
+-- the files of a request are those that the texts name
+same_paths : (given : HexArgs) (request : HexRequest) → AsksFor given request → Path (FileName → Option (List ℕ)) (paths_of request) (paths_asked given)
+same_paths given request asks = rw (asks.bin, asks.out) refl
 
 pub refusals_asked : {T : Type 0} (files : FileFacts) (given : HexArgs) (request : HexRequest) (r : Result T Refusal) → AsksFor given request → is_well_formed given ≡ true
-    → IfErr r (RefusesHex files (IsBinOf files request) (IsTaskOf files request)) → IfErr r (OrUsage (is_well_formed given) (RefusesHex files (ServesBin files given) (Serves files given)))
+    → IfErr r (RefusesHex (Lacks files (paths_of request)) (IsBinOf files request) (IsTaskOf files request))
+    → IfErr r (OrUsage (is_well_formed given) (RefusesHex (Lacks files (paths_asked given)) (ServesBin files given) (Serves files given)))
 refusals_asked files given request (Ok x) asks formed of = tt
 refusals_asked files given request (Err why) asks formed of =
-    or_usage _ _ _ formed (wider files (IsBinOf files request) (ServesBin files given) (IsTaskOf files request) (Serves files given) (serves_bin files given request asks) (serves files given request asks) why of)
+    or_usage _ _ _ formed (wider (Lacks files (paths_of request)) (Lacks files (paths_asked given)) (IsBinOf files request) (ServesBin files given)
+    (IsTaskOf files request) (Serves files given) (lacks_same files (paths_of request) (paths_asked given) (same_paths given request asks)) (serves_bin files given request asks) (serves files given request asks) why of)
 
 -- a file that couldn't be opened
-pub unopened : {T : Type 0} (files : FileFacts) (Opened : BinTask → Type 0) (Asked : HexTask → Type 0) (r : Result T Refusal) (why : Refusal) → IsErrAnd r (λ told. told ≡ why)
-    → RefusesFile file.Bin why → TellsFile files.lacked why → IfErr r (RefusesHex files Opened Asked)
-unopened files Opened Asked r why is named lacked = handed_on (RefusesHex files Opened Asked) r why is (of why named lacked)
+pub unopened : {T : Type 0} (Lacked : FileName → Type 0) (Opened : BinTask → Type 0) (Asked : HexTask → Type 0) (r : Result T Refusal) (why : Refusal) → IsErrAnd r (λ told. told ≡ why)
+    → RefusesFile file.Bin why → TellsFile Lacked why → IfErr r (RefusesHex Lacked Opened Asked)
+unopened Lacked Opened Asked r why is named lacked = handed_on (RefusesHex Lacked Opened Asked) r why is (of why named lacked)
   where
-    of : (why : Refusal) → RefusesFile file.Bin why → TellsFile files.lacked why → RefusesHex files Opened Asked why
-    of (File told) named lacked = subst (λ n. RefusesHex files Opened Asked (File n)) (sym named) (inl (subst files.lacked named lacked))
+    of : (why : Refusal) → RefusesFile file.Bin why → TellsFile Lacked why → RefusesHex Lacked Opened Asked why
+    of (File told) named lacked = subst (λ n. RefusesHex Lacked Opened Asked (File n)) (sym named) (inl (subst Lacked named lacked))
     of (Build fault.Memory) named lacked = tt
     of other named lacked = absurd named
 
 -- one that couldn't be made
-pub unmade : {T : Type 0} (files : FileFacts) (Opened : BinTask → Type 0) (Asked : HexTask → Type 0) (r : Result T Refusal) (why : Refusal) → IsErrAnd r (λ told. told ≡ why)
-    → ForAsked BinTask Opened Fits → RefusesFile file.Out why → TellsFile files.lacked why → IfErr r (RefusesHex files Opened Asked)
-unmade files Opened Asked r why is fits named lacked = handed_on (RefusesHex files Opened Asked) r why is (of why named lacked)
+pub unmade : {T : Type 0} (Lacked : FileName → Type 0) (Opened : BinTask → Type 0) (Asked : HexTask → Type 0) (r : Result T Refusal) (why : Refusal) → IsErrAnd r (λ told. told ≡ why)
+    → ForAsked BinTask Opened Fits → RefusesFile file.Out why → TellsFile Lacked why → IfErr r (RefusesHex Lacked Opened Asked)
+unmade Lacked Opened Asked r why is fits named lacked = handed_on (RefusesHex Lacked Opened Asked) r why is (of why named lacked)
   where
-    of : (why : Refusal) → RefusesFile file.Out why → TellsFile files.lacked why → RefusesHex files Opened Asked why
-    of (File told) named lacked = subst (λ n. RefusesHex files Opened Asked (File n)) (sym named) (subst files.lacked named lacked, fits)
+    of : (why : Refusal) → RefusesFile file.Out why → TellsFile Lacked why → RefusesHex Lacked Opened Asked why
+    of (File told) named lacked = subst (λ n. RefusesHex Lacked Opened Asked (File n)) (sym named) (subst Lacked named lacked, fits)
     of (Build fault.Memory) named lacked = tt
     of other named lacked = absurd named
 
@@ -99,7 +109,7 @@ module _ (files : FileFacts) (request : HexRequest) (ahead : Ahead) (len : ℕ) 
     was_written : (Sent : Option (List ℕ) → Type 0) (rest : Ahead) → Sent after → WasConverted request.at len ahead rest begun after → ForAsked HexTask (IsTaskOf files request) (IsWritten Sent)
     was_written Sent rest sent is = record { it = task; asked = asked; has = record { fits = fits; rest = rest; after = after; converted = is; sent = sent } }
 
-    was_stopped : (why : Refusal) → StopsConverting request.at ahead begun after why → RefusesHex files (IsBinOf files request) (IsTaskOf files request) why
+    was_stopped : (why : Refusal) → StopsConverting request.at ahead begun after why → RefusesHex (Lacks files (paths_of request)) (IsBinOf files request) (IsTaskOf files request) why
     was_stopped (File file.Bin) is = inr (record { it = task; asked = asked; has = record { after = after; begun = is } })
     was_stopped (Build fault.Write) is = inl (record { it = task; asked = asked; has = record { after = after; cut = is } })
     was_stopped (Build fault.Memory) is = tt
@@ -114,7 +124,44 @@ module _ (files : FileFacts) (request : HexRequest) (ahead : Ahead) (len : ℕ) 
 
     pub done_is_refused : {T U E : Type 0} (rest : Ahead) (answer : Result T Refusal) (flushed : Result U E) (r : Result ℕ Refusal)
         → IfOk answer (λ _. WasConverted request.at len ahead rest begun after) → IfErr answer (StopsConverting request.at ahead begun after) → r ≡ done answer flushed
-        → IfErr r (RefusesHex files (IsBinOf files request) (IsTaskOf files request))
+        → IfErr r (RefusesHex (Lacks files (paths_of request)) (IsBinOf files request) (IsTaskOf files request))
     done_is_refused rest (Err why) flushed r written stopped is = rw is (was_stopped why stopped)
     done_is_refused rest (Ok x) (Err e) r written stopped is = rw is (inr (was_written (λ held. ⊤) rest tt written))
     done_is_refused rest (Ok x) (Ok u) r written stopped is = rw is tt
+
+-- a file that can't be used is told by its name
+pub unmade_file : (P : Type 0) (name : FileName) (why : Refusal) → RefusesFile name why → IsUnmade P why
+unmade_file P name (File told) named = tt
+unmade_file P name (Build fault.Memory) named = tt
+unmade_file P name other named = absurd named
+
+-- a text that wasn't written was begun
+stopped_made : (P : Type 0) (at : ℕ) (ahead : Ahead) (begun after : Option (List ℕ)) (why : Refusal) → StopsConverting at ahead begun after why → IsUnmade P why
+stopped_made P at ahead begun after (File file.Bin) is = tt
+stopped_made P at ahead begun after (Build fault.Write) is = tt
+stopped_made P at ahead begun after (Build fault.Memory) is = tt
+stopped_made P at ahead begun after other is = absurd is
+
+pub unmade_done : {T U E : Type 0} (P : Type 0) (at : ℕ) (ahead : Ahead) (begun after : Option (List ℕ)) (answer : Result T Refusal) (flushed : Result U E)
+    (r : Result ℕ Refusal) → IfErr answer (StopsConverting at ahead begun after) → r ≡ done answer flushed → IfErr r (IsUnmade P)
+unmade_done P at ahead begun after (Err why) flushed r stopped is = rw is (stopped_made P at ahead begun after why stopped)
+unmade_done P at ahead begun after (Ok x) (Err e) r stopped is = rw is tt
+unmade_done P at ahead begun after (Ok x) (Ok u) r stopped is = rw is tt
+
+and_unmade : (asks : Bool) (Work : Refusal → Type 0) (P : Type 0) (why : Refusal) → OrUsage asks Work why → IsUnmade P why
+    → OrUsage asks (λ why. Work why × IsUnmade P why) why
+and_unmade true Work P why first unmade = (first, unmade)
+and_unmade false Work P why first unmade = first
+
+-- what is answered, as the work ended
+pub answer_is : (files : FileFacts) (names : List (List ℕ)) (out : Option (List ℕ)) (Made : List Change → Type 0) (asks : Bool) (Done Quiet Works : Type 0)
+    (Work : Refusal → Type 0) (told_before told_after : Option (List ℕ)) (work : Result ℕ Refusal) (status : ℕ)
+    → IfOk work (λ s. s ≡ 0) → MakesIf files names out Made work → IfOk work (λ _. Done) → IfOk work (λ _. asks ≡ true) → IfErr work (OrUsage asks Work)
+    → IfErr work (IsUnmade (Made [])) → IfOk work (λ s. (status ≡ s) × Quiet)
+    → IfErr work (λ why. (status ≡ status_after why) × (Works → Appends told_before told_after (printed why)))
+    → Answers asks ((status ≡ 0) × Done × MakesNamed files names out Made × Quiet) (MayMake files names out Made) (λ why. Work why × IsUnmade (Made []) why) Works
+    told_before told_after status
+answer_is files names out Made asks Done Quiet Works Work told_before told_after (Ok s) status zero made is formed first unmade done told =
+    inl (formed, (done.0 ∙ zero, is, made, done.1))
+answer_is files names out Made asks Done Quiet Works Work told_before told_after (Err why) status zero made is formed first unmade done told =
+    inr (made, (why, and_unmade asks Work (Made []) why first unmade, told.0, told.1))

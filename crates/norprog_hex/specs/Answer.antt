@@ -1,16 +1,17 @@
 -- What `hex` answers (this project's).
-use Rattle.std.specs.Prelude.{◌≡◌, ◌⊎◌, ⊤, ℕ, ◌+◌, ◌≤◌, ◌<◌, ◌^◌, List, Option, option_map, option_to_list, Result, Ok, Err}
+use Rattle.std.specs.Prelude.{◌≡◌, ◌⊎◌, ⊤, ℕ, ◌+◌, ◌≤◌, ◌<◌, ◌^◌, List, [], Option, option_map, option_to_list, Result, Ok, Err}
 use Rattle.nor_base.specs.Device.{Ahead}
 use Rattle.nor_job.specs.declared.fault.BuildFault.TheVariants as fault
+use Rattle.norprog_common.specs.declared.faults.FileName.{FileName}
 use Rattle.norprog_common.specs.declared.faults.FileName.TheVariants as file
 use Rattle.norprog_common.specs.declared.faults.Refusal.{Refusal}
 use Rattle.norprog_common.specs.declared.faults.Refusal.TheVariants.{File, Build, BinSize}
 use Rattle.norprog_common.specs.declared.given.HexArgs.{HexArgs}
-use Rattle.norprog_common.specs.FileStore.{FileFacts, Change, MakesNamed, MayMake}
+use Rattle.norprog_common.specs.FileStore.{FileFacts, Change, Lacks, MakesNamed, MayMake}
 use Rattle.norprog_common.specs.Told.{ForAsked, Answers}
 use Rattle.norprog_hex.specs.Converted.{WasConverted, WasBegun, WasCut}
 use Rattle.norprog_hex.specs.Request.{is_well_formed}
-use Rattle.norprog_hex.specs.Served.{BinTask, HexTask, ServesBin, Serves}
+use Rattle.norprog_hex.specs.Served.{BinTask, HexTask, ServesBin, Serves, paths_asked}
 
 -- the last byte is at FFFFFFFFh or below, or one is past it
 abbrev pub Fits : BinTask → Type 0
@@ -37,24 +38,29 @@ pub record IsBegun (t : HexTask) : Type 0 where
   pub after : Option (List ℕ)
   pub begun : WasBegun t.bin.at t.bin.ahead t.begun after
 
--- why what was asked for isn't written. That the file fits is known before an output is made
-abbrev pub RefusesHex : FileFacts → (BinTask → Type 0) → (HexTask → Type 0) → Refusal → Type 0
-RefusesHex files Opened Asked (File file.Bin) = files.lacked file.Bin ⊎ ForAsked HexTask Asked IsBegun
-RefusesHex files Opened Asked (File file.Out) = files.lacked file.Out × ForAsked BinTask Opened Fits
-RefusesHex files Opened Asked BinSize = ForAsked BinTask Opened IsTooLong
-RefusesHex files Opened Asked (Build fault.Memory) = ⊤
-RefusesHex files Opened Asked (Build fault.Write) = ForAsked HexTask Asked IsCut ⊎ ForAsked HexTask Asked (IsWritten (λ held. ⊤))
-RefusesHex files Opened Asked other = ⊥
+-- why what was asked for isn't written
+abbrev pub RefusesHex : (FileName → Type 0) → (BinTask → Type 0) → (HexTask → Type 0) → Refusal → Type 0
+RefusesHex Lacked Opened Asked (File file.Bin) = Lacked file.Bin ⊎ ForAsked HexTask Asked IsBegun
+RefusesHex Lacked Opened Asked (File file.Out) = Lacked file.Out × ForAsked BinTask Opened Fits
+RefusesHex Lacked Opened Asked BinSize = ForAsked BinTask Opened IsTooLong
+RefusesHex Lacked Opened Asked (Build fault.Memory) = ⊤
+RefusesHex Lacked Opened Asked (Build fault.Write) = ForAsked HexTask Asked IsCut ⊎ ForAsked HexTask Asked (IsWritten (λ held. ⊤))
+RefusesHex Lacked Opened Asked other = ⊥
+
+-- that the file fits is known before the output is made: `Nothing` says that nothing was made
+abbrev pub IsUnmade : Type 0 → Refusal → Type 0
+IsUnmade Nothing BinSize = Nothing
+IsUnmade Nothing other = ⊤
 
 -- what `hex` answers to the texts of a command line, where `Made` says which changes it made: status 0 where it was written and has
--- gone out, and just the output was made; or a refusal, and at most that was. It prints nothing else
+-- gone out, and just the output was made; or a refusal, and at most that was, none for a file that is too long. It prints nothing else
 abbrev pub AnswersHex : FileFacts → HexArgs → (List Change → Type 0) → Type 0 → Type 0 → Option (List ℕ) → Option (List ℕ) → ℕ → Type 0
 AnswersHex files given Made Quiet Works told_before told_after status =
     Answers (is_well_formed given)
     ((status ≡ 0) × ForAsked HexTask (Serves files given) (IsWritten files.flushed)
     × MakesNamed files (option_to_list (option_map (λ t. t.now) given.bin)) (option_map (λ t. t.now) given.out) Made × Quiet)
     (MayMake files (option_to_list (option_map (λ t. t.now) given.bin)) (option_map (λ t. t.now) given.out) Made)
-    (RefusesHex files (ServesBin files given) (Serves files given))
+    (λ why. RefusesHex (Lacks files (paths_asked given)) (ServesBin files given) (Serves files given) why × IsUnmade (Made []) why)
     Works told_before told_after status
 
 -- status 0 where the text is whole and the file was flushed as well

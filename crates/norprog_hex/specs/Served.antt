@@ -1,7 +1,9 @@
 -- The work that a command line of `hex` asks for (this project's). `files` is what is known of files by their names.
-use Rattle.std.specs.Prelude.{◌≡◌, ℕ, List, [], ◌∷◌, Option, Some, option_map, option_to_list}
+use Rattle.std.specs.Prelude.{◌≡◌, ℕ, List, [], ◌∷◌, Option, Some, None, option_map, option_to_list}
 use Rattle.nor_base.specs.Device.{Ahead}
 use Rattle.norprog_common.specs.FileStore.{FileFacts, IsMadeApart, Named}
+use Rattle.norprog_common.specs.declared.faults.FileName.{FileName}
+use Rattle.norprog_common.specs.declared.faults.FileName.TheVariants.{Bin, Out}
 use Rattle.norprog_common.specs.declared.given.HexArgs.{HexArgs}
 use Rattle.norprog_hex.specs.declared.request.HexRequest.{HexRequest}
 use Rattle.norprog_hex.specs.Request.{asked_at}
@@ -35,3 +37,16 @@ pub record ServesBin (files : FileFacts) (given : HexArgs) (t : BinTask) : Type 
 pub record Serves (files : FileFacts) (given : HexArgs) (t : HexTask) : Type 0 where
   pub bin : ServesBin files given t.bin
   pub made : Named (λ name. IsMadeApart files (option_to_list (option_map (λ t. t.now) given.bin)) name t.begun) (option_map (λ t. t.now) given.out)
+
+-- the name that each option gives: of the raw image and the output these
+abbrev pub hex_paths : Option (List ℕ) → Option (List ℕ) → FileName → Option (List ℕ)
+hex_paths bin out Bin = bin
+hex_paths bin out Out = out
+hex_paths bin out other = None
+
+-- those of a request, and those that the texts give
+abbrev pub paths_of : HexRequest → FileName → Option (List ℕ)
+paths_of request = hex_paths (Some request.bin.now) (Some request.out.now)
+
+abbrev pub paths_asked : HexArgs → FileName → Option (List ℕ)
+paths_asked given = hex_paths (option_map (λ t. t.now) given.bin) (option_map (λ t. t.now) given.out)

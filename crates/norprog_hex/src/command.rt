@@ -2,11 +2,12 @@
 
 ghost use Rattle.std.specs.Prelude.{◌≡◌, ◌+◌, ◌<◌, ◌≤◌, ◌-◌, ◌^◌, [], ◌∷◌, true, IfOk, IfErr};
 ghost use Rattle.std.specs.Prelude.{Some, option_map, option_to_list};
-ghost use Rattle.norprog_common.specs.FileStore.{Adds, MakesIf};
+ghost use Rattle.norprog_common.specs.FileStore.{Adds, Lacks, MakesIf};
 ghost use Rattle.norprog_common.specs.Told.{ForAsked, OrUsage};
-ghost use Rattle.norprog_hex.specs.Answer.{IsWritten, RefusesHex, AnswersHex, done};
+ghost use Rattle.norprog_hex.specs.Answer.{IsUnmade, IsWritten, RefusesHex, AnswersHex, done};
 ghost use Rattle.norprog_hex.specs.Request.{is_well_formed};
 ghost use Rattle.norprog_hex.specs.Served.{HexTask, IsBinOf, IsTaskOf, ServesBin, Serves};
+ghost use Rattle.norprog_hex.specs.Served.{paths_asked, paths_of};
 
 use crate::convert::write_bin;
 use crate::request::{HexRequest, request_of};
@@ -54,8 +55,11 @@ fn converted_in<S: FileStore>(
         (IsWritten (S.facts store.now).flushed)) }
     ensures asked { IfOk result (λ _. is_well_formed given.entry ≡ true) }
     ensures first { IfErr result (OrUsage (is_well_formed given.entry)
-        (RefusesHex (S.facts store.now) (ServesBin (S.facts store.now) given.entry)
+        (RefusesHex (Lacks (S.facts store.now) (paths_asked given.entry))
+        (ServesBin (S.facts store.now) given.entry)
         (Serves (S.facts store.now) given.entry))) }
+    ensures unmade { IfErr result (IsUnmade
+        (Adds (S.Journal.changes journal.old) (S.Journal.changes journal.new) [])) }
 {
     let request = request_of(given).ok_or(Refusal::Usage)?;
     run_hex(alloc, store, journal, request)
@@ -76,8 +80,11 @@ fn run_hex<S: FileStore>(
         (λ _. ForAsked HexTask (IsTaskOf (S.facts store.now) request.entry)
         (IsWritten (S.facts store.now).flushed)) }
     ensures refused { IfErr result
-        (RefusesHex (S.facts store.now) (IsBinOf (S.facts store.now) request.entry)
+        (RefusesHex (Lacks (S.facts store.now) (paths_of request.entry))
+        (IsBinOf (S.facts store.now) request.entry)
         (IsTaskOf (S.facts store.now) request.entry)) }
+    ensures unmade { IfErr result (IsUnmade
+        (Adds (S.Journal.changes journal.old) (S.Journal.changes journal.new) [])) }
 {
     let (mut bin, place, len) = store.open(request.bin, FileName::Bin)?;
     if len > PAST - u64::from(request.at) {

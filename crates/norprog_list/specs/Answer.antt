@@ -3,14 +3,14 @@ use Rattle.std.specs.Prelude.{◌≡◌, ◌⊎◌, ℕ, List, Option}
 use Rattle.nor_base.specs.Device.{Ahead}
 use Rattle.nor_script.specs.declared.fault.ScriptFault.{ScriptFault}
 use Rattle.nor_script.specs.Stream.{HadText}
-use Rattle.norprog_common.specs.FileStore.{FileFacts}
+use Rattle.norprog_common.specs.FileStore.{FileFacts, Lacks}
 use Rattle.norprog_common.specs.declared.faults.FileName.{FileName}
 use Rattle.norprog_common.specs.declared.faults.Refusal.{Refusal}
 use Rattle.norprog_common.specs.declared.given.ListArgs.{ListArgs}
 use Rattle.norprog_common.specs.Told.{ForAsked, RefusesFor, Answers}
 use Rattle.norprog_list.specs.Listed.{WasCut, WasStopped, WasToldAbove, ListsText, RefusesText}
 use Rattle.norprog_list.specs.Request.{is_well_formed}
-use Rattle.norprog_list.specs.Served.{ListTask, Serves}
+use Rattle.norprog_list.specs.Served.{ListTask, Serves, paths_asked}
 
 -- the listing of the script's text was printed, by that chip
 abbrev pub ListsScript : Option (List ℕ) → Option (List ℕ) → ListTask → Type 0
@@ -48,5 +48,5 @@ AnswersList files given before after Quiet Works told_before told_after status =
     Answers (is_well_formed given)
     ((status ≡ 0) × PrintsListing (Serves files given) before after × Quiet)
     (CutsListing (Serves files given) before after)
-    (RefusesList files.lacked (Serves files given) before after)
+    (RefusesList (Lacks files (paths_asked given)) (Serves files given) before after)
     Works told_before told_after status

@@ -1,9 +1,12 @@
 -- The listing that a command line of `list` asks for (this project's).
-use Rattle.std.specs.Prelude.{◌≡◌, ℕ, List, Some, option_map}
+use Rattle.std.specs.Prelude.{◌≡◌, ℕ, List, Option, Some, None, option_map}
 use Rattle.nor_base.specs.Device.{Ahead}
 use Rattle.nor_job.specs.Task.{Task}
+use Rattle.norprog_common.specs.Chip.{origin_of}
 use Rattle.norprog_common.specs.Setup.{IsSetupTask, ServesSetup}
-use Rattle.norprog_common.specs.FileStore.{FileFacts, IsAheadIn}
+use Rattle.norprog_common.specs.FileStore.{FileFacts, IsAheadIn, tables_name}
+use Rattle.norprog_common.specs.declared.faults.FileName.{FileName}
+use Rattle.norprog_common.specs.declared.faults.FileName.TheVariants.{Sfdp, Script}
 use Rattle.norprog_common.specs.declared.given.ListArgs.{ListArgs}
 use Rattle.norprog_list.specs.declared.request.ListRequest.{ListRequest}
 
@@ -23,3 +26,16 @@ pub record Serves (files : FileFacts) (given : ListArgs) (t : ListTask) : Type 0
   pub name : List ℕ
   pub named : option_map (λ t. t.now) given.script ≡ Some name
   pub script : IsAheadIn files name t.script
+
+-- the name that each option gives: of the tables and the script these
+abbrev pub list_paths : Option (List ℕ) → Option (List ℕ) → FileName → Option (List ℕ)
+list_paths tables script Sfdp = tables
+list_paths tables script Script = script
+list_paths tables script other = None
+
+-- those of a request, and those that the texts give
+abbrev pub paths_of : ListRequest → FileName → Option (List ℕ)
+paths_of request = list_paths (tables_name (origin_of request.setup.chip)) (Some request.script.now)
+
+abbrev pub paths_asked : ListArgs → FileName → Option (List ℕ)
+paths_asked given = list_paths (option_map (λ t. t.now) given.setup.chip.sfdp) (option_map (λ t. t.now) given.script)

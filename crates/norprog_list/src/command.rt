@@ -1,10 +1,11 @@
 //! `list`: from the texts of the command line to the lines of a listing.
 
 ghost use Rattle.std.specs.Prelude.{◌≡◌, ◌<◌, ◌≤◌, ◌-◌, ◌^◌, true, IfOk, IfErr};
+ghost use Rattle.norprog_common.specs.FileStore.{Lacks};
 ghost use Rattle.norprog_common.specs.Told.{OrUsage};
 ghost use Rattle.norprog_list.specs.Answer.{PrintsListing, CutsListing, RefusesList, AnswersList};
 ghost use Rattle.norprog_list.specs.Request.{is_well_formed};
-ghost use Rattle.norprog_list.specs.Served.{IsTaskOf, Serves};
+ghost use Rattle.norprog_list.specs.Served.{paths_asked, paths_of, IsTaskOf, Serves};
 
 use crate::listing::list_script;
 use crate::request::{ListRequest, request_of};
@@ -50,7 +51,8 @@ fn listed_in<S: FileStore, O: ByteOut>(
         (O.held out.new)) }
     ensures asked { IfOk result (λ _. is_well_formed given.entry ≡ true) }
     ensures first { IfErr result
-        (OrUsage (is_well_formed given.entry) (RefusesList (S.facts store.now).lacked
+        (OrUsage (is_well_formed given.entry)
+        (RefusesList (Lacks (S.facts store.now) (paths_asked given.entry))
         (Serves (S.facts store.now) given.entry) (O.held out.old) (O.held out.new))) }
 {
     let request = request_of(given).ok_or(Refusal::Usage)?;
@@ -72,7 +74,8 @@ fn run_list<S: FileStore, O: ByteOut>(
     ensures unprinted { IfErr result
         (λ _. CutsListing (IsTaskOf (S.facts store.now) request.entry) (O.held out.old)
         (O.held out.new)) }
-    ensures refused { IfErr result (RefusesList (S.facts store.now).lacked
+    ensures refused { IfErr result
+        (RefusesList (Lacks (S.facts store.now) (paths_of request.entry))
         (IsTaskOf (S.facts store.now) request.entry) (O.held out.old) (O.held out.new)) }
 {
     let tables = tables_of(alloc, store, request.setup.chip)?;

@@ -60,20 +60,20 @@ parts_of (Ok rest) lines Asked j asked of = tt
 parts_of (Err why) lines Asked j asked (inl none) = inl none
 parts_of (Err why) lines Asked j asked (inr of) = inr (record { it = j; asked = asked; has = of })
 
-pub stops_wider : (Lacked : FileName → Type 0) (A B : Job → Type 0) → ((j : Job) → A j → B j) → (why : Refusal) → StopsTask Lacked A why
-    → StopsTask Lacked B why
-stops_wider Lacked A B wider =
-    refuses_wider Lacked Lacked (OfFault (IsPlanFault A)) (OfFault (IsPlanFault B)) (FailsToDraw A) (FailsToDraw B)
-    (λ name lacks. lacks) (fault_wider (IsPlanFault A) (IsPlanFault B) (λ why of. asked_wider Job A B (StopsPlanOf why) wider of)) (asked_wider Job A B IsUndrawn wider)
+pub stops_wider : (L M : FileName → Type 0) (A B : Job → Type 0) → ((told : FileName) → L told → M told) → ((j : Job) → A j → B j) → (why : Refusal)
+    → StopsTask L A why → StopsTask M B why
+stops_wider L M A B files wider =
+    refuses_wider L M (OfFault (IsPlanFault A)) (OfFault (IsPlanFault B)) (FailsToDraw A) (FailsToDraw B)
+    files (fault_wider (IsPlanFault A) (IsPlanFault B) (λ why of. asked_wider Job A B (StopsPlanOf why) wider of)) (asked_wider Job A B IsUndrawn wider)
 
 -- of strict jobs
-pub asked_wider_stops : (strict : Bool) (Lacked : FileName → Type 0) (A B : Job → Type 0) → ((j : Job) → A j → B j) → (why : Refusal) → StopsAsked strict Lacked A why
-    → StopsAsked strict Lacked B why
-asked_wider_stops strict Lacked A B wider =
+pub asked_wider_stops : (strict : Bool) (L M : FileName → Type 0) (A B : Job → Type 0) → ((told : FileName) → L told → M told) → ((j : Job) → A j → B j) → (why : Refusal)
+    → StopsAsked strict L A why → StopsAsked strict M B why
+asked_wider_stops strict L M A B files wider =
     let filled = filled_wider strict A B wider in
-    refuses_wider Lacked Lacked (OrEmpty strict A (OfFault (IsPlanFault (Filled strict A)))) (OrEmpty strict B (OfFault (IsPlanFault (Filled strict B))))
+    refuses_wider L M (OrEmpty strict A (OfFault (IsPlanFault (Filled strict A)))) (OrEmpty strict B (OfFault (IsPlanFault (Filled strict B))))
     (FailsToDraw (Filled strict A)) (FailsToDraw (Filled strict B))
-    (λ name lacks. lacks)
+    files
     (empty_wider strict A B (OfFault (IsPlanFault (Filled strict A))) (OfFault (IsPlanFault (Filled strict B))) wider
     (fault_wider (IsPlanFault (Filled strict A)) (IsPlanFault (Filled strict B)) (λ why of. asked_wider Job (Filled strict A) (Filled strict B) (StopsPlanOf why) filled of)))
     (asked_wider Job (Filled strict A) (Filled strict B) IsUndrawn filled)
@@ -162,9 +162,10 @@ outline_stops Lacked (Err why) j map behind begun lines report none there planne
   has = (rw there output.0, lines, report, lines_in j.task j.len j.content behind begun lines report none planned);
 }))
 
-pub stops_for : {V : Type 0} (Lacked : FileName → Type 0) (r : Result V Refusal) (Asked : Job → Type 0) (j : Job) → Asked j → IfErr r (StopsTask Lacked (Is j)) → IfErr r (StopsTask Lacked Asked)
-stops_for Lacked (Ok x) Asked j of stops = tt
-stops_for Lacked (Err why) Asked j of stops = stops_wider Lacked (Is j) Asked (of_one Asked j of) why stops
+pub stops_for : {V : Type 0} (L M : FileName → Type 0) (r : Result V Refusal) (Asked : Job → Type 0) (j : Job) → ((told : FileName) → L told → M told) → Asked j
+    → IfErr r (StopsTask L (Is j)) → IfErr r (StopsTask M Asked)
+stops_for L M (Ok x) Asked j files of stops = tt
+stops_for L M (Err why) Asked j files of stops = stops_wider L M (Is j) Asked files (of_one Asked j of) why stops
 
 told_wider : (Sent : Option (List ℕ) → Type 0) (shows : Shows) (A B : Job → Type 0) → ((j : Job) → A j → B j) → (lines : List ℕ)
     → (lines ≡ []) ⊎ ForAsked Job A (IsPart lines) → (lines ≡ []) ⊎ ForAsked Job B (IsTold Sent shows lines)

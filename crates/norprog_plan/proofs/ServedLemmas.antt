@@ -1,15 +1,16 @@
 -- The job of a request is the one that the texts ask for.
 use Rattle.std.proofs.Common.{◌≡◌, ◌∙◌, subst, Bool, refl, option_map, Option, Some, IfSome}
-use Rattle.norprog_common.specs.FileStore.{FileFacts}
+use Rattle.norprog_common.specs.FileStore.{FileFacts, Lacks}
 use Rattle.norprog_common.specs.declared.given.PlanArgs.{PlanArgs}
 use Rattle.norprog_common.specs.declared.request.Request.{Request}
 use Rattle.norprog_common.specs.Request.{AsksFor}
-use Rattle.norprog_common.specs.Served.{Job, IsJobOf}
+use Rattle.norprog_common.specs.Served.{Job, IsJobOf, map_path, paths_asked, paths_of}
 use Rattle.norprog_common.specs.Strict.{Filled}
 use Rattle.norprog_common.specs.declared.faults.Refusal.{Refusal}
 use Rattle.norprog_plan.specs.Answer.{StopsAsked}
 use Rattle.norprog_plan.proofs.AnswerLemmas.{asked_wider_stops}
 use Rattle.norprog_plan.specs.Served.{ServesPlan}
+use Rattle.norprog_common.proofs.LackedLemmas.{lacks_same, paths_are}
 use Rattle.norprog_common.proofs.ServedLemmas.{serves, asks_of}
 
 pub plan_serves : (files : FileFacts) (given : PlanArgs) (o : Option Request) (request : Request) → o ≡ Some request → IfSome o (AsksFor given.job)
@@ -22,9 +23,13 @@ plan_filled files given o request some asks j of =
     (plan_serves files given o request some asks j of.0, λ strict. of.1 ((asks_of given.job o request some asks).strict ∙ strict))
 
 pub plan_stops : (files : FileFacts) (given : PlanArgs) (o : Option Request) (request : Request) → o ≡ Some request → IfSome o (AsksFor given.job)
-    → (why : Refusal) → StopsAsked request.strict files.lacked (IsJobOf files request (option_map (λ t. t.now) given.map)) why
-    → StopsAsked given.job.strict files.lacked (ServesPlan files given) why
+    → (why : Refusal)
+    → StopsAsked request.strict (Lacks files (paths_of request (map_path (option_map (λ t. t.now) given.map)))) (IsJobOf files request (option_map (λ t. t.now) given.map)) why
+    → StopsAsked given.job.strict (Lacks files (paths_asked given.job (map_path (option_map (λ t. t.now) given.map)))) (ServesPlan files given) why
 plan_stops files given o request some asks why of =
     let map = option_map (λ t. t.now) given.map in
-    asked_wider_stops given.job.strict files.lacked (IsJobOf files request map) (ServesPlan files given) (plan_serves files given o request some asks) why
-    (subst (λ (strict : Bool). StopsAsked strict files.lacked (IsJobOf files request map) why) (asks_of given.job o request some asks).strict of)
+    let Lacked = Lacks files (paths_of request (map_path map)) in
+    asked_wider_stops given.job.strict Lacked (Lacks files (paths_asked given.job (map_path map))) (IsJobOf files request map) (ServesPlan files given)
+    (lacks_same files (paths_of request (map_path map)) (paths_asked given.job (map_path map)) (paths_are given.job request (map_path map) (asks_of given.job o request some asks)))
+    (plan_serves files given o request some asks) why
+    (subst (λ (strict : Bool). StopsAsked strict Lacked (IsJobOf files request map) why) (asks_of given.job o request some asks).strict of)

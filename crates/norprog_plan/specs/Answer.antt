@@ -27,9 +27,9 @@ use Rattle.norprog_common.specs.declared.faults.FileName.{FileName}
 use Rattle.norprog_common.specs.declared.faults.Refusal.{Refusal}
 use Rattle.norprog_common.specs.declared.faults.Refusal.TheVariants.{Build}
 use Rattle.norprog_common.specs.declared.given.PlanArgs.{PlanArgs}
-use Rattle.norprog_common.specs.FileStore.{FileFacts, Change}
+use Rattle.norprog_common.specs.FileStore.{FileFacts, Change, Lacks}
 use Rattle.norprog_common.specs.Told.{ForAsked, OfFault, RefusesFor, Answers}
-use Rattle.norprog_common.specs.Served.{Job, MakesFor, MayMakeFor}
+use Rattle.norprog_common.specs.Served.{Job, MakesFor, MayMakeFor, map_path, paths_asked}
 use Rattle.norprog_common.specs.Strict.{Filled, OrEmpty}
 use Rattle.norprog_plan.specs.declared.outline.Shows.{Shows}
 use Rattle.norprog_plan.specs.Regions.{EndsWith}
@@ -184,5 +184,6 @@ AnswersPlan files given Made before after Quiet Works told_before told_after sta
     × MakesFor files given.job (option_map (λ t. t.now) given.map) Made × Quiet)
     (CutsPlan files.flushed (shows_of given) (Filled given.job.strict (ServesPlan files given)) before after
     × MayMakeFor files given.job (option_map (λ t. t.now) given.map) Made)
-    (RefusesPlan given.job.strict files.lacked files.flushed (shows_of given) (ServesPlan files given) before after)
+    (RefusesPlan given.job.strict (Lacks files (paths_asked given.job (map_path (option_map (λ t. t.now) given.map)))) files.flushed (shows_of given)
+    (ServesPlan files given) before after)
     Works told_before told_after status

@@ -8,13 +8,14 @@ ghost use Rattle.nor_base.specs.Device.{Cuts};
 ghost use Rattle.nor_job.specs.declared.fault.BuildFault.TheVariants.{Write};
 ghost use Rattle.norprog_common.specs.declared.faults.Refusal.TheVariants.{Build};
 ghost use Rattle.norprog_common.specs.Files.{TellsFile};
-ghost use Rattle.norprog_common.specs.FileStore.{Adds, IsMadeApart, MakesIf, WhereNamed};
+ghost use Rattle.norprog_common.specs.FileStore.{Adds, IsMadeApart, Lacks, MakesIf, WhereNamed};
 ghost use Rattle.norprog_common.specs.Strict.{Filled};
 ghost use Rattle.norprog_common.specs.Told.{ForAsked, OrUsage};
 ghost use Rattle.norprog_plan.specs.Served.{asks_plan, shows_of, ServesPlan};
 ghost use Rattle.norprog_plan.specs.Answer.{IsPart, IsWhole, StopsAsked, PrintsPlan, CutsPlan};
 ghost use Rattle.norprog_plan.specs.Answer.{RefusesPlan, AnswersPlan};
 ghost use Rattle.norprog_common.specs.Served.{Job, IsJobOf, AreGiven, held_in, input_files_of};
+ghost use Rattle.norprog_common.specs.Served.{map_path, paths_asked, paths_of};
 ghost use Rattle.norprog_common.specs.Served.{MakesFor, MayMakeFor};
 
 use crate::outline::{Outline, Shows, outline_job};
@@ -77,7 +78,8 @@ fn report_plan<S: FileStore, O: ByteOut>(
         (O.held out.old) (O.held out.new)) }
     ensures first { IfErr result
         (OrUsage (asks_plan given.entry)
-        (RefusesPlan given.entry.job.strict (S.facts store.now).lacked
+        (RefusesPlan given.entry.job.strict (Lacks (S.facts store.now)
+        (paths_asked given.entry.job (map_path (option_map (λ t. t.now) given.entry.map))))
         (S.facts store.now).flushed (shows_of given.entry)
         (ServesPlan (S.facts store.now) given.entry) (O.held out.old) (O.held out.new))) }
 {
@@ -160,7 +162,9 @@ fn run_plan<S: FileStore>(
         ⊎ ForAsked Job (Filled request.now.strict
         (IsJobOf (S.facts store.now) request.now (option_map (λ t. t.now) map.entry)))
         (IsPart result.lines.items)) }
-    ensures refused { IfErr result.rest (StopsAsked request.now.strict (S.facts store.now).lacked
+    ensures refused { IfErr result.rest (StopsAsked request.now.strict
+        (Lacks (S.facts store.now)
+        (paths_of request.now (map_path (option_map (λ t. t.now) map.entry))))
         (IsJobOf (S.facts store.now) request.now (option_map (λ t. t.now) map.entry))) }
 {
     match open_files(alloc, store, journal, request, map) {
@@ -214,7 +218,8 @@ fn open_files<S: FileStore>(
         (option_map (λ t. t.now) map.entry) (option_map S.Output.held files.map)) }
     ensures fresh { IfOk result (λ files. (S.Input.count files.content ≡ 0)
         × IfSome files.map (λ file. S.Output.count file ≡ 0)) }
-    ensures lacked { IfErr result (TellsFile (S.facts store.now).lacked) }
+    ensures lacked { IfErr result (TellsFile (Lacks (S.facts store.now)
+        (paths_of request.now (map_path (option_map (λ t. t.now) map.entry))))) }
 {
     let mut places = Vec::new(alloc);
     let (texts, content, len) = open_job(alloc, store, request, &mut places)?;

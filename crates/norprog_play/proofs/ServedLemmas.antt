@@ -1,5 +1,5 @@
 -- The play that a request has is the one that its texts ask for.
-use Rattle.std.proofs.Common.{◌≡◌, ◌+◌, arith, inl, inr, option_map, Some, ◌∙◌, ap, Bool, refl, sym, subst, List, [], ℕ, true, false, Result, Ok, Err, IfOk, IfErr}
+use Rattle.std.proofs.Common.{◌≡◌, ◌+◌, arith, inl, inr, option_map, Option, Some, ◌∙◌, ap, Bool, refl, sym, subst, List, [], ℕ, true, Result, Ok, Err, IfOk, IfErr}
 use Rattle.std.specs.Prelude.{MatchResult}
 use Rattle.nor_base.specs.declared.meaning.Part.{Part}
 use Rattle.nor_base.specs.declared.meaning.Start.{Start}
@@ -12,14 +12,15 @@ use Rattle.nor_job.specs.declared.fault.BuildFault.TheVariants as fault
 use Rattle.norprog_common.specs.declared.faults.FileName.{FileName}
 use Rattle.norprog_common.specs.declared.faults.FileName.TheVariants as file
 use Rattle.norprog_common.specs.declared.faults.Refusal.{Refusal}
-use Rattle.norprog_common.specs.declared.faults.Refusal.TheVariants.{Usage, File, Build}
+use Rattle.norprog_common.specs.declared.faults.Refusal.TheVariants.{File, Build}
 use Rattle.norprog_common.specs.declared.given.PlayArgs.{PlayArgs}
 use Rattle.norprog_common.specs.Chip.{origin_of}
-use Rattle.norprog_common.specs.Files.{TellsFile}
+use Rattle.norprog_common.specs.Files.{RefusesFile, TellsFile}
 use Rattle.norprog_common.specs.Setup.{setup_task}
-use Rattle.norprog_common.specs.FileStore.{AreTables, Change, FileFacts, IsAheadIn, Named}
+use Rattle.norprog_common.specs.FileStore.{AreTables, Change, FileFacts, IsAheadIn, Lacks, LacksNamed, Named}
 use Rattle.norprog_common.specs.Content.{of_reader}
 use Rattle.norprog_common.specs.Reading.{GivesSome, HasFailed}
+use Rattle.norprog_common.proofs.LackedLemmas.{lacks_named, lacks_same, tables_named}
 use Rattle.norprog_common.proofs.ToldLemmas.{asked_wider, refuses_wider, by_fault, by_files, or_usage}
 use Rattle.norprog_play.specs.declared.ending.Ending.{Ending}
 use Rattle.norprog_play.specs.declared.request.PlayRequest.{PlayRequest}
@@ -29,7 +30,7 @@ use Rattle.norprog_play.specs.Answer.{Blames, IsEndingOf, IsEnding, IsHaltOf, Is
 use Rattle.norprog_play.specs.Job.{IsReady, RefusesJob, of_script}
 use Rattle.norprog_play.specs.Played.{Ends, StopsPlay}
 use Rattle.norprog_play.specs.Request.{is_well_formed, AsksFor}
-use Rattle.norprog_play.specs.Served.{PlayTask, IsTaskOf, Serves, expectation}
+use Rattle.norprog_play.specs.Served.{PlayTask, IsTaskOf, Serves, expectation, paths_asked, paths_of}
 use Rattle.norprog_play.specs.Expected.{Expectation}
 use Rattle.norprog_play.specs.Tables.{tables_of}
 
@@ -55,12 +56,20 @@ module _ (files : FileFacts) (Failed : Ahead → Type 0) (Made : List Change →
   halt_asked : (why : Unplayed) → IsHalt files Made (IsTaskOf files request) why → IsHalt files Made (Serves files given) why
   halt_asked why of = asked_wider PlayTask (IsTaskOf files request) (Serves files given) (IsHaltOf files Made why) (serves files given request asks) of
 
-  refusal_asked : (why : Refusal) → RefusesPlay files.lacked Failed (IsTaskOf files request) why → RefusesPlay files.lacked Failed (Serves files given) why
+  same : Path (FileName → Option (List ℕ)) (paths_of request) (paths_asked given)
+  same =
+      let tables = tables_named (option_map (λ t. t.now) given.setup.chip.sfdp) (option_map (λ t. t.now) given.setup.chip.uniform)
+      (option_map (λ t. t.now) given.setup.chip.bits) (origin_of request.setup.chip) asks.setup.chip in
+      rw (asks.content, asks.script, tables) refl
+
+  refusal_asked : (why : Refusal) → RefusesPlay (Lacks files (paths_of request)) Failed (IsTaskOf files request) why
+      → RefusesPlay (Lacks files (paths_asked given)) Failed (Serves files given) why
   refusal_asked why of =
-      refuses_wider files.lacked files.lacked (IsPlayFault Failed (IsTaskOf files request)) (IsPlayFault Failed (Serves files given)) ⊥ ⊥ (λ name lacks. lacks)
+      refuses_wider (Lacks files (paths_of request)) (Lacks files (paths_asked given)) (IsPlayFault Failed (IsTaskOf files request)) (IsPlayFault Failed (Serves files given)) ⊥ ⊥
+      (lacks_same files (paths_of request) (paths_asked given) same)
       (λ why of. asked_wider PlayTask (IsTaskOf files request) (Serves files given) (IsStopOf Failed why) (serves files given request asks) of) (λ none. none) why of
 
-  pub refusals_asked : (r : Result Ending Unplayed) → is_well_formed given ≡ true → IfErr r (IsUnplayed files Failed Made (IsTaskOf files request))
+  pub refusals_asked : (r : Result Ending Unplayed) → is_well_formed given ≡ true → IfErr r (IsUnplayed files (paths_of request) Failed Made (IsTaskOf files request))
       → IfErr r (RefusesToPlay files Failed Made given)
   refusals_asked (Ok ending) formed of = tt
   refusals_asked (Err (Refused why)) formed (inl of) = inl (or_usage _ _ _ formed (refusal_asked why of.0), of.1)
@@ -68,9 +77,13 @@ module _ (files : FileFacts) (Failed : Ahead → Type 0) (Made : List Change →
   refusals_asked (Err (Device why)) formed of = (formed, halt_asked (Device why) of)
 
 -- a file that couldn't be used, before any device was opened
-pub lacked_refused : (files : FileFacts) (Failed : Ahead → Type 0) (Made : List Change → Type 0) (Asked : PlayTask → Type 0) (why : Refusal) → TellsFile files.lacked why → Made []
-    → IsUnplayed files Failed Made Asked (Refused why)
-lacked_refused files Failed Made Asked why lacks none = inl (by_files files.lacked files.lacked (IsPlayFault Failed Asked) ⊥ why (λ name lacks. lacks) lacks, none)
+pub lacked_refused : (files : FileFacts) (paths : FileName → Option (List ℕ)) (Failed : Ahead → Type 0) (Made : List Change → Type 0) (Asked : PlayTask → Type 0)
+    (name : FileName) (named : Option (List ℕ)) (why : Refusal) → paths name ≡ named → RefusesFile name why → TellsFile (LacksNamed files named) why → Made []
+    → IsUnplayed files paths Failed Made Asked (Refused why)
+lacked_refused files paths Failed Made Asked name named why at refused lacks none = inl (
+  by_files (Lacks files paths) (Lacks files paths) (IsPlayFault Failed Asked) ⊥ why (λ told lacks. lacks) (lacks_named files paths name named why at refused lacks),
+  none,
+)
 
 -- what is blamed has failed
 module _ {F : Type 0} (ahead : F → Ahead) (count : F → ℕ) (script script' content content' : F) (t : Task) (len : ℕ) where
@@ -108,9 +121,9 @@ module _ (files : FileFacts) (request : PlayRequest) (tables : List ℕ) (t : Ta
   asked = record { chip = record { tables = tables; gave = tables_gave; task = same }; script = script_opened; content = opened; device = refl; limit = refl; trusted = refl }
 
   pub no_job : (Failed : Ahead → Type 0) (Made : List Change → Type 0) (rest after : Ahead) (why : Refusal) → RefusesJob t script rest len before after why → Blames Failed script before why → Made []
-      → IsUnplayed files Failed Made (IsTaskOf files request) (Refused why)
+      → IsUnplayed files (paths_of request) Failed Made (IsTaskOf files request) (Refused why)
   no_job Failed Made rest after why refused blamed none = inl (
-    by_fault files.lacked (IsPlayFault Failed (IsTaskOf files request)) _ why (record {
+    by_fault (Lacks files (paths_of request)) (IsPlayFault Failed (IsTaskOf files request)) _ why (record {
       it = task;
       asked = asked;
       has = record { rest = rest; after = after; refused = refused; blamed = blamed };
@@ -155,7 +168,7 @@ module _ (files : FileFacts) (request : PlayRequest) (tables : List ℕ) (t : Ta
 
     pub was_stopped : (r : Result Ending Unplayed)
         → MatchResult r (Ends files request.device.now Made request.limit x m content steps) (StopsPlay files request.device.now Made m x.start content steps)
-        → IfErr r (IsUnplayed files Failed Made (IsTaskOf files request))
+        → IfErr r (IsUnplayed files (paths_of request) Failed Made (IsTaskOf files request))
     was_stopped (Ok ending) is = tt
     was_stopped (Err (Refused why)) is = inr (halted (Refused why) is)
     was_stopped (Err (Device why)) is = halted (Device why) is

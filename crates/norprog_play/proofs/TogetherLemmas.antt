@@ -1,5 +1,5 @@
 -- Steps that the chip in memory does first, and then the device, all at once.
-use Rattle.std.proofs.Common.{◌≡◌, ℕ, ◌+◌, ◌-◌, ◌<◌, ◌≤◌, ◌⊎◌, inl, inr, Bool, true, false, if◌then◌else◌, List, [], ◌∷◌, ◌++◌, take, drop, length, get_or, Option, Some, None, Result, Ok, Err, zero, suc, refl, sym, ◌∙◌, ap, subst, arith, length-append, length-drop}
+use Rattle.std.proofs.Common.{◌≡◌, ℕ, ◌+◌, ◌-◌, ◌<◌, ◌≤◌, ◌⊎◌, inl, inr, Bool, true, false, if◌then◌else◌, List, [], ◌∷◌, ◌++◌, take, drop, length, get_or, Option, Some, None, Result, Ok, Err, suc, refl, sym, ◌∙◌, ap, subst, arith, length-append, length-drop}
 use Rattle.std.proofs.Math.Nat.{min-le_left}
 use Rattle.std.proofs.Math.Seq.{get_or-append_seam}
 use Rattle.std.proofs.lemmas.List.{append_assoc, append-nil, nil_from_length, take_all, take-append-drop, take-append-le, length-take, length-take-le}
@@ -32,7 +32,7 @@ use Rattle.nor_serprog.specs.Follow.{Follows, Operates}
 use Rattle.nor_serprog.specs.Row.{CutsRow, HasHalted, IsRow, StopsWithin}
 use Rattle.norprog_failure.specs.declared.failure.Failure.{Failure}
 use Rattle.norprog_failure.specs.Reported.{FailsAs}
-use Rattle.norprog_play.specs.Moment.{Moment, IsTaken, Does, DoesAll, StopsAt, StopsFollowing, StopsStep}
+use Rattle.norprog_play.specs.Moment.{Moment, IsTaken, Does, DoesAll, StopsAt, StopsStep}
 use Rattle.norprog_play.specs.Together.{AreTaken, GivesExpected, IsPlain, MayGoTogether, StopsAlone}
 use Rattle.norprog_play.proofs.FollowedLemmas.{Goes, GoesOn}
 use Rattle.norprog_play.proofs.TakenLemmas.{goes_on}

@@ -13,7 +13,7 @@ use Rattle.norprog_common.specs.declared.faults.FileName.TheVariants as file
 use Rattle.norprog_common.specs.declared.faults.Refusal.{Refusal}
 use Rattle.norprog_common.specs.declared.faults.Refusal.TheVariants.{File, Build}
 use Rattle.norprog_common.specs.declared.given.PlayArgs.{PlayArgs}
-use Rattle.norprog_common.specs.FileStore.{FileFacts, Change}
+use Rattle.norprog_common.specs.FileStore.{FileFacts, Change, Lacks}
 use Rattle.norprog_common.specs.Told.{ForAsked, RefusesFor, OrUsage, TellsOf}
 use Rattle.norprog_play.specs.declared.ending.Ending.{Ending}
 use Rattle.norprog_play.specs.declared.unplayed.Unplayed.{Unplayed}
@@ -21,7 +21,7 @@ use Rattle.norprog_play.specs.declared.unplayed.Unplayed.TheVariants.{Refused, D
 use Rattle.norprog_play.specs.Job.{IsReady, RefusesJob}
 use Rattle.norprog_play.specs.Played.{Ends, StopsPlay}
 use Rattle.norprog_play.specs.Request.{is_well_formed}
-use Rattle.norprog_play.specs.Served.{PlayTask, Serves, expectation}
+use Rattle.norprog_play.specs.Served.{PlayTask, Serves, expectation, paths_asked}
 use Rattle.norprog_play.specs.State.{ReportsEnding}
 
 -- the script's steps, on that chip with that content, ended so; `Made` says which changes were made
@@ -70,14 +70,16 @@ pub record IsHaltOf (files : FileFacts) (Made : List Change → Type 0) (why : U
 abbrev pub IsHalt : FileFacts → (List Change → Type 0) → (PlayTask → Type 0) → Unplayed → Type 0
 IsHalt files Made Asked why = ForAsked PlayTask Asked (IsHaltOf files Made why)
 
-abbrev pub IsUnplayed : FileFacts → (Ahead → Type 0) → (List Change → Type 0) → (PlayTask → Type 0) → Unplayed → Type 0
-IsUnplayed files Failed Made Asked (Refused why) = (RefusesPlay files.lacked Failed Asked why × Made []) ⊎ IsHalt files Made Asked (Refused why)
-IsUnplayed files Failed Made Asked (Device why) = IsHalt files Made Asked (Device why)
+-- why a play that was asked for has no ending; `paths` has the name that each option gives of a file that is opened before the device
+abbrev pub IsUnplayed : FileFacts → (FileName → Option (List ℕ)) → (Ahead → Type 0) → (List Change → Type 0) → (PlayTask → Type 0) → Unplayed → Type 0
+IsUnplayed files paths Failed Made Asked (Refused why) =
+    (RefusesPlay (Lacks files paths) Failed Asked why × Made []) ⊎ IsHalt files Made Asked (Refused why)
+IsUnplayed files paths Failed Made Asked (Device why) = IsHalt files Made Asked (Device why)
 
 -- why what texts ask for isn't played: usage where they ask for nothing
 abbrev pub RefusesToPlay : FileFacts → (Ahead → Type 0) → (List Change → Type 0) → PlayArgs → Unplayed → Type 0
 RefusesToPlay files Failed Made given (Refused why) =
-    (OrUsage (is_well_formed given) (RefusesPlay files.lacked Failed (Serves files given)) why × Made [])
+    (OrUsage (is_well_formed given) (RefusesPlay (Lacks files (paths_asked given)) Failed (Serves files given)) why × Made [])
     ⊎ ((is_well_formed given ≡ true) × IsHalt files Made (Serves files given) (Refused why))
 RefusesToPlay files Failed Made given (Device why) = (is_well_formed given ≡ true) × IsHalt files Made (Serves files given) (Device why)
 

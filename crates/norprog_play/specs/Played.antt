@@ -8,9 +8,8 @@ use Rattle.norprog_device.specs.declared.fault.DeviceFault.{DeviceFault}
 use Rattle.nor_serprog.specs.declared.limits.Limits.{Limits}
 use Rattle.nor_job.specs.declared.fault.BuildFault.TheVariants.{Memory}
 use Rattle.norprog_common.specs.declared.faults.Refusal.TheVariants.{Build}
-use Rattle.norprog_common.specs.Files.{TellsFile}
 use Rattle.norprog_common.specs.FileStore.{FileFacts, Change, Opened as Opening}
-use Rattle.norprog_device.specs.Opened.{IsUntouched}
+use Rattle.norprog_device.specs.Opened.{IsUntouched, LacksDevice}
 use Rattle.norprog_play.specs.declared.ending.Ending.{Ending}
 use Rattle.norprog_play.specs.declared.unplayed.Unplayed.{Unplayed}
 use Rattle.norprog_play.specs.declared.unplayed.Unplayed.TheVariants.{Refused, Device}
@@ -73,4 +72,4 @@ EndsForMemory files name Made m start content steps = (limits : Limits) × HasGr
 abbrev pub StopsPlay : FileFacts → List ℕ → (List Change → Type 0) → Parameters → Start → List ℕ → List Step → Unplayed → Type 0
 StopsPlay files name Made m start content steps (Device why) = EndsGreeting files name Made m start content steps why
 StopsPlay files name Made m start content steps (Refused why) =
-    (TellsFile files.lacked why × IsUntouched files name Made why) ⊎ ((why ≡ Build Memory) × EndsForMemory files name Made m start content steps)
+    (LacksDevice files name why × IsUntouched files name Made why) ⊎ ((why ≡ Build Memory) × EndsForMemory files name Made m start content steps)

@@ -1,13 +1,16 @@
 -- The play that a command line of `play` asks for (this project's). `files` is what is known of files by their names.
-use Rattle.std.specs.Prelude.{◌≡◌, ℕ, Bool, List, Some, option_map}
+use Rattle.std.specs.Prelude.{◌≡◌, ℕ, Bool, List, Option, Some, None, option_map}
 use Rattle.nor_base.specs.Device.{Ahead}
 use Rattle.nor_job.specs.Status.{start_of}
 use Rattle.nor_job.specs.Task.{Task}
 use Rattle.norprog_play.specs.Expected.{Expectation}
 use Rattle.norprog_play.specs.Tables.{tables_of}
+use Rattle.norprog_common.specs.Chip.{origin_of}
+use Rattle.norprog_common.specs.declared.faults.FileName.{FileName}
+use Rattle.norprog_common.specs.declared.faults.FileName.TheVariants as file
 use Rattle.norprog_common.specs.declared.given.PlayArgs.{PlayArgs}
 use Rattle.norprog_common.specs.Setup.{IsSetupTask, ServesSetup}
-use Rattle.norprog_common.specs.FileStore.{FileFacts, IsAheadIn, Named}
+use Rattle.norprog_common.specs.FileStore.{FileFacts, IsAheadIn, Named, tables_name}
 use Rattle.norprog_common.specs.Values.{limit_of}
 use Rattle.norprog_play.specs.declared.request.PlayRequest.{PlayRequest}
 use Rattle.norprog_play.specs.Request.{asked_limit}
@@ -44,3 +47,18 @@ pub record Serves (files : FileFacts) (given : PlayArgs) (t : PlayTask) : Type 0
   pub device : option_map (λ t. t.now) given.device ≡ Some t.device
   pub limit : limit_of (asked_limit given) ≡ Some t.limit
   pub trusted : t.trusted ≡ given.trust
+
+-- the name that each option of a play's files gives: of the tables, the content and the script these, of another none
+abbrev pub play_paths : Option (List ℕ) → Option (List ℕ) → Option (List ℕ) → FileName → Option (List ℕ)
+play_paths tables content script file.Sfdp = tables
+play_paths tables content script file.Content = content
+play_paths tables content script file.Script = script
+play_paths tables content script other = None
+
+-- those of a request, and those that the texts give
+abbrev pub paths_of : PlayRequest → FileName → Option (List ℕ)
+paths_of request = play_paths (tables_name (origin_of request.setup.chip)) (Some request.content.now) (Some request.script.now)
+
+abbrev pub paths_asked : PlayArgs → FileName → Option (List ℕ)
+paths_asked given =
+    play_paths (option_map (λ t. t.now) given.setup.chip.sfdp) (option_map (λ t. t.now) given.content) (option_map (λ t. t.now) given.script)

@@ -11,7 +11,7 @@ ghost use Rattle.norprog_play.specs.Early.{MayPlay, chip_with};
 ghost use Rattle.norprog_play.specs.Expected.{expectation_of};
 ghost use Rattle.norprog_play.specs.Played.{Ends, EndsOnDevice, StopsPlay};
 ghost use Rattle.norprog_play.specs.Request.{is_well_formed};
-ghost use Rattle.norprog_play.specs.Served.{IsTaskOf, Serves};
+ghost use Rattle.norprog_play.specs.Served.{paths_of, IsTaskOf, Serves};
 
 use crate::early::{Early, ends_early, widest};
 use crate::ending::Ending;
@@ -94,7 +94,8 @@ fn play_request<S: FileStore, P: ByteOut>(
         (Adds (S.Journal.changes journal.old) (S.Journal.changes journal.new))
         (IsTaskOf (S.facts store.now) request.entry)) }
     ensures refused { IfErr result
-        (IsUnplayed (S.facts store.now) (HasFailed S.Input.ahead S.Input.count)
+        (IsUnplayed (S.facts store.now) (paths_of request.entry)
+        (HasFailed S.Input.ahead S.Input.count)
         (Adds (S.Journal.changes journal.old) (S.Journal.changes journal.new))
         (IsTaskOf (S.facts store.now) request.entry)) }
 {

@@ -2,6 +2,7 @@ mod Room
 mod WayLemmas
 mod ReadLemmas
 mod HarmlessLemmas
+pub mod LackedLemmas
 mod ServedLemmas
 mod LineLemmas
 mod OpenedLemmas

@@ -1,9 +1,12 @@
 -- The reading is of what the texts ask for.
 use Rattle.std.proofs.Common.{◌≡◌, inl, inr, ℕ, true, List, [], ◌∷◌, ◌++◌, Option, Some, option_map, is_some, refl, sym, ◌∙◌, ap, subst}
 use Rattle.norprog_common.specs.declared.faults.Refusal.{Refusal}
+use Rattle.norprog_common.specs.declared.faults.FileName.TheVariants as file
 use Rattle.norprog_common.specs.declared.given.ReadArgs.{ReadArgs}
 use Rattle.norprog_common.specs.Chip.{origin_of}
-use Rattle.norprog_common.specs.FileStore.{FileFacts, Adds, Change, Opened}
+use Rattle.norprog_common.specs.Files.{RefusesFile, TellsFile}
+use Rattle.norprog_common.specs.FileStore.{FileFacts, Adds, Change, Lacks, LacksNamed, Opened}
+use Rattle.norprog_device.specs.Opened.{LacksDevice}
 use Rattle.norprog_read.specs.declared.asked.Ask.{Ask}
 use Rattle.norprog_read.specs.declared.asked.Reading.{Reading}
 use Rattle.norprog_read.specs.declared.fault.Unread.{Unread}
@@ -14,9 +17,32 @@ use Rattle.norprog_read.specs.Made.{creates, opens, IsUnused, MakesFirst}
 use Rattle.norprog_read.specs.Opened.{IsReadOn, IsUnreadOn, StopsNamed}
 use Rattle.norprog_read.specs.Request.{is_well_formed, AsksFor, IsAskOf}
 use Rattle.norprog_read.specs.Saved.{FailsToSave}
-use Rattle.norprog_read.specs.Served.{AreTablesIf, Serves}
+use Rattle.norprog_read.specs.Served.{opened_asked, saved_asked, saved_paths, tables_named, AreTablesIf, Serves}
 use Rattle.norprog_common.proofs.JournalLemmas.{adds_both}
+use Rattle.norprog_common.proofs.LackedLemmas.{lacks_at, lacks_named}
+use Rattle.norprog_read.proofs.LackedLemmas.{tables_are}
 use Rattle.norprog_read.proofs.MadeLemmas.{first_after}
+
+-- ---- a file that couldn't be used by the request is one that the texts name
+module _ (files : FileFacts) (given : ReadArgs) (request : ReadRequest) (asks : AsksFor given request) where
+  device_asked : option_map (λ t. t.now) given.device ≡ Some request.device.now
+  device_asked = ap (λ s. option_map (λ t. t.now) s) asks.device
+
+  device_told : (why : Refusal) → LacksDevice files request.device.now why → TellsFile (Lacks files (opened_asked given)) why
+  device_told why lacks = lacks_at files (opened_asked given) file.Device request.device.now why device_asked lacks.0 lacks.1
+
+  pub tables_told : (Made : List Change → Type 0) → Made [] → is_well_formed given ≡ true → (why : Refusal) → RefusesFile file.Sfdp why
+      → TellsFile (LacksNamed files (tables_named (option_map origin_of request.chip))) why → IsUnread files given Made (Refused why)
+  tables_told Made none formed why refused lacks =
+      let same = sym (tables_are given.chip (option_map origin_of request.chip) asks.chip) in
+      let told : RefusesReading files given Made why = inl (
+        lacks_named files (opened_asked given) file.Sfdp (tables_named (option_map origin_of request.chip)) why same refused lacks,
+        subst (λ (device : Option (List ℕ)). IsUnused files device Made why) (sym device_asked) (inl none),
+      ) in rw formed told
+
+  output_told : (why : Refusal) → FailsToSave (Lacks files (saved_paths (option_map (λ t. t.now) request.tables) (option_map (λ t. t.now) request.out))) why
+      → FailsToSave (Lacks files (saved_asked given)) why
+  output_told why fails = rw (sym asks.tables, sym asks.out) fails
 
 module _ (files : FileFacts) (given : ReadArgs) (request : ReadRequest) (file : List ℕ) (ask : Ask) (asks : AsksFor given request)
     (gave : AreTablesIf files (option_map origin_of request.chip) file) (of : IsAskOf request file ask) where
@@ -45,7 +71,7 @@ module _ (files : FileFacts) (given : ReadArgs) (request : ReadRequest) (file : 
 
   -- the device that is named is that of the request
   named : option_map (λ t. t.now) given.device ≡ Some request.device.now
-  named = ap (λ s. option_map (λ t. t.now) s) asks.device
+  named = device_asked files given request asks
 
   outputs : outputs_of given ≡ creates (option_map (λ t. t.now) request.tables) ++ creates (option_map (λ t. t.now) request.out)
   outputs = rw (asks.tables, asks.out) refl
@@ -63,7 +89,7 @@ module _ (files : FileFacts) (given : ReadArgs) (request : ReadRequest) (file : 
 
     refused : (why : Refusal) → IsUnreadOn files request.device.now Made ask (Refused why) → RefusesReading files given Made why
     refused why (inl untouched) =
-        inl (untouched.0, subst (λ (device : Option (List ℕ)). IsUnused files device Made why) (sym named) untouched.1)
+        inl (device_told files given request asks why untouched.0, subst (λ (device : Option (List ℕ)). IsUnused files device Made why) (sym named) untouched.1)
     refused why (inr on) = inr (inl (stopped (Refused why) on))
 
     module _ (formed : is_well_formed given ≡ true) where
@@ -91,11 +117,12 @@ module _ (files : FileFacts) (given : ReadArgs) (request : ReadRequest) (file : 
       made = adds_both a b c _ (outputs_of given) first (subst (λ (changes : List Change). Adds b c changes) (sym outputs) made);
     }
 
-    pub unsaved : is_well_formed given ≡ true → (why : Refusal) → FailsToSave files.lacked why
+    pub unsaved : is_well_formed given ≡ true → (why : Refusal)
+        → FailsToSave (Lacks files (saved_paths (option_map (λ t. t.now) request.tables) (option_map (λ t. t.now) request.out))) why
         → MakesFirst (creates (option_map (λ t. t.now) request.tables) ++ creates (option_map (λ t. t.now) request.out)) (Adds b c)
         → IsUnread files given (Adds a c) (Refused why)
     unsaved formed why fails made = of_texts (Adds a c) formed why (inr (inr (
-      fails,
+      output_told files given request asks why fails,
       record {
         reading = r;
         is = was_read r on;

@@ -6,7 +6,7 @@ use Rattle.nor_job.specs.declared.fault.BuildFault.TheVariants.{Write}
 use Rattle.norprog_common.specs.declared.faults.Refusal.{Refusal}
 use Rattle.norprog_common.specs.declared.faults.Refusal.TheVariants.{Usage, Build}
 use Rattle.norprog_common.specs.declared.given.ReadArgs.{ReadArgs}
-use Rattle.norprog_common.specs.FileStore.{FileFacts, Change}
+use Rattle.norprog_common.specs.FileStore.{FileFacts, Change, Lacks}
 use Rattle.norprog_common.specs.Files.{TellsFile}
 use Rattle.norprog_common.specs.Lines.{printed}
 use Rattle.norprog_common.specs.Told.{TellsOf}
@@ -22,7 +22,7 @@ use Rattle.norprog_read.specs.Made.{creates, opens, IsUnused, MakesFirst}
 use Rattle.norprog_read.specs.Opened.{IsReadOn, StopsOnDevice}
 use Rattle.norprog_read.specs.Request.{is_well_formed}
 use Rattle.norprog_read.specs.Saved.{FailsToSave, IsSaved}
-use Rattle.norprog_read.specs.Served.{Serves}
+use Rattle.norprog_read.specs.Served.{Serves, opened_asked, saved_asked}
 
 -- the chip behind the device that is named was read so, by what was asked for
 pub record IsReadOf (files : FileFacts) (given : ReadArgs) (r : Reading) : Type 0 where
@@ -67,9 +67,9 @@ pub record IsUnkept (files : FileFacts) (given : ReadArgs) (Made : List Change �
 -- read; or it was read, and an output failed, or memory ran out
 abbrev pub RefusesReading : FileFacts → ReadArgs → (List Change → Type 0) → Refusal → Type 0
 RefusesReading files given Made why =
-    (TellsFile files.lacked why × IsUnused files (option_map (λ t. t.now) given.device) Made why)
+    (TellsFile (Lacks files (opened_asked given)) why × IsUnused files (option_map (λ t. t.now) given.device) Made why)
     ⊎ (IsStopOf files given Made (Refused why)
-    ⊎ (FailsToSave files.lacked why × IsUnkept files given Made))
+    ⊎ (FailsToSave (Lacks files (saved_asked given)) why × IsUnkept files given Made))
 
 -- where the texts ask for none it is usage, and nothing was changed
 abbrev pub RefusesTexts : Bool → FileFacts → ReadArgs → (List Change → Type 0) → Refusal → Type 0

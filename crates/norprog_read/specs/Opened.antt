@@ -4,10 +4,9 @@ use Rattle.nor_base.specs.Device.{Ahead, ahead_of}
 use Rattle.nor_serprog.specs.declared.limits.Limits.{Limits}
 use Rattle.nor_serprog.specs.Greeting.{Greeted}
 use Rattle.nor_serprog.specs.Line.{TestsLine}
-use Rattle.norprog_common.specs.Files.{TellsFile}
 use Rattle.norprog_common.specs.FileStore.{FileFacts, Change, Opened as Opening}
 use Rattle.norprog_device.specs.declared.fault.DeviceFault.TheVariants.{Greet, Line}
-use Rattle.norprog_device.specs.Opened.{IsUntouched, LetsGo}
+use Rattle.norprog_device.specs.Opened.{IsUntouched, LacksDevice, LetsGo}
 use Rattle.norprog_read.specs.declared.asked.Ask.{Ask}
 use Rattle.norprog_read.specs.declared.asked.Reading.{Reading}
 use Rattle.norprog_read.specs.declared.fault.Unread.{Unread}
@@ -99,5 +98,5 @@ StopsNamed files device Made ask why = Made (Opening device ∷ []) × StopsOnDe
 -- why the chip behind it isn't read: it couldn't be opened, or memory ran out before anything was sent; or that
 abbrev pub IsUnreadOn : FileFacts → List ℕ → (List Change → Type 0) → Ask → Unread → Type 0
 IsUnreadOn files device Made ask (Refused why) =
-    (TellsFile files.lacked why × IsUntouched files device Made why) ⊎ StopsNamed files device Made ask (Refused why)
+    (LacksDevice files device why × IsUntouched files device Made why) ⊎ StopsNamed files device Made ask (Refused why)
 IsUnreadOn files device Made ask why = StopsNamed files device Made ask why

@@ -1,7 +1,9 @@
 -- What a command line of `read` asks of a chip (this project's). `files` is what is known of files by their names.
-use Rattle.std.specs.Prelude.{◌≡◌, ⊤, ℕ, List, Option, Some, None, is_some}
+use Rattle.std.specs.Prelude.{◌≡◌, ⊤, ℕ, List, Option, Some, None, option_map, is_some}
 use Rattle.norprog_common.specs.Chip.{Origin}
-use Rattle.norprog_common.specs.FileStore.{FileFacts, AreTables}
+use Rattle.norprog_common.specs.declared.faults.FileName.{FileName}
+use Rattle.norprog_common.specs.declared.faults.FileName.TheVariants as file
+use Rattle.norprog_common.specs.FileStore.{FileFacts, AreTables, tables_name}
 use Rattle.norprog_common.specs.Setup.{family_asked}
 use Rattle.norprog_common.specs.Values.{limit_of, part_of}
 use Rattle.norprog_common.specs.declared.given.ReadArgs.{ReadArgs}
@@ -12,6 +14,30 @@ use Rattle.norprog_read.specs.Request.{asked_bits, asked_limit, named_chip, IsKn
 abbrev pub AreTablesIf : FileFacts → Option Origin → List ℕ → Type 0
 AreTablesIf files (Some origin) file = AreTables files origin file
 AreTablesIf files None file = ⊤
+
+-- the name of that file, where there is one
+abbrev pub tables_named : Option Origin → Option (List ℕ)
+tables_named (Some origin) = tables_name origin
+tables_named None = None
+
+-- the name that each option gives: of the files that are opened, the tables and the device
+abbrev pub opened_paths : Option (List ℕ) → Option (List ℕ) → FileName → Option (List ℕ)
+opened_paths tables device file.Sfdp = tables
+opened_paths tables device file.Device = device
+opened_paths tables device other = None
+
+-- and of the outputs
+abbrev pub saved_paths : Option (List ℕ) → Option (List ℕ) → FileName → Option (List ℕ)
+saved_paths tables out file.Tables = tables
+saved_paths tables out file.Out = out
+saved_paths tables out other = None
+
+-- as the texts give them
+abbrev pub opened_asked : ReadArgs → FileName → Option (List ℕ)
+opened_asked given = opened_paths (option_map (λ t. t.now) given.chip.sfdp) (option_map (λ t. t.now) given.device)
+
+abbrev pub saved_asked : ReadArgs → FileName → Option (List ℕ)
+saved_asked given = saved_paths (option_map (λ t. t.now) given.tables) (option_map (λ t. t.now) given.out)
 
 -- each by the value that its text spells, the tables by the file of their name
 pub record Serves (files : FileFacts) (given : ReadArgs) (ask : Ask) : Type 0 where

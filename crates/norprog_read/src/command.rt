@@ -3,8 +3,9 @@
 ghost use Rattle.std.specs.Prelude.{◌≡◌, ◌≤◌, ◌<◌, ◌-◌, ◌^◌, ◌∷◌, [], ◌++◌, true, option_map};
 ghost use Rattle.std.specs.Prelude.{IfOk, IfErr, MatchResult};
 ghost use Rattle.norprog_common.specs.Chip.{origin_of};
-ghost use Rattle.norprog_common.specs.Files.{TellsFile};
-ghost use Rattle.norprog_common.specs.FileStore.{Adds, Opened};
+ghost use Rattle.norprog_common.specs.declared.faults.FileName.TheVariants.{Sfdp};
+ghost use Rattle.norprog_common.specs.Files.{RefusesFile, TellsFile};
+ghost use Rattle.norprog_common.specs.FileStore.{Adds, Lacks, LacksNamed, Opened};
 ghost use Rattle.norprog_read.specs.Answer.{AnswersRead, AreSavedIf, IsKept, IsUnread};
 ghost use Rattle.norprog_read.specs.Answer.{PrintsReading, Reports};
 ghost use Rattle.norprog_read.specs.Line.{reading_text, unlike_line};
@@ -12,7 +13,7 @@ ghost use Rattle.norprog_read.specs.Made.{creates, MakesFirst};
 ghost use Rattle.norprog_read.specs.Opened.{IsReadOn, IsUnreadOn};
 ghost use Rattle.norprog_read.specs.Request.{is_well_formed};
 ghost use Rattle.norprog_read.specs.Saved.{FailsToSave};
-ghost use Rattle.norprog_read.specs.Served.{AreTablesIf};
+ghost use Rattle.norprog_read.specs.Served.{saved_paths, tables_named, AreTablesIf};
 
 use crate::asked::{Ask, Reading};
 use crate::fault::{Unlike, Unread};
@@ -117,7 +118,10 @@ pub fn file_of<S: FileStore>(
 ) -> Result<Vec<u8>, Refusal>
     ensures file { IfOk result
         (λ file. AreTablesIf (S.facts store.now) (option_map origin_of chip.entry) file.items) }
-    ensures lacked { IfErr result (TellsFile (S.facts store.now).lacked) }
+    ensures refused { IfErr result (RefusesFile Sfdp) }
+    ensures lacked { IfErr result
+        (TellsFile (LacksNamed (S.facts store.now)
+        (tables_named (option_map origin_of chip.entry)))) }
 {
     match chip {
         Some(chip) => tables_of(alloc, store, chip),
@@ -169,7 +173,9 @@ fn save_all<S: FileStore>(
         (λ _. MakesFirst (creates (option_map (λ t. t.now) request.entry.tables)
         ++ creates (option_map (λ t. t.now) request.entry.out))
         (Adds (S.Journal.changes journal.old) (S.Journal.changes journal.new))) }
-    ensures fails { IfErr result (FailsToSave (S.facts store.now).lacked) }
+    ensures fails { IfErr result (FailsToSave (Lacks (S.facts store.now)
+        (saved_paths (option_map (λ t. t.now) request.entry.tables)
+        (option_map (λ t. t.now) request.entry.out)))) }
 {
     let tables = reading.tables.as_slice();
     save_if(
@@ -200,7 +206,9 @@ fn save_if<S: FileStore>(
         (creates (option_map (λ t. t.now) path.entry)))
         (λ _. MakesFirst (creates (option_map (λ t. t.now) path.entry))
         (Adds (S.Journal.changes journal.old) (S.Journal.changes journal.new))) }
-    ensures fails { IfErr result (FailsToSave (S.facts store.now).lacked) }
+    ensures refused { IfErr result (FailsToSave (λ told. told ≡ name)) }
+    ensures lacked { IfErr result
+        (FailsToSave (LacksNamed (S.facts store.now) (option_map (λ t. t.now) path.entry))) }
 {
     match path {
         Some(path) => save(alloc, store, journal, path, name, bytes),

@@ -1,6 +1,6 @@
 //! An output that is made anew.
 
-ghost use Rattle.std.specs.Prelude.{IfOk, IfErr};
+ghost use Rattle.std.specs.Prelude.{◌≡◌, IfOk, IfErr};
 ghost use Rattle.norprog_common.specs.FileStore.{Created, Tries};
 ghost use Rattle.norprog_read.specs.Saved.{FailsToSave, IsSaved};
 
@@ -24,7 +24,8 @@ pub fn save<S: FileStore>(
     ensures saved { IfOk result (λ _. IsSaved (S.facts store.now) path.now bytes.now) }
     ensures journal { Tries (S.Journal.changes journal.old) (S.Journal.changes journal.new)
         (Created path.now) result }
-    ensures fails { IfErr result (FailsToSave (S.facts store.now).lacked) }
+    ensures refused { IfErr result (FailsToSave (λ told. told ≡ name)) }
+    ensures lacked { IfErr result (FailsToSave ((S.facts store.now).lacked path.now)) }
 {
     let mut file = store.create_new(journal, alloc, path, name)?;
     if put_all(&mut file, bytes).is_err() {

@@ -13,7 +13,9 @@ use Rattle.norprog_common.specs.declared.faults.Refusal.TheVariants.{Text, Usage
 use Rattle.norprog_common.specs.Chip.{origin_of}
 use Rattle.norprog_common.specs.Files.{TellsFile}
 use Rattle.norprog_common.specs.Setup.{setup_task}
-use Rattle.norprog_common.specs.FileStore.{FileFacts, Change, Emptied, Adds, Tries, MakesNamed, MayMake, AreTables, GoesOut, IsMadeApart, IsTextIn, Named, Notes, WhereNamed, tables_file}
+use Rattle.norprog_common.specs.FileStore.{FileFacts, Change, Emptied, Adds, Tries, MakesNamed, MayMake, AreTables, GoesOut, IsMadeApart, IsTextIn, Lacks, Named, Notes, WhereNamed, tables_file}
+use Rattle.norprog_common.specs.Served.{out_path}
+use Rattle.norprog_common.proofs.LackedLemmas.{lacks_same, tables_named}
 use Rattle.norprog_common.proofs.StoreLemmas.{made_apart, more_noted, one_noted}
 use Rattle.norprog_common.proofs.JournalLemmas.{adds_none, may_make, output_made}
 use Rattle.norprog_common.specs.Content.{CountsReader, of_reader}
@@ -29,11 +31,18 @@ use Rattle.norprog_run.specs.Play.{WasPlayed}
 use Rattle.norprog_run.specs.Refusals.{RefusesPaged, RefusesPlay}
 use Rattle.norprog_run.specs.Request.{is_well_formed, AsksFor, RefusesGiven}
 use Rattle.norprog_run.specs.Streams.{CountsScript, PlaysStreams, RefusesStreams}
-use Rattle.norprog_run.specs.Served.{PlayTask, play_with, Is, IsMadeFor, IsTaskOf, input_files_of, input_files_asked, FailsScriptOf, MakesFor, MayMakeFor, Serves, ServesScript}
+use Rattle.norprog_run.specs.Served.{PlayTask, play_with, Is, IsMadeFor, IsTaskOf, input_files_of, input_files_asked, paths_of, paths_asked, FailsScriptOf, MakesFor, MayMakeFor, Serves, ServesScript}
 
 -- the files of a request are those that the texts name
 same_inputs : (given : RunArgs) (request : RunRequest) → AsksFor given request → input_files_of request ≡ input_files_asked given (origin_of request.setup.chip)
 same_inputs given request asks = rw (asks.beside.content, asks.beside.script) refl
+
+same_paths : (given : RunArgs) (request : RunRequest) → AsksFor given request → Path (FileName → Option (List ℕ)) (paths_of request) (paths_asked given)
+same_paths given request asks =
+    let chip = given.setup.chip in
+    let tables = tables_named (option_map (λ t. t.now) chip.sfdp) (option_map (λ t. t.now) chip.uniform) (option_map (λ t. t.now) chip.bits)
+    (origin_of request.setup.chip) asks.beside.setup.chip in
+    rw (asks.beside.content, asks.beside.script, asks.beside.out, tables) refl
 
 -- a play of a request that the texts ask for is one that they ask for, and so is its script
 serves : (files : FileFacts) (given : RunArgs) (request : RunRequest) → AsksFor given request → (t : PlayTask) → IsTaskOf files request t → Serves files given t
@@ -107,12 +116,12 @@ module _ (files : FileFacts) (given : RunArgs) (request : RunRequest) (asks : As
       (serves files given request asks) (serves_script files given request asks)
 
   refusal_asked : (F : Ahead → Type 0) (why : Refusal)
-      → RefusesRun (OrScript files.lacked (FailsReading files F request.script.now)) (IsTaskOf files request) (IsTextIn files request.script.now) F why
-      → RefusesRun (OrScript files.lacked (FailsScriptOf files F given)) (Serves files given) (ServesScript files given) F why
-  refusal_asked F = refusal_wider (OrScript files.lacked (FailsReading files F request.script.now)) (OrScript files.lacked (FailsScriptOf files F given))
+      → RefusesRun (OrScript (Lacks files (paths_of request)) (FailsReading files F request.script.now)) (IsTaskOf files request) (IsTextIn files request.script.now) F why
+      → RefusesRun (OrScript (Lacks files (paths_asked given)) (FailsScriptOf files F given)) (Serves files given) (ServesScript files given) F why
+  refusal_asked F = refusal_wider (OrScript (Lacks files (paths_of request)) (FailsReading files F request.script.now)) (OrScript (Lacks files (paths_asked given)) (FailsScriptOf files F given))
       (IsTaskOf files request) (Serves files given) (IsTextIn files request.script.now) (ServesScript files given) F
       (λ name lacks. elim lacks [
-        | inl lacked ↦ inl lacked
+        | inl lacked ↦ inl (lacks_same files (paths_of request) (paths_asked given) (same_paths given request asks) name lacked)
         | inr failed ↦ inr (failed.0, subst (λ s. Named (FailsReading files F) (option_map (λ t. t.now) s)) (sym asks.beside.script) failed.1)
       ])
       (serves files given request asks) (serves_script files given request asks)
@@ -125,7 +134,7 @@ module _ (files : FileFacts) (given : RunArgs) (request : RunRequest) (asks : As
   verdicts_asked Sent (Err why) of = tt
 
   pub refusals_asked : (F : Ahead → Type 0) (r : Result Verdict Refusal) → is_well_formed given ≡ true
-      → IfErr r (RefusesRun (OrScript files.lacked (FailsReading files F request.script.now)) (IsTaskOf files request) (IsTextIn files request.script.now) F)
+      → IfErr r (RefusesRun (OrScript (Lacks files (paths_of request)) (FailsReading files F request.script.now)) (IsTaskOf files request) (IsTextIn files request.script.now) F)
       → IfErr r (RefusesToRun files F given)
   refusals_asked F (Ok verdict) formed of = tt
   refusals_asked F (Err why) formed of = inl (or_usage _ _ why formed (refusal_asked F why of))
@@ -266,6 +275,23 @@ pub made_beside : (files : FileFacts) (request : RunRequest) (path : Bor (List �
     → WhereNamed (IsMadeApart files (input_files_of request)) (option_map (λ t. t.now) request.out) (Some held)
 made_beside files request path none places inputs held asked first all same made =
     rw asked (made_apart files (input_files_of request) path.now none places inputs held first all same made)
+
+-- the one that couldn't be made is the one that its option names
+pub out_lacks : (files : FileFacts) (request : RunRequest) (path : Bor (List ℕ)) → request.out ≡ Some path → (told : FileName)
+    → Lacks files (out_path (Some path.now)) told → Lacks files (paths_of request) told
+out_lacks files request path asked file.Out is = rw asked is
+out_lacks files request path asked file.Hex is = absurd is
+out_lacks files request path asked file.Layout is = absurd is
+out_lacks files request path asked file.Sfdp is = absurd is
+out_lacks files request path asked file.Content is = absurd is
+out_lacks files request path asked file.Script is = absurd is
+out_lacks files request path asked file.Map is = absurd is
+out_lacks files request path asked file.Device is = absurd is
+out_lacks files request path asked file.Bin is = absurd is
+out_lacks files request path asked file.Tables is = absurd is
+out_lacks files request path asked file.Before is = absurd is
+out_lacks files request path asked file.Resume is = absurd is
+out_lacks files request path asked file.Log is = absurd is
 
 -- and nothing else was changed
 pub named_made : (files : FileFacts) (request : RunRequest) (path : Bor (List ℕ)) (none places inputs : List FileId) (before after : Option (List Change)) (r : Result Verdict Refusal)

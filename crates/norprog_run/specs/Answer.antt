@@ -8,14 +8,14 @@ use Rattle.norprog_common.specs.declared.faults.FileName.{FileName}
 use Rattle.norprog_common.specs.declared.faults.Refusal.{Refusal}
 use Rattle.norprog_common.specs.declared.faults.Refusal.TheVariants.{Build}
 use Rattle.norprog_common.specs.declared.given.RunArgs.{RunArgs}
-use Rattle.norprog_common.specs.FileStore.{FileFacts, Change, GoesOut}
+use Rattle.norprog_common.specs.FileStore.{FileFacts, Change, GoesOut, Lacks}
 use Rattle.norprog_common.specs.Told.{ForAsked, RefusesFor, OrScript, OrUsage, TellsOf}
 use Rattle.norprog_run.specs.Request.{is_well_formed}
 use Rattle.norprog_run.specs.declared.request.ChipBehaviour.{ChipBehaviour}
 use Rattle.norprog_run.specs.declared.verdict.Verdict.{Verdict}
 use Rattle.norprog_run.specs.Play.{WasPlayed}
 use Rattle.norprog_run.specs.Refusals.{RefusesPaged, RefusesPlay}
-use Rattle.norprog_run.specs.Served.{PlayTask, Serves, ServesScript, FailsScriptOf, MakesFor, MayMakeFor}
+use Rattle.norprog_run.specs.Served.{PlayTask, Serves, ServesScript, FailsScriptOf, MakesFor, MayMakeFor, paths_asked}
 use Rattle.norprog_run.specs.Verdict.{verdict_line, status_of}
 
 -- a text that is so was played on that chip, on that bench, and this is how it ended
@@ -78,7 +78,7 @@ CutsVerdict Asked Script Sent before after =
 abbrev pub RefusesToRun : FileFacts → (Ahead → Type 0) → RunArgs → Refusal → Type 0
 RefusesToRun files Failed given why =
     OrUsage (is_well_formed given)
-    (RefusesRun (OrScript files.lacked (FailsScriptOf files Failed given)) (Serves files given) (ServesScript files given) Failed) why ⊎ (why ≡ Build Memory)
+    (RefusesRun (OrScript (Lacks files (paths_asked given)) (FailsScriptOf files Failed given)) (Serves files given) (ServesScript files given) Failed) why ⊎ (why ≡ Build Memory)
 
 -- what `run` answers to the texts of a command line, where `Made` says which changes it made, and `Failed` that a reader of the store
 -- that had this ahead has failed: the line of the verdict, whose status it is, after what the chip holds has gone out into the output

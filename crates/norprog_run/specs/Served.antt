@@ -1,14 +1,16 @@
 -- The play that a command line of `run` asks for (this project's). `files` is what is known of files by their names.
-use Rattle.std.specs.Prelude.{◌≡◌, ◌⊎◌, ℕ, List, [], ◌++◌, Option, Some, option_map, option_to_list}
+use Rattle.std.specs.Prelude.{◌≡◌, ◌⊎◌, ℕ, List, [], ◌++◌, Option, Some, None, option_map, option_to_list}
 use Rattle.nor_base.specs.Device.{Ahead}
 use Rattle.nor_chip.specs.Busy.{times_of}
 use Rattle.nor_job.specs.Task.{Task}
+use Rattle.norprog_common.specs.declared.faults.FileName.{FileName}
+use Rattle.norprog_common.specs.declared.faults.FileName.TheVariants.{Sfdp, Content, Script, Out}
 use Rattle.norprog_common.specs.declared.files.FileId.{FileId}
 use Rattle.norprog_common.specs.Chip.{Origin, origin_of}
 use Rattle.norprog_common.specs.Reading.{FailsReading}
 use Rattle.norprog_common.specs.declared.setup.Setup.{Setup}
 use Rattle.norprog_common.specs.Setup.{AsksSetup, IsSetupTask, ServesSetup}
-use Rattle.norprog_common.specs.FileStore.{FileFacts, Change, IsMadeApart, MakesNamed, IsTextIn, Named, WhereNamed, tables_file}
+use Rattle.norprog_common.specs.FileStore.{FileFacts, Change, IsMadeApart, MakesNamed, IsTextIn, Named, WhereNamed, tables_file, tables_name}
 use Rattle.norprog_common.specs.Values.{limit_of, said_number}
 use Rattle.norprog_run.specs.declared.request.ChipBehaviour.{ChipBehaviour}
 use Rattle.norprog_common.specs.declared.given.RunArgs.{RunArgs}
@@ -48,6 +50,24 @@ input_files_of request = input_files (origin_of request.setup.chip) (Some reques
 
 abbrev pub input_files_asked : RunArgs → Origin → List (List ℕ)
 input_files_asked given origin = input_files origin (option_map (λ t. t.now) given.content) (option_map (λ t. t.now) given.script)
+
+-- the name that each option gives: of the tables, the content, the script and the output these
+abbrev pub run_paths : Option (List ℕ) → Option (List ℕ) → Option (List ℕ) → Option (List ℕ) → FileName → Option (List ℕ)
+run_paths tables content script out Sfdp = tables
+run_paths tables content script out Content = content
+run_paths tables content script out Script = script
+run_paths tables content script out Out = out
+run_paths tables content script out other = None
+
+-- those of a request, and those that the texts give
+abbrev pub paths_of : RunRequest → FileName → Option (List ℕ)
+paths_of request =
+    run_paths (tables_name (origin_of request.setup.chip)) (Some request.content.now) (Some request.script.now) (option_map (λ t. t.now) request.out)
+
+abbrev pub paths_asked : RunArgs → FileName → Option (List ℕ)
+paths_asked given =
+    run_paths (option_map (λ t. t.now) given.setup.chip.sfdp) (option_map (λ t. t.now) given.content) (option_map (λ t. t.now) given.script)
+    (option_map (λ t. t.now) given.out)
 
 -- the play of a request: its tables are what their file gave, the content's file was opened, and the output was made, as none of
 -- the files that are read

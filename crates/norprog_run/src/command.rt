@@ -4,15 +4,17 @@ ghost use Rattle.std.specs.Prelude.{◌≡◌, ◌<◌, ◌≤◌, ◌-◌, ◌^
 ghost use Rattle.std.specs.Prelude.{IfErr, MatchResult, option_map};
 ghost use Rattle.std.specs.Io.KnownBytes.{Appends};
 ghost use Rattle.norprog_common.specs.FileStore.{Adds, DoNotFail, Emptied, IsTextIn, IsTextOfFile};
-ghost use Rattle.norprog_common.specs.FileStore.{MakesNamed, MayMake, Tries};
+ghost use Rattle.norprog_common.specs.FileStore.{Lacks, MakesNamed, MayMake, Tries};
 ghost use Rattle.norprog_common.specs.Reading.{FailsReading, FailsScript, HasFailed, IsTextRead};
 ghost use Rattle.norprog_common.specs.declared.faults.FileName.TheVariants.{Script};
+ghost use Rattle.norprog_common.specs.Served.{out_path};
 ghost use Rattle.norprog_common.specs.Told.{RefusesFor, OrScript};
 ghost use Rattle.norprog_run.specs.Answer.{WasPlayedSo, IsPlayFault, IsPlayVerdict, CutsVerdict};
 ghost use Rattle.norprog_run.specs.Answer.{RefusesRun, RefusesToRun, AnswersRun};
 ghost use Rattle.norprog_run.specs.Request.{is_well_formed};
 ghost use Rattle.norprog_run.specs.Served.{play_with, Is, IsMadeFor, IsTaskOf, Serves};
 ghost use Rattle.norprog_run.specs.Served.{ServesScript, MakesFor, MayMakeFor, input_files_of};
+ghost use Rattle.norprog_run.specs.Served.{paths_of};
 ghost use Rattle.norprog_run.specs.Verdict.{verdict_line};
 
 use crate::play::play_script;
@@ -116,8 +118,9 @@ fn play_request<S: FileStore>(
     ensures played { IfOk result (IsPlayVerdict (IsTaskOf (S.facts store.now) request.entry)
         (IsTextIn (S.facts store.now) request.entry.script.now) (S.facts store.now).flushed) }
     ensures refused { IfErr result
-        (RefusesRun (OrScript (S.facts store.now).lacked (FailsReading (S.facts store.now)
-        (HasFailed S.Input.ahead S.Input.count) request.entry.script.now))
+        (RefusesRun (OrScript (Lacks (S.facts store.now) (paths_of request.entry))
+        (FailsReading (S.facts store.now) (HasFailed S.Input.ahead S.Input.count)
+        request.entry.script.now))
         (IsTaskOf (S.facts store.now) request.entry)
         (IsTextIn (S.facts store.now) request.entry.script.now)
         (HasFailed S.Input.ahead S.Input.count)) }
@@ -182,7 +185,8 @@ fn play_to<S: FileStore>(
         (IsMadeFor (S.facts store.now) path.now places.now inputs.now bench
         (S.Input.ahead content.old) len)
         (IsTextOfFile S.Input.ahead script) (S.facts store.now).flushed) }
-    ensures refused { IfErr result (RefusesRun (OrScript (S.facts store.now).lacked
+    ensures refused { IfErr result
+        (RefusesRun (OrScript (Lacks (S.facts store.now) (out_path (Some path.now)))
         (FailsScript S.Input.ahead (HasFailed S.Input.ahead S.Input.count) script))
         (IsMadeFor (S.facts store.now) path.now places.now inputs.now bench
         (S.Input.ahead content.old) len) (IsTextRead S.Input.ahead script)

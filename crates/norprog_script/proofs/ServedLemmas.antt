@@ -1,21 +1,25 @@
 -- What is written for a request is what its texts ask for, and what is so of it is so of that.
-use Rattle.std.proofs.Common.{◌≡◌, ◌++◌, option_map, option_to_list, refl, sym, subst, List, [], ◌∷◌, ℕ, Option, None, Some, Result, Ok, Err, IfOk, IfErr, inr}
+use Rattle.std.proofs.Common.{◌≡◌, ◌++◌, ◌||◌, Bool, Bor, true, false, is_some, option_map, option_to_list, refl, sym, subst, List, [], ◌∷◌, ℕ, Option, None, Some, Result, Ok, Err, IfOk, IfErr, inr}
 use Rattle.std.specs.Prelude.{⊤}
-use Rattle.norprog_common.specs.FileStore.{FileFacts, AreTables, IsMadeApart, Named, Notes, tables_file}
+use Rattle.norprog_common.specs.FileStore.{FileFacts, AreTables, IsMadeApart, Lacks, Named, Notes, tables_file}
 use Rattle.norprog_common.specs.Chip.{origin_of}
 use Rattle.norprog_common.specs.Setup.{setup_task}
 use Rattle.norprog_common.specs.declared.files.FileId.{FileId}
 use Rattle.norprog_common.specs.declared.setup.Setup.{Setup}
 use Rattle.norprog_common.proofs.StoreLemmas.{one_noted, more_noted, made_apart}
 use Rattle.nor_job.specs.Task.{Task}
+use Rattle.norprog_common.specs.Files.{TellsFile}
+use Rattle.norprog_common.specs.declared.faults.FileName.{FileName}
 use Rattle.norprog_common.specs.declared.faults.Refusal.{Refusal}
-use Rattle.norprog_common.proofs.ToldLemmas.{asked_wider, refuses_wider, by_fault}
+use Rattle.norprog_common.specs.declared.given.SetupArgs.{SetupArgs}
+use Rattle.norprog_common.proofs.LackedLemmas.{lacks_same, tables_named}
+use Rattle.norprog_common.proofs.ToldLemmas.{asked_wider, refuses_wider, by_fault, by_files}
 use Rattle.norprog_common.specs.declared.given.ScriptArgs.{ScriptArgs}
 use Rattle.norprog_script.specs.declared.request.ScriptRequest.{ScriptRequest}
 use Rattle.norprog_script.specs.declared.tally.Tally.{Tally}
 use Rattle.norprog_script.specs.Answer.{IsScriptedAs, IsScripted, IsStopOf, IsLogFault, RefusesScript, done}
-use Rattle.norprog_script.specs.Request.{AsksFor}
-use Rattle.norprog_script.specs.Served.{LogTask, IsSourceOf, IsTaskOf, Serves, chip_file}
+use Rattle.norprog_script.specs.Request.{AsksChip, AsksFor}
+use Rattle.norprog_script.specs.Served.{LogTask, IsSourceOf, IsTaskOf, Serves, chip_file, chip_name, paths_asked, paths_of}
 use Rattle.norprog_script.specs.Written.{Source, foreign, listed, WasWritten, RefusesLog}
 
 -- what a request has is what the texts ask for
@@ -36,12 +40,33 @@ pub scripted_asked : (files : FileFacts) (given : ScriptArgs) (request : ScriptR
 scripted_asked files given request Sent tally asks =
     asked_wider LogTask (IsTaskOf files request) (Serves files given) (IsScriptedAs Sent tally) (serves files given request asks)
 
+-- where nothing is said of a chip no tables are named
+none_said : (sfdp : Option (Bor (List ℕ))) (rest : Bool) → (is_some sfdp || rest) ≡ false → option_map (λ t. t.now) sfdp ≡ None
+none_said None rest is = refl
+none_said (Some file) rest is = let e : Path Bool true false = is in cc
+
+-- the tables' file of the chip that is said is the one that `--sfdp` names
+tables_said : (given : SetupArgs) (chip : Option Setup) → AsksChip given chip → chip_name chip ≡ option_map (λ t. t.now) given.chip.sfdp
+tables_said given None asks = sym (none_said given.chip.sfdp _ asks)
+tables_said given (Some setup) asks =
+    tables_named (option_map (λ t. t.now) given.chip.sfdp) (option_map (λ t. t.now) given.chip.uniform) (option_map (λ t. t.now) given.chip.bits)
+    (origin_of setup.chip) asks.1.chip
+
+-- the files of a request are those that the texts name
+same_paths : (given : ScriptArgs) (request : ScriptRequest) → AsksFor given request → Path (FileName → Option (List ℕ)) (paths_of request) (paths_asked given)
+same_paths given request asks = let tables = tables_said given.setup request.chip asks.chip in rw (asks.log, asks.out, tables) refl
+
+-- a file that couldn't be used
+pub file_refused : (Lacked : FileName → Type 0) (Asked : LogTask → Type 0) (why : Refusal) → TellsFile Lacked why → RefusesScript Lacked Asked why
+file_refused Lacked Asked why lacks = by_files Lacked Lacked (IsLogFault Asked) ((tally : Tally) × IsScripted Asked (λ held. ⊤) tally) why (λ told is. is) lacks
+
 pub refusal_asked : (files : FileFacts) (given : ScriptArgs) (request : ScriptRequest) (why : Refusal) → AsksFor given request
-    → RefusesScript files.lacked (IsTaskOf files request) why → RefusesScript files.lacked (Serves files given) why
+    → RefusesScript (Lacks files (paths_of request)) (IsTaskOf files request) why → RefusesScript (Lacks files (paths_asked given)) (Serves files given) why
 refusal_asked files given request why asks =
-    refuses_wider files.lacked files.lacked (IsLogFault (IsTaskOf files request)) (IsLogFault (Serves files given))
+    refuses_wider (Lacks files (paths_of request)) (Lacks files (paths_asked given)) (IsLogFault (IsTaskOf files request)) (IsLogFault (Serves files given))
     ((tally : Tally) × IsScripted (IsTaskOf files request) (λ held. ⊤) tally) ((tally : Tally) × IsScripted (Serves files given) (λ held. ⊤) tally)
-    (λ name lacks. lacks) (λ why of. asked_wider LogTask (IsTaskOf files request) (Serves files given) (IsStopOf why) (serves files given request asks) of)
+    (lacks_same files (paths_of request) (paths_asked given) (same_paths given request asks))
+    (λ why of. asked_wider LogTask (IsTaskOf files request) (Serves files given) (IsStopOf why) (serves files given request asks) of)
     (λ late. (late.0, scripted_asked files given request (λ held. ⊤) late.0 asks late.1)) why
 
 -- a script whose number of steps wasn't printed was written, whether it has gone out or not
@@ -64,8 +89,8 @@ module _ (files : FileFacts) (request : ScriptRequest) (text : List ℕ) (from :
   was_written : (Sent : Option (List ℕ) → Type 0) (tally : Tally) → Sent after → WasWritten from text before after tally → IsScripted (IsTaskOf files request) Sent tally
   was_written Sent tally sent is = record { it = task; asked = asked; has = record { after = after; sent = sent; written = is } }
 
-  was_refused : (why : Refusal) → RefusesLog from text before after why → RefusesScript files.lacked (IsTaskOf files request) why
-  was_refused why is = by_fault files.lacked (IsLogFault (IsTaskOf files request)) ((tally : Tally) × IsScripted (IsTaskOf files request) (λ held. ⊤) tally) why (record {
+  was_refused : (why : Refusal) → RefusesLog from text before after why → RefusesScript (Lacks files (paths_of request)) (IsTaskOf files request) why
+  was_refused why is = by_fault (Lacks files (paths_of request)) (IsLogFault (IsTaskOf files request)) ((tally : Tally) × IsScripted (IsTaskOf files request) (λ held. ⊤) tally) why (record {
     it = task;
     asked = asked;
     has = record { after = after; refused = is };
@@ -78,7 +103,7 @@ module _ (files : FileFacts) (request : ScriptRequest) (text : List ℕ) (from :
   done_is_written (Ok tally) (Ok u) r written sent is = rw is (was_written files.flushed tally sent written)
 
   pub done_is_refused : {U E : Type 0} (answer : Result Tally Refusal) (flushed : Result U E) (r : Result Tally Refusal) → IfOk answer (WasWritten from text before after)
-      → IfErr answer (RefusesLog from text before after) → r ≡ done answer flushed → IfErr r (RefusesScript files.lacked (IsTaskOf files request))
+      → IfErr answer (RefusesLog from text before after) → r ≡ done answer flushed → IfErr r (RefusesScript (Lacks files (paths_of request)) (IsTaskOf files request))
   done_is_refused (Err why) flushed r written refused is = rw is (was_refused why refused)
   done_is_refused (Ok tally) (Err e) r written refused is = rw is (inr (tally, was_written (λ held. ⊤) tally tt written))
   done_is_refused (Ok tally) (Ok u) r written refused is = rw is tt

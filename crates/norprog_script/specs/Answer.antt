@@ -7,11 +7,11 @@ use Rattle.norprog_common.specs.declared.faults.FileName.{FileName}
 use Rattle.norprog_common.specs.declared.faults.Refusal.{Refusal}
 use Rattle.norprog_common.specs.declared.faults.Refusal.TheVariants.{Build}
 use Rattle.norprog_common.specs.declared.given.ScriptArgs.{ScriptArgs}
-use Rattle.norprog_common.specs.FileStore.{FileFacts, Change}
+use Rattle.norprog_common.specs.FileStore.{FileFacts, Change, Lacks}
 use Rattle.norprog_common.specs.Told.{ForAsked, RefusesFor, Answers}
 use Rattle.norprog_script.specs.declared.tally.Tally.{Tally}
 use Rattle.norprog_script.specs.Request.{is_well_formed}
-use Rattle.norprog_script.specs.Served.{LogTask, Serves, MakesScript, MayMakeScript}
+use Rattle.norprog_script.specs.Served.{LogTask, Serves, MakesScript, MayMakeScript, paths_asked}
 use Rattle.norprog_script.specs.Tally.{tally_text}
 use Rattle.norprog_script.specs.Written.{WasWritten, RefusesLog}
 
@@ -61,5 +61,5 @@ AnswersScript files given Made before after Quiet Works told_before told_after s
     Answers (is_well_formed given)
     ((status ≡ 0) × PrintsTally (Serves files given) files.flushed before after × MakesScript files given Made × Quiet)
     (CutsTally (Serves files given) files.flushed before after × MayMakeScript files given Made)
-    (RefusesScript files.lacked (Serves files given))
+    (RefusesScript (Lacks files (paths_asked given)) (Serves files given))
     Works told_before told_after status

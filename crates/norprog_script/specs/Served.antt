@@ -2,8 +2,10 @@
 use Rattle.std.specs.Prelude.{◌≡◌, ◌⊎◌, ℕ, Bool, List, [], ◌∷◌, ◌++◌, Option, None, Some, option_map, option_to_list}
 use Rattle.nor_job.specs.Task.{Task}
 use Rattle.norprog_common.specs.Chip.{origin_of}
-use Rattle.norprog_common.specs.FileStore.{FileFacts, Change, IsMadeApart, MakesNamed, Named, tables_file}
+use Rattle.norprog_common.specs.FileStore.{FileFacts, Change, IsMadeApart, MakesNamed, Named, tables_file, tables_name}
 use Rattle.norprog_common.specs.Setup.{IsSetupTask}
+use Rattle.norprog_common.specs.declared.faults.FileName.{FileName}
+use Rattle.norprog_common.specs.declared.faults.FileName.TheVariants.{Sfdp, Log, Out}
 use Rattle.norprog_common.specs.declared.given.ScriptArgs.{ScriptArgs}
 use Rattle.norprog_common.specs.declared.setup.Setup.{Setup}
 use Rattle.norprog_script.specs.Request.{AsksChip}
@@ -25,6 +27,26 @@ IsSourceOf files (Some setup) without from = (chip : Task) × IsSetupTask files 
 abbrev pub chip_file : Option Setup → List (List ℕ)
 chip_file None = []
 chip_file (Some setup) = tables_file (origin_of setup.chip)
+
+-- its name, where there is one
+abbrev pub chip_name : Option Setup → Option (List ℕ)
+chip_name None = None
+chip_name (Some setup) = tables_name (origin_of setup.chip)
+
+-- the name that each option gives: of the tables, the log and the output these
+abbrev pub script_paths : Option (List ℕ) → Option (List ℕ) → Option (List ℕ) → FileName → Option (List ℕ)
+script_paths tables log out Sfdp = tables
+script_paths tables log out Log = log
+script_paths tables log out Out = out
+script_paths tables log out other = None
+
+-- those of a request, and those that the texts give
+abbrev pub paths_of : ScriptRequest → FileName → Option (List ℕ)
+paths_of request = script_paths (chip_name request.chip) (Some request.log.now) (Some request.out.now)
+
+abbrev pub paths_asked : ScriptArgs → FileName → Option (List ℕ)
+paths_asked given =
+    script_paths (option_map (λ t. t.now) given.setup.chip.sfdp) (option_map (λ t. t.now) given.log) (option_map (λ t. t.now) given.out)
 
 -- those of a request: the text is what its file gave, and the output was made, as none of the files that are read
 pub record IsTaskOf (files : FileFacts) (request : ScriptRequest) (t : LogTask) : Type 0 where

@@ -2,13 +2,13 @@
 
 ghost use Rattle.std.specs.Prelude.{◌≡◌, ◌<◌, ◌≤◌, ◌-◌, ◌^◌, [], ◌∷◌, ◌++◌, true, None, Some};
 ghost use Rattle.std.specs.Prelude.{IfOk, IfErr, MatchResult};
-ghost use Rattle.norprog_common.specs.FileStore.{Adds, MakesIf};
+ghost use Rattle.norprog_common.specs.FileStore.{Adds, Lacks, MakesIf};
 ghost use Rattle.norprog_common.specs.Told.{OrUsage};
 ghost use Rattle.norprog_script.specs.Answer.{IsScripted, RefusesScript, PrintsTally, CutsTally};
 ghost use Rattle.norprog_script.specs.Answer.{AnswersScript, done};
 ghost use Rattle.norprog_script.specs.Request.{is_well_formed};
 ghost use Rattle.norprog_script.specs.Served.{IsTaskOf, Serves, chip_file};
-ghost use Rattle.norprog_script.specs.Served.{MakesScript, MayMakeScript};
+ghost use Rattle.norprog_script.specs.Served.{paths_asked, paths_of, MakesScript, MayMakeScript};
 
 use crate::listing::script_listing;
 use crate::log::script_log;
@@ -67,7 +67,8 @@ fn scripted_in<S: FileStore, O: ByteOut>(
         (λ _. CutsTally (Serves (S.facts store.now) given.entry) (S.facts store.now).flushed
         (O.held out.old) (O.held out.new)) }
     ensures first { IfErr result
-        (OrUsage (is_well_formed given.entry) (RefusesScript (S.facts store.now).lacked
+        (OrUsage (is_well_formed given.entry)
+        (RefusesScript (Lacks (S.facts store.now) (paths_asked given.entry))
         (Serves (S.facts store.now) given.entry))) }
 {
     let request = request_of(given).ok_or(Refusal::Usage)?;
@@ -91,7 +92,8 @@ fn run_script<S: FileStore>(
     ensures written { IfOk result
         (IsScripted (IsTaskOf (S.facts store.now) request.entry) (S.facts store.now).flushed) }
     ensures refused { IfErr result
-        (RefusesScript (S.facts store.now).lacked (IsTaskOf (S.facts store.now) request.entry)) }
+        (RefusesScript (Lacks (S.facts store.now) (paths_of request.entry))
+        (IsTaskOf (S.facts store.now) request.entry)) }
 {
     match request.chip {
         Some(setup) => run_listing(alloc, store, journal, setup, request),
@@ -114,7 +116,8 @@ fn run_listing<S: FileStore>(
     ensures written { IfOk result
         (IsScripted (IsTaskOf (S.facts store.now) request.entry) (S.facts store.now).flushed) }
     ensures refused { IfErr result
-        (RefusesScript (S.facts store.now).lacked (IsTaskOf (S.facts store.now) request.entry)) }
+        (RefusesScript (Lacks (S.facts store.now) (paths_of request.entry))
+        (IsTaskOf (S.facts store.now) request.entry)) }
 {
     let mut places = Vec::new(alloc);
     let tables = noted_tables(alloc, store, setup.chip, &mut places)?;
@@ -147,7 +150,8 @@ fn run_log<S: FileStore>(
     ensures written { IfOk result
         (IsScripted (IsTaskOf (S.facts store.now) request.entry) (S.facts store.now).flushed) }
     ensures refused { IfErr result
-        (RefusesScript (S.facts store.now).lacked (IsTaskOf (S.facts store.now) request.entry)) }
+        (RefusesScript (Lacks (S.facts store.now) (paths_of request.entry))
+        (IsTaskOf (S.facts store.now) request.entry)) }
 {
     let (log, place) = store.read(alloc, request.log, FileName::Log)?;
     let mut out = store.create(journal, alloc, request.out, FileName::Out, &[place])?;

@@ -4,8 +4,9 @@ use Rattle.nor_base.specs.Parameters.{Parameters}
 use Rattle.nor_job.specs.Task.{Task}
 use Rattle.norprog_common.specs.declared.faults.FileName.{FileName}
 use Rattle.norprog_common.specs.declared.faults.Refusal.{Refusal}
+use Rattle.norprog_common.specs.Files.{TellsFile}
 use Rattle.norprog_common.specs.Told.{OfFault}
-use Rattle.norprog_common.proofs.ToldLemmas.{asked_wider, fault_wider, refuses_wider}
+use Rattle.norprog_common.proofs.ToldLemmas.{asked_wider, by_files, fault_wider, refuses_wider}
 use Rattle.norprog_sfdp.specs.Answer.{MeansThis, IsMeaning, MeansNone, IsChipFault, RefusesMeaning}
 
 pub chip_wider : (L M : FileName → Type 0) (A B : Task → Type 0) → ((name : FileName) → L name → M name) → ((t : Task) → A t → B t) → (why : Refusal)
@@ -14,6 +15,11 @@ chip_wider L M A B files wider =
     refuses_wider L M (OfFault (IsChipFault A)) (OfFault (IsChipFault B)) ((m : Parameters) × IsMeaning A m) ((m : Parameters) × IsMeaning B m)
     files (fault_wider (IsChipFault A) (IsChipFault B) (λ why of. asked_wider Task A B (MeansNone why) wider of))
     (λ late. (late.0, asked_wider Task A B (MeansThis late.0) wider late.1))
+
+-- a file that couldn't be used
+pub file_refused : (Lacked : FileName → Type 0) (Asked : Task → Type 0) (why : Refusal) → TellsFile Lacked why → RefusesMeaning Lacked Asked why
+file_refused Lacked Asked why lacks =
+    by_files Lacked Lacked (OfFault (IsChipFault Asked)) ((m : Parameters) × IsMeaning Asked m) why (λ name of. of) lacks
 
 -- the same of an answer
 

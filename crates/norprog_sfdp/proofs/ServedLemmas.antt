@@ -3,11 +3,13 @@ use Rattle.std.proofs.Common.{◌≡◌, ◌∙◌, ap, refl, sym, true, Bor, co
 use Rattle.nor_base.specs.declared.meaning.Part.{Part}
 use Rattle.nor_job.specs.Task.{Task}
 use Rattle.norprog_common.specs.Chip.{Origin}
-use Rattle.norprog_common.specs.FileStore.{FileFacts, AreTables}
+use Rattle.norprog_common.specs.FileStore.{FileFacts, AreTables, Lacks, tables_name}
 use Rattle.norprog_common.specs.Values.{part_of}
 use Rattle.norprog_common.specs.declared.given.ChipArgs.{ChipArgs}
 use Rattle.norprog_common.specs.Setup.{chip_asked, family_asked}
-use Rattle.norprog_sfdp.specs.Served.{asks_chip, ServesChip, IsTaskAlone, IsChipTask}
+use Rattle.norprog_common.specs.declared.faults.FileName.{FileName}
+use Rattle.norprog_sfdp.specs.Served.{asks_chip, tables_path, ServesChip, IsTaskAlone, IsChipTask}
+use Rattle.norprog_common.proofs.LackedLemmas.{lacks_same, tables_named}
 use Rattle.norprog_common.proofs.ServedLemmas.{both}
 
 pub chip_task : (files : FileFacts) (origin : Origin) (part : Part) (tables : List ℕ) → AreTables files origin tables
@@ -34,3 +36,11 @@ chip_serves files given origin part named family t of = record { origin = origin
 
 pub chip_is_asked : (given : ChipArgs) (origin : Origin) (part : Part) → chip_asked given ≡ Some origin → part_of (family_asked given) ≡ Some part → asks_chip given ≡ true
 chip_is_asked given origin part named family = both (is_some (chip_asked given)) (is_some (part_of (family_asked given))) (ap is_some named) (ap is_some family)
+
+-- the tables' file of the chip is the one that `--sfdp` names
+pub tables_asked : (files : FileFacts) (given : ChipArgs) (origin : Origin) → chip_asked given ≡ Some origin → (told : FileName)
+    → Lacks files (tables_path (tables_name origin)) told → Lacks files (tables_path (option_map (λ t. t.now) given.sfdp)) told
+tables_asked files given origin named =
+    let sfdp = option_map (λ t. t.now) given.sfdp in
+    lacks_same files (tables_path (tables_name origin)) (tables_path sfdp)
+    (ap tables_path (tables_named sfdp (option_map (λ t. t.now) given.uniform) (option_map (λ t. t.now) given.bits) origin named))

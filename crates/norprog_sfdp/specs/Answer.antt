@@ -1,5 +1,5 @@
 -- What is told of a chip's tables (this project's).
-use Rattle.std.specs.Prelude.{◌≡◌, ◌⊎◌, ℕ, List, Option, None, Some}
+use Rattle.std.specs.Prelude.{◌≡◌, ◌⊎◌, ℕ, List, Option, None, Some, option_map}
 use Rattle.std.specs.Io.KnownBytes.{Appends}
 use Rattle.nor_base.specs.Device.{Cuts}
 use Rattle.nor_base.specs.Parameters.{Parameters}
@@ -11,9 +11,9 @@ use Rattle.norprog.specs.ChipText.{meaning_text}
 use Rattle.norprog_common.specs.declared.faults.FileName.{FileName}
 use Rattle.norprog_common.specs.declared.faults.Refusal.{Refusal}
 use Rattle.norprog_common.specs.declared.given.ChipArgs.{ChipArgs}
-use Rattle.norprog_common.specs.FileStore.{FileFacts}
+use Rattle.norprog_common.specs.FileStore.{FileFacts, Lacks}
 use Rattle.norprog_common.specs.Told.{ForAsked, OfFault, RefusesFor, Answers}
-use Rattle.norprog_sfdp.specs.Served.{asks_chip, ServesChip}
+use Rattle.norprog_sfdp.specs.Served.{asks_chip, tables_path, ServesChip}
 
 -- the chip of the task has this meaning
 abbrev pub MeansThis : Parameters → Task → Type 0
@@ -49,5 +49,5 @@ AnswersChip files given before after Quiet Works told_before told_after status =
     Answers (asks_chip given)
     ((status ≡ 0) × PrintsMeaning (ServesChip files given) before after × Quiet)
     (CutsMeaning (ServesChip files given) before after)
-    (RefusesMeaning files.lacked (ServesChip files given))
+    (RefusesMeaning (Lacks files (tables_path (option_map (λ t. t.now) given.sfdp))) (ServesChip files given))
     Works told_before told_after status

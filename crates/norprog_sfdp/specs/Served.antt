@@ -1,16 +1,23 @@
 -- The chip that a command line of `sfdp` names (this project's).
-use Rattle.std.specs.Prelude.{◌≡◌, ℕ, false, List, [], None, Some, Bool, ◌&&◌, is_some}
+use Rattle.std.specs.Prelude.{◌≡◌, ℕ, false, List, [], Option, None, Some, Bool, ◌&&◌, is_some}
 use Rattle.nor_base.specs.declared.meaning.Part.{Part}
 use Rattle.nor_job.specs.Task.{Task}
 use Rattle.norprog_common.specs.Chip.{Origin, task_chip}
 use Rattle.norprog_common.specs.FileStore.{FileFacts, AreTables}
 use Rattle.norprog_common.specs.Values.{part_of}
+use Rattle.norprog_common.specs.declared.faults.FileName.{FileName}
+use Rattle.norprog_common.specs.declared.faults.FileName.TheVariants.{Sfdp}
 use Rattle.norprog_common.specs.declared.given.ChipArgs.{ChipArgs}
 use Rattle.norprog_common.specs.Setup.{chip_asked, family_asked}
 
 -- a chip, and a family
 abbrev pub asks_chip : ChipArgs → Bool
 asks_chip given = is_some (chip_asked given) && is_some (part_of (family_asked given))
+
+-- the only file is that of the tables
+abbrev pub tables_path : Option (List ℕ) → FileName → Option (List ℕ)
+tables_path name Sfdp = name
+tables_path name other = None
 
 -- the task of a chip alone, of these tables or of its size, and of that family
 abbrev pub IsTaskAlone : Origin → Part → List ℕ → Task → Type 0

@@ -1,9 +1,11 @@
 //! `sfdp`: from the texts of the command line to the lines that tell what a chip's tables mean.
 
-ghost use Rattle.std.specs.Prelude.{◌≡◌, ◌<◌, ◌≤◌, ◌-◌, ◌^◌, true, IfOk, IfErr};
+ghost use Rattle.std.specs.Prelude.{◌≡◌, ◌<◌, ◌≤◌, ◌-◌, ◌^◌, true, option_map, IfOk, IfErr};
 ghost use Rattle.norprog_common.specs.Chip.{origin_of};
+ghost use Rattle.norprog_common.specs.FileStore.{Lacks, tables_name};
 ghost use Rattle.norprog_common.specs.Told.{OrUsage};
-ghost use Rattle.norprog_sfdp.specs.Served.{asks_chip, IsChipTask, IsTaskAlone, ServesChip};
+ghost use Rattle.norprog_sfdp.specs.Served.{asks_chip, tables_path, IsChipTask, IsTaskAlone};
+ghost use Rattle.norprog_sfdp.specs.Served.{ServesChip};
 ghost use Rattle.norprog_sfdp.specs.Answer.{IsMeaning, RefusesMeaning, PrintsMeaning, CutsMeaning};
 ghost use Rattle.norprog_sfdp.specs.Answer.{AnswersChip};
 
@@ -54,7 +56,9 @@ fn report_meaning<S: FileStore, O: ByteOut>(
         (O.held out.new)) }
     ensures asked { IfOk result (λ _. asks_chip given.entry ≡ true) }
     ensures first { IfErr result
-        (OrUsage (asks_chip given.entry) (RefusesMeaning (S.facts store.now).lacked
+        (OrUsage (asks_chip given.entry)
+        (RefusesMeaning (Lacks (S.facts store.now)
+        (tables_path (option_map (λ t. t.now) given.entry.sfdp)))
         (ServesChip (S.facts store.now) given.entry))) }
 {
     let chip = chip_of(given.sfdp, given.uniform, given.bits).ok_or(Refusal::Usage)?;
@@ -75,7 +79,9 @@ fn run_meaning<S: FileStore>(
 ) -> Result<Meaning, Refusal>
     ensures means { IfOk result
         (IsMeaning (IsChipTask (S.facts store.now) (origin_of chip.entry) part)) }
-    ensures refused { IfErr result (RefusesMeaning (S.facts store.now).lacked
+    ensures refused { IfErr result
+        (RefusesMeaning (Lacks (S.facts store.now)
+        (tables_path (tables_name (origin_of chip.entry))))
         (IsChipTask (S.facts store.now) (origin_of chip.entry) part)) }
 {
     let tables = tables_of(alloc, store, chip)?;

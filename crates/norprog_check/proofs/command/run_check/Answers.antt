@@ -1,15 +1,17 @@
 -- The verdict, or the stop, is that of the request's job and script.
-use Rattle.std.proofs.Common.{None, inr}
-use Rattle.norprog_common.specs.FileStore.{IsTextIn}
+use Rattle.std.proofs.Common.{None, Some, inl, inr, refl}
+use Rattle.norprog_common.specs.FileStore.{IsTextIn, Lacks}
 use Rattle.norprog_common.specs.Told.{OrScript}
 use Rattle.norprog_common.proofs.StoreLemmas.{text_in}
 use Rattle.norprog_common.specs.Reading.{FailsReading, HasFailed}
 use Rattle.norprog_common.proofs.ReadingLemmas.{fails_in, read_in}
-use Rattle.norprog_common.specs.Served.{IsJobOf, held_in}
+use Rattle.norprog_common.specs.Served.{IsJobOf, held_in, no_path, paths_of, script_path}
 use Rattle.norprog_common.specs.Strict.{Filled}
 use Rattle.nor_base.proofs.FaultLaws.{handed_on}
+use Rattle.norprog_common.specs.declared.faults.FileName.TheVariants as file
+use Rattle.norprog_common.proofs.LackedLemmas.{lacks_at, lacks_own}
 use Rattle.norprog_common.proofs.ServedLemmas.{of_one, job_of}
-use Rattle.norprog_check.proofs.AnswerLemmas.{verdicts_wider, refusals_wider, asked_refused, empty_refused}
+use Rattle.norprog_check.proofs.AnswerLemmas.{verdicts_wider, refusals_wider, asked_refused, empty_refused, lacked_refused}
 use Rattle.norprog_check.proofs.command.run_check.Goals as goal
 
 pub returns-clause-checked : goal.returns-clause-checked
@@ -25,12 +27,12 @@ returns-clause-refused g c =
     let files = g.S.FileStore.facts c.args.store.now in
     let ahead = g.S.Input.ByteIn.ahead in
     let Failed = HasFailed ahead g.S.Input.ByteIn.count in
-    let Lacks = OrScript files.lacked (FailsReading files Failed c.args.path.now) in
+    let Lacked = OrScript (Lacks files (paths_of c.args.request.now (script_path (Some c.args.path.now)))) (FailsReading files Failed c.args.path.now) in
     let of = c.in_ok-script.ensures.script in
     let asked = job_of files c.args.request.now None c.inputs_of-inputs.result _ _ None (held_in c.in_ok-texts.texts)
     c.in_ok-texts.ensures.given c.inputs_of-inputs.ensures c.in_ok-texts.ensures.content tt in
-    asked_refused c.args.request.now.strict Lacks (IsJobOf files c.args.request.now None) (IsTextIn files c.args.path.now) Failed c.check_file.result
-    (refusals_wider _ Lacks _ (Filled c.args.request.now.strict (IsJobOf files c.args.request.now None)) _ (IsTextIn files c.args.path.now) Failed
+    asked_refused c.args.request.now.strict Lacked (IsJobOf files c.args.request.now None) (IsTextIn files c.args.path.now) Failed c.check_file.result
+    (refusals_wider _ Lacked _ (Filled c.args.request.now.strict (IsJobOf files c.args.request.now None)) _ (IsTextIn files c.args.path.now) Failed
     (λ name is. inr (is.0, fails_in files c.args.path.now ahead Failed c.in_ok-script.script of is.1))
     (of_one (Filled c.args.request.now.strict (IsJobOf files c.args.request.now None)) _ (asked, c.in_ok-refuse_empty.ensures.filled))
     (λ text is. read_in files c.args.path.now ahead c.in_ok-script.script text of is) c.check_file.result c.check_file.ensures.refused)
@@ -42,4 +44,25 @@ returns-in_err-refuse_empty-clause-refused g c =
     let asked = job_of files c.args.request.now None c.inputs_of-inputs.result _ _ None (held_in c.in_ok-texts.texts)
     c.in_ok-texts.ensures.given c.inputs_of-inputs.ensures c.in_ok-texts.ensures.content tt in
     handed_on _ _ _ c.from_residual-in_err-refuse_empty.ensures.1
-    (empty_refused c.args.request.now.strict (OrScript files.lacked (FailsReading files Failed c.args.path.now)) (IsJobOf files c.args.request.now None) (IsTextIn files c.args.path.now) Failed _ _ asked c.in_err-refuse_empty.ensures.refused)
+    (empty_refused c.args.request.now.strict (OrScript (Lacks files (paths_of c.args.request.now (script_path (Some c.args.path.now)))) (FailsReading files Failed c.args.path.now)) (IsJobOf files c.args.request.now None) (IsTextIn files c.args.path.now) Failed _ _ asked c.in_err-refuse_empty.ensures.refused)
+
+pub returns-in_err-texts-clause-refused : goal.returns-in_err-texts-clause-refused
+returns-in_err-texts-clause-refused g c =
+    let files = g.S.FileStore.facts c.args.store.now in
+    let Failed = HasFailed g.S.Input.ByteIn.ahead g.S.Input.ByteIn.count in
+    let own = script_path (Some c.args.path.now) in
+    handed_on _ _ _ c.from_residual.ensures.1
+    (lacked_refused c.args.request.now.strict (Lacks files (paths_of c.args.request.now no_path))
+    (OrScript (Lacks files (paths_of c.args.request.now own)) (FailsReading files Failed c.args.path.now))
+    (IsJobOf files c.args.request.now None) (IsTextIn files c.args.path.now) Failed _
+    (λ name lacks. inl (lacks_own files _ _ _ _ own name lacks)) c.in_err-texts.ensures.lacked)
+
+pub returns-in_err-script-clause-refused : goal.returns-in_err-script-clause-refused
+returns-in_err-script-clause-refused g c =
+    let files = g.S.FileStore.facts c.args.store.now in
+    let Failed = HasFailed g.S.Input.ByteIn.ahead g.S.Input.ByteIn.count in
+    let paths = paths_of c.args.request.now (script_path (Some c.args.path.now)) in
+    handed_on _ _ _ c.from_residual-in_err-script.ensures.1
+    (lacked_refused c.args.request.now.strict (Lacks files paths) (OrScript (Lacks files paths) (FailsReading files Failed c.args.path.now))
+    (IsJobOf files c.args.request.now None) (IsTextIn files c.args.path.now) Failed _ (λ name lacks. inl lacks)
+    (lacks_at files paths file.Script c.args.path.now _ refl c.in_err-script.ensures.refused c.in_err-script.ensures.lacked))

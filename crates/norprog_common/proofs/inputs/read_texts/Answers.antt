@@ -1,7 +1,11 @@
 -- Each file that was read is noted behind the one before it.
-use Rattle.std.proofs.Common.{[], ◌∷◌, ◌++◌, option_map, option_to_list}
+use Rattle.std.proofs.Common.{[], ◌∷◌, ◌++◌, option_map, option_to_list, refl}
 use Rattle.norprog_common.specs.Chip.{origin_of}
 use Rattle.norprog_common.specs.FileStore.{tables_file}
+use Rattle.norprog_common.specs.Served.{no_path, paths_of}
+use Rattle.norprog_common.specs.declared.faults.FileName.TheVariants.{Hex, Layout, Sfdp}
+use Rattle.nor_base.proofs.FaultLaws.{handed_on}
+use Rattle.norprog_common.proofs.LackedLemmas.{lacks_at, lacks_named}
 use Rattle.norprog_common.proofs.StoreLemmas.{more_noted}
 use Rattle.norprog_common.proofs.inputs.read_texts.Goals as goal
 
@@ -13,3 +17,22 @@ returns-clause-noted g c =
     let tables = tables_file (origin_of request.chip) in
     more_noted files (request.hex.now ∷ []) (layout ++ tables) _ _ _ c.in_ok-hex.ensures.noted
     (more_noted files layout tables _ _ _ c.in_ok-layout.ensures.noted c.in_ok-sfdp.ensures.noted)
+
+-- the file that couldn't be used is the one that its option names
+pub returns-in_err-hex-clause-lacked : goal.returns-in_err-hex-clause-lacked
+returns-in_err-hex-clause-lacked g c =
+    handed_on _ _ _ c.from_residual.ensures.1
+    (lacks_at (g.S.FileStore.facts c.args.store.now) (paths_of c.args.request.now no_path) Hex c.args.request.now.hex.now _ refl
+    c.in_err-hex.ensures.refused c.in_err-hex.ensures.lacked)
+
+pub returns-in_err-layout-clause-lacked : goal.returns-in_err-layout-clause-lacked
+returns-in_err-layout-clause-lacked g c =
+    handed_on _ _ _ c.from_residual-in_err-layout.ensures.1
+    (lacks_named (g.S.FileStore.facts c.args.store.now) (paths_of c.args.request.now no_path) Layout _ _ refl
+    c.in_err-layout.ensures.refused c.in_err-layout.ensures.lacked)
+
+pub returns-in_err-sfdp-clause-lacked : goal.returns-in_err-sfdp-clause-lacked
+returns-in_err-sfdp-clause-lacked g c =
+    handed_on _ _ _ c.from_residual-in_err-sfdp.ensures.1
+    (lacks_named (g.S.FileStore.facts c.args.store.now) (paths_of c.args.request.now no_path) Sfdp _ _ refl
+    c.in_err-sfdp.ensures.refused c.in_err-sfdp.ensures.lacked)

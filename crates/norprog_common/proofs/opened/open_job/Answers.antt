@@ -1,7 +1,10 @@
 -- The content is noted behind the files that are read whole.
-use Rattle.std.proofs.Common.{[], ◌∷◌}
+use Rattle.std.proofs.Common.{[], ◌∷◌, refl}
+use Rattle.nor_base.proofs.FaultLaws.{handed_on}
+use Rattle.norprog_common.proofs.LackedLemmas.{lacks_at}
 use Rattle.norprog_common.proofs.StoreLemmas.{more_noted, one_noted}
-use Rattle.norprog_common.specs.Served.{text_files_of}
+use Rattle.norprog_common.specs.Served.{no_path, paths_of, text_files_of}
+use Rattle.norprog_common.specs.declared.faults.FileName.TheVariants.{Content}
 use Rattle.norprog_common.proofs.opened.open_job.Goals as goal
 
 pub returns-clause-noted : goal.returns-clause-noted
@@ -10,3 +13,10 @@ returns-clause-noted g c =
     let request = c.args.request.now in
     more_noted files (text_files_of request) (request.content.now ∷ []) _ _ _ c.in_ok-texts.ensures.noted
     (one_noted files request.content.now c.in_ok-content.place _ _ c.in_ok-content.ensures.stood c.in_ok-push.ensures.items)
+
+-- a content that couldn't be opened is the one that its option names
+pub returns-in_err-content-clause-lacked : goal.returns-in_err-content-clause-lacked
+returns-in_err-content-clause-lacked g c =
+    handed_on _ _ _ c.from_residual-in_err-content.ensures.1
+    (lacks_at (g.S.FileStore.facts c.args.store.now) (paths_of c.args.request.now no_path) Content c.args.request.now.content.now _ refl
+    c.in_err-content.ensures.refused c.in_err-content.ensures.lacked)

@@ -1,9 +1,9 @@
 -- What is answered is what the work came to.
 use Rattle.std.proofs.Common.{option_map, option_to_list}
-use Rattle.norprog_common.specs.FileStore.{Adds}
+use Rattle.norprog_common.specs.FileStore.{Adds, Lacks}
 use Rattle.norprog_draw.specs.Answer.{IsDrawing, RefusesDraw}
 use Rattle.norprog_draw.specs.Request.{is_well_formed}
-use Rattle.norprog_draw.specs.Served.{Serves, Makes}
+use Rattle.norprog_draw.specs.Served.{Serves, Makes, paths_asked}
 use Rattle.norprog_draw.proofs.ServedLemmas.{answer_is}
 use Rattle.norprog_draw.proofs.command.draw.Goals as goal
 
@@ -14,5 +14,5 @@ returns-clause-answer g c =
     let changes = g.S.Journal.Journal.changes in
     answer_is files (option_to_list (option_map (λ t. t.now) given.script)) (option_map (λ t. t.now) given.out) (Adds (changes c.args.journal.now) (changes c.drawn_in.new.journal))
     (is_well_formed given) (IsDrawing (Serves files given) (Makes files given) files.flushed) _ _
-    (RefusesDraw files.lacked (Serves files given) (Makes files given)) _ _ c.drawn_in.result c.answered.result
-    c.drawn_in.ensures.status c.drawn_in.ensures.journal c.drawn_in.ensures.drawn c.drawn_in.ensures.asked c.drawn_in.ensures.first c.answered.ensures.done c.answered.ensures.told
+    (RefusesDraw (Lacks files (paths_asked given)) (Serves files given) (Makes files given)) _ _ c.drawn_in.result c.answered.result
+    c.drawn_in.ensures.status c.drawn_in.ensures.journal c.drawn_in.ensures.drawn c.drawn_in.ensures.asked c.drawn_in.ensures.first c.drawn_in.ensures.unmade c.answered.ensures.done c.answered.ensures.told

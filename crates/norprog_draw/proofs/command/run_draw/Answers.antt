@@ -1,11 +1,18 @@
 -- What was drawn, or the fault, is that of the request.
-use Rattle.std.proofs.Common.{sym, subst, List, [], ◌∷◌}
+use Rattle.std.proofs.Common.{refl, sym, subst, List, [], ◌∷◌}
 use Rattle.nor_base.specs.declared.step.Step.{Step}
 use Rattle.nor_base.specs.Device.{Writes}
 use Rattle.nor_base.proofs.FaultLaws.{handed_on}
 use Rattle.nor_waves.specs.Waves.{waves}
+use Rattle.norprog_common.proofs.JournalLemmas.{adds_none}
+use Rattle.norprog_common.specs.FileStore.{Adds, Lacks}
+use Rattle.norprog_common.specs.declared.faults.FileName.TheVariants.{Script, Out}
+use Rattle.norprog_common.proofs.LackedLemmas.{lacks_at}
+use Rattle.norprog_draw.specs.Answer.{IsUnmade, RefusesDraw}
 use Rattle.norprog_draw.specs.Drawn.{part}
-use Rattle.norprog_draw.proofs.ServedLemmas.{steps_refused, done_is_drawn, done_is_refused}
+use Rattle.norprog_draw.specs.Served.{IsTaskOf, IsMadeFor, paths_of}
+use Rattle.norprog_draw.proofs.ServedLemmas.{file_refused, steps_refused, done_is_drawn, done_is_refused}
+use Rattle.norprog_draw.proofs.ServedLemmas.{unmade_any, unmade_done, unmade_out}
 use Rattle.norprog_draw.proofs.command.run_draw.Goals as goal
 
 pub returns-clause-drawn : goal.returns-clause-drawn
@@ -33,3 +40,46 @@ returns-in_err-steps-clause-refused g c =
     let files = g.S.FileStore.facts c.args.store.now in
     let gave = subst (files.gave c.args.request.script.now) (sym c.as_slice.ensures.value) c.in_ok-script.ensures.gave in
     handed_on _ _ _ c.from_residual-in_err-steps.ensures.1 (steps_refused files c.args.request _ gave _ c.in_err-steps.ensures.refused)
+
+-- a file that couldn't be used is the one that its option names
+pub returns-in_err-script-clause-refused : goal.returns-in_err-script-clause-refused
+returns-in_err-script-clause-refused g c =
+    let files = g.S.FileStore.facts c.args.store.now in
+    let request = c.args.request in
+    let Lacked = Lacks files (paths_of request) in
+    let why = c.in_err-script.field-0.0 in
+    handed_on (RefusesDraw Lacked (IsTaskOf files request) (IsMadeFor files request)) _ _ c.from_residual.ensures.1
+    (file_refused Lacked (IsTaskOf files request) (IsMadeFor files request) why
+    (lacks_at files (paths_of request) Script request.script.now why refl c.in_err-script.ensures.refused c.in_err-script.ensures.lacked))
+
+pub returns-in_err-out-clause-refused : goal.returns-in_err-out-clause-refused
+returns-in_err-out-clause-refused g c =
+    let files = g.S.FileStore.facts c.args.store.now in
+    let request = c.args.request in
+    let Lacked = Lacks files (paths_of request) in
+    let why = c.in_err-out.field-0.0 in
+    handed_on (RefusesDraw Lacked (IsTaskOf files request) (IsMadeFor files request)) _ _ c.from_residual-in_err-out.ensures.1
+    (file_refused Lacked (IsTaskOf files request) (IsMadeFor files request) why
+    (lacks_at files (paths_of request) Out request.out.now why refl c.in_err-out.ensures.refused c.in_err-out.ensures.lacked))
+
+-- what shows before the output is made leaves the journal as it was
+pub returns-in_err-script-clause-unmade : goal.returns-in_err-script-clause-unmade
+returns-in_err-script-clause-unmade g c =
+    let changes = g.S.Journal.Journal.changes in
+    let Nothing = Adds (changes c.args.journal.now) (changes c.args.journal.now) [] in
+    handed_on (IsUnmade Nothing) _ _ c.from_residual.ensures.1 (unmade_any Nothing (adds_none _ _ refl) _)
+
+pub returns-in_err-steps-clause-unmade : goal.returns-in_err-steps-clause-unmade
+returns-in_err-steps-clause-unmade g c =
+    let changes = g.S.Journal.Journal.changes in
+    let Nothing = Adds (changes c.args.journal.now) (changes c.args.journal.now) [] in
+    handed_on (IsUnmade Nothing) _ _ c.from_residual-in_err-steps.ensures.1 (unmade_any Nothing (adds_none _ _ refl) _)
+
+pub returns-in_err-out-clause-unmade : goal.returns-in_err-out-clause-unmade
+returns-in_err-out-clause-unmade g c =
+    let changes = g.S.Journal.Journal.changes in
+    let Nothing = Adds (changes c.args.journal.now) (changes c.create.new.journal) [] in
+    handed_on (IsUnmade Nothing) _ _ c.from_residual-in_err-out.ensures.1 (unmade_out Nothing _ c.in_err-out.ensures.refused)
+
+pub returns-clause-unmade : goal.returns-clause-unmade
+returns-clause-unmade g c = unmade_done _ c.draw_steps-answer.result c.flush-flushed.result _ c.done.ensures

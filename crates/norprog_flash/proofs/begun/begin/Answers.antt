@@ -19,7 +19,8 @@ returns-in_err-save-clause-stops g c =
     c.from_residual-in_err-save.ensures.1
     (unsaved (g.S.FileStore.facts c.args.store.now) (g.W.ByteOut.held c.args.to.now) (g.W.ByteOut.held c.read_suited.new.to)
     (g.R.ByteIn.ahead c.args.from.now) (g.R.ByteIn.ahead c.read_suited.new.from) c.args.job.now (g.O.ByteOut.held c.args.out.now)
-    c.in_ok-reading.reading c.in_ok-reading.ensures.read c.in_ok-reading.ensures.harmless c.in_err-save.field-0.0 c.in_err-save.ensures.fails _ _
+    c.in_ok-reading.reading c.in_ok-reading.ensures.read c.in_ok-reading.ensures.harmless c.in_err-save.field-0.0 c.in_err-save.ensures.refused
+    c.in_err-save.ensures.lacked _ _
     c.in_err-save.ensures.journal)
 
 pub returns-in_err-work-clause-stops : goal.returns-in_err-work-clause-stops

@@ -12,7 +12,8 @@ returns-in_err-from-clause-unbegun g c =
     let files = g.S.FileStore.facts c.args.store.now in
     handed_on (IsUnbegunOn files c.args.device.now (Adds _ _) c.args.job.now _ _) _ (Refused c.in_err-from.field-0.0)
     c.from_residual-in_err-from.ensures.1
-    (unopened files c.args.device.now (Adds _ _) c.args.job.now _ c.in_err-from.field-0.0 (search rules) c.in_err-from.ensures.lacked
+    (unopened files c.args.device.now (Adds _ _) c.args.job.now _ c.in_err-from.field-0.0 (search rules)
+    (c.in_err-from.ensures.refused, c.in_err-from.ensures.lacked)
     c.in_err-from.ensures.journal)
 
 pub returns-clause-flashed : goal.returns-clause-flashed

@@ -1,10 +1,24 @@
 -- The job of the texts, and its ending.
 use Rattle.std.proofs.Common.{◌≡◌, ℕ, true, List, rules, subst, refl}
+use Rattle.nor_base.proofs.FaultLaws.{handed_on}
 use Rattle.norprog_common.specs.FileStore.{Adds}
+use Rattle.norprog_common.proofs.JournalLemmas.{adds_none}
+use Rattle.norprog_flash.specs.declared.ending.Unflashed.TheVariants.{Refused}
+use Rattle.norprog_flash.specs.Answer.{IsUnbegunFor}
 use Rattle.norprog_flash.specs.Request.{is_well_formed, AsksFor}
-use Rattle.norprog_flash.proofs.ServedLemmas.{ending_by, unbegun_by, wanted}
+use Rattle.norprog_flash.proofs.ServedLemmas.{ending_by, lacked_by, unbegun_by, wanted}
 use Rattle.norprog_read.specs.Request.{IsAskOf}
 use Rattle.norprog_flash.proofs.command.flash_texts.Goals as goal
+
+pub returns-in_err-files-clause-unbegun : goal.returns-in_err-files-clause-unbegun
+returns-in_err-files-clause-unbegun g c =
+    let files = g.S.FileStore.facts c.args.store.now in
+    let before = g.S.Journal.Journal.changes c.args.journal.now in
+    let asks : AsksFor c.args.given.now c.in_ok-request.request = search rules in
+    let formed : is_well_formed c.args.given.now ≡ true = search rules in
+    handed_on (IsUnbegunFor files c.args.given.now (Adds before before) _ _) _ (Refused c.in_err-files.field-0.0) c.from_residual-in_err-files.ensures.1
+    (lacked_by files c.args.given.now c.in_ok-request.request (Adds before before) _ asks formed (adds_none _ _ refl) c.in_err-files.field-0.0
+    c.in_err-files.ensures.lacked)
 
 pub flash_device-requires-clause-whole : goal.flash_device-requires-clause-whole
 flash_device-requires-clause-whole g c =

@@ -1,11 +1,23 @@
 -- What was written, or the fault, is that of the request.
-use Rattle.std.proofs.Common.{[], ◌∷◌, arith}
+use Rattle.std.proofs.Common.{[], ◌∷◌, arith, refl}
+use Rattle.nor_base.proofs.FaultLaws.{handed_on}
+use Rattle.norprog_common.proofs.JournalLemmas.{adds_none}
+use Rattle.norprog_common.specs.FileStore.{Adds, Lacks}
+use Rattle.norprog_hex.specs.Answer.{IsUnmade}
+use Rattle.norprog_common.specs.declared.faults.FileName.TheVariants.{Bin, Out}
+use Rattle.norprog_common.proofs.LackedLemmas.{lacks_at}
+use Rattle.norprog_hex.specs.Served.{paths_of}
 use Rattle.norprog_hex.proofs.ServedLemmas.{unopened, unmade, fits_so, too_long, done_is_written, done_is_refused}
+use Rattle.norprog_hex.proofs.ServedLemmas.{unmade_done, unmade_file}
 use Rattle.norprog_hex.proofs.command.run_hex.Goals as goal
 
 pub returns-in_err-bin-clause-refused : goal.returns-in_err-bin-clause-refused
 returns-in_err-bin-clause-refused g c =
-    unopened (g.S.FileStore.facts c.args.store.now) _ _ _ c.in_err-bin.field-0.0 c.from_residual.ensures.1 c.in_err-bin.ensures.refused c.in_err-bin.ensures.lacked
+    let files = g.S.FileStore.facts c.args.store.now in
+    let paths = paths_of c.args.request in
+    let why = c.in_err-bin.field-0.0 in
+    unopened (Lacks files paths) _ _ _ why c.from_residual.ensures.1 c.in_err-bin.ensures.refused
+    (lacks_at files paths Bin c.args.request.bin.now why refl c.in_err-bin.ensures.refused c.in_err-bin.ensures.lacked)
 
 pub returns-then-len-from-clause-refused : goal.returns-then-len-from-clause-refused
 returns-then-len-from-clause-refused g c =
@@ -14,8 +26,11 @@ returns-then-len-from-clause-refused g c =
 pub returns-in_err-out-clause-refused : goal.returns-in_err-out-clause-refused
 returns-in_err-out-clause-refused g c =
     let files = g.S.FileStore.facts c.args.store.now in
-    unmade files _ _ _ c.in_err-out.field-0.0 c.from_residual-in_err-out.ensures.1
-    (fits_so files c.args.request _ c.in_ok-bin.len c.in_ok-bin.ensures.opened (omega (arith, c.if-len-from.false, c.from.ensures))) c.in_err-out.ensures.refused c.in_err-out.ensures.lacked
+    let paths = paths_of c.args.request in
+    let why = c.in_err-out.field-0.0 in
+    unmade (Lacks files paths) _ _ _ why c.from_residual-in_err-out.ensures.1
+    (fits_so files c.args.request _ c.in_ok-bin.len c.in_ok-bin.ensures.opened (omega (arith, c.if-len-from.false, c.from.ensures))) c.in_err-out.ensures.refused
+    (lacks_at files paths Out c.args.request.out.now why refl c.in_err-out.ensures.refused c.in_err-out.ensures.lacked)
 
 pub returns-clause-written : goal.returns-clause-written
 returns-clause-written g c =
@@ -28,3 +43,23 @@ returns-clause-refused g c =
     let files = g.S.FileStore.facts c.args.store.now in
     done_is_refused files c.args.request _ c.in_ok-bin.len c.in_ok-bin.ensures.opened _ _ (c.in_ok-bin.place ∷ [], (c.in_ok-bin.ensures.stood, tt), c.in_ok-out.ensures.made)
     (omega (arith, c.if-len-from.false, c.from.ensures)) _ c.write_bin-answer.result c.flush-flushed.result _ c.write_bin-answer.ensures.converted c.write_bin-answer.ensures.stopped c.done.ensures
+
+-- what shows before the output is made leaves the journal as it was
+pub returns-in_err-bin-clause-unmade : goal.returns-in_err-bin-clause-unmade
+returns-in_err-bin-clause-unmade g c =
+    let changes = g.S.Journal.Journal.changes in
+    let Nothing = Adds (changes c.args.journal.now) (changes c.args.journal.now) [] in
+    handed_on (IsUnmade Nothing) _ _ c.from_residual.ensures.1 (unmade_file Nothing Bin _ c.in_err-bin.ensures.refused)
+
+pub returns-in_err-out-clause-unmade : goal.returns-in_err-out-clause-unmade
+returns-in_err-out-clause-unmade g c =
+    let changes = g.S.Journal.Journal.changes in
+    let Nothing = Adds (changes c.args.journal.now) (changes c.create.new.journal) [] in
+    handed_on (IsUnmade Nothing) _ _ c.from_residual-in_err-out.ensures.1 (unmade_file Nothing Out _ c.in_err-out.ensures.refused)
+
+pub returns-then-len-from-clause-unmade : goal.returns-then-len-from-clause-unmade
+returns-then-len-from-clause-unmade g c = adds_none _ _ refl
+
+pub returns-clause-unmade : goal.returns-clause-unmade
+returns-clause-unmade g c =
+    unmade_done _ c.args.request.at _ _ _ c.write_bin-answer.result c.flush-flushed.result _ c.write_bin-answer.ensures.stopped c.done.ensures

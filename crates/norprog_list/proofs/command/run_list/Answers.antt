@@ -1,9 +1,14 @@
 -- What was listed is the script of the request's file, by the chip of its tables.
-use Rattle.std.proofs.Common.{ℕ, sym, subst}
+use Rattle.std.proofs.Common.{ℕ, refl, sym, subst}
 use Rattle.nor_base.specs.Device.{Ahead}
 use Rattle.norprog_common.specs.Chip.{origin_of}
-use Rattle.norprog_common.specs.FileStore.{AreTables}
-use Rattle.norprog_list.specs.Served.{IsTaskOf}
+use Rattle.norprog_common.specs.FileStore.{AreTables, Lacks, tables_name}
+use Rattle.norprog_common.specs.declared.faults.FileName.TheVariants.{Sfdp, Script}
+use Rattle.nor_base.proofs.FaultLaws.{handed_on}
+use Rattle.norprog_common.proofs.LackedLemmas.{lacks_at, lacks_named}
+use Rattle.norprog_list.specs.Answer.{RefusesList}
+use Rattle.norprog_list.specs.Served.{IsTaskOf, paths_of}
+use Rattle.norprog_list.proofs.ServedLemmas.{file_refused}
 use Rattle.norprog_list.proofs.ListedLemmas.{refused_cut, all_printed, refused_so, asked_of}
 use Rattle.norprog_list.proofs.command.run_list.Given as given
 use Rattle.norprog_list.proofs.command.run_list.Goals as goal
@@ -25,3 +30,26 @@ returns-clause-unprinted g c =
 pub returns-clause-refused : goal.returns-clause-refused
 returns-clause-refused g c =
     refused_so (IsTaskOf (g.S.FileStore.facts c.args.store.now) c.args.request) _ (asked g c _ _ c.in_ok-script.ensures.opened) _ _ _ _ _ c.list_script.ensures.refused
+
+-- a file that couldn't be used is the one that its option names
+pub returns-in_err-tables-clause-refused : goal.returns-in_err-tables-clause-refused
+returns-in_err-tables-clause-refused g c =
+    let files = g.S.FileStore.facts c.args.store.now in
+    let request = c.args.request in
+    let Lacked = Lacks files (paths_of request) in
+    let why = c.in_err-tables.field-0.0 in
+    let out = g.O.ByteOut.held c.args.out.now in
+    handed_on (RefusesList Lacked (IsTaskOf files request) out out) _ _ c.from_residual.ensures.1
+    (file_refused Lacked (IsTaskOf files request) out out why
+    (lacks_named files (paths_of request) Sfdp (tables_name (origin_of request.setup.chip)) why refl c.in_err-tables.ensures.refused c.in_err-tables.ensures.lacked))
+
+pub returns-in_err-script-clause-refused : goal.returns-in_err-script-clause-refused
+returns-in_err-script-clause-refused g c =
+    let files = g.S.FileStore.facts c.args.store.now in
+    let request = c.args.request in
+    let Lacked = Lacks files (paths_of request) in
+    let why = c.in_err-script.field-0.0 in
+    let out = g.O.ByteOut.held c.args.out.now in
+    handed_on (RefusesList Lacked (IsTaskOf files request) out out) _ _ c.from_residual-in_err-script.ensures.1
+    (file_refused Lacked (IsTaskOf files request) out out why
+    (lacks_at files (paths_of request) Script request.script.now why refl c.in_err-script.ensures.refused c.in_err-script.ensures.lacked))

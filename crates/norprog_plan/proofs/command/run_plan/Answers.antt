@@ -1,6 +1,7 @@
 -- What was told is of the request's job.
 use Rattle.std.proofs.Common.{option_map}
-use Rattle.norprog_common.specs.Served.{IsJobOf, held_in}
+use Rattle.norprog_common.specs.Served.{IsJobOf, held_in, map_path, paths_of}
+use Rattle.norprog_common.specs.FileStore.{Lacks}
 use Rattle.norprog_common.specs.Strict.{Filled}
 use Rattle.norprog_plan.proofs.AnswerLemmas.{wholes_of, parts_of, stops_for, asked_stops, empty_stops}
 use Rattle.norprog_common.proofs.ServedLemmas.{job_of}
@@ -30,8 +31,9 @@ returns-in-Ok-refuse_empty-clause-refused g c =
     let out = option_map (λ t. t.now) c.args.map in
     let asked = job_of files c.args.request.now out c.inputs_of-inputs.result _ _ _ (held_in c.in-Ok.files.texts)
     c.in-Ok.ensures.given c.inputs_of-inputs.ensures c.in-Ok.ensures.content c.in-Ok.ensures.made in
-    asked_stops c.args.request.now.strict files.lacked (IsJobOf files c.args.request.now out) c.outline_job.result.rest
-    (stops_for files.lacked c.outline_job.result.rest (Filled c.args.request.now.strict (IsJobOf files c.args.request.now out)) _
+    let Lacked = Lacks files (paths_of c.args.request.now (map_path out)) in
+    asked_stops c.args.request.now.strict Lacked (IsJobOf files c.args.request.now out) c.outline_job.result.rest
+    (stops_for (λ told. ⊥) Lacked c.outline_job.result.rest (Filled c.args.request.now.strict (IsJobOf files c.args.request.now out)) _ (λ told none. absurd none)
     (asked, c.in-Ok-refuse_empty.ensures.filled) c.outline_job.ensures.refused)
 
 pub returns-in-Ok-clause-refused : goal.returns-in-Ok-clause-refused
@@ -40,5 +42,5 @@ returns-in-Ok-clause-refused g c =
     let out = option_map (λ t. t.now) c.args.map in
     let asked = job_of files c.args.request.now out c.inputs_of-inputs.result _ _ _ (held_in c.in-Ok.files.texts)
     c.in-Ok.ensures.given c.inputs_of-inputs.ensures c.in-Ok.ensures.content c.in-Ok.ensures.made in
-    empty_stops c.args.request.now.strict files.lacked (IsJobOf files c.args.request.now out) _ c.in-Err-refuse_empty.refusal c.unplanned.result.rest asked
+    empty_stops c.args.request.now.strict (Lacks files (paths_of c.args.request.now (map_path out))) (IsJobOf files c.args.request.now out) _ c.in-Err-refuse_empty.refusal c.unplanned.result.rest asked
     c.in-Err-refuse_empty.ensures.refused c.unplanned.ensures.refused

@@ -17,4 +17,4 @@ returns g c =
 
 pub returns-in_err-from : goal.returns-in_err-from
 returns-in_err-from g c =
-    handed _ _ (Refused c.in_err-from.field-0.0) _ c.from_residual.ensures.1 (inl (c.in_err-from.ensures.lacked, c.in_err-from.ensures.journal))
+    handed _ _ (Refused c.in_err-from.field-0.0) _ c.from_residual.ensures.1 (inl ((c.in_err-from.ensures.refused, c.in_err-from.ensures.lacked), c.in_err-from.ensures.journal))

@@ -1,14 +1,15 @@
 -- The ending, or why there is none, is of the request's chip, script, content, limit and trust.
-use Rattle.std.proofs.Common.{◌≡◌, ap, refl, sym, subst}
+use Rattle.std.proofs.Common.{◌≡◌, Some, ap, refl, sym, subst}
 use Rattle.nor_job.specs.Task.{Task}
 use Rattle.norprog_common.specs.Chip.{origin_of}
-use Rattle.norprog_common.specs.FileStore.{Adds, AreTables}
+use Rattle.norprog_common.specs.FileStore.{Adds, AreTables, tables_name}
+use Rattle.norprog_common.specs.declared.faults.FileName.TheVariants as file
 use Rattle.norprog_common.specs.Reading.{HasFailed}
 use Rattle.norprog_common.proofs.JournalLemmas.{adds_none}
 use Rattle.nor_base.proofs.FaultLaws.{handed_on}
 use Rattle.norprog_play.specs.declared.unplayed.Unplayed.TheVariants.{Refused}
 use Rattle.norprog_play.specs.Answer.{IsUnplayed}
-use Rattle.norprog_play.specs.Served.{IsTaskOf}
+use Rattle.norprog_play.specs.Served.{IsTaskOf, paths_of}
 use Rattle.norprog_play.proofs.ServedLemmas.{blames, expected_so, is_ahead_in, lacked_refused, no_job, was_played, was_stopped}
 use Rattle.norprog_play.proofs.command.play_request.Goals as goal
 
@@ -51,21 +52,24 @@ returns-in_err-tables-clause-refused g c =
     let files = g.S.FileStore.facts c.args.store.now in
     let Failed = HasFailed g.S.Input.ByteIn.ahead g.S.Input.ByteIn.count in
     let before = g.S.Journal.Journal.changes c.args.journal.now in
-    handed_on (IsUnplayed files Failed (Adds before before) (IsTaskOf files c.args.request)) _ (Refused c.in_err-tables.field-0.0) c.from_residual.ensures.1
-    (lacked_refused files Failed (Adds before before) (IsTaskOf files c.args.request) c.in_err-tables.field-0.0 c.in_err-tables.ensures.lacked (adds_none _ _ refl))
+    handed_on (IsUnplayed files (paths_of c.args.request) Failed (Adds before before) (IsTaskOf files c.args.request)) _ (Refused c.in_err-tables.field-0.0) c.from_residual.ensures.1
+    (lacked_refused files (paths_of c.args.request) Failed (Adds before before) (IsTaskOf files c.args.request) file.Sfdp (tables_name (origin_of c.args.request.setup.chip)) c.in_err-tables.field-0.0
+    refl c.in_err-tables.ensures.refused c.in_err-tables.ensures.lacked (adds_none _ _ refl))
 
 pub returns-in_err-content-clause-refused : goal.returns-in_err-content-clause-refused
 returns-in_err-content-clause-refused g c =
     let files = g.S.FileStore.facts c.args.store.now in
     let Failed = HasFailed g.S.Input.ByteIn.ahead g.S.Input.ByteIn.count in
     let before = g.S.Journal.Journal.changes c.args.journal.now in
-    handed_on (IsUnplayed files Failed (Adds before before) (IsTaskOf files c.args.request)) _ (Refused c.in_err-content.field-0.0) c.from_residual-in_err-content.ensures.1
-    (lacked_refused files Failed (Adds before before) (IsTaskOf files c.args.request) c.in_err-content.field-0.0 c.in_err-content.ensures.lacked (adds_none _ _ refl))
+    handed_on (IsUnplayed files (paths_of c.args.request) Failed (Adds before before) (IsTaskOf files c.args.request)) _ (Refused c.in_err-content.field-0.0) c.from_residual-in_err-content.ensures.1
+    (lacked_refused files (paths_of c.args.request) Failed (Adds before before) (IsTaskOf files c.args.request) file.Content (Some c.args.request.content.now) c.in_err-content.field-0.0
+    refl c.in_err-content.ensures.refused c.in_err-content.ensures.lacked (adds_none _ _ refl))
 
 pub returns-in_err-script-clause-refused : goal.returns-in_err-script-clause-refused
 returns-in_err-script-clause-refused g c =
     let files = g.S.FileStore.facts c.args.store.now in
     let Failed = HasFailed g.S.Input.ByteIn.ahead g.S.Input.ByteIn.count in
     let before = g.S.Journal.Journal.changes c.args.journal.now in
-    handed_on (IsUnplayed files Failed (Adds before before) (IsTaskOf files c.args.request)) _ (Refused c.in_err-script.field-0.0) c.from_residual-in_err-script.ensures.1
-    (lacked_refused files Failed (Adds before before) (IsTaskOf files c.args.request) c.in_err-script.field-0.0 c.in_err-script.ensures.lacked (adds_none _ _ refl))
+    handed_on (IsUnplayed files (paths_of c.args.request) Failed (Adds before before) (IsTaskOf files c.args.request)) _ (Refused c.in_err-script.field-0.0) c.from_residual-in_err-script.ensures.1
+    (lacked_refused files (paths_of c.args.request) Failed (Adds before before) (IsTaskOf files c.args.request) file.Script (Some c.args.request.script.now) c.in_err-script.field-0.0
+    refl c.in_err-script.ensures.refused c.in_err-script.ensures.lacked (adds_none _ _ refl))

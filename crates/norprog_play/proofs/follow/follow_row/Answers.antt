@@ -1,8 +1,7 @@
 -- A step alone, or a row.
-use Rattle.std.proofs.Common.{◌≡◌, ◌<◌, ◌∙◌, List, [], ◌∷◌, take, length, ap, subst, sym, refl, arith, rules}
+use Rattle.std.proofs.Common.{◌≡◌, ◌<◌, ◌∙◌, [], ◌∷◌, take, length, ap, subst, sym, refl, arith, rules}
 use Rattle.std.proofs.lemmas.List.{length-take-le}
 use Rattle.std.specs.Prelude.{All}
-use Rattle.nor_base.specs.declared.step.Step.{Step}
 use Rattle.nor_base.specs.Device.{ahead_of}
 use Rattle.nor_base.proofs.ListLaws.{one_taken}
 use Rattle.norprog_play.specs.Moment.{moment, StopsAt}

@@ -1,5 +1,5 @@
 -- One more, or all.
-use Rattle.std.proofs.Common.{length, refl, arith}
+use Rattle.std.proofs.Common.{length, arith}
 use Rattle.std.proofs.lemmas.List.Elements.{All-nil, All-take}
 use Rattle.norprog_play.specs.Together.{IsPlain}
 use Rattle.norprog_play.proofs.CarriedLemmas.{all_more, all_to_end}

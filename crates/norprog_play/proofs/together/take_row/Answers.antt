@@ -1,5 +1,5 @@
 -- One step more.
-use Rattle.std.proofs.Common.{◌≡◌, ◌+◌, ◌≤◌, take, drop, length, ◌∙◌, refl, sym, subst, arith, List, Ok, ap}
+use Rattle.std.proofs.Common.{◌≡◌, ◌≤◌, take, drop, length, ◌∙◌, refl, sym, subst, arith, List, Ok}
 use Rattle.std.proofs.lemmas.List.{take-append-drop}
 use Rattle.std.proofs.lemmas.List.Elements.{All-take}
 use Rattle.nor_base.specs.declared.step.Step.{Step}

@@ -1,5 +1,5 @@
 -- What is kept; why it isn't read, and why what was read isn't kept.
-use Rattle.std.proofs.Common.{◌≡◌, true, option_map, rules, sym, subst}
+use Rattle.std.proofs.Common.{◌≡◌, true, option_map, refl, rules, sym, subst}
 use Rattle.nor_base.proofs.FaultLaws.{handed_on}
 use Rattle.norprog_common.specs.Chip.{origin_of}
 use Rattle.norprog_common.specs.FileStore.{Adds}
@@ -7,8 +7,19 @@ use Rattle.norprog_read.specs.declared.fault.Unread.TheVariants.{Refused}
 use Rattle.norprog_read.specs.Answer.{IsUnread}
 use Rattle.norprog_read.specs.Request.{is_well_formed, AsksFor}
 use Rattle.norprog_read.specs.Served.{AreTablesIf}
-use Rattle.norprog_read.proofs.ServedLemmas.{kept, unread, unsaved}
+use Rattle.norprog_common.proofs.JournalLemmas.{adds_none}
+use Rattle.norprog_read.proofs.ServedLemmas.{kept, tables_told, unread, unsaved}
 use Rattle.norprog_read.proofs.command.read_texts.Goals as goal
+
+pub returns-in_err-file-clause-unread : goal.returns-in_err-file-clause-unread
+returns-in_err-file-clause-unread g c =
+    let files = g.S.FileStore.facts c.args.store.now in
+    let before = g.S.Journal.Journal.changes c.args.journal.now in
+    let asks : AsksFor c.args.given c.in_ok-request.request = search rules in
+    let formed : is_well_formed c.args.given ≡ true = search rules in
+    handed_on (IsUnread files c.args.given (Adds before before)) _ (Refused c.in_err-file.field-0.0) c.from_residual-in_err-file.ensures.1
+    (tables_told files c.args.given c.in_ok-request.request asks (Adds before before) (adds_none _ _ refl) formed c.in_err-file.field-0.0
+    c.in_err-file.ensures.refused c.in_err-file.ensures.lacked)
 
 pub returns-in_err-reading-clause-unread : goal.returns-in_err-reading-clause-unread
 returns-in_err-reading-clause-unread g c =

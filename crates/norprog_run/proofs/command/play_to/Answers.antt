@@ -1,13 +1,16 @@
 -- What was played went out into the output, which was made first.
 use Rattle.std.proofs.Common.{inr, refl, Some}
 use Rattle.nor_base.proofs.FaultLaws.{handed_on}
-use Rattle.norprog_common.specs.FileStore.{IsTextOfFile}
+use Rattle.norprog_common.specs.FileStore.{IsTextOfFile, Lacks}
 use Rattle.norprog_common.specs.Reading.{FailsScript, HasFailed, IsTextRead}
 use Rattle.norprog_common.proofs.ReadingLemmas.{file_read}
+use Rattle.norprog_common.specs.Served.{out_path}
 use Rattle.norprog_common.specs.Told.{OrScript}
+use Rattle.norprog_common.specs.declared.faults.FileName.TheVariants.{Out}
+use Rattle.norprog_common.proofs.LackedLemmas.{lacks_at}
 use Rattle.norprog_run.specs.Answer.{RefusesRun}
 use Rattle.norprog_run.specs.Served.{IsMadeFor, play_with}
-use Rattle.norprog_run.proofs.ServedLemmas.{one_played, one_refused}
+use Rattle.norprog_run.proofs.ServedLemmas.{lacked_refused, one_played, one_refused}
 use Rattle.norprog_run.proofs.command.play_to.Goals as goal
 
 pub returns-in_err-verdict-clause-refused : goal.returns-in_err-verdict-clause-refused
@@ -19,9 +22,9 @@ returns-in_err-verdict-clause-refused g c =
     let Spoken = IsTextRead ahead c.args.script in
     let t = play_with c.args.inputs.now c.args.bench (ahead c.args.content.now) c.args.len (Some (g.S.Output.ByteOut.held c.in_ok-file.file)) in
     let asked : Asked t = record { held = _; made = c.in_ok-file.ensures.made; is = refl } in
-    let Lacks = OrScript files.lacked (FailsScript ahead Failed c.args.script) in
-    handed_on (RefusesRun Lacks Asked Spoken Failed) _ _ c.from_residual-in_err-verdict.ensures.1
-    (one_refused _ Lacks Asked Spoken Spoken Failed t asked (λ name is. inr is) (λ text of. of) _ (c.in_err-verdict.ensures.refused _))
+    let Told = OrScript (Lacks files (out_path (Some c.args.path.now))) (FailsScript ahead Failed c.args.script) in
+    handed_on (RefusesRun Told Asked Spoken Failed) _ _ c.from_residual-in_err-verdict.ensures.1
+    (one_refused _ Told Asked Spoken Spoken Failed t asked (λ name is. inr is) (λ text of. of) _ (c.in_err-verdict.ensures.refused _))
 
 pub returns-in-Ok-clause-played : goal.returns-in-Ok-clause-played
 returns-in-Ok-clause-played g c =
@@ -40,3 +43,17 @@ returns-in-Err-clause-refused g c =
     let t = play_with c.args.inputs.now c.args.bench (g.S.Input.ByteIn.ahead c.args.content.now) c.args.len (Some (g.S.Output.ByteOut.held c.in_ok-file.file)) in
     let asked : Asked t = record { held = _; made = c.in_ok-file.ensures.made; is = refl } in
     inr (c.in_ok-verdict.verdict, one_played Asked Spoken (IsTextRead g.S.Input.ByteIn.ahead c.args.script) _ _ _ _ _ asked (λ text of. file_read g.S.Input.ByteIn.ahead c.args.script text of) _ _ (λ held. Unit {0}) c.in_ok-verdict.verdict (refl, tt) c.in_ok-verdict.ensures.played)
+
+-- an output that couldn't be made is the one that its option names
+pub returns-in_err-file-clause-refused : goal.returns-in_err-file-clause-refused
+returns-in_err-file-clause-refused g c =
+    let files = g.S.FileStore.facts c.args.store.now in
+    let ahead = g.S.Input.ByteIn.ahead in
+    let Failed = HasFailed ahead g.S.Input.ByteIn.count in
+    let Asked = IsMadeFor files c.args.path.now c.args.places.now c.args.inputs.now c.args.bench (ahead c.args.content.now) c.args.len in
+    let Spoken = IsTextRead ahead c.args.script in
+    let paths = out_path (Some c.args.path.now) in
+    let Lost = FailsScript ahead Failed c.args.script in
+    handed_on (RefusesRun (OrScript (Lacks files paths) Lost) Asked Spoken Failed) _ _ c.from_residual.ensures.1
+    (lacked_refused (Lacks files paths) Lost Asked Spoken Failed c.in_err-file.field-0.0
+    (lacks_at files paths Out c.args.path.now c.in_err-file.field-0.0 refl c.in_err-file.ensures.refused c.in_err-file.ensures.lacked))

@@ -1,9 +1,14 @@
 -- What was written, or the fault, is that of the request.
-use Rattle.std.proofs.Common.{sym, subst}
+use Rattle.std.proofs.Common.{ap, refl, sym, subst}
 use Rattle.norprog_common.specs.Chip.{origin_of}
-use Rattle.norprog_common.specs.FileStore.{AreTables}
+use Rattle.nor_base.proofs.FaultLaws.{handed_on}
+use Rattle.norprog_common.specs.FileStore.{AreTables, Lacks, tables_name}
+use Rattle.norprog_common.specs.declared.faults.FileName.TheVariants.{Sfdp, Log, Out}
+use Rattle.norprog_common.proofs.LackedLemmas.{lacks_at, lacks_named}
+use Rattle.norprog_script.specs.Answer.{RefusesScript}
+use Rattle.norprog_script.specs.Served.{IsTaskOf, chip_name, paths_of}
 use Rattle.norprog_script.specs.Written.{listed}
-use Rattle.norprog_script.proofs.ServedLemmas.{done_is_written, done_is_refused, of_listing, apart_listing}
+use Rattle.norprog_script.proofs.ServedLemmas.{file_refused, done_is_written, done_is_refused, of_listing, apart_listing}
 use Rattle.norprog_script.proofs.command.run_listing.Goals as goal
 
 pub returns-clause-written : goal.returns-clause-written
@@ -27,3 +32,34 @@ returns-clause-refused g c =
     (apart_listing files c.args.request c.args.setup _ _ _ _ _ _ c.requires c.new-places.ensures.items c.in_ok-tables.ensures.noted c.in_ok-listing.ensures.stood
     c.in_ok-push.ensures.items c.as_slice.ensures.value c.in_ok-out.ensures.made) c.script_listing-answer.result
     c.flush-flushed.result _ c.script_listing-answer.ensures.written c.script_listing-answer.ensures.refused c.done.ensures
+
+-- a file that couldn't be used is the one that its option names
+pub returns-in_err-tables-clause-refused : goal.returns-in_err-tables-clause-refused
+returns-in_err-tables-clause-refused g c =
+    let files = g.S.FileStore.facts c.args.store.now in
+    let request = c.args.request in
+    let Lacked = Lacks files (paths_of request) in
+    let why = c.in_err-tables.field-0.0 in
+    handed_on (RefusesScript Lacked (IsTaskOf files request)) _ _ c.from_residual.ensures.1
+    (file_refused Lacked (IsTaskOf files request) why
+    (lacks_named files (paths_of request) Sfdp (tables_name (origin_of c.args.setup.chip)) why (ap chip_name c.requires) c.in_err-tables.ensures.refused c.in_err-tables.ensures.lacked))
+
+pub returns-in_err-listing-clause-refused : goal.returns-in_err-listing-clause-refused
+returns-in_err-listing-clause-refused g c =
+    let files = g.S.FileStore.facts c.args.store.now in
+    let request = c.args.request in
+    let Lacked = Lacks files (paths_of request) in
+    let why = c.in_err-listing.field-0.0 in
+    handed_on (RefusesScript Lacked (IsTaskOf files request)) _ _ c.from_residual-in_err-listing.ensures.1
+    (file_refused Lacked (IsTaskOf files request) why
+    (lacks_at files (paths_of request) Log request.log.now why refl c.in_err-listing.ensures.refused c.in_err-listing.ensures.lacked))
+
+pub returns-in_err-out-clause-refused : goal.returns-in_err-out-clause-refused
+returns-in_err-out-clause-refused g c =
+    let files = g.S.FileStore.facts c.args.store.now in
+    let request = c.args.request in
+    let Lacked = Lacks files (paths_of request) in
+    let why = c.in_err-out.field-0.0 in
+    handed_on (RefusesScript Lacked (IsTaskOf files request)) _ _ c.from_residual-in_err-out.ensures.1
+    (file_refused Lacked (IsTaskOf files request) why
+    (lacks_at files (paths_of request) Out request.out.now why refl c.in_err-out.ensures.refused c.in_err-out.ensures.lacked))

@@ -1,7 +1,13 @@
 -- What was written, or the fault, is that of the request.
-use Rattle.std.proofs.Common.{sym, subst, [], ◌∷◌}
+use Rattle.std.proofs.Common.{refl, sym, subst, [], ◌∷◌}
+use Rattle.nor_base.proofs.FaultLaws.{handed_on}
+use Rattle.norprog_common.specs.FileStore.{Lacks}
+use Rattle.norprog_common.specs.declared.faults.FileName.TheVariants.{Log, Out}
+use Rattle.norprog_common.proofs.LackedLemmas.{lacks_at}
+use Rattle.norprog_script.specs.Answer.{RefusesScript}
+use Rattle.norprog_script.specs.Served.{IsTaskOf, paths_of}
 use Rattle.norprog_script.specs.Written.{foreign}
-use Rattle.norprog_script.proofs.ServedLemmas.{done_is_written, done_is_refused, of_foreign, apart_foreign}
+use Rattle.norprog_script.proofs.ServedLemmas.{file_refused, done_is_written, done_is_refused, of_foreign, apart_foreign}
 use Rattle.norprog_script.proofs.command.run_log.Goals as goal
 
 pub returns-clause-written : goal.returns-clause-written
@@ -19,3 +25,24 @@ returns-clause-refused g c =
     done_is_refused files c.args.request _ (foreign c.args.request.without_identity) _ _ gave (of_foreign files c.args.request c.requires)
     (apart_foreign files c.args.request _ c.requires (c.in_ok-log.place ∷ [], (c.in_ok-log.ensures.stood, tt), c.in_ok-out.ensures.made)) c.script_log-answer.result
     c.flush-flushed.result _ c.script_log-answer.ensures.written c.script_log-answer.ensures.refused c.done.ensures
+
+-- a file that couldn't be used is the one that its option names
+pub returns-in_err-log-clause-refused : goal.returns-in_err-log-clause-refused
+returns-in_err-log-clause-refused g c =
+    let files = g.S.FileStore.facts c.args.store.now in
+    let request = c.args.request in
+    let Lacked = Lacks files (paths_of request) in
+    let why = c.in_err-log.field-0.0 in
+    handed_on (RefusesScript Lacked (IsTaskOf files request)) _ _ c.from_residual.ensures.1
+    (file_refused Lacked (IsTaskOf files request) why
+    (lacks_at files (paths_of request) Log request.log.now why refl c.in_err-log.ensures.refused c.in_err-log.ensures.lacked))
+
+pub returns-in_err-out-clause-refused : goal.returns-in_err-out-clause-refused
+returns-in_err-out-clause-refused g c =
+    let files = g.S.FileStore.facts c.args.store.now in
+    let request = c.args.request in
+    let Lacked = Lacks files (paths_of request) in
+    let why = c.in_err-out.field-0.0 in
+    handed_on (RefusesScript Lacked (IsTaskOf files request)) _ _ c.from_residual-in_err-out.ensures.1
+    (file_refused Lacked (IsTaskOf files request) why
+    (lacks_at files (paths_of request) Out request.out.now why refl c.in_err-out.ensures.refused c.in_err-out.ensures.lacked))

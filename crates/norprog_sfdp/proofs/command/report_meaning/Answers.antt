@@ -1,14 +1,15 @@
 -- The meaning is of the chip that the texts name.
-use Rattle.std.proofs.Common.{refl, inr}
+use Rattle.std.proofs.Common.{refl, inr, option_map}
 use Rattle.nor_job.specs.Task.{Task}
 use Rattle.norprog_common.specs.Chip.{origin_of}
+use Rattle.norprog_common.specs.FileStore.{Lacks, tables_name}
 use Rattle.norprog_common.specs.Setup.{chip_asked}
 use Rattle.nor_base.proofs.FaultLaws.{handed_on}
 use Rattle.norprog_common.proofs.ToldLemmas.{asked_wider, or_usage}
-use Rattle.norprog_sfdp.specs.Served.{IsChipTask, ServesChip}
+use Rattle.norprog_sfdp.specs.Served.{tables_path, IsChipTask, ServesChip}
 use Rattle.norprog_sfdp.specs.Answer.{MeansThis}
 use Rattle.norprog_sfdp.proofs.AnswerLemmas.{chip_wider}
-use Rattle.norprog_sfdp.proofs.ServedLemmas.{named_of, family_of, chip_serves, chip_is_asked}
+use Rattle.norprog_sfdp.proofs.ServedLemmas.{named_of, family_of, chip_serves, chip_is_asked, tables_asked}
 use Rattle.norprog_sfdp.proofs.command.report_meaning.Goals as goal
 
 pub returns-in-Ok-clause-printed : goal.returns-in-Ok-clause-printed
@@ -22,12 +23,16 @@ returns-in-Ok-clause-printed g c =
 pub returns-in_err-meaning-clause-first : goal.returns-in_err-meaning-clause-first
 returns-in_err-meaning-clause-first g c =
     let files = g.S.FileStore.facts c.args.store.now in
+    let origin = origin_of c.in_ok-chip.chip in
     let named = named_of origin_of c.chip_of.result c.in_ok-chip.chip (chip_asked c.args.given) c.chip_of.ensures c.in_ok-chip.ensures.ok_part in
     let family = family_of c.args.given c.unwrap_or.result _ c.part.result c.in_ok-part.part c.unwrap_or.ensures refl c.part.ensures c.in_ok-part.ensures.ok_part in
-    let wider = chip_serves files c.args.given (origin_of c.in_ok-chip.chip) c.in_ok-part.part named family in
-    let formed = chip_is_asked c.args.given (origin_of c.in_ok-chip.chip) c.in_ok-part.part named family in
+    let wider = chip_serves files c.args.given origin c.in_ok-part.part named family in
+    let formed = chip_is_asked c.args.given origin c.in_ok-part.part named family in
     handed_on _ _ _ c.from_residual-in_err-meaning.ensures.1
-    (or_usage _ _ _ formed (chip_wider files.lacked files.lacked (IsChipTask files (origin_of c.in_ok-chip.chip) c.in_ok-part.part) (ServesChip files c.args.given) (λ name lacks. lacks) wider _ c.in_err-meaning.ensures.refused))
+    (or_usage _ _ _ formed
+    (chip_wider (Lacks files (tables_path (tables_name origin))) (Lacks files (tables_path (option_map (λ t. t.now) c.args.given.sfdp)))
+    (IsChipTask files origin c.in_ok-part.part) (ServesChip files c.args.given) (tables_asked files c.args.given origin named) wider _
+    c.in_err-meaning.ensures.refused))
 
 pub returns-in-Err-clause-unprinted : goal.returns-in-Err-clause-unprinted
 returns-in-Err-clause-unprinted g c =

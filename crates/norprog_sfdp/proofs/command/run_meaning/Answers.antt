@@ -1,7 +1,13 @@
 -- The tables are those of the chip's file.
+use Rattle.std.proofs.Common.{refl}
+use Rattle.nor_base.proofs.FaultLaws.{handed_on}
 use Rattle.norprog_common.specs.Chip.{origin_of}
-use Rattle.norprog_sfdp.specs.Served.{IsTaskAlone, IsChipTask}
-use Rattle.norprog_sfdp.proofs.AnswerLemmas.{means_wider, chips_wider}
+use Rattle.norprog_common.specs.declared.faults.FileName.TheVariants.{Sfdp}
+use Rattle.norprog_common.specs.FileStore.{Lacks, tables_name}
+use Rattle.norprog_common.proofs.LackedLemmas.{lacks_named}
+use Rattle.norprog_sfdp.specs.Served.{tables_path, IsTaskAlone, IsChipTask}
+use Rattle.norprog_sfdp.specs.Answer.{RefusesMeaning}
+use Rattle.norprog_sfdp.proofs.AnswerLemmas.{file_refused, means_wider, chips_wider}
 use Rattle.norprog_sfdp.proofs.ServedLemmas.{chip_task}
 use Rattle.norprog_sfdp.proofs.command.run_meaning.Goals as goal
 
@@ -14,6 +20,16 @@ returns-clause-means g c =
 pub returns-clause-refused : goal.returns-clause-refused
 returns-clause-refused g c =
     let files = g.S.FileStore.facts c.args.store.now in
-    chips_wider (λ told. ⊥) files.lacked (IsTaskAlone (origin_of c.args.chip) c.args.part c.as_slice.result.now) (IsChipTask files (origin_of c.args.chip) c.args.part)
+    chips_wider (λ told. ⊥) (Lacks files (tables_path (tables_name (origin_of c.args.chip)))) (IsTaskAlone (origin_of c.args.chip) c.args.part c.as_slice.result.now) (IsChipTask files (origin_of c.args.chip) c.args.part)
     (λ name none. absurd none)
     (chip_task files (origin_of c.args.chip) c.args.part c.as_slice.result.now (rw c.as_slice.ensures.value c.in_ok-tables.ensures.tables)) c.chip_alone.result c.chip_alone.ensures.refused
+
+-- the tables' file couldn't be used
+pub returns-in_err-tables-clause-refused : goal.returns-in_err-tables-clause-refused
+returns-in_err-tables-clause-refused g c =
+    let files = g.S.FileStore.facts c.args.store.now in
+    let origin = origin_of c.args.chip in
+    let Lacked = Lacks files (tables_path (tables_name origin)) in
+    handed_on (RefusesMeaning Lacked (IsChipTask files origin c.args.part)) _ _ c.from_residual.ensures.1
+    (file_refused Lacked (IsChipTask files origin c.args.part) c.in_err-tables.field-0.0
+    (lacks_named files (tables_path (tables_name origin)) Sfdp (tables_name origin) c.in_err-tables.field-0.0 refl c.in_err-tables.ensures.refused c.in_err-tables.ensures.lacked))

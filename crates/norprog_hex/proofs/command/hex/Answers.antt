@@ -1,0 +1,20 @@
+-- What is answered is what the work came to.
+use Rattle.std.proofs.Common.{option_map, option_to_list}
+use Rattle.norprog_common.specs.FileStore.{Adds, Lacks}
+use Rattle.norprog_common.specs.Told.{ForAsked}
+use Rattle.norprog_hex.specs.Answer.{IsWritten, RefusesHex}
+use Rattle.norprog_hex.specs.Request.{is_well_formed}
+use Rattle.norprog_hex.specs.Served.{HexTask, Serves, ServesBin, paths_asked}
+use Rattle.norprog_hex.proofs.ServedLemmas.{answer_is}
+use Rattle.norprog_hex.proofs.command.hex.Goals as goal
+
+pub returns-clause-answer : goal.returns-clause-answer
+returns-clause-answer g c =
+    let files = g.S.FileStore.facts c.args.store.now in
+    let given = c.args.given in
+    let changes = g.S.Journal.Journal.changes in
+    answer_is files (option_to_list (option_map (λ t. t.now) given.bin)) (option_map (λ t. t.now) given.out) (Adds (changes c.args.journal.now) (changes c.converted_in.new.journal))
+    (is_well_formed given) (ForAsked HexTask (Serves files given) (IsWritten files.flushed)) _ _
+    (RefusesHex (Lacks files (paths_asked given)) (ServesBin files given) (Serves files given)) _ _ c.converted_in.result c.answered.result
+    c.converted_in.ensures.status c.converted_in.ensures.journal c.converted_in.ensures.written c.converted_in.ensures.asked c.converted_in.ensures.first
+    c.converted_in.ensures.unmade c.answered.ensures.done c.answered.ensures.told

@@ -1,0 +1,3 @@
+mod FoundLemmas
+mod WorkedLemmas
+mod RanLemmas

@@ -1,0 +1,126 @@
+-- What an answer over files in memory says of their bytes.
+use Rattle.std.proofs.Common.{◌≡◌, ◌∙◌, ℕ, List, [], ◌∷◌, Option, None, Some, option_map, inl, inr, refl, sym, ap, subst, length, arith}
+use Rattle.std.specs.Prelude.{codes}
+use Rattle.nor_base.specs.Device.{Ahead, Finite}
+use Rattle.nor_check.specs.declared.verdict.Verdict.{Verdict}
+use Rattle.nor_check.specs.declared.verdict.Verdict.TheVariants.{Yes, No}
+use Rattle.nor_script.specs.Stream.{IsTextOf}
+use Rattle.norprog_check.specs.Answer.{PrintsJudgement, verdict_status}
+use Rattle.norprog_check.specs.Served.{ServesCheck, ServesScript}
+use Rattle.norprog_common.specs.Strict.{Filled}
+use Rattle.norprog_check.specs.Checked.{IsChecked}
+use Rattle.norprog_build.specs.Answer.{PrintsReport}
+use Rattle.norprog_build.specs.Served.{ServesBuild}
+use Rattle.norprog_common.specs.Chip.{Origin, Uniform}
+use Rattle.norprog_common.specs.FileStore.{Change, Emptied, MakesNamed, MakesOutput, Named, IsTextIn, StoodAt}
+use Rattle.norprog_common.specs.Request.{asked_chip}
+use Rattle.norprog_common.specs.Served.{Job, MakesFor, Serves, input_files_asked}
+use Rattle.norprog_common.specs.declared.files.FileId.{FileId}
+use Rattle.norprog_common.specs.declared.given.BuildArgs.{BuildArgs}
+use Rattle.norprog_common.specs.declared.given.CheckArgs.{CheckArgs}
+use Rattle.norprog_common.specs.declared.given.Given.{Given}
+use Rattle.test_files.specs.Told.{bytes_in, file_of, told_files}
+use Rattle.test_files.specs.Worked.{IsBuiltOf, IsJobOfBytes, IsYesOf}
+use Rattle.test_files.specs.declared.memory.Device.{Device}
+use Rattle.test_files.specs.declared.memory.File.{File}
+
+-- a file has one content
+same_bytes : (one other : List ℕ) → Some one ≡ Some other → other ≡ one
+same_bytes one other e = cc
+
+pub some_origin : (one other : Origin) → Some one ≡ Some other → one ≡ other
+some_origin one other e = cc
+
+-- what the option's file is
+pub of_named : (Has : List ℕ → Type 0) (named : Option (List ℕ)) (name : List ℕ) → named ≡ Some name → Named Has named → Has name
+of_named Has named name is has = subst (Named Has) is has
+
+pub given_bytes : (files : List File) (name bytes other : List ℕ) → bytes_in files name ≡ Some bytes → bytes_in files name ≡ Some other → other ≡ bytes
+given_bytes files name bytes other is was = same_bytes bytes other (sym is ∙ was)
+
+-- the text of a file is its bytes
+pub text_is : (files : List File) (device : Option Device) (name bytes text : List ℕ) → bytes_in files name ≡ Some bytes → IsTextIn (told_files files device) name text
+    → text ≡ bytes
+text_is files device name bytes text is (inl gave) = given_bytes files name bytes text is gave
+text_is files device name bytes text is (inr had) =
+    let opened = had.2.1 in
+    subst (λ (ahead : Ahead). IsTextOf ahead had.1 text) opened.2 had.3 ∙ given_bytes files name bytes opened.0 is opened.1
+
+-- the job of the texts is of the bytes of the files that they name
+pub job_is : (files : List File) (device : Option Device) (given : Given) (out : Option (List ℕ)) (image content : List ℕ) → bytes_in files (codes "image") ≡ Some image
+    → bytes_in files (codes "content") ≡ Some content → option_map (λ t. t.now) given.hex ≡ Some (codes "image")
+    → option_map (λ t. t.now) given.content ≡ Some (codes "content") → (j : Job) → Serves (told_files files device) given out j → IsJobOfBytes image content j
+job_is files device given out image content held kept hex named j of =
+    let opened = of_named (λ name. (told_files files device).opened name j.content j.len) (option_map (λ t. t.now) given.content) (codes "content") named of.content in
+    let same = given_bytes files (codes "content") content opened.0 kept opened.1 in
+    record {
+      hex = given_bytes files (codes "image") image j.task.hex held
+          (of_named (λ name. (told_files files device).gave name j.task.hex) (option_map (λ t. t.now) given.hex) (codes "image") hex of.hex);
+      ahead = opened.2 ∙ ap Finite same;
+      len = opened.3 ∙ ap length same;
+    }
+
+is_yes : (verdict : Verdict) → verdict_status verdict ≡ 0 → verdict ≡ Yes
+is_yes Yes e = refl
+is_yes (No step why) e = absurd (omega (arith, e))
+
+-- a check that printed what it found, with status 0, said yes of these bytes
+pub yes_told : (files : List File) (device : Option Device) (given : CheckArgs) (image content script : List ℕ) → bytes_in files (codes "image") ≡ Some image
+    → bytes_in files (codes "content") ≡ Some content → bytes_in files (codes "script") ≡ Some script
+    → option_map (λ t. t.now) given.job.hex ≡ Some (codes "image") → option_map (λ t. t.now) given.job.content ≡ Some (codes "content")
+    → option_map (λ t. t.now) given.script ≡ Some (codes "script") → (before after : Option (List ℕ)) (status : ℕ)
+    → PrintsJudgement given.witness (Filled given.job.strict (ServesCheck (told_files files device) given)) (ServesScript (told_files files device) given) before after status
+    → status ≡ 0 → IsYesOf image content script
+yes_told files device given image content script held kept is hex named at before after status done zero =
+    let of = done.2 in
+    let text = of.has.text in
+    record {
+      job = of.it;
+      bytes = job_is files device given.job _ image content held kept hex named of.it of.asked.0;
+      after = of.has.after;
+      found = done.0;
+      checked = subst (λ (t : List ℕ). IsChecked of.it.task of.it.len t of.it.content of.has.after done.0)
+          (text_is files device (codes "script") script text is
+          (of_named (λ name. IsTextIn (told_files files device) name text) (option_map (λ t. t.now) given.script) (codes "script") at of.has.script))
+          of.has.checked;
+      yes = is_yes done.0.verdict (sym done.1 ∙ zero);
+    }
+
+-- a job that was built is of the bytes of the files, and its script has gone out
+pub built_told : (files : List File) (device : Option Device) (given : BuildArgs) (image content : List ℕ) → bytes_in files (codes "image") ≡ Some image
+    → bytes_in files (codes "content") ≡ Some content → option_map (λ t. t.now) given.job.hex ≡ Some (codes "image")
+    → option_map (λ t. t.now) given.job.content ≡ Some (codes "content") → (before after : Option (List ℕ))
+    → PrintsReport (Filled given.job.strict (ServesBuild (told_files files device) given)) (told_files files device).flushed before after → IsBuiltOf image content
+built_told files device given image content held kept hex named before after done = record {
+  job = done.of_build.it;
+  bytes = job_is files device given.job _ image content held kept hex named done.of_build.it done.of_build.asked.0;
+  report = done.report;
+  built = done.of_build.has;
+}
+
+same_place : (one other : FileId) → Some one ≡ Some other → other ≡ one
+same_place one other e = cc
+
+-- the places of two files are those that the files have
+pub two_places : (files : List File) (device : Option Device) (one other : List ℕ) (place second : FileId) → option_map (λ file. file.id) (file_of files one) ≡ Some place
+    → option_map (λ file. file.id) (file_of files other) ≡ Some second → (places : List FileId) → StoodAt (told_files files device) (one ∷ other ∷ []) places
+    → places ≡ place ∷ second ∷ []
+two_places files device one other place second at by [] stood = absurd stood
+two_places files device one other place second at by (p ∷ []) stood = absurd stood.1
+two_places files device one other place second at by (p ∷ q ∷ []) stood =
+    rw (same_place place p (sym at ∙ stood.0), same_place second q (sym by ∙ stood.1.0)) refl
+two_places files device one other place second at by (p ∷ q ∷ r ∷ ps) stood = absurd stood.1.1
+
+-- just the output was made, as neither the image nor the content
+pub made_told : (files : List File) (device : Option Device) (given : Given) (name : List ℕ) (place second : FileId) (Made : List Change → Type 0)
+    → option_map (λ file. file.id) (file_of files (codes "image")) ≡ Some place → option_map (λ file. file.id) (file_of files (codes "content")) ≡ Some second
+    → option_map (λ t. t.now) given.hex ≡ Some (codes "image") → option_map (λ t. t.now) given.content ≡ Some (codes "content") → given.layout ≡ None
+    → asked_chip given ≡ Some (Uniform 8192) → (out : Option (List ℕ)) → out ≡ Some name → MakesFor (told_files files device) given out Made
+    → Made (Emptied name (place ∷ second ∷ []) ∷ [])
+made_told files device given name place second Made at by hex named layout chip out is made =
+    let origin : Uniform 8192 ≡ made.0 = some_origin (Uniform 8192) made.0 (sym chip ∙ made.1) in
+    let inputs : input_files_asked given made.0 ≡ codes "image" ∷ codes "content" ∷ [] = rw (sym origin, hex, named, layout) refl in
+    let output = subst (λ (names : List (List ℕ)). MakesOutput (told_files files device) names name Made) inputs
+    (subst (λ (o : Option (List ℕ)). MakesNamed (told_files files device) (input_files_asked given made.0) o Made) is made.2) in
+    subst (λ (places : List FileId). Made (Emptied name places ∷ []))
+    (two_places files device (codes "image") (codes "content") place second at by output.0 output.1) output.2

@@ -1,0 +1,18 @@
+-- The files have these bytes by these names, and no refusal has status 0.
+use Rattle.std.proofs.Common.{refl, inl, inr, arith}
+use Rattle.norprog_common.proofs.ToldLemmas.{refused_status}
+use Rattle.test_files.proofs.WorkedLemmas.{yes_told}
+use Rattle.test_files.proofs.checked.check_of.Goals as goal
+
+pub returns : goal.returns
+returns g c = record {
+  yes = λ zero. elim c.check.ensures.answer [
+    | inl done ↦
+        yes_told c.files_alone-store.result.files.now c.files_alone-store.result.device c.check_args.result c.args.image.now c.args.content.now c.args.script.now
+        (rw (c.files_alone-store.ensures.files, c.file.ensures) refl)
+        (rw (c.files_alone-store.ensures.files, c.file.ensures, c.file-2.ensures) refl)
+        (rw (c.files_alone-store.ensures.files, c.file.ensures, c.file-2.ensures, c.file-3.ensures) refl)
+        c.check_args.ensures.image c.check_args.ensures.content c.check_args.ensures.script _ _ _ done.1.0 zero
+    | inr told ↦ absurd (omega (arith, zero, refused_status told.1.0 c.check.result told.1.2))
+  ];
+}

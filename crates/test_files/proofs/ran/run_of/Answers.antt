@@ -1,0 +1,26 @@
+-- The files have these bytes by these names, and no refusal has status 0.
+use Rattle.std.proofs.Common.{refl, inl, inr, arith}
+use Rattle.norprog_common.proofs.ToldLemmas.{refused_status}
+use Rattle.norprog_common.specs.FileStore.{Adds}
+use Rattle.test_files.specs.Told.{place, told_changes}
+use Rattle.test_files.proofs.RanLemmas.{output_told, run_told}
+use Rattle.test_files.proofs.ran.run_of.Goals as goal
+
+pub returns : goal.returns
+returns g c = record {
+  run = λ zero. elim c.run-status.ensures.answer [
+    | inl done ↦
+        run_told c.files_alone-store.result.files.now c.files_alone-store.result.device c.run_args.result c.args.content.now c.args.script.now
+        (rw (c.files_alone-store.ensures.files, c.file.ensures) refl) (rw (c.files_alone-store.ensures.files, c.file.ensures, c.file-2.ensures) refl)
+        c.run_args.ensures.content c.run_args.ensures.script _ _ _ done.1 zero
+    | inr told ↦ absurd (omega (arith, zero, refused_status told.1.0 c.run-status.result told.1.2))
+  ];
+  made = λ zero. elim c.run-status.ensures.answer [
+    | inl done ↦
+        output_told c.files_alone-store.result.files.now c.files_alone-store.result.device c.run_args.result _ (place 0) (place 1)
+        (Adds (told_changes c.args.journal.now) (told_changes c.run-status.new.journal))
+        (rw (c.files_alone-store.ensures.files, c.file.ensures) refl) (rw (c.files_alone-store.ensures.files, c.file.ensures, c.file-2.ensures) refl)
+        c.run_args.ensures.content c.run_args.ensures.script c.run_args.ensures.chip c.run_args.ensures.out done.2
+    | inr told ↦ absurd (omega (arith, zero, refused_status told.1.0 c.run-status.result told.1.2))
+  ];
+}

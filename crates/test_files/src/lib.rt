@@ -1,0 +1,16 @@
+//! For tests: files in memory by their names, as a store whose facts tell, and a journal that does;
+//! and commands over such files, with what their answers then say.
+#![tactic(auto)]
+
+mod built;
+mod checked;
+mod given;
+mod memory;
+mod noted;
+mod ran;
+
+pub use built::build_of;
+pub use checked::check_of;
+pub use memory::{Device, File, Memory};
+pub use noted::{Note, Noted};
+pub use ran::run_of;
