@@ -4,3 +4,4 @@ pub mod Stretches
 pub mod Joined
 pub mod Places
 pub mod Windows
+pub mod Plans

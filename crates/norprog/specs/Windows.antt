@@ -23,7 +23,6 @@ use Rattle.nor_steps.specs.Texts.{UnitText, IsText, IsBegunText, WroteText, Stop
 use Rattle.nor_steps.specs.Work.{IsSound}
 use Rattle.nor_steps.specs.Writing.{Writing, fresh}
 use Rattle.norprog.specs.declared.report.Report.{Report}
-use Rattle.norprog.specs.PlanWindows.{plan_text}
 use Rattle.nor_job.specs.Written.{AreBytes}
 use Rattle.nor_job.specs.Filled.{target_from}
 
@@ -161,11 +160,6 @@ IsCutScript job before after x y why = IsCut (λ known part bytes why. IsScriptF
 -- some of the content was read, and what was written is lines of its windows, as many as why it ended early says
 abbrev pub IsCutPlan : Job → Ahead → Ahead → Option (List ℕ) → Option (List ℕ) → BuildFault → Type 0
 IsCutPlan job before after x y why = IsCut (IsKnown unit_outline job) job before after x y why
-
--- or the lines of its units
-pub record IsToldWhole (job : Job) (before after : Ahead) (held_before held_after : Option (List ℕ)) (told : Tally) : Type 0 where
-  pub work : IsWorked job before after told
-  pub put : Appends held_before held_after (plan_text job.meaning job.start work.part (target_from job 0 work.part))
 
 -- the report of a job of which so much is told
 abbrev pub job_report : Job → Tally → Report

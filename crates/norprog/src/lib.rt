@@ -3,22 +3,24 @@
 //! transaction stands.
 //!
 //! [`build`] writes the script. Its contract says what running it on the chip does. [`plan`] writes
-//! lines that tell what that script erases, why, and what it programs. [`sfdp_text`] writes lines
-//! that say what a chip's tables mean.
+//! lines that tell what that script erases, why, and what it programs; a [`Planner`] returns them
+//! window after window. [`sfdp_text`] writes lines that say what a chip's tables mean.
 #![tactic(auto)]
 
 pub mod builder;
 mod chip_text;
-pub mod planner;
+mod lines;
+mod planner;
 pub mod report;
 mod windows;
 
 pub use builder::build;
 pub use chip_text::sfdp_text;
+pub use lines::plan;
 pub use nor_base::{ByteIn, ByteOut, Bytes, Failed, FromRead, IntoWrite, Nowhere, Part, Strategy};
 pub use nor_hex::HexFault;
 pub use nor_job::{BuildFault, Inputs, Source};
 pub use nor_layout::LayoutFault;
 pub use nor_sfdp::SfdpFault;
-pub use planner::plan;
+pub use planner::Planner;
 pub use report::{Report, write_report};

@@ -1,92 +1,211 @@
-//! From the bytes of the inputs to the lines that tell the plan of their work.
+//! The plan of a job, a window of its content after another.
 
-ghost use Rattle.std.specs.Prelude.{◌≡◌, ◌⊎◌, ◌<◌, ◌-◌, ◌+◌, ◌^◌, List, IfOk, IfErr};
-ghost use Rattle.nor_base.specs.Device.{HaveRoom};
+ghost use Rattle.std.specs.Prelude.{◌≡◌, ◌≤◌, ◌<◌, ◌-◌, ◌+◌, ◌^◌, [], length, option_map};
+ghost use Rattle.std.specs.Prelude.{IfOk, IfErr};
 ghost use Rattle.nor_base.specs.Accepted.{IsAccepted};
-ghost use Rattle.nor_base.specs.Parameters.{Parameters};
-ghost use Rattle.nor_hex.specs.Image.{Pairs};
-ghost use Rattle.nor_job.specs.Causes.{AreAccepted, RefusesInputs};
-ghost use Rattle.nor_layout.specs.Region.{Region};
-ghost use Rattle.nor_job.specs.Wanted.{ReadsWithin};
-ghost use Rattle.norprog.specs.Build.{IsLate};
-ghost use Rattle.norprog.specs.Plan.{IsPlanOf, StopsPlan};
-ghost use Rattle.norprog.specs.Windows.{IsCutPlan, IsToldWhole};
+ghost use Rattle.nor_base.specs.Device.{Ahead};
+ghost use Rattle.nor_base.specs.Strategies.{strategy as driven_by};
+ghost use Rattle.nor_geometry.specs.Plan.{IsWindow};
 ghost use Rattle.nor_job.specs.Written.{CountsReader, CountsWriter};
+ghost use Rattle.nor_job.specs.declared.fault.BuildFault.TheVariants.{Memory};
+ghost use Rattle.norprog.specs.Planner.{IsReady, IsPlannedPart, HasTold, GoesOn};
+ghost use Rattle.norprog.specs.Planner.{CutsPlan, EndsPlan, StopsBefore, StopsPlanning};
 
 use crate::builder::report_of;
 use crate::report::Report;
-use crate::windows::{lifted, room, write_windows};
-use nor_base::{ByteIn, ByteOut};
+use crate::windows::{lifted, room};
+use nor_base::ByteIn;
 use nor_geometry::{strategy, window_size};
-use nor_job::{BuildFault, Inputs, Job, job_of};
+use nor_job::{BuildFault, Job, fill_window};
 use nor_laws::spelling;
 use nor_outline::PlanWriter;
 use nor_plan_laws::there_is_planned_work;
+use nor_plan_read::PlanLine;
 use nor_steps::Tally;
+use nor_target::fill;
 use std::alloc::Global;
+use std::marker::Model;
 
-/// Writes the lines of the plan of the script that [`build`](crate::build) writes of the same
-/// inputs and content (docs/FORMATS.md, section 9). `out` isn't flushed; no line of a window goes
-/// out before the whole window is planned. Memory is taken as for the build.
-///
-/// Faults come as from the build.
-pub fn plan<R: ByteIn, W: ByteOut>(
-    alloc: Global,
-    inputs: &Inputs<'_>,
-    content: &mut R,
-    len: u64,
-    out: &mut W,
-) -> Result<Report, BuildFault>
-    requires room { HaveRoom (R.count content.old) (W.count out.old) }
-    ensures planned { IfOk result
-        (IsPlanOf inputs.now len (R.ahead content.old) (R.ahead content.new) (W.held out.old)
-        (W.held out.new)) }
-    ensures refused { IfErr result
-        (λ why. (RefusesInputs inputs.now len why × (content.new ≡ content.old)
-        × (out.new ≡ out.old))
-        ⊎ StopsPlan inputs.now len (R.ahead content.old) (R.ahead content.new) (W.held out.old)
-        (W.held out.new) why) }
-    ensures accepted { (image : Pairs) (regions : List Region) (m : Parameters)
-        → AreAccepted inputs.now len image regions m
-        → IfErr result IsLate }
-    ensures within { ReadsWithin len (R.ahead content.old) (R.ahead content.new) }
-    ensures counts { CountsReader (R.count content.old) (R.count content.new) result
-        × CountsWriter (W.count out.old) (W.count out.new) result }
-{
-    let job = job_of(alloc, inputs, len)?;
-    there_is_planned_work();
-    spelling();
-    job.meaning.acceptance();
-    let told = tell_job(alloc, &job, content, out)?;
-    Ok(report_of(&job, told))
+/// Plans the work of a job, a window of the content after another. It holds two windows.
+#[derive(Drop)]
+pub struct Planner<'j> {
+    job: &'j Job,
+    writer: PlanWriter<'j>,
+    have: Vec<u8>,
+    want: Vec<u8>,
+    /// The content before this address is planned.
+    at: u32,
+    told: Tally,
 }
 
-/// Writes the lines of a job, and returns how much its script is.
-fn tell_job<R: ByteIn, W: ByteOut>(
+impl<'j> Model for Planner<'j> {
+    ghost use Rattle.std.specs.Prelude.{length};
+    ghost use Rattle.norprog.specs.Planner.{Planning};
+
+    ghost Value = { Planning };
+
+    ghost view = { λ p. record {
+      job = p.job.now;
+      work = p.writer;
+      window = length p.have.items;
+      room = length p.want.items;
+      at = p.at;
+      told = p.told;
+    } };
+}
+
+impl<'j> Planner<'j> {
+    /// One for a job, before the first window of its content.
+    ///
+    /// `Memory` where a growth is refused.
+    pub fn new(alloc: Global, job: &'j Job) -> Result<Planner<'j>, BuildFault>
+        requires accepted { IsAccepted job.now.meaning }
+        ensures ready { IfOk result IsReady }
+        ensures job { IfOk result (λ planner. planner.job ≡ job.now) }
+        ensures told { IfOk result (λ planner. (ahead : Ahead) → HasTold planner ahead ahead []) }
+        ensures refused { IfErr result (λ why. (why ≡ Memory) × StopsBefore job.now why) }
+    {
+        let window = window_size(&job.meaning) as usize;
+        let (have, want) = room(alloc, window)?;
+        let strategy = strategy(&job.meaning, &job.start);
+        Ok(Planner {
+            job,
+            writer: PlanWriter::new(alloc, &job.meaning, &job.start, strategy, job.verify),
+            have,
+            want,
+            at: 0,
+            told: Tally::none(),
+        })
+    }
+
+    /// Reads the next window of the content, and returns the lines of the units that start in it.
+    /// None at the end of the chip.
+    ///
+    /// `ContentShort`, `Read`, `Plan` and `Memory`: the first that the work meets; never `Write`.
+    pub fn next_window<R: ByteIn>(
+        &mut self,
+        alloc: Global,
+        content: &mut R,
+    ) -> Result<Option<Vec<PlanLine>>, BuildFault>
+        requires ready { IsReady self.old }
+        requires room { R.count content.old < 2 ^ 64 - 1 }
+        ensures told { IfOk result (λ lines. GoesOn self.old self.new (R.ahead content.old)
+            (R.ahead content.new) (option_map (λ lines. lines.items) lines)) }
+        ensures stopped { IfErr result
+            (CutsPlan self.old (R.ahead content.old) (R.ahead content.new)) }
+        ensures counts { CountsReader (R.count content.old) (R.count content.new) result
+            × CountsWriter 0 0 result }
+    {
+        let job = self.job;
+        let size = job.meaning.size;
+        if self.at >= size {
+            return Ok(None);
+        }
+        let count = self.have.len().min((size - self.at) as usize);
+        let (more, lines) = part_plan(
+            alloc,
+            job,
+            self.at,
+            count,
+            self.have.as_mut_slice(),
+            self.want.as_mut_slice(),
+            &mut self.writer,
+            content,
+        )?;
+        self.told = self.told.plus(more);
+        self.at += count as u32;
+        Ok(Some(lines))
+    }
+
+    /// The report of the whole plan, after the last window.
+    ///
+    /// `Memory` where a growth is refused.
+    pub fn close(self, alloc: Global) -> Result<Report, BuildFault>
+        requires ready { IsReady self }
+        requires whole { self.at ≡ self.job.meaning.size }
+        ensures planned { IfOk result (EndsPlan self.entry) }
+        ensures stopped { IfErr result
+            (λ why. (ahead : Ahead) → CutsPlan self.entry ahead ahead why) }
+        ensures memory { IfErr result (λ why. why ≡ Memory) }
+    {
+        there_is_planned_work();
+        spelling();
+        let job = self.job;
+        job.meaning.acceptance();
+        let mut told = self.told;
+        match self.writer.close(alloc) {
+            Ok(last) => told.steps += last,
+            Err(fault) => return Err(lifted(fault)),
+        }
+        Ok(report_of(job, told))
+    }
+}
+
+/// Reads a window of so many bytes, where there may be room for more, and plans it.
+///
+/// Its faults are those of [`Planner::next_window`].
+fn part_plan<R: ByteIn>(
     alloc: Global,
     job: &Job,
+    at: u32,
+    count: usize,
+    have: &mut [u8],
+    want: &mut [u8],
+    writer: &mut PlanWriter<'_>,
     content: &mut R,
-    out: &mut W,
-) -> Result<Tally, BuildFault>
-    requires accepted { IsAccepted job.now.meaning }
-    requires room { HaveRoom (R.count content.old) (W.count out.old) }
-    ensures done { IfOk result
-        (IsToldWhole job.now (R.ahead content.old) (R.ahead content.new) (W.held out.old)
-        (W.held out.new)) }
-    ensures cut { IfErr result
-        (IsCutPlan job.now (R.ahead content.old) (R.ahead content.new) (W.held out.old)
-        (W.held out.new)) }
+) -> Result<(Tally, Vec<PlanLine>), BuildFault>
+    requires room { (count ≤ length have.old) × (count ≤ length want.old)
+        × (R.count content.old < 2 ^ 64 - 1) }
+    requires window { (writer.old.streaming.meaning ≡ job.now.meaning)
+        × (writer.old.streaming.by ≡ driven_by job.now.meaning job.now.start)
+        × IsWindow job.now.meaning (driven_by job.now.meaning job.now.start) at count
+        × (at + count ≤ 2 ^ 32) }
+    ensures planned { IfOk result
+        (λ plan. IsPlannedPart job.now writer.old writer.new at count (R.ahead content.old)
+        (R.ahead content.new) plan.0 plan.1.items) }
+    ensures stopped { IfErr result
+        (StopsPlanning job.now writer.old at count (R.ahead content.old) (R.ahead content.new)) }
     ensures counts { CountsReader (R.count content.old) (R.count content.new) result
-        × CountsWriter (W.count out.old) (W.count out.new) result }
+        × CountsWriter 0 0 result }
 {
-    let window = window_size(&job.meaning) as usize;
-    let (mut have, mut want) = room(alloc, window)?;
-    let strategy = strategy(&job.meaning, &job.start);
-    let mut writer = PlanWriter::new(alloc, &job.meaning, &job.start, strategy, job.verify);
-    let mut told = write_windows(alloc, job, &mut writer, &mut have, &mut want, content, out)?;
-    match writer.close(alloc) {
-        Ok(last) => told.steps += last,
-        Err(fault) => return Err(lifted(fault)),
+    let have = &mut have[..count];
+    let want = &mut want[..count];
+    window_plan(alloc, job, at, have, want, writer, content)
+}
+
+/// Reads a window of the content that begins at an address, and plans it. Returns how much its
+/// steps are, and its lines.
+///
+/// Its faults are those of [`Planner::next_window`].
+fn window_plan<R: ByteIn>(
+    alloc: Global,
+    job: &Job,
+    at: u32,
+    have: &mut [u8],
+    want: &mut [u8],
+    writer: &mut PlanWriter<'_>,
+    content: &mut R,
+) -> Result<(Tally, Vec<PlanLine>), BuildFault>
+    requires window { (length want.old ≡ length have.old)
+        × (writer.old.streaming.meaning ≡ job.now.meaning)
+        × (writer.old.streaming.by ≡ driven_by job.now.meaning job.now.start)
+        × IsWindow job.now.meaning (driven_by job.now.meaning job.now.start) at
+        (length have.old)
+        × (at + length have.old ≤ 2 ^ 32) }
+    requires room { R.count content.old < 2 ^ 64 - 1 }
+    ensures planned { IfOk result
+        (λ plan. IsPlannedPart job.now writer.old writer.new at (length have.old)
+        (R.ahead content.old) (R.ahead content.new) plan.0 plan.1.items) }
+    ensures stopped { IfErr result
+        (StopsPlanning job.now writer.old at (length have.old) (R.ahead content.old)
+        (R.ahead content.new)) }
+    ensures counts { CountsReader (R.count content.old) (R.count content.new) result
+        × CountsWriter 0 0 result }
+{
+    fill_window(content, have)?;
+    fill(&job.image, job.base, &job.chosen, at, have, want);
+    match writer.window_plan(alloc, at, have, want) {
+        Ok(plan) => Ok(plan),
+        Err(fault) => Err(lifted(fault)),
     }
-    Ok(told)
 }

@@ -1,19 +1,23 @@
 -- What was built, and why nothing was, of a job that is asked for.
-use Rattle.std.proofs.Common.{◌≡◌, ℕ, Bool, ◌⊎◌, inl, inr, refl, List, Option, Some, Result, Ok, Err, IfOk, IfErr}
+use Rattle.std.proofs.Common.{◌≡◌, ℕ, ◌+◌, ◌<◌, Bool, ◌⊎◌, inl, inr, refl, sym, subst, arith, List, Option, Some, Result, Ok, Err, IfOk, IfErr}
 use Rattle.std.specs.Prelude.{⊤}
 use Rattle.nor_base.specs.Device.{Ahead}
 use Rattle.nor_job.specs.declared.fault.BuildFault.{BuildFault}
+use Rattle.nor_job.specs.declared.fault.BuildFault.TheVariants as fault
 use Rattle.nor_job.specs.Causes.{RefusesInputs}
 use Rattle.nor_job.specs.Task.{Task}
+use Rattle.nor_job.specs.Written.{CountsWriter}
 use Rattle.norprog.specs.Build.{IsBuilt, StopsWork}
 use Rattle.norprog.specs.declared.report.Report.{Report}
 use Rattle.norprog_common.specs.declared.faults.FileName.{FileName}
+use Rattle.norprog_common.specs.declared.faults.FileName.TheVariants as file
 use Rattle.norprog_common.specs.declared.faults.Refusal.{Refusal}
-use Rattle.norprog_common.specs.declared.faults.Refusal.TheVariants.{Build}
-use Rattle.norprog_common.specs.Files.{TellsFile}
-use Rattle.norprog_common.specs.Told.{OfFault}
+use Rattle.norprog_common.specs.declared.faults.Refusal.TheVariants.{File, Build}
+use Rattle.norprog_common.specs.Files.{RefusesFile, TellsFile}
+use Rattle.norprog_common.specs.FileStore.{FileFacts}
+use Rattle.norprog_common.specs.Told.{OfFault, TellsBroken}
 use Rattle.norprog_common.proofs.ToldLemmas.{asked_wider, fault_wider, by_fault, by_files, refuses_wider}
-use Rattle.norprog_build.specs.Answer.{IsReportOf, IsBuildReport, IsFaultOf, IsBuildFault, RefusesBuild, done}
+use Rattle.norprog_build.specs.Answer.{HasGone, IsUntouched, IsReportOf, IsBuildReport, IsFaultOf, IsBuildFault, RefusesBuild, done}
 use Rattle.norprog_common.specs.Served.{Job, job_with}
 use Rattle.norprog_common.specs.Strict.{Filled, OrEmpty, RefusesEmpty}
 use Rattle.norprog_common.proofs.StrictLemmas.{filled_wider, empty_wider, by_empty}
@@ -29,50 +33,89 @@ report_of Asked Sent t len before after held held' (Ok report) (Ok u) r asked bu
   has = record { after = after; held_before = held; held_after = held'; begun = refl; sent = sent; built = built };
 })
 
-pub refusal_of_build : {U E : Type 0} (strict : Bool) (Lacked : FileName → Type 0) (A B : Type 0) (Asked : Job → Type 0) (t : Task) (len : ℕ) (before after : Ahead) (held held' : Option (List ℕ))
+-- a writer whose count rose has failed
+pub rose : (before after : ℕ) → after ≡ before + 1 → before < after
+rose before after one = omega (arith, one)
+
+-- a file that failed isn't flushed with Ok, so its flush says that it broke
+work_broke : {U E : Type 0} (Broke : Type 0) (before after : ℕ) (why : BuildFault) (flushed : Result U E) → CountsWriter {T = Report} before after (Err why)
+    → IfOk flushed (λ u. after ≡ 0) → IfErr flushed (λ e. Broke) → TellsBroken Broke (Build why)
+work_broke Broke before after fault.Write (Ok u) counts whole broke = let more : after ≡ before + 1 = counts in absurd (omega (arith, more, whole))
+work_broke Broke before after fault.Write (Err e) counts whole broke = broke
+work_broke Broke before after other flushed counts whole broke = tt
+
+pub build_broke : {U E : Type 0} (Broke : Type 0) (before after : ℕ) (answer : Result Report BuildFault) (flushed : Result U E) → CountsWriter before after answer
+    → IfOk flushed (λ u. after ≡ 0) → IfErr flushed (λ e. Broke) → IfErr (done answer flushed) (TellsBroken Broke)
+build_broke Broke before after (Err why) flushed counts whole broke = work_broke Broke before after why flushed counts whole broke
+build_broke Broke before after (Ok report) (Err e) counts whole broke = broke
+build_broke Broke before after (Ok report) (Ok u) counts whole broke = tt
+
+pub refusal_of_build : {U E : Type 0} (strict : Bool) (Lacked : FileName → Type 0) (Broke A B : Type 0) (Gone : Option (List ℕ) → Type 0) (Asked : Job → Type 0) (t : Task) (len : ℕ) (before after : Ahead) (held held' : Option (List ℕ))
     (answer : Result Report BuildFault) (flushed : Result U E) (r : Result Report Refusal) → Filled strict Asked (job_with t before len (Some held))
     → IfOk answer (IsBuilt t len before after held held')
     → IfErr answer (λ why. (RefusesInputs t len why × A × B) ⊎ StopsWork t len before after held held' why)
-    → r ≡ done answer flushed → IfErr r (RefusesBuild strict Lacked Asked)
-refusal_of_build strict Lacked A B Asked t len before after held held' (Err why) flushed r asked built refused is =
-    let cause : RefusesInputs t len why ⊎ StopsWork t len before after held held' why = elim refused [ inl early ↦ inl early.0 | inr late ↦ inr late ] in
-    rw is (by_fault Lacked (OrEmpty strict Asked (OfFault (IsBuildFault (Filled strict Asked)))) _ (Build why) (record {
+    → (B → held' ≡ held) → Gone held' → IfErr (done answer flushed) (TellsBroken Broke) → r ≡ done answer flushed
+    → IfErr r (RefusesBuild strict Lacked Broke Gone Asked)
+refusal_of_build strict Lacked Broke A B Gone Asked t len before after held held' (Err why) flushed r asked built refused same gone broke is =
+    let cause : (RefusesInputs t len why × (held' ≡ held)) ⊎ StopsWork t len before after held held' why =
+    elim refused [ inl early ↦ inl (early.0, same early.2) | inr late ↦ inr late ] in
+    rw is (by_fault Lacked Broke (OrEmpty strict Asked (OfFault (IsBuildFault Gone (Filled strict Asked)))) _ (Build why) broke (record {
       it = job_with t before len (Some held);
       asked = asked;
-      has = record { after = after; held_before = held; held_after = held'; begun = refl; refused = cause };
+      has = record { after = after; held_before = held; held_after = held'; begun = refl; refused = cause; gone = gone };
     }))
-refusal_of_build strict Lacked A B Asked t len before after held held' (Ok report) (Err e) r asked built refused is = rw is (inr (
-  report,
-  record {
-    it = job_with t before len (Some held);
-    asked = asked;
-    has = record { after = after; held_before = held; held_after = held'; begun = refl; sent = tt; built = built };
-  },
-))
-refusal_of_build strict Lacked A B Asked t len before after held held' (Ok report) (Ok u) r asked built refused is = rw is tt
+refusal_of_build strict Lacked Broke A B Gone Asked t len before after held held' (Ok report) (Err e) r asked built refused same gone broke is = rw is (
+  inr (
+    report,
+    record {
+      it = job_with t before len (Some held);
+      asked = asked;
+      has = record { after = after; held_before = held; held_after = held'; begun = refl; sent = tt; built = built };
+    },
+  ),
+  broke,
+)
+refusal_of_build strict Lacked Broke A B Gone Asked t len before after held held' (Ok report) (Ok u) r asked built refused same gone broke is = rw is tt
 
 -- a job that is refused as strict
-pub empty_refused : (strict : Bool) (Lacked : FileName → Type 0) (Asked : Job → Type 0) (j : Job) (why : Refusal) → Asked j → RefusesEmpty strict j.task j.len why
-    → RefusesBuild strict Lacked Asked why
-empty_refused strict Lacked Asked =
-    by_empty strict Lacked Asked (OfFault (IsBuildFault (Filled strict Asked))) ((report : Report) × IsBuildReport (Filled strict Asked) (λ held. ⊤) report)
+pub empty_refused : (strict : Bool) (Lacked : FileName → Type 0) (Broke : Type 0) (Gone : Option (List ℕ) → Type 0) (Asked : Job → Type 0) (j : Job) (why : Refusal) → Asked j → RefusesEmpty strict j.task j.len why
+    → RefusesBuild strict Lacked Broke Gone Asked why
+empty_refused strict Lacked Broke Gone Asked =
+    by_empty strict Lacked Broke Asked (OfFault (IsBuildFault Gone (Filled strict Asked))) ((report : Report) × IsBuildReport (Filled strict Asked) (λ held. ⊤) report)
 
 -- a file that couldn't be used
-pub file_refused : (strict : Bool) (L M : FileName → Type 0) (Asked : Job → Type 0) (why : Refusal) → ((told : FileName) → L told → M told) → TellsFile L why
-    → RefusesBuild strict M Asked why
-file_refused strict L M Asked =
-    by_files L M (OrEmpty strict Asked (OfFault (IsBuildFault (Filled strict Asked)))) ((report : Report) × IsBuildReport (Filled strict Asked) (λ held. ⊤) report)
+pub file_refused : (strict : Bool) (L M : FileName → Type 0) (Broke : Type 0) (Gone : Option (List ℕ) → Type 0) (Asked : Job → Type 0) (why : Refusal) → ((told : FileName) → L told → M told) → TellsFile L why
+    → RefusesBuild strict M Broke Gone Asked why
+file_refused strict L M Broke Gone Asked =
+    by_files L M Broke (OrEmpty strict Asked (OfFault (IsBuildFault Gone (Filled strict Asked)))) ((report : Report) × IsBuildReport (Filled strict Asked) (λ held. ⊤) report)
 
-pub build_wider : (strict : Bool) (L M : FileName → Type 0) (A B : Job → Type 0) → ((told : FileName) → L told → M told) → ((j : Job) → A j → B j) → (why : Refusal)
-    → RefusesBuild strict L A why → RefusesBuild strict M B why
-build_wider strict L M A B files wider =
+pub build_wider : (strict : Bool) (L M : FileName → Type 0) (D E : Type 0) (Gone : Option (List ℕ) → Type 0) (A B : Job → Type 0) → ((told : FileName) → L told → M told) → (D → E) → ((j : Job) → A j → B j)
+    → (why : Refusal) → RefusesBuild strict L D Gone A why → RefusesBuild strict M E Gone B why
+build_wider strict L M D E Gone A B files broken wider =
     let filled = filled_wider strict A B wider in
-    refuses_wider L M (OrEmpty strict A (OfFault (IsBuildFault (Filled strict A)))) (OrEmpty strict B (OfFault (IsBuildFault (Filled strict B))))
+    refuses_wider L M D E (OrEmpty strict A (OfFault (IsBuildFault Gone (Filled strict A)))) (OrEmpty strict B (OfFault (IsBuildFault Gone (Filled strict B))))
     ((report : Report) × IsBuildReport (Filled strict A) (λ held. ⊤) report) ((report : Report) × IsBuildReport (Filled strict B) (λ held. ⊤) report)
-    files
-    (empty_wider strict A B (OfFault (IsBuildFault (Filled strict A))) (OfFault (IsBuildFault (Filled strict B))) wider
-    (fault_wider (IsBuildFault (Filled strict A)) (IsBuildFault (Filled strict B)) (λ why of. asked_wider Job (Filled strict A) (Filled strict B) (IsFaultOf why) filled of)))
+    files broken
+    (empty_wider strict A B (OfFault (IsBuildFault Gone (Filled strict A))) (OfFault (IsBuildFault Gone (Filled strict B))) wider
+    (fault_wider (IsBuildFault Gone (Filled strict A)) (IsBuildFault Gone (Filled strict B)) (λ why of. asked_wider Job (Filled strict A) (Filled strict B) (IsFaultOf Gone why) filled of)))
     (λ late. (late.0, asked_wider Job (Filled strict A) (Filled strict B) (IsReportOf (λ held. ⊤) late.0) filled late.1))
+
+-- before the output is made it wasn't touched
+pub untouched : (Nothing : Type 0) → Nothing → (told : FileName) → IsUntouched Nothing told
+untouched Nothing none file.Out = tt
+untouched Nothing none other = none
+
+-- an output that couldn't be made is told by its own name
+pub out_lacks : (L : FileName → Type 0) (Nothing : Type 0) (why : Refusal) → RefusesFile file.Out why → TellsFile L why → TellsFile (λ told. L told × IsUntouched Nothing told) why
+out_lacks L Nothing (File told) named lacks = (lacks, subst (IsUntouched Nothing) (sym named) tt)
+out_lacks L Nothing (Build fault.Memory) named lacks = tt
+out_lacks L Nothing other named lacks = absurd named
+
+-- what a file had taken as it was flushed
+pub gone_out : {U E : Type 0} (files : FileFacts) (held : Option (List ℕ)) (flushed : Result U E) → IfOk flushed (λ u. files.flushed held) → IfErr flushed (λ e. files.broke)
+    → HasGone files held
+gone_out files held (Ok u) sent broke = inl sent
+gone_out files held (Err e) sent broke = inr broke
 
 -- a report that wasn't printed is one that was built, whether it has gone out or not
 pub unsent : (Asked : Job → Type 0) (Sent : Option (List ℕ) → Type 0) (report : Report) → IsBuildReport Asked Sent report → IsBuildReport Asked (λ held. ⊤) report

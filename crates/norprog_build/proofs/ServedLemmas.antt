@@ -9,7 +9,7 @@ use Rattle.norprog_common.specs.Served.{Job, IsJobOf, out_path, paths_asked, pat
 use Rattle.norprog_common.specs.Strict.{Filled}
 use Rattle.norprog_common.specs.declared.faults.FileName.{FileName}
 use Rattle.norprog_common.specs.declared.faults.Refusal.{Refusal}
-use Rattle.norprog_build.specs.Answer.{RefusesBuild}
+use Rattle.norprog_build.specs.Answer.{HasGone, LacksEarly, RefusesBuild}
 use Rattle.norprog_build.proofs.AnswerLemmas.{build_wider}
 use Rattle.norprog_common.proofs.LackedLemmas.{lacks_same, paths_are}
 use Rattle.norprog_common.proofs.ServedLemmas.{serves, asks_of, both, is_formed, is_named}
@@ -32,15 +32,15 @@ same_files files given o request path some asks out =
     lacks_same files (paths_of request (out_path (Some path))) (paths_asked given.job (out_path (option_map (λ t. t.now) given.out)))
     (paths_are given.job request (out_path (Some path)) (asks_of given.job o request some asks) ∙ ap (λ (named : Option (List ℕ)). paths_asked given.job (out_path named)) (sym out))
 
-pub build_refused : (files : FileFacts) (given : BuildArgs) (o : Option Request) (request : Request) (path : List ℕ) → o ≡ Some request → IfSome o (AsksFor given.job)
-    → option_map (λ t. t.now) given.out ≡ Some path → (why : Refusal)
-    → RefusesBuild request.strict (Lacks files (paths_of request (out_path (Some path)))) (IsJobOf files request (Some path)) why
-    → RefusesBuild given.job.strict (Lacks files (paths_asked given.job (out_path (option_map (λ t. t.now) given.out)))) (ServesBuild files given) why
-build_refused files given o request path some asks out why of =
-    let Lacked = Lacks files (paths_of request (out_path (Some path))) in
-    build_wider given.job.strict Lacked (Lacks files (paths_asked given.job (out_path (option_map (λ t. t.now) given.out)))) (IsJobOf files request (Some path))
-    (ServesBuild files given) (same_files files given o request path some asks out) (build_serves files given o request path some asks out) why
-    (subst (λ (strict : Bool). RefusesBuild strict Lacked (IsJobOf files request (Some path)) why) (asks_of given.job o request some asks).strict of)
+pub build_refused : (files : FileFacts) (given : BuildArgs) (Broke Nothing : Type 0) (o : Option Request) (request : Request) (path : List ℕ) → (files.broke → Broke) → o ≡ Some request
+    → IfSome o (AsksFor given.job) → option_map (λ t. t.now) given.out ≡ Some path → (why : Refusal)
+    → RefusesBuild request.strict (LacksEarly files (paths_of request (out_path (Some path))) Nothing) files.broke (HasGone files) (IsJobOf files request (Some path)) why
+    → RefusesBuild given.job.strict (LacksEarly files (paths_asked given.job (out_path (option_map (λ t. t.now) given.out))) Nothing) Broke (HasGone files) (ServesBuild files given) why
+build_refused files given Broke Nothing o request path broken some asks out why of =
+    let Lacked = LacksEarly files (paths_of request (out_path (Some path))) Nothing in
+    build_wider given.job.strict Lacked (LacksEarly files (paths_asked given.job (out_path (option_map (λ t. t.now) given.out))) Nothing) files.broke Broke (HasGone files) (IsJobOf files request (Some path))
+    (ServesBuild files given) (λ told lacks. (same_files files given o request path some asks out told lacks.0, lacks.1)) broken (build_serves files given o request path some asks out) why
+    (subst (λ (strict : Bool). RefusesBuild strict Lacked files.broke (HasGone files) (IsJobOf files request (Some path)) why) (asks_of given.job o request some asks).strict of)
 
 pub build_asked : (given : BuildArgs) (o : Option Request) (request : Request) (path : List ℕ) → o ≡ Some request → is_some o ≡ is_well_formed given.job
     → option_map (λ t. t.now) given.out ≡ Some path → asks_build given ≡ true

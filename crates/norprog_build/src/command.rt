@@ -1,12 +1,13 @@
 //! `build`: from the texts of the command line to the script in its file.
 
-ghost use Rattle.std.specs.Prelude.{◌≡◌, ◌<◌, ◌≤◌, ◌-◌, ◌^◌, Some, true, option_map};
+ghost use Rattle.std.specs.Prelude.{◌≡◌, ◌<◌, ◌≤◌, ◌-◌, ◌^◌, [], Some, false, true};
+ghost use Rattle.std.specs.Prelude.{option_map};
 ghost use Rattle.std.specs.Prelude.{IfOk, IfErr, MatchResult};
 ghost use Rattle.norprog_common.specs.Told.{OrUsage};
 ghost use Rattle.norprog_build.specs.Served.{asks_build, ServesBuild};
 ghost use Rattle.norprog_build.specs.Answer.{IsBuildReport, RefusesBuild, PrintsReport, CutsReport};
-ghost use Rattle.norprog_build.specs.Answer.{AnswersBuild, done};
-ghost use Rattle.norprog_common.specs.FileStore.{Adds, Lacks, MakesIf};
+ghost use Rattle.norprog_build.specs.Answer.{AnswersBuild, HasGone, LacksEarly, done};
+ghost use Rattle.norprog_common.specs.FileStore.{Adds, Breaks, MakesIf};
 ghost use Rattle.norprog_common.specs.Served.{IsJobOf, MakesFor, MayMakeFor, input_files_of};
 ghost use Rattle.norprog_common.specs.Served.{out_path, paths_asked, paths_of};
 ghost use Rattle.norprog_common.specs.Strict.{Filled};
@@ -36,6 +37,7 @@ pub fn build<S: FileStore, O: ByteOut, E: ByteOut>(
     ensures quiet { result ≡ 0 → err.new ≡ err.old }
     ensures answer { AnswersBuild (S.facts store.now) given.entry
         (Adds (S.Journal.changes journal.old) (S.Journal.changes journal.new))
+        (Breaks (S.facts store.now) (O.count out.old) (O.count out.new))
         (O.held out.old) (O.held out.new) (err.new ≡ err.old)
         (E.count err.new ≡ E.count err.old) (E.held err.old) (E.held err.new) result }
 {
@@ -58,7 +60,9 @@ fn report_build<S: FileStore, O: ByteOut>(
         (Adds (S.Journal.changes journal.old) (S.Journal.changes journal.new)))
         (λ _. MayMakeFor (S.facts store.now) given.entry.job
         (option_map (λ t. t.now) given.entry.out)
-        (Adds (S.Journal.changes journal.old) (S.Journal.changes journal.new))) }
+        (Adds (S.Journal.changes journal.old) (S.Journal.changes journal.new))
+        × (asks_build given.entry ≡ false
+        → Adds (S.Journal.changes journal.old) (S.Journal.changes journal.new) [])) }
     ensures printed { IfOk result
         (λ _. PrintsReport (Filled given.entry.job.strict
         (ServesBuild (S.facts store.now) given.entry))
@@ -69,9 +73,11 @@ fn report_build<S: FileStore, O: ByteOut>(
         (S.facts store.now).flushed (O.held out.old) (O.held out.new)) }
     ensures first { IfErr result
         (OrUsage (asks_build given.entry)
-        (RefusesBuild given.entry.job.strict (Lacks (S.facts store.now)
-        (paths_asked given.entry.job (out_path (option_map (λ t. t.now) given.entry.out))))
-        (ServesBuild (S.facts store.now) given.entry))) }
+        (RefusesBuild given.entry.job.strict (LacksEarly (S.facts store.now)
+        (paths_asked given.entry.job (out_path (option_map (λ t. t.now) given.entry.out)))
+        (Adds (S.Journal.changes journal.old) (S.Journal.changes journal.new) []))
+        (Breaks (S.facts store.now) (O.count out.old) (O.count out.new))
+        (HasGone (S.facts store.now)) (ServesBuild (S.facts store.now) given.entry))) }
 {
     let request = request_of(given.job).ok_or(Refusal::Usage)?;
     let path = given.out.ok_or(Refusal::Usage)?;
@@ -97,7 +103,9 @@ fn run_build<S: FileStore>(
         (IsJobOf (S.facts store.now) request.now (Some path.now)))
         (S.facts store.now).flushed) }
     ensures refused { IfErr result (RefusesBuild request.now.strict
-        (Lacks (S.facts store.now) (paths_of request.now (out_path (Some path.now))))
+        (LacksEarly (S.facts store.now) (paths_of request.now (out_path (Some path.now)))
+        (Adds (S.Journal.changes journal.old) (S.Journal.changes journal.new) []))
+        (S.facts store.now).broke (HasGone (S.facts store.now))
         (IsJobOf (S.facts store.now) request.now (Some path.now))) }
 {
     let mut places = Vec::new(alloc);

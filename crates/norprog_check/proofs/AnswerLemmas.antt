@@ -1,5 +1,5 @@
 -- What was judged, and why nothing was, of a job that is asked for.
-use Rattle.std.proofs.Common.{◌≡◌, ℕ, ◌+◌, Bool, ◌⊎◌, inl, inr, refl, sym, subst, List, Result, Ok, Err, IfOk, IfErr, arith}
+use Rattle.std.proofs.Common.{◌≡◌, ℕ, ◌+◌, ◌<◌, Bool, ◌⊎◌, inl, inr, refl, sym, subst, List, Result, Ok, Err, IfOk, IfErr, arith}
 use Rattle.nor_base.specs.declared.device.Failed.{Failed as Failure}
 use Rattle.nor_base.specs.Device.{Ahead}
 use Rattle.nor_job.specs.declared.fault.BuildFault.{BuildFault}
@@ -24,26 +24,38 @@ use Rattle.norprog_common.specs.declared.faults.Refusal.TheVariants.{Text, Usage
 use Rattle.norprog_common.proofs.ToldLemmas.{by_fault, by_files, refuses_wider}
 use Rattle.norprog_common.specs.Files.{TellsFile}
 use Rattle.norprog_common.specs.Reading.{GivesSome, HasFailed}
+use Rattle.norprog_common.specs.Told.{TellsBroken}
 use Rattle.norprog_common.specs.Served.{Job, Is}
 use Rattle.norprog_common.specs.Strict.{Filled, OrEmpty, RefusesEmpty}
 use Rattle.norprog_common.proofs.StrictLemmas.{filled_wider, empty_wider, by_empty}
 use Rattle.norprog_check.specs.Answer.{BlamesContent, StopsOn, IsCheckFinding, IsStopOf, IsCheckFault, RefusesCheck, RefusesAsked, stop_refusal, stream_refusal}
 
+-- a writer whose count rose has failed
+pub rose : (before after : ℕ) → after ≡ before + 1 → before < after
+rose before after one = omega (arith, one)
+
+-- a check writes nothing, so it isn't told that an output failed
+no_write : (Broke : Type 0) (IsText : List ℕ → Type 0) (Failed : Ahead → Type 0) (j : Job) (why : BuildFault) → IsStopOf IsText Failed (stop.Build why) j
+    → TellsBroken Broke (Build why)
+no_write Broke IsText Failed j fault.Write (inl inputs) = absurd inputs
+no_write Broke IsText Failed j fault.Write (inr on) = elim on.stopped [ inl texts ↦ absurd texts | inr content ↦ absurd content.stops.cause ]
+no_write Broke IsText Failed j other stopped = tt
+
 -- a stop of the check of a text that is so is told as a fault
-pub stop_of : (Lacked : FileName → Type 0) (Asked : Job → Type 0) (IsText : List ℕ → Type 0) (Failed : Ahead → Type 0) (j : Job) (why : CheckStop) → Asked j
-    → IsStopOf IsText Failed why j → RefusesCheck Lacked Asked IsText Failed (stop_refusal why)
-stop_of Lacked Asked IsText Failed j (stop.Build why) asked stopped = by_fault Lacked (IsCheckFault Asked IsText Failed) _ (Build why) (record {
+pub stop_of : (Lacked : FileName → Type 0) (Broke : Type 0) (Asked : Job → Type 0) (IsText : List ℕ → Type 0) (Failed : Ahead → Type 0) (j : Job) (why : CheckStop) → Asked j
+    → IsStopOf IsText Failed why j → RefusesCheck Lacked Broke Asked IsText Failed (stop_refusal why)
+stop_of Lacked Broke Asked IsText Failed j (stop.Build why) asked stopped = by_fault Lacked Broke (IsCheckFault Asked IsText Failed) _ (Build why) (no_write Broke IsText Failed j why stopped) (record {
   it = j;
   asked = asked;
   has = stopped;
 })
-stop_of Lacked Asked IsText Failed j (stop.Script script.Memory) asked stopped = tt
-stop_of Lacked Asked IsText Failed j (stop.Script (script.Header line)) asked stopped = record { it = j; asked = asked; has = stopped }
-stop_of Lacked Asked IsText Failed j (stop.Script (script.BadLine line)) asked stopped = record { it = j; asked = asked; has = stopped }
-stop_of Lacked Asked IsText Failed j (stop.Script (script.BadSymbol line)) asked stopped = record { it = j; asked = asked; has = stopped }
-stop_of Lacked Asked IsText Failed j (stop.Script (script.BadCount line)) asked stopped = record { it = j; asked = asked; has = stopped }
-stop_of Lacked Asked IsText Failed j (stop.Script (script.NoEnd line)) asked stopped = record { it = j; asked = asked; has = stopped }
-stop_of Lacked Asked IsText Failed j (stop.Script (script.AfterEnd line)) asked stopped = record { it = j; asked = asked; has = stopped }
+stop_of Lacked Broke Asked IsText Failed j (stop.Script script.Memory) asked stopped = tt
+stop_of Lacked Broke Asked IsText Failed j (stop.Script (script.Header line)) asked stopped = record { it = j; asked = asked; has = stopped }
+stop_of Lacked Broke Asked IsText Failed j (stop.Script (script.BadLine line)) asked stopped = record { it = j; asked = asked; has = stopped }
+stop_of Lacked Broke Asked IsText Failed j (stop.Script (script.BadSymbol line)) asked stopped = record { it = j; asked = asked; has = stopped }
+stop_of Lacked Broke Asked IsText Failed j (stop.Script (script.BadCount line)) asked stopped = record { it = j; asked = asked; has = stopped }
+stop_of Lacked Broke Asked IsText Failed j (stop.Script (script.NoEnd line)) asked stopped = record { it = j; asked = asked; has = stopped }
+stop_of Lacked Broke Asked IsText Failed j (stop.Script (script.AfterEnd line)) asked stopped = record { it = j; asked = asked; has = stopped }
 
 -- of a job whose content's reader failed once more where that is told
 module _ {R : Type 0} (ahead : R → Ahead) (count : R → ℕ) (content after : R) where
@@ -81,7 +93,7 @@ module _ {R : Type 0} (ahead : R → Ahead) (count : R → ℕ) (content after :
     faulty : (text : List ℕ) (why : ScriptFault) → IsText text → AreTaken j.task j.len × IsFault text why → StopsOn IsText Failed (stop.Script why) j
     faulty text why is fault = record { text = text; script = is; after = ahead after; stopped = inl fault; blamed = tt }
 
-    module _ (Lacked : FileName → Type 0) (told : Refusal) where
+    module _ (Lacked : FileName → Type 0) (Broke : Type 0) (told : Refusal) where
       -- a check of a script that is held
       text_stop : (C : Type 0) (text : List ℕ) (why : CheckStop) → IsText text
           → (RefusesTexts j.task j.len text why × C) ⊎ StopsCheck j.task j.len text (ahead content) (ahead after) why
@@ -93,8 +105,8 @@ module _ {R : Type 0} (ahead : R → Ahead) (count : R → ℕ) (content after :
 
       pub refusal_of_check : (C : Type 0) (text : List ℕ) (why : CheckStop) → IsText text
           → (RefusesTexts j.task j.len text why × C) ⊎ StopsCheck j.task j.len text (ahead content) (ahead after) why
-          → count after ≡ count content + failures_of why → told ≡ stop_refusal why → RefusesCheck Lacked (Is j) IsText Failed told
-      refusal_of_check C text why is refused counts same = rw same (stop_of Lacked (Is j) IsText Failed j why refl (text_stop C text why is refused counts))
+          → count after ≡ count content + failures_of why → told ≡ stop_refusal why → RefusesCheck Lacked Broke (Is j) IsText Failed told
+      refusal_of_check C text why is refused counts same = rw same (stop_of Lacked Broke (Is j) IsText Failed j why refl (text_stop C text why is refused counts))
 
       -- of one that is read twice, by readers that hadn't failed
       module _ (first over again rest : Ahead) (wide : (text : List ℕ) → IsTextOf first over text ⊎ IsTextOf again rest text → IsText text) where
@@ -149,9 +161,9 @@ module _ {R : Type 0} (ahead : R → Ahead) (count : R → ℕ) (content after :
         pub refusal_of_streams : (P Q R S : Type 0) (why : StreamStop) → Why P Q R S why → CountsStop {T = Finding} of_content (count content) (count after) (Err why)
             → ((failed : Failure) → why ≡ stream.First failed → GivesSome first over → Lacked file.Script)
             → ((failed : Failure) → why ≡ stream.Again failed → GivesSome again rest → Lacked file.Script)
-            → told ≡ stream_refusal why → RefusesCheck Lacked (Is j) IsText Failed told
+            → told ≡ stream_refusal why → RefusesCheck Lacked Broke (Is j) IsText Failed told
         refusal_of_streams P Q R S (stream.Check why) refused counts once twice same =
-            rw same (stop_of Lacked (Is j) IsText Failed j why refl (check_stop P Q R S why refused counts))
+            rw same (stop_of Lacked Broke (Is j) IsText Failed j why refl (check_stop P Q R S why refused counts))
         refusal_of_streams P Q R S (stream.First failed) refused counts once twice same = rw same (inl (once failed refl (first_gave P Q R S failed refused)))
         refusal_of_streams P Q R S (stream.Again failed) refused counts once twice same = rw same (inl (twice failed refl (again_gave P Q R S failed refused)))
 
@@ -186,11 +198,11 @@ verdict_wider A B P Q wider more found of = record {
   has = record { text = of.has.text; script = more of.has.text of.has.script; after = of.has.after; checked = of.has.checked };
 }
 
-pub check_wider : (L M : FileName → Type 0) (A B : Job → Type 0) (P Q : List ℕ → Type 0) (F : Ahead → Type 0) → ((name : FileName) → L name → M name) → ((j : Job) → A j → B j) → ((text : List ℕ) → P text → Q text) → (why : Refusal)
-    → RefusesCheck L A P F why → RefusesCheck M B Q F why
-check_wider L M A B P Q F files wider more =
-    refuses_wider L M (IsCheckFault A P F) (IsCheckFault B Q F) ((found : Finding) × IsCheckFinding A P found) ((found : Finding) × IsCheckFinding B Q found)
-    files (check_fault_wider A B P Q F wider more) (λ late. (late.0, verdict_wider A B P Q wider more late.0 late.1))
+pub check_wider : (L M : FileName → Type 0) (Broke : Type 0) (A B : Job → Type 0) (P Q : List ℕ → Type 0) (F : Ahead → Type 0) → ((name : FileName) → L name → M name) → ((j : Job) → A j → B j) → ((text : List ℕ) → P text → Q text) → (why : Refusal)
+    → RefusesCheck L Broke A P F why → RefusesCheck M Broke B Q F why
+check_wider L M Broke A B P Q F files wider more =
+    refuses_wider L M Broke Broke (IsCheckFault A P F) (IsCheckFault B Q F) ((found : Finding) × IsCheckFinding A P found) ((found : Finding) × IsCheckFinding B Q found)
+    files (λ broke. broke) (check_fault_wider A B P Q F wider more) (λ late. (late.0, verdict_wider A B P Q wider more late.0 late.1))
 
 -- the same of an answer
 pub verdicts_wider : (A B : Job → Type 0) (P Q : List ℕ → Type 0) → ((j : Job) → A j → B j) → ((text : List ℕ) → P text → Q text) → (r : Result Finding Refusal)
@@ -198,10 +210,10 @@ pub verdicts_wider : (A B : Job → Type 0) (P Q : List ℕ → Type 0) → ((j 
 verdicts_wider A B P Q wider more (Ok found) of = verdict_wider A B P Q wider more found of
 verdicts_wider A B P Q wider more (Err why) of = tt
 
-pub refusals_wider : (L M : FileName → Type 0) (A B : Job → Type 0) (P Q : List ℕ → Type 0) (F : Ahead → Type 0) → ((name : FileName) → L name → M name) → ((j : Job) → A j → B j) → ((text : List ℕ) → P text → Q text) → (r : Result Finding Refusal)
-    → IfErr r (RefusesCheck L A P F) → IfErr r (RefusesCheck M B Q F)
-refusals_wider L M A B P Q F files wider more (Ok found) of = tt
-refusals_wider L M A B P Q F files wider more (Err why) of = check_wider L M A B P Q F files wider more why of
+pub refusals_wider : (L M : FileName → Type 0) (Broke : Type 0) (A B : Job → Type 0) (P Q : List ℕ → Type 0) (F : Ahead → Type 0) → ((name : FileName) → L name → M name) → ((j : Job) → A j → B j) → ((text : List ℕ) → P text → Q text) → (r : Result Finding Refusal)
+    → IfErr r (RefusesCheck L Broke A P F) → IfErr r (RefusesCheck M Broke B Q F)
+refusals_wider L M Broke A B P Q F files wider more (Ok found) of = tt
+refusals_wider L M Broke A B P Q F files wider more (Err why) of = check_wider L M Broke A B P Q F files wider more why of
 
 -- ---- strict jobs
 -- a fault of the check is told as such
@@ -217,31 +229,31 @@ told_so strict A B P F (Steps number) is = is
 told_so strict A B P F (EmptyRegion index) is = absurd is
 told_so strict A B P F (Log line) is = is
 
-pub asked_refused : (strict : Bool) (L : FileName → Type 0) (A : Job → Type 0) (P : List ℕ → Type 0) (F : Ahead → Type 0) (r : Result Finding Refusal)
-    → IfErr r (RefusesCheck L (Filled strict A) P F) → IfErr r (RefusesAsked strict L A P F)
-asked_refused strict L A P F (Ok found) is = tt
-asked_refused strict L A P F (Err why) is =
-    refuses_wider L L (IsCheckFault (Filled strict A) P F) (OrEmpty strict A (IsCheckFault (Filled strict A) P F))
+pub asked_refused : (strict : Bool) (L : FileName → Type 0) (Broke : Type 0) (A : Job → Type 0) (P : List ℕ → Type 0) (F : Ahead → Type 0) (r : Result Finding Refusal)
+    → IfErr r (RefusesCheck L Broke (Filled strict A) P F) → IfErr r (RefusesAsked strict L Broke A P F)
+asked_refused strict L Broke A P F (Ok found) is = tt
+asked_refused strict L Broke A P F (Err why) is =
+    refuses_wider L L Broke Broke (IsCheckFault (Filled strict A) P F) (OrEmpty strict A (IsCheckFault (Filled strict A) P F))
     ((found : Finding) × IsCheckFinding (Filled strict A) P found) ((found : Finding) × IsCheckFinding (Filled strict A) P found)
-    (λ name lacks. lacks) (told_so strict A (Filled strict A) P F) (λ late. late) why is
+    (λ name lacks. lacks) (λ broke. broke) (told_so strict A (Filled strict A) P F) (λ late. late) why is
 
-pub asked_wider_check : (strict : Bool) (L M : FileName → Type 0) (A B : Job → Type 0) (P Q : List ℕ → Type 0) (F : Ahead → Type 0) → ((name : FileName) → L name → M name)
-    → ((j : Job) → A j → B j) → ((text : List ℕ) → P text → Q text) → (why : Refusal) → RefusesAsked strict L A P F why → RefusesAsked strict M B Q F why
-asked_wider_check strict L M A B P Q F files wider more =
+pub asked_wider_check : (strict : Bool) (L M : FileName → Type 0) (D E : Type 0) (A B : Job → Type 0) (P Q : List ℕ → Type 0) (F : Ahead → Type 0) → ((name : FileName) → L name → M name)
+    → (D → E) → ((j : Job) → A j → B j) → ((text : List ℕ) → P text → Q text) → (why : Refusal) → RefusesAsked strict L D A P F why → RefusesAsked strict M E B Q F why
+asked_wider_check strict L M D E A B P Q F files broken wider more =
     let filled = filled_wider strict A B wider in
-    refuses_wider L M (OrEmpty strict A (IsCheckFault (Filled strict A) P F)) (OrEmpty strict B (IsCheckFault (Filled strict B) Q F))
+    refuses_wider L M D E (OrEmpty strict A (IsCheckFault (Filled strict A) P F)) (OrEmpty strict B (IsCheckFault (Filled strict B) Q F))
     ((found : Finding) × IsCheckFinding (Filled strict A) P found) ((found : Finding) × IsCheckFinding (Filled strict B) Q found)
-    files
+    files broken
     (empty_wider strict A B (IsCheckFault (Filled strict A) P F) (IsCheckFault (Filled strict B) Q F) wider (check_fault_wider (Filled strict A) (Filled strict B) P Q F filled more))
     (λ late. (late.0, verdict_wider (Filled strict A) (Filled strict B) P Q filled more late.0 late.1))
 
 -- and a file that couldn't be used as that
-pub lacked_refused : (strict : Bool) (L M : FileName → Type 0) (A : Job → Type 0) (P : List ℕ → Type 0) (F : Ahead → Type 0) (why : Refusal)
-    → ((name : FileName) → L name → M name) → TellsFile L why → RefusesAsked strict M A P F why
-lacked_refused strict L M A P F =
-    by_files L M (OrEmpty strict A (IsCheckFault (Filled strict A) P F)) ((found : Finding) × IsCheckFinding (Filled strict A) P found)
+pub lacked_refused : (strict : Bool) (L M : FileName → Type 0) (Broke : Type 0) (A : Job → Type 0) (P : List ℕ → Type 0) (F : Ahead → Type 0) (why : Refusal)
+    → ((name : FileName) → L name → M name) → TellsFile L why → RefusesAsked strict M Broke A P F why
+lacked_refused strict L M Broke A P F =
+    by_files L M Broke (OrEmpty strict A (IsCheckFault (Filled strict A) P F)) ((found : Finding) × IsCheckFinding (Filled strict A) P found)
 
-pub empty_refused : (strict : Bool) (L : FileName → Type 0) (A : Job → Type 0) (P : List ℕ → Type 0) (F : Ahead → Type 0) (j : Job) (why : Refusal) → A j → RefusesEmpty strict j.task j.len why
-    → RefusesAsked strict L A P F why
-empty_refused strict L A P F =
-    by_empty strict L A (IsCheckFault (Filled strict A) P F) ((found : Finding) × IsCheckFinding (Filled strict A) P found)
+pub empty_refused : (strict : Bool) (L : FileName → Type 0) (Broke : Type 0) (A : Job → Type 0) (P : List ℕ → Type 0) (F : Ahead → Type 0) (j : Job) (why : Refusal) → A j → RefusesEmpty strict j.task j.len why
+    → RefusesAsked strict L Broke A P F why
+empty_refused strict L Broke A P F =
+    by_empty strict L Broke A (IsCheckFault (Filled strict A) P F) ((found : Finding) × IsCheckFinding (Filled strict A) P found)

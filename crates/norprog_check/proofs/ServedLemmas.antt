@@ -39,16 +39,16 @@ check_lacks files given request path asks script told lacks =
     (lacks_same files _ _ (paths_are given.job request (script_path (Some path)) asks) told lacks)
 
 pub check_refused : (files : FileFacts) (given : CheckArgs) (o : Option Request) (request : Request) (path : List ℕ) → o ≡ Some request → IfSome o (AsksFor given.job)
-    → option_map (λ t. t.now) given.script ≡ Some path → (Failed : Ahead → Type 0) (why : Refusal)
-    → RefusesAsked request.strict (OrScript (Lacks files (paths_of request (script_path (Some path)))) (FailsReading files Failed path)) (IsJobOf files request None) (IsTextIn files path) Failed why
-    → RefusesAsked given.job.strict (OrScript (Lacks files (check_paths given)) (FailsScriptOf files Failed given)) (ServesCheck files given) (ServesScript files given) Failed why
-check_refused files given o request path some asks script Failed why of =
+    → option_map (λ t. t.now) given.script ≡ Some path → (Failed : Ahead → Type 0) (Broke : Type 0) (why : Refusal)
+    → RefusesAsked request.strict (OrScript (Lacks files (paths_of request (script_path (Some path)))) (FailsReading files Failed path)) ⊥ (IsJobOf files request None) (IsTextIn files path) Failed why
+    → RefusesAsked given.job.strict (OrScript (Lacks files (check_paths given)) (FailsScriptOf files Failed given)) Broke (ServesCheck files given) (ServesScript files given) Failed why
+check_refused files given o request path some asks script Failed Broke why of =
     asked_wider_check given.job.strict (OrScript (Lacks files (paths_of request (script_path (Some path)))) (FailsReading files Failed path))
-    (OrScript (Lacks files (check_paths given)) (FailsScriptOf files Failed given))
+    (OrScript (Lacks files (check_paths given)) (FailsScriptOf files Failed given)) ⊥ Broke
     (IsJobOf files request None) (ServesCheck files given) (IsTextIn files path) (ServesScript files given) Failed
     (λ name lacks. elim lacks [ inl lacked ↦ inl (check_lacks files given request path (asks_of given.job o request some asks) script name lacked) | inr failed ↦ inr (failed.0, subst (Named (FailsReading files Failed)) (sym script) failed.1) ])
-    (check_serves files given o request some asks) (script_serves files given path script) why
-    (subst (λ (strict : Bool). RefusesAsked strict (OrScript (Lacks files (paths_of request (script_path (Some path)))) (FailsReading files Failed path)) (IsJobOf files request None) (IsTextIn files path) Failed why)
+    (λ none. absurd none) (check_serves files given o request some asks) (script_serves files given path script) why
+    (subst (λ (strict : Bool). RefusesAsked strict (OrScript (Lacks files (paths_of request (script_path (Some path)))) (FailsReading files Failed path)) ⊥ (IsJobOf files request None) (IsTextIn files path) Failed why)
     (asks_of given.job o request some asks).strict of)
 
 pub check_asked : (given : CheckArgs) (o : Option Request) (request : Request) (path : List ℕ) → o ≡ Some request → is_some o ≡ is_well_formed given.job

@@ -63,15 +63,15 @@ IsCheckFault Asked IsText Failed (Build why) = ForAsked Job Asked (IsStopOf IsTe
 IsCheckFault Asked IsText Failed (Script why) = ForAsked Job Asked (IsStopOf IsText Failed (stop.Script why))
 IsCheckFault Asked IsText Failed other = ⊥
 
--- why a check that was asked for has no verdict
-abbrev pub RefusesCheck : (FileName → Type 0) → (Job → Type 0) → (List ℕ → Type 0) → (Ahead → Type 0) → Refusal → Type 0
-RefusesCheck Lacked Asked IsText Failed = RefusesFor Lacked (IsCheckFault Asked IsText Failed) ((found : Finding) × IsCheckFinding Asked IsText found)
+-- why a check that was asked for has no verdict; `Broke`: an output failed
+abbrev pub RefusesCheck : (FileName → Type 0) → Type 0 → (Job → Type 0) → (List ℕ → Type 0) → (Ahead → Type 0) → Refusal → Type 0
+RefusesCheck Lacked Broke Asked IsText Failed = RefusesFor Lacked Broke (IsCheckFault Asked IsText Failed) ((found : Finding) × IsCheckFinding Asked IsText found)
 
 -- the same where a job may be strict: the first chosen region without a byte of the image is told, and of a check that went further
 -- each has one
-abbrev pub RefusesAsked : Bool → (FileName → Type 0) → (Job → Type 0) → (List ℕ → Type 0) → (Ahead → Type 0) → Refusal → Type 0
-RefusesAsked strict Lacked Asked IsText Failed =
-    RefusesFor Lacked (OrEmpty strict Asked (IsCheckFault (Filled strict Asked) IsText Failed)) ((found : Finding) × IsCheckFinding (Filled strict Asked) IsText found)
+abbrev pub RefusesAsked : Bool → (FileName → Type 0) → Type 0 → (Job → Type 0) → (List ℕ → Type 0) → (Ahead → Type 0) → Refusal → Type 0
+RefusesAsked strict Lacked Broke Asked IsText Failed =
+    RefusesFor Lacked Broke (OrEmpty strict Asked (IsCheckFault (Filled strict Asked) IsText Failed)) ((found : Finding) × IsCheckFinding (Filled strict Asked) IsText found)
 
 -- a check's stop as a refusal: want of memory is the program's own
 abbrev pub stop_refusal : CheckStop → Refusal
@@ -96,11 +96,12 @@ CutsVerdict witness Asked IsText before after =
     (after ≡ before) ⊎ ((found : Finding) × IsCheckFinding Asked IsText found × Cuts before after (finding_text witness found))
 
 -- what `check` answers to the texts of a command line: the lines of what it found, with the verdict's status, or a refusal; `Failed`: a
--- reader of the store that had this ahead has failed
-abbrev pub AnswersCheck : FileFacts → (Ahead → Type 0) → CheckArgs → Option (List ℕ) → Option (List ℕ) → Type 0 → Type 0 → Option (List ℕ) → Option (List ℕ) → ℕ → Type 0
-AnswersCheck files Failed given before after Quiet Works told_before told_after status =
+-- reader of the store that had this ahead has failed; `Broke`: the output that is printed to has
+abbrev pub AnswersCheck : FileFacts → (Ahead → Type 0) → CheckArgs → Type 0 → Option (List ℕ) → Option (List ℕ) → Type 0 → Type 0 → Option (List ℕ) → Option (List ℕ) → ℕ → Type 0
+AnswersCheck files Failed given Broke before after Quiet Works told_before told_after status =
     Answers (asks_check given)
     (PrintsJudgement given.witness (Filled given.job.strict (ServesCheck files given)) (ServesScript files given) before after status × Quiet)
     (CutsVerdict given.witness (Filled given.job.strict (ServesCheck files given)) (ServesScript files given) before after)
-    (RefusesAsked given.job.strict (OrScript (Lacks files (check_paths given)) (FailsScriptOf files Failed given)) (ServesCheck files given) (ServesScript files given) Failed)
+    (RefusesAsked given.job.strict (OrScript (Lacks files (check_paths given)) (FailsScriptOf files Failed given)) Broke (ServesCheck files given) (ServesScript files given)
+    Failed)
     Works told_before told_after status

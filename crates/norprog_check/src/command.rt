@@ -46,8 +46,8 @@ pub fn check<S: FileStore, O: ByteOut, E: ByteOut>(
     ensures status { result ≤ 2 }
     ensures quiet { result ≡ 0 → err.new ≡ err.old }
     ensures answer { AnswersCheck (S.facts store.now) (HasFailed S.Input.ahead S.Input.count)
-        given.entry (O.held out.old) (O.held out.new)
-        (err.new ≡ err.old)
+        given.entry (O.count out.old < O.count out.new)
+        (O.held out.old) (O.held out.new) (err.new ≡ err.old)
         (E.count err.new ≡ E.count err.old) (E.held err.old) (E.held err.new) result }
 {
     match report_check(alloc, store, given, out) {
@@ -91,6 +91,7 @@ fn report_check<S: FileStore, O: ByteOut>(
         (RefusesAsked given.entry.job.strict
         (OrScript (Lacks (S.facts store.now) (check_paths given.entry))
         (FailsScriptOf (S.facts store.now) (HasFailed S.Input.ahead S.Input.count) given.entry))
+        (O.count out.old < O.count out.new)
         (ServesCheck (S.facts store.now) given.entry)
         (ServesScript (S.facts store.now) given.entry)
         (HasFailed S.Input.ahead S.Input.count))) }
@@ -117,7 +118,7 @@ fn run_check<S: FileStore>(
     ensures refused { IfErr result
         (RefusesAsked request.now.strict (OrScript (Lacks (S.facts store.now)
         (paths_of request.now (script_path (Some path.now))))
-        (FailsReading (S.facts store.now) (HasFailed S.Input.ahead S.Input.count) path.now))
+        (FailsReading (S.facts store.now) (HasFailed S.Input.ahead S.Input.count) path.now)) ⊥
         (IsJobOf (S.facts store.now) request.now None) (IsTextIn (S.facts store.now) path.now)
         (HasFailed S.Input.ahead S.Input.count)) }
 {
@@ -143,7 +144,7 @@ fn check_file<F: ByteIn + Drop, R: ByteIn>(
         (IsCheckFinding (Is (job_with inputs.now (R.ahead content.old) len None))
         (IsTextOfFile F.ahead script)) }
     ensures refused { IfErr result (RefusesCheck
-        (λ told. (told ≡ Script) × FailsScript F.ahead (HasFailed F.ahead F.count) script)
+        (λ told. (told ≡ Script) × FailsScript F.ahead (HasFailed F.ahead F.count) script) ⊥
         (Is (job_with inputs.now (R.ahead content.old) len None)) (IsTextRead F.ahead script)
         (HasFailed R.ahead R.count)) }
 {

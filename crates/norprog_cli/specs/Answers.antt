@@ -31,34 +31,35 @@ use Rattle.norprog_run.specs.Answer.{AnswersRun}
 use Rattle.norprog_script.specs.Answer.{AnswersScript}
 
 -- to what is asked for, each command its answer, by what is known of files by their names. `Failed` says what a reader had ahead that
--- has failed, `Made` which files and devices were changed; a command that isn't handed the journal changes none
-abbrev pub AnswersTo : FileFacts → (Ahead → Type 0) → (List Change → Type 0) → Asked → Option (List ℕ) → Option (List ℕ) → Type 0 → Type 0 → Option (List ℕ) → Option (List ℕ) → ℕ → Type 0
-AnswersTo files Failed Made (command.Build given) before after Quiet Works told_before told_after status =
-    AnswersBuild files given Made before after Quiet Works told_before told_after status
-AnswersTo files Failed Made (command.Plan given) before after Quiet Works told_before told_after status =
-    AnswersPlan files given Made before after Quiet Works told_before told_after status
-AnswersTo files Failed Made (command.Check given) before after Quiet Works told_before told_after status =
-    Made [] × AnswersCheck files Failed given before after Quiet Works told_before told_after status
-AnswersTo files Failed Made (command.Run given) before after Quiet Works told_before told_after status =
-    AnswersRun files Failed given Made before after Quiet Works told_before told_after status
-AnswersTo files Failed Made (command.List given) before after Quiet Works told_before told_after status =
-    Made [] × AnswersList files given before after Quiet Works told_before told_after status
-AnswersTo files Failed Made (command.Draw given) before after Quiet Works told_before told_after status =
+-- has failed, `Made` which files and devices were changed, `Unprinted` that what is printed to failed; a command that isn't handed the
+-- journal changes none, and makes no output
+abbrev pub AnswersTo : FileFacts → (Ahead → Type 0) → (List Change → Type 0) → Type 0 → Asked → Option (List ℕ) → Option (List ℕ) → Type 0 → Type 0 → Option (List ℕ) → Option (List ℕ) → ℕ → Type 0
+AnswersTo files Failed Made Unprinted (command.Build given) before after Quiet Works told_before told_after status =
+    AnswersBuild files given Made (files.broke ⊎ Unprinted) before after Quiet Works told_before told_after status
+AnswersTo files Failed Made Unprinted (command.Plan given) before after Quiet Works told_before told_after status =
+    AnswersPlan files given Made (files.broke ⊎ Unprinted) before after Quiet Works told_before told_after status
+AnswersTo files Failed Made Unprinted (command.Check given) before after Quiet Works told_before told_after status =
+    Made [] × AnswersCheck files Failed given Unprinted before after Quiet Works told_before told_after status
+AnswersTo files Failed Made Unprinted (command.Run given) before after Quiet Works told_before told_after status =
+    AnswersRun files Failed given Made (files.broke ⊎ Unprinted) before after Quiet Works told_before told_after status
+AnswersTo files Failed Made Unprinted (command.List given) before after Quiet Works told_before told_after status =
+    Made [] × AnswersList files given Unprinted before after Quiet Works told_before told_after status
+AnswersTo files Failed Made Unprinted (command.Draw given) before after Quiet Works told_before told_after status =
     (after ≡ before) × AnswersDraw files given Made Quiet Works told_before told_after status
-AnswersTo files Failed Made (command.Play given) before after Quiet Works told_before told_after status =
-    AnswersPlay files Failed given Made before after Quiet Works told_before told_after status
-AnswersTo files Failed Made (command.Read given) before after Quiet Works told_before told_after status =
-    AnswersRead files given Made before after Quiet Works told_before told_after status
-AnswersTo files Failed Made (command.Flash given) before after Quiet Works told_before told_after status =
-    AnswersFlash files given Made before after Quiet Works told_before told_after status
-AnswersTo files Failed Made (command.Sfdp given) before after Quiet Works told_before told_after status =
-    Made [] × AnswersChip files given before after Quiet Works told_before told_after status
-AnswersTo files Failed Made (command.Hex given) before after Quiet Works told_before told_after status =
+AnswersTo files Failed Made Unprinted (command.Play given) before after Quiet Works told_before told_after status =
+    AnswersPlay files Failed given Made (files.broke ⊎ Unprinted) before after Quiet Works told_before told_after status
+AnswersTo files Failed Made Unprinted (command.Read given) before after Quiet Works told_before told_after status =
+    AnswersRead files given Made (files.broke ⊎ Unprinted) before after Quiet Works told_before told_after status
+AnswersTo files Failed Made Unprinted (command.Flash given) before after Quiet Works told_before told_after status =
+    AnswersFlash files given Made (files.broke ⊎ Unprinted) before after Quiet Works told_before told_after status
+AnswersTo files Failed Made Unprinted (command.Sfdp given) before after Quiet Works told_before told_after status =
+    Made [] × AnswersChip files given Unprinted before after Quiet Works told_before told_after status
+AnswersTo files Failed Made Unprinted (command.Hex given) before after Quiet Works told_before told_after status =
     (after ≡ before) × AnswersHex files given Made Quiet Works told_before told_after status
-AnswersTo files Failed Made (command.Script given) before after Quiet Works told_before told_after status =
-    AnswersScript files given Made before after Quiet Works told_before told_after status
-AnswersTo files Failed Made (command.Explain words) before after Quiet Works told_before told_after status =
-    Made [] × AnswersExplain (explained topics words.items) before after Quiet Works told_before told_after status
+AnswersTo files Failed Made Unprinted (command.Script given) before after Quiet Works told_before told_after status =
+    AnswersScript files given Made (files.broke ⊎ Unprinted) before after Quiet Works told_before told_after status
+AnswersTo files Failed Made Unprinted (command.Explain words) before after Quiet Works told_before told_after status =
+    Made [] × AnswersExplain (explained topics words.items) Unprinted before after Quiet Works told_before told_after status
 
 -- more of a refusal was written, by what stands on the command line
 abbrev pub AddsLines : {E : Type 0} → (E → ℕ) → (E → Option (List ℕ)) → FileFacts → TypedLine → E → E → Type 0
@@ -74,37 +75,39 @@ AddsDetails count held files (Some typed) (suc status) before after = AddsLines 
 
 -- a command line has its command's answer, and then more of a refusal
 pub record AnswersLine (E : Type 0) (count : E → ℕ) (held : E → Option (List ℕ)) (files : FileFacts) (Failed : Ahead → Type 0)
-    (Made : List Change → Type 0) (before after : Option (List ℕ)) (err_before err_after : E) (status : ℕ) (line : Line) : Type 0 where
+    (Made : List Change → Type 0) (Unprinted : Type 0) (before after : Option (List ℕ)) (err_before err_after : E) (status : ℕ) (line : Line) : Type 0 where
   pub answered : E
-  pub answers : AnswersTo files Failed Made line.asked before after (answered ≡ err_before) (count answered ≡ count err_before) (held err_before)
+  pub answers : AnswersTo files Failed Made Unprinted line.asked before after (answered ≡ err_before) (count answered ≡ count err_before) (held err_before)
       (held answered) status
   pub details : AddsDetails count held files line.details status answered err_after
 
 -- to the command line that the words are its answer; to words that are refused, why
-abbrev pub AnswersTyped : {E : Type 0} → (E → ℕ) → (E → Option (List ℕ)) → FileFacts → (Ahead → Type 0) → (List Change → Type 0) → List (List ℕ) → Option (List ℕ) → Option (List ℕ) → E → E → ℕ
+abbrev pub AnswersTyped : {E : Type 0} → (E → ℕ) → (E → Option (List ℕ)) → FileFacts → (Ahead → Type 0) → (List Change → Type 0) → Type 0 → List (List ℕ) → Option (List ℕ) → Option (List ℕ) → E → E → ℕ
     → Result Line Refusal → Type 0
-AnswersTyped count held files Failed Made words before after err_before err_after status (Ok line) =
-    Spells words line × AnswersLine _ count held files Failed Made before after err_before err_after status line
-AnswersTyped count held files Failed Made words before after err_before err_after status (Err why) =
+AnswersTyped count held files Failed Made Unprinted words before after err_before err_after status (Ok line) =
+    Spells words line × AnswersLine _ count held files Failed Made Unprinted before after err_before err_after status line
+AnswersTyped count held files Failed Made Unprinted words before after err_before err_after status (Err why) =
     Refuses words why × Made [] × (after ≡ before) × TellsOf (λ told. told ≡ why) (count err_after ≡ count err_before) (held err_before) (held err_after) status
 
 -- what the program answers to words
-abbrev pub AnswersWords : {E : Type 0} → (E → ℕ) → (E → Option (List ℕ)) → FileFacts → (Ahead → Type 0) → (List Change → Type 0) → List (List ℕ) → Option (List ℕ) → Option (List ℕ) → E → E → ℕ → Type 0
-AnswersWords count held files Failed Made words before after err_before err_after status =
-    (read : Result Line Refusal) × AnswersTyped count held files Failed Made words before after err_before err_after status read
+abbrev pub AnswersWords : {E : Type 0} → (E → ℕ) → (E → Option (List ℕ)) → FileFacts → (Ahead → Type 0) → (List Change → Type 0) → Type 0 → List (List ℕ) → Option (List ℕ) → Option (List ℕ) → E → E → ℕ → Type 0
+AnswersWords count held files Failed Made Unprinted words before after err_before err_after status =
+    (read : Result Line Refusal) × AnswersTyped count held files Failed Made Unprinted words before after err_before err_after status read
 
--- the same of a command after which all that it wrote was to go out: the status is the command's; or it was done, and what it wrote
--- didn't go out, which is reported
+-- the same of a command after which all that it wrote was to go out, where what is printed to had failed that often before and after:
+-- the status is the command's; or it was done, and what it wrote didn't go out, which is reported
 pub record IsEnd (E : Type 0) (count : E → ℕ) (held : E → Option (List ℕ)) (files : FileFacts) (Failed : Ahead → Type 0)
     (Made : List Change → Type 0) (words : List (List ℕ))
-    (before after : Option (List ℕ)) (err_before err_after : E) (status : ℕ) : Type 0 where
+    (failures failed : ℕ) (before after : Option (List ℕ)) (err_before err_after : E) (status : ℕ) : Type 0 where
   pub written : Option (List ℕ)
   pub answered : E
   pub own : ℕ
-  pub answers : AnswersWords count held files Failed Made words before written err_before answered own
+  pub counted : ℕ
+  pub answers : AnswersWords count held files Failed Made (failures < counted) words before written err_before answered own
   pub kept : Keeps written after
   pub ends : ((status ≡ own) × (err_after ≡ answered))
-      ⊎ ((own ≡ 0) × TellsOf (λ told. told ≡ Build Write) (count err_after ≡ count answered) (held answered) (held err_after) status)
+      ⊎ ((own ≡ 0) × (0 < failed) × TellsOf (λ told. told ≡ Build Write) (count err_after ≡ count answered) (held answered) (held err_after) status)
 
-abbrev pub EndsCommand : {E : Type 0} → (E → ℕ) → (E → Option (List ℕ)) → FileFacts → (Ahead → Type 0) → (List Change → Type 0) → List (List ℕ) → Option (List ℕ) → Option (List ℕ) → E → E → ℕ → Type 0
-EndsCommand count held files Failed Made words before after err_before err_after status = IsEnd _ count held files Failed Made words before after err_before err_after status
+abbrev pub EndsCommand : {E : Type 0} → (E → ℕ) → (E → Option (List ℕ)) → FileFacts → (Ahead → Type 0) → (List Change → Type 0) → List (List ℕ) → ℕ → ℕ → Option (List ℕ) → Option (List ℕ) → E → E → ℕ → Type 0
+EndsCommand count held files Failed Made words failures failed before after err_before err_after status =
+    IsEnd _ count held files Failed Made words failures failed before after err_before err_after status

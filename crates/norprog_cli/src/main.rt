@@ -11,14 +11,15 @@
 //! `norprog_flash`, `norprog_hex`, `norprog_script` and `norprog_explain` do the work behind them.
 #![tactic(auto)]
 
-ghost use Rattle.std.specs.Prelude.{◌≡◌, ◌<◌, ◌≤◌, ◌-◌, ◌^◌, [], map, string_bytes};
+ghost use Rattle.std.specs.Prelude.{◌≡◌, ◌<◌, ◌≤◌, ◌-◌, ◌^◌, [], map, string_bytes, IfOk, IfErr};
+ghost use Rattle.std.specs.Io.KnownBytes.{Keeps};
 ghost use Rattle.std.specs.Io.Buffered.{writer_buffer, writer_contents};
 ghost use Rattle.norprog_common.specs.FileStore.{Adds};
 ghost use Rattle.norprog_common.specs.Reading.{HasFailed};
 ghost use Rattle.norprog_cli.specs.Answers.{AnswersTo, AnswersWords, AddsDetails, AddsLines};
 ghost use Rattle.norprog_cli.specs.Answers.{EndsCommand};
 
-use nor_base::{ByteOut, IntoWrite, Nowhere};
+use nor_base::{ByteOut, Failed, IntoWrite, Nowhere};
 use norprog_build::build;
 use norprog_check::check;
 use norprog_common::{FileStore, Refusal, SystemFiles, Unrecorded, refuse};
@@ -104,15 +105,32 @@ fn command_flushed<S: FileStore, W: Write + Drop, E: ByteOut + Drop, P: ByteOut>
     ensures ends { EndsCommand (λ heard. E.count heard.out) (λ heard. E.held heard.out)
         (S.facts store.now) (HasFailed S.Input.ahead S.Input.count)
         (Adds (S.Journal.changes journal.old) (S.Journal.changes journal.new))
-        (map string_bytes words.items)
+        (map string_bytes words.items) out.old.failed out.new.failed
         (writer_contents W.contents out.old.inner) (writer_contents W.contents out.new.inner)
         err.old err.new result }
     ensures out { result ≡ 0 → writer_buffer out.new.inner ≡ [] }
 {
     let status = command(alloc, store, journal, words, out, err, progress);
-    match out.inner.flush() {
+    match flush_out(out) {
         Err(_) if status == 0 => refuse(&Refusal::WRITE, err),
         _ => status,
+    }
+}
+
+/// Has all go out that was gathered. `Failed`, which is counted, where some of it may not have gone
+/// out.
+fn flush_out<W: Write + Drop>(out: &mut IntoWrite<BufWriter<W>>) -> Result<(), Failed>
+    ensures kept { Keeps (writer_contents W.contents out.old.inner)
+        (writer_contents W.contents out.new.inner) }
+    ensures whole { IfOk result (λ _. writer_buffer out.new.inner ≡ []) }
+    ensures failed { IfErr result (λ _. 0 < out.new.failed) }
+{
+    match out.inner.flush() {
+        Ok(()) => Ok(()),
+        Err(_) => {
+            out.failed = out.failed.saturating_add(1);
+            Err(Failed)
+        }
     }
 }
 
@@ -150,6 +168,7 @@ fn command<S: FileStore, O: ByteOut, E: ByteOut + Drop, P: ByteOut>(
     ensures answer { AnswersWords (λ heard. E.count heard.out) (λ heard. E.held heard.out)
         (S.facts store.now) (HasFailed S.Input.ahead S.Input.count)
         (Adds (S.Journal.changes journal.old) (S.Journal.changes journal.new))
+        (O.count out.old < O.count out.new)
         (map string_bytes words.items) (O.held out.old) (O.held out.new) err.old err.new result }
 {
     match asked_by(alloc, words.as_slice()) {
@@ -217,7 +236,7 @@ fn answer_to<S: FileStore, O: ByteOut, E: ByteOut, P: ByteOut>(
     ensures answer { AnswersTo (S.facts store.now)
         (HasFailed S.Input.ahead S.Input.count)
         (Adds (S.Journal.changes journal.old) (S.Journal.changes journal.new))
-        asked.entry (O.held out.old) (O.held out.new)
+        (O.count out.old < O.count out.new) asked.entry (O.held out.old) (O.held out.new)
         (err.new ≡ err.old)
         (E.count err.new ≡ E.count err.old) (E.held err.old) (E.held err.new) result }
 {

@@ -33,29 +33,29 @@ empty_wider strict A B F G wider more (Steps number) is = more (Steps number) is
 empty_wider strict A B F G wider more (Log line) is = more (Log line) is
 
 -- a job that is refused as strict
-pub by_empty : (strict : Bool) (Lacked : FileName → Type 0) (Asked : Job → Type 0) (Fault : Refusal → Type 0) (Done : Type 0) (j : Job) (why : Refusal) → Asked j
-    → RefusesEmpty strict j.task j.len why → RefusesFor Lacked (OrEmpty strict Asked Fault) Done why
-by_empty strict Lacked Asked Fault Done j (EmptyRegion index) asked is = (is.0, record { it = j; asked = asked; has = is.1 })
-by_empty strict Lacked Asked Fault Done j (Build fault.Memory) asked is = tt
-by_empty strict Lacked Asked Fault Done j (Build (fault.Contradiction number)) asked is = absurd is
-by_empty strict Lacked Asked Fault Done j (Build (fault.Hex why)) asked is = absurd is
-by_empty strict Lacked Asked Fault Done j (Build (fault.Layout why)) asked is = absurd is
-by_empty strict Lacked Asked Fault Done j (Build (fault.Sfdp why)) asked is = absurd is
-by_empty strict Lacked Asked Fault Done j (Build (fault.Status number)) asked is = absurd is
-by_empty strict Lacked Asked Fault Done j (Build fault.ModeImpossible) asked is = absurd is
-by_empty strict Lacked Asked Fault Done j (Build fault.ContentSize) asked is = absurd is
-by_empty strict Lacked Asked Fault Done j (Build (fault.Plan why)) asked is = absurd is
-by_empty strict Lacked Asked Fault Done j (Build fault.ContentShort) asked is = absurd is
-by_empty strict Lacked Asked Fault Done j (Build fault.Read) asked is = absurd is
-by_empty strict Lacked Asked Fault Done j (Build fault.Write) asked is = absurd is
-by_empty strict Lacked Asked Fault Done j (Text words) asked is = absurd is
-by_empty strict Lacked Asked Fault Done j Usage asked is = absurd is
-by_empty strict Lacked Asked Fault Done j (File name) asked is = absurd is
-by_empty strict Lacked Asked Fault Done j Page asked is = absurd is
-by_empty strict Lacked Asked Fault Done j (Script why) asked is = absurd is
-by_empty strict Lacked Asked Fault Done j BinSize asked is = absurd is
-by_empty strict Lacked Asked Fault Done j (Steps number) asked is = absurd is
-by_empty strict Lacked Asked Fault Done j (Log line) asked is = absurd is
+pub by_empty : (strict : Bool) (Lacked : FileName → Type 0) (Broke : Type 0) (Asked : Job → Type 0) (Fault : Refusal → Type 0) (Done : Type 0) (j : Job) (why : Refusal) → Asked j
+    → RefusesEmpty strict j.task j.len why → RefusesFor Lacked Broke (OrEmpty strict Asked Fault) Done why
+by_empty strict Lacked Broke Asked Fault Done j (EmptyRegion index) asked is = (is.0, record { it = j; asked = asked; has = is.1 })
+by_empty strict Lacked Broke Asked Fault Done j (Build fault.Memory) asked is = tt
+by_empty strict Lacked Broke Asked Fault Done j (Build (fault.Contradiction number)) asked is = absurd is
+by_empty strict Lacked Broke Asked Fault Done j (Build (fault.Hex why)) asked is = absurd is
+by_empty strict Lacked Broke Asked Fault Done j (Build (fault.Layout why)) asked is = absurd is
+by_empty strict Lacked Broke Asked Fault Done j (Build (fault.Sfdp why)) asked is = absurd is
+by_empty strict Lacked Broke Asked Fault Done j (Build (fault.Status number)) asked is = absurd is
+by_empty strict Lacked Broke Asked Fault Done j (Build fault.ModeImpossible) asked is = absurd is
+by_empty strict Lacked Broke Asked Fault Done j (Build fault.ContentSize) asked is = absurd is
+by_empty strict Lacked Broke Asked Fault Done j (Build (fault.Plan why)) asked is = absurd is
+by_empty strict Lacked Broke Asked Fault Done j (Build fault.ContentShort) asked is = absurd is
+by_empty strict Lacked Broke Asked Fault Done j (Build fault.Read) asked is = absurd is
+by_empty strict Lacked Broke Asked Fault Done j (Build fault.Write) asked is = absurd is
+by_empty strict Lacked Broke Asked Fault Done j (Text words) asked is = absurd is
+by_empty strict Lacked Broke Asked Fault Done j Usage asked is = absurd is
+by_empty strict Lacked Broke Asked Fault Done j (File name) asked is = absurd is
+by_empty strict Lacked Broke Asked Fault Done j Page asked is = absurd is
+by_empty strict Lacked Broke Asked Fault Done j (Script why) asked is = absurd is
+by_empty strict Lacked Broke Asked Fault Done j BinSize asked is = absurd is
+by_empty strict Lacked Broke Asked Fault Done j (Steps number) asked is = absurd is
+by_empty strict Lacked Broke Asked Fault Done j (Log line) asked is = absurd is
 
 -- ---- what was found of a job
 pub none_empty : (found : Option ℕ) (index : ℕ) → found ≡ None → found ≡ Some index → ⊥

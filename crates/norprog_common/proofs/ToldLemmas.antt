@@ -8,7 +8,7 @@ use Rattle.norprog_common.specs.declared.faults.Refusal.{Refusal}
 use Rattle.norprog_common.specs.declared.faults.Refusal.TheVariants.{Text, Usage, File, Build, Page, Script, BinSize, Steps, EmptyRegion, Log}
 use Rattle.norprog_common.specs.Files.{TellsFile}
 use Rattle.norprog_common.specs.Lines.{printed, status_after}
-use Rattle.norprog_common.specs.Told.{ForAsked, OfFault, RefusesFor, OrUsage, Answers}
+use Rattle.norprog_common.specs.Told.{ForAsked, OfFault, RefusesFor, TellsBroken, OrUsage, Answers}
 
 -- what is so of something is so of the same by another name
 pub asked_wider : (A : Type 0) (P Q Has : A → Type 0) → ((x : A) → P x → Q x) → ForAsked A P Has → ForAsked A Q Has
@@ -27,78 +27,79 @@ fault_wider P Q wider (EmptyRegion index) is = absurd is
 fault_wider P Q wider (Log line) is = absurd is
 
 -- a fault of the work is told as such
-pub by_fault : (Lacked : FileName → Type 0) (Fault : Refusal → Type 0) (Done : Type 0) (why : Refusal) → Fault why → RefusesFor Lacked Fault Done why
-by_fault Lacked Fault Done (File name) is = inr is
-by_fault Lacked Fault Done (Build (fault.Contradiction number)) is = is
-by_fault Lacked Fault Done (Build (fault.Hex why)) is = is
-by_fault Lacked Fault Done (Build (fault.Layout why)) is = is
-by_fault Lacked Fault Done (Build (fault.Sfdp why)) is = is
-by_fault Lacked Fault Done (Build (fault.Status number)) is = is
-by_fault Lacked Fault Done (Build fault.ModeImpossible) is = is
-by_fault Lacked Fault Done (Build fault.ContentSize) is = is
-by_fault Lacked Fault Done (Build (fault.Plan why)) is = is
-by_fault Lacked Fault Done (Build fault.ContentShort) is = is
-by_fault Lacked Fault Done (Build fault.Read) is = is
-by_fault Lacked Fault Done (Build fault.Write) is = inl is
-by_fault Lacked Fault Done (Build fault.Memory) is = tt
-by_fault Lacked Fault Done (Text words) is = is
-by_fault Lacked Fault Done Usage is = is
-by_fault Lacked Fault Done Page is = is
-by_fault Lacked Fault Done (Script why) is = is
-by_fault Lacked Fault Done BinSize is = is
-by_fault Lacked Fault Done (Steps number) is = is
-by_fault Lacked Fault Done (EmptyRegion index) is = is
-by_fault Lacked Fault Done (Log line) is = is
+pub by_fault : (Lacked : FileName → Type 0) (Broke : Type 0) (Fault : Refusal → Type 0) (Done : Type 0) (why : Refusal) → TellsBroken Broke why → Fault why
+    → RefusesFor Lacked Broke Fault Done why
+by_fault Lacked Broke Fault Done (File name) broke is = inr is
+by_fault Lacked Broke Fault Done (Build (fault.Contradiction number)) broke is = is
+by_fault Lacked Broke Fault Done (Build (fault.Hex why)) broke is = is
+by_fault Lacked Broke Fault Done (Build (fault.Layout why)) broke is = is
+by_fault Lacked Broke Fault Done (Build (fault.Sfdp why)) broke is = is
+by_fault Lacked Broke Fault Done (Build (fault.Status number)) broke is = is
+by_fault Lacked Broke Fault Done (Build fault.ModeImpossible) broke is = is
+by_fault Lacked Broke Fault Done (Build fault.ContentSize) broke is = is
+by_fault Lacked Broke Fault Done (Build (fault.Plan why)) broke is = is
+by_fault Lacked Broke Fault Done (Build fault.ContentShort) broke is = is
+by_fault Lacked Broke Fault Done (Build fault.Read) broke is = is
+by_fault Lacked Broke Fault Done (Build fault.Write) broke is = (inl is, broke)
+by_fault Lacked Broke Fault Done (Build fault.Memory) broke is = tt
+by_fault Lacked Broke Fault Done (Text words) broke is = is
+by_fault Lacked Broke Fault Done Usage broke is = is
+by_fault Lacked Broke Fault Done Page broke is = is
+by_fault Lacked Broke Fault Done (Script why) broke is = is
+by_fault Lacked Broke Fault Done BinSize broke is = is
+by_fault Lacked Broke Fault Done (Steps number) broke is = is
+by_fault Lacked Broke Fault Done (EmptyRegion index) broke is = is
+by_fault Lacked Broke Fault Done (Log line) broke is = is
 
 -- and a file that couldn't be used as that
-pub by_files : (Lacked Other : FileName → Type 0) (Fault : Refusal → Type 0) (Done : Type 0) (why : Refusal) → ((name : FileName) → Lacked name → Other name)
-    → TellsFile Lacked why → RefusesFor Other Fault Done why
-by_files Lacked Other Fault Done (File name) wider is = inl (wider name is)
-by_files Lacked Other Fault Done (Build fault.Memory) wider is = tt
-by_files Lacked Other Fault Done (Build (fault.Contradiction number)) wider is = absurd is
-by_files Lacked Other Fault Done (Build (fault.Hex why)) wider is = absurd is
-by_files Lacked Other Fault Done (Build (fault.Layout why)) wider is = absurd is
-by_files Lacked Other Fault Done (Build (fault.Sfdp why)) wider is = absurd is
-by_files Lacked Other Fault Done (Build (fault.Status number)) wider is = absurd is
-by_files Lacked Other Fault Done (Build fault.ModeImpossible) wider is = absurd is
-by_files Lacked Other Fault Done (Build fault.ContentSize) wider is = absurd is
-by_files Lacked Other Fault Done (Build (fault.Plan why)) wider is = absurd is
-by_files Lacked Other Fault Done (Build fault.ContentShort) wider is = absurd is
-by_files Lacked Other Fault Done (Build fault.Read) wider is = absurd is
-by_files Lacked Other Fault Done (Build fault.Write) wider is = absurd is
-by_files Lacked Other Fault Done (Text words) wider is = absurd is
-by_files Lacked Other Fault Done Usage wider is = absurd is
-by_files Lacked Other Fault Done Page wider is = absurd is
-by_files Lacked Other Fault Done (Script why) wider is = absurd is
-by_files Lacked Other Fault Done BinSize wider is = absurd is
-by_files Lacked Other Fault Done (Steps number) wider is = absurd is
-by_files Lacked Other Fault Done (EmptyRegion index) wider is = absurd is
-by_files Lacked Other Fault Done (Log line) wider is = absurd is
+pub by_files : (Lacked Other : FileName → Type 0) (Broke : Type 0) (Fault : Refusal → Type 0) (Done : Type 0) (why : Refusal) → ((name : FileName) → Lacked name → Other name)
+    → TellsFile Lacked why → RefusesFor Other Broke Fault Done why
+by_files Lacked Other Broke Fault Done (File name) wider is = inl (wider name is)
+by_files Lacked Other Broke Fault Done (Build fault.Memory) wider is = tt
+by_files Lacked Other Broke Fault Done (Build (fault.Contradiction number)) wider is = absurd is
+by_files Lacked Other Broke Fault Done (Build (fault.Hex why)) wider is = absurd is
+by_files Lacked Other Broke Fault Done (Build (fault.Layout why)) wider is = absurd is
+by_files Lacked Other Broke Fault Done (Build (fault.Sfdp why)) wider is = absurd is
+by_files Lacked Other Broke Fault Done (Build (fault.Status number)) wider is = absurd is
+by_files Lacked Other Broke Fault Done (Build fault.ModeImpossible) wider is = absurd is
+by_files Lacked Other Broke Fault Done (Build fault.ContentSize) wider is = absurd is
+by_files Lacked Other Broke Fault Done (Build (fault.Plan why)) wider is = absurd is
+by_files Lacked Other Broke Fault Done (Build fault.ContentShort) wider is = absurd is
+by_files Lacked Other Broke Fault Done (Build fault.Read) wider is = absurd is
+by_files Lacked Other Broke Fault Done (Build fault.Write) wider is = absurd is
+by_files Lacked Other Broke Fault Done (Text words) wider is = absurd is
+by_files Lacked Other Broke Fault Done Usage wider is = absurd is
+by_files Lacked Other Broke Fault Done Page wider is = absurd is
+by_files Lacked Other Broke Fault Done (Script why) wider is = absurd is
+by_files Lacked Other Broke Fault Done BinSize wider is = absurd is
+by_files Lacked Other Broke Fault Done (Steps number) wider is = absurd is
+by_files Lacked Other Broke Fault Done (EmptyRegion index) wider is = absurd is
+by_files Lacked Other Broke Fault Done (Log line) wider is = absurd is
 
 -- with more files, more faults, and more that may have been done, no refusal is lost
-pub refuses_wider : (L M : FileName → Type 0) (F G : Refusal → Type 0) (D E : Type 0) → ((name : FileName) → L name → M name)
-    → ((why : Refusal) → F why → G why) → (D → E) → (why : Refusal) → RefusesFor L F D why → RefusesFor M G E why
-refuses_wider L M F G D E files wider more (File name) is = elim is [ inl lacks ↦ inl (files name lacks) | inr work ↦ inr (wider (File name) work) ]
-refuses_wider L M F G D E files wider more (Build fault.Memory) is = tt
-refuses_wider L M F G D E files wider more (Build fault.Write) is = elim is [ inl work ↦ inl (wider (Build fault.Write) work) | inr late ↦ inr (more late) ]
-refuses_wider L M F G D E files wider more (Build (fault.Contradiction number)) is = wider (Build (fault.Contradiction number)) is
-refuses_wider L M F G D E files wider more (Build (fault.Hex why)) is = wider (Build (fault.Hex why)) is
-refuses_wider L M F G D E files wider more (Build (fault.Layout why)) is = wider (Build (fault.Layout why)) is
-refuses_wider L M F G D E files wider more (Build (fault.Sfdp why)) is = wider (Build (fault.Sfdp why)) is
-refuses_wider L M F G D E files wider more (Build (fault.Status number)) is = wider (Build (fault.Status number)) is
-refuses_wider L M F G D E files wider more (Build fault.ModeImpossible) is = wider (Build fault.ModeImpossible) is
-refuses_wider L M F G D E files wider more (Build fault.ContentSize) is = wider (Build fault.ContentSize) is
-refuses_wider L M F G D E files wider more (Build (fault.Plan why)) is = wider (Build (fault.Plan why)) is
-refuses_wider L M F G D E files wider more (Build fault.ContentShort) is = wider (Build fault.ContentShort) is
-refuses_wider L M F G D E files wider more (Build fault.Read) is = wider (Build fault.Read) is
-refuses_wider L M F G D E files wider more (Text words) is = wider (Text words) is
-refuses_wider L M F G D E files wider more Usage is = wider Usage is
-refuses_wider L M F G D E files wider more Page is = wider Page is
-refuses_wider L M F G D E files wider more (Script why) is = wider (Script why) is
-refuses_wider L M F G D E files wider more BinSize is = wider BinSize is
-refuses_wider L M F G D E files wider more (Steps number) is = wider (Steps number) is
-refuses_wider L M F G D E files wider more (EmptyRegion index) is = wider (EmptyRegion index) is
-refuses_wider L M F G D E files wider more (Log line) is = wider (Log line) is
+pub refuses_wider : (L M : FileName → Type 0) (B C : Type 0) (F G : Refusal → Type 0) (D E : Type 0) → ((name : FileName) → L name → M name)
+    → (B → C) → ((why : Refusal) → F why → G why) → (D → E) → (why : Refusal) → RefusesFor L B F D why → RefusesFor M C G E why
+refuses_wider L M B C F G D E files broken wider more (File name) is = elim is [ inl lacks ↦ inl (files name lacks) | inr work ↦ inr (wider (File name) work) ]
+refuses_wider L M B C F G D E files broken wider more (Build fault.Memory) is = tt
+refuses_wider L M B C F G D E files broken wider more (Build fault.Write) is = (elim is.0 [ inl work ↦ inl (wider (Build fault.Write) work) | inr late ↦ inr (more late) ], broken is.1)
+refuses_wider L M B C F G D E files broken wider more (Build (fault.Contradiction number)) is = wider (Build (fault.Contradiction number)) is
+refuses_wider L M B C F G D E files broken wider more (Build (fault.Hex why)) is = wider (Build (fault.Hex why)) is
+refuses_wider L M B C F G D E files broken wider more (Build (fault.Layout why)) is = wider (Build (fault.Layout why)) is
+refuses_wider L M B C F G D E files broken wider more (Build (fault.Sfdp why)) is = wider (Build (fault.Sfdp why)) is
+refuses_wider L M B C F G D E files broken wider more (Build (fault.Status number)) is = wider (Build (fault.Status number)) is
+refuses_wider L M B C F G D E files broken wider more (Build fault.ModeImpossible) is = wider (Build fault.ModeImpossible) is
+refuses_wider L M B C F G D E files broken wider more (Build fault.ContentSize) is = wider (Build fault.ContentSize) is
+refuses_wider L M B C F G D E files broken wider more (Build (fault.Plan why)) is = wider (Build (fault.Plan why)) is
+refuses_wider L M B C F G D E files broken wider more (Build fault.ContentShort) is = wider (Build fault.ContentShort) is
+refuses_wider L M B C F G D E files broken wider more (Build fault.Read) is = wider (Build fault.Read) is
+refuses_wider L M B C F G D E files broken wider more (Text words) is = wider (Text words) is
+refuses_wider L M B C F G D E files broken wider more Usage is = wider Usage is
+refuses_wider L M B C F G D E files broken wider more Page is = wider Page is
+refuses_wider L M B C F G D E files broken wider more (Script why) is = wider (Script why) is
+refuses_wider L M B C F G D E files broken wider more BinSize is = wider BinSize is
+refuses_wider L M B C F G D E files broken wider more (Steps number) is = wider (Steps number) is
+refuses_wider L M B C F G D E files broken wider more (EmptyRegion index) is = wider (EmptyRegion index) is
+refuses_wider L M B C F G D E files broken wider more (Log line) is = wider (Log line) is
 
 -- a refusal of the work is one of texts that ask for it
 pub or_usage : (asks : Bool) (Work : Refusal → Type 0) (why : Refusal) → asks ≡ true → Work why → OrUsage asks Work why

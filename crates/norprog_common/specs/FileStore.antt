@@ -1,5 +1,5 @@
 -- Which file gave what, and took what (this project's).
-use Rattle.std.specs.Prelude.{◌≡◌, ◌⊎◌, ⊤, ℕ, List, [], ◌∷◌, ◌++◌, Option, Some, None, Result, Ok, Err}
+use Rattle.std.specs.Prelude.{◌≡◌, ◌<◌, ◌⊎◌, ⊤, ℕ, List, [], ◌∷◌, ◌++◌, Option, Some, None, Result, Ok, Err}
 use Rattle.nor_base.specs.Device.{Ahead}
 use Rattle.nor_script.specs.Stream.{IsTextOf}
 use Rattle.norprog_common.specs.Chip.{Origin, Sfdp, Uniform}
@@ -13,7 +13,8 @@ use Rattle.norprog_common.specs.declared.files.ScriptFile.TheVariants.{Twice, He
 -- at none of these places, and held this then. `fresh`: no file of this name was there, and the one that was made held this.
 -- `flushed`: some file that was made had taken this, all of it has gone out, and the file took nothing after it. `lacked`: the file
 -- of this name, which is told so, couldn't be used. `device`: the device of this name was opened to be read and written; it had this
--- yet to give, and had taken this, where that is known. `left`: a device that was opened took nothing after this
+-- yet to give, and had taken this, where that is known. `left`: a device that was opened took nothing after this. `broke`: an output
+-- that was made failed, or some of what it had taken may not have gone out
 pub record FileFacts : Type 1 where
   pub gave : List ℕ → List ℕ → Type 0
   pub opened : List ℕ → Ahead → ℕ → Type 0
@@ -24,6 +25,7 @@ pub record FileFacts : Type 1 where
   pub lacked : List ℕ → FileName → Type 0
   pub device : List ℕ → Option (List ℕ) → Option (List ℕ) → Type 0
   pub left : Option (List ℕ) → Type 0
+  pub broke : Type 0
 
 -- of the system's files nothing is known
 abbrev pub nothing_known : FileFacts
@@ -37,6 +39,7 @@ nothing_known = record {
   lacked = λ name told. ⊤;
   device = λ name remaining contents. ⊤;
   left = λ contents. ⊤;
+  broke = ⊤;
 }
 
 -- what was done to a file or a device. `Emptied`: an output of this name was made, or emptied, as none of the files at these places.
@@ -116,6 +119,10 @@ LacksNamed files named told = Named (λ name. files.lacked name told) named
 -- the file that is told so is the one that its option names, and couldn't be used; `paths` has the name that each option gives
 abbrev pub Lacks : FileFacts → (FileName → Option (List ℕ)) → FileName → Type 0
 Lacks files paths told = LacksNamed files (paths told) told
+
+-- an output failed: one that was made, or the one that is printed to, whose count of failures rose
+abbrev pub Breaks : FileFacts → ℕ → ℕ → Type 0
+Breaks files before after = files.broke ⊎ (before < after)
 
 -- where a file is named there is something that it has; where none is there is nothing
 abbrev pub WhereNamed : {A : Type 0} → (List ℕ → A → Type 0) → Option (List ℕ) → Option A → Type 0

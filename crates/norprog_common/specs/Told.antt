@@ -20,13 +20,18 @@ abbrev pub OfFault : (BuildFault → Type 0) → Refusal → Type 0
 OfFault Fault (Build why) = Fault why
 OfFault Fault other = ⊥
 
--- why work isn't done: a file that is told so couldn't be used, or a growth was refused; an output failed in the work, or after it
+-- why work isn't done: a file that is told so couldn't be used, or a growth was refused; an output failed, in the work or after it
 -- was done; else the fault of the work
-abbrev pub RefusesFor : (FileName → Type 0) → (Refusal → Type 0) → Type 0 → Refusal → Type 0
-RefusesFor Lacked Fault Done (File name) = Lacked name ⊎ Fault (File name)
-RefusesFor Lacked Fault Done (Build Memory) = ⊤
-RefusesFor Lacked Fault Done (Build Write) = Fault (Build Write) ⊎ Done
-RefusesFor Lacked Fault Done why = Fault why
+abbrev pub RefusesFor : (FileName → Type 0) → Type 0 → (Refusal → Type 0) → Type 0 → Refusal → Type 0
+RefusesFor Lacked Broke Fault Done (File name) = Lacked name ⊎ Fault (File name)
+RefusesFor Lacked Broke Fault Done (Build Memory) = ⊤
+RefusesFor Lacked Broke Fault Done (Build Write) = (Fault (Build Write) ⊎ Done) × Broke
+RefusesFor Lacked Broke Fault Done why = Fault why
+
+-- that an output can't be written is told only where one failed
+abbrev pub TellsBroken : Type 0 → Refusal → Type 0
+TellsBroken Broke (Build Write) = Broke
+TellsBroken Broke other = ⊤
 
 -- a script's file may also be told where a reading of it failed
 abbrev pub OrScript : (FileName → Type 0) → Type 0 → FileName → Type 0

@@ -126,9 +126,11 @@ pub trait FileStore {
         ensures lacked { IfErr result (TellsFile ((facts self.now).lacked path.now)) };
 
     /// Has all go out that a file took, and closes it. `Failed` where some of it may not have gone
-    /// out.
+    /// out, as where the file failed before.
     fn flush(&self, file: Self::Output) -> Result<(), Failed>
-        ensures { IfOk result (λ _. (facts self.now).flushed (Self.Output.held file)) };
+        ensures flushed { IfOk result (λ _. (facts self.now).flushed (Self.Output.held file)) }
+        ensures whole { IfOk result (λ _. Self.Output.count file ≡ 0) }
+        ensures broke { IfErr result (λ _. (facts self.now).broke) };
 
     /// Opens a character device twice, to read from it and to write to it. Nothing else is opened
     /// to write, nor changed.

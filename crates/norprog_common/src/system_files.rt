@@ -1,6 +1,6 @@
 //! The files of the system as a store.
 
-ghost use Rattle.std.specs.Prelude.{◌≡◌, is_ok};
+ghost use Rattle.std.specs.Prelude.{◌≡◌, ◌&&◌, is_ok, nat_eq};
 ghost use Rattle.norprog_common.specs.FileStore.{DoNotFail};
 
 use crate::faults::{FileName, Refusal};
@@ -112,7 +112,8 @@ impl<'a, R: Files> FileStore for SystemFiles<'a, R> {
     }
 
     fn flush(&self, mut file: IntoWrite<BufWriter<R::File>>) -> Result<(), Failed> {
-        gone_out(file.inner.flush())
+        let flushed = file.inner.flush();
+        gone_out(flushed, file.failed)
     }
 
     fn open_device(
@@ -135,13 +136,13 @@ impl<'a, R: Files> FileStore for SystemFiles<'a, R> {
     }
 }
 
-/// A flush that failed is a failure.
-fn gone_out(flushed: io::Result<()>) -> Result<(), Failed>
-    ensures { is_ok result ≡ is_ok flushed }
+/// A flush that failed is a failure, and so is that of a file which failed before, so often.
+fn gone_out(flushed: io::Result<()>, failed: u64) -> Result<(), Failed>
+    ensures { is_ok result ≡ is_ok flushed && nat_eq failed 0 }
 {
     match flushed {
-        Ok(()) => Ok(()),
-        Err(_) => Err(Failed),
+        Ok(()) if failed == 0 => Ok(()),
+        _ => Err(Failed),
     }
 }
 

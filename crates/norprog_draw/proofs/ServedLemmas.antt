@@ -1,8 +1,9 @@
 -- What is drawn for a request is what its texts ask for, and what is so of it is so of that.
-use Rattle.std.proofs.Common.{◌≡◌, ◌∙◌, option_map, option_to_list, Bool, true, false, refl, sym, subst, List, [], ℕ, Option, Result, Ok, Err, IfOk, IfErr, inl, inr}
+use Rattle.std.proofs.Common.{◌≡◌, ◌∙◌, arith, option_map, option_to_list, Bool, true, false, refl, sym, subst, List, [], ℕ, Option, Result, Ok, Err, IfOk, IfErr, inl, inr}
 use Rattle.std.specs.Prelude.{⊤}
 use Rattle.nor_base.specs.declared.step.Step.{Step}
-use Rattle.nor_base.specs.Device.{Writes, Cuts}
+use Rattle.nor_base.specs.declared.device.Failed.{Failed}
+use Rattle.nor_base.specs.Device.{Writes, Counts, Cuts}
 use Rattle.std.specs.Io.KnownBytes.{Appends}
 use Rattle.nor_base.specs.Script.{IsScript}
 use Rattle.nor_job.specs.declared.fault.BuildFault.TheVariants as fault
@@ -82,16 +83,18 @@ same_paths : (given : DrawArgs) (request : DrawRequest) → AsksFor given reques
 same_paths given request asks = rw (asks.script, asks.out) refl
 
 -- a file that couldn't be used
-pub file_refused : (Lacked : FileName → Type 0) (Asked : DrawTask → Type 0) (Made : Option (List ℕ) → Type 0) (why : Refusal) → TellsFile Lacked why
-    → RefusesDraw Lacked Asked Made why
-file_refused Lacked Asked Made why lacks = by_files Lacked Lacked (IsDrawFault Asked Made) (IsDrawing Asked Made (λ held. ⊤)) why (λ told is. is) lacks
+pub file_refused : (Lacked : FileName → Type 0) (Broke : Type 0) (Asked : DrawTask → Type 0) (Made : Option (List ℕ) → Type 0) (why : Refusal) → TellsFile Lacked why
+    → RefusesDraw Lacked Broke Asked Made why
+file_refused Lacked Broke Asked Made why lacks = by_files Lacked Lacked Broke (IsDrawFault Asked Made) (IsDrawing Asked Made (λ held. ⊤)) why (λ told is. is) lacks
 
 refusal_asked : (files : FileFacts) (given : DrawArgs) (request : DrawRequest) (why : Refusal) → AsksFor given request
-    → RefusesDraw (Lacks files (paths_of request)) (IsTaskOf files request) (IsMadeFor files request) why → RefusesDraw (Lacks files (paths_asked given)) (Serves files given) (Makes files given) why
+    → RefusesDraw (Lacks files (paths_of request)) files.broke (IsTaskOf files request) (IsMadeFor files request) why
+    → RefusesDraw (Lacks files (paths_asked given)) files.broke (Serves files given) (Makes files given) why
 refusal_asked files given request why asks =
-    refuses_wider (Lacks files (paths_of request)) (Lacks files (paths_asked given)) (IsDrawFault (IsTaskOf files request) (IsMadeFor files request)) (IsDrawFault (Serves files given) (Makes files given))
+    refuses_wider (Lacks files (paths_of request)) (Lacks files (paths_asked given)) files.broke files.broke (IsDrawFault (IsTaskOf files request) (IsMadeFor files request)) (IsDrawFault (Serves files given) (Makes files given))
     (IsDrawing (IsTaskOf files request) (IsMadeFor files request) (λ held. ⊤)) (IsDrawing (Serves files given) (Makes files given) (λ held. ⊤))
     (lacks_same files (paths_of request) (paths_asked given) (same_paths given request asks))
+    (λ broke. broke)
     (λ why of. record {
       it = of.it;
       asked = serves files given request asks of.it of.asked;
@@ -101,8 +104,8 @@ refusal_asked files given request why asks =
 
 -- the same of whichever came
 pub refusals_asked : {T : Type 0} (files : FileFacts) (given : DrawArgs) (request : DrawRequest) (r : Result T Refusal)
-    → AsksFor given request → is_well_formed given ≡ true → IfErr r (RefusesDraw (Lacks files (paths_of request)) (IsTaskOf files request) (IsMadeFor files request))
-    → IfErr r (OrUsage (is_well_formed given) (RefusesDraw (Lacks files (paths_asked given)) (Serves files given) (Makes files given)))
+    → AsksFor given request → is_well_formed given ≡ true → IfErr r (RefusesDraw (Lacks files (paths_of request)) files.broke (IsTaskOf files request) (IsMadeFor files request))
+    → IfErr r (OrUsage (is_well_formed given) (RefusesDraw (Lacks files (paths_asked given)) files.broke (Serves files given) (Makes files given)))
 refusals_asked files given request (Ok x) asks formed of = tt
 refusals_asked files given request (Err why) asks formed of = or_usage _ _ _ formed (refusal_asked files given request why asks of)
 
@@ -115,7 +118,7 @@ module _ (files : FileFacts) (request : DrawRequest) (text : List ℕ) (gave : f
   asked = record { text = gave; from = refl; count = refl }
 
   -- one that has no steps to draw
-  pub steps_refused : (why : Refusal) → RefusesSteps text request.from why → RefusesDraw (Lacks files (paths_of request)) (IsTaskOf files request) (IsMadeFor files request) why
+  pub steps_refused : (why : Refusal) → RefusesSteps text request.from why → RefusesDraw (Lacks files (paths_of request)) files.broke (IsTaskOf files request) (IsMadeFor files request) why
   steps_refused (Script why) is = record { it = task; asked = asked; has = is }
   steps_refused (Steps number) is = record { it = task; asked = asked; has = is }
   steps_refused (Build fault.Memory) is = tt
@@ -150,8 +153,9 @@ module _ (files : FileFacts) (request : DrawRequest) (text : List ℕ) (gave : f
       has = record { begun = before; made = made; after = after; sent = sent; drawn = record { bytes = _; is = waveform; put = put } };
     }
 
-    was_cut : Cuts before after (waves (part request.from request.count steps)) → RefusesDraw (Lacks files (paths_of request)) (IsTaskOf files request) (IsMadeFor files request) (Build fault.Write)
-    was_cut put = inl (record { it = task; asked = asked; has = record { begun = before; made = made; after = after; cut = record { bytes = _; is = waveform; put = put } } })
+    was_cut : files.broke → Cuts before after (waves (part request.from request.count steps))
+        → RefusesDraw (Lacks files (paths_of request)) files.broke (IsTaskOf files request) (IsMadeFor files request) (Build fault.Write)
+    was_cut broke put = (inl (record { it = task; asked = asked; has = record { begun = before; made = made; after = after; cut = record { bytes = _; is = waveform; put = put } } }), broke)
 
     pub done_is_drawn : {T U E F : Type 0} (answer : Result T E) (flushed : Result U F) (r : Result ℕ Refusal) → Writes before after answer (waves (part request.from request.count steps))
         → IfOk flushed (λ _. files.flushed after) → r ≡ done answer flushed → IfOk r (λ _. IsDrawing (IsTaskOf files request) (IsMadeFor files request) files.flushed)
@@ -159,11 +163,14 @@ module _ (files : FileFacts) (request : DrawRequest) (text : List ℕ) (gave : f
     done_is_drawn (Ok x) (Err e) r put sent is = rw is tt
     done_is_drawn (Ok x) (Ok u) r put sent is = rw is (was_drawn files.flushed sent put)
 
-    pub done_is_refused : {T U E F : Type 0} (answer : Result T E) (flushed : Result U F) (r : Result ℕ Refusal) → Writes before after answer (waves (part request.from request.count steps))
-        → r ≡ done answer flushed → IfErr r (RefusesDraw (Lacks files (paths_of request)) (IsTaskOf files request) (IsMadeFor files request))
-    done_is_refused (Err e) flushed r put is = rw is (was_cut put)
-    done_is_refused (Ok x) (Err e) r put is = rw is (inr (was_drawn (λ held. ⊤) tt put))
-    done_is_refused (Ok x) (Ok u) r put is = rw is tt
+    -- an output that failed isn't flushed
+    pub done_is_refused : {T U F : Type 0} (k k' : ℕ) (answer : Result T Failed) (flushed : Result U F) (r : Result ℕ Refusal)
+        → Writes before after answer (waves (part request.from request.count steps)) → k ≡ 0 → Counts k k' answer → IfOk flushed (λ _. k' ≡ 0) → IfErr flushed (λ _. files.broke)
+        → r ≡ done answer flushed → IfErr r (RefusesDraw (Lacks files (paths_of request)) files.broke (IsTaskOf files request) (IsMadeFor files request))
+    done_is_refused k k' (Err e) (Ok u) r put none counts whole broke is = absurd (omega (arith, none, counts, whole))
+    done_is_refused k k' (Err e) (Err f) r put none counts whole broke is = rw is (was_cut broke put)
+    done_is_refused k k' (Ok x) (Err f) r put none counts whole broke is = rw is (inr (was_drawn (λ held. ⊤) tt put), broke)
+    done_is_refused k k' (Ok x) (Ok u) r put none counts whole broke is = rw is tt
 
 -- nothing was made, whatever is told
 pub unmade_any : (P : Type 0) → P → (why : Refusal) → IsUnmade P why
@@ -171,6 +178,7 @@ unmade_any P none (File file.Script) = none
 unmade_any P none (File other) = tt
 unmade_any P none (Script why) = none
 unmade_any P none (Steps number) = none
+unmade_any P none Usage = none
 unmade_any P none other = tt
 
 -- an output that couldn't be made is told by another name
@@ -190,14 +198,21 @@ and_unmade : (asks : Bool) (Work : Refusal → Type 0) (P : Type 0) (why : Refus
 and_unmade true Work P why first unmade = (first, unmade)
 and_unmade false Work P why first unmade = first
 
+usage_unmade : (asks : Bool) (Work : Refusal → Type 0) (P : Type 0) (why : Refusal) → OrUsage asks Work why → IsUnmade P why → asks ≡ false → P
+usage_unmade true Work P why first unmade unasked = absurd (both unasked)
+  where
+    both : true ≡ false → ⊥
+    both is = cc
+usage_unmade false Work P why first unmade unasked = subst (IsUnmade P) first unmade
+
 -- what is answered, as the work ended
 pub answer_is : (files : FileFacts) (names : List (List ℕ)) (out : Option (List ℕ)) (Made : List Change → Type 0) (asks : Bool) (Done Quiet Works : Type 0)
     (Work : Refusal → Type 0) (told_before told_after : Option (List ℕ)) (work : Result ℕ Refusal) (status : ℕ)
     → IfOk work (λ s. s ≡ 0) → MakesIf files names out Made work → IfOk work (λ _. Done) → IfOk work (λ _. asks ≡ true) → IfErr work (OrUsage asks Work) → IfErr work (IsUnmade (Made []))
     → IfOk work (λ s. (status ≡ s) × Quiet) → IfErr work (λ why. (status ≡ status_after why) × (Works → Appends told_before told_after (printed why)))
-    → Answers asks ((status ≡ 0) × Done × MakesNamed files names out Made × Quiet) (MayMake files names out Made) (λ why. Work why × IsUnmade (Made []) why) Works
+    → Answers asks ((status ≡ 0) × Done × MakesNamed files names out Made × Quiet) (MayMake files names out Made × (asks ≡ false → Made [])) (λ why. Work why × IsUnmade (Made []) why) Works
     told_before told_after status
 answer_is files names out Made asks Done Quiet Works Work told_before told_after (Ok s) status zero made is formed why unmade done told =
     inl (formed, (done.0 ∙ zero, is, made, done.1))
 answer_is files names out Made asks Done Quiet Works Work told_before told_after (Err why) status zero made is formed first unmade done told =
-    inr (made, (why, and_unmade asks Work (Made []) why first unmade, told.0, told.1))
+    inr ((made, usage_unmade asks Work (Made []) why first unmade), (why, and_unmade asks Work (Made []) why first unmade, told.0, told.1))

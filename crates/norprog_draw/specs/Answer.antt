@@ -1,10 +1,10 @@
 -- What is told of a drawing (this project's).
-use Rattle.std.specs.Prelude.{◌≡◌, ⊤, ℕ, List, [], Option, option_map, option_to_list, Result, Ok, Err}
+use Rattle.std.specs.Prelude.{◌≡◌, ⊤, ℕ, false, List, [], Option, option_map, option_to_list, Result, Ok, Err}
 use Rattle.nor_job.specs.declared.fault.BuildFault.TheVariants.{Write}
 use Rattle.norprog_common.specs.declared.faults.FileName.{FileName}
 use Rattle.norprog_common.specs.declared.faults.FileName.TheVariants as file
 use Rattle.norprog_common.specs.declared.faults.Refusal.{Refusal}
-use Rattle.norprog_common.specs.declared.faults.Refusal.TheVariants.{Build, File, Script, Steps}
+use Rattle.norprog_common.specs.declared.faults.Refusal.TheVariants.{Usage, Build, File, Script, Steps}
 use Rattle.norprog_common.specs.FileStore.{FileFacts, Change, Lacks, MakesNamed, MayMake}
 use Rattle.norprog_common.specs.Told.{ForAsked, RefusesFor, Answers}
 use Rattle.norprog_common.specs.declared.given.DrawArgs.{DrawArgs}
@@ -41,8 +41,8 @@ IsDrawFault Asked Made why = ForAsked DrawTask Asked (IsStopOf Made why)
 
 -- why what was asked for isn't drawn: a file can't be used, or a growth was refused; the output failed while it was drawn, or
 -- after; else the fault of the work
-abbrev pub RefusesDraw : (FileName → Type 0) → (DrawTask → Type 0) → (Option (List ℕ) → Type 0) → Refusal → Type 0
-RefusesDraw Lacked Asked Made = RefusesFor Lacked (IsDrawFault Asked Made) (IsDrawing Asked Made (λ held. ⊤))
+abbrev pub RefusesDraw : (FileName → Type 0) → Type 0 → (DrawTask → Type 0) → (Option (List ℕ) → Type 0) → Refusal → Type 0
+RefusesDraw Lacked Broke Asked Made = RefusesFor Lacked Broke (IsDrawFault Asked Made) (IsDrawing Asked Made (λ held. ⊤))
 
 -- before the output is made it is known that the script can be read, and is one that has the first step: `Nothing` says that nothing
 -- was made
@@ -50,6 +50,7 @@ abbrev pub IsUnmade : Type 0 → Refusal → Type 0
 IsUnmade Nothing (File file.Script) = Nothing
 IsUnmade Nothing (Script why) = Nothing
 IsUnmade Nothing (Steps number) = Nothing
+IsUnmade Nothing Usage = Nothing
 IsUnmade Nothing other = ⊤
 
 -- status 0 where the steps were drawn and the file was flushed as well
@@ -66,6 +67,6 @@ AnswersDraw files given Made Quiet Works told_before told_after status =
     Answers (is_well_formed given)
     ((status ≡ 0) × IsDrawing (Serves files given) (Makes files given) files.flushed
     × MakesNamed files (option_to_list (option_map (λ t. t.now) given.script)) (option_map (λ t. t.now) given.out) Made × Quiet)
-    (MayMake files (option_to_list (option_map (λ t. t.now) given.script)) (option_map (λ t. t.now) given.out) Made)
-    (λ why. RefusesDraw (Lacks files (paths_asked given)) (Serves files given) (Makes files given) why × IsUnmade (Made []) why)
+    (MayMake files (option_to_list (option_map (λ t. t.now) given.script)) (option_map (λ t. t.now) given.out) Made × (is_well_formed given ≡ false → Made []))
+    (λ why. RefusesDraw (Lacks files (paths_asked given)) files.broke (Serves files given) (Makes files given) why × IsUnmade (Made []) why)
     Works told_before told_after status

@@ -53,7 +53,7 @@ fn drawn_in<S: FileStore>(
     ensures asked { IfOk result (λ _. is_well_formed given.entry ≡ true) }
     ensures first { IfErr result (OrUsage (is_well_formed given.entry)
         (RefusesDraw (Lacks (S.facts store.now) (paths_asked given.entry))
-        (Serves (S.facts store.now) given.entry)
+        (S.facts store.now).broke (Serves (S.facts store.now) given.entry)
         (Makes (S.facts store.now) given.entry))) }
     ensures unmade { IfErr result (IsUnmade
         (Adds (S.Journal.changes journal.old) (S.Journal.changes journal.new) [])) }
@@ -77,7 +77,7 @@ fn run_draw<S: FileStore>(
         (IsMadeFor (S.facts store.now) request.entry) (S.facts store.now).flushed) }
     ensures refused { IfErr result
         (RefusesDraw (Lacks (S.facts store.now) (paths_of request.entry))
-        (IsTaskOf (S.facts store.now) request.entry)
+        (S.facts store.now).broke (IsTaskOf (S.facts store.now) request.entry)
         (IsMadeFor (S.facts store.now) request.entry)) }
     ensures unmade { IfErr result (IsUnmade
         (Adds (S.Journal.changes journal.old) (S.Journal.changes journal.new) [])) }

@@ -65,12 +65,12 @@ CutsText (Some text) before after = Cuts before after text
 CutsText None before after = after ≡ before
 
 -- a failed write; usage where there is nothing to tell
-abbrev pub RefusesText : Option (List ℕ) → Refusal → Type 0
-RefusesText (Some text) why = why ≡ Build Write
-RefusesText None why = why ≡ Usage
+abbrev pub RefusesText : Type 0 → Option (List ℕ) → Refusal → Type 0
+RefusesText Broke (Some text) why = (why ≡ Build Write) × Broke
+RefusesText Broke None why = why ≡ Usage
 
--- what `explain` answers to a command line: the text at status 0, or a refusal
-abbrev pub AnswersExplain : Option (List ℕ) → Option (List ℕ) → Option (List ℕ) → Type 0 → Type 0 → Option (List ℕ) → Option (List ℕ) → ℕ → Type 0
-AnswersExplain text before after Quiet Works told_before told_after status =
+-- what `explain` answers to a command line, where `Broke` says that an output failed: the text at status 0, or a refusal
+abbrev pub AnswersExplain : Option (List ℕ) → Type 0 → Option (List ℕ) → Option (List ℕ) → Type 0 → Type 0 → Option (List ℕ) → Option (List ℕ) → ℕ → Type 0
+AnswersExplain text Broke before after Quiet Works told_before told_after status =
     ((status ≡ 0) × Tells text before after × Quiet)
-    ⊎ (CutsText text before after × TellsOf (RefusesText text) Works told_before told_after status)
+    ⊎ (CutsText text before after × TellsOf (RefusesText Broke text) Works told_before told_after status)

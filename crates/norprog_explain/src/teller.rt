@@ -25,8 +25,8 @@ pub fn explain<O: ByteOut, E: ByteOut>(words: &[Bytes], out: &mut O, err: &mut E
     requires err { E.count err.old < 2 ^ 64 - 1 }
     ensures status { result ≤ 2 }
     ensures quiet { result ≡ 0 → err.new ≡ err.old }
-    ensures answer { AnswersExplain (explained topics words.now) (O.held out.old) (O.held out.new)
-        (err.new ≡ err.old)
+    ensures answer { AnswersExplain (explained topics words.now) (O.count out.old < O.count out.new)
+        (O.held out.old) (O.held out.new) (err.new ≡ err.old)
         (E.count err.new ≡ E.count err.old) (E.held err.old) (E.held err.new) result }
 {
     match tell(&subjects(), nameless(words), out) {
@@ -68,7 +68,8 @@ fn tell<O: ByteOut>(subjects: &[&[Topic]], words: &[Bytes], out: &mut O) -> Resu
     ensures untold { IfErr result
         (λ _. CutsText (answered (in_order subjects.now) words.now) (O.held out.old)
         (O.held out.new)) }
-    ensures refused { IfErr result (RefusesText (answered (in_order subjects.now) words.now)) }
+    ensures refused { IfErr result (RefusesText (O.count out.old < O.count out.new)
+        (answered (in_order subjects.now) words.now)) }
 {
     if words.is_empty() {
         return list(subjects, out).map_err(|_| Refusal::WRITE);

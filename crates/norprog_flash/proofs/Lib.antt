@@ -6,3 +6,4 @@ mod ServedLemmas
 mod StateLemmas
 mod ReportLemmas
 mod StopsLemmas
+mod CountLemmas

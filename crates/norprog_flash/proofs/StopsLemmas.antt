@@ -53,8 +53,8 @@ unread files before h i a b job o why stops harmless =
     record { stop = inl (refl, inl (adds_none before before refl, stops)); harmless = harmless }
 
 pub unsaved : (files : FileFacts) (h i : Option (List ℕ)) (a b : Ahead) (job : Job) (o : Option (List ℕ)) (r : Reading)
-    → HasRead job h i a b r → HasSentHarmless h i → (why : Refusal) → FailsToSave (λ told. told ≡ file.Before) why
-    → FailsToSave (files.lacked job.before.now) why → (before after : Option (List Change))
+    → HasRead job h i a b r → HasSentHarmless h i → (why : Refusal) → FailsToSave (λ told. told ≡ file.Before) files.broke why
+    → FailsToSave (files.lacked job.before.now) files.broke why → (before after : Option (List Change))
     → Adds before after [] ⊎ Adds before after (Created job.before.now ∷ []) → StopsBegun files (Adds before after) h i a b job o o (Refused why)
 unsaved files h i a b job o r read sent why told fails before after made = record {
   stop = inl (refl, inr (record { reading = r; read = read; refusal = why; is = refl; told = told; fails = fails; made = made }));

@@ -28,7 +28,7 @@ use Rattle.norprog_flash.specs.Opened.{IsFlashedOn}
 use Rattle.norprog_flash.specs.Request.{is_well_formed, AsksFor}
 use Rattle.norprog_flash.specs.Served.{paths_asked, IsJobOf}
 use Rattle.norprog_flash.specs.State.{state_line}
-use Rattle.norprog_flash.specs.Stops.{StopsOn}
+use Rattle.norprog_flash.specs.Stops.{StopsOn, TellsFailed}
 use Rattle.norprog_read.specs.Answer.{Reports}
 use Rattle.norprog_read.specs.Line.{unlike_line}
 
@@ -100,51 +100,54 @@ pub record PrintsLine (ending : Ending) (given : FlashArgs) (before after : Opti
   pub printed : Appends before after (ending_line ending)
   pub told : TellsState (is_partial ending) given Quiet Works told_before told_after
 
--- a proper prefix of it was, and so was, after the chip's state, that it couldn't be printed
-pub record CutsLine (ending : Ending) (given : FlashArgs) (before after : Option (List ℕ)) (Works : Type 0)
+-- a proper prefix of it was, since an output failed, and so was, after the chip's state, that it couldn't be printed
+pub record CutsLine (ending : Ending) (given : FlashArgs) (Broke : Type 0) (before after : Option (List ℕ)) (Works : Type 0)
     (told_before told_after : Option (List ℕ)) (status : ℕ) : Type 0 where
   pub one : status ≡ 1
   pub cut : Cuts before after (ending_line ending)
+  pub broke : Broke
   pub told : Works → Appends told_before told_after (state_told ending given ++ printed (Build Write))
 
 -- what is written of an ending
-abbrev pub ReportsEnding : Ending → FlashArgs → Option (List ℕ) → Option (List ℕ) → Type 0 → Type 0 → Option (List ℕ) → Option (List ℕ) → ℕ → Type 0
-ReportsEnding ending given before after Quiet Works told_before told_after status =
+abbrev pub ReportsEnding : Ending → FlashArgs → Type 0 → Option (List ℕ) → Option (List ℕ) → Type 0 → Type 0 → Option (List ℕ) → Option (List ℕ)
+    → ℕ → Type 0
+ReportsEnding ending given Broke before after Quiet Works told_before told_after status =
     PrintsLine ending given before after Quiet Works told_before told_after status
-    ⊎ CutsLine ending given before after Works told_before told_after status
+    ⊎ CutsLine ending given Broke before after Works told_before told_after status
 
 -- what is written where work isn't begun: a refusal, or why the device can't be used, and nothing is printed; or the line of what the
 -- chip said or gave, with status 1
-abbrev pub ReportsUnflashed : Unflashed → Part → Option (List ℕ) → Option (List ℕ) → Type 0 → Type 0 → Option (List ℕ) → Option (List ℕ) → ℕ → Type 0
-ReportsUnflashed (Refused why) family before after Quiet Works told_before told_after status =
+abbrev pub ReportsUnflashed : Unflashed → Part → Type 0 → Option (List ℕ) → Option (List ℕ) → Type 0 → Type 0 → Option (List ℕ) → Option (List ℕ) → ℕ → Type 0
+ReportsUnflashed (Refused why) family Broke before after Quiet Works told_before told_after status =
     (status ≡ status_after why) × (after ≡ before) × (Works → Appends told_before told_after (printed why))
-ReportsUnflashed (Device why) family before after Quiet Works told_before told_after status =
+ReportsUnflashed (Device why) family Broke before after Quiet Works told_before told_after status =
     (status ≡ 1) × (after ≡ before) × (Works → Appends told_before told_after (device_line why))
-ReportsUnflashed (Unlike why) family before after Quiet Works told_before told_after status =
-    Reports (unlike_line why) 1 before after Quiet Works told_before told_after status
-ReportsUnflashed (Closed bits) family before after Quiet Works told_before told_after status =
-    Reports (closed_line family bits) 1 before after Quiet Works told_before told_after status
+ReportsUnflashed (Unlike why) family Broke before after Quiet Works told_before told_after status =
+    Reports (unlike_line why) 1 Broke before after Quiet Works told_before told_after status
+ReportsUnflashed (Closed bits) family Broke before after Quiet Works told_before told_after status =
+    Reports (closed_line family bits) 1 Broke before after Quiet Works told_before told_after status
 
 -- what the texts ask for ended so: the lines of the plan were printed, and that is what was written of the ending
-pub record PrintsEnding (files : FileFacts) (given : FlashArgs) (Made : List Change → Type 0) (before after : Option (List ℕ))
+pub record PrintsEnding (files : FileFacts) (given : FlashArgs) (Made : List Change → Type 0) (Broke : Type 0) (before after : Option (List ℕ))
     (Quiet Works : Type 0) (told_before told_after : Option (List ℕ)) (status : ℕ) : Type 0 where
   pub ending : Ending
   pub middle : Option (List ℕ)
   pub is : IsEndingOf files given Made before middle ending
-  pub reported : ReportsEnding ending given middle after Quiet Works told_before told_after status
+  pub reported : ReportsEnding ending given Broke middle after Quiet Works told_before told_after status
 
--- it wasn't begun, and that is what was written of it
-pub record PrintsUnflashed (files : FileFacts) (given : FlashArgs) (Made : List Change → Type 0) (before after : Option (List ℕ))
+-- it wasn't begun, and that is what was written of it; that an output can't be written only where one failed
+pub record PrintsUnflashed (files : FileFacts) (given : FlashArgs) (Made : List Change → Type 0) (Broke : Type 0) (before after : Option (List ℕ))
     (Quiet Works : Type 0) (told_before told_after : Option (List ℕ)) (status : ℕ) : Type 0 where
   pub why : Unflashed
   pub middle : Option (List ℕ)
   pub is : IsUnbegunFor files given Made before middle why
-  pub reported : ReportsUnflashed why (family_of given) middle after Quiet Works told_before told_after status
+  pub failed : TellsFailed Broke why
+  pub reported : ReportsUnflashed why (family_of given) Broke middle after Quiet Works told_before told_after status
 
--- what `flash` answers to the texts of a command line, where `Made` says which changes it made: an ending; or why nothing that changes
--- a chip was sent
-abbrev pub AnswersFlash : FileFacts → FlashArgs → (List Change → Type 0) → Option (List ℕ) → Option (List ℕ) → Type 0 → Type 0 → Option (List ℕ)
-    → Option (List ℕ) → ℕ → Type 0
-AnswersFlash files given Made before after Quiet Works told_before told_after status =
-    PrintsEnding files given Made before after Quiet Works told_before told_after status
-    ⊎ PrintsUnflashed files given Made before after Quiet Works told_before told_after status
+-- what `flash` answers to the texts of a command line, where `Made` says which changes it made, and `Broke` that an output failed: an
+-- ending; or why nothing that changes a chip was sent
+abbrev pub AnswersFlash : FileFacts → FlashArgs → (List Change → Type 0) → Type 0 → Option (List ℕ) → Option (List ℕ) → Type 0 → Type 0
+    → Option (List ℕ) → Option (List ℕ) → ℕ → Type 0
+AnswersFlash files given Made Broke before after Quiet Works told_before told_after status =
+    PrintsEnding files given Made Broke before after Quiet Works told_before told_after status
+    ⊎ PrintsUnflashed files given Made Broke before after Quiet Works told_before told_after status

@@ -1,5 +1,5 @@
 -- Why work isn't begun; and that nothing went over the wire till then that changes what a chip holds (this project's).
-use Rattle.std.specs.Prelude.{◌≡◌, ◌⊎◌, ℕ, Bool, false, not, ◌&&◌, List, [], ◌∷◌, length, Option, unwrap_or, Ok, Err, ◌≢◌}
+use Rattle.std.specs.Prelude.{◌≡◌, ◌≤◌, ◌+◌, ◌⊎◌, ⊤, ℕ, Bool, false, not, ◌&&◌, List, [], ◌∷◌, length, Option, unwrap_or, Result, Ok, Err, ◌≢◌}
 use Rattle.nor_base.specs.declared.meaning.Start.{Start}
 use Rattle.nor_base.specs.Device.{Ahead, ahead_of}
 use Rattle.nor_base.specs.Parameters.{Parameters}
@@ -16,8 +16,9 @@ use Rattle.nor_serprog.specs.Line.{TestsLine}
 use Rattle.norprog_common.specs.declared.faults.FileName.TheVariants as file
 use Rattle.norprog_common.specs.declared.faults.Refusal.{Refusal}
 use Rattle.norprog_common.specs.declared.faults.Refusal.TheVariants.{Build}
-use Rattle.norprog_common.specs.FileStore.{FileFacts, Change, Created}
+use Rattle.norprog_common.specs.FileStore.{FileFacts, Breaks, Change, Created}
 use Rattle.norprog_common.specs.Strict.{RefusesEmpty}
+use Rattle.norprog_common.specs.Told.{TellsBroken}
 use Rattle.norprog_device.specs.declared.fault.DeviceFault.TheVariants.{Greet, Line}
 use Rattle.norprog_device.specs.Opened.{LetsGo}
 use Rattle.norprog_flash.specs.declared.ending.Unflashed.{Unflashed}
@@ -35,6 +36,17 @@ use Rattle.norprog_read.specs.Saved.{FailsToSave, IsSaved}
 use Rattle.norprog_read.specs.Stops.{StopsChip}
 use Rattle.norprog_read.specs.Way.{has_both, is_readable}
 use Rattle.norprog_work.specs.Refused.{RefusesWork}
+
+-- that an output can't be written is told only where one failed
+abbrev pub TellsFailed : Type 0 → Unflashed → Type 0
+TellsFailed Broke (Refused why) = TellsBroken Broke why
+TellsFailed Broke other = ⊤
+
+-- the output that is printed to didn't fail where the job ended, else once at most; where it is told that an output can't be written, it
+-- did, or one that was made
+abbrev pub CountsOut : {T : Type 0} → FileFacts → ℕ → ℕ → Result T Unflashed → Type 0
+CountsOut files before after (Ok x) = after ≡ before
+CountsOut files before after (Err why) = (before ≤ after) × (after ≤ before + 1) × TellsFailed (Breaks files before after) why
 
 -- the same of a reading
 abbrev pub of_reading : Unread → Unflashed
@@ -78,8 +90,8 @@ pub record StopsUnsaved (files : FileFacts) (Made : List Change → Type 0) (hel
   pub read : HasRead job held_before held_after ahead_before ahead_after reading
   pub refusal : Refusal
   pub is : why ≡ Refused refusal
-  pub told : FailsToSave (λ told. told ≡ file.Before) refusal
-  pub fails : FailsToSave (files.lacked job.before.now) refusal
+  pub told : FailsToSave (λ told. told ≡ file.Before) files.broke refusal
+  pub fails : FailsToSave (files.lacked job.before.now) files.broke refusal
   pub made : Made [] ⊎ Made (Created job.before.now ∷ [])
 
 -- work is resumed from a dump that hasn't the chip's length, and nothing was printed; or the work from the content to the target, for which some lines of the plan may have been printed, couldn't be planned or printed

@@ -6,6 +6,7 @@ ghost use Rattle.nor_base.specs.Device.{HaveRoom};
 ghost use Rattle.nor_probe.specs.Status.{suits};
 ghost use Rattle.nor_job.specs.Shares.{HasNoneEmpty};
 ghost use Rattle.nor_job.specs.Status.{start_of};
+ghost use Rattle.norprog_common.specs.Content.{CountsWriter};
 ghost use Rattle.norprog_common.specs.FileStore.{Adds, Created};
 ghost use Rattle.norprog_common.specs.Strict.{RefusesEmpty};
 ghost use Rattle.norprog_flash.specs.Begun.{HasRead, HasPlanned, start_at};
@@ -13,7 +14,7 @@ ghost use Rattle.norprog_flash.specs.Task.{dump_of, flash_task};
 ghost use Rattle.norprog_work.specs.Work.{IsWork};
 ghost use Rattle.nor_reader.specs.Harmless.{HasSentHarmless, SendsHarmless};
 ghost use Rattle.nor_reader.specs.Laws.{GivesBy};
-ghost use Rattle.norprog_flash.specs.Stops.{CantPlan, StopsBefore, StopsBegun};
+ghost use Rattle.norprog_flash.specs.Stops.{CantPlan, CountsOut, StopsBefore, StopsBegun};
 
 use crate::back::way_of;
 use crate::ending::Unflashed;
@@ -66,8 +67,7 @@ pub(crate) fn begin<S: FileStore, R: ByteIn, W: ByteOut, O: ByteOut>(
         (S.Journal.changes journal.new) (Created job.now.before.now ∷ [])) }
     ensures reads_room { R.count from.new ≤ R.count from.old + 1 }
     ensures writes_room { W.count to.new ≤ W.count to.old + 1 }
-    ensures out_counts { IfOk result (λ _. O.count out.new ≡ O.count out.old)
-        × (O.count out.new ≤ O.count out.old + 1) }
+    ensures out_counts { CountsOut (S.facts store.now) (O.count out.old) (O.count out.new) result }
 {
     let (reading, by) = read_suited(alloc, from, to, limits, job)?;
     save(
@@ -96,8 +96,7 @@ fn plan_for<O: ByteOut>(
         (O.held out.old) (O.held out.new)) }
     ensures refused { IfErr result
         (CantPlan job.now reading.now (O.held out.old) (O.held out.new)) }
-    ensures out_count { IfOk result (λ _. O.count out.new ≡ O.count out.old) }
-    ensures out_room { O.count out.new ≤ O.count out.old + 1 }
+    ensures out_count { CountsWriter (O.count out.old) (O.count out.new) result }
 {
     let inputs = inputs_for(job, reading.tables.as_slice());
     let content = reading.content.as_slice();

@@ -6,12 +6,13 @@ ghost use Rattle.std.specs.Io.KnownBytes.{Appends};
 ghost use Rattle.nor_job.specs.declared.fault.BuildFault.{BuildFault};
 ghost use Rattle.nor_job.specs.declared.fault.BuildFault.TheVariants.{Write};
 ghost use Rattle.norprog_common.specs.declared.faults.Refusal.TheVariants.{Build};
-ghost use Rattle.norprog_common.specs.FileStore.{Adds, Created, Opened};
+ghost use Rattle.norprog_common.specs.FileStore.{Adds, Breaks, Created, Opened};
 ghost use Rattle.norprog_common.specs.Lines.{printed};
 ghost use Rattle.norprog_flash.specs.Answer.{AnswersFlash, IsEndingOf, IsUnbegunFor, IsUnbegunOn};
 ghost use Rattle.norprog_flash.specs.Answer.{ReportsUnflashed, family_of};
 ghost use Rattle.norprog_flash.specs.Early.{file_tables, is_known, IsSoundEarly, RefusesEarly};
 ghost use Rattle.norprog_flash.specs.Opened.{IsFlashedOn};
+ghost use Rattle.norprog_flash.specs.Stops.{CountsOut};
 
 use crate::ending::{Ending, Unflashed};
 use crate::files::read_files;
@@ -47,6 +48,7 @@ pub fn flash<S: FileStore, O: ByteOut, E: ByteOut, P: ByteOut>(
     ensures quiet { result ≡ 0 → err.new ≡ err.old }
     ensures answer { AnswersFlash (S.facts store.now) given.entry
         (Adds (S.Journal.changes journal.old) (S.Journal.changes journal.new))
+        (Breaks (S.facts store.now) (O.count out.old) (O.count out.new))
         (O.held out.old) (O.held out.new) (err.new ≡ err.old)
         (E.count err.new ≡ E.count err.old) (E.held err.old) (E.held err.new) result }
 {
@@ -74,8 +76,9 @@ fn report_unflashed<O: ByteOut, E: ByteOut>(
     requires err { E.count err.old < 2 ^ 64 - 1 }
     ensures status { result ≤ 2 }
     ensures some { 0 < result }
-    ensures reported { ReportsUnflashed why family (O.held out.old) (O.held out.new)
-        (err.new ≡ err.old)
+    ensures count { O.count out.old ≤ O.count out.new }
+    ensures reported { ReportsUnflashed why family (O.count out.old < O.count out.new)
+        (O.held out.old) (O.held out.new) (err.new ≡ err.old)
         (E.count err.new ≡ E.count err.old) (E.held err.old) (E.held err.new) result }
 {
     match why {
@@ -119,8 +122,7 @@ fn flash_texts<S: FileStore, O: ByteOut, P: ByteOut>(
         (IsUnbegunFor (S.facts store.now) given.now
         (Adds (S.Journal.changes journal.old) (S.Journal.changes journal.new))
         (O.held out.old) (O.held out.new)) }
-    ensures count { IfOk result (λ _. O.count out.new ≡ O.count out.old) }
-    ensures room { O.count out.new ≤ O.count out.old + 1 }
+    ensures counts { CountsOut (S.facts store.now) (O.count out.old) (O.count out.new) result }
 {
     let request = request_of(given).ok_or(Refusal::Usage)?;
     let files = read_files(alloc, store, &request)?;
@@ -186,8 +188,7 @@ fn flash_device<S: FileStore, O: ByteOut, P: ByteOut>(
     ensures made { IfOk result (λ _. Adds (S.Journal.changes journal.old)
         (S.Journal.changes journal.new)
         (Opened device.now ∷ Created job.now.before.now ∷ [])) }
-    ensures counts { IfOk result (λ _. O.count out.new ≡ O.count out.old)
-        × (O.count out.new ≤ O.count out.old + 1) }
+    ensures counts { CountsOut (S.facts store.now) (O.count out.old) (O.count out.new) result }
 {
     look_at(alloc, job)?;
     let (from, to) = open_port(alloc, store, journal, device)?;

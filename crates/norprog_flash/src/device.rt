@@ -8,7 +8,7 @@ ghost use Rattle.nor_reader.specs.Laws.{GivesBy};
 ghost use Rattle.norprog_common.specs.FileStore.{Adds, Created};
 ghost use Rattle.norprog_flash.specs.Begun.{IsPlannedOn};
 ghost use Rattle.norprog_flash.specs.Ended.{EndsFlash};
-ghost use Rattle.norprog_flash.specs.Stops.{StopsBegun};
+ghost use Rattle.norprog_flash.specs.Stops.{CountsOut, StopsBegun};
 ghost use Rattle.norprog_flash.specs.Task.{flash_task};
 ghost use Rattle.norprog_flash.specs.Worked.{GoesOn};
 
@@ -57,8 +57,7 @@ pub fn flash_chip<S: FileStore, R: ByteIn, W: ByteOut, O: ByteOut, P: ByteOut>(
         (S.Journal.changes journal.new) (Created job.now.before.now ∷ [])) }
     ensures reads_room { R.count from.new ≤ R.count from.old + 2 }
     ensures writes_room { W.count to.new ≤ W.count to.old + 2 }
-    ensures out_counts { IfOk result (λ _. O.count out.new ≡ O.count out.old)
-        × (O.count out.new ≤ O.count out.old + 1) }
+    ensures out_counts { CountsOut (S.facts store.now) (O.count out.old) (O.count out.new) result }
 {
     closes();
     breaks();

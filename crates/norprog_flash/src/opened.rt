@@ -2,7 +2,7 @@
 
 ghost use Rattle.std.specs.Prelude.{◌≡◌, ◌≤◌, ◌<◌, ◌+◌, ◌-◌, ◌^◌, [], ◌∷◌, true, IfOk, IfErr};
 ghost use Rattle.norprog_common.specs.FileStore.{Adds, Created};
-ghost use Rattle.norprog_flash.specs.Stops.{StopsOpened, StopsTested};
+ghost use Rattle.norprog_flash.specs.Stops.{CountsOut, StopsOpened, StopsTested};
 ghost use Rattle.norprog_flash.specs.Opened.{HasFlashedOpened, HasFlashedTested};
 
 use crate::device::flash_chip;
@@ -45,8 +45,7 @@ pub fn flash_opened<S: FileStore, R: ByteIn, W: ByteOut, O: ByteOut, P: ByteOut>
         (O.held out.new)) }
     ensures made { IfOk result (λ _. Adds (S.Journal.changes journal.old)
         (S.Journal.changes journal.new) (Created job.now.before.now ∷ [])) }
-    ensures out_counts { IfOk result (λ _. O.count out.new ≡ O.count out.old)
-        × (O.count out.new ≤ O.count out.old + 1) }
+    ensures out_counts { CountsOut (S.facts store.now) (O.count out.old) (O.count out.new) result }
 {
     let limits = match greet(from, to) {
         Ok(limits) => limits,
@@ -87,8 +86,7 @@ fn flash_tested<S: FileStore, R: ByteIn, W: ByteOut, O: ByteOut, P: ByteOut>(
         × W.count to.new ≤ W.count to.old + 2 }
     ensures made { IfOk result (λ _. Adds (S.Journal.changes journal.old)
         (S.Journal.changes journal.new) (Created job.now.before.now ∷ [])) }
-    ensures out_counts { IfOk result (λ _. O.count out.new ≡ O.count out.old)
-        × (O.count out.new ≤ O.count out.old + 1) }
+    ensures out_counts { CountsOut (S.facts store.now) (O.count out.old) (O.count out.new) result }
 {
     match test_line(from, to, limits) {
         Ok(()) => flash_chip(alloc, store, journal, from, to, limits, job, out, progress),

@@ -34,8 +34,8 @@ pub(crate) fn report_ending<O: ByteOut, E: ByteOut>(
 ) -> u8
     requires out { O.count out.old < 2 ^ 64 - 1 }
     requires err { E.count err.old < 2 ^ 64 - 1 }
-    ensures reported { ReportsEnding ending given.now (O.held out.old) (O.held out.new)
-        (err.new ≡ err.old)
+    ensures reported { ReportsEnding ending given.now (O.count out.old < O.count out.new)
+        (O.held out.old) (O.held out.new) (err.new ≡ err.old)
         (E.count err.new ≡ E.count err.old) (E.held err.old) (E.held err.new) result }
     ensures status { result ≤ 1 }
     ensures quiet { result ≡ 0 → err.new ≡ err.old }

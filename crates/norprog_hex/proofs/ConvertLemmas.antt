@@ -1,6 +1,6 @@
 -- One part of a raw image after another.
 use Rattle.std.proofs.Common.{◌≡◌, ◌≢◌, ◌⊎◌, inl, inr, ℕ, ◌+◌, ◌-◌, ◌%◌, ◌<◌, ◌≤◌, true, false, List, [], ◌∷◌, ◌++◌, length, take, take_all, Option, Result, Ok, Err, IfOk, IfErr, min, refl, sym, ap, subst, ◌∙◌, append-nil, arith, length-append, length-take-le}
-use Rattle.std.specs.Prelude.{nat_eq, OnOk, IsErr}
+use Rattle.std.specs.Prelude.{nat_eq, OnOk, IsErr, IsErrAnd}
 use Rattle.std.specs.Io.KnownBytes.{Appends}
 use Rattle.std.proofs.lemmas.Bool.{cases_lt, cases_Bool, cond-true, cond-false, eq-eqb, eqb-true}
 use Rattle.std.proofs.lemmas.Grind.{flat_map-append}
@@ -12,6 +12,7 @@ use Rattle.nor_hex_out.specs.Segments.{image_records, text_of, hex_text}
 use Rattle.nor_hex_out.specs.Laws.{PartsJoin, NoneHaveNone}
 use Rattle.nor_job.proofs.TargetLemmas.{gives_none}
 use Rattle.nor_job.specs.declared.fault.BuildFault.TheVariants as fault
+use Rattle.norprog_common.specs.Content.{CountsWriter, of_writer}
 use Rattle.norprog_common.specs.declared.faults.FileName.TheVariants as file
 use Rattle.norprog_common.specs.declared.faults.Refusal.{Refusal}
 use Rattle.norprog_common.specs.declared.faults.Refusal.TheVariants.{File, Build}
@@ -201,6 +202,16 @@ cut_of a b (Err e) bytes p is = p
 pub count_of : {T : Type 0} (k k' : ℕ) (r : Result T Failed) → Counts k k' r → OnOk r (k' ≡ k)
 count_of k k' (Ok x) p = p
 count_of k k' (Err e) p = tt
+
+-- a failure that was counted is told as one
+pub written_count : {T : Type 0} (answer : Result T Failed) (r : Result (Unit {0}) Refusal) (k k' : ℕ) → r ≡ written answer → Counts k k' answer → CountsWriter k k' r
+written_count (Ok x) r k k' is counts = rw is counts
+written_count (Err e) r k k' is counts = rw is counts
+
+-- a refusal that is handed on counts no more
+pub handed_count : {T : Type 0} (P : Type 0) (k k' : ℕ) (r : Result T Refusal) (why : Refusal) → IsErrAnd r (λ told. told ≡ why) → k' ≡ k + of_writer why → OnOk r P × CountsWriter k k' r
+handed_count P k k' (Ok x) why is counts = absurd is
+handed_count P k k' (Err told) why is counts = (tt, subst (λ (w : Refusal). k' ≡ k + of_writer w) (sym is) counts)
 
 pub came_count : (given : Result ℕ Failed) (want k k' : ℕ) → complete given want ≡ Ok tt → Counts k k' given → k' ≡ k
 came_count (Ok n) want k k' is counts = counts

@@ -1,5 +1,5 @@
 -- What is written for a request is what its texts ask for, and what is so of it is so of that.
-use Rattle.std.proofs.Common.{◌≡◌, ◌∙◌, ◌+◌, ◌<◌, ◌≤◌, ◌^◌, option_map, option_to_list, Bool, true, false, refl, sym, subst, List, [], ◌∷◌, ℕ, Option, Result, Ok, Err, IfOk, IfErr, inl, inr}
+use Rattle.std.proofs.Common.{◌≡◌, ◌∙◌, arith, ◌+◌, ◌<◌, ◌≤◌, ◌^◌, option_map, option_to_list, Bool, true, false, refl, sym, subst, List, [], ◌∷◌, ℕ, Option, Result, Ok, Err, IfOk, IfErr, inl, inr}
 use Rattle.std.specs.Prelude.{⊤, IsErrAnd}
 use Rattle.nor_base.specs.Device.{Ahead}
 use Rattle.nor_base.proofs.FaultLaws.{handed_on}
@@ -12,7 +12,8 @@ use Rattle.norprog_common.specs.declared.faults.FileName.{FileName}
 use Rattle.norprog_common.specs.declared.faults.FileName.TheVariants as file
 use Rattle.norprog_common.specs.declared.faults.Refusal.{Refusal}
 use Rattle.norprog_common.specs.declared.faults.Refusal.TheVariants.{File, Build, BinSize}
-use Rattle.norprog_common.specs.Told.{Answers, ForAsked, OrUsage}
+use Rattle.norprog_common.specs.Content.{CountsWriter, of_writer}
+use Rattle.norprog_common.specs.Told.{Answers, ForAsked, OrUsage, TellsBroken}
 use Rattle.norprog_common.proofs.LackedLemmas.{lacks_same}
 use Rattle.norprog_common.proofs.ToldLemmas.{asked_wider, or_usage}
 use Rattle.norprog_common.specs.declared.given.HexArgs.{HexArgs}
@@ -42,47 +43,54 @@ written_asked files given request (Ok x) asks of = asked_wider HexTask (IsTaskOf
 written_asked files given request (Err why) asks of = tt
 
 -- with more of either task no refusal is lost
-wider : (L M : FileName → Type 0) (O P : BinTask → Type 0) (A B : HexTask → Type 0) → ((told : FileName) → L told → M told) → ((t : BinTask) → O t → P t) → ((t : HexTask) → A t → B t) → (why : Refusal)
-    → RefusesHex L O A why → RefusesHex M P B why
-wider L M O P A B files opened asked (File file.Bin) is = elim is [ inl lacks ↦ inl (files file.Bin lacks) | inr work ↦ inr (asked_wider HexTask A B IsBegun asked work) ]
-wider L M O P A B files opened asked (File file.Out) is = (files file.Out is.0, asked_wider BinTask O P Fits opened is.1)
-wider L M O P A B files opened asked BinSize is = asked_wider BinTask O P IsTooLong opened is
-wider L M O P A B files opened asked (Build fault.Memory) is = tt
-wider L M O P A B files opened asked (Build fault.Write) is =
-    elim is [ inl cut ↦ inl (asked_wider HexTask A B IsCut asked cut) | inr late ↦ inr (asked_wider HexTask A B (IsWritten (λ held. ⊤)) asked late) ]
-wider L M O P A B files opened asked other is = absurd is
+wider : (L M : FileName → Type 0) (C : Type 0) (O P : BinTask → Type 0) (A B : HexTask → Type 0) → ((told : FileName) → L told → M told) → ((t : BinTask) → O t → P t) → ((t : HexTask) → A t → B t) → (why : Refusal)
+    → RefusesHex L C O A why → RefusesHex M C P B why
+wider L M C O P A B files opened asked (File file.Bin) is = elim is [ inl lacks ↦ inl (files file.Bin lacks) | inr work ↦ inr (asked_wider HexTask A B IsBegun asked work) ]
+wider L M C O P A B files opened asked (File file.Out) is = (files file.Out is.0, asked_wider BinTask O P Fits opened is.1)
+wider L M C O P A B files opened asked BinSize is = asked_wider BinTask O P IsTooLong opened is
+wider L M C O P A B files opened asked (Build fault.Memory) is = tt
+wider L M C O P A B files opened asked (Build fault.Write) is =
+    (elim is.0 [ inl cut ↦ inl (asked_wider HexTask A B IsCut asked cut) | inr late ↦ inr (asked_wider HexTask A B (IsWritten (λ held. ⊤)) asked late) ], is.1)
+wider L M C O P A B files opened asked other is = absurd is
 
 -- the files of a request are those that the texts name
 same_paths : (given : HexArgs) (request : HexRequest) → AsksFor given request → Path (FileName → Option (List ℕ)) (paths_of request) (paths_asked given)
 same_paths given request asks = rw (asks.bin, asks.out) refl
 
 pub refusals_asked : {T : Type 0} (files : FileFacts) (given : HexArgs) (request : HexRequest) (r : Result T Refusal) → AsksFor given request → is_well_formed given ≡ true
-    → IfErr r (RefusesHex (Lacks files (paths_of request)) (IsBinOf files request) (IsTaskOf files request))
-    → IfErr r (OrUsage (is_well_formed given) (RefusesHex (Lacks files (paths_asked given)) (ServesBin files given) (Serves files given)))
+    → IfErr r (RefusesHex (Lacks files (paths_of request)) files.broke (IsBinOf files request) (IsTaskOf files request))
+    → IfErr r (OrUsage (is_well_formed given) (RefusesHex (Lacks files (paths_asked given)) files.broke (ServesBin files given) (Serves files given)))
 refusals_asked files given request (Ok x) asks formed of = tt
 refusals_asked files given request (Err why) asks formed of =
-    or_usage _ _ _ formed (wider (Lacks files (paths_of request)) (Lacks files (paths_asked given)) (IsBinOf files request) (ServesBin files given)
+    or_usage _ _ _ formed (wider (Lacks files (paths_of request)) (Lacks files (paths_asked given)) files.broke (IsBinOf files request) (ServesBin files given)
     (IsTaskOf files request) (Serves files given) (lacks_same files (paths_of request) (paths_asked given) (same_paths given request asks)) (serves_bin files given request asks) (serves files given request asks) why of)
 
 -- a file that couldn't be opened
-pub unopened : {T : Type 0} (Lacked : FileName → Type 0) (Opened : BinTask → Type 0) (Asked : HexTask → Type 0) (r : Result T Refusal) (why : Refusal) → IsErrAnd r (λ told. told ≡ why)
-    → RefusesFile file.Bin why → TellsFile Lacked why → IfErr r (RefusesHex Lacked Opened Asked)
-unopened Lacked Opened Asked r why is named lacked = handed_on (RefusesHex Lacked Opened Asked) r why is (of why named lacked)
+pub unopened : {T : Type 0} (Lacked : FileName → Type 0) (Broke : Type 0) (Opened : BinTask → Type 0) (Asked : HexTask → Type 0) (r : Result T Refusal) (why : Refusal) → IsErrAnd r (λ told. told ≡ why)
+    → RefusesFile file.Bin why → TellsFile Lacked why → IfErr r (RefusesHex Lacked Broke Opened Asked)
+unopened Lacked Broke Opened Asked r why is named lacked = handed_on (RefusesHex Lacked Broke Opened Asked) r why is (of why named lacked)
   where
-    of : (why : Refusal) → RefusesFile file.Bin why → TellsFile Lacked why → RefusesHex Lacked Opened Asked why
-    of (File told) named lacked = subst (λ n. RefusesHex Lacked Opened Asked (File n)) (sym named) (inl (subst Lacked named lacked))
+    of : (why : Refusal) → RefusesFile file.Bin why → TellsFile Lacked why → RefusesHex Lacked Broke Opened Asked why
+    of (File told) named lacked = subst (λ n. RefusesHex Lacked Broke Opened Asked (File n)) (sym named) (inl (subst Lacked named lacked))
     of (Build fault.Memory) named lacked = tt
     of other named lacked = absurd named
 
 -- one that couldn't be made
-pub unmade : {T : Type 0} (Lacked : FileName → Type 0) (Opened : BinTask → Type 0) (Asked : HexTask → Type 0) (r : Result T Refusal) (why : Refusal) → IsErrAnd r (λ told. told ≡ why)
-    → ForAsked BinTask Opened Fits → RefusesFile file.Out why → TellsFile Lacked why → IfErr r (RefusesHex Lacked Opened Asked)
-unmade Lacked Opened Asked r why is fits named lacked = handed_on (RefusesHex Lacked Opened Asked) r why is (of why named lacked)
+pub unmade : {T : Type 0} (Lacked : FileName → Type 0) (Broke : Type 0) (Opened : BinTask → Type 0) (Asked : HexTask → Type 0) (r : Result T Refusal) (why : Refusal) → IsErrAnd r (λ told. told ≡ why)
+    → ForAsked BinTask Opened Fits → RefusesFile file.Out why → TellsFile Lacked why → IfErr r (RefusesHex Lacked Broke Opened Asked)
+unmade Lacked Broke Opened Asked r why is fits named lacked = handed_on (RefusesHex Lacked Broke Opened Asked) r why is (of why named lacked)
   where
-    of : (why : Refusal) → RefusesFile file.Out why → TellsFile Lacked why → RefusesHex Lacked Opened Asked why
-    of (File told) named lacked = subst (λ n. RefusesHex Lacked Opened Asked (File n)) (sym named) (subst Lacked named lacked, fits)
+    of : (why : Refusal) → RefusesFile file.Out why → TellsFile Lacked why → RefusesHex Lacked Broke Opened Asked why
+    of (File told) named lacked = subst (λ n. RefusesHex Lacked Broke Opened Asked (File n)) (sym named) (subst Lacked named lacked, fits)
     of (Build fault.Memory) named lacked = tt
     of other named lacked = absurd named
+
+-- an output that failed isn't flushed
+told_broken : {U E : Type 0} (Broke : Type 0) (k k' : ℕ) (why : Refusal) (flushed : Result U E) → k ≡ 0 → k' ≡ k + of_writer why → IfOk flushed (λ _. k' ≡ 0)
+    → IfErr flushed (λ _. Broke) → TellsBroken Broke why
+told_broken Broke k k' (Build fault.Write) (Ok u) none counts whole broke = absurd (omega (arith, none, counts, whole))
+told_broken Broke k k' (Build fault.Write) (Err e) none counts whole broke = broke
+told_broken Broke k k' other flushed none counts whole broke = tt
 
 -- what was opened
 module _ (files : FileFacts) (request : HexRequest) (ahead : Ahead) (len : ℕ) (opened : files.opened request.bin.now ahead len) where
@@ -109,11 +117,12 @@ module _ (files : FileFacts) (request : HexRequest) (ahead : Ahead) (len : ℕ) 
     was_written : (Sent : Option (List ℕ) → Type 0) (rest : Ahead) → Sent after → WasConverted request.at len ahead rest begun after → ForAsked HexTask (IsTaskOf files request) (IsWritten Sent)
     was_written Sent rest sent is = record { it = task; asked = asked; has = record { fits = fits; rest = rest; after = after; converted = is; sent = sent } }
 
-    was_stopped : (why : Refusal) → StopsConverting request.at ahead begun after why → RefusesHex (Lacks files (paths_of request)) (IsBinOf files request) (IsTaskOf files request) why
-    was_stopped (File file.Bin) is = inr (record { it = task; asked = asked; has = record { after = after; begun = is } })
-    was_stopped (Build fault.Write) is = inl (record { it = task; asked = asked; has = record { after = after; cut = is } })
-    was_stopped (Build fault.Memory) is = tt
-    was_stopped other is = absurd is
+    was_stopped : (why : Refusal) → TellsBroken files.broke why → StopsConverting request.at ahead begun after why
+        → RefusesHex (Lacks files (paths_of request)) files.broke (IsBinOf files request) (IsTaskOf files request) why
+    was_stopped (File file.Bin) broke is = inr (record { it = task; asked = asked; has = record { after = after; begun = is } })
+    was_stopped (Build fault.Write) broke is = (inl (record { it = task; asked = asked; has = record { after = after; cut = is } }), broke)
+    was_stopped (Build fault.Memory) broke is = tt
+    was_stopped other broke is = absurd is
 
     pub done_is_written : {T U E : Type 0} (rest : Ahead) (answer : Result T Refusal) (flushed : Result U E) (r : Result ℕ Refusal)
         → IfOk answer (λ _. WasConverted request.at len ahead rest begun after) → IfOk flushed (λ _. files.flushed after) → r ≡ done answer flushed
@@ -122,12 +131,14 @@ module _ (files : FileFacts) (request : HexRequest) (ahead : Ahead) (len : ℕ) 
     done_is_written rest (Ok x) (Err e) r written sent is = rw is tt
     done_is_written rest (Ok x) (Ok u) r written sent is = rw is (was_written files.flushed rest sent written)
 
-    pub done_is_refused : {T U E : Type 0} (rest : Ahead) (answer : Result T Refusal) (flushed : Result U E) (r : Result ℕ Refusal)
-        → IfOk answer (λ _. WasConverted request.at len ahead rest begun after) → IfErr answer (StopsConverting request.at ahead begun after) → r ≡ done answer flushed
-        → IfErr r (RefusesHex (Lacks files (paths_of request)) (IsBinOf files request) (IsTaskOf files request))
-    done_is_refused rest (Err why) flushed r written stopped is = rw is (was_stopped why stopped)
-    done_is_refused rest (Ok x) (Err e) r written stopped is = rw is (inr (was_written (λ held. ⊤) rest tt written))
-    done_is_refused rest (Ok x) (Ok u) r written stopped is = rw is tt
+    pub done_is_refused : {T U E : Type 0} (rest : Ahead) (k k' : ℕ) (answer : Result T Refusal) (flushed : Result U E) (r : Result ℕ Refusal)
+        → IfOk answer (λ _. WasConverted request.at len ahead rest begun after) → IfErr answer (StopsConverting request.at ahead begun after)
+        → k ≡ 0 → CountsWriter k k' answer → IfOk flushed (λ _. k' ≡ 0) → IfErr flushed (λ _. files.broke) → r ≡ done answer flushed
+        → IfErr r (RefusesHex (Lacks files (paths_of request)) files.broke (IsBinOf files request) (IsTaskOf files request))
+    done_is_refused rest k k' (Err why) flushed r written stopped none counts whole broke is =
+        rw is (was_stopped why (told_broken files.broke k k' why flushed none counts whole broke) stopped)
+    done_is_refused rest k k' (Ok x) (Err e) r written stopped none counts whole broke is = rw is (inr (was_written (λ held. ⊤) rest tt written), broke)
+    done_is_refused rest k k' (Ok x) (Ok u) r written stopped none counts whole broke is = rw is tt
 
 -- a file that can't be used is told by its name
 pub unmade_file : (P : Type 0) (name : FileName) (why : Refusal) → RefusesFile name why → IsUnmade P why
@@ -153,15 +164,22 @@ and_unmade : (asks : Bool) (Work : Refusal → Type 0) (P : Type 0) (why : Refus
 and_unmade true Work P why first unmade = (first, unmade)
 and_unmade false Work P why first unmade = first
 
+usage_unmade : (asks : Bool) (Work : Refusal → Type 0) (P : Type 0) (why : Refusal) → OrUsage asks Work why → IsUnmade P why → asks ≡ false → P
+usage_unmade true Work P why first unmade unasked = absurd (both unasked)
+  where
+    both : true ≡ false → ⊥
+    both is = cc
+usage_unmade false Work P why first unmade unasked = subst (IsUnmade P) first unmade
+
 -- what is answered, as the work ended
 pub answer_is : (files : FileFacts) (names : List (List ℕ)) (out : Option (List ℕ)) (Made : List Change → Type 0) (asks : Bool) (Done Quiet Works : Type 0)
     (Work : Refusal → Type 0) (told_before told_after : Option (List ℕ)) (work : Result ℕ Refusal) (status : ℕ)
     → IfOk work (λ s. s ≡ 0) → MakesIf files names out Made work → IfOk work (λ _. Done) → IfOk work (λ _. asks ≡ true) → IfErr work (OrUsage asks Work)
     → IfErr work (IsUnmade (Made [])) → IfOk work (λ s. (status ≡ s) × Quiet)
     → IfErr work (λ why. (status ≡ status_after why) × (Works → Appends told_before told_after (printed why)))
-    → Answers asks ((status ≡ 0) × Done × MakesNamed files names out Made × Quiet) (MayMake files names out Made) (λ why. Work why × IsUnmade (Made []) why) Works
+    → Answers asks ((status ≡ 0) × Done × MakesNamed files names out Made × Quiet) (MayMake files names out Made × (asks ≡ false → Made [])) (λ why. Work why × IsUnmade (Made []) why) Works
     told_before told_after status
 answer_is files names out Made asks Done Quiet Works Work told_before told_after (Ok s) status zero made is formed first unmade done told =
     inl (formed, (done.0 ∙ zero, is, made, done.1))
 answer_is files names out Made asks Done Quiet Works Work told_before told_after (Err why) status zero made is formed first unmade done told =
-    inr (made, (why, and_unmade asks Work (Made []) why first unmade, told.0, told.1))
+    inr ((made, usage_unmade asks Work (Made []) why first unmade), (why, and_unmade asks Work (Made []) why first unmade, told.0, told.1))

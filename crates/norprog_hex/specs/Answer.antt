@@ -1,11 +1,11 @@
 -- What `hex` answers (this project's).
-use Rattle.std.specs.Prelude.{◌≡◌, ◌⊎◌, ⊤, ℕ, ◌+◌, ◌≤◌, ◌<◌, ◌^◌, List, [], Option, option_map, option_to_list, Result, Ok, Err}
+use Rattle.std.specs.Prelude.{◌≡◌, ◌⊎◌, ⊤, ℕ, ◌+◌, ◌≤◌, ◌<◌, ◌^◌, false, List, [], Option, option_map, option_to_list, Result, Ok, Err}
 use Rattle.nor_base.specs.Device.{Ahead}
 use Rattle.nor_job.specs.declared.fault.BuildFault.TheVariants as fault
 use Rattle.norprog_common.specs.declared.faults.FileName.{FileName}
 use Rattle.norprog_common.specs.declared.faults.FileName.TheVariants as file
 use Rattle.norprog_common.specs.declared.faults.Refusal.{Refusal}
-use Rattle.norprog_common.specs.declared.faults.Refusal.TheVariants.{File, Build, BinSize}
+use Rattle.norprog_common.specs.declared.faults.Refusal.TheVariants.{Usage, File, Build, BinSize}
 use Rattle.norprog_common.specs.declared.given.HexArgs.{HexArgs}
 use Rattle.norprog_common.specs.FileStore.{FileFacts, Change, Lacks, MakesNamed, MayMake}
 use Rattle.norprog_common.specs.Told.{ForAsked, Answers}
@@ -38,18 +38,19 @@ pub record IsBegun (t : HexTask) : Type 0 where
   pub after : Option (List ℕ)
   pub begun : WasBegun t.bin.at t.bin.ahead t.begun after
 
--- why what was asked for isn't written
-abbrev pub RefusesHex : (FileName → Type 0) → (BinTask → Type 0) → (HexTask → Type 0) → Refusal → Type 0
-RefusesHex Lacked Opened Asked (File file.Bin) = Lacked file.Bin ⊎ ForAsked HexTask Asked IsBegun
-RefusesHex Lacked Opened Asked (File file.Out) = Lacked file.Out × ForAsked BinTask Opened Fits
-RefusesHex Lacked Opened Asked BinSize = ForAsked BinTask Opened IsTooLong
-RefusesHex Lacked Opened Asked (Build fault.Memory) = ⊤
-RefusesHex Lacked Opened Asked (Build fault.Write) = ForAsked HexTask Asked IsCut ⊎ ForAsked HexTask Asked (IsWritten (λ held. ⊤))
-RefusesHex Lacked Opened Asked other = ⊥
+-- why what was asked for isn't written; `write` is told only where an output failed, as `Broke` says
+abbrev pub RefusesHex : (FileName → Type 0) → Type 0 → (BinTask → Type 0) → (HexTask → Type 0) → Refusal → Type 0
+RefusesHex Lacked Broke Opened Asked (File file.Bin) = Lacked file.Bin ⊎ ForAsked HexTask Asked IsBegun
+RefusesHex Lacked Broke Opened Asked (File file.Out) = Lacked file.Out × ForAsked BinTask Opened Fits
+RefusesHex Lacked Broke Opened Asked BinSize = ForAsked BinTask Opened IsTooLong
+RefusesHex Lacked Broke Opened Asked (Build fault.Memory) = ⊤
+RefusesHex Lacked Broke Opened Asked (Build fault.Write) = (ForAsked HexTask Asked IsCut ⊎ ForAsked HexTask Asked (IsWritten (λ held. ⊤))) × Broke
+RefusesHex Lacked Broke Opened Asked other = ⊥
 
 -- that the file fits is known before the output is made: `Nothing` says that nothing was made
 abbrev pub IsUnmade : Type 0 → Refusal → Type 0
 IsUnmade Nothing BinSize = Nothing
+IsUnmade Nothing Usage = Nothing
 IsUnmade Nothing other = ⊤
 
 -- what `hex` answers to the texts of a command line, where `Made` says which changes it made: status 0 where it was written and has
@@ -59,8 +60,8 @@ AnswersHex files given Made Quiet Works told_before told_after status =
     Answers (is_well_formed given)
     ((status ≡ 0) × ForAsked HexTask (Serves files given) (IsWritten files.flushed)
     × MakesNamed files (option_to_list (option_map (λ t. t.now) given.bin)) (option_map (λ t. t.now) given.out) Made × Quiet)
-    (MayMake files (option_to_list (option_map (λ t. t.now) given.bin)) (option_map (λ t. t.now) given.out) Made)
-    (λ why. RefusesHex (Lacks files (paths_asked given)) (ServesBin files given) (Serves files given) why × IsUnmade (Made []) why)
+    (MayMake files (option_to_list (option_map (λ t. t.now) given.bin)) (option_map (λ t. t.now) given.out) Made × (is_well_formed given ≡ false → Made []))
+    (λ why. RefusesHex (Lacks files (paths_asked given)) files.broke (ServesBin files given) (Serves files given) why × IsUnmade (Made []) why)
     Works told_before told_after status
 
 -- status 0 where the text is whole and the file was flushed as well

@@ -56,7 +56,7 @@ fn converted_in<S: FileStore>(
     ensures asked { IfOk result (λ _. is_well_formed given.entry ≡ true) }
     ensures first { IfErr result (OrUsage (is_well_formed given.entry)
         (RefusesHex (Lacks (S.facts store.now) (paths_asked given.entry))
-        (ServesBin (S.facts store.now) given.entry)
+        (S.facts store.now).broke (ServesBin (S.facts store.now) given.entry)
         (Serves (S.facts store.now) given.entry))) }
     ensures unmade { IfErr result (IsUnmade
         (Adds (S.Journal.changes journal.old) (S.Journal.changes journal.new) [])) }
@@ -81,7 +81,7 @@ fn run_hex<S: FileStore>(
         (IsWritten (S.facts store.now).flushed)) }
     ensures refused { IfErr result
         (RefusesHex (Lacks (S.facts store.now) (paths_of request.entry))
-        (IsBinOf (S.facts store.now) request.entry)
+        (S.facts store.now).broke (IsBinOf (S.facts store.now) request.entry)
         (IsTaskOf (S.facts store.now) request.entry)) }
     ensures unmade { IfErr result (IsUnmade
         (Adds (S.Journal.changes journal.old) (S.Journal.changes journal.new) [])) }

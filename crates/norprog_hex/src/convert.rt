@@ -5,6 +5,7 @@ ghost use Rattle.std.specs.Prelude.{IfErr, OnOk};
 ghost use Rattle.std.specs.Io.KnownBytes.{Appends};
 ghost use Rattle.nor_base.specs.Device.{HaveRoom, Gives, IsAtEnd};
 ghost use Rattle.nor_hex_out.specs.Segments.{image_records, text_of};
+ghost use Rattle.norprog_common.specs.Content.{CountsWriter};
 ghost use Rattle.norprog_common.specs.declared.faults.FileName.TheVariants.{Bin};
 ghost use Rattle.norprog_common.specs.declared.faults.Refusal.TheVariants.{File, Build};
 ghost use Rattle.nor_job.specs.declared.fault.BuildFault.TheVariants.{Memory};
@@ -40,6 +41,7 @@ pub fn write_bin<R: ByteIn, W: ByteOut>(
         (StopsConverting at (R.ahead bin.old) (W.held out.old) (W.held out.new)) }
     ensures cause { IfErr result (λ why. why ≡ File Bin
         → BreaksOff (R.count bin.old) (R.count bin.new) len (R.ahead bin.old) (R.ahead bin.new)) }
+    ensures count { CountsWriter (W.count out.old) (W.count out.new) result }
 {
     let mut buffer = zeros(alloc, SEGMENT)?;
     write_parts(bin, len, at, buffer.as_mut_slice(), out)?;
@@ -69,8 +71,8 @@ fn write_parts<R: ByteIn, W: ByteOut>(
     ensures read { IfOk result
         (λ _. WasRead at len (R.ahead bin.old) (R.ahead bin.new) (W.held out.old)
         (W.held out.new)) }
-    ensures counts { OnOk result ((R.count bin.new ≡ R.count bin.old)
-        × (W.count out.new ≡ W.count out.old)) }
+    ensures counts { OnOk result (R.count bin.new ≡ R.count bin.old)
+        × CountsWriter (W.count out.old) (W.count out.new) result }
     ensures stopped { IfErr result
         (StopsConverting at (R.ahead bin.old) (W.held out.old) (W.held out.new)) }
     ensures cause { IfErr result (λ why. why ≡ File Bin
@@ -106,8 +108,8 @@ fn write_part<R: ByteIn, W: ByteOut>(
     ensures read { IfOk result
         (λ _. WasRead at (length part.old) (R.ahead bin.old) (R.ahead bin.new) (W.held out.old)
         (W.held out.new)) }
-    ensures counts { OnOk result ((R.count bin.new ≡ R.count bin.old)
-        × (W.count out.new ≡ W.count out.old)) }
+    ensures counts { OnOk result (R.count bin.new ≡ R.count bin.old)
+        × CountsWriter (W.count out.old) (W.count out.new) result }
     ensures stopped { IfErr result
         (StopsPart at (length part.old) (R.ahead bin.old) (R.ahead bin.new) (W.held out.old)
         (W.held out.new)) }

@@ -1,5 +1,5 @@
 -- What stopped the listing of a script's steps is the refusal of its text, and what was printed then.
-use Rattle.std.proofs.Common.{◌≡◌, ℕ, List, [], Option, Result, Ok, Err, IfOk, IfErr, inl, inr, refl, sym, subst, Bool}
+use Rattle.std.proofs.Common.{◌≡◌, ℕ, ◌+◌, ◌<◌, arith, List, [], Option, Result, Ok, Err, IfOk, IfErr, inl, inr, refl, sym, subst, Bool}
 use Rattle.nor_base.specs.Chip.{begins4}
 use Rattle.nor_base.specs.Device.{Ahead}
 use Rattle.nor_base.specs.Parameters.{Parameters}
@@ -20,10 +20,12 @@ use Rattle.nor_script.specs.Stream.{IsTextOf, reading}
 use Rattle.nor_script.proofs.StreamLaws.{reads_none}
 use Rattle.nor_script.proofs.TextLaws.{any_text}
 use Rattle.std.specs.Prelude.{IsErrAnd}
+use Rattle.norprog_common.specs.Content.{CountsWriter, of_writer}
 use Rattle.norprog_common.specs.Setup.{IsKnown, RefusesChipOf}
 use Rattle.norprog_common.specs.Chip.{origin_of}
 use Rattle.norprog_common.specs.Setup.{setup_task}
 use Rattle.norprog_common.specs.FileStore.{AreTables, FileFacts}
+use Rattle.norprog_common.specs.Told.{TellsBroken}
 use Rattle.norprog_common.proofs.ToldLemmas.{by_fault}
 use Rattle.norprog_list.specs.declared.request.ListRequest.{ListRequest}
 use Rattle.norprog_list.specs.Served.{ListTask, IsTaskOf}
@@ -47,6 +49,11 @@ module _ (t : Task) (m : Parameters) (known : IsKnown t m) (first : Bool) (begin
   stopped (stop.Script (read.Script (script.NoEnd n))) p = let of = by_first (Err (stop.Script (read.Script (script.NoEnd n)))) p in (of.0, of.1, record { m = m; known = known; put = of.2 })
   stopped (stop.Script (read.Script (script.AfterEnd n))) p = let of = by_first (Err (stop.Script (read.Script (script.AfterEnd n)))) p in (of.0, of.1, record { m = m; known = known; put = of.2 })
   stopped (stop.Script (read.Script script.Memory)) p = let of = by_first (Err (stop.Script (read.Script script.Memory))) p in (of.0, of.1, record { m = m; known = known; put = of.2 })
+
+-- that the output can't be written is told where its count of failures rose
+tells_broken : (count count' : ℕ) (why : Refusal) → count' ≡ count + of_writer why → TellsBroken (count < count') why
+tells_broken count count' (Build fault.Write) counts = omega (arith, counts)
+tells_broken count count' other counts = tt
 
 -- with a refusal no more than a part was printed
 module _ (Asked : ListTask → Type 0) (t : ListTask) (asked : Asked t) (rest : Ahead) (before after : Option (List ℕ)) where
@@ -95,9 +102,11 @@ module _ (Asked : ListTask → Type 0) (t : ListTask) (asked : Asked t) (rest : 
   all_printed (Ok x) h = record { it = t; asked = asked; has = (rest, h) }
   all_printed (Err why) h = tt
 
-  pub refused_so : {T : Type 0} (Lacked : FileName → Type 0) (r : Result T Refusal) → IfErr r (RefusesText t.chip t.script rest before after) → IfErr r (RefusesList Lacked Asked before after)
-  refused_so Lacked (Ok x) h = tt
-  refused_so Lacked (Err why) h = by_fault Lacked (IsListFault Asked before after) ⊥ why (record { it = t; asked = asked; has = (rest, h) })
+  pub refused_so : {T : Type 0} (Lacked : FileName → Type 0) (count count' : ℕ) (r : Result T Refusal) → CountsWriter count count' r → IfErr r (RefusesText t.chip t.script rest before after)
+      → IfErr r (RefusesList Lacked (count < count') Asked before after)
+  refused_so Lacked count count' (Ok x) counts h = tt
+  refused_so Lacked count count' (Err why) counts h =
+      by_fault Lacked (count < count') (IsListFault Asked before after) ⊥ why (tells_broken count count' why counts) (record { it = t; asked = asked; has = (rest, h) })
 
 -- what was read of the files that a request names
 pub asked_of : (files : FileFacts) (request : ListRequest) (chip : Task) (tables : List ℕ) (ahead : Ahead) (len : ℕ) → chip ≡ setup_task request.setup tables

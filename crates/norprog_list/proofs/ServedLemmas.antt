@@ -1,17 +1,16 @@
 -- The chip of a request is the one that its texts ask for, and what is so of it is so of that.
-use Rattle.std.proofs.Common.{◌≡◌, ap, refl, option_map, List, ℕ, Option, true, Result, Ok, Err, IfErr}
+use Rattle.std.proofs.Common.{ap, refl, option_map, List, ℕ, Option}
 use Rattle.norprog_common.specs.declared.faults.FileName.{FileName}
 use Rattle.norprog_common.specs.declared.faults.Refusal.{Refusal}
 use Rattle.norprog_common.specs.declared.given.ListArgs.{ListArgs}
 use Rattle.norprog_common.specs.FileStore.{FileFacts, Lacks}
 use Rattle.norprog_common.specs.Chip.{origin_of}
 use Rattle.norprog_common.specs.Files.{TellsFile}
-use Rattle.norprog_common.specs.Told.{OrUsage}
 use Rattle.norprog_common.proofs.LackedLemmas.{lacks_same, tables_named}
 use Rattle.norprog_common.proofs.ToldLemmas.{asked_wider, by_files, refuses_wider}
 use Rattle.norprog_list.specs.declared.request.ListRequest.{ListRequest}
 use Rattle.norprog_list.specs.Answer.{StopsScript, IsListFault, RefusesList}
-use Rattle.norprog_list.specs.Request.{is_well_formed, AsksFor}
+use Rattle.norprog_list.specs.Request.{AsksFor}
 use Rattle.norprog_list.specs.Served.{ListTask, IsTaskOf, Serves, paths_asked, paths_of}
 
 -- what a request that the texts ask for asks is what they ask for
@@ -32,21 +31,15 @@ same_paths given request asks =
     rw (asks.script, tables) refl
 
 -- a file that couldn't be used
-pub file_refused : (Lacked : FileName → Type 0) (Asked : ListTask → Type 0) (before after : Option (List ℕ)) (why : Refusal) → TellsFile Lacked why
-    → RefusesList Lacked Asked before after why
-file_refused Lacked Asked before after why lacks = by_files Lacked Lacked (IsListFault Asked before after) ⊥ why (λ told is. is) lacks
+pub file_refused : (Lacked : FileName → Type 0) (Broke : Type 0) (Asked : ListTask → Type 0) (before after : Option (List ℕ)) (why : Refusal) → TellsFile Lacked why
+    → RefusesList Lacked Broke Asked before after why
+file_refused Lacked Broke Asked before after why lacks = by_files Lacked Lacked Broke (IsListFault Asked before after) ⊥ why (λ told is. is) lacks
 
-pub refusal_asked : (files : FileFacts) (given : ListArgs) (request : ListRequest) (before after : Option (List ℕ)) (why : Refusal)
-    → AsksFor given request → RefusesList (Lacks files (paths_of request)) (IsTaskOf files request) before after why → RefusesList (Lacks files (paths_asked given)) (Serves files given) before after why
-refusal_asked files given request before after why asks =
-    refuses_wider (Lacks files (paths_of request)) (Lacks files (paths_asked given)) (IsListFault (IsTaskOf files request) before after)
-    (IsListFault (Serves files given) before after) ⊥ ⊥ (lacks_same files (paths_of request) (paths_asked given) (same_paths given request asks))
+pub refusal_asked : (files : FileFacts) (given : ListArgs) (request : ListRequest) (Broke : Type 0) (before after : Option (List ℕ)) (why : Refusal)
+    → AsksFor given request → RefusesList (Lacks files (paths_of request)) Broke (IsTaskOf files request) before after why
+    → RefusesList (Lacks files (paths_asked given)) Broke (Serves files given) before after why
+refusal_asked files given request Broke before after why asks =
+    refuses_wider (Lacks files (paths_of request)) (Lacks files (paths_asked given)) Broke Broke (IsListFault (IsTaskOf files request) before after)
+    (IsListFault (Serves files given) before after) ⊥ ⊥ (lacks_same files (paths_of request) (paths_asked given) (same_paths given request asks)) (λ broke. broke)
     (λ why of. asked_wider ListTask (IsTaskOf files request) (Serves files given) (StopsScript before after why) (serves files given request asks) of)
     (λ none. none) why
-
--- the same of whichever came
-pub refusals_asked : {T : Type 0} (files : FileFacts) (given : ListArgs) (request : ListRequest) (before after : Option (List ℕ)) (r : Result T Refusal)
-    → AsksFor given request → is_well_formed given ≡ true → IfErr r (RefusesList (Lacks files (paths_of request)) (IsTaskOf files request) before after)
-    → IfErr r (OrUsage (is_well_formed given) (RefusesList (Lacks files (paths_asked given)) (Serves files given) before after))
-refusals_asked files given request before after (Ok done) asks formed of = tt
-refusals_asked files given request before after (Err why) asks formed of = rw formed (refusal_asked files given request before after why asks of)

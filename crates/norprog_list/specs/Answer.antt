@@ -39,14 +39,14 @@ abbrev pub IsListFault : (ListTask → Type 0) → Option (List ℕ) → Option 
 IsListFault Asked before after why = ForAsked ListTask Asked (StopsScript before after why)
 
 -- why a listing that was asked for isn't printed: a file can't be used, or a growth was refused; else the fault of the work
-abbrev pub RefusesList : (FileName → Type 0) → (ListTask → Type 0) → Option (List ℕ) → Option (List ℕ) → Refusal → Type 0
-RefusesList Lacked Asked before after = RefusesFor Lacked (IsListFault Asked before after) ⊥
+abbrev pub RefusesList : (FileName → Type 0) → Type 0 → (ListTask → Type 0) → Option (List ℕ) → Option (List ℕ) → Refusal → Type 0
+RefusesList Lacked Broke Asked before after = RefusesFor Lacked Broke (IsListFault Asked before after) ⊥
 
--- what `list` answers to the texts of a command line: the listing at status 0, or a refusal
-abbrev pub AnswersList : FileFacts → ListArgs → Option (List ℕ) → Option (List ℕ) → Type 0 → Type 0 → Option (List ℕ) → Option (List ℕ) → ℕ → Type 0
-AnswersList files given before after Quiet Works told_before told_after status =
+-- what `list` answers to the texts of a command line, where `Broke` says that an output failed: the listing at status 0, or a refusal
+abbrev pub AnswersList : FileFacts → ListArgs → Type 0 → Option (List ℕ) → Option (List ℕ) → Type 0 → Type 0 → Option (List ℕ) → Option (List ℕ) → ℕ → Type 0
+AnswersList files given Broke before after Quiet Works told_before told_after status =
     Answers (is_well_formed given)
     ((status ≡ 0) × PrintsListing (Serves files given) before after × Quiet)
     (CutsListing (Serves files given) before after)
-    (RefusesList (Lacks files (paths_asked given)) (Serves files given) before after)
+    (RefusesList (Lacks files (paths_asked given)) Broke (Serves files given) before after)
     Works told_before told_after status

@@ -27,8 +27,8 @@ pub fn list<S: FileStore, O: ByteOut, E: ByteOut>(
     requires err { E.count err.old < 2 ^ 64 - 1 }
     ensures status { result ≤ 2 }
     ensures quiet { result ≡ 0 → err.new ≡ err.old }
-    ensures answer { AnswersList (S.facts store.now) given.entry (O.held out.old) (O.held out.new)
-        (err.new ≡ err.old)
+    ensures answer { AnswersList (S.facts store.now) given.entry (O.count out.old < O.count out.new)
+        (O.held out.old) (O.held out.new) (err.new ≡ err.old)
         (E.count err.new ≡ E.count err.old) (E.held err.old) (E.held err.new) result }
 {
     answered(listed_in(alloc, store, given, out), err)
@@ -53,7 +53,8 @@ fn listed_in<S: FileStore, O: ByteOut>(
     ensures first { IfErr result
         (OrUsage (is_well_formed given.entry)
         (RefusesList (Lacks (S.facts store.now) (paths_asked given.entry))
-        (Serves (S.facts store.now) given.entry) (O.held out.old) (O.held out.new))) }
+        (O.count out.old < O.count out.new) (Serves (S.facts store.now) given.entry)
+        (O.held out.old) (O.held out.new))) }
 {
     let request = request_of(given).ok_or(Refusal::Usage)?;
     run_list(alloc, store, request, out)?;
@@ -76,7 +77,8 @@ fn run_list<S: FileStore, O: ByteOut>(
         (O.held out.new)) }
     ensures refused { IfErr result
         (RefusesList (Lacks (S.facts store.now) (paths_of request.entry))
-        (IsTaskOf (S.facts store.now) request.entry) (O.held out.old) (O.held out.new)) }
+        (O.count out.old < O.count out.new) (IsTaskOf (S.facts store.now) request.entry)
+        (O.held out.old) (O.held out.new)) }
 {
     let tables = tables_of(alloc, store, request.setup.chip)?;
     let (mut script, _place, _len) = store.open(request.script, FileName::Script)?;

@@ -11,7 +11,7 @@ use Rattle.norprog.specs.declared.report.Report.{Report}
 use Rattle.norprog_common.specs.declared.faults.FileName.{FileName}
 use Rattle.norprog_common.specs.declared.faults.Refusal.{Refusal}
 use Rattle.norprog_common.specs.declared.faults.Refusal.TheVariants.{Text, Usage, File, Build, Page, Script, BinSize, Steps, EmptyRegion, Log}
-use Rattle.norprog_common.specs.Told.{ForAsked, OfFault, OrUsage}
+use Rattle.norprog_common.specs.Told.{ForAsked, OfFault, OrUsage, TellsBroken}
 use Rattle.norprog_common.proofs.ToldLemmas.{asked_wider, fault_wider, by_fault, by_files, refuses_wider, or_usage}
 use Rattle.norprog_plan.specs.Answer.{FailsToDraw, IsUndrawn, IsPart, in_memory, behind_lines, read_lines, Draws, IsLines, IsShown, IsWhole, IsTold, PrintsPlan, CutsPlan, FailsToPrint, StopsPlanOf, StopsTask, StopsAsked, IsPlanFault, RefusesPlan}
 use Rattle.norprog_common.specs.Served.{Job, Is}
@@ -23,25 +23,25 @@ use Rattle.norprog_plan.specs.Regions.{EndsWith}
 use Rattle.norprog_common.proofs.ServedLemmas.{of_one}
 
 -- a fault of a plan that was written to memory, as it is told
-told_so : (P : Refusal → Type 0) (why : BuildFault) → P (Build why) → P (Build fault.Memory) → P (in_memory why)
-told_so P fault.Write is lacks = lacks
-told_so P fault.Memory is lacks = is
-told_so P (fault.Contradiction number) is lacks = is
-told_so P (fault.Hex why) is lacks = is
-told_so P (fault.Layout why) is lacks = is
-told_so P (fault.Sfdp why) is lacks = is
-told_so P (fault.Status number) is lacks = is
-told_so P fault.ModeImpossible is lacks = is
-told_so P fault.ContentSize is lacks = is
-told_so P (fault.Plan why) is lacks = is
-told_so P fault.ContentShort is lacks = is
-told_so P fault.Read is lacks = is
+told_so : (Broke : Type 0) (P : Refusal → Type 0) (why : BuildFault) → (TellsBroken Broke (Build why) → P (Build why)) → P (Build fault.Memory) → P (in_memory why)
+told_so Broke P fault.Write is lacks = lacks
+told_so Broke P fault.Memory is lacks = is tt
+told_so Broke P (fault.Contradiction number) is lacks = is tt
+told_so Broke P (fault.Hex why) is lacks = is tt
+told_so Broke P (fault.Layout why) is lacks = is tt
+told_so Broke P (fault.Sfdp why) is lacks = is tt
+told_so Broke P (fault.Status number) is lacks = is tt
+told_so Broke P fault.ModeImpossible is lacks = is tt
+told_so Broke P fault.ContentSize is lacks = is tt
+told_so Broke P (fault.Plan why) is lacks = is tt
+told_so Broke P fault.ContentShort is lacks = is tt
+told_so Broke P fault.Read is lacks = is tt
 
-pub stops_of_plan : (Lacked : FileName → Type 0) (C D : Type 0) (j : Job) (behind : Ahead) (before after : Option (List ℕ)) (why : BuildFault)
-    → (RefusesInputs j.task j.len why × C × D) ⊎ StopsPlan j.task j.len j.content behind before after why → StopsTask Lacked (Is j) (in_memory why)
-stops_of_plan Lacked C D j behind before after why refused =
+pub stops_of_plan : (Lacked : FileName → Type 0) (Broke C D : Type 0) (j : Job) (behind : Ahead) (before after : Option (List ℕ)) (why : BuildFault)
+    → (RefusesInputs j.task j.len why × C × D) ⊎ StopsPlan j.task j.len j.content behind before after why → StopsTask Lacked Broke (Is j) (in_memory why)
+stops_of_plan Lacked Broke C D j behind before after why refused =
     let cause : RefusesInputs j.task j.len why ⊎ StopsPlan j.task j.len j.content behind before after why = elim refused [ inl early ↦ inl early.0 | inr late ↦ inr late ] in
-    told_so (StopsTask Lacked (Is j)) why (by_fault Lacked (OfFault (IsPlanFault (Is j))) (FailsToDraw (Is j)) (Build why) (record {
+    told_so Broke (StopsTask Lacked Broke (Is j)) why (λ broke. by_fault Lacked Broke (OfFault (IsPlanFault (Is j))) (FailsToDraw (Is j)) (Build why) broke (record {
       it = j;
       asked = refl;
       has = record { behind = behind; before = before; after = after; refused = cause };
@@ -60,20 +60,20 @@ parts_of (Ok rest) lines Asked j asked of = tt
 parts_of (Err why) lines Asked j asked (inl none) = inl none
 parts_of (Err why) lines Asked j asked (inr of) = inr (record { it = j; asked = asked; has = of })
 
-pub stops_wider : (L M : FileName → Type 0) (A B : Job → Type 0) → ((told : FileName) → L told → M told) → ((j : Job) → A j → B j) → (why : Refusal)
-    → StopsTask L A why → StopsTask M B why
-stops_wider L M A B files wider =
-    refuses_wider L M (OfFault (IsPlanFault A)) (OfFault (IsPlanFault B)) (FailsToDraw A) (FailsToDraw B)
-    files (fault_wider (IsPlanFault A) (IsPlanFault B) (λ why of. asked_wider Job A B (StopsPlanOf why) wider of)) (asked_wider Job A B IsUndrawn wider)
+pub stops_wider : (L M : FileName → Type 0) (Broke : Type 0) (A B : Job → Type 0) → ((told : FileName) → L told → M told) → ((j : Job) → A j → B j) → (why : Refusal)
+    → StopsTask L Broke A why → StopsTask M Broke B why
+stops_wider L M Broke A B files wider =
+    refuses_wider L M Broke Broke (OfFault (IsPlanFault A)) (OfFault (IsPlanFault B)) (FailsToDraw A) (FailsToDraw B)
+    files (λ broke. broke) (fault_wider (IsPlanFault A) (IsPlanFault B) (λ why of. asked_wider Job A B (StopsPlanOf why) wider of)) (asked_wider Job A B IsUndrawn wider)
 
 -- of strict jobs
-pub asked_wider_stops : (strict : Bool) (L M : FileName → Type 0) (A B : Job → Type 0) → ((told : FileName) → L told → M told) → ((j : Job) → A j → B j) → (why : Refusal)
-    → StopsAsked strict L A why → StopsAsked strict M B why
-asked_wider_stops strict L M A B files wider =
+pub asked_wider_stops : (strict : Bool) (L M : FileName → Type 0) (Broke : Type 0) (A B : Job → Type 0) → ((told : FileName) → L told → M told) → ((j : Job) → A j → B j) → (why : Refusal)
+    → StopsAsked strict L Broke A why → StopsAsked strict M Broke B why
+asked_wider_stops strict L M Broke A B files wider =
     let filled = filled_wider strict A B wider in
-    refuses_wider L M (OrEmpty strict A (OfFault (IsPlanFault (Filled strict A)))) (OrEmpty strict B (OfFault (IsPlanFault (Filled strict B))))
+    refuses_wider L M Broke Broke (OrEmpty strict A (OfFault (IsPlanFault (Filled strict A)))) (OrEmpty strict B (OfFault (IsPlanFault (Filled strict B))))
     (FailsToDraw (Filled strict A)) (FailsToDraw (Filled strict B))
-    files
+    files (λ broke. broke)
     (empty_wider strict A B (OfFault (IsPlanFault (Filled strict A))) (OfFault (IsPlanFault (Filled strict B))) wider
     (fault_wider (IsPlanFault (Filled strict A)) (IsPlanFault (Filled strict B)) (λ why of. asked_wider Job (Filled strict A) (Filled strict B) (StopsPlanOf why) filled of)))
     (asked_wider Job (Filled strict A) (Filled strict B) IsUndrawn filled)
@@ -91,33 +91,33 @@ fault_so strict A P (Steps number) is = is
 fault_so strict A P (EmptyRegion index) is = absurd is
 fault_so strict A P (Log line) is = is
 
-pub asked_stops : {V : Type 0} (strict : Bool) (Lacked : FileName → Type 0) (A : Job → Type 0) (r : Result V Refusal) → IfErr r (StopsTask Lacked (Filled strict A)) → IfErr r (StopsAsked strict Lacked A)
-asked_stops strict Lacked A (Ok x) is = tt
-asked_stops strict Lacked A (Err why) is =
-    refuses_wider Lacked Lacked (OfFault (IsPlanFault (Filled strict A))) (OrEmpty strict A (OfFault (IsPlanFault (Filled strict A))))
-    (FailsToDraw (Filled strict A)) (FailsToDraw (Filled strict A)) (λ name lacks. lacks) (fault_so strict A (IsPlanFault (Filled strict A))) (λ late. late) why is
+pub asked_stops : {V : Type 0} (strict : Bool) (Lacked : FileName → Type 0) (Broke : Type 0) (A : Job → Type 0) (r : Result V Refusal) → IfErr r (StopsTask Lacked Broke (Filled strict A)) → IfErr r (StopsAsked strict Lacked Broke A)
+asked_stops strict Lacked Broke A (Ok x) is = tt
+asked_stops strict Lacked Broke A (Err why) is =
+    refuses_wider Lacked Lacked Broke Broke (OfFault (IsPlanFault (Filled strict A))) (OrEmpty strict A (OfFault (IsPlanFault (Filled strict A))))
+    (FailsToDraw (Filled strict A)) (FailsToDraw (Filled strict A)) (λ name lacks. lacks) (λ broke. broke) (fault_so strict A (IsPlanFault (Filled strict A))) (λ late. late) why is
 
-pub empty_stops : {V : Type 0} (strict : Bool) (Lacked : FileName → Type 0) (A : Job → Type 0) (j : Job) (why : Refusal) (r : Result V Refusal) → A j → RefusesEmpty strict j.task j.len why
-    → r ≡ Err why → IfErr r (StopsAsked strict Lacked A)
-empty_stops strict Lacked A j why r asked is refused =
-    rw refused (by_empty strict Lacked A (OfFault (IsPlanFault (Filled strict A))) (FailsToDraw (Filled strict A)) j why asked is)
+pub empty_stops : {V : Type 0} (strict : Bool) (Lacked : FileName → Type 0) (Broke : Type 0) (A : Job → Type 0) (j : Job) (why : Refusal) (r : Result V Refusal) → A j → RefusesEmpty strict j.task j.len why
+    → r ≡ Err why → IfErr r (StopsAsked strict Lacked Broke A)
+empty_stops strict Lacked Broke A j why r asked is refused =
+    rw refused (by_empty strict Lacked Broke A (OfFault (IsPlanFault (Filled strict A))) (FailsToDraw (Filled strict A)) j why asked is)
 
-pub files_stop : {V : Type 0} (strict : Bool) (Lacked : FileName → Type 0) (A : Job → Type 0) (why : Refusal) (r : Result V Refusal) → TellsFile Lacked why
-    → r ≡ Err why → IfErr r (StopsAsked strict Lacked A)
-files_stop strict Lacked A why r is refused =
-    rw refused (by_files Lacked Lacked (OrEmpty strict A (OfFault (IsPlanFault (Filled strict A)))) (FailsToDraw (Filled strict A)) why (λ name lacks. lacks) is)
+pub files_stop : {V : Type 0} (strict : Bool) (Lacked : FileName → Type 0) (Broke : Type 0) (A : Job → Type 0) (why : Refusal) (r : Result V Refusal) → TellsFile Lacked why
+    → r ≡ Err why → IfErr r (StopsAsked strict Lacked Broke A)
+files_stop strict Lacked Broke A why r is refused =
+    rw refused (by_files Lacked Lacked Broke (OrEmpty strict A (OfFault (IsPlanFault (Filled strict A)))) (FailsToDraw (Filled strict A)) why (λ name lacks. lacks) is)
 
 pub nothing_told : {V : Type 0} (r : Result V Refusal) (lines : List ℕ) (P : Type 0) → lines ≡ [] → IfErr r (λ why. (lines ≡ []) ⊎ P)
 nothing_told (Ok x) lines P none = tt
 nothing_told (Err why) lines P none = inl none
 
 -- why a plan wasn't made is why it isn't told
-pub unmade : (strict : Bool) (Lacked : FileName → Type 0) (Sent : Option (List ℕ) → Type 0) (shows : Shows) (Asked : Job → Type 0) (before after : Option (List ℕ)) (why : Refusal) → StopsAsked strict Lacked Asked why
-    → RefusesPlan strict Lacked Sent shows Asked before after why
-unmade strict Lacked Sent shows Asked before after =
-    refuses_wider Lacked Lacked (OrEmpty strict Asked (OfFault (IsPlanFault (Filled strict Asked)))) (OrEmpty strict Asked (OfFault (IsPlanFault (Filled strict Asked))))
+pub unmade : (strict : Bool) (Lacked : FileName → Type 0) (D E : Type 0) (Sent : Option (List ℕ) → Type 0) (shows : Shows) (Asked : Job → Type 0) (before after : Option (List ℕ)) → (D → E) → (why : Refusal) → StopsAsked strict Lacked D Asked why
+    → RefusesPlan strict Lacked E Sent shows Asked before after why
+unmade strict Lacked D E Sent shows Asked before after broken =
+    refuses_wider Lacked Lacked D E (OrEmpty strict Asked (OfFault (IsPlanFault (Filled strict Asked)))) (OrEmpty strict Asked (OfFault (IsPlanFault (Filled strict Asked))))
     (FailsToDraw (Filled strict Asked)) (FailsToDraw (Filled strict Asked) ⊎ FailsToPrint Sent shows (Filled strict Asked) before after)
-    (λ name lacks. lacks) (λ why of. of) (λ late. inl late)
+    (λ name lacks. lacks) broken (λ why of. of) (λ late. inl late)
 
 -- what a plan is told with
 
@@ -151,21 +151,24 @@ outline_lines j behind begun lines report (Ok rest) none planned = tt
 outline_lines j behind begun lines report (Err why) none planned =
     inr (inr (report, lines_in j.task j.len j.content behind begun lines report none planned))
 
-pub outline_stops : {V F : Type 0} (Lacked : FileName → Type 0) (r : Result V Refusal) (j : Job) (map : Option F) (behind : Ahead) (begun lines : List ℕ)
+pub outline_stops : {V F : Type 0} (Lacked : FileName → Type 0) (Broke : Type 0) (r : Result V Refusal) (j : Job) (map : Option F) (behind : Ahead) (begun lines : List ℕ)
     (report : Report) → begun ≡ [] → is_some j.begun ≡ is_some map → IsPlanOf j.task j.len j.content behind (Some begun) (Some lines) report
-    → IfErr r (λ why. (why ≡ Build fault.Memory) ⊎ ((is_some map ≡ true) × (why ≡ Build fault.Write))) → IfErr r (StopsTask Lacked (Is j))
-outline_stops Lacked (Ok rest) j map behind begun lines report none there planned lacks = tt
-outline_stops Lacked (Err why) j map behind begun lines report none there planned (inl memory) = rw memory tt
-outline_stops Lacked (Err why) j map behind begun lines report none there planned (inr output) = rw output.1 (inr (record {
-  it = j;
-  asked = refl;
-  has = (rw there output.0, lines, report, lines_in j.task j.len j.content behind begun lines report none planned);
-}))
+    → IfErr r (λ why. (why ≡ Build fault.Memory) ⊎ ((is_some map ≡ true) × (why ≡ Build fault.Write) × Broke)) → IfErr r (StopsTask Lacked Broke (Is j))
+outline_stops Lacked Broke (Ok rest) j map behind begun lines report none there planned lacks = tt
+outline_stops Lacked Broke (Err why) j map behind begun lines report none there planned (inl memory) = rw memory tt
+outline_stops Lacked Broke (Err why) j map behind begun lines report none there planned (inr output) = rw output.1 (
+  inr (record {
+    it = j;
+    asked = refl;
+    has = (rw there output.0, lines, report, lines_in j.task j.len j.content behind begun lines report none planned);
+  }),
+  output.2,
+)
 
-pub stops_for : {V : Type 0} (L M : FileName → Type 0) (r : Result V Refusal) (Asked : Job → Type 0) (j : Job) → ((told : FileName) → L told → M told) → Asked j
-    → IfErr r (StopsTask L (Is j)) → IfErr r (StopsTask M Asked)
-stops_for L M (Ok x) Asked j files of stops = tt
-stops_for L M (Err why) Asked j files of stops = stops_wider L M (Is j) Asked files (of_one Asked j of) why stops
+pub stops_for : {V : Type 0} (L M : FileName → Type 0) (Broke : Type 0) (r : Result V Refusal) (Asked : Job → Type 0) (j : Job) → ((told : FileName) → L told → M told) → Asked j
+    → IfErr r (StopsTask L Broke (Is j)) → IfErr r (StopsTask M Broke Asked)
+stops_for L M Broke (Ok x) Asked j files of stops = tt
+stops_for L M Broke (Err why) Asked j files of stops = stops_wider L M Broke (Is j) Asked files (of_one Asked j of) why stops
 
 told_wider : (Sent : Option (List ℕ) → Type 0) (shows : Shows) (A B : Job → Type 0) → ((j : Job) → A j → B j) → (lines : List ℕ)
     → (lines ≡ []) ⊎ ForAsked Job A (IsPart lines) → (lines ≡ []) ⊎ ForAsked Job B (IsTold Sent shows lines)
@@ -201,16 +204,19 @@ whole_cut Sent shows A B wider lines rest before after (Err why) of put = inr (r
   put = inr put;
 })
 
-pub whole_refused : {U : Type 0} (strict : Bool) (Lacked : FileName → Type 0) (Sent : Option (List ℕ) → Type 0) (shows : Shows) (A B : Job → Type 0) → ((j : Job) → A j → Filled strict B j) → (lines rest : List ℕ) (before after : Option (List ℕ))
+pub whole_refused : {U : Type 0} (strict : Bool) (Lacked : FileName → Type 0) (More Broke : Type 0) → (More → Broke) → (Sent : Option (List ℕ) → Type 0) (shows : Shows) (A B : Job → Type 0) → ((j : Job) → A j → Filled strict B j) → (lines rest : List ℕ) (before after : Option (List ℕ))
     (asks : Bool) (r : Result U Refusal) → asks ≡ true → ForAsked Job A (IsWhole Sent shows lines rest)
-    → IfErr r (λ why. Cuts before after (lines ++ rest)) → IfErr r (λ why. why ≡ Build fault.Write)
-    → IfErr r (OrUsage asks (RefusesPlan strict Lacked Sent shows B before after))
-whole_refused strict Lacked Sent shows A B wider lines rest before after asks (Ok u) formed of put is = tt
-whole_refused strict Lacked Sent shows A B wider lines rest before after asks (Err why) formed of put is = or_usage _ _ _ formed (rw is (inr (inr (record {
-  bytes = lines ++ rest;
-  of = whole_is_told Sent shows (Filled strict B) lines rest (asked_wider Job A (Filled strict B) (IsWhole Sent shows lines rest) wider of);
-  put = put;
-}))))
+    → IfErr r (λ why. Cuts before after (lines ++ rest)) → IfErr r (λ why. (why ≡ Build fault.Write) × More)
+    → IfErr r (OrUsage asks (RefusesPlan strict Lacked Broke Sent shows B before after))
+whole_refused strict Lacked More Broke broken Sent shows A B wider lines rest before after asks (Ok u) formed of put is = tt
+whole_refused strict Lacked More Broke broken Sent shows A B wider lines rest before after asks (Err why) formed of put is = or_usage _ _ _ formed (rw is.0 (
+  inr (inr (record {
+    bytes = lines ++ rest;
+    of = whole_is_told Sent shows (Filled strict B) lines rest (asked_wider Job A (Filled strict B) (IsWhole Sent shows lines rest) wider of);
+    put = put;
+  })),
+  broken is.1,
+))
 
 -- of the lines before a refusal
 
@@ -219,38 +225,38 @@ pub part_of_lines : {V : Type 0} (r : Result V Refusal) (why : Refusal) (A : Job
 part_of_lines r why A lines slice is same of =
     rw same (subst (λ r. IfErr r (λ why. (lines ≡ []) ⊎ ForAsked Job A (IsPart lines))) is of)
 
-abbrev PrintsLines : Type 0 → List ℕ → Option (List ℕ) → Option (List ℕ) → Refusal → Refusal → Type 0
-PrintsLines Same lines before after why told =
+abbrev PrintsLines : Type 0 → Type 0 → List ℕ → Option (List ℕ) → Option (List ℕ) → Refusal → Refusal → Type 0
+PrintsLines Same More lines before after why told =
     ((lines ≡ []) × Same × (told ≡ why))
-    ⊎ (((0 < length lines) × Appends before after lines × (told ≡ why)) ⊎ (Cuts before after lines × (told ≡ Build fault.Write)))
+    ⊎ (((0 < length lines) × Appends before after lines × (told ≡ why)) ⊎ (Cuts before after lines × (told ≡ Build fault.Write) × More))
 
-lines_cut_of : (Same : Type 0) (before after : Option (List ℕ)) → (Same → after ≡ before) → (Sent : Option (List ℕ) → Type 0) (shows : Shows) (B : Job → Type 0) (lines : List ℕ) (why told : Refusal)
-    → (lines ≡ []) ⊎ ForAsked Job B (IsTold Sent shows lines) → PrintsLines Same lines before after why told → CutsPlan Sent shows B before after
-lines_cut_of Same before after same Sent shows B lines why told part (inl none) = inl (same none.1)
-lines_cut_of Same before after same Sent shows B lines why told (inr of) (inr (inl all)) = inr (record { bytes = lines; of = of; put = inl all.1 })
-lines_cut_of Same before after same Sent shows B lines why told (inl none) (inr (inl all)) = absurd (omega (arith, all.0, ap length none))
-lines_cut_of Same before after same Sent shows B lines why told (inr of) (inr (inr cut)) = inr (record { bytes = lines; of = of; put = inr cut.0 })
-lines_cut_of Same before after same Sent shows B lines why told (inl none) (inr (inr cut)) = absurd (omega (arith, cut.0.1, ap length none))
+lines_cut_of : (Same More : Type 0) (before after : Option (List ℕ)) → (Same → after ≡ before) → (Sent : Option (List ℕ) → Type 0) (shows : Shows) (B : Job → Type 0) (lines : List ℕ) (why told : Refusal)
+    → (lines ≡ []) ⊎ ForAsked Job B (IsTold Sent shows lines) → PrintsLines Same More lines before after why told → CutsPlan Sent shows B before after
+lines_cut_of Same More before after same Sent shows B lines why told part (inl none) = inl (same none.1)
+lines_cut_of Same More before after same Sent shows B lines why told (inr of) (inr (inl all)) = inr (record { bytes = lines; of = of; put = inl all.1 })
+lines_cut_of Same More before after same Sent shows B lines why told (inl none) (inr (inl all)) = absurd (omega (arith, all.0, ap length none))
+lines_cut_of Same More before after same Sent shows B lines why told (inr of) (inr (inr cut)) = inr (record { bytes = lines; of = of; put = inr cut.0 })
+lines_cut_of Same More before after same Sent shows B lines why told (inl none) (inr (inr cut)) = absurd (omega (arith, cut.0.1, ap length none))
 
-pub lines_cut : (Same : Type 0) (before after : Option (List ℕ)) → (Same → after ≡ before) → (Sent : Option (List ℕ) → Type 0) (shows : Shows) (A B : Job → Type 0) → ((j : Job) → A j → B j)
-    → (lines : List ℕ) (why told : Refusal) → (lines ≡ []) ⊎ ForAsked Job A (IsPart lines) → PrintsLines Same lines before after why told
+pub lines_cut : (Same More : Type 0) (before after : Option (List ℕ)) → (Same → after ≡ before) → (Sent : Option (List ℕ) → Type 0) (shows : Shows) (A B : Job → Type 0) → ((j : Job) → A j → B j)
+    → (lines : List ℕ) (why told : Refusal) → (lines ≡ []) ⊎ ForAsked Job A (IsPart lines) → PrintsLines Same More lines before after why told
     → CutsPlan Sent shows B before after
-lines_cut Same before after same Sent shows A B wider lines why told part =
-    lines_cut_of Same before after same Sent shows B lines why told (told_wider Sent shows A B wider lines part)
+lines_cut Same More before after same Sent shows A B wider lines why told part =
+    lines_cut_of Same More before after same Sent shows B lines why told (told_wider Sent shows A B wider lines part)
 
-lines_refused_of : (strict : Bool) (Lacked : FileName → Type 0) (Same : Type 0) (before after : Option (List ℕ)) (Sent : Option (List ℕ) → Type 0) (shows : Shows) (B : Job → Type 0) (lines : List ℕ) (why told : Refusal)
-    → (lines ≡ []) ⊎ ForAsked Job (Filled strict B) (IsTold Sent shows lines) → StopsAsked strict Lacked B why → PrintsLines Same lines before after why told
-    → RefusesPlan strict Lacked Sent shows B before after told
-lines_refused_of strict Lacked Same before after Sent shows B lines why told part stops (inl none) = rw none.2 (unmade strict Lacked Sent shows B before after why stops)
-lines_refused_of strict Lacked Same before after Sent shows B lines why told part stops (inr (inl all)) = rw all.2 (unmade strict Lacked Sent shows B before after why stops)
-lines_refused_of strict Lacked Same before after Sent shows B lines why told (inr of) stops (inr (inr cut)) = rw cut.1 (inr (inr (record { bytes = lines; of = of; put = cut.0 })))
-lines_refused_of strict Lacked Same before after Sent shows B lines why told (inl none) stops (inr (inr cut)) = absurd (omega (arith, cut.0.1, ap length none))
+lines_refused_of : (strict : Bool) (Lacked : FileName → Type 0) (D Broke Same More : Type 0) → (D → Broke) → (More → Broke) → (before after : Option (List ℕ)) (Sent : Option (List ℕ) → Type 0) (shows : Shows) (B : Job → Type 0) (lines : List ℕ) (why told : Refusal)
+    → (lines ≡ []) ⊎ ForAsked Job (Filled strict B) (IsTold Sent shows lines) → StopsAsked strict Lacked D B why → PrintsLines Same More lines before after why told
+    → RefusesPlan strict Lacked Broke Sent shows B before after told
+lines_refused_of strict Lacked D Broke Same More broken printed before after Sent shows B lines why told part stops (inl none) = rw none.2 (unmade strict Lacked D Broke Sent shows B before after broken why stops)
+lines_refused_of strict Lacked D Broke Same More broken printed before after Sent shows B lines why told part stops (inr (inl all)) = rw all.2 (unmade strict Lacked D Broke Sent shows B before after broken why stops)
+lines_refused_of strict Lacked D Broke Same More broken printed before after Sent shows B lines why told (inr of) stops (inr (inr cut)) = rw cut.1 (inr (inr (record { bytes = lines; of = of; put = cut.0 })), printed cut.2)
+lines_refused_of strict Lacked D Broke Same More broken printed before after Sent shows B lines why told (inl none) stops (inr (inr cut)) = absurd (omega (arith, cut.0.1, ap length none))
 
-pub lines_refused : (strict : Bool) (Lacked : FileName → Type 0) (Same : Type 0) (before after : Option (List ℕ)) (Sent : Option (List ℕ) → Type 0) (shows : Shows) (A B : Job → Type 0) → ((j : Job) → A j → Filled strict B j)
-    → (lines : List ℕ) (asks : Bool) (why told : Refusal) → asks ≡ true → (lines ≡ []) ⊎ ForAsked Job A (IsPart lines) → StopsAsked strict Lacked B why
-    → PrintsLines Same lines before after why told → OrUsage asks (RefusesPlan strict Lacked Sent shows B before after) told
-lines_refused strict Lacked Same before after Sent shows A B wider lines asks why told formed part stops prints =
-    or_usage _ _ _ formed (lines_refused_of strict Lacked Same before after Sent shows B lines why told (told_wider Sent shows A (Filled strict B) wider lines part) stops prints)
+pub lines_refused : (strict : Bool) (Lacked : FileName → Type 0) (D Broke Same More : Type 0) → (D → Broke) → (More → Broke) → (before after : Option (List ℕ)) (Sent : Option (List ℕ) → Type 0) (shows : Shows) (A B : Job → Type 0) → ((j : Job) → A j → Filled strict B j)
+    → (lines : List ℕ) (asks : Bool) (why told : Refusal) → asks ≡ true → (lines ≡ []) ⊎ ForAsked Job A (IsPart lines) → StopsAsked strict Lacked D B why
+    → PrintsLines Same More lines before after why told → OrUsage asks (RefusesPlan strict Lacked Broke Sent shows B before after) told
+lines_refused strict Lacked D Broke Same More broken printed before after Sent shows A B wider lines asks why told formed part stops prints =
+    or_usage _ _ _ formed (lines_refused_of strict Lacked D Broke Same More broken printed before after Sent shows B lines why told (told_wider Sent shows A (Filled strict B) wider lines part) stops prints)
 
 -- ---- with the lines of the regions
 apart : {V : Type 0} (x : V) (e : Refusal) → ◌≡◌ {A = Result V Refusal} (Ok x) (Err e) → ⊥
@@ -272,10 +278,10 @@ job_part (Ok text) (Err why) items Sent shows lines j of part = inr (inr (of.rep
 job_part (Err e) (Ok rest) items Sent shows lines j of part = tt
 job_part (Err e) (Err why) items Sent shows lines j of part = part
 
-pub job_stops : {V : Type 0} (Lacked : FileName → Type 0) (r q : Result V Refusal) (j : Job) → IfErr r (StopsTask Lacked (Is j)) → IfOk r (λ text. IfErr q (λ why. why ≡ Build fault.Memory))
-    → IfErr r (λ why. q ≡ Err why) → IfErr q (StopsTask Lacked (Is j))
-job_stops Lacked (Ok text) (Ok rest) j stops memory kept = tt
-job_stops Lacked (Ok text) (Err why) j stops memory kept = rw memory tt
-job_stops Lacked (Err e) (Ok rest) j stops memory kept = tt
-job_stops Lacked (Err e) (Err why) j stops memory kept =
-    subst (λ r. IfErr r (StopsTask Lacked (Is j))) (sym kept) stops
+pub job_stops : {V : Type 0} (Lacked : FileName → Type 0) (Broke : Type 0) (r q : Result V Refusal) (j : Job) → IfErr r (StopsTask Lacked Broke (Is j)) → IfOk r (λ text. IfErr q (λ why. why ≡ Build fault.Memory))
+    → IfErr r (λ why. q ≡ Err why) → IfErr q (StopsTask Lacked Broke (Is j))
+job_stops Lacked Broke (Ok text) (Ok rest) j stops memory kept = tt
+job_stops Lacked Broke (Ok text) (Err why) j stops memory kept = rw memory tt
+job_stops Lacked Broke (Err e) (Ok rest) j stops memory kept = tt
+job_stops Lacked Broke (Err e) (Err why) j stops memory kept =
+    subst (λ r. IfErr r (StopsTask Lacked Broke (Is j))) (sym kept) stops

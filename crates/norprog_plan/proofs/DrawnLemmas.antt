@@ -1,5 +1,5 @@
 -- The picture of what is chosen, in whatever form that is held.
-use Rattle.std.proofs.Common.{◌≡◌, ℕ, Bool, List, Option, Result, Ok, Err, IfOk, subst}
+use Rattle.std.proofs.Common.{◌≡◌, ◌<◌, ℕ, Bool, List, Option, Result, Ok, Err, IfOk, IfErr, inl, inr, subst, arith}
 use Rattle.std.specs.Io.KnownBytes.{Appends}
 use Rattle.nor_base.specs.Parameters.{Parameters}
 use Rattle.nor_job.specs.Causes.{LayoutSays}
@@ -10,7 +10,7 @@ use Rattle.nor_map.specs.Rows.{grid_of}
 use Rattle.nor_map.specs.Map.{map_text}
 use Rattle.nor_plan_read.specs.declared.line.PlanLine.{PlanLine}
 use Rattle.norprog_common.specs.declared.faults.Refusal.{Refusal}
-use Rattle.norprog_plan.specs.Answer.{PutsMap}
+use Rattle.norprog_plan.specs.Answer.{LacksOutput, PutsMap}
 
 -- a set of addresses that has just what is chosen gives the same picture
 pub puts : {U : Type 0} (t : Task) (m : Parameters) (lines : List PlanLine) (rest : List ℕ) (before after : Option (List ℕ)) (regions : List Region)
@@ -25,3 +25,14 @@ puts t m lines rest before after regions has (Ok u) says same put =
       says = says;
       put = subst (λ f. Appends before after (map_text (grid_of m.size m.page lines f) lines regions rest)) pointwise put;
     }
+
+-- a file that failed isn't flushed with Ok, so its flush says that it broke
+file_broke : {U E : Type 0} (Broke : Type 0) (before after : ℕ) (flushed : Result U E) → IfOk flushed (λ u. after ≡ 0) → IfErr flushed (λ e. Broke) → before < after → Broke
+file_broke Broke before after (Ok u) whole broke more = absurd (omega (arith, more, whole))
+file_broke Broke before after (Err e) whole broke more = broke
+
+pub lacks_flushed : {T U E : Type 0} (Broke : Type 0) (before after : ℕ) (r : Result T Refusal) (flushed : Result U E) → IfOk flushed (λ u. after ≡ 0)
+    → IfErr flushed (λ e. Broke) → IfErr r (LacksOutput (before < after)) → IfErr r (LacksOutput Broke)
+lacks_flushed Broke before after (Ok x) flushed whole broke lacks = tt
+lacks_flushed Broke before after (Err why) flushed whole broke (inl memory) = inl memory
+lacks_flushed Broke before after (Err why) flushed whole broke (inr wrote) = inr (wrote.0, file_broke Broke before after flushed whole broke wrote.1)

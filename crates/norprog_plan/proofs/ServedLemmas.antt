@@ -24,12 +24,12 @@ plan_filled files given o request some asks j of =
 
 pub plan_stops : (files : FileFacts) (given : PlanArgs) (o : Option Request) (request : Request) → o ≡ Some request → IfSome o (AsksFor given.job)
     → (why : Refusal)
-    → StopsAsked request.strict (Lacks files (paths_of request (map_path (option_map (λ t. t.now) given.map)))) (IsJobOf files request (option_map (λ t. t.now) given.map)) why
-    → StopsAsked given.job.strict (Lacks files (paths_asked given.job (map_path (option_map (λ t. t.now) given.map)))) (ServesPlan files given) why
+    → StopsAsked request.strict (Lacks files (paths_of request (map_path (option_map (λ t. t.now) given.map)))) files.broke (IsJobOf files request (option_map (λ t. t.now) given.map)) why
+    → StopsAsked given.job.strict (Lacks files (paths_asked given.job (map_path (option_map (λ t. t.now) given.map)))) files.broke (ServesPlan files given) why
 plan_stops files given o request some asks why of =
     let map = option_map (λ t. t.now) given.map in
     let Lacked = Lacks files (paths_of request (map_path map)) in
-    asked_wider_stops given.job.strict Lacked (Lacks files (paths_asked given.job (map_path map))) (IsJobOf files request map) (ServesPlan files given)
+    asked_wider_stops given.job.strict Lacked (Lacks files (paths_asked given.job (map_path map))) files.broke (IsJobOf files request map) (ServesPlan files given)
     (lacks_same files (paths_of request (map_path map)) (paths_asked given.job (map_path map)) (paths_are given.job request (map_path map) (asks_of given.job o request some asks)))
     (plan_serves files given o request some asks) why
-    (subst (λ (strict : Bool). StopsAsked strict Lacked (IsJobOf files request map) why) (asks_of given.job o request some asks).strict of)
+    (subst (λ (strict : Bool). StopsAsked strict Lacked files.broke (IsJobOf files request map) why) (asks_of given.job o request some asks).strict of)

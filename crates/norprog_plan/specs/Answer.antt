@@ -76,9 +76,9 @@ pub record PutsMap (t : Task) (m : Parameters) (lines : List PlanLine) (rest : L
 abbrev pub IsDrawn : (Option (List ℕ) → Type 0) → Option (List ℕ) → Task → Parameters → List PlanLine → List ℕ → Type 0
 IsDrawn Sent begun t m lines rest = (after : Option (List ℕ)) × PutsMap t m lines rest begun after × Sent after
 
--- memory was refused, or an output failed
-abbrev pub LacksOutput : Refusal → Type 0
-LacksOutput why = (why ≡ Build Memory) ⊎ (why ≡ Build Write)
+-- memory was refused, or an output can't be written, which is told only where one failed
+abbrev pub LacksOutput : Type 0 → Refusal → Type 0
+LacksOutput Broke why = (why ≡ Build Memory) ⊎ ((why ≡ Build Write) × Broke)
 
 -- where the job has an output for a picture
 abbrev pub Draws : (Option (List ℕ) → Type 0) → Option (Option (List ℕ)) → Task → Parameters → List PlanLine → List ℕ → Type 0
@@ -159,31 +159,32 @@ IsUndrawn j = (is_some j.begun ≡ true) × (told : List ℕ) × (report : Repor
 abbrev pub FailsToDraw : (Job → Type 0) → Type 0
 FailsToDraw Asked = ForAsked Job Asked IsUndrawn
 
--- why a plan that was asked for isn't made, or not drawn
-abbrev pub StopsTask : (FileName → Type 0) → (Job → Type 0) → Refusal → Type 0
-StopsTask Lacked Asked = RefusesFor Lacked (OfFault (IsPlanFault Asked)) (FailsToDraw Asked)
+-- why a plan that was asked for isn't made, or not drawn; `Broke`: an output failed
+abbrev pub StopsTask : (FileName → Type 0) → Type 0 → (Job → Type 0) → Refusal → Type 0
+StopsTask Lacked Broke Asked = RefusesFor Lacked Broke (OfFault (IsPlanFault Asked)) (FailsToDraw Asked)
 
 -- the same where a job may be strict: the first chosen region without a byte of the image is told, and of a plan that went further
 -- each has one
-abbrev pub StopsAsked : Bool → (FileName → Type 0) → (Job → Type 0) → Refusal → Type 0
-StopsAsked strict Lacked Asked =
-    RefusesFor Lacked (OrEmpty strict Asked (OfFault (IsPlanFault (Filled strict Asked)))) (FailsToDraw (Filled strict Asked))
+abbrev pub StopsAsked : Bool → (FileName → Type 0) → Type 0 → (Job → Type 0) → Refusal → Type 0
+StopsAsked strict Lacked Broke Asked =
+    RefusesFor Lacked Broke (OrEmpty strict Asked (OfFault (IsPlanFault (Filled strict Asked)))) (FailsToDraw (Filled strict Asked))
 
 -- why a plan that was asked for isn't told
-abbrev pub RefusesPlan : Bool → (FileName → Type 0) → (Option (List ℕ) → Type 0) → Shows → (Job → Type 0) → Option (List ℕ) → Option (List ℕ) → Refusal → Type 0
-RefusesPlan strict Lacked Sent shows Asked before after =
-    RefusesFor Lacked (OrEmpty strict Asked (OfFault (IsPlanFault (Filled strict Asked))))
+abbrev pub RefusesPlan : Bool → (FileName → Type 0) → Type 0 → (Option (List ℕ) → Type 0) → Shows → (Job → Type 0) → Option (List ℕ) → Option (List ℕ) → Refusal → Type 0
+RefusesPlan strict Lacked Broke Sent shows Asked before after =
+    RefusesFor Lacked Broke (OrEmpty strict Asked (OfFault (IsPlanFault (Filled strict Asked))))
     (FailsToDraw (Filled strict Asked) ⊎ FailsToPrint Sent shows (Filled strict Asked) before after)
 
--- what `plan` answers to the texts of a command line, where `Made` says which changes it made: the lines and the report at status 0,
--- after the picture has gone out where one is asked for, and just its file was made; or a refusal, and at most that was
-abbrev pub AnswersPlan : FileFacts → PlanArgs → (List Change → Type 0) → Option (List ℕ) → Option (List ℕ) → Type 0 → Type 0 → Option (List ℕ) → Option (List ℕ) → ℕ → Type 0
-AnswersPlan files given Made before after Quiet Works told_before told_after status =
+-- what `plan` answers to the texts of a command line, where `Made` says which changes it made, and `Broke` that an output failed: the
+-- lines and the report at status 0, after the picture has gone out where one is asked for, and just its file was made; or a refusal,
+-- and at most that was, nothing where the texts ask for no plan
+abbrev pub AnswersPlan : FileFacts → PlanArgs → (List Change → Type 0) → Type 0 → Option (List ℕ) → Option (List ℕ) → Type 0 → Type 0 → Option (List ℕ) → Option (List ℕ) → ℕ → Type 0
+AnswersPlan files given Made Broke before after Quiet Works told_before told_after status =
     Answers (asks_plan given)
     ((status ≡ 0) × PrintsPlan files.flushed (shows_of given) (Filled given.job.strict (ServesPlan files given)) before after
     × MakesFor files given.job (option_map (λ t. t.now) given.map) Made × Quiet)
     (CutsPlan files.flushed (shows_of given) (Filled given.job.strict (ServesPlan files given)) before after
-    × MayMakeFor files given.job (option_map (λ t. t.now) given.map) Made)
-    (RefusesPlan given.job.strict (Lacks files (paths_asked given.job (map_path (option_map (λ t. t.now) given.map)))) files.flushed (shows_of given)
+    × (MayMakeFor files given.job (option_map (λ t. t.now) given.map) Made × (asks_plan given ≡ false → Made [])))
+    (RefusesPlan given.job.strict (Lacks files (paths_asked given.job (map_path (option_map (λ t. t.now) given.map)))) Broke files.flushed (shows_of given)
     (ServesPlan files given) before after)
     Works told_before told_after status

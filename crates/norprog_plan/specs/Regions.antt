@@ -1,7 +1,6 @@
 -- The lines on what an image gives the chosen regions (this project's).
 use Rattle.std.specs.Prelude.{◌≡◌, ℕ, ◌+◌, ◌-◌, Bool, true, false, List, ◌++◌, Option, Some, None, codes, decimal, flat_map}
 use Rattle.nor_base.specs.Parameters.{Parameters}
-use Rattle.nor_base.specs.Script.{closed}
 use Rattle.nor_hex.specs.Image.{Pairs, byte_at}
 use Rattle.nor_job.specs.Causes.{AreAccepted}
 use Rattle.nor_job.specs.Task.{Task}

@@ -1,14 +1,16 @@
 //! `plan`: from the texts of the command line to the lines that tell what a build would erase and
 //! program, and why.
 
-ghost use Rattle.std.specs.Prelude.{◌≡◌, ◌⊎◌, ◌<◌, ◌≤◌, ◌-◌, ◌^◌, ◌++◌, true, [], length, Err};
+ghost use Rattle.std.specs.Prelude.{◌≡◌, ◌⊎◌, ◌<◌, ◌≤◌, ◌-◌, ◌^◌, ◌++◌, true, false, [], length};
+ghost use Rattle.std.specs.Prelude.{Err};
 ghost use Rattle.std.specs.Prelude.{IfOk, IfErr, IfSome, MatchResult, option_map};
 ghost use Rattle.std.specs.Io.KnownBytes.{Appends};
 ghost use Rattle.nor_base.specs.Device.{Cuts};
 ghost use Rattle.nor_job.specs.declared.fault.BuildFault.TheVariants.{Write};
 ghost use Rattle.norprog_common.specs.declared.faults.Refusal.TheVariants.{Build};
 ghost use Rattle.norprog_common.specs.Files.{TellsFile};
-ghost use Rattle.norprog_common.specs.FileStore.{Adds, IsMadeApart, Lacks, MakesIf, WhereNamed};
+ghost use Rattle.norprog_common.specs.FileStore.{Adds, Breaks, IsMadeApart, Lacks, MakesIf};
+ghost use Rattle.norprog_common.specs.FileStore.{WhereNamed};
 ghost use Rattle.norprog_common.specs.Strict.{Filled};
 ghost use Rattle.norprog_common.specs.Told.{ForAsked, OrUsage};
 ghost use Rattle.norprog_plan.specs.Served.{asks_plan, shows_of, ServesPlan};
@@ -44,6 +46,7 @@ pub fn plan<S: FileStore, O: ByteOut, E: ByteOut>(
     ensures quiet { result ≡ 0 → err.new ≡ err.old }
     ensures answer { AnswersPlan (S.facts store.now) given.entry
         (Adds (S.Journal.changes journal.old) (S.Journal.changes journal.new))
+        (Breaks (S.facts store.now) (O.count out.old) (O.count out.new))
         (O.held out.old) (O.held out.new)
         (err.new ≡ err.old)
         (E.count err.new ≡ E.count err.old) (E.held err.old) (E.held err.new) result }
@@ -67,7 +70,9 @@ fn report_plan<S: FileStore, O: ByteOut>(
         (Adds (S.Journal.changes journal.old) (S.Journal.changes journal.new)))
         (λ _. MayMakeFor (S.facts store.now) given.entry.job
         (option_map (λ t. t.now) given.entry.map)
-        (Adds (S.Journal.changes journal.old) (S.Journal.changes journal.new))) }
+        (Adds (S.Journal.changes journal.old) (S.Journal.changes journal.new))
+        × (asks_plan given.entry ≡ false
+        → Adds (S.Journal.changes journal.old) (S.Journal.changes journal.new) [])) }
     ensures printed { IfOk result
         (λ _. PrintsPlan (S.facts store.now).flushed (shows_of given.entry)
         (Filled given.entry.job.strict (ServesPlan (S.facts store.now) given.entry))
@@ -80,6 +85,7 @@ fn report_plan<S: FileStore, O: ByteOut>(
         (OrUsage (asks_plan given.entry)
         (RefusesPlan given.entry.job.strict (Lacks (S.facts store.now)
         (paths_asked given.entry.job (map_path (option_map (λ t. t.now) given.entry.map))))
+        (Breaks (S.facts store.now) (O.count out.old) (O.count out.new))
         (S.facts store.now).flushed (shows_of given.entry)
         (ServesPlan (S.facts store.now) given.entry) (O.held out.old) (O.held out.new))) }
 {
@@ -106,7 +112,8 @@ fn print_whole<O: ByteOut>(lines: &[u8], rest: &[u8], out: &mut O) -> Result<u8,
         (λ _. Appends (O.held out.old) (O.held out.new) (lines.now ++ rest.now)) }
     ensures cut { IfErr result
         (λ _. Cuts (O.held out.old) (O.held out.new) (lines.now ++ rest.now)) }
-    ensures failed { IfErr result (λ why. why ≡ Build Write) }
+    ensures failed { IfErr result
+        (λ why. (why ≡ Build Write) × (O.count out.old < O.count out.new)) }
 {
     match put_parts(out, &[lines, rest]) {
         Ok(()) => Ok(0),
@@ -121,7 +128,8 @@ fn print_lines<O: ByteOut>(lines: &[u8], refusal: Refusal, out: &mut O) -> Refus
     ensures { ((lines.now ≡ []) × (out.new ≡ out.old) × (result ≡ refusal))
         ⊎ (((0 < length lines.now) × Appends (O.held out.old) (O.held out.new) lines.now
         × (result ≡ refusal))
-        ⊎ (Cuts (O.held out.old) (O.held out.new) lines.now × (result ≡ Build Write))) }
+        ⊎ (Cuts (O.held out.old) (O.held out.new) lines.now × (result ≡ Build Write)
+        × (O.count out.old < O.count out.new))) }
 {
     if lines.is_empty() {
         return refusal;
@@ -165,6 +173,7 @@ fn run_plan<S: FileStore>(
     ensures refused { IfErr result.rest (StopsAsked request.now.strict
         (Lacks (S.facts store.now)
         (paths_of request.now (map_path (option_map (λ t. t.now) map.entry))))
+        (S.facts store.now).broke
         (IsJobOf (S.facts store.now) request.now (option_map (λ t. t.now) map.entry))) }
 {
     match open_files(alloc, store, journal, request, map) {

@@ -37,10 +37,12 @@ pub(crate) fn draw_file<S: FileStore>(
         (of : IsLines text.now report inputs.now len ahead)
         → IfOk result (λ _. IsDrawn (S.facts store.now).flushed (S.Output.held file) inputs.now
         of.planned.m (read_lines of) rest.now) }
-    ensures refused { IfErr result LacksOutput }
+    ensures refused { IfErr result (LacksOutput (S.facts store.now).broke) }
 {
-    draw(alloc, inputs, text, rest, &mut file)?;
-    match store.flush(file) {
+    let drawn = draw(alloc, inputs, text, rest, &mut file);
+    let flushed = store.flush(file);
+    drawn?;
+    match flushed {
         Ok(()) => Ok(()),
         Err(_) => Err(Refusal::WRITE),
     }
@@ -61,7 +63,7 @@ fn draw<W: ByteOut>(
         (of : IsLines text.now report inputs.now len ahead)
         → IfOk result (λ _. PutsMap inputs.now of.planned.m (read_lines of) rest.now
         (W.held out.old) (W.held out.new)) }
-    ensures refused { IfErr result LacksOutput }
+    ensures refused { IfErr result (LacksOutput (W.count out.old < W.count out.new)) }
 {
     // the plan was made of this chip, so no cause is left
     let Ok((meaning, _start)) = chip_of(inputs) else {
@@ -86,7 +88,7 @@ fn draw_lines<W: ByteOut>(
         → HasRegions inputs.now image regions
         → IfOk result (λ _. PutsMap inputs.now meaning.now lines.now rest.now (W.held out.old)
         (W.held out.new)) }
-    ensures refused { IfErr result LacksOutput }
+    ensures refused { IfErr result (LacksOutput (W.count out.old < W.count out.new)) }
 {
     let Some(text) = inputs.layout else {
         return put_map(alloc, meaning, lines, &Chosen::whole(), &[], rest, out);
@@ -115,7 +117,7 @@ fn put_map<W: ByteOut>(
     ensures drawn { IfOk result (λ _. Appends (W.held out.old) (W.held out.new)
         (map_text (grid_of meaning.now.size meaning.now.page lines.now (has chosen.now)) lines.now
         regions.now rest.now)) }
-    ensures refused { IfErr result LacksOutput }
+    ensures refused { IfErr result (LacksOutput (W.count out.old < W.count out.new)) }
 {
     let grid = Grid::of(alloc, meaning.size, meaning.page, lines, chosen)?;
     match write_map(&grid, lines, regions, rest, out) {

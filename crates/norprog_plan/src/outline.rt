@@ -62,7 +62,7 @@ pub(crate) fn outline_job<S: FileStore, R: ByteIn>(
     ensures part { IfErr result.rest (λ _. (result.lines.items ≡ [])
         ⊎ IsPart result.lines.items
         (job_with inputs.now (R.ahead content.old) len (option_map S.Output.held map))) }
-    ensures refused { IfErr result.rest (StopsTask (λ told. ⊥)
+    ensures refused { IfErr result.rest (StopsTask (λ told. ⊥) (S.facts store.now).broke
         (Is (job_with inputs.now (R.ahead content.old) len (option_map S.Output.held map)))) }
 {
     let Outline { lines, rest } = outline_of(alloc, store, inputs, content, len, shows.times, map);
@@ -89,7 +89,7 @@ fn outline_of<S: FileStore, R: ByteIn>(
     ensures part { IfErr result.rest (λ _. (result.lines.items ≡ [])
         ⊎ IsPart result.lines.items
         (job_with inputs.now (R.ahead content.old) len (option_map S.Output.held map))) }
-    ensures refused { IfErr result.rest (StopsTask (λ told. ⊥)
+    ensures refused { IfErr result.rest (StopsTask (λ told. ⊥) (S.facts store.now).broke
         (Is (job_with inputs.now (R.ahead content.old) len (option_map S.Output.held map)))) }
 {
     let mut lines = IntoWrite::new(Vec::new(alloc));
@@ -129,7 +129,7 @@ fn rest_of<S: FileStore>(
         inputs.now of.planned.m (read_lines of)
         rest.items) }
     ensures refused { IfErr result (λ why. (why ≡ Build Memory)
-        ⊎ ((is_some map ≡ true) × (why ≡ Build Write))) }
+        ⊎ ((is_some map ≡ true) × (why ≡ Build Write) × (S.facts store.now).broke)) }
 {
     let rest = behind_lines(alloc, inputs, report, lines, times)?;
     if let Some(file) = map {

@@ -8,3 +8,4 @@ mod LikenessLemmas
 mod ServedLemmas
 mod OpenedLemmas
 mod LineLemmas
+mod ReportLemmas

@@ -20,6 +20,7 @@ use Rattle.norprog_common.specs.Setup.{setup_task}
 use Rattle.norprog_common.specs.FileStore.{AreTables, Change, FileFacts, IsAheadIn, Lacks, LacksNamed, Named}
 use Rattle.norprog_common.specs.Content.{of_reader}
 use Rattle.norprog_common.specs.Reading.{GivesSome, HasFailed}
+use Rattle.norprog_common.specs.Told.{TellsBroken}
 use Rattle.norprog_common.proofs.LackedLemmas.{lacks_named, lacks_same, tables_named}
 use Rattle.norprog_common.proofs.ToldLemmas.{asked_wider, refuses_wider, by_fault, by_files, or_usage}
 use Rattle.norprog_play.specs.declared.ending.Ending.{Ending}
@@ -65,8 +66,8 @@ module _ (files : FileFacts) (Failed : Ahead → Type 0) (Made : List Change →
   refusal_asked : (why : Refusal) → RefusesPlay (Lacks files (paths_of request)) Failed (IsTaskOf files request) why
       → RefusesPlay (Lacks files (paths_asked given)) Failed (Serves files given) why
   refusal_asked why of =
-      refuses_wider (Lacks files (paths_of request)) (Lacks files (paths_asked given)) (IsPlayFault Failed (IsTaskOf files request)) (IsPlayFault Failed (Serves files given)) ⊥ ⊥
-      (lacks_same files (paths_of request) (paths_asked given) same)
+      refuses_wider (Lacks files (paths_of request)) (Lacks files (paths_asked given)) ⊥ ⊥ (IsPlayFault Failed (IsTaskOf files request))
+      (IsPlayFault Failed (Serves files given)) ⊥ ⊥ (lacks_same files (paths_of request) (paths_asked given) same) (λ none. none)
       (λ why of. asked_wider PlayTask (IsTaskOf files request) (Serves files given) (IsStopOf Failed why) (serves files given request asks) of) (λ none. none) why of
 
   pub refusals_asked : (r : Result Ending Unplayed) → is_well_formed given ≡ true → IfErr r (IsUnplayed files (paths_of request) Failed Made (IsTaskOf files request))
@@ -81,9 +82,15 @@ pub lacked_refused : (files : FileFacts) (paths : FileName → Option (List ℕ)
     (name : FileName) (named : Option (List ℕ)) (why : Refusal) → paths name ≡ named → RefusesFile name why → TellsFile (LacksNamed files named) why → Made []
     → IsUnplayed files paths Failed Made Asked (Refused why)
 lacked_refused files paths Failed Made Asked name named why at refused lacks none = inl (
-  by_files (Lacks files paths) (Lacks files paths) (IsPlayFault Failed Asked) ⊥ why (λ told lacks. lacks) (lacks_named files paths name named why at refused lacks),
+  by_files (Lacks files paths) (Lacks files paths) ⊥ (IsPlayFault Failed Asked) ⊥ why (λ told lacks. lacks) (lacks_named files paths name named why at refused lacks),
   none,
 )
+
+-- a job's refusal is of no output
+unwritten : (t : Task) (script script' : Ahead) (len : ℕ) (before after : Ahead) (why : Refusal) → RefusesJob t script script' len before after why
+    → TellsBroken ⊥ why
+unwritten t script script' len before after (Build fault.Write) refused = refused
+unwritten t script script' len before after other refused = tt
 
 -- what is blamed has failed
 module _ {F : Type 0} (ahead : F → Ahead) (count : F → ℕ) (script script' content content' : F) (t : Task) (len : ℕ) where
@@ -123,7 +130,7 @@ module _ (files : FileFacts) (request : PlayRequest) (tables : List ℕ) (t : Ta
   pub no_job : (Failed : Ahead → Type 0) (Made : List Change → Type 0) (rest after : Ahead) (why : Refusal) → RefusesJob t script rest len before after why → Blames Failed script before why → Made []
       → IsUnplayed files (paths_of request) Failed Made (IsTaskOf files request) (Refused why)
   no_job Failed Made rest after why refused blamed none = inl (
-    by_fault (Lacks files (paths_of request)) (IsPlayFault Failed (IsTaskOf files request)) _ why (record {
+    by_fault (Lacks files (paths_of request)) ⊥ (IsPlayFault Failed (IsTaskOf files request)) _ why (unwritten t script rest len before after why refused) (record {
       it = task;
       asked = asked;
       has = record { rest = rest; after = after; refused = refused; blamed = blamed };

@@ -53,9 +53,9 @@ pub record IsStopOf (Failed : Ahead → Type 0) (why : Refusal) (t : PlayTask) :
 abbrev pub IsPlayFault : (Ahead → Type 0) → (PlayTask → Type 0) → Refusal → Type 0
 IsPlayFault Failed Asked why = ForAsked PlayTask Asked (IsStopOf Failed why)
 
--- why a play that was asked for has no ending, where no device was to be opened yet
+-- why a play that was asked for has no ending, where no device was to be opened yet: nothing was made or printed, so that no output failed
 abbrev pub RefusesPlay : (FileName → Type 0) → (Ahead → Type 0) → (PlayTask → Type 0) → Refusal → Type 0
-RefusesPlay Lacked Failed Asked = RefusesFor Lacked (IsPlayFault Failed Asked) ⊥
+RefusesPlay Lacked Failed Asked = RefusesFor Lacked ⊥ (IsPlayFault Failed Asked) ⊥
 
 -- the script's steps were read, with the content, and so they weren't played
 pub record IsHaltOf (files : FileFacts) (Made : List Change → Type 0) (why : Unplayed) (t : PlayTask) : Type 0 where
@@ -84,11 +84,11 @@ RefusesToPlay files Failed Made given (Refused why) =
 RefusesToPlay files Failed Made given (Device why) = (is_well_formed given ≡ true) × IsHalt files Made (Serves files given) (Device why)
 
 -- a play that was asked for ended so, and that is what was written of it
-pub record PrintsEnding (files : FileFacts) (Made : List Change → Type 0) (Asked : PlayTask → Type 0) (before after : Option (List ℕ)) (Quiet Works : Type 0)
-    (told_before told_after : Option (List ℕ)) (status : ℕ) : Type 0 where
+pub record PrintsEnding (files : FileFacts) (Made : List Change → Type 0) (Asked : PlayTask → Type 0) (Broke : Type 0) (before after : Option (List ℕ))
+    (Quiet Works : Type 0) (told_before told_after : Option (List ℕ)) (status : ℕ) : Type 0 where
   pub ending : Ending
   pub is : IsEnding files Made Asked ending
-  pub reported : ReportsEnding ending before after Quiet Works told_before told_after status
+  pub reported : ReportsEnding ending Broke before after Quiet Works told_before told_after status
 
 -- nothing was printed, and the handshake's fault was told
 pub record TellsGreeting (files : FileFacts) (Made : List Change → Type 0) (Asked : PlayTask → Type 0) (before after : Option (List ℕ)) (Works : Type 0)
@@ -99,10 +99,11 @@ pub record TellsGreeting (files : FileFacts) (Made : List Change → Type 0) (As
   pub unprinted : after ≡ before
   pub told : Works → Appends told_before told_after (device_line why)
 
--- what `play` answers to the texts of a command line, where `Made` says which changes it made, and `Failed` that a reader of the store
--- that had this ahead has failed: an ending, the handshake's fault, or a refusal, with nothing printed at either
-abbrev pub AnswersPlay : FileFacts → (Ahead → Type 0) → PlayArgs → (List Change → Type 0) → Option (List ℕ) → Option (List ℕ) → Type 0 → Type 0 → Option (List ℕ) → Option (List ℕ) → ℕ → Type 0
-AnswersPlay files Failed given Made before after Quiet Works told_before told_after status =
-    ((is_well_formed given ≡ true) × PrintsEnding files Made (Serves files given) before after Quiet Works told_before told_after status)
+-- what `play` answers to the texts of a command line, where `Made` says which changes it made, `Failed` that a reader of the store that
+-- had this ahead has failed, and `Broke` that an output failed: an ending, the handshake's fault, or a refusal, with nothing printed at
+-- either
+abbrev pub AnswersPlay : FileFacts → (Ahead → Type 0) → PlayArgs → (List Change → Type 0) → Type 0 → Option (List ℕ) → Option (List ℕ) → Type 0 → Type 0 → Option (List ℕ) → Option (List ℕ) → ℕ → Type 0
+AnswersPlay files Failed given Made Broke before after Quiet Works told_before told_after status =
+    ((is_well_formed given ≡ true) × PrintsEnding files Made (Serves files given) Broke before after Quiet Works told_before told_after status)
     ⊎ (((is_well_formed given ≡ true) × TellsGreeting files Made (Serves files given) before after Works told_before told_after status)
     ⊎ ((after ≡ before) × TellsOf (λ why. RefusesToPlay files Failed Made given (Refused why)) Works told_before told_after status))

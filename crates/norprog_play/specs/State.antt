@@ -51,14 +51,16 @@ pub record PrintsLine (ending : Ending) (before after : Option (List ℕ)) (Quie
   pub printed : Appends before after (ending_line ending)
   pub told : TellsState (is_partial ending) Quiet Works told_before told_after
 
--- a proper prefix of it was, and so was, after the chip's state, that it couldn't be printed
-pub record CutsLine (ending : Ending) (before after : Option (List ℕ)) (Works : Type 0) (told_before told_after : Option (List ℕ)) (status : ℕ) : Type 0
+-- a proper prefix of it was, since an output failed, and so was, after the chip's state, that it couldn't be printed
+pub record CutsLine (ending : Ending) (Broke : Type 0) (before after : Option (List ℕ)) (Works : Type 0) (told_before told_after : Option (List ℕ))
+    (status : ℕ) : Type 0
   where
     pub one : status ≡ 1
     pub cut : Cuts before after (ending_line ending)
+    pub broke : Broke
     pub told : Works → Appends told_before told_after (state_told ending ++ printed (Build Write))
 
 -- what is written of an ending
-abbrev pub ReportsEnding : Ending → Option (List ℕ) → Option (List ℕ) → Type 0 → Type 0 → Option (List ℕ) → Option (List ℕ) → ℕ → Type 0
-ReportsEnding ending before after Quiet Works told_before told_after status =
-    PrintsLine ending before after Quiet Works told_before told_after status ⊎ CutsLine ending before after Works told_before told_after status
+abbrev pub ReportsEnding : Ending → Type 0 → Option (List ℕ) → Option (List ℕ) → Type 0 → Type 0 → Option (List ℕ) → Option (List ℕ) → ℕ → Type 0
+ReportsEnding ending Broke before after Quiet Works told_before told_after status =
+    PrintsLine ending before after Quiet Works told_before told_after status ⊎ CutsLine ending Broke before after Works told_before told_after status

@@ -4,7 +4,7 @@ ghost use Rattle.std.specs.Prelude.{◌≡◌, ◌<◌, ◌≤◌, ◌-◌, ◌^
 ghost use Rattle.std.specs.Prelude.{MatchResult};
 ghost use Rattle.nor_base.specs.Chip.{IsPossible};
 ghost use Rattle.nor_base.specs.Run.{trail};
-ghost use Rattle.norprog_common.specs.FileStore.{Adds};
+ghost use Rattle.norprog_common.specs.FileStore.{Adds, Breaks};
 ghost use Rattle.norprog_common.specs.Reading.{HasFailed};
 ghost use Rattle.norprog_play.specs.Answer.{IsEnding, IsUnplayed, RefusesToPlay, AnswersPlay};
 ghost use Rattle.norprog_play.specs.Early.{MayPlay, chip_with};
@@ -48,6 +48,7 @@ pub fn play<S: FileStore, O: ByteOut, E: ByteOut, P: ByteOut>(
     ensures quiet { result ≡ 0 → err.new ≡ err.old }
     ensures answer { AnswersPlay (S.facts store.now) (HasFailed S.Input.ahead S.Input.count)
         given.entry (Adds (S.Journal.changes journal.old) (S.Journal.changes journal.new))
+        (Breaks (S.facts store.now) (O.count out.old) (O.count out.new))
         (O.held out.old) (O.held out.new) (err.new ≡ err.old)
         (E.count err.new ≡ E.count err.old) (E.held err.old) (E.held err.new) result }
 {

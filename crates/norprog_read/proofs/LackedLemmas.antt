@@ -14,10 +14,10 @@ use Rattle.norprog_read.specs.Served.{tables_named}
 
 -- an output that is told as this, where the option of that gives this name
 pub saves_named : (files : FileFacts) (paths : FileName → Option (List ℕ)) (name : FileName) (named : Option (List ℕ)) (why : Refusal) → paths name ≡ named
-    → FailsToSave (λ told. told ≡ name) why → FailsToSave (LacksNamed files named) why → FailsToSave (Lacks files paths) why
+    → FailsToSave (λ told. told ≡ name) files.broke why → FailsToSave (LacksNamed files named) files.broke why → FailsToSave (Lacks files paths) files.broke why
 saves_named files paths name named (File told) at is lacks = subst (λ (path : Option (List ℕ)). LacksNamed files path told) (sym (ap paths is ∙ at)) lacks
 saves_named files paths name named (Build fault.Memory) at is lacks = tt
-saves_named files paths name named (Build fault.Write) at is lacks = tt
+saves_named files paths name named (Build fault.Write) at is lacks = lacks
 saves_named files paths name named (Build (fault.Contradiction number)) at is lacks = absurd is
 saves_named files paths name named (Build (fault.Hex why)) at is lacks = absurd is
 saves_named files paths name named (Build (fault.Layout why)) at is lacks = absurd is
@@ -38,7 +38,7 @@ saves_named files paths name named (EmptyRegion index) at is lacks = absurd is
 saves_named files paths name named (Log line) at is lacks = absurd is
 
 pub all_saves_named : {T : Type 0} (files : FileFacts) (paths : FileName → Option (List ℕ)) (name : FileName) (named : Option (List ℕ)) (r : Result T Refusal)
-    → paths name ≡ named → IfErr r (FailsToSave (λ told. told ≡ name)) → IfErr r (FailsToSave (LacksNamed files named)) → IfErr r (FailsToSave (Lacks files paths))
+    → paths name ≡ named → IfErr r (FailsToSave (λ told. told ≡ name) files.broke) → IfErr r (FailsToSave (LacksNamed files named) files.broke) → IfErr r (FailsToSave (Lacks files paths) files.broke)
 all_saves_named files paths name named (Ok x) at is lacks = tt
 all_saves_named files paths name named (Err why) at is lacks = saves_named files paths name named why at is lacks
 

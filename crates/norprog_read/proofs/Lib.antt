@@ -1,9 +1,11 @@
 mod Room
 mod WayLemmas
-mod ReadLemmas
+pub mod ReadLemmas
 mod HarmlessLemmas
 pub mod LackedLemmas
 mod ServedLemmas
 mod LineLemmas
 mod OpenedLemmas
 mod MadeLemmas
+mod SavedLemmas
+pub mod ReportLemmas

@@ -5,6 +5,8 @@ use Rattle.nor_base.specs.Device.{Ahead}
 use Rattle.nor_serprog.specs.declared.limits.Limits.{Limits}
 use Rattle.nor_serprog.specs.Greeting.{Greeted}
 use Rattle.nor_serprog.specs.Line.{TestsLine}
+use Rattle.nor_job.specs.declared.fault.BuildFault.TheVariants as fault
+use Rattle.norprog_common.specs.declared.faults.Refusal.TheVariants.{Build}
 use Rattle.norprog_read.specs.declared.asked.Ask.{Ask}
 use Rattle.norprog_read.specs.declared.asked.Known.{Known}
 use Rattle.norprog_read.specs.declared.asked.Known.TheVariants as known
@@ -81,6 +83,27 @@ no_device h i a b ask why (inr (inr (inl p))) = no_tables p.held i p.ahead b ask
 no_device h i a b ask why (inr (inr (inr (inl p)))) = p.refused
 no_device h i a b ask why (inr (inr (inr (inr (inl p))))) = p.stop
 no_device h i a b ask why (inr (inr (inr (inr (inr p))))) = elim p.stop [ inl stop ↦ stop | inr other ↦ other ]
+
+-- nor because an output can't be written
+no_file_write : (ask : Ask) (by : Known) → RefusesFile ask by (Refused (Build fault.Write)) → ⊥
+no_file_write ask known.Own p = p
+no_file_write ask (known.Tables file) p = p
+no_file_write ask (known.Uniform size) p = p
+
+no_tables_write : (h i : Option (List ℕ)) (a b : Ahead) (by : Known) → StopsAsked h i a b by (Refused (Build fault.Write)) → ⊥
+no_tables_write h i a b known.Own p = p
+no_tables_write h i a b (known.Tables file) (inl p) = p
+no_tables_write h i a b (known.Tables file) (inr p) = p.2
+no_tables_write h i a b (known.Uniform size) p = p
+
+pub no_write : (h i : Option (List ℕ)) (a b : Ahead) (ask : Ask) → StopsChip h i a b ask (Refused (Build fault.Write)) → ⊥
+no_write h i a b ask (inl (inl p)) = no_file_write ask ask.known p.2
+no_write h i a b ask (inl (inr p)) = p
+no_write h i a b ask (inr (inl p)) = p.stop
+no_write h i a b ask (inr (inr (inl p))) = no_tables_write p.held i p.ahead b ask.known p.stop
+no_write h i a b ask (inr (inr (inr (inl p)))) = p.refused
+no_write h i a b ask (inr (inr (inr (inr (inl p))))) = p.stop
+no_write h i a b ask (inr (inr (inr (inr (inr p))))) = elim p.stop [ inl stop ↦ stop | inr other ↦ other ]
 
 -- the line was tested, and then that stopped
 pub tested_stops : (h i j : Option (List ℕ)) (a b c : Ahead) (limits : Limits) (ask : Ask) (r : Result Reading Unread) → TestsLine h i a b (Ok tt) limits

@@ -40,8 +40,8 @@ module _ (files : FileFacts) (given : ReadArgs) (request : ReadRequest) (asks : 
         subst (λ (device : Option (List ℕ)). IsUnused files device Made why) (sym device_asked) (inl none),
       ) in rw formed told
 
-  output_told : (why : Refusal) → FailsToSave (Lacks files (saved_paths (option_map (λ t. t.now) request.tables) (option_map (λ t. t.now) request.out))) why
-      → FailsToSave (Lacks files (saved_asked given)) why
+  output_told : (why : Refusal) → FailsToSave (Lacks files (saved_paths (option_map (λ t. t.now) request.tables) (option_map (λ t. t.now) request.out))) files.broke why
+      → FailsToSave (Lacks files (saved_asked given)) files.broke why
   output_told why fails = rw (sym asks.tables, sym asks.out) fails
 
 module _ (files : FileFacts) (given : ReadArgs) (request : ReadRequest) (file : List ℕ) (ask : Ask) (asks : AsksFor given request)
@@ -118,7 +118,7 @@ module _ (files : FileFacts) (given : ReadArgs) (request : ReadRequest) (file : 
     }
 
     pub unsaved : is_well_formed given ≡ true → (why : Refusal)
-        → FailsToSave (Lacks files (saved_paths (option_map (λ t. t.now) request.tables) (option_map (λ t. t.now) request.out))) why
+        → FailsToSave (Lacks files (saved_paths (option_map (λ t. t.now) request.tables) (option_map (λ t. t.now) request.out))) files.broke why
         → MakesFirst (creates (option_map (λ t. t.now) request.tables) ++ creates (option_map (λ t. t.now) request.out)) (Adds b c)
         → IsUnread files given (Adds a c) (Refused why)
     unsaved formed why fails made = of_texts (Adds a c) formed why (inr (inr (

@@ -69,7 +69,7 @@ abbrev pub RefusesReading : FileFacts → ReadArgs → (List Change → Type 0) 
 RefusesReading files given Made why =
     (TellsFile (Lacks files (opened_asked given)) why × IsUnused files (option_map (λ t. t.now) given.device) Made why)
     ⊎ (IsStopOf files given Made (Refused why)
-    ⊎ (FailsToSave (Lacks files (saved_asked given)) why × IsUnkept files given Made))
+    ⊎ (FailsToSave (Lacks files (saved_asked given)) files.broke why × IsUnkept files given Made))
 
 -- where the texts ask for none it is usage, and nothing was changed
 abbrev pub RefusesTexts : Bool → FileFacts → ReadArgs → (List Change → Type 0) → Refusal → Type 0
@@ -87,24 +87,24 @@ pub record PrintsReading (files : FileFacts) (given : ReadArgs) (Made : List Cha
   pub kept : IsKept files given Made reading
   pub printed : Appends before after (reading_text reading)
 
--- a text was printed, and this is the status; or a proper prefix of it was, and that it can't be printed is told
-abbrev pub Reports : List ℕ → ℕ → Option (List ℕ) → Option (List ℕ) → Type 0 → Type 0 → Option (List ℕ) → Option (List ℕ) → ℕ → Type 0
-Reports text ends before after Quiet Works told_before told_after status =
+-- a text was printed, and this is the status; or a proper prefix of it was, since an output failed, and that it can't be printed is told
+abbrev pub Reports : List ℕ → ℕ → Type 0 → Option (List ℕ) → Option (List ℕ) → Type 0 → Type 0 → Option (List ℕ) → Option (List ℕ) → ℕ → Type 0
+Reports text ends Broke before after Quiet Works told_before told_after status =
     ((status ≡ ends) × Appends before after text × Quiet)
-    ⊎ ((status ≡ 1) × Cuts before after text × (Works → Appends told_before told_after (printed (Build Write))))
+    ⊎ ((status ≡ 1) × Cuts before after text × Broke × (Works → Appends told_before told_after (printed (Build Write))))
 
 -- the lines of a reading that was kept are reported; or why the chip isn't read
-abbrev pub ReportsReading : FileFacts → ReadArgs → (List Change → Type 0) → Option (List ℕ) → Option (List ℕ) → Type 0 → Type 0 → Option (List ℕ)
-    → Option (List ℕ) → ℕ → Type 0
-ReportsReading files given Made before after Quiet Works told_before told_after status =
+abbrev pub ReportsReading : FileFacts → ReadArgs → (List Change → Type 0) → Type 0 → Option (List ℕ) → Option (List ℕ) → Type 0 → Type 0
+    → Option (List ℕ) → Option (List ℕ) → ℕ → Type 0
+ReportsReading files given Made Broke before after Quiet Works told_before told_after status =
     (reading : Reading) × IsKept files given Made reading
-    × Reports (reading_text reading) 0 before after Quiet Works told_before told_after status
+    × Reports (reading_text reading) 0 Broke before after Quiet Works told_before told_after status
 
-abbrev pub ReportsUnlike : FileFacts → ReadArgs → (List Change → Type 0) → Option (List ℕ) → Option (List ℕ) → Type 0 → Type 0 → Option (List ℕ)
-    → Option (List ℕ) → ℕ → Type 0
-ReportsUnlike files given Made before after Quiet Works told_before told_after status =
+abbrev pub ReportsUnlike : FileFacts → ReadArgs → (List Change → Type 0) → Type 0 → Option (List ℕ) → Option (List ℕ) → Type 0 → Type 0
+    → Option (List ℕ) → Option (List ℕ) → ℕ → Type 0
+ReportsUnlike files given Made Broke before after Quiet Works told_before told_after status =
     (why : Unlikeness) × IsStopOf files given Made (Unlike why)
-    × Reports (unlike_line why) 1 before after Quiet Works told_before told_after status
+    × Reports (unlike_line why) 1 Broke before after Quiet Works told_before told_after status
 
 -- nothing was printed, and why the device can't be used was told
 pub record TellsDevice (files : FileFacts) (given : ReadArgs) (Made : List Change → Type 0) (before after : Option (List ℕ))
@@ -115,13 +115,13 @@ pub record TellsDevice (files : FileFacts) (given : ReadArgs) (Made : List Chang
   pub unprinted : after ≡ before
   pub told : Works → Appends told_before told_after (device_line why)
 
--- what `read` answers to the texts of a command line, where `Made` says which changes it made: one of these; or a refusal, with nothing
--- printed
-abbrev pub AnswersRead : FileFacts → ReadArgs → (List Change → Type 0) → Option (List ℕ) → Option (List ℕ) → Type 0 → Type 0 → Option (List ℕ)
-    → Option (List ℕ) → ℕ → Type 0
-AnswersRead files given Made before after Quiet Works told_before told_after status =
-    ((is_well_formed given ≡ true) × ReportsReading files given Made before after Quiet Works told_before told_after status)
-    ⊎ (((is_well_formed given ≡ true) × ReportsUnlike files given Made before after Quiet Works told_before told_after status)
+-- what `read` answers to the texts of a command line, where `Made` says which changes it made, and `Broke` that an output failed: one of
+-- these; or a refusal, with nothing printed
+abbrev pub AnswersRead : FileFacts → ReadArgs → (List Change → Type 0) → Type 0 → Option (List ℕ) → Option (List ℕ) → Type 0 → Type 0
+    → Option (List ℕ) → Option (List ℕ) → ℕ → Type 0
+AnswersRead files given Made Broke before after Quiet Works told_before told_after status =
+    ((is_well_formed given ≡ true) × ReportsReading files given Made Broke before after Quiet Works told_before told_after status)
+    ⊎ (((is_well_formed given ≡ true) × ReportsUnlike files given Made Broke before after Quiet Works told_before told_after status)
     ⊎ (((is_well_formed given ≡ true) × TellsDevice files given Made before after Works told_before told_after status)
     ⊎ ((after ≡ before)
     × TellsOf (RefusesTexts (is_well_formed given) files given Made) Works told_before told_after status)))

@@ -15,9 +15,9 @@ pub record IsSaved (files : FileFacts) (name bytes : List ℕ) : Type 0 where
   pub took : Appends before after bytes
   pub flushed : files.flushed after
 
--- it couldn't be made, or some of its bytes may not have gone out, or memory ran out
-abbrev pub FailsToSave : (FileName → Type 0) → Refusal → Type 0
-FailsToSave Lacked (File name) = Lacked name
-FailsToSave Lacked (Build Memory) = ⊤
-FailsToSave Lacked (Build Write) = ⊤
-FailsToSave Lacked other = ⊥
+-- it couldn't be made, or it failed or some of its bytes may not have gone out, or memory ran out
+abbrev pub FailsToSave : (FileName → Type 0) → Type 0 → Refusal → Type 0
+FailsToSave Lacked Broke (File name) = Lacked name
+FailsToSave Lacked Broke (Build Memory) = ⊤
+FailsToSave Lacked Broke (Build Write) = Broke
+FailsToSave Lacked Broke other = ⊥

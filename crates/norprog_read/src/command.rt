@@ -5,7 +5,7 @@ ghost use Rattle.std.specs.Prelude.{IfOk, IfErr, MatchResult};
 ghost use Rattle.norprog_common.specs.Chip.{origin_of};
 ghost use Rattle.norprog_common.specs.declared.faults.FileName.TheVariants.{Sfdp};
 ghost use Rattle.norprog_common.specs.Files.{RefusesFile, TellsFile};
-ghost use Rattle.norprog_common.specs.FileStore.{Adds, Lacks, LacksNamed, Opened};
+ghost use Rattle.norprog_common.specs.FileStore.{Adds, Breaks, Lacks, LacksNamed, Opened};
 ghost use Rattle.norprog_read.specs.Answer.{AnswersRead, AreSavedIf, IsKept, IsUnread};
 ghost use Rattle.norprog_read.specs.Answer.{PrintsReading, Reports};
 ghost use Rattle.norprog_read.specs.Line.{reading_text, unlike_line};
@@ -47,6 +47,7 @@ pub fn read<S: FileStore, O: ByteOut, E: ByteOut>(
         (O.held out.old) (O.held out.new) }
     ensures answer { AnswersRead (S.facts store.now) given.entry
         (Adds (S.Journal.changes journal.old) (S.Journal.changes journal.new))
+        (Breaks (S.facts store.now) (O.count out.old) (O.count out.new))
         (O.held out.old) (O.held out.new) (err.new ≡ err.old)
         (E.count err.new ≡ E.count err.old) (E.held err.old) (E.held err.new) result }
 {
@@ -63,8 +64,8 @@ pub fn read<S: FileStore, O: ByteOut, E: ByteOut>(
 fn report_reading<O: ByteOut, E: ByteOut>(reading: &Reading, out: &mut O, err: &mut E) -> u8
     requires out { O.count out.old < 2 ^ 64 - 1 }
     requires err { E.count err.old < 2 ^ 64 - 1 }
-    ensures { Reports (reading_text reading.now) 0 (O.held out.old) (O.held out.new)
-        (err.new ≡ err.old)
+    ensures { Reports (reading_text reading.now) 0 (O.count out.old < O.count out.new)
+        (O.held out.old) (O.held out.new) (err.new ≡ err.old)
         (E.count err.new ≡ E.count err.old) (E.held err.old) (E.held err.new) result }
 {
     match write_reading(reading, out) {
@@ -78,7 +79,8 @@ fn report_reading<O: ByteOut, E: ByteOut>(reading: &Reading, out: &mut O, err: &
 fn report_unlike<O: ByteOut, E: ByteOut>(why: Unlike, out: &mut O, err: &mut E) -> u8
     requires out { O.count out.old < 2 ^ 64 - 1 }
     requires err { E.count err.old < 2 ^ 64 - 1 }
-    ensures { Reports (unlike_line why) 1 (O.held out.old) (O.held out.new) (err.new ≡ err.old)
+    ensures { Reports (unlike_line why) 1 (O.count out.old < O.count out.new)
+        (O.held out.old) (O.held out.new) (err.new ≡ err.old)
         (E.count err.new ≡ E.count err.old) (E.held err.old) (E.held err.new) result }
 {
     match write_unlike(why, out) {
@@ -175,7 +177,7 @@ fn save_all<S: FileStore>(
         (Adds (S.Journal.changes journal.old) (S.Journal.changes journal.new))) }
     ensures fails { IfErr result (FailsToSave (Lacks (S.facts store.now)
         (saved_paths (option_map (λ t. t.now) request.entry.tables)
-        (option_map (λ t. t.now) request.entry.out)))) }
+        (option_map (λ t. t.now) request.entry.out))) (S.facts store.now).broke) }
 {
     let tables = reading.tables.as_slice();
     save_if(
@@ -206,9 +208,10 @@ fn save_if<S: FileStore>(
         (creates (option_map (λ t. t.now) path.entry)))
         (λ _. MakesFirst (creates (option_map (λ t. t.now) path.entry))
         (Adds (S.Journal.changes journal.old) (S.Journal.changes journal.new))) }
-    ensures refused { IfErr result (FailsToSave (λ told. told ≡ name)) }
+    ensures refused { IfErr result (FailsToSave (λ told. told ≡ name) (S.facts store.now).broke) }
     ensures lacked { IfErr result
-        (FailsToSave (LacksNamed (S.facts store.now) (option_map (λ t. t.now) path.entry))) }
+        (FailsToSave (LacksNamed (S.facts store.now) (option_map (λ t. t.now) path.entry))
+        (S.facts store.now).broke) }
 {
     match path {
         Some(path) => save(alloc, store, journal, path, name, bytes),

@@ -11,8 +11,8 @@ use std::alloc::Global;
 /// Makes a file where none of that name is there, and writes bytes to it and has them go out. No
 /// other file is made or emptied.
 ///
-/// `File` of `name` where there is one, or where it can't be made; `WRITE` where some of the bytes
-/// may not have gone out; `Memory` where a growth is refused.
+/// `File` of `name` where there is one, or where it can't be made; `WRITE` only where the file
+/// failed, or where some of the bytes may not have gone out; `Memory` where a growth is refused.
 pub fn save<S: FileStore>(
     alloc: Global,
     store: &S,
@@ -24,13 +24,13 @@ pub fn save<S: FileStore>(
     ensures saved { IfOk result (λ _. IsSaved (S.facts store.now) path.now bytes.now) }
     ensures journal { Tries (S.Journal.changes journal.old) (S.Journal.changes journal.new)
         (Created path.now) result }
-    ensures refused { IfErr result (FailsToSave (λ told. told ≡ name)) }
-    ensures lacked { IfErr result (FailsToSave ((S.facts store.now).lacked path.now)) }
+    ensures refused { IfErr result (FailsToSave (λ told. told ≡ name) (S.facts store.now).broke) }
+    ensures lacked { IfErr result
+        (FailsToSave ((S.facts store.now).lacked path.now) (S.facts store.now).broke) }
 {
     let mut file = store.create_new(journal, alloc, path, name)?;
-    if put_all(&mut file, bytes).is_err() {
-        return Err(Refusal::WRITE);
-    }
+    // A file that fails here can't be flushed.
+    let _ = put_all(&mut file, bytes);
     match store.flush(file) {
         Ok(()) => Ok(()),
         Err(_) => Err(Refusal::WRITE),

@@ -1,5 +1,5 @@
 -- The play that a request has is the one that its texts ask for.
-use Rattle.std.proofs.Common.{◌≡◌, ◌⊎◌, ◌+◌, Bor, ap, arith, option_map, refl, sym, subst, inl, inr, List, [], ◌∷◌, ◌++◌, ℕ, None, Some, true, Option, Result, Ok, Err, IfOk, IfErr}
+use Rattle.std.proofs.Common.{◌≡◌, ◌⊎◌, ◌+◌, ◌<◌, Bool, Bor, ap, arith, option_map, refl, sym, subst, inl, inr, List, [], ◌∷◌, ◌++◌, ℕ, None, Some, true, false, Option, Result, Ok, Err, IfOk, IfErr}
 use Rattle.std.specs.Prelude.{⊤, MatchResult}
 use Rattle.nor_base.specs.Device.{Ahead}
 use Rattle.nor_job.specs.Task.{Task}
@@ -18,9 +18,9 @@ use Rattle.norprog_common.specs.Served.{out_path}
 use Rattle.norprog_common.proofs.LackedLemmas.{lacks_same, tables_named}
 use Rattle.norprog_common.proofs.StoreLemmas.{made_apart, more_noted, one_noted}
 use Rattle.norprog_common.proofs.JournalLemmas.{adds_none, may_make, output_made}
-use Rattle.norprog_common.specs.Content.{CountsReader, of_reader}
+use Rattle.norprog_common.specs.Content.{CountsReader, CountsWriter, of_reader, of_writer}
 use Rattle.norprog_common.specs.Reading.{FailsReading, HasFailed}
-use Rattle.norprog_common.specs.Told.{RefusesFor, OrScript}
+use Rattle.norprog_common.specs.Told.{RefusesFor, OrScript, OrUsage, TellsBroken}
 use Rattle.norprog_common.proofs.ToldLemmas.{by_fault, by_files, refuses_wider, or_usage}
 use Rattle.norprog_run.specs.declared.request.ChipBehaviour.{ChipBehaviour}
 use Rattle.norprog_common.specs.declared.given.RunArgs.{RunArgs}
@@ -32,6 +32,10 @@ use Rattle.norprog_run.specs.Refusals.{RefusesPaged, RefusesPlay}
 use Rattle.norprog_run.specs.Request.{is_well_formed, AsksFor, RefusesGiven}
 use Rattle.norprog_run.specs.Streams.{CountsScript, PlaysStreams, RefusesStreams}
 use Rattle.norprog_run.specs.Served.{PlayTask, play_with, Is, IsMadeFor, IsTaskOf, input_files_of, input_files_asked, paths_of, paths_asked, FailsScriptOf, MakesFor, MayMakeFor, Serves, ServesScript}
+
+-- no texts ask for a play and for none
+both : (asks : Bool) → asks ≡ true → asks ≡ false → ⊥
+both asks one other = cc
 
 -- the files of a request are those that the texts name
 same_inputs : (given : RunArgs) (request : RunRequest) → AsksFor given request → input_files_of request ≡ input_files_asked given (origin_of request.setup.chip)
@@ -91,12 +95,12 @@ stop_wider : (Asked Other : PlayTask → Type 0) (P Q : List ℕ → Type 0) (F 
     → (why : Refusal) → IsPlayFault Asked P F why → IsPlayFault Other Q F why
 stop_wider Asked Other P Q F tasks texts why of = record { it = of.it; asked = tasks of.it of.asked; has = on_wider P Q F why of.it texts of.has }
 
-refusal_wider : (L M : FileName → Type 0) (Asked Other : PlayTask → Type 0) (P Q : List ℕ → Type 0) (F : Ahead → Type 0) → ((name : FileName) → L name → M name)
-    → ((t : PlayTask) → Asked t → Other t) → ((text : List ℕ) → P text → Q text) → (why : Refusal) → RefusesRun L Asked P F why → RefusesRun M Other Q F why
-refusal_wider L M Asked Other P Q F files tasks texts why =
-    refuses_wider L M (IsPlayFault Asked P F) (IsPlayFault Other Q F) ((verdict : Verdict) × IsPlayVerdict Asked P (λ held. ⊤) verdict)
+refusal_wider : (L M : FileName → Type 0) (D E : Type 0) (Asked Other : PlayTask → Type 0) (P Q : List ℕ → Type 0) (F : Ahead → Type 0) → ((name : FileName) → L name → M name)
+    → (D → E) → ((t : PlayTask) → Asked t → Other t) → ((text : List ℕ) → P text → Q text) → (why : Refusal) → RefusesRun L D Asked P F why → RefusesRun M E Other Q F why
+refusal_wider L M D E Asked Other P Q F files broken tasks texts why =
+    refuses_wider L M D E (IsPlayFault Asked P F) (IsPlayFault Other Q F) ((verdict : Verdict) × IsPlayVerdict Asked P (λ held. ⊤) verdict)
     ((verdict : Verdict) × IsPlayVerdict Other Q (λ held. ⊤) verdict)
-    files (stop_wider Asked Other P Q F tasks texts)
+    files broken (stop_wider Asked Other P Q F tasks texts)
     (λ late. (late.0, verdict_wider Asked Other P Q (λ held. ⊤) late.0 tasks texts late.1)) why
 
 pub verdicts_wider : (Asked Other : PlayTask → Type 0) (P Q : List ℕ → Type 0) (Sent : Option (List ℕ) → Type 0) → ((t : PlayTask) → Asked t → Other t)
@@ -104,10 +108,10 @@ pub verdicts_wider : (Asked Other : PlayTask → Type 0) (P Q : List ℕ → Typ
 verdicts_wider Asked Other P Q Sent tasks texts (Ok verdict) of = verdict_wider Asked Other P Q Sent verdict tasks texts of
 verdicts_wider Asked Other P Q Sent tasks texts (Err why) of = tt
 
-pub refusals_wider : (L M : FileName → Type 0) (Asked Other : PlayTask → Type 0) (P Q : List ℕ → Type 0) (F : Ahead → Type 0) → ((name : FileName) → L name → M name)
-    → ((t : PlayTask) → Asked t → Other t) → ((text : List ℕ) → P text → Q text) → (r : Result Verdict Refusal) → IfErr r (RefusesRun L Asked P F) → IfErr r (RefusesRun M Other Q F)
-refusals_wider L M Asked Other P Q F files tasks texts (Ok verdict) of = tt
-refusals_wider L M Asked Other P Q F files tasks texts (Err why) of = refusal_wider L M Asked Other P Q F files tasks texts why of
+pub refusals_wider : (L M : FileName → Type 0) (Broke : Type 0) (Asked Other : PlayTask → Type 0) (P Q : List ℕ → Type 0) (F : Ahead → Type 0) → ((name : FileName) → L name → M name)
+    → ((t : PlayTask) → Asked t → Other t) → ((text : List ℕ) → P text → Q text) → (r : Result Verdict Refusal) → IfErr r (RefusesRun L Broke Asked P F) → IfErr r (RefusesRun M Broke Other Q F)
+refusals_wider L M Broke Asked Other P Q F files tasks texts (Ok verdict) of = tt
+refusals_wider L M Broke Asked Other P Q F files tasks texts (Err why) of = refusal_wider L M Broke Broke Asked Other P Q F files (λ broke. broke) tasks texts why of
 
 module _ (files : FileFacts) (given : RunArgs) (request : RunRequest) (asks : AsksFor given request) where
   verdict_asked : (Sent : Option (List ℕ) → Type 0) (verdict : Verdict) → IsPlayVerdict (IsTaskOf files request) (IsTextIn files request.script.now) Sent verdict
@@ -116,15 +120,16 @@ module _ (files : FileFacts) (given : RunArgs) (request : RunRequest) (asks : As
       (serves files given request asks) (serves_script files given request asks)
 
   refusal_asked : (F : Ahead → Type 0) (why : Refusal)
-      → RefusesRun (OrScript (Lacks files (paths_of request)) (FailsReading files F request.script.now)) (IsTaskOf files request) (IsTextIn files request.script.now) F why
-      → RefusesRun (OrScript (Lacks files (paths_asked given)) (FailsScriptOf files F given)) (Serves files given) (ServesScript files given) F why
+      → RefusesRun (OrScript (Lacks files (paths_of request)) (FailsReading files F request.script.now)) files.broke (IsTaskOf files request) (IsTextIn files request.script.now) F why
+      → RefusesRun (OrScript (Lacks files (paths_asked given)) (FailsScriptOf files F given)) files.broke (Serves files given) (ServesScript files given) F why
   refusal_asked F = refusal_wider (OrScript (Lacks files (paths_of request)) (FailsReading files F request.script.now)) (OrScript (Lacks files (paths_asked given)) (FailsScriptOf files F given))
+      files.broke files.broke
       (IsTaskOf files request) (Serves files given) (IsTextIn files request.script.now) (ServesScript files given) F
       (λ name lacks. elim lacks [
         | inl lacked ↦ inl (lacks_same files (paths_of request) (paths_asked given) (same_paths given request asks) name lacked)
         | inr failed ↦ inr (failed.0, subst (λ s. Named (FailsReading files F) (option_map (λ t. t.now) s)) (sym asks.beside.script) failed.1)
       ])
-      (serves files given request asks) (serves_script files given request asks)
+      (λ broke. broke) (serves files given request asks) (serves_script files given request asks)
 
   -- the same of whichever came
 
@@ -134,8 +139,8 @@ module _ (files : FileFacts) (given : RunArgs) (request : RunRequest) (asks : As
   verdicts_asked Sent (Err why) of = tt
 
   pub refusals_asked : (F : Ahead → Type 0) (r : Result Verdict Refusal) → is_well_formed given ≡ true
-      → IfErr r (RefusesRun (OrScript (Lacks files (paths_of request)) (FailsReading files F request.script.now)) (IsTaskOf files request) (IsTextIn files request.script.now) F)
-      → IfErr r (RefusesToRun files F given)
+      → IfErr r (RefusesRun (OrScript (Lacks files (paths_of request)) (FailsReading files F request.script.now)) files.broke (IsTaskOf files request) (IsTextIn files request.script.now) F)
+      → IfErr r (RefusesToRun files F given files.broke)
   refusals_asked F (Ok verdict) formed of = tt
   refusals_asked F (Err why) formed of = inl (or_usage _ _ why formed (refusal_asked F why of))
 
@@ -148,13 +153,13 @@ module _ (files : FileFacts) (given : RunArgs) (request : RunRequest) (asks : As
         (subst (λ s. MakesNamed files (input_files_of request) (option_map (λ t. t.now) s) Made) asks.beside.out of),
   )
 
-  pub made_asked : (Made : List Change → Type 0) (r : Result Verdict Refusal)
+  pub made_asked : (Made : List Change → Type 0) (r : Result Verdict Refusal) → is_well_formed given ≡ true
       → MatchResult r (λ _. MakesNamed files (input_files_of request) (option_map (λ t. t.now) request.out) Made)
       (λ _. MayMake files (input_files_of request) (option_map (λ t. t.now) request.out) Made)
       → MatchResult r (λ _. MakesFor files given Made) (λ _. MayMakeFor files given Made)
-  made_asked Made (Ok verdict) of = makes_asked Made of
-  made_asked Made (Err why) (inl none) = inl none
-  made_asked Made (Err why) (inr one) = inr (makes_asked Made one)
+  made_asked Made (Ok verdict) formed of = makes_asked Made of
+  made_asked Made (Err why) formed (inl none) = (inl none, λ unasked. none)
+  made_asked Made (Err why) formed (inr one) = (inr (makes_asked Made one), λ unasked. absurd (both (is_well_formed given) formed unasked))
 
 -- what the player answered
 
@@ -170,10 +175,31 @@ module _ (t : Task) (bench : ChipBehaviour) (len : ℕ) (before after : Ahead) (
   of_streams first first' again again' (Ok verdict) p = record { text = p.1.0; script = (again', p.1.1); rest = after; played = p.1.2 }
   of_streams first first' again again' (Err why) p = tt
 
+-- a writer whose count rose has failed
+pub rose : (before after : ℕ) → after ≡ before + 1 → before < after
+rose before after one = omega (arith, one)
+
+writer_failed : (before after : ℕ) (why : Refusal) → after ≡ before + of_writer why → TellsBroken (before < after) why
+writer_failed before after (Build fault.Write) counts = rose before after counts
+writer_failed before after other counts = tt
+
+chip_writes_none : (t : Task) (bench : ChipBehaviour) (len : ℕ) (Broke : Type 0) (why : Refusal) → RefusesPaged t bench.page len why → TellsBroken Broke why
+chip_writes_none t bench len Broke (Build fault.Write) refused = absurd refused
+chip_writes_none t bench len Broke other refused = tt
+
+-- what is printed nowhere doesn't fail
+pub never : 0 < 0 → ⊥
+never more = omega (arith, more)
+
+-- a file that failed isn't flushed with Ok, so its flush says that it broke
+pub file_broke : {U E : Type 0} (Broke : Type 0) (before after : ℕ) (flushed : Result U E) → IfOk flushed (λ u. after ≡ 0) → IfErr flushed (λ e. Broke) → before < after → Broke
+file_broke Broke before after (Ok u) whole broke more = absurd (omega (arith, more, whole))
+file_broke Broke before after (Err e) whole broke more = broke
+
 module _ {R : Type 0} (ahead : R → Ahead) (count : R → ℕ) (content rest : R) (t : Task) (bench : ChipBehaviour) (len : ℕ) (held held' : Option (List ℕ))
-    (begun : Option (Option (List ℕ))) (Spoken : List ℕ → Type 0) (Lacked : FileName → Type 0) where
+    (begun : Option (Option (List ℕ))) (Spoken : List ℕ → Type 0) (Lacked : FileName → Type 0) (writes writes' : ℕ) where
   abbrev Told : Refusal → Type 0
-  Told = RefusesFor Lacked (IsPlayFault (Is (play_with t bench (ahead content) len begun)) Spoken (HasFailed ahead count)) ⊥
+  Told = RefusesFor Lacked (writes < writes') (IsPlayFault (Is (play_with t bench (ahead content) len begun)) Spoken (HasFailed ahead count)) ⊥
 
   -- the content's reader is blamed where it failed
   blamed : (text : List ℕ) (why : Refusal) → RefusesPlay t bench text len (ahead content) (ahead rest) held held' why → count rest ≡ count content + of_reader why
@@ -182,8 +208,8 @@ module _ {R : Type 0} (ahead : R → Ahead) (count : R → ℕ) (content rest : 
   blamed text other refused counts = tt
 
   stopped : (text : List ℕ) (why : Refusal) → Spoken text → RefusesPlay t bench text len (ahead content) (ahead rest) held held' why
-      → count rest ≡ count content + of_reader why → Told why
-  stopped text why is refused counts = by_fault Lacked (IsPlayFault (Is (play_with t bench (ahead content) len begun)) Spoken (HasFailed ahead count)) ⊥ why (record {
+      → count rest ≡ count content + of_reader why → writes' ≡ writes + of_writer why → Told why
+  stopped text why is refused counts wrote = by_fault Lacked (writes < writes') (IsPlayFault (Is (play_with t bench (ahead content) len begun)) Spoken (HasFailed ahead count)) ⊥ why (writer_failed writes writes' why wrote) (record {
     it = play_with t bench (ahead content) len begun;
     asked = refl;
     has = inr (record {
@@ -198,16 +224,16 @@ module _ {R : Type 0} (ahead : R → Ahead) (count : R → ℕ) (content rest : 
   })
 
   chipless : (why : Refusal) → RefusesPaged t bench.page len why → Told why
-  chipless why refused = by_fault Lacked (IsPlayFault (Is (play_with t bench (ahead content) len begun)) Spoken (HasFailed ahead count)) ⊥ why (record {
+  chipless why refused = by_fault Lacked (writes < writes') (IsPlayFault (Is (play_with t bench (ahead content) len begun)) Spoken (HasFailed ahead count)) ⊥ why (chip_writes_none t bench len (writes < writes') why refused) (record {
     it = play_with t bench (ahead content) len begun;
     asked = refl;
     has = inl refused;
   })
 
   pub of_stop : (text : List ℕ) (r : Result Verdict Refusal) → Spoken text → IfErr r (RefusesPlay t bench text len (ahead content) (ahead rest) held held')
-      → CountsReader (count content) (count rest) r → IfErr r Told
-  of_stop text (Ok verdict) is refused counts = tt
-  of_stop text (Err why) is refused counts = stopped text why is refused counts
+      → CountsReader (count content) (count rest) r → CountsWriter writes writes' r → IfErr r Told
+  of_stop text (Ok verdict) is refused counts wrote = tt
+  of_stop text (Err why) is refused counts wrote = stopped text why is refused counts wrote
 
   -- of a script that is read twice
   module _ {F : Type 0} (ahead_of : F → Ahead) (count_of : F → ℕ) (first first' again again' : F) (Untouched : Type 0) (untouched : Untouched → again' ≡ again)
@@ -227,21 +253,21 @@ module _ {R : Type 0} (ahead : R → Ahead) (count : R → ℕ) (content rest : 
           | inr q ↦ inr (record { reader = again'; gave = q.2; failed = omega (arith, one) })
         ]
 
-    streams_stop : (why : Refusal) → Why why → count rest ≡ count content + of_reader why
+    streams_stop : (why : Refusal) → Why why → count rest ≡ count content + of_reader why → writes' ≡ writes + of_writer why
         → CountsScript {T = Verdict} (count_of first) (count_of first') (count_of again) (count_of again') (Err why) → Told why
-    streams_stop (Script why) p counts script =
-        elim p [ inl q ↦ stopped q.0.0 (Script why) (wide q.0.0 (inl q.0.1)) q.0.2 counts | inr q ↦ stopped q.2.0 (Script why) (wide q.2.0 (inr q.2.1)) q.2.2 counts ]
-    streams_stop (Build fault.ContentShort) p counts script = stopped p.0 (Build fault.ContentShort) (wide p.0 (inl p.1)) p.2 counts
-    streams_stop (Build fault.Read) p counts script = stopped p.0 (Build fault.Read) (wide p.0 (inl p.1)) p.2 counts
-    streams_stop (Build fault.Write) p counts script = stopped p.1.0 (Build fault.Write) (wide p.1.0 (inr p.1.1)) p.1.2 counts
-    streams_stop (Build fault.Memory) p counts script = tt
-    streams_stop (File file.Script) p counts script = inl (lacks (lost p script))
-    streams_stop other p counts script = chipless other p
+    streams_stop (Script why) p counts wrote script =
+        elim p [ inl q ↦ stopped q.0.0 (Script why) (wide q.0.0 (inl q.0.1)) q.0.2 counts wrote | inr q ↦ stopped q.2.0 (Script why) (wide q.2.0 (inr q.2.1)) q.2.2 counts wrote ]
+    streams_stop (Build fault.ContentShort) p counts wrote script = stopped p.0 (Build fault.ContentShort) (wide p.0 (inl p.1)) p.2 counts wrote
+    streams_stop (Build fault.Read) p counts wrote script = stopped p.0 (Build fault.Read) (wide p.0 (inl p.1)) p.2 counts wrote
+    streams_stop (Build fault.Write) p counts wrote script = stopped p.1.0 (Build fault.Write) (wide p.1.0 (inr p.1.1)) p.1.2 counts wrote
+    streams_stop (Build fault.Memory) p counts wrote script = tt
+    streams_stop (File file.Script) p counts wrote script = inl (lacks (lost p script))
+    streams_stop other p counts wrote script = chipless other p
 
-    pub of_streams_stop : (r : Result Verdict Refusal) → IfErr r Why → CountsReader (count content) (count rest) r
+    pub of_streams_stop : (r : Result Verdict Refusal) → IfErr r Why → CountsReader (count content) (count rest) r → CountsWriter writes writes' r
         → CountsScript (count_of first) (count_of first') (count_of again) (count_of again') r → IfErr r Told
-    of_streams_stop (Ok verdict) p counts script = tt
-    of_streams_stop (Err why) p counts script = streams_stop why p counts script
+    of_streams_stop (Ok verdict) p counts wrote script = tt
+    of_streams_stop (Err why) p counts wrote script = streams_stop why p counts wrote script
 
 -- what was played of the files that a request names
 
@@ -325,22 +351,22 @@ module _ (Asked : PlayTask → Type 0) (P Q : List ℕ → Type 0) (chip : Task)
   all_played Sent (Ok verdict) out of = one_played Sent verdict out of
   all_played Sent (Err why) out of = tt
 
-pub one_refused : (L M : FileName → Type 0) (Asked : PlayTask → Type 0) (P Q : List ℕ → Type 0) (F : Ahead → Type 0) (t : PlayTask) (asked : Asked t) → ((name : FileName) → L name → M name)
-    → ((text : List ℕ) → P text → Q text) → (why : Refusal) → RefusesFor L (IsPlayFault (Is t) P F) ⊥ why → RefusesRun M Asked Q F why
-one_refused L M Asked P Q F t asked files texts why =
-    refuses_wider L M (IsPlayFault (Is t) P F) (IsPlayFault Asked Q F) ⊥ ((verdict : Verdict) × IsPlayVerdict Asked Q (λ held. ⊤) verdict)
-    files (stop_wider (Is t) Asked P Q F (λ u same. subst Asked (sym same) asked) texts) (λ none. absurd none) why
+pub one_refused : (L M : FileName → Type 0) (D E : Type 0) (Asked : PlayTask → Type 0) (P Q : List ℕ → Type 0) (F : Ahead → Type 0) (t : PlayTask) (asked : Asked t) → ((name : FileName) → L name → M name)
+    → (D → E) → ((text : List ℕ) → P text → Q text) → (why : Refusal) → RefusesFor L D (IsPlayFault (Is t) P F) ⊥ why → RefusesRun M E Asked Q F why
+one_refused L M D E Asked P Q F t asked files broken texts why =
+    refuses_wider L M D E (IsPlayFault (Is t) P F) (IsPlayFault Asked Q F) ⊥ ((verdict : Verdict) × IsPlayVerdict Asked Q (λ held. ⊤) verdict)
+    files broken (stop_wider (Is t) Asked P Q F (λ u same. subst Asked (sym same) asked) texts) (λ none. absurd none) why
 
 -- a file that couldn't be used
-pub lacked_refused : (Lacked : FileName → Type 0) (Lost : Type 0) (Asked : PlayTask → Type 0) (Spoken : List ℕ → Type 0) (F : Ahead → Type 0) (why : Refusal) → TellsFile Lacked why
-    → RefusesRun (OrScript Lacked Lost) Asked Spoken F why
-lacked_refused Lacked Lost Asked Spoken F why =
-    by_files Lacked (OrScript Lacked Lost) (IsPlayFault Asked Spoken F) ((verdict : Verdict) × IsPlayVerdict Asked Spoken (λ held. ⊤) verdict) why (λ name is. inl is)
+pub lacked_refused : (Lacked : FileName → Type 0) (Lost Broke : Type 0) (Asked : PlayTask → Type 0) (Spoken : List ℕ → Type 0) (F : Ahead → Type 0) (why : Refusal) → TellsFile Lacked why
+    → RefusesRun (OrScript Lacked Lost) Broke Asked Spoken F why
+lacked_refused Lacked Lost Broke Asked Spoken F why =
+    by_files Lacked (OrScript Lacked Lost) Broke (IsPlayFault Asked Spoken F) ((verdict : Verdict) × IsPlayVerdict Asked Spoken (λ held. ⊤) verdict) why (λ name is. inl is)
 
-pub all_refused : (L M : FileName → Type 0) (Asked : PlayTask → Type 0) (P Q : List ℕ → Type 0) (F : Ahead → Type 0) (t : PlayTask) (asked : Asked t) → ((name : FileName) → L name → M name)
-    → ((text : List ℕ) → P text → Q text) → (r : Result Verdict Refusal) → IfErr r (RefusesFor L (IsPlayFault (Is t) P F) ⊥) → IfErr r (RefusesRun M Asked Q F)
-all_refused L M Asked P Q F t asked files texts (Ok verdict) of = tt
-all_refused L M Asked P Q F t asked files texts (Err why) of = one_refused L M Asked P Q F t asked files texts why of
+pub all_refused : (L M : FileName → Type 0) (D E : Type 0) (Asked : PlayTask → Type 0) (P Q : List ℕ → Type 0) (F : Ahead → Type 0) (t : PlayTask) (asked : Asked t) → ((name : FileName) → L name → M name)
+    → (D → E) → ((text : List ℕ) → P text → Q text) → (r : Result Verdict Refusal) → IfErr r (RefusesFor L D (IsPlayFault (Is t) P F) ⊥) → IfErr r (RefusesRun M E Asked Q F)
+all_refused L M D E Asked P Q F t asked files broken texts (Ok verdict) of = tt
+all_refused L M D E Asked P Q F t asked files broken texts (Err why) of = one_refused L M D E Asked P Q F t asked files broken texts why of
 
 -- where only the verdict's line, or what the chip holds, didn't go out, the play was one that was asked for
 goes : (Sent : Option (List ℕ) → Type 0) (begun : Option (Option (List ℕ))) (before after : Option (List ℕ)) → GoesOut Sent begun before after
@@ -348,39 +374,57 @@ goes : (Sent : Option (List ℕ) → Type 0) (begun : Option (Option (List ℕ))
 goes Sent (Some held) before after out = (out.0, tt)
 goes Sent None before after out = tt
 
-pub late_refused : (files : FileFacts) (Failed : Ahead → Type 0) (given : RunArgs) (verdict : Verdict) → is_well_formed given ≡ true
+pub late_refused : (files : FileFacts) (Failed : Ahead → Type 0) (given : RunArgs) (Broke : Type 0) (verdict : Verdict) → Broke → is_well_formed given ≡ true
     → IsPlayVerdict (Serves files given) (ServesScript files given) files.flushed verdict
-    → RefusesToRun files Failed given (Build fault.Write)
-late_refused files Failed given verdict formed of = inl (or_usage _ _ _ formed (inr (
-  verdict,
-  record {
-    it = of.it;
-    asked = of.asked;
-    has = record { before = of.has.before; after = of.has.after; out = goes files.flushed of.it.begun _ _ of.has.out; played = of.has.played };
-  },
-)))
+    → RefusesToRun files Failed given Broke (Build fault.Write)
+late_refused files Failed given Broke verdict broke formed of = inl (or_usage _ _ _ formed (
+  inr (
+    verdict,
+    record {
+      it = of.it;
+      asked = of.asked;
+      has = record { before = of.has.before; after = of.has.after; out = goes files.flushed of.it.begun _ _ of.has.out; played = of.has.played };
+    },
+  ),
+  broke,
+))
+
+-- more outputs that may have failed lose no refusal
+usage_wider : (asks : Bool) (P Q : Refusal → Type 0) (why : Refusal) → (P why → Q why) → OrUsage asks P why → OrUsage asks Q why
+usage_wider true P Q why wider is = wider is
+usage_wider false P Q why wider is = is
+
+pub told_wider : (files : FileFacts) (Failed : Ahead → Type 0) (given : RunArgs) (D E : Type 0) → (D → E) → (why : Refusal) → RefusesToRun files Failed given D why
+    → RefusesToRun files Failed given E why
+told_wider files Failed given D E broken why (inl is) =
+    let L = OrScript (Lacks files (paths_asked given)) (FailsScriptOf files Failed given) in
+    let Asked = Serves files given in
+    let Spoken = ServesScript files given in
+    inl (usage_wider (is_well_formed given) (RefusesRun L D Asked Spoken Failed) (RefusesRun L E Asked Spoken Failed) why
+    (refusal_wider L L D E Asked Asked Spoken Spoken Failed (λ name lacks. lacks) broken (λ t of. of) (λ text of. of) why) is)
+told_wider files Failed given D E broken why (inr memory) = inr memory
 
 -- texts that ask for nothing, and want of memory
-pub given_refused : (files : FileFacts) (Failed : Ahead → Type 0) (given : RunArgs) (why : Refusal) → RefusesGiven given why
-    → RefusesToRun files Failed given why
-given_refused files Failed given Usage refused = inl (rw refused refl)
-given_refused files Failed given (Build fault.Memory) refused = inr refl
-given_refused files Failed given (Build (fault.Contradiction number)) refused = absurd refused
-given_refused files Failed given (Build (fault.Hex why)) refused = absurd refused
-given_refused files Failed given (Build (fault.Layout why)) refused = absurd refused
-given_refused files Failed given (Build (fault.Sfdp why)) refused = absurd refused
-given_refused files Failed given (Build (fault.Status number)) refused = absurd refused
-given_refused files Failed given (Build fault.ModeImpossible) refused = absurd refused
-given_refused files Failed given (Build fault.ContentSize) refused = absurd refused
-given_refused files Failed given (Build (fault.Plan why)) refused = absurd refused
-given_refused files Failed given (Build fault.ContentShort) refused = absurd refused
-given_refused files Failed given (Build fault.Read) refused = absurd refused
-given_refused files Failed given (Build fault.Write) refused = absurd refused
-given_refused files Failed given (Text words) refused = absurd refused
-given_refused files Failed given (File name) refused = absurd refused
-given_refused files Failed given Page refused = absurd refused
-given_refused files Failed given (Script why) refused = absurd refused
-given_refused files Failed given BinSize refused = absurd refused
-given_refused files Failed given (Steps number) refused = absurd refused
-given_refused files Failed given (EmptyRegion index) refused = absurd refused
-given_refused files Failed given (Log line) refused = absurd refused
+pub given_refused : (files : FileFacts) (Failed : Ahead → Type 0) (given : RunArgs) (Broke : Type 0) (why : Refusal) → RefusesGiven given why
+    → RefusesToRun files Failed given Broke why
+given_refused files Failed given Broke Usage refused = inl (rw refused refl)
+given_refused files Failed given Broke (Build fault.Memory) refused = inr refl
+given_refused files Failed given Broke (Build (fault.Contradiction number)) refused = absurd refused
+given_refused files Failed given Broke (Build (fault.Hex why)) refused = absurd refused
+given_refused files Failed given Broke (Build (fault.Layout why)) refused = absurd refused
+given_refused files Failed given Broke (Build (fault.Sfdp why)) refused = absurd refused
+given_refused files Failed given Broke (Build (fault.Status number)) refused = absurd refused
+given_refused files Failed given Broke (Build fault.ModeImpossible) refused = absurd refused
+given_refused files Failed given Broke (Build fault.ContentSize) refused = absurd refused
+given_refused files Failed given Broke (Build (fault.Plan why)) refused = absurd refused
+given_refused files Failed given Broke (Build fault.ContentShort) refused = absurd refused
+given_refused files Failed given Broke (Build fault.Read) refused = absurd refused
+given_refused files Failed given Broke (Build fault.Write) refused = absurd refused
+given_refused files Failed given Broke (Text words) refused = absurd refused
+given_refused files Failed given Broke (File name) refused = absurd refused
+given_refused files Failed given Broke Page refused = absurd refused
+given_refused files Failed given Broke (Script why) refused = absurd refused
+given_refused files Failed given Broke BinSize refused = absurd refused
+given_refused files Failed given Broke (Steps number) refused = absurd refused
+given_refused files Failed given Broke (EmptyRegion index) refused = absurd refused
+given_refused files Failed given Broke (Log line) refused = absurd refused

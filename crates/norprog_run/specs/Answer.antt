@@ -58,10 +58,10 @@ IsStopOf Script Failed why t = RefusesPaged t.chip t.bench.page t.len why ⊎ St
 abbrev pub IsPlayFault : (PlayTask → Type 0) → (List ℕ → Type 0) → (Ahead → Type 0) → Refusal → Type 0
 IsPlayFault Asked Script Failed why = ForAsked PlayTask Asked (IsStopOf Script Failed why)
 
--- why a play that was asked for has no verdict; that of one that was played may have failed to go out
-abbrev pub RefusesRun : (FileName → Type 0) → (PlayTask → Type 0) → (List ℕ → Type 0) → (Ahead → Type 0) → Refusal → Type 0
-RefusesRun Lacked Asked Script Failed =
-    RefusesFor Lacked (IsPlayFault Asked Script Failed) ((verdict : Verdict) × IsPlayVerdict Asked Script (λ held. ⊤) verdict)
+-- why a play that was asked for has no verdict; that of one that was played may have failed to go out; `Broke`: an output failed
+abbrev pub RefusesRun : (FileName → Type 0) → Type 0 → (PlayTask → Type 0) → (List ℕ → Type 0) → (Ahead → Type 0) → Refusal → Type 0
+RefusesRun Lacked Broke Asked Script Failed =
+    RefusesFor Lacked Broke (IsPlayFault Asked Script Failed) ((verdict : Verdict) × IsPlayVerdict Asked Script (λ held. ⊤) verdict)
 
 -- the line of the verdict of a play that was asked for was printed, whose status it is
 abbrev pub PrintsVerdict : (PlayTask → Type 0) → (List ℕ → Type 0) → (Option (List ℕ) → Type 0) → Option (List ℕ) → Option (List ℕ) → ℕ → Type 0
@@ -75,18 +75,18 @@ CutsVerdict Asked Script Sent before after =
 
 -- why what the texts of a command line ask for isn't run: usage where they ask for nothing, else a refusal of the work; or want of
 -- memory, which the busy times may meet while they are read
-abbrev pub RefusesToRun : FileFacts → (Ahead → Type 0) → RunArgs → Refusal → Type 0
-RefusesToRun files Failed given why =
+abbrev pub RefusesToRun : FileFacts → (Ahead → Type 0) → RunArgs → Type 0 → Refusal → Type 0
+RefusesToRun files Failed given Broke why =
     OrUsage (is_well_formed given)
-    (RefusesRun (OrScript (Lacks files (paths_asked given)) (FailsScriptOf files Failed given)) (Serves files given) (ServesScript files given) Failed) why ⊎ (why ≡ Build Memory)
+    (RefusesRun (OrScript (Lacks files (paths_asked given)) (FailsScriptOf files Failed given)) Broke (Serves files given) (ServesScript files given) Failed) why ⊎ (why ≡ Build Memory)
 
--- what `run` answers to the texts of a command line, where `Made` says which changes it made, and `Failed` that a reader of the store
--- that had this ahead has failed: the line of the verdict, whose status it is, after what the chip holds has gone out into the output
+-- what `run` answers to the texts of a command line, where `Made` says which changes it made, `Failed` that a reader of the store
+-- that had this ahead has failed, and `Broke` that an output has: the line of the verdict, whose status it is, after what the chip holds has gone out into the output
 -- that it made, if one is named; or a refusal, and at most that output was made
-abbrev pub AnswersRun : FileFacts → (Ahead → Type 0) → RunArgs → (List Change → Type 0) → Option (List ℕ) → Option (List ℕ) → Type 0 → Type 0 → Option (List ℕ) → Option (List ℕ) → ℕ → Type 0
-AnswersRun files Failed given Made before after Quiet Works told_before told_after status =
+abbrev pub AnswersRun : FileFacts → (Ahead → Type 0) → RunArgs → (List Change → Type 0) → Type 0 → Option (List ℕ) → Option (List ℕ) → Type 0 → Type 0 → Option (List ℕ) → Option (List ℕ) → ℕ → Type 0
+AnswersRun files Failed given Made Broke before after Quiet Works told_before told_after status =
     ((is_well_formed given ≡ true) × PrintsVerdict (Serves files given) (ServesScript files given) files.flushed before after status
     × MakesFor files given Made × Quiet)
     ⊎ (CutsVerdict (Serves files given) (ServesScript files given) files.flushed before after
-    × TellsOf (RefusesToRun files Failed given) Works told_before told_after status
+    × TellsOf (RefusesToRun files Failed given Broke) Works told_before told_after status
     × MayMakeFor files given Made)

@@ -1,5 +1,5 @@
 -- The play that a command line of `run` asks for (this project's). `files` is what is known of files by their names.
-use Rattle.std.specs.Prelude.{◌≡◌, ◌⊎◌, ℕ, List, [], ◌++◌, Option, Some, None, option_map, option_to_list}
+use Rattle.std.specs.Prelude.{◌≡◌, ◌⊎◌, ℕ, false, List, [], ◌++◌, Option, Some, None, option_map, option_to_list}
 use Rattle.nor_base.specs.Device.{Ahead}
 use Rattle.nor_chip.specs.Busy.{times_of}
 use Rattle.nor_job.specs.Task.{Task}
@@ -15,7 +15,7 @@ use Rattle.norprog_common.specs.Values.{limit_of, said_number}
 use Rattle.norprog_run.specs.declared.request.ChipBehaviour.{ChipBehaviour}
 use Rattle.norprog_common.specs.declared.given.RunArgs.{RunArgs}
 use Rattle.norprog_run.specs.declared.request.RunRequest.{RunRequest}
-use Rattle.norprog_run.specs.Request.{asked_busy, asked_limit}
+use Rattle.norprog_run.specs.Request.{asked_busy, asked_limit, is_well_formed}
 
 -- what is asked of a play: the chip, in a task that has neither image nor layout; the bench; what is ahead of the content's reader,
 -- and its length in bytes; and what its output held when it was made, where it has one
@@ -102,6 +102,6 @@ MakesFor files given Made =
     (setup : Setup) × AsksSetup given.setup setup
     × MakesNamed files (input_files_asked given (origin_of setup.chip)) (option_map (λ t. t.now) given.out) Made
 
--- at most that
+-- at most that; where the texts ask for no play, nothing was changed
 abbrev pub MayMakeFor : FileFacts → RunArgs → (List Change → Type 0) → Type 0
-MayMakeFor files given Made = Made [] ⊎ MakesFor files given Made
+MayMakeFor files given Made = (Made [] ⊎ MakesFor files given Made) × (is_well_formed given ≡ false → Made [])

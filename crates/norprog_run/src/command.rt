@@ -3,8 +3,8 @@
 ghost use Rattle.std.specs.Prelude.{◌≡◌, ◌<◌, ◌≤◌, ◌-◌, ◌^◌, List, ℕ, Some, true, Option, IfOk};
 ghost use Rattle.std.specs.Prelude.{IfErr, MatchResult, option_map};
 ghost use Rattle.std.specs.Io.KnownBytes.{Appends};
-ghost use Rattle.norprog_common.specs.FileStore.{Adds, DoNotFail, Emptied, IsTextIn, IsTextOfFile};
-ghost use Rattle.norprog_common.specs.FileStore.{Lacks, MakesNamed, MayMake, Tries};
+ghost use Rattle.norprog_common.specs.FileStore.{Adds, Breaks, DoNotFail, Emptied, IsTextIn};
+ghost use Rattle.norprog_common.specs.FileStore.{IsTextOfFile, Lacks, MakesNamed, MayMake, Tries};
 ghost use Rattle.norprog_common.specs.Reading.{FailsReading, FailsScript, HasFailed, IsTextRead};
 ghost use Rattle.norprog_common.specs.declared.faults.FileName.TheVariants.{Script};
 ghost use Rattle.norprog_common.specs.Served.{out_path};
@@ -45,6 +45,7 @@ pub fn run<S: FileStore, O: ByteOut, E: ByteOut>(
     ensures quiet { result ≡ 0 → err.new ≡ err.old }
     ensures answer { AnswersRun (S.facts store.now) (HasFailed S.Input.ahead S.Input.count)
         given.entry (Adds (S.Journal.changes journal.old) (S.Journal.changes journal.new))
+        (Breaks (S.facts store.now) (O.count out.old) (O.count out.new))
         (O.held out.old) (O.held out.new) (err.new ≡ err.old)
         (E.count err.new ≡ E.count err.old) (E.held err.old) (E.held err.new) result }
 {
@@ -76,7 +77,8 @@ fn report_run<S: FileStore, O: ByteOut>(
         (λ _. MayMakeFor (S.facts store.now) given.entry
         (Adds (S.Journal.changes journal.old) (S.Journal.changes journal.new))) }
     ensures first { IfErr result
-        (RefusesToRun (S.facts store.now) (HasFailed S.Input.ahead S.Input.count) given.entry) }
+        (RefusesToRun (S.facts store.now) (HasFailed S.Input.ahead S.Input.count) given.entry
+        (Breaks (S.facts store.now) (O.count out.old) (O.count out.new))) }
 {
     let verdict = verdict_of(alloc, store, journal, given)?;
     match write_verdict(&verdict, out) {
@@ -101,7 +103,8 @@ fn verdict_of<S: FileStore>(
         (λ _. MayMakeFor (S.facts store.now) given.entry
         (Adds (S.Journal.changes journal.old) (S.Journal.changes journal.new))) }
     ensures first { IfErr result
-        (RefusesToRun (S.facts store.now) (HasFailed S.Input.ahead S.Input.count) given.entry) }
+        (RefusesToRun (S.facts store.now) (HasFailed S.Input.ahead S.Input.count) given.entry
+        (S.facts store.now).broke) }
 {
     let request = request_of(alloc, given)?;
     play_request(alloc, store, journal, request)
@@ -121,6 +124,7 @@ fn play_request<S: FileStore>(
         (RefusesRun (OrScript (Lacks (S.facts store.now) (paths_of request.entry))
         (FailsReading (S.facts store.now) (HasFailed S.Input.ahead S.Input.count)
         request.entry.script.now))
+        (S.facts store.now).broke
         (IsTaskOf (S.facts store.now) request.entry)
         (IsTextIn (S.facts store.now) request.entry.script.now)
         (HasFailed S.Input.ahead S.Input.count)) }
@@ -188,6 +192,7 @@ fn play_to<S: FileStore>(
     ensures refused { IfErr result
         (RefusesRun (OrScript (Lacks (S.facts store.now) (out_path (Some path.now)))
         (FailsScript S.Input.ahead (HasFailed S.Input.ahead S.Input.count) script))
+        (S.facts store.now).broke
         (IsMadeFor (S.facts store.now) path.now places.now inputs.now bench
         (S.Input.ahead content.old) len) (IsTextRead S.Input.ahead script)
         (HasFailed S.Input.ahead S.Input.count)) }
@@ -195,8 +200,10 @@ fn play_to<S: FileStore>(
         (Emptied path.now places.now) result }
 {
     let mut file = store.create(journal, alloc, path, FileName::Out, places)?;
-    let verdict = play_file(alloc, inputs, bench, script, content, len, &mut file)?;
-    match store.flush(file) {
+    let played = play_file(alloc, inputs, bench, script, content, len, &mut file);
+    let flushed = store.flush(file);
+    let verdict = played?;
+    match flushed {
         Ok(()) => Ok(verdict),
         Err(_) => Err(Refusal::WRITE),
     }
@@ -221,6 +228,7 @@ fn play_file<F: ByteIn + Drop, R: ByteIn, W: ByteOut>(
     ensures refused { (begun : Option (Option (List ℕ)))
         → IfErr result (RefusesFor
         (λ told. (told ≡ Script) × FailsScript F.ahead (HasFailed F.ahead F.count) script)
+        (W.count out.old < W.count out.new)
         (IsPlayFault (Is (play_with inputs.now bench (R.ahead content.old) len begun))
         (IsTextRead F.ahead script) (HasFailed R.ahead R.count)) ⊥) }
 {

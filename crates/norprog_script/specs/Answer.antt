@@ -34,8 +34,8 @@ IsLogFault Asked why = ForAsked LogTask Asked (IsStopOf why)
 
 -- why a script that was asked for isn't written: a file can't be used, or a growth was refused; the output failed while it was
 -- written, or after; else the fault of the log
-abbrev pub RefusesScript : (FileName → Type 0) → (LogTask → Type 0) → Refusal → Type 0
-RefusesScript Lacked Asked = RefusesFor Lacked (IsLogFault Asked) ((tally : Tally) × IsScripted Asked (λ held. ⊤) tally)
+abbrev pub RefusesScript : (FileName → Type 0) → Type 0 → (LogTask → Type 0) → Refusal → Type 0
+RefusesScript Lacked Broke Asked = RefusesFor Lacked Broke (IsLogFault Asked) ((tally : Tally) × IsScripted Asked (λ held. ⊤) tally)
 
 -- the number of steps of a script that was asked for and written was printed, and nothing else
 pub record PrintsTally (Asked : LogTask → Type 0) (Sent : Option (List ℕ) → Type 0) (before after : Option (List ℕ)) : Type 0 where
@@ -54,12 +54,12 @@ done (Err why) flushed = Err why
 done (Ok tally) (Err e) = Err (Build Write)
 done (Ok tally) (Ok u) = Ok tally
 
--- what `script` answers to the texts of a command line, where `Made` says which changes it made: the number of steps at status 0,
--- after the script has gone out, and just the output was made; or a refusal, and at most that was
-abbrev pub AnswersScript : FileFacts → ScriptArgs → (List Change → Type 0) → Option (List ℕ) → Option (List ℕ) → Type 0 → Type 0 → Option (List ℕ) → Option (List ℕ) → ℕ → Type 0
-AnswersScript files given Made before after Quiet Works told_before told_after status =
+-- what `script` answers to the texts of a command line, where `Made` says which changes it made, and `Broke` that an output failed: the
+-- number of steps at status 0, after the script has gone out, and just the output was made; or a refusal, and at most that was
+abbrev pub AnswersScript : FileFacts → ScriptArgs → (List Change → Type 0) → Type 0 → Option (List ℕ) → Option (List ℕ) → Type 0 → Type 0 → Option (List ℕ) → Option (List ℕ) → ℕ → Type 0
+AnswersScript files given Made Broke before after Quiet Works told_before told_after status =
     Answers (is_well_formed given)
     ((status ≡ 0) × PrintsTally (Serves files given) files.flushed before after × MakesScript files given Made × Quiet)
     (CutsTally (Serves files given) files.flushed before after × MayMakeScript files given Made)
-    (RefusesScript (Lacks files (paths_asked given)) (Serves files given))
+    (RefusesScript (Lacks files (paths_asked given)) Broke (Serves files given))
     Works told_before told_after status

@@ -1,5 +1,5 @@
 -- The script of a log that a command line of `script` asks for (this project's). `files` is what is known of files by their names.
-use Rattle.std.specs.Prelude.{◌≡◌, ◌⊎◌, ℕ, Bool, List, [], ◌∷◌, ◌++◌, Option, None, Some, option_map, option_to_list}
+use Rattle.std.specs.Prelude.{◌≡◌, ◌⊎◌, ℕ, Bool, false, List, [], ◌∷◌, ◌++◌, Option, None, Some, option_map, option_to_list}
 use Rattle.nor_job.specs.Task.{Task}
 use Rattle.norprog_common.specs.Chip.{origin_of}
 use Rattle.norprog_common.specs.FileStore.{FileFacts, Change, IsMadeApart, MakesNamed, Named, tables_file, tables_name}
@@ -8,7 +8,7 @@ use Rattle.norprog_common.specs.declared.faults.FileName.{FileName}
 use Rattle.norprog_common.specs.declared.faults.FileName.TheVariants.{Sfdp, Log, Out}
 use Rattle.norprog_common.specs.declared.given.ScriptArgs.{ScriptArgs}
 use Rattle.norprog_common.specs.declared.setup.Setup.{Setup}
-use Rattle.norprog_script.specs.Request.{AsksChip}
+use Rattle.norprog_script.specs.Request.{AsksChip, is_well_formed}
 use Rattle.norprog_script.specs.Written.{Source, foreign, listed}
 use Rattle.norprog_script.specs.declared.request.ScriptRequest.{ScriptRequest}
 
@@ -74,4 +74,4 @@ MakesScript files given Made =
     × MakesNamed files (chip_file chip ++ option_to_list (option_map (λ t. t.now) given.log)) (option_map (λ t. t.now) given.out) Made
 
 abbrev pub MayMakeScript : FileFacts → ScriptArgs → (List Change → Type 0) → Type 0
-MayMakeScript files given Made = Made [] ⊎ MakesScript files given Made
+MayMakeScript files given Made = (Made [] ⊎ MakesScript files given Made) × (is_well_formed given ≡ false → Made [])

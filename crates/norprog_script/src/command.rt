@@ -2,7 +2,7 @@
 
 ghost use Rattle.std.specs.Prelude.{◌≡◌, ◌<◌, ◌≤◌, ◌-◌, ◌^◌, [], ◌∷◌, ◌++◌, true, None, Some};
 ghost use Rattle.std.specs.Prelude.{IfOk, IfErr, MatchResult};
-ghost use Rattle.norprog_common.specs.FileStore.{Adds, Lacks, MakesIf};
+ghost use Rattle.norprog_common.specs.FileStore.{Adds, Breaks, Lacks, MakesIf};
 ghost use Rattle.norprog_common.specs.Told.{OrUsage};
 ghost use Rattle.norprog_script.specs.Answer.{IsScripted, RefusesScript, PrintsTally, CutsTally};
 ghost use Rattle.norprog_script.specs.Answer.{AnswersScript, done};
@@ -38,8 +38,8 @@ pub fn script<S: FileStore, O: ByteOut, E: ByteOut>(
     ensures quiet { result ≡ 0 → err.new ≡ err.old }
     ensures answer { AnswersScript (S.facts store.now) given.entry
         (Adds (S.Journal.changes journal.old) (S.Journal.changes journal.new))
-        (O.held out.old) (O.held out.new)
-        (err.new ≡ err.old)
+        (Breaks (S.facts store.now) (O.count out.old) (O.count out.new))
+        (O.held out.old) (O.held out.new) (err.new ≡ err.old)
         (E.count err.new ≡ E.count err.old) (E.held err.old) (E.held err.new) result }
 {
     answered(scripted_in(alloc, store, journal, given, out), err)
@@ -69,6 +69,7 @@ fn scripted_in<S: FileStore, O: ByteOut>(
     ensures first { IfErr result
         (OrUsage (is_well_formed given.entry)
         (RefusesScript (Lacks (S.facts store.now) (paths_asked given.entry))
+        (Breaks (S.facts store.now) (O.count out.old) (O.count out.new))
         (Serves (S.facts store.now) given.entry))) }
 {
     let request = request_of(given).ok_or(Refusal::Usage)?;
@@ -93,7 +94,7 @@ fn run_script<S: FileStore>(
         (IsScripted (IsTaskOf (S.facts store.now) request.entry) (S.facts store.now).flushed) }
     ensures refused { IfErr result
         (RefusesScript (Lacks (S.facts store.now) (paths_of request.entry))
-        (IsTaskOf (S.facts store.now) request.entry)) }
+        (S.facts store.now).broke (IsTaskOf (S.facts store.now) request.entry)) }
 {
     match request.chip {
         Some(setup) => run_listing(alloc, store, journal, setup, request),
@@ -117,7 +118,7 @@ fn run_listing<S: FileStore>(
         (IsScripted (IsTaskOf (S.facts store.now) request.entry) (S.facts store.now).flushed) }
     ensures refused { IfErr result
         (RefusesScript (Lacks (S.facts store.now) (paths_of request.entry))
-        (IsTaskOf (S.facts store.now) request.entry)) }
+        (S.facts store.now).broke (IsTaskOf (S.facts store.now) request.entry)) }
 {
     let mut places = Vec::new(alloc);
     let tables = noted_tables(alloc, store, setup.chip, &mut places)?;
@@ -151,7 +152,7 @@ fn run_log<S: FileStore>(
         (IsScripted (IsTaskOf (S.facts store.now) request.entry) (S.facts store.now).flushed) }
     ensures refused { IfErr result
         (RefusesScript (Lacks (S.facts store.now) (paths_of request.entry))
-        (IsTaskOf (S.facts store.now) request.entry)) }
+        (S.facts store.now).broke (IsTaskOf (S.facts store.now) request.entry)) }
 {
     let (log, place) = store.read(alloc, request.log, FileName::Log)?;
     let mut out = store.create(journal, alloc, request.out, FileName::Out, &[place])?;

@@ -31,8 +31,8 @@ abbrev pub IsChipFault : (Task → Type 0) → BuildFault → Type 0
 IsChipFault Asked why = ForAsked Task Asked (MeansNone why)
 
 -- why no meaning is told of a chip that was asked for
-abbrev pub RefusesMeaning : (FileName → Type 0) → (Task → Type 0) → Refusal → Type 0
-RefusesMeaning Lacked Asked = RefusesFor Lacked (OfFault (IsChipFault Asked)) ((m : Parameters) × IsMeaning Asked m)
+abbrev pub RefusesMeaning : (FileName → Type 0) → Type 0 → (Task → Type 0) → Refusal → Type 0
+RefusesMeaning Lacked Broke Asked = RefusesFor Lacked Broke (OfFault (IsChipFault Asked)) ((m : Parameters) × IsMeaning Asked m)
 
 -- the lines of the meaning of a chip that was asked for were printed, and nothing else
 abbrev pub PrintsMeaning : (Task → Type 0) → Option (List ℕ) → Option (List ℕ) → Type 0
@@ -43,11 +43,12 @@ abbrev pub CutsMeaning : (Task → Type 0) → Option (List ℕ) → Option (Lis
 CutsMeaning Asked before after =
     (after ≡ before) ⊎ ((m : Parameters) × IsMeaning Asked m × Cuts before after (meaning_text m))
 
--- what `sfdp` answers to the texts of a command line: the lines of the meaning at status 0, or a refusal
-abbrev pub AnswersChip : FileFacts → ChipArgs → Option (List ℕ) → Option (List ℕ) → Type 0 → Type 0 → Option (List ℕ) → Option (List ℕ) → ℕ → Type 0
-AnswersChip files given before after Quiet Works told_before told_after status =
+-- what `sfdp` answers to the texts of a command line, where `Broke` says that an output failed: the lines of the meaning at status 0,
+-- or a refusal
+abbrev pub AnswersChip : FileFacts → ChipArgs → Type 0 → Option (List ℕ) → Option (List ℕ) → Type 0 → Type 0 → Option (List ℕ) → Option (List ℕ) → ℕ → Type 0
+AnswersChip files given Broke before after Quiet Works told_before told_after status =
     Answers (asks_chip given)
     ((status ≡ 0) × PrintsMeaning (ServesChip files given) before after × Quiet)
     (CutsMeaning (ServesChip files given) before after)
-    (RefusesMeaning (Lacks files (tables_path (option_map (λ t. t.now) given.sfdp))) (ServesChip files given))
+    (RefusesMeaning (Lacks files (tables_path (option_map (λ t. t.now) given.sfdp))) Broke (ServesChip files given))
     Works told_before told_after status

@@ -32,8 +32,8 @@ pub fn sfdp<S: FileStore, O: ByteOut, E: ByteOut>(
     requires err { E.count err.old < 2 ^ 64 - 1 }
     ensures status { result ≤ 2 }
     ensures quiet { result ≡ 0 → err.new ≡ err.old }
-    ensures answer { AnswersChip (S.facts store.now) given.entry (O.held out.old) (O.held out.new)
-        (err.new ≡ err.old)
+    ensures answer { AnswersChip (S.facts store.now) given.entry (O.count out.old < O.count out.new)
+        (O.held out.old) (O.held out.new) (err.new ≡ err.old)
         (E.count err.new ≡ E.count err.old) (E.held err.old) (E.held err.new) result }
 {
     answered(report_meaning(alloc, store, given, out), err)
@@ -59,7 +59,7 @@ fn report_meaning<S: FileStore, O: ByteOut>(
         (OrUsage (asks_chip given.entry)
         (RefusesMeaning (Lacks (S.facts store.now)
         (tables_path (option_map (λ t. t.now) given.entry.sfdp)))
-        (ServesChip (S.facts store.now) given.entry))) }
+        (O.count out.old < O.count out.new) (ServesChip (S.facts store.now) given.entry))) }
 {
     let chip = chip_of(given.sfdp, given.uniform, given.bits).ok_or(Refusal::Usage)?;
     let part = part(given.part.unwrap_or("generic")).ok_or(Refusal::Usage)?;
@@ -81,7 +81,7 @@ fn run_meaning<S: FileStore>(
         (IsMeaning (IsChipTask (S.facts store.now) (origin_of chip.entry) part)) }
     ensures refused { IfErr result
         (RefusesMeaning (Lacks (S.facts store.now)
-        (tables_path (tables_name (origin_of chip.entry))))
+        (tables_path (tables_name (origin_of chip.entry)))) ⊥
         (IsChipTask (S.facts store.now) (origin_of chip.entry) part)) }
 {
     let tables = tables_of(alloc, store, chip)?;
@@ -93,7 +93,7 @@ fn chip_alone<'a>(chip: Chip<'a>, part: Part, tables: &'a [u8]) -> Result<Meanin
     ensures means { IfOk result
         (IsMeaning (IsTaskAlone (origin_of chip.entry) part tables.entry.now)) }
     ensures refused { IfErr result
-        (RefusesMeaning (λ told. ⊥) (IsTaskAlone (origin_of chip.entry) part tables.entry.now)) }
+        (RefusesMeaning (λ told. ⊥) ⊥ (IsTaskAlone (origin_of chip.entry) part tables.entry.now)) }
 {
     let inputs = Inputs {
         hex: &[],

@@ -23,6 +23,7 @@ use Rattle.nor_job.specs.Causes.{RefusesInputs}
 use Rattle.nor_job.specs.Status.{start_of}
 use Rattle.nor_job.specs.Task.{Task}
 use Rattle.nor_job.specs.Wanted.{wanted}
+use Rattle.nor_job.specs.Written.{of_writer}
 use Rattle.nor_layout.specs.Chosen.{is_chosen}
 use Rattle.nor_layout.specs.Region.{Region}
 use Rattle.nor_outline.specs.Outline.{unit_lines}
@@ -180,6 +181,35 @@ not_late t len fault.ContentShort is = refl
 not_late t len fault.Read is = refl
 not_late t len fault.Write is = absurd is
 not_late t len fault.Memory is = refl
+
+-- and none that the writer counts
+pub not_written : (t : Task) (len : ℕ) (why : BuildFault) → RefusesInputs t len why → of_writer why ≡ 0
+not_written t len fault.Write is = absurd is
+not_written t len (fault.Contradiction number) is = refl
+not_written t len (fault.Hex why) is = refl
+not_written t len (fault.Layout why) is = refl
+not_written t len (fault.Sfdp why) is = refl
+not_written t len (fault.Status number) is = refl
+not_written t len fault.ModeImpossible is = refl
+not_written t len fault.ContentSize is = refl
+not_written t len (fault.Plan why) is = refl
+not_written t len fault.ContentShort is = refl
+not_written t len fault.Read is = refl
+not_written t len fault.Memory is = refl
+
+pub late_counts : (why : BuildFault) → of_writer (late why) ≡ of_writer why
+late_counts fault.Write = refl
+late_counts (fault.Contradiction number) = refl
+late_counts (fault.Hex why) = refl
+late_counts (fault.Layout why) = refl
+late_counts (fault.Sfdp why) = refl
+late_counts (fault.Status number) = refl
+late_counts fault.ModeImpossible = refl
+late_counts fault.ContentSize = refl
+late_counts (fault.Plan why) = refl
+late_counts fault.ContentShort = refl
+late_counts fault.Read = refl
+late_counts fault.Memory = refl
 
 -- so is what is reported of one that stopped
 pub reported_lines : (t : Task) (content ahead : List ℕ) (after : Ahead) (o p : Option (List ℕ)) (why reported : BuildFault) → ahead ≡ content

@@ -1,7 +1,8 @@
 //! The work from what a chip holds to what it must hold.
 
-ghost use Rattle.std.specs.Prelude.{◌≡◌, ◌⊎◌, ◌≤◌, ◌<◌, ◌+◌, ◌-◌, ◌^◌, length, IfOk, IfErr};
+ghost use Rattle.std.specs.Prelude.{◌≡◌, ◌⊎◌, ◌<◌, ◌-◌, ◌^◌, length, IfOk, IfErr};
 ghost use Rattle.nor_job.specs.declared.fault.BuildFault.TheVariants.{Memory};
+ghost use Rattle.nor_job.specs.Written.{CountsWriter};
 ghost use Rattle.norprog_work.specs.Refused.{late, RefusesWork, StopsLines};
 ghost use Rattle.norprog_work.specs.Work.{IsWork, PlansLines};
 
@@ -27,8 +28,8 @@ pub struct Work {
 /// Plans the work from a content to the target of the bytes of `old`, and writes the lines and the
 /// report of the plan (docs/FORMATS.md, section 9). Memory is taken for the target and the steps.
 ///
-/// The refusals are those of [`goal_of`]; then `Plan` with the lowest address at fault, `Write`,
-/// and `Memory`.
+/// The refusals are those of [`goal_of`]; then `Plan` with the lowest address at fault, `Write`
+/// only where the writer failed, and `Memory`.
 pub fn work_for<W: ByteOut>(
     alloc: Global,
     inputs: &Inputs<'_>,
@@ -43,8 +44,7 @@ pub fn work_for<W: ByteOut>(
         (W.held out.old) (W.held out.new)) }
     ensures refused { IfErr result
         (RefusesWork inputs.now content.now old.now (W.held out.old) (W.held out.new)) }
-    ensures count { IfOk result (λ _. W.count out.new ≡ W.count out.old) }
-    ensures room { W.count out.new ≤ W.count out.old + 1 }
+    ensures count { CountsWriter (W.count out.old) (W.count out.new) result }
 {
     let goal = goal_of(alloc, inputs, old)?;
     let hex = difference(alloc, content, goal.bytes.as_slice())?;
@@ -77,8 +77,7 @@ fn plan_lines<W: ByteOut>(
     ensures stops { IfErr result
         (λ why. StopsLines inputs.now content.now content.now (W.held out.old) (W.held out.new) why
         ⊎ ((why ≡ Memory) × (out.new ≡ out.old))) }
-    ensures count { IfOk result (λ _. W.count out.new ≡ W.count out.old) }
-    ensures room { W.count out.new ≤ W.count out.old + 1 }
+    ensures count { CountsWriter (W.count out.old) (W.count out.new) result }
 {
     let mut reader = FromRead::new(content);
     match plan(alloc, inputs, &mut reader, content.len() as u64, out) {

@@ -1,5 +1,5 @@
 -- What files in memory tell (this project's).
-use Rattle.std.specs.Prelude.{◌≡◌, ◌⊎◌, ℕ, ◌^◌, ◌<◌, Bool, if◌then◌else◌, List, [], length, map, Option, Some, None, option_map}
+use Rattle.std.specs.Prelude.{◌≡◌, ◌⊎◌, ⊤, ℕ, ◌^◌, ◌<◌, Bool, if◌then◌else◌, List, [], length, map, Option, Some, None, option_map}
 use Rattle.std.specs.List.{find}
 use Rattle.std.specs.Str.{bytes_eq}
 use Rattle.nor_base.specs.Device.{Finite}
@@ -39,8 +39,8 @@ lacks files device name told =
     (file_of files name ≡ None)
     ⊎ (((bytes : List ℕ) × (bytes_in files name ≡ Some bytes) × (2 ^ 36 < length bytes)) ⊎ ((told ≡ told_as.Device) × (answers_of device name ≡ None)))
 
--- a file gives the bytes that it has; an output is empty when it is made, and has gone out with what it took; a device has its
--- answers ahead when it is opened, and has taken nothing
+-- a file gives the bytes that it has; an output is empty when it is made, and has gone out with what it took, unless memory was
+-- refused to it, of which nothing is told; a device has its answers ahead when it is opened, and has taken nothing
 abbrev pub told_files : List File → Option Device → FileFacts
 told_files files device = record {
   gave = λ name bytes. bytes_in files name ≡ Some bytes;
@@ -52,6 +52,7 @@ told_files files device = record {
   lacked = lacks files device;
   device = λ name remaining contents. (answers_of device name ≡ remaining) × (contents ≡ Some []);
   left = λ contents. (bytes : List ℕ) × (contents ≡ Some bytes);
+  broke = ⊤;
 }
 
 -- what a note tells

@@ -15,7 +15,8 @@ use norprog_common::BuildArgs;
 use std::alloc::Global;
 
 /// Builds the script of an image on a chip of 8 KiB that holds this content, both of them files in
-/// memory, into the file `new`. Returns the status, and what went there.
+/// memory, into the file `new`. Returns the status, and what went there, which no clause says: it
+/// is only tested.
 pub fn build_of<O: ByteOut, E: ByteOut>(
     alloc: Global,
     image: &[u8],

@@ -160,8 +160,9 @@ impl<'a> FileStore for Memory<'a> {
     }
 
     fn flush(&self, file: IntoWrite<Vec<u8>>) -> Result<(), Failed> {
+        let failed = file.failed;
         let _ = self.flushed.replace(file.inner);
-        Ok(())
+        if failed == 0 { Ok(()) } else { Err(Failed) }
     }
 
     fn open_device(&self, journal: &mut Noted, path: &str) -> Result<(&'a [u8], Vec<u8>), Refusal> {

@@ -15,7 +15,8 @@ use norprog_run::run;
 use std::alloc::Global;
 
 /// Plays a script on a chip of 8 KiB that holds this content, both of them files in memory; what
-/// the chip holds then goes to the file `after`. Returns the status, and what went there.
+/// the chip holds then goes to the file `after`. Returns the status, and what went there, which no
+/// clause says: it is only tested.
 pub fn run_of<O: ByteOut, E: ByteOut>(
     alloc: Global,
     content: &[u8],

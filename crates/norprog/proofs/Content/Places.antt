@@ -17,7 +17,7 @@ small_page m accepted =
     omega (arith, few, accepted.page.value)
 
 -- a window is whole pages, and so is the chip
-window_pages : (m : Parameters) (w : ℕ) → IsAccepted m → IsWindowSize m w → w % m.page ≡ 0
+pub window_pages : (m : Parameters) (w : ℕ) → IsAccepted m → IsWindowSize m w → w % m.page ≡ 0
 window_pages m w accepted size =
     divides 4 12 12 24 m.page w accepted.page (window_power m w accepted size) (omega (arith, small_page m accepted, size.least))
 

@@ -61,7 +61,7 @@ tally_join s p q one other first second =
     ap (λ (t : Tally). sum_of t other) first ∙ ap (λ (t : Tally). sum_of (tally_of s p) t) second
     ∙ same_tally _ _ _ _ _ _ _ _ (sym (more_steps s p q)) (sym (sum_by-append erases_of p q)) (sym (sum_by-append erased_of p q)) (sym (sum_by-append programs_of p q))
 
-few_join : (n k : ℕ) (one other : Tally) → IsFew n one → IsFew k other → IsFew (n + k) (sum_of one other)
+pub few_join : (n k : ℕ) (one other : Tally) → IsFew n one → IsFew k other → IsFew (n + k) (sum_of one other)
 few_join n k one other first second = record {
   steps = omega (arith, first.steps, second.steps);
   erases = omega (arith, first.erases, second.erases);
@@ -70,7 +70,7 @@ few_join n k one other first second = record {
 }
 
 -- the steps of two parts
-steps_join : (w v u : Writing) (at : ℕ) (xs ys txs tys : List ℕ) (told more : Tally) → 0 < w.streaming.meaning.page → at % w.streaming.meaning.page ≡ 0
+pub steps_join : (w v u : Writing) (at : ℕ) (xs ys txs tys : List ℕ) (told more : Tally) → 0 < w.streaming.meaning.page → at % w.streaming.meaning.page ≡ 0
     → length xs ≡ at → length txs ≡ at → IsTold w v 0 xs txs told → IsTold v u at ys tys more
     → IsTold w u 0 (xs ++ ys) (txs ++ tys) (sum_of told more)
 steps_join w v u at xs ys txs tys told more some whole upto upto' first second = record {

@@ -1,11 +1,12 @@
 -- The end of a plan, and from a job to what a plan promises of its inputs.
-use Rattle.std.proofs.Common.{◌≡◌, ℕ, ◌+◌, ◌%◌, List, length, take, Option, sym, ◌∙◌, ap, subst, arith}
+use Rattle.std.proofs.Common.{◌≡◌, ℕ, ◌+◌, ◌%◌, List, [], ◌⊎◌, length, take, Option, Some, Result, Ok, Err, IfOk, IfErr, inr, refl, sym, ◌∙◌, ap, subst, arith}
 use Rattle.std.specs.Io.KnownBytes.{Appends}
 use Rattle.std.proofs.lemmas.List.{take_all}
 use Rattle.nor_base.specs.declared.meaning.Start.{Start}
 use Rattle.nor_base.specs.Accepted.{IsAccepted}
 use Rattle.nor_base.specs.Device.{Ahead}
-use Rattle.nor_base.specs.Planned.{planned, ArePlanned, IsWorkable}
+use Rattle.nor_base.proofs.DeviceLaws.{Appends-none}
+use Rattle.nor_base.specs.Planned.{planned, planned_units, ArePlanned, IsWorkable}
 use Rattle.nor_base.specs.Strategies.{strategy}
 use Rattle.nor_geometry.specs.Window.{IsWindowSize}
 use Rattle.nor_job.specs.declared.fault.BuildFault.{BuildFault}
@@ -13,8 +14,11 @@ use Rattle.nor_job.specs.declared.fault.BuildFault.TheVariants as fault
 use Rattle.nor_job.specs.declared.job.Job.{Job}
 use Rattle.nor_job.specs.Job.{IsJob}
 use Rattle.nor_base.specs.Units.{units}
-use Rattle.nor_outline.specs.Told.{unit_outline, stretch_lines, AreLines}
-use Rattle.nor_outline.proofs.PlanText.{text_lines}
+use Rattle.nor_outline.specs.Outline.{plan_of, stretch_plan, IsStretchPlan}
+use Rattle.nor_outline.specs.Told.{unit_outline}
+use Rattle.nor_outline.proofs.PlanText.{units_lines}
+use Rattle.nor_plan_read.specs.Lines.{lines_text}
+use Rattle.nor_plan_read.specs.declared.line.PlanLine.{PlanLine}
 use Rattle.nor_base.specs.Parameters.{Parameters}
 use Rattle.nor_job.specs.Status.{start_of}
 use Rattle.nor_job.specs.Task.{Task}
@@ -25,11 +29,13 @@ use Rattle.nor_steps.specs.declared.tally.Tally.{Tally}
 use Rattle.nor_steps.specs.Lines.{steps_of}
 use Rattle.nor_steps.specs.Writing.{Writing}
 use Rattle.nor_plan_laws.specs.Exists.{PlannedCanBeSpelled}
-use Rattle.nor_job.specs.Wanted.{wanted}
+use Rattle.nor_job.specs.Wanted.{wanted, ReadsWithin}
 use Rattle.norprog.specs.Plan.{IsPlanOf, StopsPlan}
-use Rattle.norprog.specs.PlanWindows.{plan_text, TellsWindows}
+use Rattle.norprog.specs.Planner.{Planning, IsReady, IsPlannedPart, HasTold, CutsPlan, IsPlanned, EndsPlan, PlansJob, PutsPlan}
+use Rattle.norprog.specs.declared.report.Report.{Report}
+use Rattle.norprog.specs.PlanWindows.{TellsWindows}
 use Rattle.nor_job.specs.Filled.{target_from}
-use Rattle.norprog.specs.Windows.{first_writing, IsAllDone, BeginsText, IsKnown, IsCut, IsToldWhole, job_report}
+use Rattle.norprog.specs.Windows.{first_writing, IsAllDone, IsDone, BeginsText, IsKnown, IsCut, IsCutPlan, IsWorked, job_report}
 use Rattle.nor_job.specs.Written.{AreBytes}
 use Rattle.nor_job.proofs.TargetLemmas.{target_is}
 use Rattle.norprog.proofs.Promise.Build.{workable_is, spelled_is, report_is, work_cause}
@@ -37,13 +43,15 @@ use Rattle.norprog.proofs.Content.Joined.{text_begins, lines_tell}
 use Rattle.norprog.proofs.Content.Places.{chip_pages}
 use Rattle.norprog.proofs.Script.Written.{whole_work}
 use Rattle.norprog.proofs.Content.Targets.{part_whole}
+use Rattle.norprog.proofs.Content.Plans.{told_done}
 use Rattle.norprog.proofs.Content.Windows.{cut_after}
 
 -- the lines of a whole chip
-whole_lines : (m : Parameters) (start : Start) (part goal text : List ℕ) → length part ≡ m.size → AreLines m (strategy m start) 0 part goal text → text ≡ plan_text m start part goal
+whole_lines : (m : Parameters) (start : Start) (part goal : List ℕ) (lines : List PlanLine) → length part ≡ m.size → IsStretchPlan m (strategy m start) 0 part goal lines
+    → lines ≡ plan_of m start part goal
 unfolding units
-whole_lines m start part goal text upto lines =
-    sym ((lines part goal (part_whole part) (part_whole goal)).are) ∙ ap (λ n. stretch_lines m (strategy m start) 0 n part goal) upto
+whole_lines m start part goal lines upto plan =
+    sym ((plan part goal (part_whole part) (part_whole goal)).are) ∙ ap (λ n. stretch_plan m (strategy m start) 0 n part goal) upto
 
 -- where its steps aren't all told
 pub close_untold : (job : Job) (v : Writing) (window : ℕ) (a b : Ahead) (x y : Option (List ℕ)) (told : Tally) → IsAccepted job.meaning → IsWindowSize job.meaning window
@@ -59,26 +67,17 @@ close_untold job v window a b x y told accepted size done =
           (text_begins unit_outline (first_writing job) xs (target_from job 0 xs) its.these fault.Memory its.is);
     }) its.put
 
--- the steps are counted, and the lines written
-pub whole_told : (job : Job) (v : Writing) (a b : Ahead) (x y : Option (List ℕ)) (told : Tally) (more : ℕ) → IsAllDone unit_outline job v a b x y told
-    → more ≡ length (last v.streaming)
-    → IsToldWhole job a b x y (record { steps = told.steps + more; erases = told.erases; erased = told.erased; programs = told.programs })
-whole_told job v a b x y told more done count =
-    let w = first_writing job in
-    let part = done.part in
-    let goal = target_from job 0 part in
-    let work = whole_work unit_outline job v a b x y told more done count in
-    let text = whole_lines job.meaning job.start part goal done.wrote.these done.size (text_lines w 0 part goal done.wrote.these done.wrote.is) in
-    record {
-      work = work.0;
-      put = subst (λ (part : List ℕ). Appends x y (plan_text job.meaning job.start part (target_from job 0 part))) (sym work.1) (subst (Appends x y) text done.wrote.put);
-    }
+pub close_uncounted : (p : Planning) (a : Ahead) → IsReady p → p.at ≡ p.job.meaning.size → CutsPlan p a a fault.Memory
+close_uncounted p a ready whole first told x y its put =
+    close_untold p.job p.work p.window first a x y p.told ready.accepted ready.window
+    (subst (λ n. IsDone unit_outline p.job (first_writing p.job) p.work 0 n first a x y p.told) whole (told_done p.job p.work p.at first a x y p.told told its put))
 
-pub plan_is : (t : Task) (len : ℕ) (job : Job) (before after : Ahead) (x y : Option (List ℕ)) (told : Tally) → PlannedCanBeSpelled → HasSpelling → IsAccepted job.meaning
-    → IsJob t len job → IsToldWhole job before after x y told → IsPlanOf t len before after x y (job_report job told)
-plan_is t len job before after x y told can spelling accepted is whole =
+-- a job that was planned, of which so much is told
+pub planned_is : (t : Task) (len : ℕ) (job : Job) (before after : Ahead) (told : Tally) (lines : List PlanLine) → PlannedCanBeSpelled → HasSpelling
+    → IsAccepted job.meaning → IsJob t len job → (done : IsWorked job before after told) → lines ≡ plan_of job.meaning job.start done.part (target_from job 0 done.part)
+    → IsPlanned t len before after lines (job_report job told)
+planned_is t len job before after told lines can spelling accepted is done plan =
     let m = job.meaning in
-    let done = whole.work in
     let part = done.part in
     let own = target_from job 0 part in
     let goal = wanted t job.image is.regions part in
@@ -95,12 +94,46 @@ plan_is t len job before after x y told can spelling accepted is whole =
       whole = done.upto ∙ sym is.accepted.size;
       given = done.given;
       workable = subst (IsWorkable m (start_of t) part) same (subst (λ (s : Start). IsWorkable m s part own) is.start w);
-      put = subst (λ (wish : List ℕ). Appends x y (plan_text m (start_of t) part wish)) same
-          (subst (λ (s : Start). Appends x y (plan_text m s part own)) is.start whole.put);
+      are = subst (λ (wish : List ℕ). lines ≡ plan_of m (start_of t) part wish) same (subst (λ (s : Start). lines ≡ plan_of m s part own) is.start plan);
       steps = steps;
       planned = subst (λ (wish : List ℕ). ArePlanned m (start_of t) t.verify part wish steps) same
           (subst (λ v. ArePlanned m (start_of t) v part own steps) is.verify (subst (λ (s : Start). ArePlanned m s job.verify part own steps) is.start spelled.planned));
       told = report_is t len job is part told done.its_tally;
+    }
+
+-- all of it was, and its steps are counted
+pub ends_plan : (p : Planning) (last_steps : ℕ) → PlannedCanBeSpelled → HasSpelling → IsReady p → p.at ≡ p.job.meaning.size → last_steps ≡ length (last p.work.streaming)
+    → EndsPlan p (job_report p.job (record { steps = p.told.steps + last_steps; erases = p.told.erases; erased = p.told.erased; programs = p.told.programs }))
+unfolding told_done
+ends_plan p last_steps can spelling ready whole count t len first now lines is its =
+    let job = p.job in
+    let all = subst (λ n. IsPlannedPart job (first_writing job) p.work 0 n first now p.told lines) whole its in
+    let part = all.part in
+    let done = told_done job p.work job.meaning.size first now (Some []) (Some (lines_text lines)) p.told lines all refl in
+    let work = whole_work unit_outline job p.work first now (Some []) (Some (lines_text lines)) p.told last_steps done count in
+    planned_is t len job first now _ lines can spelling ready.accepted is work.0
+    (subst (λ (part : List ℕ). lines ≡ plan_of job.meaning job.start part (target_from job 0 part)) (sym work.1)
+    (whole_lines job.meaning job.start part (target_from job 0 part) lines all.size all.plan))
+
+-- a writer that took the lines of a plan has its text
+pub plan_put : (t : Task) (len : ℕ) (before after : Ahead) (x y : Option (List ℕ)) (lines : List PlanLine) (report : Report) → IsPlanned t len before after lines report
+    → Appends x y (lines_text lines) → IsPlanOf t len before after x y report
+plan_put t len before after x y lines report is put =
+    let goal = wanted t is.image is.regions is.content in
+    record {
+      image = is.image;
+      regions = is.regions;
+      m = is.m;
+      accepted = is.accepted;
+      content = is.content;
+      whole = is.whole;
+      given = is.given;
+      workable = is.workable;
+      put = subst (Appends x y)
+          (ap lines_text is.are ∙ sym (units_lines is.m (strategy is.m (start_of t)) is.content goal (planned_units is.m (start_of t) is.content goal))) put;
+      steps = is.steps;
+      planned = is.planned;
+      told = is.told;
     }
 
 pub plan_stops : (t : Task) (len : ℕ) (job : Job) (before after : Ahead) (x y : Option (List ℕ)) (why : BuildFault) → IsJob t len job
@@ -126,3 +159,30 @@ plan_stops t len job before after x y why is cut =
           (subst (λ (s : Start). TellsWindows m (strategy m s) front (target_from job 0 front) cut.bytes why) is.start (lines_tell (first_writing job) front (target_from job 0 front) cut.bytes why cut.front.begun));
       put = cut.put;
     }
+
+-- from before the first window to the report, or to what stopped it
+pub plans_job : (p q : Planning) (job : Job) (a b : Ahead) (x y : Option (List ℕ)) (r : Result Report BuildFault) → HasTold p a a [] → p.job ≡ job → PutsPlan p q a b x y
+    → IfOk r (EndsPlan q) → IfOk r (λ report. PlansJob job a b x y report)
+plans_job p q job a b x y (Ok report) begun same puts ends = λ t len is.
+    let so = puts.put a [] x begun (Appends-none x) in
+    plan_put t len a b x y so.0 report (ends t len a b so.0 (subst (λ (j : Job). IsJob t len j) (sym (puts.job ∙ same)) is) so.1) so.2
+plans_job p q job a b x y (Err why) begun same puts ends = tt
+
+pub cuts_job : (p q : Planning) (job : Job) (a b : Ahead) (x y : Option (List ℕ)) (r : Result Report BuildFault) → HasTold p a a [] → p.job ≡ job → PutsPlan p q a b x y
+    → IfErr r (λ why. (ahead : Ahead) → CutsPlan q ahead ahead why) → IfErr r (IsCutPlan job a b x y)
+cuts_job p q job a b x y (Ok report) begun same puts ends = tt
+cuts_job p q job a b x y (Err why) begun same puts ends =
+    let so = puts.put a [] x begun (Appends-none x) in
+    subst (λ (j : Job). IsCutPlan j a b x y why) (puts.job ∙ same) (ends b a so.0 x y so.1 so.2)
+
+-- the same of a job's inputs
+pub stops_inputs : (t : Task) (len : ℕ) (job : Job) (a b : Ahead) (x y : Option (List ℕ)) (Early : BuildFault → Type 0) (r : Result Report BuildFault) → IsJob t len job
+    → IfErr r (IsCutPlan job a b x y) → IfErr r (λ why. Early why ⊎ StopsPlan t len a b x y why)
+stops_inputs t len job a b x y Early (Ok report) is cut = tt
+stops_inputs t len job a b x y Early (Err why) is cut = inr (plan_stops t len job a b x y why is cut)
+
+pub reads_within : (t : Task) (len : ℕ) (job : Job) (a b : Ahead) (x y : Option (List ℕ)) (r : Result Report BuildFault) → IsJob t len job
+    → IfOk r (λ report. PlansJob job a b x y report) → IfErr r (IsCutPlan job a b x y) → ReadsWithin len a b
+reads_within t len job a b x y (Ok report) is plans cut =
+    let whole = plans t len is in record { bytes = whole.content; few = omega (arith, whole.whole); given = whole.given }
+reads_within t len job a b x y (Err why) is plans cut = record { bytes = cut.part; few = omega (arith, cut.within, is.accepted.size); given = cut.given }

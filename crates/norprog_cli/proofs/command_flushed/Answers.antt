@@ -8,9 +8,10 @@ returns-in-Err-clause-ends g c = record {
   written = writer_contents g.W.Write.contents c.command-status.new.out.inner;
   answered = c.command-status.new.err;
   own = c.command-status.result;
+  counted = c.command-status.new.out.failed;
   answers = c.command-status.ensures.answer;
-  kept = c.flush.ensures.bytes;
-  ends = inr (search rules, search rules);
+  kept = c.flush_out.ensures.kept;
+  ends = inr (search rules, c.in-Err.ensures.failed, search rules);
 }
 
 pub returns-in_default-clause-ends : goal.returns-in_default-clause-ends
@@ -18,8 +19,9 @@ returns-in_default-clause-ends g c = record {
   written = writer_contents g.W.Write.contents c.command-status.new.out.inner;
   answered = c.command-status.new.err;
   own = c.command-status.result;
+  counted = c.command-status.new.out.failed;
   answers = c.command-status.ensures.answer;
-  kept = c.flush.ensures.bytes;
+  kept = c.flush_out.ensures.kept;
   ends = inl (refl, refl);
 }
 
@@ -28,7 +30,8 @@ returns-in_default-2-clause-ends g c = record {
   written = writer_contents g.W.Write.contents c.command-status.new.out.inner;
   answered = c.command-status.new.err;
   own = c.command-status.result;
+  counted = c.command-status.new.out.failed;
   answers = c.command-status.ensures.answer;
-  kept = c.flush.ensures.bytes;
+  kept = c.flush_out.ensures.kept;
   ends = inl (refl, refl);
 }

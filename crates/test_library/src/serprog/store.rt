@@ -171,6 +171,9 @@ impl<'a> FileStore for Store<'a> {
         let Some(saved) = self.saved else {
             return Err(Failed);
         };
+        if file.failed > 0 {
+            return Err(Failed);
+        }
         let _ = saved.replace(file.inner);
         Ok(())
     }

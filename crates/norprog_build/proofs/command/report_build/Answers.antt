@@ -1,12 +1,13 @@
 -- What was built is what the texts ask for.
-use Rattle.std.proofs.Common.{ap, inr, refl, is_some, Some, option_map, ◌&&◌}
+use Rattle.std.proofs.Common.{ap, inl, inr, refl, is_some, Some, option_map, ◌&&◌}
 use Rattle.nor_base.proofs.FaultLaws.{handed_on}
 use Rattle.norprog_common.proofs.ToldLemmas.{asked_wider, or_usage}
+use Rattle.norprog_common.specs.FileStore.{Breaks}
 use Rattle.norprog_build.specs.Served.{asks_build, ServesBuild}
 use Rattle.norprog_build.specs.Answer.{IsReportOf}
 use Rattle.norprog_common.specs.Served.{Job, IsJobOf}
 use Rattle.norprog_common.specs.Strict.{Filled}
-use Rattle.norprog_build.proofs.AnswerLemmas.{unsent}
+use Rattle.norprog_build.proofs.AnswerLemmas.{rose, unsent}
 use Rattle.norprog_build.proofs.ServedLemmas.{build_filled, build_refused, build_asked}
 use Rattle.norprog_common.proofs.ServedLemmas.{no_job}
 use Rattle.norprog_build.proofs.command.report_build.Goals as goal
@@ -27,7 +28,8 @@ pub returns-in_err-report-clause-first : goal.returns-in_err-report-clause-first
 returns-in_err-report-clause-first g c =
     let files = g.S.FileStore.facts c.args.store.now in
     let out = ap (option_map (λ t. t.now)) c.in_ok-path.ensures.ok_part in
-    let wider = build_refused files c.args.given c.request_of.result c.in_ok-request.request c.in_ok-path.path.now
+    let Broke = Breaks files (g.O.ByteOut.count c.args.out.now) (g.O.ByteOut.count c.args.out.now) in
+    let wider = build_refused files c.args.given Broke _ c.request_of.result c.in_ok-request.request c.in_ok-path.path.now (λ broke. inl broke)
     c.in_ok-request.ensures.ok_part c.request_of.ensures.values out in
     let formed = build_asked c.args.given c.request_of.result c.in_ok-request.request c.in_ok-path.path.now
     c.in_ok-request.ensures.ok_part c.request_of.ensures.forms out in
@@ -54,11 +56,14 @@ returns-clause-first g c =
     c.in_ok-request.ensures.ok_part c.request_of.ensures.values out in
     let formed = build_asked c.args.given c.request_of.result c.in_ok-request.request c.in_ok-path.path.now
     c.in_ok-request.ensures.ok_part c.request_of.ensures.forms out in
-    or_usage _ _ _ formed (inr (
-      c.in_ok-report.report,
-      unsent (Filled c.args.given.job.strict (ServesBuild files c.args.given)) files.flushed c.in_ok-report.report
-          (asked_wider Job (Filled c.in_ok-request.request.strict (IsJobOf files c.in_ok-request.request (Some c.in_ok-path.path.now))) (Filled c.args.given.job.strict (ServesBuild files c.args.given)) (IsReportOf files.flushed c.in_ok-report.report) wider c.in_ok-report.ensures.built),
-    ))
+    or_usage _ _ _ formed (
+      inr (
+        c.in_ok-report.report,
+        unsent (Filled c.args.given.job.strict (ServesBuild files c.args.given)) files.flushed c.in_ok-report.report
+            (asked_wider Job (Filled c.in_ok-request.request.strict (IsJobOf files c.in_ok-request.request (Some c.in_ok-path.path.now))) (Filled c.args.given.job.strict (ServesBuild files c.args.given)) (IsReportOf files.flushed c.in_ok-report.report) wider c.in_ok-report.ensures.built),
+      ),
+      inr (rose _ _ c.in-Err.ensures.count),
+    )
 
 pub returns-in_err-request-clause-first : goal.returns-in_err-request-clause-first
 returns-in_err-request-clause-first g c =

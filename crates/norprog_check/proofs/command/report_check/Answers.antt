@@ -7,7 +7,7 @@ use Rattle.nor_base.proofs.FaultLaws.{handed_on}
 use Rattle.norprog_common.proofs.ToldLemmas.{or_usage}
 use Rattle.norprog_check.specs.Served.{asks_check, ServesCheck, ServesScript}
 use Rattle.norprog_common.specs.Served.{IsJobOf}
-use Rattle.norprog_check.proofs.AnswerLemmas.{verdict_wider}
+use Rattle.norprog_check.proofs.AnswerLemmas.{rose, verdict_wider}
 use Rattle.norprog_check.proofs.ServedLemmas.{check_filled, check_refused, check_asked, script_serves}
 use Rattle.norprog_common.proofs.ServedLemmas.{no_job}
 use Rattle.norprog_check.proofs.command.report_check.Goals as goal
@@ -29,7 +29,7 @@ returns-in_err-found-clause-first g c =
     c.in_ok-request.ensures.ok_part c.request_of.ensures.forms script in
     handed_on _ _ _ c.from_residual-in_err-found.ensures.1
     (or_usage _ _ _ formed (check_refused files c.args.given c.request_of.result c.in_ok-request.request c.in_ok-path.path.now
-    c.in_ok-request.ensures.ok_part c.request_of.ensures.values script (HasFailed g.S.Input.ByteIn.ahead g.S.Input.ByteIn.count) _ c.in_err-found.ensures.refused))
+    c.in_ok-request.ensures.ok_part c.request_of.ensures.values script (HasFailed g.S.Input.ByteIn.ahead g.S.Input.ByteIn.count) _ _ c.in_err-found.ensures.refused))
 
 pub returns-clause-unprinted : goal.returns-clause-unprinted
 returns-clause-unprinted g c =
@@ -53,10 +53,13 @@ returns-clause-first g c =
     let more = script_serves files c.args.given c.in_ok-path.path.now script in
     let formed = check_asked c.args.given c.request_of.result c.in_ok-request.request c.in_ok-path.path.now
     c.in_ok-request.ensures.ok_part c.request_of.ensures.forms script in
-    or_usage _ _ _ formed (inr (
-      c.in_ok-found.found,
-      verdict_wider (Filled c.in_ok-request.request.strict (IsJobOf files c.in_ok-request.request None)) (Filled c.args.given.job.strict (ServesCheck files c.args.given)) (IsTextIn files c.in_ok-path.path.now) (ServesScript files c.args.given) wider more c.in_ok-found.found c.in_ok-found.ensures.checked,
-    ))
+    or_usage _ _ _ formed (
+      inr (
+        c.in_ok-found.found,
+        verdict_wider (Filled c.in_ok-request.request.strict (IsJobOf files c.in_ok-request.request None)) (Filled c.args.given.job.strict (ServesCheck files c.args.given)) (IsTextIn files c.in_ok-path.path.now) (ServesScript files c.args.given) wider more c.in_ok-found.found c.in_ok-found.ensures.checked,
+      ),
+      rose _ _ c.in-Err.ensures.count,
+    )
 
 pub returns-in_err-request-clause-first : goal.returns-in_err-request-clause-first
 returns-in_err-request-clause-first g c =

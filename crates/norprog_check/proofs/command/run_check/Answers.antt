@@ -31,8 +31,8 @@ returns-clause-refused g c =
     let of = c.in_ok-script.ensures.script in
     let asked = job_of files c.args.request.now None c.inputs_of-inputs.result _ _ None (held_in c.in_ok-texts.texts)
     c.in_ok-texts.ensures.given c.inputs_of-inputs.ensures c.in_ok-texts.ensures.content tt in
-    asked_refused c.args.request.now.strict Lacked (IsJobOf files c.args.request.now None) (IsTextIn files c.args.path.now) Failed c.check_file.result
-    (refusals_wider _ Lacked _ (Filled c.args.request.now.strict (IsJobOf files c.args.request.now None)) _ (IsTextIn files c.args.path.now) Failed
+    asked_refused c.args.request.now.strict Lacked ⊥ (IsJobOf files c.args.request.now None) (IsTextIn files c.args.path.now) Failed c.check_file.result
+    (refusals_wider _ Lacked ⊥ _ (Filled c.args.request.now.strict (IsJobOf files c.args.request.now None)) _ (IsTextIn files c.args.path.now) Failed
     (λ name is. inr (is.0, fails_in files c.args.path.now ahead Failed c.in_ok-script.script of is.1))
     (of_one (Filled c.args.request.now.strict (IsJobOf files c.args.request.now None)) _ (asked, c.in_ok-refuse_empty.ensures.filled))
     (λ text is. read_in files c.args.path.now ahead c.in_ok-script.script text of is) c.check_file.result c.check_file.ensures.refused)
@@ -44,7 +44,7 @@ returns-in_err-refuse_empty-clause-refused g c =
     let asked = job_of files c.args.request.now None c.inputs_of-inputs.result _ _ None (held_in c.in_ok-texts.texts)
     c.in_ok-texts.ensures.given c.inputs_of-inputs.ensures c.in_ok-texts.ensures.content tt in
     handed_on _ _ _ c.from_residual-in_err-refuse_empty.ensures.1
-    (empty_refused c.args.request.now.strict (OrScript (Lacks files (paths_of c.args.request.now (script_path (Some c.args.path.now)))) (FailsReading files Failed c.args.path.now)) (IsJobOf files c.args.request.now None) (IsTextIn files c.args.path.now) Failed _ _ asked c.in_err-refuse_empty.ensures.refused)
+    (empty_refused c.args.request.now.strict (OrScript (Lacks files (paths_of c.args.request.now (script_path (Some c.args.path.now)))) (FailsReading files Failed c.args.path.now)) ⊥ (IsJobOf files c.args.request.now None) (IsTextIn files c.args.path.now) Failed _ _ asked c.in_err-refuse_empty.ensures.refused)
 
 pub returns-in_err-texts-clause-refused : goal.returns-in_err-texts-clause-refused
 returns-in_err-texts-clause-refused g c =
@@ -53,7 +53,7 @@ returns-in_err-texts-clause-refused g c =
     let own = script_path (Some c.args.path.now) in
     handed_on _ _ _ c.from_residual.ensures.1
     (lacked_refused c.args.request.now.strict (Lacks files (paths_of c.args.request.now no_path))
-    (OrScript (Lacks files (paths_of c.args.request.now own)) (FailsReading files Failed c.args.path.now))
+    (OrScript (Lacks files (paths_of c.args.request.now own)) (FailsReading files Failed c.args.path.now)) ⊥
     (IsJobOf files c.args.request.now None) (IsTextIn files c.args.path.now) Failed _
     (λ name lacks. inl (lacks_own files _ _ _ _ own name lacks)) c.in_err-texts.ensures.lacked)
 
@@ -63,6 +63,6 @@ returns-in_err-script-clause-refused g c =
     let Failed = HasFailed g.S.Input.ByteIn.ahead g.S.Input.ByteIn.count in
     let paths = paths_of c.args.request.now (script_path (Some c.args.path.now)) in
     handed_on _ _ _ c.from_residual-in_err-script.ensures.1
-    (lacked_refused c.args.request.now.strict (Lacks files paths) (OrScript (Lacks files paths) (FailsReading files Failed c.args.path.now))
+    (lacked_refused c.args.request.now.strict (Lacks files paths) (OrScript (Lacks files paths) (FailsReading files Failed c.args.path.now)) ⊥
     (IsJobOf files c.args.request.now None) (IsTextIn files c.args.path.now) Failed _ (λ name lacks. inl lacks)
     (lacks_at files paths file.Script c.args.path.now _ refl c.in_err-script.ensures.refused c.in_err-script.ensures.lacked))

@@ -14,5 +14,5 @@ returns-clause-answer g c =
     let changes = g.S.Journal.Journal.changes in
     answer_is files (option_to_list (option_map (λ t. t.now) given.script)) (option_map (λ t. t.now) given.out) (Adds (changes c.args.journal.now) (changes c.drawn_in.new.journal))
     (is_well_formed given) (IsDrawing (Serves files given) (Makes files given) files.flushed) _ _
-    (RefusesDraw (Lacks files (paths_asked given)) (Serves files given) (Makes files given)) _ _ c.drawn_in.result c.answered.result
+    (RefusesDraw (Lacks files (paths_asked given)) files.broke (Serves files given) (Makes files given)) _ _ c.drawn_in.result c.answered.result
     c.drawn_in.ensures.status c.drawn_in.ensures.journal c.drawn_in.ensures.drawn c.drawn_in.ensures.asked c.drawn_in.ensures.first c.drawn_in.ensures.unmade c.answered.ensures.done c.answered.ensures.told

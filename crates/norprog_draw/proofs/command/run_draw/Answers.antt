@@ -23,17 +23,17 @@ returns-clause-drawn g c =
     (c.in_ok-script.place ∷ [], (c.in_ok-script.ensures.stood, tt), c.in_ok-out.ensures.made) c.draw_steps-answer.result c.flush-flushed.result _
     (subst (λ (steps : List Step). Writes (g.S.Output.ByteOut.held c.in_ok-out.out) (g.S.Output.ByteOut.held c.draw_steps-answer.new.out) c.draw_steps-answer.result
     (waves (part c.args.request.from c.args.request.count steps))) c.as_slice-2.ensures.value c.draw_steps-answer.ensures.bytes)
-    c.flush-flushed.ensures c.done.ensures
+    c.flush-flushed.ensures.flushed c.done.ensures
 
 pub returns-clause-refused : goal.returns-clause-refused
 returns-clause-refused g c =
     let files = g.S.FileStore.facts c.args.store.now in
     let gave = subst (files.gave c.args.request.script.now) (sym c.as_slice.ensures.value) c.in_ok-script.ensures.gave in
     done_is_refused files c.args.request _ gave _ c.in_ok-steps.ensures.steps c.in_ok-steps.ensures.there _ _
-    (c.in_ok-script.place ∷ [], (c.in_ok-script.ensures.stood, tt), c.in_ok-out.ensures.made) c.draw_steps-answer.result c.flush-flushed.result _
+    (c.in_ok-script.place ∷ [], (c.in_ok-script.ensures.stood, tt), c.in_ok-out.ensures.made) _ _ c.draw_steps-answer.result c.flush-flushed.result _
     (subst (λ (steps : List Step). Writes (g.S.Output.ByteOut.held c.in_ok-out.out) (g.S.Output.ByteOut.held c.draw_steps-answer.new.out) c.draw_steps-answer.result
     (waves (part c.args.request.from c.args.request.count steps))) c.as_slice-2.ensures.value c.draw_steps-answer.ensures.bytes)
-    c.done.ensures
+    c.in_ok-out.ensures.count c.draw_steps-answer.ensures.count c.flush-flushed.ensures.whole c.flush-flushed.ensures.broke c.done.ensures
 
 pub returns-in_err-steps-clause-refused : goal.returns-in_err-steps-clause-refused
 returns-in_err-steps-clause-refused g c =
@@ -48,8 +48,8 @@ returns-in_err-script-clause-refused g c =
     let request = c.args.request in
     let Lacked = Lacks files (paths_of request) in
     let why = c.in_err-script.field-0.0 in
-    handed_on (RefusesDraw Lacked (IsTaskOf files request) (IsMadeFor files request)) _ _ c.from_residual.ensures.1
-    (file_refused Lacked (IsTaskOf files request) (IsMadeFor files request) why
+    handed_on (RefusesDraw Lacked files.broke (IsTaskOf files request) (IsMadeFor files request)) _ _ c.from_residual.ensures.1
+    (file_refused Lacked files.broke (IsTaskOf files request) (IsMadeFor files request) why
     (lacks_at files (paths_of request) Script request.script.now why refl c.in_err-script.ensures.refused c.in_err-script.ensures.lacked))
 
 pub returns-in_err-out-clause-refused : goal.returns-in_err-out-clause-refused
@@ -58,8 +58,8 @@ returns-in_err-out-clause-refused g c =
     let request = c.args.request in
     let Lacked = Lacks files (paths_of request) in
     let why = c.in_err-out.field-0.0 in
-    handed_on (RefusesDraw Lacked (IsTaskOf files request) (IsMadeFor files request)) _ _ c.from_residual-in_err-out.ensures.1
-    (file_refused Lacked (IsTaskOf files request) (IsMadeFor files request) why
+    handed_on (RefusesDraw Lacked files.broke (IsTaskOf files request) (IsMadeFor files request)) _ _ c.from_residual-in_err-out.ensures.1
+    (file_refused Lacked files.broke (IsTaskOf files request) (IsMadeFor files request) why
     (lacks_at files (paths_of request) Out request.out.now why refl c.in_err-out.ensures.refused c.in_err-out.ensures.lacked))
 
 -- what shows before the output is made leaves the journal as it was

@@ -1,8 +1,9 @@
 -- The chip wasn't read, what was read couldn't be saved, or its work couldn't be planned.
-use Rattle.nor_base.proofs.FaultLaws.{handed_on}
+use Rattle.nor_base.proofs.FaultLaws.{answered, handed_on}
 use Rattle.norprog_common.specs.FileStore.{Adds}
 use Rattle.norprog_flash.specs.declared.ending.Unflashed.TheVariants.{Refused}
-use Rattle.norprog_flash.specs.Stops.{StopsBegun}
+use Rattle.norprog_flash.specs.Stops.{CountsOut, StopsBegun}
+use Rattle.norprog_flash.proofs.CountLemmas.{unplanned_told, unread_told, unsaved_told}
 use Rattle.norprog_flash.proofs.StopsLemmas.{unplanned, unread, unsaved}
 use Rattle.norprog_flash.proofs.begun.begin.Goals as goal
 
@@ -32,3 +33,26 @@ returns-in_err-work-clause-stops g c =
     (g.O.ByteOut.held c.plan_for.new.out) c.in_ok-reading.reading c.in_ok-reading.ensures.read c.in_ok-reading.ensures.harmless
     c.as_slice.result.now c.as_slice.ensures.value c.in_ok-save.ensures.saved c.in_ok-save.ensures.journal c.in_err-work.field-0.0
     c.in_err-work.ensures.refused)
+
+pub returns-in_err-reading-clause-out_counts : goal.returns-in_err-reading-clause-out_counts
+returns-in_err-reading-clause-out_counts g c =
+    let files = g.S.FileStore.facts c.args.store.now in
+    let n = g.O.ByteOut.count c.args.out.now in
+    answered c.from_residual.result (λ r. CountsOut files n n r) c.in_err-reading.field-0.0
+    (unread_told files n _ _ _ _ c.args.job.now c.in_err-reading.field-0.0 c.in_err-reading.ensures.stops) c.from_residual.ensures.1
+
+pub returns-in_err-save-clause-out_counts : goal.returns-in_err-save-clause-out_counts
+returns-in_err-save-clause-out_counts g c =
+    let files = g.S.FileStore.facts c.args.store.now in
+    let n = g.O.ByteOut.count c.args.out.now in
+    answered c.from_residual-in_err-save.result (λ r. CountsOut files n n r) (Refused c.in_err-save.field-0.0)
+    (unsaved_told files n (files.lacked c.args.job.now.before.now) c.in_err-save.field-0.0 c.in_err-save.ensures.lacked)
+    c.from_residual-in_err-save.ensures.1
+
+pub returns-in_err-work-clause-out_counts : goal.returns-in_err-work-clause-out_counts
+returns-in_err-work-clause-out_counts g c =
+    let files = g.S.FileStore.facts c.args.store.now in
+    let m = g.O.ByteOut.count c.args.out.now in
+    let n = g.O.ByteOut.count c.plan_for.new.out in
+    answered c.from_residual-in_err-work.result (λ r. CountsOut files m n r) (Refused c.in_err-work.field-0.0)
+    (unplanned_told files m n c.in_err-work.field-0.0 c.in_err-work.ensures.out_count) c.from_residual-in_err-work.ensures.1

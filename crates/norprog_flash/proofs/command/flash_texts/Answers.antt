@@ -1,11 +1,15 @@
 -- The job of the texts, and its ending.
 use Rattle.std.proofs.Common.{◌≡◌, ℕ, true, List, rules, subst, refl}
-use Rattle.nor_base.proofs.FaultLaws.{handed_on}
+use Rattle.nor_base.proofs.FaultLaws.{answered, handed_on}
 use Rattle.norprog_common.specs.FileStore.{Adds}
 use Rattle.norprog_common.proofs.JournalLemmas.{adds_none}
 use Rattle.norprog_flash.specs.declared.ending.Unflashed.TheVariants.{Refused}
 use Rattle.norprog_flash.specs.Answer.{IsUnbegunFor}
 use Rattle.norprog_flash.specs.Request.{is_well_formed, AsksFor}
+use Rattle.norprog_common.specs.FileStore.{Lacks}
+use Rattle.norprog_flash.specs.Served.{paths_of}
+use Rattle.norprog_flash.specs.Stops.{CountsOut}
+use Rattle.norprog_flash.proofs.CountLemmas.{lacked_told}
 use Rattle.norprog_flash.proofs.ServedLemmas.{ending_by, lacked_by, unbegun_by, wanted}
 use Rattle.norprog_read.specs.Request.{IsAskOf}
 use Rattle.norprog_flash.proofs.command.flash_texts.Goals as goal
@@ -70,3 +74,11 @@ returns-clause-unbegun g c =
       dry = refl;
     })
     c.flash_device.ensures.unbegun
+
+pub returns-in_err-files-clause-counts : goal.returns-in_err-files-clause-counts
+returns-in_err-files-clause-counts g c =
+    let files = g.S.FileStore.facts c.args.store.now in
+    let n = g.O.ByteOut.count c.args.out.now in
+    answered c.from_residual-in_err-files.result (λ r. CountsOut files n n r) (Refused c.in_err-files.field-0.0)
+    (lacked_told files n (Lacks files (paths_of c.in_ok-request.request)) c.in_err-files.field-0.0 c.in_err-files.ensures.lacked)
+    c.from_residual-in_err-files.ensures.1

@@ -15,6 +15,6 @@ returns-clause-answer g c =
     let changes = g.S.Journal.Journal.changes in
     answer_is files (option_to_list (option_map (λ t. t.now) given.bin)) (option_map (λ t. t.now) given.out) (Adds (changes c.args.journal.now) (changes c.converted_in.new.journal))
     (is_well_formed given) (ForAsked HexTask (Serves files given) (IsWritten files.flushed)) _ _
-    (RefusesHex (Lacks files (paths_asked given)) (ServesBin files given) (Serves files given)) _ _ c.converted_in.result c.answered.result
+    (RefusesHex (Lacks files (paths_asked given)) files.broke (ServesBin files given) (Serves files given)) _ _ c.converted_in.result c.answered.result
     c.converted_in.ensures.status c.converted_in.ensures.journal c.converted_in.ensures.written c.converted_in.ensures.asked c.converted_in.ensures.first
     c.converted_in.ensures.unmade c.answered.ensures.done c.answered.ensures.told

@@ -16,7 +16,7 @@ returns-in_err-bin-clause-refused g c =
     let files = g.S.FileStore.facts c.args.store.now in
     let paths = paths_of c.args.request in
     let why = c.in_err-bin.field-0.0 in
-    unopened (Lacks files paths) _ _ _ why c.from_residual.ensures.1 c.in_err-bin.ensures.refused
+    unopened (Lacks files paths) files.broke _ _ _ why c.from_residual.ensures.1 c.in_err-bin.ensures.refused
     (lacks_at files paths Bin c.args.request.bin.now why refl c.in_err-bin.ensures.refused c.in_err-bin.ensures.lacked)
 
 pub returns-then-len-from-clause-refused : goal.returns-then-len-from-clause-refused
@@ -28,7 +28,7 @@ returns-in_err-out-clause-refused g c =
     let files = g.S.FileStore.facts c.args.store.now in
     let paths = paths_of c.args.request in
     let why = c.in_err-out.field-0.0 in
-    unmade (Lacks files paths) _ _ _ why c.from_residual-in_err-out.ensures.1
+    unmade (Lacks files paths) files.broke _ _ _ why c.from_residual-in_err-out.ensures.1
     (fits_so files c.args.request _ c.in_ok-bin.len c.in_ok-bin.ensures.opened (omega (arith, c.if-len-from.false, c.from.ensures))) c.in_err-out.ensures.refused
     (lacks_at files paths Out c.args.request.out.now why refl c.in_err-out.ensures.refused c.in_err-out.ensures.lacked)
 
@@ -36,13 +36,14 @@ pub returns-clause-written : goal.returns-clause-written
 returns-clause-written g c =
     let files = g.S.FileStore.facts c.args.store.now in
     done_is_written files c.args.request _ c.in_ok-bin.len c.in_ok-bin.ensures.opened _ _ (c.in_ok-bin.place ∷ [], (c.in_ok-bin.ensures.stood, tt), c.in_ok-out.ensures.made)
-    (omega (arith, c.if-len-from.false, c.from.ensures)) _ c.write_bin-answer.result c.flush-flushed.result _ c.write_bin-answer.ensures.converted c.flush-flushed.ensures c.done.ensures
+    (omega (arith, c.if-len-from.false, c.from.ensures)) _ c.write_bin-answer.result c.flush-flushed.result _ c.write_bin-answer.ensures.converted c.flush-flushed.ensures.flushed c.done.ensures
 
 pub returns-clause-refused : goal.returns-clause-refused
 returns-clause-refused g c =
     let files = g.S.FileStore.facts c.args.store.now in
     done_is_refused files c.args.request _ c.in_ok-bin.len c.in_ok-bin.ensures.opened _ _ (c.in_ok-bin.place ∷ [], (c.in_ok-bin.ensures.stood, tt), c.in_ok-out.ensures.made)
-    (omega (arith, c.if-len-from.false, c.from.ensures)) _ c.write_bin-answer.result c.flush-flushed.result _ c.write_bin-answer.ensures.converted c.write_bin-answer.ensures.stopped c.done.ensures
+    (omega (arith, c.if-len-from.false, c.from.ensures)) _ _ _ c.write_bin-answer.result c.flush-flushed.result _ c.write_bin-answer.ensures.converted c.write_bin-answer.ensures.stopped
+    c.in_ok-out.ensures.count c.write_bin-answer.ensures.count c.flush-flushed.ensures.whole c.flush-flushed.ensures.broke c.done.ensures
 
 -- what shows before the output is made leaves the journal as it was
 pub returns-in_err-bin-clause-unmade : goal.returns-in_err-bin-clause-unmade

@@ -1,8 +1,11 @@
 -- All parts, the end of the reader, and the end record; or what is missing of these.
-use Rattle.std.proofs.Common.{◌∙◌, inl, refl, sym, subst, arith}
+use Rattle.std.proofs.Common.{◌≡◌, ◌∙◌, ℕ, ◌+◌, inl, refl, sym, subst, arith}
 use Rattle.nor_base.proofs.FaultLaws.{handed_on}
+use Rattle.std.specs.Prelude.{⊤}
+use Rattle.norprog_common.specs.Content.{CountsWriter, of_writer}
+use Rattle.norprog_common.specs.declared.faults.Refusal.{Refusal}
 use Rattle.norprog_hex.specs.Converted.{StopsConverting, BreaksOff}
-use Rattle.norprog_hex.proofs.ConvertLemmas.{is_bin, ended, more_came, converted, end_cut, no_end, written_ok, written_err, put_of, cut_of, no_write, no_memory}
+use Rattle.norprog_hex.proofs.ConvertLemmas.{is_bin, ended, more_came, converted, end_cut, no_end, written_ok, written_err, put_of, cut_of, written_count, handed_count, no_write, no_memory}
 use Rattle.norprog_hex.proofs.convert.write_bin.Goals as goal
 
 pub returns-in_err-buffer-clause-stopped : goal.returns-in_err-buffer-clause-stopped
@@ -42,6 +45,27 @@ pub returns-clause-stopped : goal.returns-clause-stopped
 returns-clause-stopped g c =
     written_err c.write_end.result c.written.result _ c.written.ensures
     (λ failed. end_cut c.args.at c.args.len _ _ _ _ _ c.in_ok-write_parts.ensures.read (cut_of _ _ c.write_end.result _ c.write_end.ensures.bytes failed))
+
+-- only the output's own failure is counted, where it is told
+pub returns-in_err-buffer-clause-count : goal.returns-in_err-buffer-clause-count
+returns-in_err-buffer-clause-count g c =
+    let count = g.W.ByteOut.count c.args.out.now in
+    (handed_count ⊤ _ _ _ _ c.from_residual.ensures.1 (subst (λ (why : Refusal). count ≡ count + of_writer why) (sym c.in_err-buffer.ensures.memory) (omega arith))).1
+
+pub returns-in_err-write_parts-clause-count : goal.returns-in_err-write_parts-clause-count
+returns-in_err-write_parts-clause-count g c = (handed_count ⊤ _ _ _ _ c.from_residual-in_err-write_parts.ensures.1 c.in_err-write_parts.ensures.counts.1).1
+
+pub returns-in_err-complete-clause-count : goal.returns-in_err-complete-clause-count
+returns-in_err-complete-clause-count g c =
+    let named = is_bin 0 c.fill_from.result c.in_err-complete.field-0.0 (sym c.complete.ensures ∙ c.in_err-complete.was) in
+    let count = g.W.ByteOut.count c.write_parts.new.out in
+    (handed_count ⊤ _ _ _ _ c.from_residual-in_err-complete.ensures.1
+    (subst (λ (why : Refusal). count ≡ g.W.ByteOut.count c.args.out.now + of_writer why) (sym named) (omega (arith, c.in_ok-write_parts.ensures.counts.1)))).1
+
+pub returns-clause-count : goal.returns-clause-count
+returns-clause-count g c =
+    subst (λ (k : ℕ). CountsWriter k (g.W.ByteOut.count c.write_end.new.out) c.written.result) c.in_ok-write_parts.ensures.counts.1
+    (written_count c.write_end.result c.written.result _ _ c.written.ensures c.write_end.ensures.count)
 
 pub returns-clause-cause : goal.returns-clause-cause
 returns-clause-cause g c = written_err c.write_end.result c.written.result _ c.written.ensures (λ failed is. no_write is)

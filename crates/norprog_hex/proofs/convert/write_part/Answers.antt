@@ -1,8 +1,10 @@
 -- A part that was read whole, and written; or why not.
-use Rattle.std.proofs.Common.{◌≡◌, ◌∙◌, length, refl, sym, subst, arith}
+use Rattle.std.proofs.Common.{◌≡◌, ◌∙◌, ◌+◌, length, refl, sym, subst, arith}
 use Rattle.nor_base.proofs.FaultLaws.{handed_on}
+use Rattle.norprog_common.specs.Content.{of_writer}
+use Rattle.norprog_common.specs.declared.faults.Refusal.{Refusal}
 use Rattle.norprog_hex.specs.Converted.{StopsPart, FallsShort}
-use Rattle.norprog_hex.proofs.ConvertLemmas.{is_bin, falls_short, as_many, part_read, part_cut, written_ok, written_err, put_of, cut_of, count_of, came_count, no_write}
+use Rattle.norprog_hex.proofs.ConvertLemmas.{is_bin, falls_short, as_many, part_read, part_cut, written_ok, written_err, put_of, cut_of, count_of, written_count, handed_count, came_count, no_write}
 use Rattle.norprog_hex.proofs.convert.write_part.Goals as goal
 
 pub returns-in_err-complete-clause-stopped : goal.returns-in_err-complete-clause-stopped
@@ -26,10 +28,18 @@ returns-clause-read g c =
     written_ok c.write_data.result c.written.result _ _ c.written.ensures (put_of _ _ c.write_data.result _ c.write_data.ensures.bytes)
     (part_read c.args.at _ _ c.fill_from.new.buffer (length c.fill_from.new.buffer) (length c.args.part.now) _ _ refl size fills)
 
+pub returns-in_err-complete-clause-counts : goal.returns-in_err-complete-clause-counts
+returns-in_err-complete-clause-counts g c =
+    let named = is_bin _ c.fill_from.result c.in_err-complete.field-0.0 (sym c.complete.ensures ∙ c.in_err-complete.was) in
+    let count = g.W.ByteOut.count c.args.out.now in
+    handed_count _ _ _ _ _ c.from_residual.ensures.1 (subst (λ (why : Refusal). count ≡ count + of_writer why) (sym named) (omega arith))
+
 pub returns-clause-counts : goal.returns-clause-counts
 returns-clause-counts g c =
-    let counted = came_count c.fill_from.result _ _ _ (sym c.complete.ensures ∙ c.in_ok-complete.was) c.fill_from.ensures.count in
-    written_ok c.write_data.result c.written.result _ _ c.written.ensures (count_of _ _ c.write_data.result c.write_data.ensures.count) (λ same. (counted, same))
+    let counted = came_count c.fill_from.result _ _ _ (sym c.complete.ensures ∙ c.in_ok-complete.was) c.fill_from.ensures.count in (
+      written_ok c.write_data.result c.written.result _ _ c.written.ensures (count_of _ _ c.write_data.result c.write_data.ensures.count) (λ same. counted),
+      written_count c.write_data.result c.written.result _ _ c.written.ensures c.write_data.ensures.count,
+    )
 
 pub returns-clause-stopped : goal.returns-clause-stopped
 returns-clause-stopped g c =

@@ -1,8 +1,9 @@
 -- One part more, and one that isn't read or written.
-use Rattle.std.proofs.Common.{◌≡◌, ◌∙◌, ◌+◌, ◌-◌, ◌≤◌, length-append, length-drop, drop, inl, refl, subst, arith}
+use Rattle.std.proofs.Common.{◌≡◌, ◌∙◌, ℕ, ◌+◌, ◌-◌, ◌≤◌, ap, length-append, length-drop, drop, inl, refl, subst, arith}
 use Rattle.nor_base.proofs.FaultLaws.{handed_on}
+use Rattle.norprog_common.specs.Content.{of_writer}
 use Rattle.norprog_hex.specs.Converted.{WasRead, FallsShort}
-use Rattle.norprog_hex.proofs.ConvertLemmas.{none_read, more_read, part_stopped, still_short, next_seam, of_length}
+use Rattle.norprog_hex.proofs.ConvertLemmas.{none_read, more_read, part_stopped, still_short, next_seam, of_length, handed_count}
 use Rattle.norprog_hex.proofs.convert.write_parts.Goals as goal
 
 pub loop-done-init : goal.loop-done-init
@@ -34,6 +35,11 @@ returns-in_err-write_part-clause-cause g c =
     handed_on _ _ _ c.from_residual.ensures.1
     (λ is. still_short c.parts_join.ensures.join at done (last - done) (c.loop-done.invariant.seam c.loop-done-test.true) (g.R.ByteIn.ahead c.args.bin.now) (g.R.ByteIn.ahead c.loop-done.bin) (g.R.ByteIn.ahead c.write_part.new.bin) (g.W.ByteOut.held c.args.out.now) (g.W.ByteOut.held c.loop-done.out) (g.W.ByteOut.held c.write_part.new.out) c.loop-done.invariant.read c.args.len _ _ _
     c.loop-done.invariant.reader within (subst (λ n. FallsShort (g.R.ByteIn.count c.loop-done.bin) (g.R.ByteIn.count c.write_part.new.bin) n (g.R.ByteIn.ahead c.loop-done.bin) (g.R.ByteIn.ahead c.write_part.new.bin)) long (c.in_err-write_part.ensures.cause is)))
+
+pub returns-in_err-write_part-clause-counts : goal.returns-in_err-write_part-clause-counts
+returns-in_err-write_part-clause-counts g c =
+    let of_why = of_writer c.in_err-write_part.field-0.0 in
+    handed_count _ _ _ _ _ c.from_residual.ensures.1 (c.in_err-write_part.ensures.counts.1 ∙ ap (λ (k : ℕ). k + of_why) c.loop-done.invariant.writer)
 
 pub loop-done-preserved : goal.loop-done-preserved
 loop-done-preserved g c =

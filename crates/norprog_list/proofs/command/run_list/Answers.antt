@@ -1,5 +1,5 @@
 -- What was listed is the script of the request's file, by the chip of its tables.
-use Rattle.std.proofs.Common.{ℕ, refl, sym, subst}
+use Rattle.std.proofs.Common.{ℕ, ◌<◌, refl, sym, subst}
 use Rattle.nor_base.specs.Device.{Ahead}
 use Rattle.norprog_common.specs.Chip.{origin_of}
 use Rattle.norprog_common.specs.FileStore.{AreTables, Lacks, tables_name}
@@ -29,7 +29,7 @@ returns-clause-unprinted g c =
 
 pub returns-clause-refused : goal.returns-clause-refused
 returns-clause-refused g c =
-    refused_so (IsTaskOf (g.S.FileStore.facts c.args.store.now) c.args.request) _ (asked g c _ _ c.in_ok-script.ensures.opened) _ _ _ _ _ c.list_script.ensures.refused
+    refused_so (IsTaskOf (g.S.FileStore.facts c.args.store.now) c.args.request) _ (asked g c _ _ c.in_ok-script.ensures.opened) _ _ _ _ _ _ _ c.list_script.ensures.counts.1 c.list_script.ensures.refused
 
 -- a file that couldn't be used is the one that its option names
 pub returns-in_err-tables-clause-refused : goal.returns-in_err-tables-clause-refused
@@ -39,8 +39,9 @@ returns-in_err-tables-clause-refused g c =
     let Lacked = Lacks files (paths_of request) in
     let why = c.in_err-tables.field-0.0 in
     let out = g.O.ByteOut.held c.args.out.now in
-    handed_on (RefusesList Lacked (IsTaskOf files request) out out) _ _ c.from_residual.ensures.1
-    (file_refused Lacked (IsTaskOf files request) out out why
+    let Broke = g.O.ByteOut.count c.args.out.now < g.O.ByteOut.count c.args.out.now in
+    handed_on (RefusesList Lacked Broke (IsTaskOf files request) out out) _ _ c.from_residual.ensures.1
+    (file_refused Lacked Broke (IsTaskOf files request) out out why
     (lacks_named files (paths_of request) Sfdp (tables_name (origin_of request.setup.chip)) why refl c.in_err-tables.ensures.refused c.in_err-tables.ensures.lacked))
 
 pub returns-in_err-script-clause-refused : goal.returns-in_err-script-clause-refused
@@ -50,6 +51,7 @@ returns-in_err-script-clause-refused g c =
     let Lacked = Lacks files (paths_of request) in
     let why = c.in_err-script.field-0.0 in
     let out = g.O.ByteOut.held c.args.out.now in
-    handed_on (RefusesList Lacked (IsTaskOf files request) out out) _ _ c.from_residual-in_err-script.ensures.1
-    (file_refused Lacked (IsTaskOf files request) out out why
+    let Broke = g.O.ByteOut.count c.args.out.now < g.O.ByteOut.count c.args.out.now in
+    handed_on (RefusesList Lacked Broke (IsTaskOf files request) out out) _ _ c.from_residual-in_err-script.ensures.1
+    (file_refused Lacked Broke (IsTaskOf files request) out out why
     (lacks_at files (paths_of request) Script request.script.now why refl c.in_err-script.ensures.refused c.in_err-script.ensures.lacked))

@@ -32,8 +32,8 @@ returns-in-Ok-refuse_empty-clause-refused g c =
     let asked = job_of files c.args.request.now out c.inputs_of-inputs.result _ _ _ (held_in c.in-Ok.files.texts)
     c.in-Ok.ensures.given c.inputs_of-inputs.ensures c.in-Ok.ensures.content c.in-Ok.ensures.made in
     let Lacked = Lacks files (paths_of c.args.request.now (map_path out)) in
-    asked_stops c.args.request.now.strict Lacked (IsJobOf files c.args.request.now out) c.outline_job.result.rest
-    (stops_for (λ told. ⊥) Lacked c.outline_job.result.rest (Filled c.args.request.now.strict (IsJobOf files c.args.request.now out)) _ (λ told none. absurd none)
+    asked_stops c.args.request.now.strict Lacked files.broke (IsJobOf files c.args.request.now out) c.outline_job.result.rest
+    (stops_for (λ told. ⊥) Lacked files.broke c.outline_job.result.rest (Filled c.args.request.now.strict (IsJobOf files c.args.request.now out)) _ (λ told none. absurd none)
     (asked, c.in-Ok-refuse_empty.ensures.filled) c.outline_job.ensures.refused)
 
 pub returns-in-Ok-clause-refused : goal.returns-in-Ok-clause-refused
@@ -42,5 +42,5 @@ returns-in-Ok-clause-refused g c =
     let out = option_map (λ t. t.now) c.args.map in
     let asked = job_of files c.args.request.now out c.inputs_of-inputs.result _ _ _ (held_in c.in-Ok.files.texts)
     c.in-Ok.ensures.given c.inputs_of-inputs.ensures c.in-Ok.ensures.content c.in-Ok.ensures.made in
-    empty_stops c.args.request.now.strict (Lacks files (paths_of c.args.request.now (map_path out))) (IsJobOf files c.args.request.now out) _ c.in-Err-refuse_empty.refusal c.unplanned.result.rest asked
+    empty_stops c.args.request.now.strict (Lacks files (paths_of c.args.request.now (map_path out))) files.broke (IsJobOf files c.args.request.now out) _ c.in-Err-refuse_empty.refusal c.unplanned.result.rest asked
     c.in-Err-refuse_empty.ensures.refused c.unplanned.ensures.refused

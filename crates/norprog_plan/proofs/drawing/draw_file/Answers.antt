@@ -1,5 +1,18 @@
--- What the file took has gone out.
+-- What the file took has gone out, or the file failed.
+use Rattle.nor_base.proofs.FaultLaws.{handed_on}
+use Rattle.norprog_plan.specs.Answer.{LacksOutput}
+use Rattle.norprog_plan.proofs.DrawnLemmas.{lacks_flushed}
 use Rattle.norprog_plan.proofs.drawing.draw_file.Goals as goal
 
 pub returns-in-Ok-clause-drawn : goal.returns-in-Ok-clause-drawn
-returns-in-Ok-clause-drawn g c report len ahead of = (_, c.in_ok-draw.ensures.drawn report len ahead of, c.in-Ok.ensures)
+returns-in-Ok-clause-drawn g c report len ahead of =
+    let drawn = rw c.in_ok-drawn.was at c.draw-drawn.ensures.drawn report len ahead of in
+    let flushed = rw c.in-Ok.is at c.flush-flushed.ensures.flushed in
+    (_, drawn, flushed)
+
+pub returns-in_err-drawn-clause-refused : goal.returns-in_err-drawn-clause-refused
+returns-in_err-drawn-clause-refused g c =
+    let broke = (g.S.FileStore.facts c.args.store.now).broke in
+    let refused = lacks_flushed broke _ _ c.draw-drawn.result c.flush-flushed.result c.flush-flushed.ensures.whole c.flush-flushed.ensures.broke c.draw-drawn.ensures.refused in
+    let lacks = rw c.in_err-drawn.was at refused in
+    handed_on (LacksOutput broke) _ _ c.from_residual.ensures.1 lacks

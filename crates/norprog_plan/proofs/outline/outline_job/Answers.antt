@@ -18,6 +18,6 @@ returns-clause-part g c =
 
 pub returns-clause-refused : goal.returns-clause-refused
 returns-clause-refused g c =
-    job_stops (λ told. ⊥) c.outline_of-lines.result.rest c.with_regions-rest.result
+    job_stops (λ told. ⊥) (g.S.FileStore.facts c.args.store.now).broke c.outline_of-lines.result.rest c.with_regions-rest.result
     (job_with c.args.inputs.now (g.R.ByteIn.ahead c.args.content.now) c.args.len (option_map g.S.Output.ByteOut.held c.args.map))
     c.outline_of-lines.ensures.refused c.with_regions-rest.ensures.memory c.with_regions-rest.ensures.kept

@@ -21,9 +21,9 @@ returns-in-Ok-clause-part g c =
 pub returns-in-Ok-clause-refused : goal.returns-in-Ok-clause-refused
 returns-in-Ok-clause-refused g c =
     let none : c.new-lines.result.inner.items ≡ [] = search rules in
-    outline_stops (λ told. ⊥) c.rest_of-rest.result (job_with c.args.inputs.now (g.R.ByteIn.ahead c.args.content.now) c.args.len (option_map g.S.Output.ByteOut.held c.args.map))
+    outline_stops (λ told. ⊥) (g.S.FileStore.facts c.args.store.now).broke c.rest_of-rest.result (job_with c.args.inputs.now (g.R.ByteIn.ahead c.args.content.now) c.args.len (option_map g.S.Output.ByteOut.held c.args.map))
     c.args.map (g.R.ByteIn.ahead c.plan.new.content) _ _ c.in-Ok.report none (same_some _ c.args.map) c.in-Ok.ensures.planned c.rest_of-rest.ensures.refused
 
 pub returns-in-Err-clause-refused : goal.returns-in-Err-clause-refused
 returns-in-Err-clause-refused g c =
-    rw c.in_memory.ensures (stops_of_plan _ _ _ (job_with c.args.inputs.now (g.R.ByteIn.ahead c.args.content.now) c.args.len (option_map g.S.Output.ByteOut.held c.args.map)) _ _ _ c.in-Err.fault c.in-Err.ensures.refused)
+    rw c.in_memory.ensures (stops_of_plan _ _ _ _ (job_with c.args.inputs.now (g.R.ByteIn.ahead c.args.content.now) c.args.len (option_map g.S.Output.ByteOut.held c.args.map)) _ _ _ c.in-Err.fault c.in-Err.ensures.refused)

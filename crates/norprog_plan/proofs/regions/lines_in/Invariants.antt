@@ -1,5 +1,5 @@
 -- The lines so far are those of the regions so far.
-use Rattle.std.proofs.Common.{◌≡◌, ℕ, take}
+use Rattle.std.proofs.Common.{◌≡◌, take}
 use Rattle.nor_hex.specs.Image.{byte_at}
 use Rattle.norprog_plan.specs.Regions.{region_lines}
 use Rattle.norprog_plan.proofs.regions.lines_in.Given as goal

@@ -1,8 +1,9 @@
--- Where there is no ending why is written.
-use Rattle.std.proofs.Common.{inr, refl, subst}
-use Rattle.norprog_common.specs.FileStore.{Adds}
+-- An ending is reported; where there is none why is written.
+use Rattle.std.proofs.Common.{inl, inr, refl, subst}
+use Rattle.norprog_common.specs.FileStore.{Adds, Breaks}
 use Rattle.norprog_common.specs.Reading.{HasFailed}
 use Rattle.norprog_play.specs.Answer.{RefusesToPlay}
+use Rattle.norprog_play.proofs.ReportLemmas.{reports_wider}
 use Rattle.norprog_play.proofs.command.play.Goals as goal
 
 pub returns-in-Err-Refused-clause-answer : goal.returns-in-Err-Refused-clause-answer
@@ -11,3 +12,15 @@ returns-in-Err-Refused-clause-answer g c =
     let first = subst (RefusesToPlay (g.S.FileStore.facts c.args.store.now) (HasFailed g.S.Input.ByteIn.ahead g.S.Input.ByteIn.count)
     (Adds (changes c.args.journal.now) (changes c.ending_of.new.journal)) c.args.given) c.in-Err-Refused.field-0-is c.in-Err-Refused.ensures.first in
     inr (inr (refl, (c.in-Err-Refused.refusal, first, c.refuse.ensures.status, c.refuse.ensures.told)))
+
+pub returns-in-Ok-clause-answer : goal.returns-in-Ok-clause-answer
+returns-in-Ok-clause-answer g c =
+    let Broke = Breaks (g.S.FileStore.facts c.args.store.now) (g.O.ByteOut.count c.args.out.now) (g.O.ByteOut.count c.report_ending.new.out) in
+    inl (
+      c.in-Ok.ensures.asked,
+      record {
+        ending = c.in-Ok.ending;
+        is = c.in-Ok.ensures.played;
+        reported = reports_wider _ Broke (λ rose. inr rose) c.in-Ok.ending _ _ _ _ _ _ c.report_ending.result c.report_ending.ensures.reported;
+      },
+    )

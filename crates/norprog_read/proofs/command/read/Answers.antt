@@ -1,5 +1,9 @@
 -- The lines of what was read are reported.
-use Rattle.std.proofs.Common.{◌≡◌, inl, inr}
+use Rattle.std.proofs.Common.{◌≡◌, inl, inr, subst}
+use Rattle.norprog_common.specs.FileStore.{Adds, Breaks}
+use Rattle.norprog_read.specs.Answer.{IsUnread}
+use Rattle.norprog_read.specs.Line.{reading_text, unlike_line}
+use Rattle.norprog_read.proofs.ReportLemmas.{reports_wider}
 use Rattle.norprog_read.proofs.command.read.Goals as goal
 
 pub returns-in-Ok-clause-done : goal.returns-in-Ok-clause-done
@@ -9,4 +13,29 @@ returns-in-Ok-clause-done g c = λ zero. elim c.report_reading.ensures [
 ]
 
 pub returns-in-Ok-clause-answer : goal.returns-in-Ok-clause-answer
-returns-in-Ok-clause-answer g c = inl (c.in-Ok.ensures.asked, (c.in-Ok.reading, c.in-Ok.ensures.kept, c.report_reading.ensures))
+returns-in-Ok-clause-answer g c =
+    let Broke = Breaks (g.S.FileStore.facts c.args.store.now) (g.O.ByteOut.count c.args.out.now) (g.O.ByteOut.count c.report_reading.new.out) in
+    inl (
+      c.in-Ok.ensures.asked,
+      (
+        c.in-Ok.reading,
+        c.in-Ok.ensures.kept,
+        reports_wider _ Broke (λ rose. inr rose) (reading_text c.in-Ok.reading) 0 _ _ _ _ _ _ c.report_reading.result c.report_reading.ensures,
+      ),
+    )
+
+pub returns-in-Err-Unlike-clause-answer : goal.returns-in-Err-Unlike-clause-answer
+returns-in-Err-Unlike-clause-answer g c =
+    let files = g.S.FileStore.facts c.args.store.now in
+    let Broke = Breaks files (g.O.ByteOut.count c.args.out.now) (g.O.ByteOut.count c.report_unlike.new.out) in
+    let changes = g.S.Journal.Journal.changes in
+    let is = subst (IsUnread files c.args.given (Adds (changes c.args.journal.now) (changes c.read_texts.new.journal))) c.in-Err-Unlike.field-0-is
+    c.in-Err-Unlike.ensures.unread in
+    inr (inl (
+      is.0,
+      (
+        c.in-Err-Unlike.why,
+        is.1,
+        reports_wider _ Broke (λ rose. inr rose) (unlike_line c.in-Err-Unlike.why) 1 _ _ _ _ _ _ c.report_unlike.result c.report_unlike.ensures,
+      ),
+    ))

@@ -19,7 +19,7 @@ pub returns-in_err-save_if-clause-fails : goal.returns-in_err-save_if-clause-fai
 returns-in_err-save_if-clause-fails g c =
     let files = g.S.FileStore.facts c.args.store.now in
     let paths = saved_paths (option_map (λ t. t.now) c.args.request.tables) (option_map (λ t. t.now) c.args.request.out) in
-    handed_on (FailsToSave (Lacks files paths)) _ _ c.from_residual.ensures.1
+    handed_on (FailsToSave (Lacks files paths) files.broke) _ _ c.from_residual.ensures.1
     (saves_named files paths file.Tables _ _ refl c.in_err-save_if.ensures.refused c.in_err-save_if.ensures.lacked)
 
 pub returns-clause-fails : goal.returns-clause-fails

@@ -1,5 +1,5 @@
 -- Why the players don't play is of the chip and the bench.
-use Rattle.std.proofs.Common.{◌≡◌, inl, inr, refl, subst, sym}
+use Rattle.std.proofs.Common.{◌≡◌, ◌<◌, inl, inr, refl, subst, sym}
 use Rattle.norprog_common.specs.declared.faults.FileName.TheVariants as file
 use Rattle.norprog_common.specs.declared.files.ScriptFile.TheVariants.{Twice}
 use Rattle.norprog_common.specs.Reading.{FailsScript, HasFailed, IsTextRead}
@@ -16,15 +16,17 @@ returns-in-Twice-clause-refused g c =
     let ahead = g.F.ByteIn.ahead in
     let Failed = HasFailed ahead g.F.ByteIn.count in
     let here = Twice c.in-Twice.first c.in-Twice.again in
-    subst (λ s. IfErr c.play_streams.result (RefusesFor (λ told. (told ≡ file.Script) × FailsScript ahead Failed s)
+    let before = g.W.ByteOut.count c.args.out.now in
+    let after = g.W.ByteOut.count c.play_streams.new.out in
+    subst (λ s. IfErr c.play_streams.result (RefusesFor (λ told. (told ≡ file.Script) × FailsScript ahead Failed s) (before < after)
     (IsPlayFault (Is (play_with c.args.inputs.now c.args.bench (g.R.ByteIn.ahead c.args.content.now) c.args.len begun)) (IsTextRead ahead s)
     (HasFailed g.R.ByteIn.ahead g.R.ByteIn.count)) ⊥)) (sym c.in-Twice.is)
     (of_streams_stop g.R.ByteIn.ahead g.R.ByteIn.count _ _ c.args.inputs.now c.args.bench c.args.len _ _ begun (IsTextRead ahead here)
-    (λ told. (told ≡ file.Script) × FailsScript ahead Failed here) ahead g.F.ByteIn.count _ _ _ _ _ (λ same. same.0)
+    (λ told. (told ≡ file.Script) × FailsScript ahead Failed here) before after ahead g.F.ByteIn.count _ _ _ _ _ (λ same. same.0)
     (λ text is. elim is [ inl once ↦ (ahead c.play_streams.new.first, inl once) | inr twice ↦ (ahead c.play_streams.new.again, inr twice) ])
-    (λ failed. (refl, failed)) c.play_streams.result c.play_streams.ensures.refused c.play_streams.ensures.counts.1.1.0 c.play_streams.ensures.counts.1.0)
+    (λ failed. (refl, failed)) c.play_streams.result c.play_streams.ensures.refused c.play_streams.ensures.counts.1.1.0 c.play_streams.ensures.counts.1.1.1 c.play_streams.ensures.counts.1.0)
 
 pub returns-in-Held-clause-refused : goal.returns-in-Held-clause-refused
 returns-in-Held-clause-refused g c =
-    λ begun. of_stop g.R.ByteIn.ahead g.R.ByteIn.count _ _ c.args.inputs.now c.args.bench c.args.len _ _ begun (IsTextRead g.F.ByteIn.ahead c.args.script) _ _
-    c.play_script.result (rw c.in-Held.is c.as_slice.ensures.value) c.play_script.ensures.refused c.play_script.ensures.counts.1.0
+    λ begun. of_stop g.R.ByteIn.ahead g.R.ByteIn.count _ _ c.args.inputs.now c.args.bench c.args.len _ _ begun (IsTextRead g.F.ByteIn.ahead c.args.script) _
+    (g.W.ByteOut.count c.args.out.now) (g.W.ByteOut.count c.play_script.new.out) _ c.play_script.result (rw c.in-Held.is c.as_slice.ensures.value) c.play_script.ensures.refused c.play_script.ensures.counts.1.0 c.play_script.ensures.counts.1.1

@@ -1,5 +1,5 @@
 -- What was played is of the chip, the content and the script of the request's files.
-use Rattle.std.proofs.Common.{List, ℕ, Some, None, inl, inr, refl, sym, subst}
+use Rattle.std.proofs.Common.{List, ℕ, ◌<◌, Some, None, inl, inr, refl, sym, subst}
 use Rattle.norprog_common.specs.Chip.{origin_of}
 use Rattle.norprog_common.specs.FileStore.{AreTables, IsTextIn, IsTextOfFile, Lacks, tables_name}
 use Rattle.norprog_common.specs.Served.{out_path}
@@ -12,7 +12,7 @@ use Rattle.norprog_common.specs.Told.{OrScript}
 use Rattle.nor_base.proofs.FaultLaws.{handed_on}
 use Rattle.norprog_run.specs.Answer.{RefusesRun}
 use Rattle.norprog_run.specs.Served.{IsTaskOf, paths_of}
-use Rattle.norprog_run.proofs.ServedLemmas.{all_noted, asked_of, made_for, made_beside, named_made, none_made, all_played, all_refused, lacked_refused, out_lacks, verdicts_wider, refusals_wider}
+use Rattle.norprog_run.proofs.ServedLemmas.{never, all_noted, asked_of, made_for, made_beside, named_made, none_made, all_played, all_refused, lacked_refused, out_lacks, verdicts_wider, refusals_wider}
 use Rattle.norprog_run.proofs.command.play_request.Goals as goal
 
 pub returns-clause-played : goal.returns-clause-played
@@ -35,8 +35,8 @@ returns-clause-refused g c =
     let tables = subst (AreTables files (origin_of request.setup.chip)) (sym c.as_slice.ensures.value) c.in_ok-sfdp.ensures.tables in
     let asked = asked_of files request c.setup_inputs-inputs.result request.bench _ _ c.in_ok-content.len None c.setup_inputs-inputs.ensures refl tables
     c.in_ok-content.ensures.opened (rw c.in-None.is tt) in
-    all_refused _ (OrScript (Lacks files (paths_of request)) (FailsReading files Failed request.script.now)) (IsTaskOf files request) (IsTextRead ahead c.in_ok-script.script) (IsTextIn files request.script.now) Failed _ asked
-    (λ name is. inr (is.0, fails_in files request.script.now ahead Failed c.in_ok-script.script of is.1))
+    all_refused _ (OrScript (Lacks files (paths_of request)) (FailsReading files Failed request.script.now)) (0 < 0) files.broke (IsTaskOf files request) (IsTextRead ahead c.in_ok-script.script) (IsTextIn files request.script.now) Failed _ asked
+    (λ name is. inr (is.0, fails_in files request.script.now ahead Failed c.in_ok-script.script of is.1)) (λ more. absurd (never more))
     (λ text is. read_in files request.script.now ahead c.in_ok-script.script text of is) c.play_file.result (c.play_file.ensures.refused None)
 
 pub returns-in-Some-clause-played : goal.returns-in-Some-clause-played
@@ -62,7 +62,7 @@ returns-in-Some-clause-refused g c =
     let noted = all_noted files request _ _ _ _ _ _ c.in_ok-sfdp.ensures.noted c.in_ok-content.ensures.stood c.in_ok-push.ensures.items c.in_ok-script.ensures.stood c.in_ok-push-2.ensures.items in
     let tasks = made_for files request c.in-Some.path.now _ c.setup_inputs-inputs.result request.bench _ _ c.in_ok-content.len c.setup_inputs-inputs.ensures refl tables
     c.in_ok-content.ensures.opened (λ held made. made_beside files request c.in-Some.path _ _ _ held c.in-Some.is c.new-places.ensures.items noted c.as_slice-in-Some.ensures.value made) in
-    refusals_wider (OrScript (Lacks files (out_path (Some c.in-Some.path.now))) (FailsScript ahead Failed c.in_ok-script.script)) (OrScript (Lacks files (paths_of request)) (FailsReading files Failed request.script.now)) _ (IsTaskOf files request) (IsTextRead ahead c.in_ok-script.script)
+    refusals_wider (OrScript (Lacks files (out_path (Some c.in-Some.path.now))) (FailsScript ahead Failed c.in_ok-script.script)) (OrScript (Lacks files (paths_of request)) (FailsReading files Failed request.script.now)) files.broke _ (IsTaskOf files request) (IsTextRead ahead c.in_ok-script.script)
     (IsTextIn files request.script.now) Failed
     (λ name is. elim is [ inl lacked ↦ inl (out_lacks files request c.in-Some.path c.in-Some.is name lacked) | inr failed ↦ inr (failed.0, fails_in files request.script.now ahead Failed c.in_ok-script.script of failed.1) ])
     tasks (λ text is. read_in files request.script.now ahead c.in_ok-script.script text of is) c.play_to.result c.play_to.ensures.refused
@@ -81,22 +81,22 @@ pub returns-in_err-sfdp-clause-refused : goal.returns-in_err-sfdp-clause-refused
 returns-in_err-sfdp-clause-refused g c =
     let files = g.S.FileStore.facts c.args.store.now in
     let Failed = HasFailed g.S.Input.ByteIn.ahead g.S.Input.ByteIn.count in
-    handed_on (RefusesRun (OrScript (Lacks files (paths_of c.args.request)) (FailsReading files Failed c.args.request.script.now)) (IsTaskOf files c.args.request) (IsTextIn files c.args.request.script.now) Failed) _ _ c.from_residual.ensures.1
-    (lacked_refused (Lacks files (paths_of c.args.request)) (FailsReading files Failed c.args.request.script.now) (IsTaskOf files c.args.request) (IsTextIn files c.args.request.script.now) Failed c.in_err-sfdp.field-0.0
+    handed_on (RefusesRun (OrScript (Lacks files (paths_of c.args.request)) (FailsReading files Failed c.args.request.script.now)) files.broke (IsTaskOf files c.args.request) (IsTextIn files c.args.request.script.now) Failed) _ _ c.from_residual.ensures.1
+    (lacked_refused (Lacks files (paths_of c.args.request)) (FailsReading files Failed c.args.request.script.now) files.broke (IsTaskOf files c.args.request) (IsTextIn files c.args.request.script.now) Failed c.in_err-sfdp.field-0.0
     (lacks_named files (paths_of c.args.request) file.Sfdp (tables_name (origin_of c.args.request.setup.chip)) c.in_err-sfdp.field-0.0 refl c.in_err-sfdp.ensures.refused c.in_err-sfdp.ensures.lacked))
 
 pub returns-in_err-content-clause-refused : goal.returns-in_err-content-clause-refused
 returns-in_err-content-clause-refused g c =
     let files = g.S.FileStore.facts c.args.store.now in
     let Failed = HasFailed g.S.Input.ByteIn.ahead g.S.Input.ByteIn.count in
-    handed_on (RefusesRun (OrScript (Lacks files (paths_of c.args.request)) (FailsReading files Failed c.args.request.script.now)) (IsTaskOf files c.args.request) (IsTextIn files c.args.request.script.now) Failed) _ _ c.from_residual-in_err-content.ensures.1
-    (lacked_refused (Lacks files (paths_of c.args.request)) (FailsReading files Failed c.args.request.script.now) (IsTaskOf files c.args.request) (IsTextIn files c.args.request.script.now) Failed c.in_err-content.field-0.0
+    handed_on (RefusesRun (OrScript (Lacks files (paths_of c.args.request)) (FailsReading files Failed c.args.request.script.now)) files.broke (IsTaskOf files c.args.request) (IsTextIn files c.args.request.script.now) Failed) _ _ c.from_residual-in_err-content.ensures.1
+    (lacked_refused (Lacks files (paths_of c.args.request)) (FailsReading files Failed c.args.request.script.now) files.broke (IsTaskOf files c.args.request) (IsTextIn files c.args.request.script.now) Failed c.in_err-content.field-0.0
     (lacks_at files (paths_of c.args.request) file.Content c.args.request.content.now c.in_err-content.field-0.0 refl c.in_err-content.ensures.refused c.in_err-content.ensures.lacked))
 
 pub returns-in_err-script-clause-refused : goal.returns-in_err-script-clause-refused
 returns-in_err-script-clause-refused g c =
     let files = g.S.FileStore.facts c.args.store.now in
     let Failed = HasFailed g.S.Input.ByteIn.ahead g.S.Input.ByteIn.count in
-    handed_on (RefusesRun (OrScript (Lacks files (paths_of c.args.request)) (FailsReading files Failed c.args.request.script.now)) (IsTaskOf files c.args.request) (IsTextIn files c.args.request.script.now) Failed) _ _ c.from_residual-in_err-script.ensures.1
-    (lacked_refused (Lacks files (paths_of c.args.request)) (FailsReading files Failed c.args.request.script.now) (IsTaskOf files c.args.request) (IsTextIn files c.args.request.script.now) Failed c.in_err-script.field-0.0
+    handed_on (RefusesRun (OrScript (Lacks files (paths_of c.args.request)) (FailsReading files Failed c.args.request.script.now)) files.broke (IsTaskOf files c.args.request) (IsTextIn files c.args.request.script.now) Failed) _ _ c.from_residual-in_err-script.ensures.1
+    (lacked_refused (Lacks files (paths_of c.args.request)) (FailsReading files Failed c.args.request.script.now) files.broke (IsTaskOf files c.args.request) (IsTextIn files c.args.request.script.now) Failed c.in_err-script.field-0.0
     (lacks_at files (paths_of c.args.request) file.Script c.args.request.script.now c.in_err-script.field-0.0 refl c.in_err-script.ensures.refused c.in_err-script.ensures.lacked))

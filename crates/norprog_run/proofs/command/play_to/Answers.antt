@@ -1,5 +1,5 @@
 -- What was played went out into the output, which was made first.
-use Rattle.std.proofs.Common.{inr, refl, Some}
+use Rattle.std.proofs.Common.{◌<◌, inr, refl, Some}
 use Rattle.nor_base.proofs.FaultLaws.{handed_on}
 use Rattle.norprog_common.specs.FileStore.{IsTextOfFile, Lacks}
 use Rattle.norprog_common.specs.Reading.{FailsScript, HasFailed, IsTextRead}
@@ -10,7 +10,7 @@ use Rattle.norprog_common.specs.declared.faults.FileName.TheVariants.{Out}
 use Rattle.norprog_common.proofs.LackedLemmas.{lacks_at}
 use Rattle.norprog_run.specs.Answer.{RefusesRun}
 use Rattle.norprog_run.specs.Served.{IsMadeFor, play_with}
-use Rattle.norprog_run.proofs.ServedLemmas.{lacked_refused, one_played, one_refused}
+use Rattle.norprog_run.proofs.ServedLemmas.{all_refused, file_broke, lacked_refused, one_played}
 use Rattle.norprog_run.proofs.command.play_to.Goals as goal
 
 pub returns-in_err-verdict-clause-refused : goal.returns-in_err-verdict-clause-refused
@@ -23,8 +23,13 @@ returns-in_err-verdict-clause-refused g c =
     let t = play_with c.args.inputs.now c.args.bench (ahead c.args.content.now) c.args.len (Some (g.S.Output.ByteOut.held c.in_ok-file.file)) in
     let asked : Asked t = record { held = _; made = c.in_ok-file.ensures.made; is = refl } in
     let Told = OrScript (Lacks files (out_path (Some c.args.path.now))) (FailsScript ahead Failed c.args.script) in
-    handed_on (RefusesRun Told Asked Spoken Failed) _ _ c.from_residual-in_err-verdict.ensures.1
-    (one_refused _ Told Asked Spoken Spoken Failed t asked (λ name is. inr is) (λ text of. of) _ (c.in_err-verdict.ensures.refused _))
+    let before = g.S.Output.ByteOut.count c.in_ok-file.file in
+    let after = g.S.Output.ByteOut.count c.play_file-played.new.out in
+    let refused = all_refused _ Told (before < after) files.broke Asked Spoken Spoken Failed t asked (λ name is. inr is)
+    (file_broke files.broke before after c.flush-flushed.result c.flush-flushed.ensures.whole c.flush-flushed.ensures.broke)
+    (λ text of. of) c.play_file-played.result (c.play_file-played.ensures.refused _) in
+    handed_on (RefusesRun Told files.broke Asked Spoken Failed) _ _ c.from_residual-in_err-verdict.ensures.1
+    (rw c.in_err-verdict.was at refused)
 
 pub returns-in-Ok-clause-played : goal.returns-in-Ok-clause-played
 returns-in-Ok-clause-played g c =
@@ -33,7 +38,9 @@ returns-in-Ok-clause-played g c =
     let Spoken = IsTextOfFile g.S.Input.ByteIn.ahead c.args.script in
     let t = play_with c.args.inputs.now c.args.bench (g.S.Input.ByteIn.ahead c.args.content.now) c.args.len (Some (g.S.Output.ByteOut.held c.in_ok-file.file)) in
     let asked : Asked t = record { held = _; made = c.in_ok-file.ensures.made; is = refl } in
-    one_played Asked Spoken Spoken _ _ _ _ _ asked (λ text of. of) _ _ files.flushed c.in_ok-verdict.verdict (refl, c.in-Ok.ensures) c.in_ok-verdict.ensures.played
+    let played = rw c.in_ok-verdict.was at c.play_file-played.ensures.played in
+    let flushed = rw c.in-Ok.is at c.flush-flushed.ensures.flushed in
+    one_played Asked Spoken Spoken _ _ _ _ _ asked (λ text of. of) _ _ files.flushed c.in_ok-verdict.verdict (refl, flushed) played
 
 pub returns-in-Err-clause-refused : goal.returns-in-Err-clause-refused
 returns-in-Err-clause-refused g c =
@@ -42,7 +49,9 @@ returns-in-Err-clause-refused g c =
     let Spoken = IsTextOfFile g.S.Input.ByteIn.ahead c.args.script in
     let t = play_with c.args.inputs.now c.args.bench (g.S.Input.ByteIn.ahead c.args.content.now) c.args.len (Some (g.S.Output.ByteOut.held c.in_ok-file.file)) in
     let asked : Asked t = record { held = _; made = c.in_ok-file.ensures.made; is = refl } in
-    inr (c.in_ok-verdict.verdict, one_played Asked Spoken (IsTextRead g.S.Input.ByteIn.ahead c.args.script) _ _ _ _ _ asked (λ text of. file_read g.S.Input.ByteIn.ahead c.args.script text of) _ _ (λ held. Unit {0}) c.in_ok-verdict.verdict (refl, tt) c.in_ok-verdict.ensures.played)
+    let played = rw c.in_ok-verdict.was at c.play_file-played.ensures.played in
+    let broke = rw c.in-Err.is at c.flush-flushed.ensures.broke in
+    (inr (c.in_ok-verdict.verdict, one_played Asked Spoken (IsTextRead g.S.Input.ByteIn.ahead c.args.script) _ _ _ _ _ asked (λ text of. file_read g.S.Input.ByteIn.ahead c.args.script text of) _ _ (λ held. Unit {0}) c.in_ok-verdict.verdict (refl, tt) played), broke)
 
 -- an output that couldn't be made is the one that its option names
 pub returns-in_err-file-clause-refused : goal.returns-in_err-file-clause-refused
@@ -54,6 +63,6 @@ returns-in_err-file-clause-refused g c =
     let Spoken = IsTextRead ahead c.args.script in
     let paths = out_path (Some c.args.path.now) in
     let Lost = FailsScript ahead Failed c.args.script in
-    handed_on (RefusesRun (OrScript (Lacks files paths) Lost) Asked Spoken Failed) _ _ c.from_residual.ensures.1
-    (lacked_refused (Lacks files paths) Lost Asked Spoken Failed c.in_err-file.field-0.0
+    handed_on (RefusesRun (OrScript (Lacks files paths) Lost) files.broke Asked Spoken Failed) _ _ c.from_residual.ensures.1
+    (lacked_refused (Lacks files paths) Lost files.broke Asked Spoken Failed c.in_err-file.field-0.0
     (lacks_at files paths Out c.args.path.now c.in_err-file.field-0.0 refl c.in_err-file.ensures.refused c.in_err-file.ensures.lacked))

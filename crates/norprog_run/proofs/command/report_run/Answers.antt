@@ -1,8 +1,23 @@
 -- Where only the line's writer failed, the play was one that was asked for.
+use Rattle.std.proofs.Common.{inl, inr}
+use Rattle.nor_base.proofs.FaultLaws.{handed_on}
+use Rattle.norprog_common.specs.FileStore.{Breaks}
 use Rattle.norprog_common.specs.Reading.{HasFailed}
-use Rattle.norprog_run.proofs.ServedLemmas.{late_refused}
+use Rattle.norprog_run.specs.Answer.{RefusesToRun}
+use Rattle.norprog_run.proofs.ServedLemmas.{late_refused, rose, told_wider}
 use Rattle.norprog_run.proofs.command.report_run.Goals as goal
 
 pub returns-in-Err-clause-first : goal.returns-in-Err-clause-first
 returns-in-Err-clause-first g c =
-    late_refused (g.S.FileStore.facts c.args.store.now) (HasFailed g.S.Input.ByteIn.ahead g.S.Input.ByteIn.count) c.args.given c.in_ok-verdict.verdict c.in_ok-verdict.ensures.asked c.in_ok-verdict.ensures.played
+    let files = g.S.FileStore.facts c.args.store.now in
+    let Broke = Breaks files (g.O.ByteOut.count c.args.out.now) (g.O.ByteOut.count c.write_verdict.new.writer) in
+    late_refused files (HasFailed g.S.Input.ByteIn.ahead g.S.Input.ByteIn.count) c.args.given Broke c.in_ok-verdict.verdict (inr (rose _ _ c.in-Err.ensures.count)) c.in_ok-verdict.ensures.asked c.in_ok-verdict.ensures.played
+
+-- nothing was printed, so it was an output that was made that failed
+pub returns-in_err-verdict-clause-first : goal.returns-in_err-verdict-clause-first
+returns-in_err-verdict-clause-first g c =
+    let files = g.S.FileStore.facts c.args.store.now in
+    let Failed = HasFailed g.S.Input.ByteIn.ahead g.S.Input.ByteIn.count in
+    let Broke = Breaks files (g.O.ByteOut.count c.args.out.now) (g.O.ByteOut.count c.args.out.now) in
+    handed_on (RefusesToRun files Failed c.args.given Broke) _ _ c.from_residual.ensures.1
+    (told_wider files Failed c.args.given files.broke Broke (λ broke. inl broke) c.in_err-verdict.field-0.0 c.in_err-verdict.ensures.first)

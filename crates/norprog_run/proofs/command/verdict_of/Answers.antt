@@ -16,4 +16,5 @@ returns-clause-first g c =
 
 pub returns-clause-journal : goal.returns-clause-journal
 returns-clause-journal g c =
-    made_asked (g.S.FileStore.facts c.args.store.now) c.args.given c.in_ok-request.request c.in_ok-request.ensures.values _ c.play_request.result c.play_request.ensures.journal
+    let formed : is_well_formed c.args.given ≡ true = search rules in
+    made_asked (g.S.FileStore.facts c.args.store.now) c.args.given c.in_ok-request.request c.in_ok-request.ensures.values _ c.play_request.result formed c.play_request.ensures.journal

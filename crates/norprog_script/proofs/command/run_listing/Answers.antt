@@ -20,7 +20,7 @@ returns-clause-written g c =
     (of_listing files c.args.request c.args.setup _ c.setup_inputs-inputs.result c.requires tables c.setup_inputs-inputs.ensures)
     (apart_listing files c.args.request c.args.setup _ _ _ _ _ _ c.requires c.new-places.ensures.items c.in_ok-tables.ensures.noted c.in_ok-listing.ensures.stood
     c.in_ok-push.ensures.items c.as_slice.ensures.value c.in_ok-out.ensures.made) c.script_listing-answer.result
-    c.flush-flushed.result _ c.script_listing-answer.ensures.written c.flush-flushed.ensures c.done.ensures
+    c.flush-flushed.result _ c.script_listing-answer.ensures.written c.flush-flushed.ensures.flushed c.done.ensures
 
 pub returns-clause-refused : goal.returns-clause-refused
 returns-clause-refused g c =
@@ -30,8 +30,9 @@ returns-clause-refused g c =
     done_is_refused files c.args.request _ (listed c.setup_inputs-inputs.result) _ _ gave
     (of_listing files c.args.request c.args.setup _ c.setup_inputs-inputs.result c.requires tables c.setup_inputs-inputs.ensures)
     (apart_listing files c.args.request c.args.setup _ _ _ _ _ _ c.requires c.new-places.ensures.items c.in_ok-tables.ensures.noted c.in_ok-listing.ensures.stood
-    c.in_ok-push.ensures.items c.as_slice.ensures.value c.in_ok-out.ensures.made) c.script_listing-answer.result
-    c.flush-flushed.result _ c.script_listing-answer.ensures.written c.script_listing-answer.ensures.refused c.done.ensures
+    c.in_ok-push.ensures.items c.as_slice.ensures.value c.in_ok-out.ensures.made) _ _ c.script_listing-answer.result
+    c.flush-flushed.result _ c.script_listing-answer.ensures.written c.script_listing-answer.ensures.refused
+    c.in_ok-out.ensures.count c.script_listing-answer.ensures.count c.flush-flushed.ensures.whole c.flush-flushed.ensures.broke c.done.ensures
 
 -- a file that couldn't be used is the one that its option names
 pub returns-in_err-tables-clause-refused : goal.returns-in_err-tables-clause-refused
@@ -40,8 +41,8 @@ returns-in_err-tables-clause-refused g c =
     let request = c.args.request in
     let Lacked = Lacks files (paths_of request) in
     let why = c.in_err-tables.field-0.0 in
-    handed_on (RefusesScript Lacked (IsTaskOf files request)) _ _ c.from_residual.ensures.1
-    (file_refused Lacked (IsTaskOf files request) why
+    handed_on (RefusesScript Lacked files.broke (IsTaskOf files request)) _ _ c.from_residual.ensures.1
+    (file_refused Lacked files.broke (IsTaskOf files request) why
     (lacks_named files (paths_of request) Sfdp (tables_name (origin_of c.args.setup.chip)) why (ap chip_name c.requires) c.in_err-tables.ensures.refused c.in_err-tables.ensures.lacked))
 
 pub returns-in_err-listing-clause-refused : goal.returns-in_err-listing-clause-refused
@@ -50,8 +51,8 @@ returns-in_err-listing-clause-refused g c =
     let request = c.args.request in
     let Lacked = Lacks files (paths_of request) in
     let why = c.in_err-listing.field-0.0 in
-    handed_on (RefusesScript Lacked (IsTaskOf files request)) _ _ c.from_residual-in_err-listing.ensures.1
-    (file_refused Lacked (IsTaskOf files request) why
+    handed_on (RefusesScript Lacked files.broke (IsTaskOf files request)) _ _ c.from_residual-in_err-listing.ensures.1
+    (file_refused Lacked files.broke (IsTaskOf files request) why
     (lacks_at files (paths_of request) Log request.log.now why refl c.in_err-listing.ensures.refused c.in_err-listing.ensures.lacked))
 
 pub returns-in_err-out-clause-refused : goal.returns-in_err-out-clause-refused
@@ -60,6 +61,6 @@ returns-in_err-out-clause-refused g c =
     let request = c.args.request in
     let Lacked = Lacks files (paths_of request) in
     let why = c.in_err-out.field-0.0 in
-    handed_on (RefusesScript Lacked (IsTaskOf files request)) _ _ c.from_residual-in_err-out.ensures.1
-    (file_refused Lacked (IsTaskOf files request) why
+    handed_on (RefusesScript Lacked files.broke (IsTaskOf files request)) _ _ c.from_residual-in_err-out.ensures.1
+    (file_refused Lacked files.broke (IsTaskOf files request) why
     (lacks_at files (paths_of request) Out request.out.now why refl c.in_err-out.ensures.refused c.in_err-out.ensures.lacked))

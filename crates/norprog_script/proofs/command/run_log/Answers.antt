@@ -16,15 +16,16 @@ returns-clause-written g c =
     let gave = subst (files.gave c.args.request.log.now) (sym c.as_slice.ensures.value) c.in_ok-log.ensures.gave in
     done_is_written files c.args.request _ (foreign c.args.request.without_identity) _ _ gave (of_foreign files c.args.request c.requires)
     (apart_foreign files c.args.request _ c.requires (c.in_ok-log.place ∷ [], (c.in_ok-log.ensures.stood, tt), c.in_ok-out.ensures.made)) c.script_log-answer.result
-    c.flush-flushed.result _ c.script_log-answer.ensures.written c.flush-flushed.ensures c.done.ensures
+    c.flush-flushed.result _ c.script_log-answer.ensures.written c.flush-flushed.ensures.flushed c.done.ensures
 
 pub returns-clause-refused : goal.returns-clause-refused
 returns-clause-refused g c =
     let files = g.S.FileStore.facts c.args.store.now in
     let gave = subst (files.gave c.args.request.log.now) (sym c.as_slice.ensures.value) c.in_ok-log.ensures.gave in
     done_is_refused files c.args.request _ (foreign c.args.request.without_identity) _ _ gave (of_foreign files c.args.request c.requires)
-    (apart_foreign files c.args.request _ c.requires (c.in_ok-log.place ∷ [], (c.in_ok-log.ensures.stood, tt), c.in_ok-out.ensures.made)) c.script_log-answer.result
-    c.flush-flushed.result _ c.script_log-answer.ensures.written c.script_log-answer.ensures.refused c.done.ensures
+    (apart_foreign files c.args.request _ c.requires (c.in_ok-log.place ∷ [], (c.in_ok-log.ensures.stood, tt), c.in_ok-out.ensures.made)) _ _ c.script_log-answer.result
+    c.flush-flushed.result _ c.script_log-answer.ensures.written c.script_log-answer.ensures.refused
+    c.in_ok-out.ensures.count c.script_log-answer.ensures.count c.flush-flushed.ensures.whole c.flush-flushed.ensures.broke c.done.ensures
 
 -- a file that couldn't be used is the one that its option names
 pub returns-in_err-log-clause-refused : goal.returns-in_err-log-clause-refused
@@ -33,8 +34,8 @@ returns-in_err-log-clause-refused g c =
     let request = c.args.request in
     let Lacked = Lacks files (paths_of request) in
     let why = c.in_err-log.field-0.0 in
-    handed_on (RefusesScript Lacked (IsTaskOf files request)) _ _ c.from_residual.ensures.1
-    (file_refused Lacked (IsTaskOf files request) why
+    handed_on (RefusesScript Lacked files.broke (IsTaskOf files request)) _ _ c.from_residual.ensures.1
+    (file_refused Lacked files.broke (IsTaskOf files request) why
     (lacks_at files (paths_of request) Log request.log.now why refl c.in_err-log.ensures.refused c.in_err-log.ensures.lacked))
 
 pub returns-in_err-out-clause-refused : goal.returns-in_err-out-clause-refused
@@ -43,6 +44,6 @@ returns-in_err-out-clause-refused g c =
     let request = c.args.request in
     let Lacked = Lacks files (paths_of request) in
     let why = c.in_err-out.field-0.0 in
-    handed_on (RefusesScript Lacked (IsTaskOf files request)) _ _ c.from_residual-in_err-out.ensures.1
-    (file_refused Lacked (IsTaskOf files request) why
+    handed_on (RefusesScript Lacked files.broke (IsTaskOf files request)) _ _ c.from_residual-in_err-out.ensures.1
+    (file_refused Lacked files.broke (IsTaskOf files request) why
     (lacks_at files (paths_of request) Out request.out.now why refl c.in_err-out.ensures.refused c.in_err-out.ensures.lacked))

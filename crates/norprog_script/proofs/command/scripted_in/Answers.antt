@@ -1,5 +1,5 @@
 -- What was written, or the refusal, is of what the texts ask for.
-use Rattle.std.proofs.Common.{rules, ◌≡◌, true, inr}
+use Rattle.std.proofs.Common.{rules, ◌≡◌, true, inr, arith}
 use Rattle.nor_base.proofs.FaultLaws.{handed_on}
 use Rattle.norprog_common.proofs.ToldLemmas.{or_usage}
 use Rattle.norprog_script.specs.Request.{is_well_formed, AsksFor}
@@ -23,7 +23,7 @@ returns-in_err-tally-clause-first g c =
     let asks : AsksFor c.args.given c.in_ok-request.request = search rules in
     let formed : is_well_formed c.args.given ≡ true = search rules in
     handed_on _ _ _ c.from_residual-in_err-tally.ensures.1
-    (or_usage _ _ _ formed (refusal_asked files c.args.given c.in_ok-request.request _ asks c.in_err-tally.ensures.refused))
+    (or_usage _ _ _ formed (refusal_asked files c.args.given c.in_ok-request.request _ _ _ asks c.in_err-tally.ensures.refused))
 
 pub returns-in-Err-clause-unprinted : goal.returns-in-Err-clause-unprinted
 returns-in-Err-clause-unprinted g c =
@@ -40,8 +40,6 @@ returns-in-Err-clause-first g c =
     let files = g.S.FileStore.facts c.args.store.now in
     let asks : AsksFor c.args.given c.in_ok-request.request = search rules in
     let formed : is_well_formed c.args.given ≡ true = search rules in
-    or_usage _ _ _ formed (inr (
-      c.in_ok-tally.tally,
-      unsent (Serves files c.args.given) files.flushed c.in_ok-tally.tally
-          (scripted_asked files c.args.given c.in_ok-request.request files.flushed c.in_ok-tally.tally asks c.in_ok-tally.ensures.written),
-    ))
+    let late = unsent (Serves files c.args.given) files.flushed c.in_ok-tally.tally
+    (scripted_asked files c.args.given c.in_ok-request.request files.flushed c.in_ok-tally.tally asks c.in_ok-tally.ensures.written) in
+    or_usage _ _ _ formed (inr (c.in_ok-tally.tally, late), inr (omega (arith, c.in-Err.ensures.count)))

@@ -1,5 +1,5 @@
 -- The meaning is of the chip that the texts name.
-use Rattle.std.proofs.Common.{refl, inr, option_map}
+use Rattle.std.proofs.Common.{refl, inr, option_map, arith}
 use Rattle.nor_job.specs.Task.{Task}
 use Rattle.norprog_common.specs.Chip.{origin_of}
 use Rattle.norprog_common.specs.FileStore.{Lacks, tables_name}
@@ -30,7 +30,7 @@ returns-in_err-meaning-clause-first g c =
     let formed = chip_is_asked c.args.given origin c.in_ok-part.part named family in
     handed_on _ _ _ c.from_residual-in_err-meaning.ensures.1
     (or_usage _ _ _ formed
-    (chip_wider (Lacks files (tables_path (tables_name origin))) (Lacks files (tables_path (option_map (λ t. t.now) c.args.given.sfdp)))
+    (chip_wider (Lacks files (tables_path (tables_name origin))) (Lacks files (tables_path (option_map (λ t. t.now) c.args.given.sfdp))) _
     (IsChipTask files origin c.in_ok-part.part) (ServesChip files c.args.given) (tables_asked files c.args.given origin named) wider _
     c.in_err-meaning.ensures.refused))
 
@@ -49,7 +49,10 @@ returns-in-Err-clause-first g c =
     let family = family_of c.args.given c.unwrap_or.result _ c.part.result c.in_ok-part.part c.unwrap_or.ensures refl c.part.ensures c.in_ok-part.ensures.ok_part in
     let wider = chip_serves files c.args.given (origin_of c.in_ok-chip.chip) c.in_ok-part.part named family in
     let formed = chip_is_asked c.args.given (origin_of c.in_ok-chip.chip) c.in_ok-part.part named family in
-    or_usage _ _ _ formed (inr (c.in_ok-meaning.meaning, asked_wider Task (IsChipTask files (origin_of c.in_ok-chip.chip) c.in_ok-part.part) (ServesChip files c.args.given) (MeansThis c.in_ok-meaning.meaning) wider c.in_ok-meaning.ensures.means))
+    or_usage _ _ _ formed (
+      inr (c.in_ok-meaning.meaning, asked_wider Task (IsChipTask files (origin_of c.in_ok-chip.chip) c.in_ok-part.part) (ServesChip files c.args.given) (MeansThis c.in_ok-meaning.meaning) wider c.in_ok-meaning.ensures.means),
+      omega (arith, c.in-Err.ensures.count),
+    )
 
 pub returns-in-Ok-clause-asked : goal.returns-in-Ok-clause-asked
 returns-in-Ok-clause-asked g c =

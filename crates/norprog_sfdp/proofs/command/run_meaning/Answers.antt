@@ -30,6 +30,6 @@ returns-in_err-tables-clause-refused g c =
     let files = g.S.FileStore.facts c.args.store.now in
     let origin = origin_of c.args.chip in
     let Lacked = Lacks files (tables_path (tables_name origin)) in
-    handed_on (RefusesMeaning Lacked (IsChipTask files origin c.args.part)) _ _ c.from_residual.ensures.1
+    handed_on (RefusesMeaning Lacked ⊥ (IsChipTask files origin c.args.part)) _ _ c.from_residual.ensures.1
     (file_refused Lacked (IsChipTask files origin c.args.part) c.in_err-tables.field-0.0
     (lacks_named files (tables_path (tables_name origin)) Sfdp (tables_name origin) c.in_err-tables.field-0.0 refl c.in_err-tables.ensures.refused c.in_err-tables.ensures.lacked))

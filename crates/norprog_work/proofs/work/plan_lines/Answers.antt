@@ -1,6 +1,7 @@
 -- A plan of a content in memory that stopped.
-use Rattle.std.proofs.Common.{◌∙◌, inl, inr, ap, length}
-use Rattle.norprog_work.proofs.RefusedLemmas.{not_late, reported_lines}
+use Rattle.std.proofs.Common.{◌+◌, ◌∙◌, inl, inr, ap, sym, length}
+use Rattle.nor_job.specs.Written.{of_writer}
+use Rattle.norprog_work.proofs.RefusedLemmas.{late_counts, not_late, reported_lines}
 use Rattle.norprog_work.proofs.work.plan_lines.Goals as goal
 
 pub returns-in-Err-clause-stops : goal.returns-in-Err-clause-stops
@@ -11,3 +12,7 @@ returns-in-Err-clause-stops g c =
           inl (reported_lines c.args.inputs.now c.args.content.now _ _ _ _ c.in-Err.why c.late.result (ap (λ r. r.now) c.new-reader.ensures.inner)
           c.late.ensures stops)
     ]
+
+pub returns-in-Err-clause-count : goal.returns-in-Err-clause-count
+returns-in-Err-clause-count g c =
+    c.in-Err.ensures.counts.1 ∙ ap (λ n. g.W.ByteOut.count c.args.out.now + n) (sym (ap of_writer c.late.ensures ∙ late_counts c.in-Err.why))

@@ -1,11 +1,13 @@
 -- The work of the narrowed task.
 use Rattle.std.proofs.Common.{◌≡◌, ◌⊎◌, ◌∙◌, inl, inr, ℕ, List, ap, length, sym, subst, arith, refl}
-use Rattle.nor_base.proofs.FaultLaws.{handed_on}
+use Rattle.nor_base.proofs.FaultLaws.{answered, handed_on}
 use Rattle.nor_job.specs.declared.fault.BuildFault.TheVariants.{Memory}
 use Rattle.nor_job.specs.Task.{Task}
+use Rattle.nor_job.specs.Written.{of_writer, CountsWriter}
 use Rattle.norprog_work.specs.Narrowed.{narrowed, SpansDifference}
 use Rattle.norprog_work.specs.Refused.{RefusesWork, StopsLines}
 use Rattle.norprog_work.specs.Work.{BuildsSteps, PlansLines}
+use Rattle.norprog_work.proofs.RefusedLemmas.{not_written}
 use Rattle.norprog_work.proofs.WorkLemmas.{all_lines, lines_refused, report_cut, work_is}
 use Rattle.norprog_work.proofs.work.work_for.Goals as goal
 
@@ -80,3 +82,31 @@ returns-in-Err-clause-refused g c =
     _ (g.W.ByteOut.held c.plan_lines.new.out) _ _ refl
     (subst (λ (x : Task). PlansLines x content (g.W.ByteOut.held c.args.out.now) (g.W.ByteOut.held c.plan_lines.new.out)) task c.in_ok-plan_lines.ensures.lines)
     c.in-Err.ensures.bytes))
+
+-- ---- what the writer counts
+pub returns-in_err-goal-clause-count : goal.returns-in_err-goal-clause-count
+returns-in_err-goal-clause-count g c =
+    let n = g.W.ByteOut.count c.args.out.now in
+    let none = not_written c.args.inputs.now (length c.args.old.now) c.in_err-goal.field-0.0 c.in_err-goal.ensures.refused in
+    answered c.from_residual.result (λ r. CountsWriter n n r) c.in_err-goal.field-0.0 (omega (arith, none)) c.from_residual.ensures.1
+
+pub returns-in_err-hex-clause-count : goal.returns-in_err-hex-clause-count
+returns-in_err-hex-clause-count g c =
+    let n = g.W.ByteOut.count c.args.out.now in
+    let none = ap of_writer c.in_err-hex.ensures.memory in
+    answered c.from_residual-in_err-hex.result (λ r. CountsWriter n n r) c.in_err-hex.field-0.0 (omega (arith, none))
+    c.from_residual-in_err-hex.ensures.1
+
+pub returns-in_err-plan_lines-clause-count : goal.returns-in_err-plan_lines-clause-count
+returns-in_err-plan_lines-clause-count g c =
+    answered c.from_residual-in_err-plan_lines.result (λ r. CountsWriter (g.W.ByteOut.count c.args.out.now) (g.W.ByteOut.count c.plan_lines.new.out) r)
+    c.in_err-plan_lines.field-0.0 c.in_err-plan_lines.ensures.count c.from_residual-in_err-plan_lines.ensures.1
+
+pub returns-in_err-report-clause-count : goal.returns-in_err-report-clause-count
+returns-in_err-report-clause-count g c =
+    let m = g.W.ByteOut.count c.args.out.now in
+    let n = g.W.ByteOut.count c.plan_lines.new.out in
+    let same : n ≡ m = c.in_ok-plan_lines.ensures.count in
+    let none = ap of_writer c.in_err-report.ensures.memory in
+    answered c.from_residual-in_err-report.result (λ r. CountsWriter m n r) c.in_err-report.field-0.0 (omega (arith, same, none))
+    c.from_residual-in_err-report.ensures.1

@@ -1,0 +1,127 @@
+-- The plan of a job, window after window (this project's).
+use Rattle.std.specs.Prelude.{◌≡◌, ℕ, ◌%◌, ◌<◌, ◌≤◌, List, ◌++◌, length, Option, Some, None}
+use Rattle.std.specs.Io.KnownBytes.{Appends}
+use Rattle.nor_base.specs.Accepted.{IsAccepted}
+use Rattle.nor_base.specs.Device.{Ahead, Gives}
+use Rattle.nor_base.specs.Parameters.{Parameters}
+use Rattle.nor_base.specs.Planned.{ArePlanned, planned_units, IsWorkable}
+use Rattle.nor_base.specs.Strategies.{strategy}
+use Rattle.nor_base.specs.declared.step.Step.{Step}
+use Rattle.nor_geometry.specs.Window.{IsWindowSize}
+use Rattle.nor_hex.specs.Image.{Pairs}
+use Rattle.nor_job.specs.Causes.{AreAccepted}
+use Rattle.nor_job.specs.Filled.{target_from}
+use Rattle.nor_job.specs.Job.{IsJob}
+use Rattle.nor_job.specs.Status.{start_of}
+use Rattle.nor_job.specs.Task.{Task}
+use Rattle.nor_job.specs.Wanted.{wanted}
+use Rattle.nor_job.specs.Written.{AreBytes}
+use Rattle.nor_job.specs.declared.fault.BuildFault.{BuildFault}
+use Rattle.nor_job.specs.declared.job.Job.{Job}
+use Rattle.nor_layout.specs.Region.{Region}
+use Rattle.nor_outline.specs.Outline.{plan_of, IsStretchPlan}
+use Rattle.nor_outline.specs.Told.{unit_outline}
+use Rattle.nor_plan_read.specs.Lines.{lines_text}
+use Rattle.nor_plan_read.specs.declared.line.PlanLine.{PlanLine}
+use Rattle.nor_steps.specs.Tally.{IsFew}
+use Rattle.nor_steps.specs.Texts.{IsTold}
+use Rattle.nor_steps.specs.Writing.{Writing}
+use Rattle.nor_steps.specs.declared.tally.Tally.{Tally}
+use Rattle.norprog.specs.Build.{report_of}
+use Rattle.norprog.specs.Plan.{IsPlanOf}
+use Rattle.norprog.specs.Windows.{first_writing, IsCutPlan, StopsWindow}
+use Rattle.norprog.specs.declared.report.Report.{Report}
+
+-- how far the plan of a job is: its work, the bytes of a window, and of the room for what a window must hold; the address up to
+-- which the content was planned, and how much the steps are
+pub record Planning : Type 0 where
+  pub job : Job
+  pub work : Writing
+  pub window : ℕ
+  pub room : ℕ
+  pub at : ℕ
+  pub told : Tally
+
+-- it is at a window's start, or at the end of the chip
+pub record IsReady (p : Planning) : Type 0 where
+  pub accepted : IsAccepted p.job.meaning
+  pub window : IsWindowSize p.job.meaning p.window
+  pub room : p.room ≡ p.window
+  pub meaning : p.work.streaming.meaning ≡ p.job.meaning
+  pub driven : p.work.streaming.by ≡ strategy p.job.meaning p.job.start
+  pub within : p.at ≤ p.job.meaning.size
+  pub few : IsFew p.at p.told
+  pub aligned : p.at < p.job.meaning.size → p.at % p.window ≡ 0
+
+-- so many bytes of the content from an address on were read, and these are the lines of the units that start there, whatever the
+-- rest of the chip holds
+pub record IsPlannedPart (job : Job) (w v : Writing) (at count : ℕ) (before after : Ahead) (told : Tally) (lines : List PlanLine) : Type 0 where
+  pub part : List ℕ
+  pub size : length part ≡ count
+  pub given : Gives before part after
+  pub bytes : AreBytes (target_from job at part)
+  pub steps : IsTold w v at part (target_from job at part) told
+  pub plan : IsStretchPlan job.meaning (strategy job.meaning job.start) at part (target_from job at part) lines
+
+-- why a window has no lines, whatever a writer held then
+abbrev pub StopsPlanning : Job → Writing → ℕ → ℕ → Ahead → Ahead → BuildFault → Type 0
+StopsPlanning job w at count before after why = (x : Option (List ℕ)) → StopsWindow unit_outline job w at count before after x x why
+
+-- all of the content before its address was, and these are the lines of all its windows
+abbrev pub HasTold : Planning → Ahead → Ahead → List PlanLine → Type 0
+HasTold p first now lines = IsPlannedPart p.job (first_writing p.job) p.work 0 p.at first now p.told lines
+
+-- why a plan is cut short before its first window
+abbrev pub StopsBefore : Job → BuildFault → Type 0
+StopsBefore job why = (ahead : Ahead) (x : Option (List ℕ)) → IsCutPlan job ahead ahead x x why
+
+-- lines of the next window follow those before; at the chip's end there are none, and nothing changes
+abbrev pub GoesOn : Planning → Planning → Ahead → Ahead → Option (List PlanLine) → Type 0
+GoesOn p q before after (Some lines) =
+    IsReady q × (q.job ≡ p.job) × (p.at < q.at)
+    × ((first : Ahead) (told : List PlanLine) → HasTold p first before told → HasTold q first after (told ++ lines))
+GoesOn p q before after None = (q ≡ p) × (after ≡ before) × (p.at ≡ p.job.meaning.size)
+
+-- why there are no more: so a plan is cut short whose writer took the lines so far
+abbrev pub CutsPlan : Planning → Ahead → Ahead → BuildFault → Type 0
+CutsPlan p before after why =
+    (first : Ahead) (told : List PlanLine) (x y : Option (List ℕ)) → HasTold p first before told → Appends x y (lines_text told) → IsCutPlan p.job first after x y why
+
+-- the inputs are accepted, the reader gave the whole content, work can be done on it, and these are the lines of the units of the
+-- planned work; the report is of these units and of the steps of that work
+pub record IsPlanned (t : Task) (len : ℕ) (before after : Ahead) (lines : List PlanLine) (report : Report) : Type 0 where
+  pub image : Pairs
+  pub regions : List Region
+  pub m : Parameters
+  pub accepted : AreAccepted t len image regions m
+  pub content : List ℕ
+  pub whole : length content ≡ len
+  pub given : Gives before content after
+  pub workable : IsWorkable m (start_of t) content (wanted t image regions content)
+  pub are : lines ≡ plan_of m (start_of t) content (wanted t image regions content)
+  pub steps : List Step
+  pub planned : ArePlanned m (start_of t) t.verify content (wanted t image regions content) steps
+  pub told : report ≡ report_of t image regions m (planned_units m (start_of t) content (wanted t image regions content)) steps
+
+-- the whole plan, of whatever inputs the job is of
+abbrev pub EndsPlan : Planning → Report → Type 0
+EndsPlan p report =
+    (t : Task) (len : ℕ) (first now : Ahead) (lines : List PlanLine) → IsJob t len p.job → HasTold p first now lines → IsPlanned t len first now lines report
+
+-- all lines that a planner had left were put behind those before
+pub record PutsPlan (p q : Planning) (before after : Ahead) (held_before held_after : Option (List ℕ)) : Type 0 where
+  pub ready : IsReady q
+  pub job : q.job ≡ p.job
+  pub whole : q.at ≡ q.job.meaning.size
+  pub put : (first : Ahead) (told : List PlanLine) (x : Option (List ℕ)) → HasTold p first before told → Appends x held_before (lines_text told)
+      → (lines : List PlanLine) × HasTold q first after lines × Appends x held_after (lines_text lines)
+
+-- or some of them were
+abbrev pub CutsPut : Planning → Ahead → Ahead → Option (List ℕ) → Option (List ℕ) → BuildFault → Type 0
+CutsPut p before after held_before held_after why =
+    (first : Ahead) (told : List PlanLine) (x : Option (List ℕ)) → HasTold p first before told → Appends x held_before (lines_text told)
+    → IsCutPlan p.job first after x held_after why
+
+-- the lines of a plan were put, of whatever inputs the job is of
+abbrev pub PlansJob : Job → Ahead → Ahead → Option (List ℕ) → Option (List ℕ) → Report → Type 0
+PlansJob job before after held_before held_after report = (t : Task) (len : ℕ) → IsJob t len job → IsPlanOf t len before after held_before held_after report
