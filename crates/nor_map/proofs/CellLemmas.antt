@@ -1,18 +1,15 @@
 -- Cells that hold some of the bytes of a run.
-use Rattle.std.proofs.Common.{◌≡◌, ℕ, zero, suc, ◌+◌, ◌*◌, ◌/◌, ◌<◌, ◌≤◌, nat_le, nat_lt, min, Bool, true, false, ◌&&◌, ◌||◌, List, [], ◌∷◌, ◌++◌, length, take, get_or, replicate, ext_get_or, Some, None, refl, sym, ◌∙◌, ap, subst, arith, inl, inr, le-leb, lt-ltb, le-ltb, le-div_iff_mul-le, div-lt_iff_lt-mul}
+use Rattle.std.proofs.Common.{◌≡◌, ℕ, zero, suc, ◌+◌, ◌*◌, ◌/◌, ◌<◌, ◌≤◌, nat_le, nat_lt, min, Bool, true, false, ◌&&◌, ◌||◌, List, [], ◌∷◌, length, take, get_or, Some, None, refl, sym, ◌∙◌, ap, subst, arith, inl, inr, le-leb, lt-ltb, le-ltb, le-div_iff_mul-le, div-lt_iff_lt-mul}
 use Rattle.std.specs.List.{list_any, range_with_len}
 use Rattle.std.proofs.Math.Bool.{and-false, or-false, or_assoc}
 use Rattle.std.proofs.Math.Nat.{suc-mul}
-use Rattle.std.proofs.Math.Seq.{take-append_seam}
 use Rattle.std.proofs.lemmas.Bool.{cases_lt, lt-leb}
 use Rattle.std.specs.Option.{option_map_or}
-use Rattle.std.proofs.lemmas.List.{length-replicate, get_or-replicate}
 use Rattle.std.proofs.lemmas.List.Folds.{list_any_more}
-use Rattle.std.proofs.lemmas.List.FromFn.{length-map-range_with_len, get_or-map-range_with_len}
 use Rattle.nor_base.proofs.StretchLaws.{any_at, none_over}
 use Rattle.nor_plan_read.specs.declared.line.PlanLine.{PlanLine}
 use Rattle.nor_map.specs.declared.cells.Work.{Work}
-use Rattle.nor_map.specs.Cells.{lies_in, run_of, works, is_worked, some_byte, some_bytes, doubled}
+use Rattle.nor_map.specs.Cells.{lies_in, run_of, works, is_worked, some_byte, doubled}
 use Rattle.nor_map.specs.Marks.{touches, MarkedBy}
 
 -- one test or another, over a list
@@ -121,16 +118,3 @@ pub line_none : (cell : ℕ) (work : Work) (line : PlanLine) (old : List Bool) �
 line_none cell work line old is =
     subst (λ r. MarkedBy cell (λ a. option_map_or (λ run. lies_in run a) r false) old old) is
     (record { same_length = refl; each = λ c inside. no_byte cell (λ a. false) (get_or old c false) c (λ a. refl) })
-
--- what is marked of cells of which nothing was
-pub all_marked : (cell count n : ℕ) (test : ℕ → Bool) (old new rest : List Bool) → old ≡ replicate count false → n ≡ length new → MarkedBy cell test old new
-    → take n (new ++ rest) ≡ some_bytes cell count test
-all_marked cell count n test old new rest none long marked =
-    let lengths : length new ≡ count = marked.same_length ∙ ap length none ∙ length-replicate count false in
-    ap (λ k. take k (new ++ rest)) long ∙ take-append_seam new rest
-    ∙ ext_get_or false new (some_bytes cell count test) (lengths ∙ sym (length-map-range_with_len (some_byte cell test) 0 count)) (λ c inside.
-    let within : c < count = omega (arith, inside, lengths) in
-    marked.each c (omega (arith, inside, marked.same_length))
-    ∙ ap (λ l. get_or l c false || some_byte cell test c) none
-    ∙ ap (λ b. b || some_byte cell test c) (get_or-replicate count c false false within)
-    ∙ sym (get_or-map-range_with_len (some_byte cell test) 0 count c c false within (omega arith)))

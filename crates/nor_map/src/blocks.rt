@@ -11,7 +11,7 @@ use nor_base::{ByteOut, Failed, put_all};
 use nor_plan_read::{PlanLine, write_line};
 
 /// As many lines as a plan may have whose erased blocks are outlined.
-const MOST_LINES: usize = 10000;
+pub(crate) const MOST_LINES: usize = 10000;
 
 /// Whether a plan has so few lines that its erased blocks are outlined.
 pub(crate) fn are_few(lines: &[PlanLine]) -> bool

@@ -44,25 +44,8 @@ fn bytes_from(start: u32, count: u32) -> Option<(u64, u64)>
     Some((u64::from(start), u64::from(start) + u64::from(count - 1)))
 }
 
-/// Of each of `count` cells of `cell` bytes whether the plan does this to some byte of it.
-pub(crate) fn worked_cells(
-    alloc: Global,
-    count: u32,
-    cell: u64,
-    work: Work,
-    lines: &[PlanLine],
-) -> Result<Vec<bool>, AllocError>
-    requires { 0 < cell }
-    ensures { IfOk result (λ marks. marks.items
-        ≡ some_bytes cell count (is_worked work lines.now)) }
-{
-    let mut marks = unmarked(alloc, count)?;
-    mark_lines(&mut marks, cell, work, lines);
-    Ok(marks)
-}
-
 /// So many cells of which nothing is so.
-fn unmarked(alloc: Global, count: u32) -> Result<Vec<bool>, AllocError>
+pub(crate) fn unmarked(alloc: Global, count: u32) -> Result<Vec<bool>, AllocError>
     ensures { IfOk result (λ marks. marks.items ≡ replicate count false) }
 {
     let mut marks = Vec::new(alloc);
@@ -73,7 +56,7 @@ fn unmarked(alloc: Global, count: u32) -> Result<Vec<bool>, AllocError>
 }
 
 /// Marks the cells of `cell` bytes that hold some of the bytes that the plan works on so.
-fn mark_lines(marks: &mut [bool], cell: u64, work: Work, lines: &[PlanLine])
+pub(crate) fn mark_lines(marks: &mut [bool], cell: u64, work: Work, lines: &[PlanLine])
     requires { 0 < cell }
     ensures { MarkedBy cell (is_worked work lines.now) marks.old marks.new }
 {

@@ -1,16 +1,17 @@
 //! The cells of a chip in rows.
 
-ghost use Rattle.std.specs.Prelude.{◌≡◌, ◌<◌, ◌≤◌, ◌/◌, IfOk};
+ghost use Rattle.std.specs.Prelude.{◌≡◌, ℕ, List, ◌<◌, ◌≤◌, ◌/◌, IfOk};
 ghost use Rattle.nor_layout.specs.Chosen.{has};
+ghost use Rattle.nor_plan_read.specs.declared.line.PlanLine.{PlanLine};
 ghost use Rattle.nor_map.specs.Grid.{across, down, state_at, top};
+ghost use Rattle.nor_map.specs.Marks.{marks_of};
 ghost use Rattle.nor_map.specs.Rows.{grid_of, in_rows};
 
-use crate::cells::{Work, chosen_cells, worked_cells};
+use crate::cells::chosen_cells;
+use crate::marks::PlanMarks;
 use crate::rows::{columns_of, down_for, high_of, tops_of};
-use crate::sizes::cell_size;
 use crate::state::State;
 use nor_layout::Chosen;
-use nor_plan_read::PlanLine;
 use std::alloc::{AllocError, Global};
 use std::marker::Model;
 
@@ -51,33 +52,26 @@ impl Model for Grid {
 }
 
 impl Grid {
-    /// The grid of a chip of `size` bytes under a plan of these lines, which may overlap, stand in
-    /// any order and lie past the chip. A cell is a page, doubled until 65,536 cells hold the chip;
-    /// rows in which nothing is done fold into one line.
+    /// The grid of a chip under a plan, by what the plan's lines do to its cells. Rows in which
+    /// nothing is done fold into one line.
     ///
     /// An error comes where memory was refused.
-    pub fn of(
-        alloc: Global,
-        size: u32,
-        page: u32,
-        lines: &[PlanLine],
-        chosen: &Chosen,
-    ) -> Result<Grid, AllocError>
-        ensures { IfOk result (λ grid. grid ≡ grid_of size page lines.now (has chosen.now)) }
+    pub fn of(alloc: Global, marks: &PlanMarks, chosen: &Chosen) -> Result<Grid, AllocError>
+        ensures { (size page : ℕ) (lines : List PlanLine) → marks.now ≡ marks_of size page lines
+            → IfOk result (λ grid. grid ≡ grid_of size page lines (has chosen.now)) }
     {
-        let cell = cell_size(size, page);
-        let count = size.div_ceil(cell);
-        let bytes = u64::from(cell);
+        let cell = marks.cell;
+        let count = marks.size.div_ceil(cell);
         let cells = Grid {
-            size,
+            size: marks.size,
             cell,
             count,
             columns: 16,
             tops: Vec::new(alloc),
             high: 0,
             chosen: chosen_cells(alloc, count, cell, chosen)?,
-            erased: worked_cells(alloc, count, bytes, Work::Erased, lines)?,
-            programmed: worked_cells(alloc, count, bytes, Work::Programmed, lines)?,
+            erased: Vec::from_slice(alloc, marks.erased.as_slice())?,
+            programmed: Vec::from_slice(alloc, marks.programmed.as_slice())?,
         };
         cells.in_rows(alloc)
     }

@@ -1,7 +1,8 @@
 //! Sizes and numbers as people say them.
 
-ghost use Rattle.std.specs.Prelude.{◌≡◌, ◌<◌, ◌-◌, ◌^◌, count_by, decimal};
+ghost use Rattle.std.specs.Prelude.{◌≡◌, List, ◌<◌, ◌-◌, ◌^◌, count_by, decimal};
 ghost use Rattle.nor_base.specs.Device.{Writes, Counts};
+ghost use Rattle.nor_plan_read.specs.declared.line.PlanLine.{PlanLine};
 ghost use Rattle.nor_map.specs.Said.{erases, in_unit, many_said, more_said, number_said, outcome};
 ghost use Rattle.nor_map.specs.Said.{programs, size_said, tenths, three};
 
@@ -67,30 +68,32 @@ fn put_tenths<W: ByteOut>(bytes: u64, unit: u64, out: &mut W) -> Result<(), Fail
     )
 }
 
-/// Puts what a plan does, in a sentence.
-pub(crate) fn put_outcome<W: ByteOut>(lines: &[PlanLine], out: &mut W) -> Result<(), Failed>
+/// Puts what a plan does, in a sentence: how many lines erase, and how many program.
+pub(crate) fn put_outcome<W: ByteOut>(blocks: u64, pages: u64, out: &mut W) -> Result<(), Failed>
     requires { W.count out.old < 2 ^ 64 - 1 }
-    ensures bytes { Writes (W.held out.old) (W.held out.new) result (outcome lines.now) }
+    ensures bytes { (lines : List PlanLine) → blocks ≡ count_by erases lines
+        → pages ≡ count_by programs lines
+        → Writes (W.held out.old) (W.held out.new) result (outcome lines) }
     ensures count { Counts (W.count out.old) (W.count out.new) result }
 {
-    put_many(erase_count(lines), b"block", out)?;
+    put_many(blocks, b"block", out)?;
     put_all(out, b" erased, ")?;
-    put_many(program_count(lines), b"page program", out)?;
+    put_many(pages, b"page program", out)?;
     put_all(out, b", the rest untouched")
 }
 
 /// How many lines erase.
-fn erase_count(lines: &[PlanLine]) -> usize
+pub(crate) fn erase_count(lines: &[PlanLine]) -> u64
     ensures { result ≡ count_by erases lines.now }
 {
-    lines.iter().filter(|line| erases(**line)).count()
+    lines.iter().filter(|line| erases(**line)).count() as u64
 }
 
 /// How many lines program.
-fn program_count(lines: &[PlanLine]) -> usize
+pub(crate) fn program_count(lines: &[PlanLine]) -> u64
     ensures { result ≡ count_by programs lines.now }
 {
-    lines.iter().filter(|line| programs(**line)).count()
+    lines.iter().filter(|line| programs(**line)).count() as u64
 }
 
 /// Whether a line erases.
@@ -108,7 +111,7 @@ fn programs(line: PlanLine) -> bool
 }
 
 /// Puts so many of a thing.
-fn put_many<W: ByteOut>(number: usize, thing: &[u8], out: &mut W) -> Result<(), Failed>
+fn put_many<W: ByteOut>(number: u64, thing: &[u8], out: &mut W) -> Result<(), Failed>
     requires { W.count out.old < 2 ^ 64 - 1 }
     ensures bytes { Writes (W.held out.old) (W.held out.new) result (many_said number thing.now) }
     ensures count { Counts (W.count out.old) (W.count out.new) result }
@@ -121,7 +124,7 @@ fn put_many<W: ByteOut>(number: usize, thing: &[u8], out: &mut W) -> Result<(), 
 }
 
 /// Puts a number of things that isn't one.
-fn put_more<W: ByteOut>(number: usize, thing: &[u8], out: &mut W) -> Result<(), Failed>
+fn put_more<W: ByteOut>(number: u64, thing: &[u8], out: &mut W) -> Result<(), Failed>
     requires { W.count out.old < 2 ^ 64 - 1 }
     ensures bytes { Writes (W.held out.old) (W.held out.new) result (more_said number thing.now) }
     ensures count { Counts (W.count out.old) (W.count out.new) result }
@@ -131,7 +134,7 @@ fn put_more<W: ByteOut>(number: usize, thing: &[u8], out: &mut W) -> Result<(), 
 }
 
 /// Puts a number, with a comma before the last three digits and the three before them.
-fn put_number<W: ByteOut>(number: usize, out: &mut W) -> Result<(), Failed>
+fn put_number<W: ByteOut>(number: u64, out: &mut W) -> Result<(), Failed>
     requires { W.count out.old < 2 ^ 64 - 1 }
     ensures bytes { Writes (W.held out.old) (W.held out.new) result (number_said number) }
     ensures count { Counts (W.count out.old) (W.count out.new) result }

@@ -1,10 +1,13 @@
 //! The writer of maps.
 
-ghost use Rattle.std.specs.Prelude.{◌≡◌, ◌<◌, ◌-◌, ◌^◌};
+ghost use Rattle.std.specs.Prelude.{◌≡◌, ℕ, List, ◌<◌, ◌-◌, ◌^◌, count_by};
 ghost use Rattle.nor_base.specs.Device.{Writes, Counts};
+ghost use Rattle.nor_plan_read.specs.declared.line.PlanLine.{PlanLine};
 ghost use Rattle.nor_map.specs.Constants.{blocks_legend, legend_of};
 ghost use Rattle.nor_map.specs.Map.{addresses, beside, caption, drawing, frame, head, height};
-ghost use Rattle.nor_map.specs.Map.{line_count, map_text, marks, notes};
+ghost use Rattle.nor_map.specs.Map.{line_count, map_text, marks as marked, notes};
+ghost use Rattle.nor_map.specs.Marks.{marks_of};
+ghost use Rattle.nor_map.specs.Said.{erases, programs};
 
 use crate::blocks::{are_few, put_few_blocks};
 use crate::constants::{
@@ -13,6 +16,7 @@ use crate::constants::{
     title_begin, too_many,
 };
 use crate::grid::Grid;
+use crate::marks::PlanMarks;
 use crate::paths::put_cells;
 use crate::said::{put_outcome, put_size};
 use crate::shapes::put_region_shapes;
@@ -23,24 +27,28 @@ use nor_base::{ByteOut, Failed, put_all, put_parts};
 use nor_layout::Region;
 use nor_plan_read::PlanLine;
 
-/// Writes a map as an SVG image (W3C). Past 10,000 lines of the plan its blocks are left out. Names
-/// and report may hold any bytes: those that aren't printable ASCII become `?`.
+/// Writes a map as an SVG image (W3C) of a plan's grid and marks. Past 10,000 lines of the plan its
+/// blocks are left out. Names and report may hold any bytes: those that aren't printable ASCII
+/// become `?`.
 ///
 /// The image has room for 255 regions and 255 lines of report. `Failed` comes only from the writer.
 pub fn write_map<W: ByteOut>(
     grid: &Grid,
-    lines: &[PlanLine],
+    marks: &PlanMarks,
     regions: &[Region<'_>],
     report: &[u8],
     out: &mut W,
 ) -> Result<(), Failed>
     requires { W.count out.old < 2 ^ 64 - 1 }
-    ensures bytes { Writes (W.held out.old) (W.held out.new) result
-        (map_text grid.now lines.now regions.now report.now) }
+    ensures bytes { (size page : ℕ) (lines : List PlanLine)
+        → marks.now ≡ marks_of size page lines
+        → Writes (W.held out.old) (W.held out.new) result
+        (map_text grid.now lines regions.now report.now) }
     ensures count { Counts (W.count out.old) (W.count out.new) result }
 {
+    let lines = marks.first_lines.as_slice();
     put_head(grid, regions.len(), line_count(report), out)?;
-    put_caption(grid, lines, out)?;
+    put_caption(grid, marks, out)?;
     put_drawing(grid, lines, regions, out)?;
     put_marks(grid, regions, out)?;
     put_beside(lines, regions, report, out)
@@ -85,13 +93,15 @@ fn height(grid: &Grid, regions: usize, lines: usize) -> u64
 }
 
 /// Puts what the plan does, and how many bytes the chip has, and a cell.
-fn put_caption<W: ByteOut>(grid: &Grid, lines: &[PlanLine], out: &mut W) -> Result<(), Failed>
+fn put_caption<W: ByteOut>(grid: &Grid, marks: &PlanMarks, out: &mut W) -> Result<(), Failed>
     requires { W.count out.old < 2 ^ 64 - 1 }
-    ensures bytes { Writes (W.held out.old) (W.held out.new) result (caption grid.now lines.now) }
+    ensures bytes { (lines : List PlanLine) → marks.now.blocks ≡ count_by erases lines
+        → marks.now.programs ≡ count_by programs lines
+        → Writes (W.held out.old) (W.held out.new) result (caption grid.now lines) }
     ensures count { Counts (W.count out.old) (W.count out.new) result }
 {
     put_all(out, title_begin())?;
-    put_outcome(lines, out)?;
+    put_outcome(marks.blocks, marks.programs, out)?;
     put_all(out, caption_begin())?;
     put_size(u64::from(grid.size), out)?;
     put_all(out, b", a cell is ")?;
@@ -141,7 +151,7 @@ fn put_frame<W: ByteOut>(grid: &Grid, out: &mut W) -> Result<(), Failed>
 /// Puts the addresses, what stands for plain rows, and the names of the regions.
 fn put_marks<W: ByteOut>(grid: &Grid, regions: &[Region<'_>], out: &mut W) -> Result<(), Failed>
     requires { W.count out.old < 2 ^ 64 - 1 }
-    ensures bytes { Writes (W.held out.old) (W.held out.new) result (marks grid.now regions.now) }
+    ensures bytes { Writes (W.held out.old) (W.held out.new) result (marked grid.now regions.now) }
     ensures count { Counts (W.count out.old) (W.count out.new) result }
 {
     put_addresses(grid, out)?;

@@ -1,3 +1,1 @@
-pub mod Number
 pub mod Lines
-pub mod Parts

@@ -1,6 +1,5 @@
 -- The lines of a plan (this project's).
-use Rattle.std.specs.Prelude.{◌≡◌, ℕ, ◌^◌, ◌<◌, List, ◌++◌, codes, decimal, flat_map, Option, Some}
-use Rattle.std.specs.List.{AllByRecursion}
+use Rattle.std.specs.Prelude.{ℕ, List, ◌++◌, codes, decimal, flat_map}
 use Rattle.nor_base.specs.Script.{closed, hex_pair}
 use Rattle.nor_script.specs.Hexadecimal.{hex_number}
 use Rattle.nor_plan_read.specs.declared.line.PlanLine.{PlanLine}
@@ -33,18 +32,3 @@ line_text line = word line ++ tail_to closed line
 -- the text of lines, each closed by LF
 abbrev pub lines_text : List PlanLine → List ℕ
 lines_text lines = flat_map (λ line. closed (line_words line)) lines
-
--- the numbers of a line have 32 bits, an opcode 8
-abbrev pub IsSmall : PlanLine → Type 0
-IsSmall (Erase start size opcode) = (start < 2 ^ 32) × (size < 2 ^ 32) × (opcode < 256)
-IsSmall (Because start cause) = (start < 2 ^ 32) × (cause < 2 ^ 32)
-IsSmall (Program start count) = (start < 2 ^ 32) × (count < 2 ^ 32)
-
--- of the text of a line, just that line is read
-abbrev pub ReadsLine : List ℕ → Option PlanLine → Type 0
-ReadsLine text read = (line : PlanLine) → IsSmall line → text ≡ line_words line → read ≡ Some line
-
--- the text of small lines
-pub record IsText (text : List ℕ) (lines : List PlanLine) : Type 0 where
-  pub each : AllByRecursion IsSmall lines
-  pub whole : text ≡ lines_text lines

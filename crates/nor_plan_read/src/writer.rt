@@ -11,8 +11,7 @@ use itoa::Buffer;
 use nor_base::{ByteOut, Failed, put_parts};
 use nor_script::{hex_number, hex_pair};
 
-/// Writes lines of a plan one after another, each closed by LF. [`read_plan`](crate::read_plan)
-/// reads just these lines of that text.
+/// Writes lines of a plan one after another, each closed by LF.
 ///
 /// It takes no memory. At `Failed` a proper prefix was taken; it comes only from the writer.
 pub fn write_lines<W: ByteOut>(lines: &[PlanLine], out: &mut W) -> Result<(), Failed>
@@ -27,8 +26,7 @@ pub fn write_lines<W: ByteOut>(lines: &[PlanLine], out: &mut W) -> Result<(), Fa
 }
 
 /// Writes a line of a plan, closed by LF. The number of bytes of a program is in decimal, all other
-/// numbers are in lower-case hexadecimal digits. Without its LF it is a text of which
-/// [`read_line`](crate::read_line) reads just this line.
+/// numbers are in lower-case hexadecimal digits.
 ///
 /// It takes no memory. `Failed` comes only from the writer.
 pub fn write_line<W: ByteOut>(line: PlanLine, out: &mut W) -> Result<(), Failed>

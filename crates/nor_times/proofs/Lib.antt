@@ -2,8 +2,8 @@ mod KindLemmas
 mod SizeLemmas
 mod ClockLemmas
 mod LineLemmas
+mod TimingLemmas
 mod UnitLemmas
 mod ScriptLemmas
-mod SmallLemmas
 mod NameLemmas
 mod BusyLemmas

@@ -75,7 +75,7 @@ lowered_clocks d (op ∷ ops) =
     turned : (a b c : ℕ) → a + (b + c) ≡ a + c + b
     turned a b c = omega arith
 
--- a unit's lines tell an instruction just where it has an operation
+-- a unit's lines report an instruction just where it has an operation
 none_read : (v : Bool) (ps : List Program) → ps ≡ [] → has_some (if v then map reads ps else []) ≡ false
 none_read true ps none = ap (λ qs. has_some (map reads qs)) none
 none_read false ps none = refl

@@ -61,6 +61,10 @@ pub record Doing : Type 0 where
   -- what was written is read
   pub verify : Bool
 
+-- on a chip that begins so
+abbrev pub doing_of : Parameters → Start → Bool → Doing
+doing_of m s verify = record { meaning = m; start = s; by = strategy m s; verify = verify }
+
 -- an erase, and where the work is verified the reads of the block's pages; no block spans 2^24
 abbrev pub block_clocks : Doing → ℕ → ℕ → ℕ
 block_clocks d start size =
@@ -81,6 +85,13 @@ lines_clocks d end (Erase start size opcode ∷ lines) = block_clocks d start si
 lines_clocks d end (Because start cause ∷ lines) = lines_clocks d end lines
 lines_clocks d end (Program start count ∷ lines) = run_clocks d end start count + lines_clocks d end lines
 
+-- the end of the block that was erased last, after lines
+abbrev pub end_after : ℕ → List PlanLine → ℕ
+end_after end [] = end
+end_after end (Erase start size opcode ∷ lines) = end_after (start + size) lines
+end_after end (Because start cause ∷ lines) = end_after end lines
+end_after end (Program start count ∷ lines) = end_after end lines
+
 -- a change of the address mode
 abbrev pub switch_clocks : Switch → ℕ
 switch_clocks Absent = 0
@@ -95,7 +106,7 @@ mode_clocks m S3 = 0
 mode_clocks m S4 = switch_clocks m.enter + switch_clocks m.leave
 mode_clocks m S5 = 0
 
--- a line tells an instruction
+-- a line reports an instruction
 abbrev pub is_work : PlanLine → Bool
 is_work (Erase start size opcode) = true
 is_work (Because start cause) = false
@@ -106,4 +117,4 @@ done_clocks d lines = (if list_any is_work lines then mode_clocks d.meaning d.by
 
 -- of a plan's lines
 unfoldable pub bus_of : Parameters → Start → Bool → List PlanLine → ℕ
-bus_of m s verify lines = done_clocks (record { meaning = m; start = s; by = strategy m s; verify = verify }) lines
+bus_of m s verify lines = done_clocks (doing_of m s verify) lines

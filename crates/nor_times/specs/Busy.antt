@@ -1,5 +1,5 @@
 -- How long a chip is busy with a plan, in microseconds (JESD216B, FF00h DWORDs 10 and 11; the sums are this project's).
-use Rattle.std.specs.Prelude.{ℕ, zero, suc, ◌+◌, ◌-◌, ◌*◌, ◌==◌, ◌&&◌, ◌||◌, Bool, false, min, List, find, sum_by, slice_index}
+use Rattle.std.specs.Prelude.{ℕ, zero, suc, ◌+◌, ◌-◌, ◌*◌, ◌==◌, ◌&&◌, ◌||◌, Bool, false, min, List, Option, Some, None, find, sum_by, slice_index}
 use Rattle.std.specs.Option.{option_map_or}
 use Rattle.nor_base.specs.Parameters.{Parameters, erase_kind, is_live}
 use Rattle.nor_base.specs.Instructions.{dedicated}
@@ -39,3 +39,8 @@ worst_of t m (Program start count) = program_time t count * t.program_factor
 -- of all lines together
 unfoldable pub busy_of : Times → Parameters → List PlanLine → Busy
 busy_of t m lines = record { typical = sum_by (typical_of t m) lines; worst = sum_by (worst_of t m) lines }
+
+-- where the chip's tables have its times; else no time is counted
+abbrev pub known_busy : Option Times → Parameters → List PlanLine → Busy
+known_busy None m lines = record { typical = 0; worst = 0 }
+known_busy (Some t) m lines = busy_of t m lines

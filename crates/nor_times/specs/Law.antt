@@ -1,4 +1,4 @@
--- What the lines of a plan are to its text, and their clocks to its script.
+-- What the times of a plan's lines are to its work and its script.
 use Rattle.std.specs.Prelude.{◌≡◌, ℕ, Bool, true, List, find, flat_map, Some}
 use Rattle.nor_base.specs.declared.meaning.Start.{Start}
 use Rattle.nor_base.specs.declared.meaning.Strategy.{Strategy}
@@ -9,7 +9,7 @@ use Rattle.nor_base.specs.Operations.{erasing}
 use Rattle.nor_base.specs.Planned.{IsWorkable, planned, planned_units}
 use Rattle.nor_base.specs.Strategies.{strategy, reaches}
 use Rattle.nor_outline.specs.Outline.{unit_lines, plan_of}
-use Rattle.nor_plan_read.specs.Lines.{IsText}
+use Rattle.nor_plan_read.specs.Lines.{lines_text}
 use Rattle.nor_steps.specs.Lines.{steps_of}
 use Rattle.nor_times.specs.declared.times.Times.{Times}
 use Rattle.nor_times.specs.Busy.{is_named, busy_of}
@@ -21,10 +21,10 @@ abbrev pub BusIsOfScript : Type 0
 BusIsOfScript = (m : Parameters) (start : Start) (verify : Bool) (have want : List ℕ) → IsWorkable m start have want
     → bus_of m start verify (plan_of m start have want) ≡ steps_clocks (steps_of (planned m start verify have want))
 
--- the text of a plan is that of its lines, whose numbers are those that a line has
+-- the text of a plan, unit after unit, is that of its lines
 abbrev pub PlanIsText : Type 0
-PlanIsText = (m : Parameters) (start : Start) (have want : List ℕ) → IsWorkable m start have want
-    → IsText (flat_map (unit_lines m (strategy m start) have want) (planned_units m start have want)) (plan_of m start have want)
+PlanIsText = (m : Parameters) (start : Start) (have want : List ℕ)
+    → flat_map (unit_lines m (strategy m start) have want) (planned_units m start have want) ≡ lines_text (plan_of m start have want)
 
 -- the opcode that erases a block names the block's kind, and no other
 abbrev pub ErasesAreNamed : Type 0

@@ -1,8 +1,7 @@
 //! The clocks of a plan's script.
 
-ghost use Rattle.std.specs.Prelude.{◌≡◌, ◌≤◌, ◌<◌, ◌+◌, ◌^◌, if◌then◌else◌};
-ghost use Rattle.std.specs.List.{list_any};
-ghost use Rattle.nor_times.specs.Bus.{Doing, block_clocks, bus_of, done_clocks, is_work};
+ghost use Rattle.std.specs.Prelude.{◌≡◌, ◌==◌, ◌≤◌, ◌<◌, ◌*◌, ◌^◌, if◌then◌else◌, count_by};
+ghost use Rattle.nor_times.specs.Bus.{Doing, block_clocks, doing_of, end_after, is_work};
 ghost use Rattle.nor_times.specs.Bus.{lines_clocks, mode_clocks, run_clocks};
 
 use crate::clocks::{change_clocks, head_clocks, mode_clocks, program_clocks, read_clocks};
@@ -13,7 +12,7 @@ use std::marker::Model;
 
 /// How a plan is done.
 #[derive(Drop)]
-struct Job<'m> {
+pub(crate) struct Job<'m> {
     meaning: &'m Meaning,
     start: Start,
     strategy: Strategy,
@@ -30,49 +29,44 @@ impl<'m> Model for Job<'m> {
         { meaning = j.meaning.now; start = j.start; by = j.strategy; verify = j.verify } };
 }
 
-/// The clocks of the script that does a plan's lines, each poll once, as `build` writes it for a
-/// chip that begins so: the exact sum. With `verify` each page of an erased block is read, and each
-/// program past it.
-#[tactic(auto, unfolding(crate::specs::Bus::bus_of))]
-pub fn bus_clocks(meaning: &Meaning, start: &Start, verify: bool, lines: &[PlanLine]) -> u128
-    ensures { result ≡ bus_of meaning.now start.now verify lines.now }
-{
-    let job = Job {
-        meaning,
-        start: *start,
-        strategy: strategy(meaning, start),
-        verify,
-    };
-    job.done_clocks(lines)
-}
-
 impl<'m> Job<'m> {
-    /// The clocks of lines, and of the mode that they need.
-    fn done_clocks(&self, lines: &[PlanLine]) -> u128
-        ensures { result ≡ done_clocks self.now lines.now }
+    /// On a chip of a meaning that begins so.
+    pub(crate) fn new(meaning: &'m Meaning, start: &Start, verify: bool) -> Job<'m>
+        ensures { result ≡ doing_of meaning.now start.now verify }
     {
-        u128::from(self.mode_clocks(lines)) + self.lines_clocks(lines)
+        Job {
+            meaning,
+            start: *start,
+            strategy: strategy(meaning, start),
+            verify,
+        }
     }
 
-    /// The clocks of the mode that lines need.
-    fn mode_clocks(&self, lines: &[PlanLine]) -> u64
-        ensures value { result ≡ (if list_any is_work lines.now
-            then mode_clocks self.now.meaning self.now.by else 0) }
+    /// The chip's meaning.
+    pub(crate) fn meaning(&self) -> &'m Meaning
+        ensures { result.now ≡ self.now.meaning }
+    {
+        self.meaning
+    }
+
+    /// The clocks of the mode that lines need, of which `works` report an instruction.
+    pub(crate) fn mode_clocks(&self, works: u64) -> u64
+        ensures value { result ≡ (if works == 0
+            then 0 else mode_clocks self.now.meaning self.now.by) }
         ensures small { result ≤ 48 }
     {
-        if !has_work(lines) {
+        if works == 0 {
             return 0;
         }
         mode_clocks(self.meaning, self.strategy)
     }
 
-    /// The clocks of lines.
-    fn lines_clocks(&self, lines: &[PlanLine]) -> u128
-        ensures value { result ≡ lines_clocks self.now 0 lines.now }
-        ensures small { result ≤ 2 ^ 114 }
+    /// The clocks of lines, from the end of the block that was erased last on.
+    pub(crate) fn lines_clocks(&self, mut end: u64, lines: &[PlanLine]) -> u128
+        ensures value { result ≡ lines_clocks self.now end lines.now }
+        ensures small { result ≤ count_by is_work lines.now * 2 ^ 50 }
     {
         let mut clocks = 0;
-        let mut end = 0;
         for line in lines {
             match *line {
                 PlanLine::Erase { start, size, .. } => {
@@ -134,14 +128,26 @@ impl<'m> Job<'m> {
     }
 }
 
-/// Whether some line tells an instruction.
-fn has_work(lines: &[PlanLine]) -> bool
-    ensures { result ≡ list_any is_work lines.now }
+/// The end of the block that was erased last, after lines.
+pub(crate) fn end_after(mut end: u64, lines: &[PlanLine]) -> u64
+    ensures { result ≡ end_after end lines.now }
 {
-    lines.iter().any(|line| is_work(line))
+    for line in lines {
+        if let PlanLine::Erase { start, size, .. } = *line {
+            end = u64::from(start) + u64::from(size);
+        }
+    }
+    end
 }
 
-/// Whether a line tells an instruction.
+/// How many lines report an instruction.
+pub(crate) fn works_in(lines: &[PlanLine]) -> u64
+    ensures { result ≡ count_by is_work lines.now }
+{
+    lines.iter().filter(|line| is_work(line)).count() as u64
+}
+
+/// Whether a line reports an instruction.
 fn is_work(line: &PlanLine) -> bool
     ensures { result ≡ is_work line.now }
 {

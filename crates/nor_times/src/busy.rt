@@ -1,9 +1,10 @@
 //! How long a chip is busy with a plan.
 
-ghost use Rattle.std.specs.Prelude.{◌≡◌, ◌≤◌, ◌<◌, ◌+◌, ◌*◌, ◌-◌, find, IfSome};
+ghost use Rattle.std.specs.Prelude.{◌≡◌, ◌≤◌, ◌<◌, ◌+◌, ◌*◌, ◌-◌, ◌^◌, find, IfSome, count_by};
 ghost use Rattle.nor_base.specs.Blocks.{kinds};
-ghost use Rattle.nor_times.specs.Busy.{busy_of, is_named, program_time, time_of, typical_of};
-ghost use Rattle.nor_times.specs.Busy.{worst_of};
+ghost use Rattle.nor_times.specs.Bus.{is_work};
+ghost use Rattle.nor_times.specs.Busy.{busy_of, is_named, known_busy, program_time, time_of};
+ghost use Rattle.nor_times.specs.Busy.{typical_of, worst_of};
 
 use crate::times::Times;
 use nor_base::Meaning;
@@ -18,12 +19,28 @@ pub struct Busy {
     pub worst: u128,
 }
 
-/// How long a chip is busy with the erases and programs of a plan's lines: the exact sums
-/// (docs/FORMATS.md, "Times"). Polls and clocks add nothing. An erase of an opcode that no live
-/// kind has takes no time.
+/// How long a chip is busy with the erases and programs of lines, where its times are known.
+pub(crate) fn known_busy(times: Option<Times>, meaning: &Meaning, lines: &[PlanLine]) -> Busy
+    ensures value { result ≡ known_busy times meaning.now lines.now }
+    ensures typical { result.typical ≤ count_by is_work lines.now * 2 ^ 64 }
+    ensures worst { result.worst ≤ count_by is_work lines.now * 2 ^ 64 }
+{
+    match times {
+        None => Busy {
+            typical: 0,
+            worst: 0,
+        },
+        Some(times) => busy_time(&times, meaning, lines),
+    }
+}
+
+/// How long a chip is busy with the erases and programs of lines: the exact sums. Polls and clocks
+/// add nothing. An erase of an opcode that no live kind has takes no time.
 #[tactic(auto, unfolding(crate::specs::Busy::busy_of))]
-pub fn busy_time(times: &Times, meaning: &Meaning, lines: &[PlanLine]) -> Busy
-    ensures { result ≡ busy_of times.now meaning.now lines.now }
+fn busy_time(times: &Times, meaning: &Meaning, lines: &[PlanLine]) -> Busy
+    ensures value { result ≡ busy_of times.now meaning.now lines.now }
+    ensures typical { result.typical ≤ count_by is_work lines.now * 2 ^ 64 }
+    ensures worst { result.worst ≤ count_by is_work lines.now * 2 ^ 64 }
 {
     let mut typical = 0;
     let mut worst = 0;

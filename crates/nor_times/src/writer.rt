@@ -8,12 +8,12 @@ use crate::busy::Busy;
 use itoa::Buffer;
 use nor_base::{ByteOut, Failed, put_all, put_parts};
 
-/// Writes the two lines of times, each closed by LF: `busy n ms typical n ms worst`, rounded up, or
-/// `busy unknown` where the chip's tables have no times; and `bus n clocks`. Numbers are in
-/// decimal. It takes no memory.
-///
-/// `Failed` comes only from the writer.
-pub fn write_times<W: ByteOut>(busy: Option<Busy>, clocks: u128, out: &mut W) -> Result<(), Failed>
+/// Writes the two lines of times.
+pub(crate) fn write_times<W: ByteOut>(
+    busy: Option<Busy>,
+    clocks: u128,
+    out: &mut W,
+) -> Result<(), Failed>
     requires { W.count out.old < 2 ^ 64 - 1 }
     ensures bytes { Writes (W.held out.old) (W.held out.new) result (times_text busy clocks) }
     ensures count { Counts (W.count out.old) (W.count out.new) result }

@@ -4,6 +4,7 @@ pub mod Bytes
 pub mod Image
 pub mod OpBytes
 pub mod Counts
+pub mod Few
 pub mod Filled
 pub mod Build
 pub mod Plan

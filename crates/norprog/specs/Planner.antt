@@ -1,5 +1,5 @@
 -- The plan of a job, window after window (this project's).
-use Rattle.std.specs.Prelude.{◌≡◌, ℕ, ◌%◌, ◌<◌, ◌≤◌, List, ◌++◌, length, Option, Some, None}
+use Rattle.std.specs.Prelude.{◌≡◌, ◌⊎◌, ℕ, ◌%◌, ◌<◌, ◌≤◌, ◌*◌, ◌^◌, Bool, false, List, ◌++◌, length, count_by, Option, Some, None}
 use Rattle.std.specs.Io.KnownBytes.{Appends}
 use Rattle.nor_base.specs.Accepted.{IsAccepted}
 use Rattle.nor_base.specs.Device.{Ahead, Gives}
@@ -17,18 +17,20 @@ use Rattle.nor_job.specs.Task.{Task}
 use Rattle.nor_job.specs.Wanted.{wanted}
 use Rattle.nor_job.specs.Written.{AreBytes}
 use Rattle.nor_job.specs.declared.fault.BuildFault.{BuildFault}
+use Rattle.nor_job.specs.declared.fault.BuildFault.TheVariants as fault
 use Rattle.nor_job.specs.declared.job.Job.{Job}
 use Rattle.nor_layout.specs.Region.{Region}
 use Rattle.nor_outline.specs.Outline.{plan_of, IsStretchPlan}
 use Rattle.nor_outline.specs.Told.{unit_outline}
 use Rattle.nor_plan_read.specs.Lines.{lines_text}
 use Rattle.nor_plan_read.specs.declared.line.PlanLine.{PlanLine}
+use Rattle.nor_plan_read.specs.declared.line.PlanLine.TheVariants.{Because}
 use Rattle.nor_steps.specs.Tally.{IsFew}
 use Rattle.nor_steps.specs.Texts.{IsTold}
 use Rattle.nor_steps.specs.Writing.{Writing}
 use Rattle.nor_steps.specs.declared.tally.Tally.{Tally}
 use Rattle.norprog.specs.Build.{report_of}
-use Rattle.norprog.specs.Plan.{IsPlanOf}
+use Rattle.norprog.specs.Plan.{IsPlanOf, StopsPlan}
 use Rattle.norprog.specs.Windows.{first_writing, IsCutPlan, StopsWindow}
 use Rattle.norprog.specs.declared.report.Report.{Report}
 
@@ -125,3 +127,19 @@ CutsPut p before after held_before held_after why =
 -- the lines of a plan were put, of whatever inputs the job is of
 abbrev pub PlansJob : Job → Ahead → Ahead → Option (List ℕ) → Option (List ℕ) → Report → Type 0
 PlansJob job before after held_before held_after report = (t : Task) (len : ℕ) → IsJob t len job → IsPlanOf t len before after held_before held_after report
+
+-- a job's plan that is cut short is that of whatever inputs the job is of
+abbrev pub CutsInputs : Type 0
+CutsInputs = (t : Task) (len : ℕ) (job : Job) (before after : Ahead) (x y : Option (List ℕ)) (why : BuildFault) → IsJob t len job
+    → IsCutPlan job before after x y why → StopsPlan t len before after x y why
+
+-- a plan is cut short wherever its writer stopped in the text of the lines so far, since it failed or a growth was refused
+abbrev pub CutsAnywhere : Type 0
+CutsAnywhere = (p : Planning) (first now : Ahead) (x y : Option (List ℕ)) (lines : List PlanLine) (front rest : List ℕ) (why : BuildFault)
+    → IsReady p → HasTold p first now lines → lines_text lines ≡ front ++ rest → Appends x y front → (why ≡ fault.Write) ⊎ (why ≡ fault.Memory)
+    → IsCutPlan p.job first now x y why
+
+-- of the lines so far that tell no reason there are at most 2^31 for each address
+abbrev pub AreFew : Type 0
+AreFew = (p : Planning) (first now : Ahead) (lines : List PlanLine) (tells : PlanLine → Bool) → ((start cause : ℕ) → tells (Because start cause) ≡ false)
+    → IsReady p → HasTold p first now lines → count_by tells lines ≤ p.at * 2 ^ 31

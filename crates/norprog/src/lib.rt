@@ -22,5 +22,5 @@ pub use nor_hex::HexFault;
 pub use nor_job::{BuildFault, Inputs, Source};
 pub use nor_layout::LayoutFault;
 pub use nor_sfdp::SfdpFault;
-pub use planner::Planner;
+pub use planner::{Planner, planned_lines};
 pub use report::{Report, write_report};

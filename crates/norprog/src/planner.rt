@@ -10,6 +10,7 @@ ghost use Rattle.nor_job.specs.Written.{CountsReader, CountsWriter};
 ghost use Rattle.nor_job.specs.declared.fault.BuildFault.TheVariants.{Memory};
 ghost use Rattle.norprog.specs.Planner.{IsReady, IsPlannedPart, HasTold, GoesOn};
 ghost use Rattle.norprog.specs.Planner.{CutsPlan, EndsPlan, StopsBefore, StopsPlanning};
+ghost use Rattle.norprog.specs.Planner.{AreFew, CutsAnywhere, CutsInputs};
 
 use crate::builder::report_of;
 use crate::report::Report;
@@ -209,3 +210,12 @@ fn window_plan<R: ByteIn>(
         Err(fault) => Err(lifted(fault)),
     }
 }
+
+/// What is so of each plan that a [`Planner`] returns line by line: what a plan that is cut short
+/// is of its inputs, that it may be wherever its writer stops, and that few of its lines tell an
+/// instruction. It does nothing.
+pub fn planned_lines()
+    ensures inputs { CutsInputs }
+    ensures anywhere { CutsAnywhere }
+    ensures few { AreFew }
+{}

@@ -1,6 +1,5 @@
 -- What was built, and why nothing was, of a job that is asked for.
-use Rattle.std.proofs.Common.{◌≡◌, ℕ, ◌+◌, ◌<◌, Bool, ◌⊎◌, inl, inr, refl, sym, subst, arith, List, Option, Some, Result, Ok, Err, IfOk, IfErr}
-use Rattle.std.specs.Prelude.{⊤}
+use Rattle.std.proofs.Common.{◌≡◌, ℕ, ◌+◌, ◌<◌, Bool, ◌⊎◌, inl, inr, refl, arith, List, Option, Some, Result, Ok, Err, IfOk, IfErr}
 use Rattle.nor_base.specs.Device.{Ahead}
 use Rattle.nor_job.specs.declared.fault.BuildFault.{BuildFault}
 use Rattle.nor_job.specs.declared.fault.BuildFault.TheVariants as fault
@@ -10,14 +9,12 @@ use Rattle.nor_job.specs.Written.{CountsWriter}
 use Rattle.norprog.specs.Build.{IsBuilt, StopsWork}
 use Rattle.norprog.specs.declared.report.Report.{Report}
 use Rattle.norprog_common.specs.declared.faults.FileName.{FileName}
-use Rattle.norprog_common.specs.declared.faults.FileName.TheVariants as file
 use Rattle.norprog_common.specs.declared.faults.Refusal.{Refusal}
-use Rattle.norprog_common.specs.declared.faults.Refusal.TheVariants.{File, Build}
-use Rattle.norprog_common.specs.Files.{RefusesFile, TellsFile}
-use Rattle.norprog_common.specs.FileStore.{FileFacts}
+use Rattle.norprog_common.specs.declared.faults.Refusal.TheVariants.{Build}
+use Rattle.norprog_common.specs.Files.{TellsFile}
 use Rattle.norprog_common.specs.Told.{OfFault, TellsBroken}
 use Rattle.norprog_common.proofs.ToldLemmas.{asked_wider, fault_wider, by_fault, by_files, refuses_wider}
-use Rattle.norprog_build.specs.Answer.{HasGone, IsUntouched, IsReportOf, IsBuildReport, IsFaultOf, IsBuildFault, RefusesBuild, done}
+use Rattle.norprog_build.specs.Answer.{IsReportOf, IsBuildReport, IsFaultOf, IsBuildFault, IsLeft, RefusesBuild, done}
 use Rattle.norprog_common.specs.Served.{Job, job_with}
 use Rattle.norprog_common.specs.Strict.{Filled, OrEmpty, RefusesEmpty}
 use Rattle.norprog_common.proofs.StrictLemmas.{filled_wider, empty_wider, by_empty}
@@ -59,7 +56,7 @@ pub refusal_of_build : {U E : Type 0} (strict : Bool) (Lacked : FileName → Typ
 refusal_of_build strict Lacked Broke A B Gone Asked t len before after held held' (Err why) flushed r asked built refused same gone broke is =
     let cause : (RefusesInputs t len why × (held' ≡ held)) ⊎ StopsWork t len before after held held' why =
     elim refused [ inl early ↦ inl (early.0, same early.2) | inr late ↦ inr late ] in
-    rw is (by_fault Lacked Broke (OrEmpty strict Asked (OfFault (IsBuildFault Gone (Filled strict Asked)))) _ (Build why) broke (record {
+    rw is (by_fault Lacked Broke (OrEmpty strict (IsLeft Gone Asked) (OfFault (IsBuildFault Gone (Filled strict Asked)))) _ (Build why) broke (record {
       it = job_with t before len (Some held);
       asked = asked;
       has = record { after = after; held_before = held; held_after = held'; begun = refl; refused = cause; gone = gone };
@@ -70,7 +67,7 @@ refusal_of_build strict Lacked Broke A B Gone Asked t len before after held held
     record {
       it = job_with t before len (Some held);
       asked = asked;
-      has = record { after = after; held_before = held; held_after = held'; begun = refl; sent = tt; built = built };
+      has = record { after = after; held_before = held; held_after = held'; begun = refl; sent = gone; built = built };
     },
   ),
   broke,
@@ -78,48 +75,32 @@ refusal_of_build strict Lacked Broke A B Gone Asked t len before after held held
 refusal_of_build strict Lacked Broke A B Gone Asked t len before after held held' (Ok report) (Ok u) r asked built refused same gone broke is = rw is tt
 
 -- a job that is refused as strict
-pub empty_refused : (strict : Bool) (Lacked : FileName → Type 0) (Broke : Type 0) (Gone : Option (List ℕ) → Type 0) (Asked : Job → Type 0) (j : Job) (why : Refusal) → Asked j → RefusesEmpty strict j.task j.len why
-    → RefusesBuild strict Lacked Broke Gone Asked why
+pub empty_refused : (strict : Bool) (Lacked : FileName → Type 0) (Broke : Type 0) (Gone : Option (List ℕ) → Type 0) (Asked : Job → Type 0) (j : Job) (why : Refusal) → IsLeft Gone Asked j
+    → RefusesEmpty strict j.task j.len why → RefusesBuild strict Lacked Broke Gone Asked why
 empty_refused strict Lacked Broke Gone Asked =
-    by_empty strict Lacked Broke Asked (OfFault (IsBuildFault Gone (Filled strict Asked))) ((report : Report) × IsBuildReport (Filled strict Asked) (λ held. ⊤) report)
+    by_empty strict Lacked Broke (IsLeft Gone Asked) (OfFault (IsBuildFault Gone (Filled strict Asked))) ((report : Report) × IsBuildReport (Filled strict Asked) Gone report)
 
 -- a file that couldn't be used
 pub file_refused : (strict : Bool) (L M : FileName → Type 0) (Broke : Type 0) (Gone : Option (List ℕ) → Type 0) (Asked : Job → Type 0) (why : Refusal) → ((told : FileName) → L told → M told) → TellsFile L why
     → RefusesBuild strict M Broke Gone Asked why
 file_refused strict L M Broke Gone Asked =
-    by_files L M Broke (OrEmpty strict Asked (OfFault (IsBuildFault Gone (Filled strict Asked)))) ((report : Report) × IsBuildReport (Filled strict Asked) (λ held. ⊤) report)
+    by_files L M Broke (OrEmpty strict (IsLeft Gone Asked) (OfFault (IsBuildFault Gone (Filled strict Asked)))) ((report : Report) × IsBuildReport (Filled strict Asked) Gone report)
 
 pub build_wider : (strict : Bool) (L M : FileName → Type 0) (D E : Type 0) (Gone : Option (List ℕ) → Type 0) (A B : Job → Type 0) → ((told : FileName) → L told → M told) → (D → E) → ((j : Job) → A j → B j)
     → (why : Refusal) → RefusesBuild strict L D Gone A why → RefusesBuild strict M E Gone B why
 build_wider strict L M D E Gone A B files broken wider =
     let filled = filled_wider strict A B wider in
-    refuses_wider L M D E (OrEmpty strict A (OfFault (IsBuildFault Gone (Filled strict A)))) (OrEmpty strict B (OfFault (IsBuildFault Gone (Filled strict B))))
-    ((report : Report) × IsBuildReport (Filled strict A) (λ held. ⊤) report) ((report : Report) × IsBuildReport (Filled strict B) (λ held. ⊤) report)
+    refuses_wider L M D E (OrEmpty strict (IsLeft Gone A) (OfFault (IsBuildFault Gone (Filled strict A)))) (OrEmpty strict (IsLeft Gone B) (OfFault (IsBuildFault Gone (Filled strict B))))
+    ((report : Report) × IsBuildReport (Filled strict A) Gone report) ((report : Report) × IsBuildReport (Filled strict B) Gone report)
     files broken
-    (empty_wider strict A B (OfFault (IsBuildFault Gone (Filled strict A))) (OfFault (IsBuildFault Gone (Filled strict B))) wider
+    (empty_wider strict (IsLeft Gone A) (IsLeft Gone B) (OfFault (IsBuildFault Gone (Filled strict A))) (OfFault (IsBuildFault Gone (Filled strict B))) (λ j left. (wider j left.0, left.1))
     (fault_wider (IsBuildFault Gone (Filled strict A)) (IsBuildFault Gone (Filled strict B)) (λ why of. asked_wider Job (Filled strict A) (Filled strict B) (IsFaultOf Gone why) filled of)))
-    (λ late. (late.0, asked_wider Job (Filled strict A) (Filled strict B) (IsReportOf (λ held. ⊤) late.0) filled late.1))
+    (λ late. (late.0, asked_wider Job (Filled strict A) (Filled strict B) (IsReportOf Gone late.0) filled late.1))
 
--- before the output is made it wasn't touched
-pub untouched : (Nothing : Type 0) → Nothing → (told : FileName) → IsUntouched Nothing told
-untouched Nothing none file.Out = tt
-untouched Nothing none other = none
-
--- an output that couldn't be made is told by its own name
-pub out_lacks : (L : FileName → Type 0) (Nothing : Type 0) (why : Refusal) → RefusesFile file.Out why → TellsFile L why → TellsFile (λ told. L told × IsUntouched Nothing told) why
-out_lacks L Nothing (File told) named lacks = (lacks, subst (IsUntouched Nothing) (sym named) tt)
-out_lacks L Nothing (Build fault.Memory) named lacks = tt
-out_lacks L Nothing other named lacks = absurd named
-
--- what a file had taken as it was flushed
-pub gone_out : {U E : Type 0} (files : FileFacts) (held : Option (List ℕ)) (flushed : Result U E) → IfOk flushed (λ u. files.flushed held) → IfErr flushed (λ e. files.broke)
-    → HasGone files held
-gone_out files held (Ok u) sent broke = inl sent
-gone_out files held (Err e) sent broke = inr broke
-
--- a report that wasn't printed is one that was built, whether it has gone out or not
-pub unsent : (Asked : Job → Type 0) (Sent : Option (List ℕ) → Type 0) (report : Report) → IsBuildReport Asked Sent report → IsBuildReport Asked (λ held. ⊤) report
-unsent Asked Sent report of = record {
+-- a report that wasn't printed is one that was built, whose script has gone out
+pub gone : (Asked : Job → Type 0) (Sent Gone : Option (List ℕ) → Type 0) (report : Report) → ((held : Option (List ℕ)) → Sent held → Gone held)
+    → IsBuildReport Asked Sent report → IsBuildReport Asked Gone report
+gone Asked Sent Gone report wider of = record {
   it = of.it;
   asked = of.asked;
   has = record {
@@ -127,7 +108,7 @@ unsent Asked Sent report of = record {
     held_before = of.has.held_before;
     held_after = of.has.held_after;
     begun = of.has.begun;
-    sent = tt;
+    sent = wider of.has.held_after of.has.sent;
     built = of.has.built;
   };
 }

@@ -1,6 +1,6 @@
 -- The job of a request is the one that the texts ask for.
 use Rattle.std.proofs.Common.{◌≡◌, ◌∙◌, ap, sym, subst, Bool, true, is_some, option_map, Option, Some, IfSome, List, ℕ}
-use Rattle.norprog_common.specs.FileStore.{FileFacts, Lacks}
+use Rattle.norprog_common.specs.FileStore.{FileFacts, HasGone, LacksEarly}
 use Rattle.norprog_common.specs.declared.given.BuildArgs.{BuildArgs}
 use Rattle.norprog_common.specs.declared.request.Request.{Request}
 use Rattle.norprog_build.specs.Served.{asks_build, ServesBuild}
@@ -8,10 +8,11 @@ use Rattle.norprog_common.specs.Request.{is_well_formed, AsksFor}
 use Rattle.norprog_common.specs.Served.{Job, IsJobOf, out_path, paths_asked, paths_of}
 use Rattle.norprog_common.specs.Strict.{Filled}
 use Rattle.norprog_common.specs.declared.faults.FileName.{FileName}
+use Rattle.norprog_common.specs.declared.faults.FileName.TheVariants.{Out}
 use Rattle.norprog_common.specs.declared.faults.Refusal.{Refusal}
-use Rattle.norprog_build.specs.Answer.{HasGone, LacksEarly, RefusesBuild}
+use Rattle.norprog_build.specs.Answer.{RefusesBuild}
 use Rattle.norprog_build.proofs.AnswerLemmas.{build_wider}
-use Rattle.norprog_common.proofs.LackedLemmas.{lacks_same, paths_are}
+use Rattle.norprog_common.proofs.LackedLemmas.{early_same, paths_are}
 use Rattle.norprog_common.proofs.ServedLemmas.{serves, asks_of, both, is_formed, is_named}
 
 pub build_serves : (files : FileFacts) (given : BuildArgs) (o : Option Request) (request : Request) (path : List ℕ) → o ≡ Some request → IfSome o (AsksFor given.job)
@@ -25,21 +26,21 @@ build_filled files given o request path some asks out j of =
     (build_serves files given o request path some asks out j of.0, λ strict. of.1 ((asks_of given.job o request some asks).strict ∙ strict))
 
 -- the files of a request are those that the texts name
-same_files : (files : FileFacts) (given : BuildArgs) (o : Option Request) (request : Request) (path : List ℕ) → o ≡ Some request → IfSome o (AsksFor given.job)
-    → option_map (λ t. t.now) given.out ≡ Some path → (told : FileName) → Lacks files (paths_of request (out_path (Some path))) told
-    → Lacks files (paths_asked given.job (out_path (option_map (λ t. t.now) given.out))) told
-same_files files given o request path some asks out =
-    lacks_same files (paths_of request (out_path (Some path))) (paths_asked given.job (out_path (option_map (λ t. t.now) given.out)))
+same_files : (files : FileFacts) (given : BuildArgs) (Nothing : Type 0) (o : Option Request) (request : Request) (path : List ℕ) → o ≡ Some request → IfSome o (AsksFor given.job)
+    → option_map (λ t. t.now) given.out ≡ Some path → (told : FileName) → LacksEarly files (paths_of request (out_path (Some path))) Out Nothing told
+    → LacksEarly files (paths_asked given.job (out_path (option_map (λ t. t.now) given.out))) Out Nothing told
+same_files files given Nothing o request path some asks out =
+    early_same files (paths_of request (out_path (Some path))) (paths_asked given.job (out_path (option_map (λ t. t.now) given.out))) Out Nothing
     (paths_are given.job request (out_path (Some path)) (asks_of given.job o request some asks) ∙ ap (λ (named : Option (List ℕ)). paths_asked given.job (out_path named)) (sym out))
 
 pub build_refused : (files : FileFacts) (given : BuildArgs) (Broke Nothing : Type 0) (o : Option Request) (request : Request) (path : List ℕ) → (files.broke → Broke) → o ≡ Some request
     → IfSome o (AsksFor given.job) → option_map (λ t. t.now) given.out ≡ Some path → (why : Refusal)
-    → RefusesBuild request.strict (LacksEarly files (paths_of request (out_path (Some path))) Nothing) files.broke (HasGone files) (IsJobOf files request (Some path)) why
-    → RefusesBuild given.job.strict (LacksEarly files (paths_asked given.job (out_path (option_map (λ t. t.now) given.out))) Nothing) Broke (HasGone files) (ServesBuild files given) why
+    → RefusesBuild request.strict (LacksEarly files (paths_of request (out_path (Some path))) Out Nothing) files.broke (HasGone files) (IsJobOf files request (Some path)) why
+    → RefusesBuild given.job.strict (LacksEarly files (paths_asked given.job (out_path (option_map (λ t. t.now) given.out))) Out Nothing) Broke (HasGone files) (ServesBuild files given) why
 build_refused files given Broke Nothing o request path broken some asks out why of =
-    let Lacked = LacksEarly files (paths_of request (out_path (Some path))) Nothing in
-    build_wider given.job.strict Lacked (LacksEarly files (paths_asked given.job (out_path (option_map (λ t. t.now) given.out))) Nothing) files.broke Broke (HasGone files) (IsJobOf files request (Some path))
-    (ServesBuild files given) (λ told lacks. (same_files files given o request path some asks out told lacks.0, lacks.1)) broken (build_serves files given o request path some asks out) why
+    let Lacked = LacksEarly files (paths_of request (out_path (Some path))) Out Nothing in
+    build_wider given.job.strict Lacked (LacksEarly files (paths_asked given.job (out_path (option_map (λ t. t.now) given.out))) Out Nothing) files.broke Broke (HasGone files) (IsJobOf files request (Some path))
+    (ServesBuild files given) (same_files files given Nothing o request path some asks out) broken (build_serves files given o request path some asks out) why
     (subst (λ (strict : Bool). RefusesBuild strict Lacked files.broke (HasGone files) (IsJobOf files request (Some path)) why) (asks_of given.job o request some asks).strict of)
 
 pub build_asked : (given : BuildArgs) (o : Option Request) (request : Request) (path : List ℕ) → o ≡ Some request → is_some o ≡ is_well_formed given.job

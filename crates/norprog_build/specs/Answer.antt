@@ -1,5 +1,5 @@
 -- What is told of a build (this project's).
-use Rattle.std.specs.Prelude.{◌≡◌, ◌⊎◌, ⊤, ℕ, Bool, false, List, [], Option, Some, option_map, Result, Ok, Err}
+use Rattle.std.specs.Prelude.{◌≡◌, ◌⊎◌, ℕ, Bool, false, List, [], Option, Some, option_map, Result, Ok, Err, IfSome}
 use Rattle.std.specs.Io.KnownBytes.{Appends}
 use Rattle.nor_base.specs.Device.{Ahead, Cuts}
 use Rattle.nor_job.specs.declared.fault.BuildFault.{BuildFault}
@@ -9,11 +9,11 @@ use Rattle.norprog.specs.Build.{IsBuilt, StopsWork}
 use Rattle.norprog.specs.Report.{report_text}
 use Rattle.norprog.specs.declared.report.Report.{Report}
 use Rattle.norprog_common.specs.declared.faults.FileName.{FileName}
-use Rattle.norprog_common.specs.declared.faults.FileName.TheVariants as file
+use Rattle.norprog_common.specs.declared.faults.FileName.TheVariants.{Out}
 use Rattle.norprog_common.specs.declared.faults.Refusal.{Refusal}
 use Rattle.norprog_common.specs.declared.faults.Refusal.TheVariants.{Build}
 use Rattle.norprog_common.specs.declared.given.BuildArgs.{BuildArgs}
-use Rattle.norprog_common.specs.FileStore.{FileFacts, Change, Lacks}
+use Rattle.norprog_common.specs.FileStore.{FileFacts, Change, HasGone, LacksEarly}
 use Rattle.norprog_common.specs.Told.{ForAsked, OfFault, RefusesFor, Answers}
 use Rattle.norprog_build.specs.Served.{asks_build, ServesBuild}
 use Rattle.norprog_common.specs.Served.{Job, MakesFor, MayMakeFor, out_path, paths_asked}
@@ -31,19 +31,6 @@ pub record IsReportOf (Sent : Option (List ℕ) → Type 0) (report : Report) (j
 abbrev pub IsBuildReport : (Job → Type 0) → (Option (List ℕ) → Type 0) → Report → Type 0
 IsBuildReport Asked Sent report = ForAsked Job Asked (IsReportOf Sent report)
 
--- a file that is read is opened before the output is made: `Nothing` says that nothing was made
-abbrev pub IsUntouched : Type 0 → FileName → Type 0
-IsUntouched Nothing file.Out = ⊤
-IsUntouched Nothing other = Nothing
-
--- a file couldn't be used, and where it isn't the output, that wasn't touched
-abbrev pub LacksEarly : FileFacts → (FileName → Option (List ℕ)) → Type 0 → FileName → Type 0
-LacksEarly files paths Nothing told = Lacks files paths told × IsUntouched Nothing told
-
--- what an output had taken then has gone out, and it took nothing after that; or it failed
-abbrev pub HasGone : FileFacts → Option (List ℕ) → Type 0
-HasGone files held = files.flushed held ⊎ files.broke
-
 -- the inputs of the job are refused, and its output holds what it held as it was made; or its work stopped, and the output holds what
 -- that wrote. `Gone`: nothing more was written to it
 pub record IsFaultOf (Gone : Option (List ℕ) → Type 0) (why : BuildFault) (j : Job) : Type 0 where
@@ -57,11 +44,15 @@ pub record IsFaultOf (Gone : Option (List ℕ) → Type 0) (why : BuildFault) (j
 abbrev pub IsBuildFault : (Option (List ℕ) → Type 0) → (Job → Type 0) → BuildFault → Type 0
 IsBuildFault Gone Asked why = ForAsked Job Asked (IsFaultOf Gone why)
 
--- why a build that was asked for isn't done; one that was may have failed to go out; `Broke`: an output failed. Under `--strict` also
+-- the output of the job holds what it held as it was made; `Gone`: nothing more was written to it
+abbrev pub IsLeft : (Option (List ℕ) → Type 0) → (Job → Type 0) → Job → Type 0
+IsLeft Gone Asked j = Asked j × IfSome j.begun Gone
+
+-- why a build that was asked for isn't done; one that was may have failed to go out, or its report; `Broke`: an output failed. Under `--strict` also
 -- the first chosen region without a byte of the image, and of a build that went further each has one
 abbrev pub RefusesBuild : Bool → (FileName → Type 0) → Type 0 → (Option (List ℕ) → Type 0) → (Job → Type 0) → Refusal → Type 0
 RefusesBuild strict Lacked Broke Gone Asked =
-    RefusesFor Lacked Broke (OrEmpty strict Asked (OfFault (IsBuildFault Gone (Filled strict Asked)))) ((report : Report) × IsBuildReport (Filled strict Asked) (λ held. ⊤) report)
+    RefusesFor Lacked Broke (OrEmpty strict (IsLeft Gone Asked) (OfFault (IsBuildFault Gone (Filled strict Asked)))) ((report : Report) × IsBuildReport (Filled strict Asked) Gone report)
 
 -- the report of a job that was asked for and built was printed, and nothing else
 pub record PrintsReport (Asked : Job → Type 0) (Sent : Option (List ℕ) → Type 0) (before after : Option (List ℕ)) : Type 0 where
@@ -90,6 +81,6 @@ AnswersBuild files given Made Broke before after Quiet Works told_before told_af
     × MakesFor files given.job (option_map (λ t. t.now) given.out) Made × Quiet)
     (CutsReport (Filled given.job.strict (ServesBuild files given)) files.flushed before after
     × (MayMakeFor files given.job (option_map (λ t. t.now) given.out) Made × (asks_build given ≡ false → Made [])))
-    (RefusesBuild given.job.strict (LacksEarly files (paths_asked given.job (out_path (option_map (λ t. t.now) given.out))) (Made [])) Broke (HasGone files)
+    (RefusesBuild given.job.strict (LacksEarly files (paths_asked given.job (out_path (option_map (λ t. t.now) given.out))) Out (Made [])) Broke (HasGone files)
     (ServesBuild files given))
     Works told_before told_after status

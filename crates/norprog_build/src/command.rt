@@ -6,8 +6,9 @@ ghost use Rattle.std.specs.Prelude.{IfOk, IfErr, MatchResult};
 ghost use Rattle.norprog_common.specs.Told.{OrUsage};
 ghost use Rattle.norprog_build.specs.Served.{asks_build, ServesBuild};
 ghost use Rattle.norprog_build.specs.Answer.{IsBuildReport, RefusesBuild, PrintsReport, CutsReport};
-ghost use Rattle.norprog_build.specs.Answer.{AnswersBuild, HasGone, LacksEarly, done};
-ghost use Rattle.norprog_common.specs.FileStore.{Adds, Breaks, MakesIf};
+ghost use Rattle.norprog_build.specs.Answer.{AnswersBuild, done};
+ghost use Rattle.norprog_common.specs.FileStore.{Adds, Breaks, HasGone, LacksEarly, MakesIf};
+ghost use Rattle.norprog_common.specs.declared.faults.FileName.TheVariants.{Out};
 ghost use Rattle.norprog_common.specs.Served.{IsJobOf, MakesFor, MayMakeFor, input_files_of};
 ghost use Rattle.norprog_common.specs.Served.{out_path, paths_asked, paths_of};
 ghost use Rattle.norprog_common.specs.Strict.{Filled};
@@ -74,7 +75,7 @@ fn report_build<S: FileStore, O: ByteOut>(
     ensures first { IfErr result
         (OrUsage (asks_build given.entry)
         (RefusesBuild given.entry.job.strict (LacksEarly (S.facts store.now)
-        (paths_asked given.entry.job (out_path (option_map (λ t. t.now) given.entry.out)))
+        (paths_asked given.entry.job (out_path (option_map (λ t. t.now) given.entry.out))) Out
         (Adds (S.Journal.changes journal.old) (S.Journal.changes journal.new) []))
         (Breaks (S.facts store.now) (O.count out.old) (O.count out.new))
         (HasGone (S.facts store.now)) (ServesBuild (S.facts store.now) given.entry))) }
@@ -103,7 +104,7 @@ fn run_build<S: FileStore>(
         (IsJobOf (S.facts store.now) request.now (Some path.now)))
         (S.facts store.now).flushed) }
     ensures refused { IfErr result (RefusesBuild request.now.strict
-        (LacksEarly (S.facts store.now) (paths_of request.now (out_path (Some path.now)))
+        (LacksEarly (S.facts store.now) (paths_of request.now (out_path (Some path.now))) Out
         (Adds (S.Journal.changes journal.old) (S.Journal.changes journal.new) []))
         (S.facts store.now).broke (HasGone (S.facts store.now))
         (IsJobOf (S.facts store.now) request.now (Some path.now))) }
@@ -112,10 +113,23 @@ fn run_build<S: FileStore>(
     let (texts, mut content, len) = open_job(alloc, store, request, &mut places)?;
     let mut script = store.create(journal, alloc, path, FileName::Out, places.as_slice())?;
     let inputs = inputs_of(request, &texts);
-    refuse_empty(alloc, request.strict, &inputs, len)?;
+    match refuse_empty(alloc, request.strict, &inputs, len) {
+        Ok(()) => {}
+        Err(refusal) => return Err(left(store, script, refusal)),
+    }
     let answer = norprog::build(alloc, &inputs, &mut content, len, &mut script);
     let flushed = store.flush(script);
     done(answer, flushed)
+}
+
+/// Flushes the file of a build that is refused before it began; returns that refusal.
+fn left<S: FileStore>(store: &S, script: S::Output, refusal: Refusal) -> Refusal
+    ensures gone { HasGone (S.facts store.now) (S.Output.held script) }
+    ensures same { result ≡ refusal }
+{
+    match store.flush(script) {
+        Ok(()) | Err(_) => refusal,
+    }
 }
 
 /// The report of a build whose file was flushed: done only where both are.

@@ -43,7 +43,7 @@ AnswersTo files Failed Made Unprinted (command.Check given) before after Quiet W
 AnswersTo files Failed Made Unprinted (command.Run given) before after Quiet Works told_before told_after status =
     AnswersRun files Failed given Made (files.broke ⊎ Unprinted) before after Quiet Works told_before told_after status
 AnswersTo files Failed Made Unprinted (command.List given) before after Quiet Works told_before told_after status =
-    Made [] × AnswersList files given Unprinted before after Quiet Works told_before told_after status
+    Made [] × AnswersList files Failed given Unprinted before after Quiet Works told_before told_after status
 AnswersTo files Failed Made Unprinted (command.Draw given) before after Quiet Works told_before told_after status =
     (after ≡ before) × AnswersDraw files given Made Quiet Works told_before told_after status
 AnswersTo files Failed Made Unprinted (command.Play given) before after Quiet Works told_before told_after status =
@@ -55,7 +55,7 @@ AnswersTo files Failed Made Unprinted (command.Flash given) before after Quiet W
 AnswersTo files Failed Made Unprinted (command.Sfdp given) before after Quiet Works told_before told_after status =
     Made [] × AnswersChip files given Unprinted before after Quiet Works told_before told_after status
 AnswersTo files Failed Made Unprinted (command.Hex given) before after Quiet Works told_before told_after status =
-    (after ≡ before) × AnswersHex files given Made Quiet Works told_before told_after status
+    (after ≡ before) × AnswersHex files Failed given Made Quiet Works told_before told_after status
 AnswersTo files Failed Made Unprinted (command.Script given) before after Quiet Works told_before told_after status =
     AnswersScript files given Made (files.broke ⊎ Unprinted) before after Quiet Works told_before told_after status
 AnswersTo files Failed Made Unprinted (command.Explain words) before after Quiet Works told_before told_after status =

@@ -1,5 +1,5 @@
 -- Which file couldn't be used, by the option that names it.
-use Rattle.std.proofs.Common.{◌≡◌, ◌∙◌, ℕ, List, Option, Some, None, option_map, refl, sym, ap, subst}
+use Rattle.std.proofs.Common.{◌≡◌, ◌∙◌, ℕ, inl, inr, List, Option, Some, None, option_map, refl, sym, ap, subst}
 use Rattle.nor_job.specs.declared.fault.BuildFault.TheVariants as fault
 use Rattle.norprog_common.specs.declared.faults.FileName.{FileName}
 use Rattle.norprog_common.specs.declared.faults.FileName.TheVariants as name
@@ -9,7 +9,7 @@ use Rattle.norprog_common.specs.declared.given.Given.{Given}
 use Rattle.norprog_common.specs.declared.request.Request.{Request}
 use Rattle.norprog_common.specs.Chip.{Origin, Uniform, origin_of, chosen_origin}
 use Rattle.norprog_common.specs.Files.{RefusesFile, TellsFile}
-use Rattle.norprog_common.specs.FileStore.{FileFacts, Lacks, LacksNamed, tables_name}
+use Rattle.norprog_common.specs.FileStore.{FileFacts, Lacks, LacksEarly, LacksNamed, tables_name}
 use Rattle.norprog_common.specs.Request.{AsksFor}
 use Rattle.norprog_common.specs.Served.{job_paths, paths_of, paths_asked, no_path}
 use Rattle.norprog_common.specs.Values.{decimal_of}
@@ -77,6 +77,22 @@ lacks_at files paths name path why at = lacks_named files paths name (Some path)
 pub lacks_same : (files : FileFacts) (paths others : FileName → Option (List ℕ)) → Path (FileName → Option (List ℕ)) paths others → (told : FileName)
     → Lacks files paths told → Lacks files others told
 lacks_same files paths others same told lacks = subst (λ (ps : FileName → Option (List ℕ)). Lacks files ps told) same lacks
+
+-- a file that couldn't be used before the output was made
+pub lacks_early : (files : FileFacts) (paths : FileName → Option (List ℕ)) (out : FileName) (Nothing : Type 0) (why : Refusal) → Nothing
+    → TellsFile (Lacks files paths) why → TellsFile (LacksEarly files paths out Nothing) why
+lacks_early files paths out Nothing why none =
+    files_wider (Lacks files paths) (LacksEarly files paths out Nothing) (λ told lacks. (lacks, inr none)) why
+
+-- an output that couldn't be made is told by its own name
+pub lacks_output : (files : FileFacts) (paths : FileName → Option (List ℕ)) (out : FileName) (Nothing : Type 0) (why : Refusal) → RefusesFile out why
+    → TellsFile (Lacks files paths) why → TellsFile (LacksEarly files paths out Nothing) why
+lacks_output files paths out Nothing why =
+    files_both (λ told. told ≡ out) (Lacks files paths) (LacksEarly files paths out Nothing) (λ told is lacks. (lacks, inl is)) why
+
+pub early_same : (files : FileFacts) (paths others : FileName → Option (List ℕ)) (out : FileName) (Nothing : Type 0) → Path (FileName → Option (List ℕ)) paths others
+    → (told : FileName) → LacksEarly files paths out Nothing told → LacksEarly files others out Nothing told
+early_same files paths others out Nothing same told lacks = (lacks_same files paths others same told lacks.0, lacks.1)
 
 -- a command with more files than those of its job
 pub lacks_own : (files : FileFacts) (hex layout tables content : Option (List ℕ)) (own : FileName → Option (List ℕ)) (told : FileName)

@@ -120,6 +120,18 @@ LacksNamed files named told = Named (λ name. files.lacked name told) named
 abbrev pub Lacks : FileFacts → (FileName → Option (List ℕ)) → FileName → Type 0
 Lacks files paths told = LacksNamed files (paths told) told
 
+-- each other file is opened before the output is made, which is reported as `out`: `Nothing` says that nothing was made
+abbrev pub LeavesOutput : FileName → Type 0 → FileName → Type 0
+LeavesOutput out Nothing told = (told ≡ out) ⊎ Nothing
+
+-- a file couldn't be used, and where it isn't the output, that wasn't touched
+abbrev pub LacksEarly : FileFacts → (FileName → Option (List ℕ)) → FileName → Type 0 → FileName → Type 0
+LacksEarly files paths out Nothing told = Lacks files paths told × LeavesOutput out Nothing told
+
+-- what an output had taken then has gone out, and it took nothing after that; or it failed
+abbrev pub HasGone : FileFacts → Option (List ℕ) → Type 0
+HasGone files held = files.flushed held ⊎ files.broke
+
 -- an output failed: one that was made, or the one that is printed to, whose count of failures rose
 abbrev pub Breaks : FileFacts → ℕ → ℕ → Type 0
 Breaks files before after = files.broke ⊎ (before < after)

@@ -69,7 +69,7 @@ module _ (joins : PartsJoin) (at done n : ℕ) (seam : IsSeam at done) (a b c : 
 
   -- too few bytes in a part are too few in all
   pub still_short : (len k k' k'' : ℕ) → k' ≡ k → done + n ≤ len → FallsShort k' k'' n b c → FallsShort k k'' len a c
-  still_short len k k' k'' same within (inl failed) = inl (failed ∙ ap (λ m. m + 1) same)
+  still_short len k k' k'' same within (inl failed) = inl (failed.0 ∙ ap (λ m. m + 1) same, (_, Gives-append a b c before.bytes failed.1.0 before.given failed.1.1))
   still_short len k k' k'' same within (inr short) =
       let fewer = short.fewer in
       let so_far = before.long in
@@ -132,7 +132,7 @@ falls_short (Ok n) want buffer k k' a b why size is fills counts =
     let fewer : n < want = grind (arith, other, most, size) in
     let long : length (take n buffer) ≡ n = length-take-le n buffer most in
     inr (record { bytes = take n buffer; fewer = omega (arith, long, fewer); given = fills.1; ended = fills.2 (omega (arith, fewer, size)) })
-falls_short (Err failed) want buffer k k' a b why size is fills counts = inl counts
+falls_short (Err failed) want buffer k k' a b why size is fills counts = inl (counts, (_, fills.2))
 
 -- after all bytes more came
 pub more_came : (given : Result ℕ Failed) (buffer : List ℕ) (at len k k' : ℕ) (a b c : Ahead) (h i : Option (List ℕ)) (why : Refusal) → WasRead at len a b h i → complete given 0 ≡ Err why → Fills b c given buffer
@@ -147,7 +147,8 @@ more_came (Ok n) buffer at len k k' a b c h i why before is fills counts =
       more = omega (arith, length-append before.bytes (take n buffer), long, so_far, some);
       given = Gives-append a b c before.bytes (take n buffer) before.given fills.1;
     })
-more_came (Err failed) buffer at len k k' a b c h i why before is fills counts = inl (inl counts)
+more_came (Err failed) buffer at len k k' a b c h i why before is fills counts =
+    inl (inl (counts, (_, Gives-append a b c before.bytes _ before.given fills.2)))
 
 -- the reader has no more
 pub ended : (given : Result ℕ Failed) (buffer : List ℕ) (b c : Ahead) → complete given 0 ≡ Ok tt → 0 < length buffer → Fills b c given buffer → Gives b [] c × IsAtEnd c

@@ -1,11 +1,11 @@
 -- What is written for a request is what its texts ask for, and what is so of it is so of that.
-use Rattle.std.proofs.Common.{◌≡◌, ◌∙◌, arith, ◌+◌, ◌<◌, ◌≤◌, ◌^◌, option_map, option_to_list, Bool, true, false, refl, sym, subst, List, [], ◌∷◌, ℕ, Option, Result, Ok, Err, IfOk, IfErr, inl, inr}
-use Rattle.std.specs.Prelude.{⊤, IsErrAnd}
+use Rattle.std.proofs.Common.{◌≡◌, ◌⊎◌, ◌∙◌, arith, ◌+◌, ◌<◌, ◌≤◌, ◌^◌, option_map, option_to_list, Bool, true, false, refl, sym, subst, List, [], ◌∷◌, ℕ, Option, Result, Ok, Err, IfOk, IfErr, inl, inr}
+use Rattle.std.specs.Prelude.{IsErrAnd}
 use Rattle.nor_base.specs.Device.{Ahead}
 use Rattle.nor_base.proofs.FaultLaws.{handed_on}
 use Rattle.nor_job.specs.declared.fault.BuildFault.TheVariants as fault
 use Rattle.std.specs.Io.KnownBytes.{Appends}
-use Rattle.norprog_common.specs.FileStore.{Change, FileFacts, IsMadeApart, Lacks, MakesIf, MakesNamed, MayMake, Named}
+use Rattle.norprog_common.specs.FileStore.{Change, FileFacts, HasGone, IsMadeApart, LacksEarly, MakesIf, MakesNamed, MayMake, Named}
 use Rattle.norprog_common.specs.Lines.{printed, status_after}
 use Rattle.norprog_common.specs.Files.{TellsFile, RefusesFile}
 use Rattle.norprog_common.specs.declared.faults.FileName.{FileName}
@@ -13,13 +13,15 @@ use Rattle.norprog_common.specs.declared.faults.FileName.TheVariants as file
 use Rattle.norprog_common.specs.declared.faults.Refusal.{Refusal}
 use Rattle.norprog_common.specs.declared.faults.Refusal.TheVariants.{File, Build, BinSize}
 use Rattle.norprog_common.specs.Content.{CountsWriter, of_writer}
+use Rattle.norprog_common.specs.Reading.{HasFailed}
 use Rattle.norprog_common.specs.Told.{Answers, ForAsked, OrUsage, TellsBroken}
-use Rattle.norprog_common.proofs.LackedLemmas.{lacks_same}
+use Rattle.norprog_common.proofs.LackedLemmas.{early_same}
+use Rattle.norprog_common.proofs.StoreLemmas.{gone_out}
 use Rattle.norprog_common.proofs.ToldLemmas.{asked_wider, or_usage}
 use Rattle.norprog_common.specs.declared.given.HexArgs.{HexArgs}
 use Rattle.norprog_hex.specs.declared.request.HexRequest.{HexRequest}
-use Rattle.norprog_hex.specs.Answer.{Fits, IsTooLong, IsUnmade, IsWritten, IsCut, IsBegun, RefusesHex, done}
-use Rattle.norprog_hex.specs.Converted.{WasConverted, StopsConverting}
+use Rattle.norprog_hex.specs.Answer.{Fits, HasOtherLength, IsTooLong, IsUnmade, IsWritten, IsCut, IsBegun, RefusesHex, done}
+use Rattle.norprog_hex.specs.Converted.{BreaksOff, WasConverted, StopsConverting}
 use Rattle.norprog_hex.specs.Request.{is_well_formed, AsksFor}
 use Rattle.norprog_hex.specs.Served.{BinTask, HexTask, IsBinOf, IsTaskOf, ServesBin, Serves, paths_asked, paths_of}
 
@@ -43,45 +45,45 @@ written_asked files given request (Ok x) asks of = asked_wider HexTask (IsTaskOf
 written_asked files given request (Err why) asks of = tt
 
 -- with more of either task no refusal is lost
-wider : (L M : FileName → Type 0) (C : Type 0) (O P : BinTask → Type 0) (A B : HexTask → Type 0) → ((told : FileName) → L told → M told) → ((t : BinTask) → O t → P t) → ((t : HexTask) → A t → B t) → (why : Refusal)
-    → RefusesHex L C O A why → RefusesHex M C P B why
-wider L M C O P A B files opened asked (File file.Bin) is = elim is [ inl lacks ↦ inl (files file.Bin lacks) | inr work ↦ inr (asked_wider HexTask A B IsBegun asked work) ]
-wider L M C O P A B files opened asked (File file.Out) is = (files file.Out is.0, asked_wider BinTask O P Fits opened is.1)
-wider L M C O P A B files opened asked BinSize is = asked_wider BinTask O P IsTooLong opened is
-wider L M C O P A B files opened asked (Build fault.Memory) is = tt
-wider L M C O P A B files opened asked (Build fault.Write) is =
-    (elim is.0 [ inl cut ↦ inl (asked_wider HexTask A B IsCut asked cut) | inr late ↦ inr (asked_wider HexTask A B (IsWritten (λ held. ⊤)) asked late) ], is.1)
-wider L M C O P A B files opened asked other is = absurd is
+wider : (L M : FileName → Type 0) (C : Type 0) (F : Ahead → Type 0) (G : Option (List ℕ) → Type 0) (O P : BinTask → Type 0) (A B : HexTask → Type 0) → ((told : FileName) → L told → M told) → ((t : BinTask) → O t → P t) → ((t : HexTask) → A t → B t) → (why : Refusal)
+    → RefusesHex L C F G O A why → RefusesHex M C F G P B why
+wider L M C F G O P A B files opened asked (File file.Bin) is = elim is [ inl lacks ↦ inl (files file.Bin lacks) | inr work ↦ inr (asked_wider HexTask A B (IsBegun F G) asked work) ]
+wider L M C F G O P A B files opened asked (File file.Out) is = (files file.Out is.0, asked_wider BinTask O P Fits opened is.1)
+wider L M C F G O P A B files opened asked BinSize is = asked_wider BinTask O P IsTooLong opened is
+wider L M C F G O P A B files opened asked (Build fault.Memory) is = tt
+wider L M C F G O P A B files opened asked (Build fault.Write) is =
+    (elim is.0 [ inl cut ↦ inl (asked_wider HexTask A B IsCut asked cut) | inr late ↦ inr (asked_wider HexTask A B (IsWritten G) asked late) ], is.1)
+wider L M C F G O P A B files opened asked other is = absurd is
 
 -- the files of a request are those that the texts name
 same_paths : (given : HexArgs) (request : HexRequest) → AsksFor given request → Path (FileName → Option (List ℕ)) (paths_of request) (paths_asked given)
 same_paths given request asks = rw (asks.bin, asks.out) refl
 
-pub refusals_asked : {T : Type 0} (files : FileFacts) (given : HexArgs) (request : HexRequest) (r : Result T Refusal) → AsksFor given request → is_well_formed given ≡ true
-    → IfErr r (RefusesHex (Lacks files (paths_of request)) files.broke (IsBinOf files request) (IsTaskOf files request))
-    → IfErr r (OrUsage (is_well_formed given) (RefusesHex (Lacks files (paths_asked given)) files.broke (ServesBin files given) (Serves files given)))
-refusals_asked files given request (Ok x) asks formed of = tt
-refusals_asked files given request (Err why) asks formed of =
-    or_usage _ _ _ formed (wider (Lacks files (paths_of request)) (Lacks files (paths_asked given)) files.broke (IsBinOf files request) (ServesBin files given)
-    (IsTaskOf files request) (Serves files given) (lacks_same files (paths_of request) (paths_asked given) (same_paths given request asks)) (serves_bin files given request asks) (serves files given request asks) why of)
+pub refusals_asked : {T : Type 0} (files : FileFacts) (given : HexArgs) (request : HexRequest) (F : Ahead → Type 0) (Nothing : Type 0) (r : Result T Refusal) → AsksFor given request → is_well_formed given ≡ true
+    → IfErr r (RefusesHex (LacksEarly files (paths_of request) file.Out Nothing) files.broke F (HasGone files) (IsBinOf files request) (IsTaskOf files request))
+    → IfErr r (OrUsage (is_well_formed given) (RefusesHex (LacksEarly files (paths_asked given) file.Out Nothing) files.broke F (HasGone files) (ServesBin files given) (Serves files given)))
+refusals_asked files given request F Nothing (Ok x) asks formed of = tt
+refusals_asked files given request F Nothing (Err why) asks formed of =
+    or_usage _ _ _ formed (wider (LacksEarly files (paths_of request) file.Out Nothing) (LacksEarly files (paths_asked given) file.Out Nothing) files.broke F (HasGone files) (IsBinOf files request) (ServesBin files given)
+    (IsTaskOf files request) (Serves files given) (early_same files (paths_of request) (paths_asked given) file.Out Nothing (same_paths given request asks)) (serves_bin files given request asks) (serves files given request asks) why of)
 
 -- a file that couldn't be opened
-pub unopened : {T : Type 0} (Lacked : FileName → Type 0) (Broke : Type 0) (Opened : BinTask → Type 0) (Asked : HexTask → Type 0) (r : Result T Refusal) (why : Refusal) → IsErrAnd r (λ told. told ≡ why)
-    → RefusesFile file.Bin why → TellsFile Lacked why → IfErr r (RefusesHex Lacked Broke Opened Asked)
-unopened Lacked Broke Opened Asked r why is named lacked = handed_on (RefusesHex Lacked Broke Opened Asked) r why is (of why named lacked)
+pub unopened : {T : Type 0} (Lacked : FileName → Type 0) (Broke : Type 0) (F : Ahead → Type 0) (Gone : Option (List ℕ) → Type 0) (Opened : BinTask → Type 0) (Asked : HexTask → Type 0) (r : Result T Refusal) (why : Refusal) → IsErrAnd r (λ told. told ≡ why)
+    → RefusesFile file.Bin why → TellsFile Lacked why → IfErr r (RefusesHex Lacked Broke F Gone Opened Asked)
+unopened Lacked Broke F Gone Opened Asked r why is named lacked = handed_on (RefusesHex Lacked Broke F Gone Opened Asked) r why is (of why named lacked)
   where
-    of : (why : Refusal) → RefusesFile file.Bin why → TellsFile Lacked why → RefusesHex Lacked Broke Opened Asked why
-    of (File told) named lacked = subst (λ n. RefusesHex Lacked Broke Opened Asked (File n)) (sym named) (inl (subst Lacked named lacked))
+    of : (why : Refusal) → RefusesFile file.Bin why → TellsFile Lacked why → RefusesHex Lacked Broke F Gone Opened Asked why
+    of (File told) named lacked = subst (λ n. RefusesHex Lacked Broke F Gone Opened Asked (File n)) (sym named) (inl (subst Lacked named lacked))
     of (Build fault.Memory) named lacked = tt
     of other named lacked = absurd named
 
 -- one that couldn't be made
-pub unmade : {T : Type 0} (Lacked : FileName → Type 0) (Broke : Type 0) (Opened : BinTask → Type 0) (Asked : HexTask → Type 0) (r : Result T Refusal) (why : Refusal) → IsErrAnd r (λ told. told ≡ why)
-    → ForAsked BinTask Opened Fits → RefusesFile file.Out why → TellsFile Lacked why → IfErr r (RefusesHex Lacked Broke Opened Asked)
-unmade Lacked Broke Opened Asked r why is fits named lacked = handed_on (RefusesHex Lacked Broke Opened Asked) r why is (of why named lacked)
+pub unmade : {T : Type 0} (Lacked : FileName → Type 0) (Broke : Type 0) (F : Ahead → Type 0) (Gone : Option (List ℕ) → Type 0) (Opened : BinTask → Type 0) (Asked : HexTask → Type 0) (r : Result T Refusal) (why : Refusal) → IsErrAnd r (λ told. told ≡ why)
+    → ForAsked BinTask Opened Fits → RefusesFile file.Out why → TellsFile Lacked why → IfErr r (RefusesHex Lacked Broke F Gone Opened Asked)
+unmade Lacked Broke F Gone Opened Asked r why is fits named lacked = handed_on (RefusesHex Lacked Broke F Gone Opened Asked) r why is (of why named lacked)
   where
-    of : (why : Refusal) → RefusesFile file.Out why → TellsFile Lacked why → RefusesHex Lacked Broke Opened Asked why
-    of (File told) named lacked = subst (λ n. RefusesHex Lacked Broke Opened Asked (File n)) (sym named) (subst Lacked named lacked, fits)
+    of : (why : Refusal) → RefusesFile file.Out why → TellsFile Lacked why → RefusesHex Lacked Broke F Gone Opened Asked why
+    of (File told) named lacked = subst (λ n. RefusesHex Lacked Broke F Gone Opened Asked (File n)) (sym named) (subst Lacked named lacked, fits)
     of (Build fault.Memory) named lacked = tt
     of other named lacked = absurd named
 
@@ -107,7 +109,7 @@ module _ (files : FileFacts) (request : HexRequest) (ahead : Ahead) (len : ℕ) 
   too_long past = record { it = bin_task; asked = bin_asked; has = past }
 
   -- a text whose file was flushed
-  module _ (begun after : Option (List ℕ)) (made : IsMadeApart files (request.bin.now ∷ []) request.out.now begun) (fits : request.at + len ≤ 2 ^ 32) where
+  module _ (Nothing : Type 0) (begun after : Option (List ℕ)) (made : IsMadeApart files (request.bin.now ∷ []) request.out.now begun) (fits : request.at + len ≤ 2 ^ 32) where
     abbrev task : HexTask
     task = record { bin = bin_task; begun = begun }
 
@@ -117,12 +119,13 @@ module _ (files : FileFacts) (request : HexRequest) (ahead : Ahead) (len : ℕ) 
     was_written : (Sent : Option (List ℕ) → Type 0) (rest : Ahead) → Sent after → WasConverted request.at len ahead rest begun after → ForAsked HexTask (IsTaskOf files request) (IsWritten Sent)
     was_written Sent rest sent is = record { it = task; asked = asked; has = record { fits = fits; rest = rest; after = after; converted = is; sent = sent } }
 
-    was_stopped : (why : Refusal) → TellsBroken files.broke why → StopsConverting request.at ahead begun after why
-        → RefusesHex (Lacks files (paths_of request)) files.broke (IsBinOf files request) (IsTaskOf files request) why
-    was_stopped (File file.Bin) broke is = inr (record { it = task; asked = asked; has = record { after = after; begun = is } })
-    was_stopped (Build fault.Write) broke is = (inl (record { it = task; asked = asked; has = record { after = after; cut = is } }), broke)
-    was_stopped (Build fault.Memory) broke is = tt
-    was_stopped other broke is = absurd is
+    was_stopped : (F : Ahead → Type 0) (why : Refusal) → HasGone files after → (why ≡ File file.Bin → F ahead ⊎ HasOtherLength bin_task) → TellsBroken files.broke why
+        → StopsConverting request.at ahead begun after why
+        → RefusesHex (LacksEarly files (paths_of request) file.Out Nothing) files.broke F (HasGone files) (IsBinOf files request) (IsTaskOf files request) why
+    was_stopped F (File file.Bin) gone cause broke is = inr (record { it = task; asked = asked; has = record { after = after; begun = is; cause = cause refl; gone = gone } })
+    was_stopped F (Build fault.Write) gone cause broke is = (inl (record { it = task; asked = asked; has = record { after = after; cut = is } }), broke)
+    was_stopped F (Build fault.Memory) gone cause broke is = tt
+    was_stopped F other gone cause broke is = absurd is
 
     pub done_is_written : {T U E : Type 0} (rest : Ahead) (answer : Result T Refusal) (flushed : Result U E) (r : Result ℕ Refusal)
         → IfOk answer (λ _. WasConverted request.at len ahead rest begun after) → IfOk flushed (λ _. files.flushed after) → r ≡ done answer flushed
@@ -131,14 +134,27 @@ module _ (files : FileFacts) (request : HexRequest) (ahead : Ahead) (len : ℕ) 
     done_is_written rest (Ok x) (Err e) r written sent is = rw is tt
     done_is_written rest (Ok x) (Ok u) r written sent is = rw is (was_written files.flushed rest sent written)
 
-    pub done_is_refused : {T U E : Type 0} (rest : Ahead) (k k' : ℕ) (answer : Result T Refusal) (flushed : Result U E) (r : Result ℕ Refusal)
+    pub done_is_refused : {T U E : Type 0} (F : Ahead → Type 0) (rest : Ahead) (k k' : ℕ) (answer : Result T Refusal) (flushed : Result U E) (r : Result ℕ Refusal)
         → IfOk answer (λ _. WasConverted request.at len ahead rest begun after) → IfErr answer (StopsConverting request.at ahead begun after)
-        → k ≡ 0 → CountsWriter k k' answer → IfOk flushed (λ _. k' ≡ 0) → IfErr flushed (λ _. files.broke) → r ≡ done answer flushed
-        → IfErr r (RefusesHex (Lacks files (paths_of request)) files.broke (IsBinOf files request) (IsTaskOf files request))
-    done_is_refused rest k k' (Err why) flushed r written stopped none counts whole broke is =
-        rw is (was_stopped why (told_broken files.broke k k' why flushed none counts whole broke) stopped)
-    done_is_refused rest k k' (Ok x) (Err e) r written stopped none counts whole broke is = rw is (inr (was_written (λ held. ⊤) rest tt written), broke)
-    done_is_refused rest k k' (Ok x) (Ok u) r written stopped none counts whole broke is = rw is tt
+        → IfErr answer (λ why. why ≡ File file.Bin → F ahead ⊎ HasOtherLength bin_task) → k ≡ 0 → CountsWriter k k' answer → IfOk flushed (λ _. k' ≡ 0) → IfOk flushed (λ _. files.flushed after) → IfErr flushed (λ _. files.broke) → r ≡ done answer flushed
+        → IfErr r (RefusesHex (LacksEarly files (paths_of request) file.Out Nothing) files.broke F (HasGone files) (IsBinOf files request) (IsTaskOf files request))
+    done_is_refused F rest k k' (Err why) flushed r written stopped cause none counts whole sent broke is =
+        rw is (was_stopped F why (gone_out files after flushed sent broke) cause (told_broken files.broke k k' why flushed none counts whole broke) stopped)
+    done_is_refused F rest k k' (Ok x) (Err e) r written stopped cause none counts whole sent broke is = rw is (inr (was_written (HasGone files) rest (inr broke) written), broke)
+    done_is_refused F rest k k' (Ok x) (Ok u) r written stopped cause none counts whole sent broke is = rw is tt
+
+-- why the file couldn't be read as said
+broken : {R : Type 0} (ahead : R → Ahead) (count : R → ℕ) (bin bin' : R) (len at : ℕ) → BreaksOff (count bin) (count bin') len (ahead bin) (ahead bin')
+    → HasFailed ahead count (ahead bin) ⊎ HasOtherLength (record { ahead = ahead bin; len = len; at = at })
+broken ahead count bin bin' len at (inl (inl failed)) = let one = failed.0 in inl (record { reader = bin'; gave = failed.1; failed = omega (arith, one) })
+broken ahead count bin bin' len at (inl (inr short)) = inr (ahead bin', inl short)
+broken ahead count bin bin' len at (inr long) = inr (ahead bin', inr long)
+
+pub all_broken : {R T : Type 0} (ahead : R → Ahead) (count : R → ℕ) (bin bin' : R) (len at : ℕ) (r : Result T Refusal)
+    → IfErr r (λ why. why ≡ File file.Bin → BreaksOff (count bin) (count bin') len (ahead bin) (ahead bin'))
+    → IfErr r (λ why. why ≡ File file.Bin → HasFailed ahead count (ahead bin) ⊎ HasOtherLength (record { ahead = ahead bin; len = len; at = at }))
+all_broken ahead count bin bin' len at (Ok x) breaks = tt
+all_broken ahead count bin bin' len at (Err why) breaks = λ is. broken ahead count bin bin' len at (breaks is)
 
 -- a file that can't be used is told by its name
 pub unmade_file : (P : Type 0) (name : FileName) (why : Refusal) → RefusesFile name why → IsUnmade P why

@@ -7,9 +7,9 @@ use Rattle.norprog_common.specs.declared.faults.FileName.TheVariants as file
 use Rattle.norprog_common.specs.declared.faults.Refusal.{Refusal}
 use Rattle.norprog_common.specs.declared.faults.Refusal.TheVariants.{Usage, File, Build, BinSize}
 use Rattle.norprog_common.specs.declared.given.HexArgs.{HexArgs}
-use Rattle.norprog_common.specs.FileStore.{FileFacts, Change, Lacks, MakesNamed, MayMake}
+use Rattle.norprog_common.specs.FileStore.{FileFacts, Change, HasGone, LacksEarly, MakesNamed, MayMake}
 use Rattle.norprog_common.specs.Told.{ForAsked, Answers}
-use Rattle.norprog_hex.specs.Converted.{WasConverted, WasBegun, WasCut}
+use Rattle.norprog_hex.specs.Converted.{IsLonger, IsShorter, WasConverted, WasBegun, WasCut}
 use Rattle.norprog_hex.specs.Request.{is_well_formed}
 use Rattle.norprog_hex.specs.Served.{BinTask, HexTask, ServesBin, Serves, paths_asked}
 
@@ -33,19 +33,26 @@ pub record IsCut (t : HexTask) : Type 0 where
   pub after : Option (List ℕ)
   pub cut : WasCut t.bin.at t.bin.ahead t.begun after
 
--- the file couldn't be read as said: the output has no end record
-pub record IsBegun (t : HexTask) : Type 0 where
+-- the file has fewer bytes than its length when it was opened, or more
+abbrev pub HasOtherLength : BinTask → Type 0
+HasOtherLength t = (rest : Ahead) × (IsShorter t.len t.ahead rest ⊎ IsLonger t.len t.ahead rest)
+
+-- a reading of the file failed, or it hasn't its length: the output has no end record. `Failed`: a reader that had this ahead has
+-- failed; `Gone`: nothing more was written to the output
+pub record IsBegun (Failed : Ahead → Type 0) (Gone : Option (List ℕ) → Type 0) (t : HexTask) : Type 0 where
   pub after : Option (List ℕ)
   pub begun : WasBegun t.bin.at t.bin.ahead t.begun after
+  pub cause : Failed t.bin.ahead ⊎ HasOtherLength t.bin
+  pub gone : Gone after
 
 -- why what was asked for isn't written; `write` is told only where an output failed, as `Broke` says
-abbrev pub RefusesHex : (FileName → Type 0) → Type 0 → (BinTask → Type 0) → (HexTask → Type 0) → Refusal → Type 0
-RefusesHex Lacked Broke Opened Asked (File file.Bin) = Lacked file.Bin ⊎ ForAsked HexTask Asked IsBegun
-RefusesHex Lacked Broke Opened Asked (File file.Out) = Lacked file.Out × ForAsked BinTask Opened Fits
-RefusesHex Lacked Broke Opened Asked BinSize = ForAsked BinTask Opened IsTooLong
-RefusesHex Lacked Broke Opened Asked (Build fault.Memory) = ⊤
-RefusesHex Lacked Broke Opened Asked (Build fault.Write) = (ForAsked HexTask Asked IsCut ⊎ ForAsked HexTask Asked (IsWritten (λ held. ⊤))) × Broke
-RefusesHex Lacked Broke Opened Asked other = ⊥
+abbrev pub RefusesHex : (FileName → Type 0) → Type 0 → (Ahead → Type 0) → (Option (List ℕ) → Type 0) → (BinTask → Type 0) → (HexTask → Type 0) → Refusal → Type 0
+RefusesHex Lacked Broke Failed Gone Opened Asked (File file.Bin) = Lacked file.Bin ⊎ ForAsked HexTask Asked (IsBegun Failed Gone)
+RefusesHex Lacked Broke Failed Gone Opened Asked (File file.Out) = Lacked file.Out × ForAsked BinTask Opened Fits
+RefusesHex Lacked Broke Failed Gone Opened Asked BinSize = ForAsked BinTask Opened IsTooLong
+RefusesHex Lacked Broke Failed Gone Opened Asked (Build fault.Memory) = ⊤
+RefusesHex Lacked Broke Failed Gone Opened Asked (Build fault.Write) = (ForAsked HexTask Asked IsCut ⊎ ForAsked HexTask Asked (IsWritten Gone)) × Broke
+RefusesHex Lacked Broke Failed Gone Opened Asked other = ⊥
 
 -- that the file fits is known before the output is made: `Nothing` says that nothing was made
 abbrev pub IsUnmade : Type 0 → Refusal → Type 0
@@ -53,15 +60,16 @@ IsUnmade Nothing BinSize = Nothing
 IsUnmade Nothing Usage = Nothing
 IsUnmade Nothing other = ⊤
 
--- what `hex` answers to the texts of a command line, where `Made` says which changes it made: status 0 where it was written and has
--- gone out, and just the output was made; or a refusal, and at most that was, none for a file that is too long. It prints nothing else
-abbrev pub AnswersHex : FileFacts → HexArgs → (List Change → Type 0) → Type 0 → Type 0 → Option (List ℕ) → Option (List ℕ) → ℕ → Type 0
-AnswersHex files given Made Quiet Works told_before told_after status =
+-- what `hex` answers to the texts of a command line, where `Failed` says that a reader of the store that had this ahead has failed, and
+-- `Made` which changes it made: status 0 where it was written and has gone out, and just the output was made; or a refusal, and at most
+-- that was, none for a file that is too long. It prints nothing else
+abbrev pub AnswersHex : FileFacts → (Ahead → Type 0) → HexArgs → (List Change → Type 0) → Type 0 → Type 0 → Option (List ℕ) → Option (List ℕ) → ℕ → Type 0
+AnswersHex files Failed given Made Quiet Works told_before told_after status =
     Answers (is_well_formed given)
     ((status ≡ 0) × ForAsked HexTask (Serves files given) (IsWritten files.flushed)
     × MakesNamed files (option_to_list (option_map (λ t. t.now) given.bin)) (option_map (λ t. t.now) given.out) Made × Quiet)
     (MayMake files (option_to_list (option_map (λ t. t.now) given.bin)) (option_map (λ t. t.now) given.out) Made × (is_well_formed given ≡ false → Made []))
-    (λ why. RefusesHex (Lacks files (paths_asked given)) files.broke (ServesBin files given) (Serves files given) why × IsUnmade (Made []) why)
+    (λ why. RefusesHex (LacksEarly files (paths_asked given) file.Out (Made [])) files.broke Failed (HasGone files) (ServesBin files given) (Serves files given) why × IsUnmade (Made []) why)
     Works told_before told_after status
 
 -- status 0 where the text is whole and the file was flushed as well

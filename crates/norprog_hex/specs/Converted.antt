@@ -5,6 +5,7 @@ use Rattle.nor_base.specs.declared.device.Failed.{Failed}
 use Rattle.nor_base.specs.Device.{Ahead, Gives, IsAtEnd, Cuts}
 use Rattle.nor_hex_out.specs.Segments.{image_records, text_of, hex_text}
 use Rattle.nor_job.specs.declared.fault.BuildFault.TheVariants as fault
+use Rattle.norprog_common.specs.Reading.{GivesSome}
 use Rattle.norprog_common.specs.declared.faults.FileName.TheVariants as file
 use Rattle.norprog_common.specs.declared.faults.Refusal.{Refusal}
 use Rattle.norprog_common.specs.declared.faults.Refusal.TheVariants.{File, Build}
@@ -71,11 +72,11 @@ pub record IsLonger (len : ℕ) (before after : Ahead) : Type 0 where
   pub more : len < length bytes
   pub given : Gives before bytes after
 
--- it failed, or gave fewer bytes
+-- it failed after it gave the beginning of what it had ahead, or gave fewer bytes
 abbrev pub FallsShort : ℕ → ℕ → ℕ → Ahead → Ahead → Type 0
-FallsShort count count' len before after = (count' ≡ count + 1) ⊎ IsShorter len before after
+FallsShort count count' len before after = ((count' ≡ count + 1) × GivesSome before after) ⊎ IsShorter len before after
 
--- it failed, or it hasn't the length that was said
+-- that; or it hasn't the length that was said
 abbrev pub BreaksOff : ℕ → ℕ → ℕ → Ahead → Ahead → Type 0
 BreaksOff count count' len before after = FallsShort count count' len before after ⊎ IsLonger len before after
 

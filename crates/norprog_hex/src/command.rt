@@ -2,7 +2,9 @@
 
 ghost use Rattle.std.specs.Prelude.{◌≡◌, ◌+◌, ◌<◌, ◌≤◌, ◌-◌, ◌^◌, [], ◌∷◌, true, IfOk, IfErr};
 ghost use Rattle.std.specs.Prelude.{Some, option_map, option_to_list};
-ghost use Rattle.norprog_common.specs.FileStore.{Adds, Lacks, MakesIf};
+ghost use Rattle.norprog_common.specs.FileStore.{Adds, HasGone, LacksEarly, MakesIf};
+ghost use Rattle.norprog_common.specs.declared.faults.FileName.TheVariants.{Out};
+ghost use Rattle.norprog_common.specs.Reading.{HasFailed};
 ghost use Rattle.norprog_common.specs.Told.{ForAsked, OrUsage};
 ghost use Rattle.norprog_hex.specs.Answer.{IsUnmade, IsWritten, RefusesHex, AnswersHex, done};
 ghost use Rattle.norprog_hex.specs.Request.{is_well_formed};
@@ -31,9 +33,10 @@ pub fn hex<S: FileStore, E: ByteOut>(
     requires { E.count err.old < 2 ^ 64 - 1 }
     ensures status { result ≤ 2 }
     ensures quiet { result ≡ 0 → err.new ≡ err.old }
-    ensures answer { AnswersHex (S.facts store.now) given.entry
-        (Adds (S.Journal.changes journal.old) (S.Journal.changes journal.new)) (err.new ≡ err.old)
-        (E.count err.new ≡ E.count err.old) (E.held err.old) (E.held err.new) result }
+    ensures answer { AnswersHex (S.facts store.now) (HasFailed S.Input.ahead S.Input.count)
+        given.entry (Adds (S.Journal.changes journal.old) (S.Journal.changes journal.new))
+        (err.new ≡ err.old) (E.count err.new ≡ E.count err.old) (E.held err.old) (E.held err.new)
+        result }
 {
     answered(converted_in(alloc, store, journal, given), err)
 }
@@ -55,8 +58,10 @@ fn converted_in<S: FileStore>(
         (IsWritten (S.facts store.now).flushed)) }
     ensures asked { IfOk result (λ _. is_well_formed given.entry ≡ true) }
     ensures first { IfErr result (OrUsage (is_well_formed given.entry)
-        (RefusesHex (Lacks (S.facts store.now) (paths_asked given.entry))
-        (S.facts store.now).broke (ServesBin (S.facts store.now) given.entry)
+        (RefusesHex (LacksEarly (S.facts store.now) (paths_asked given.entry) Out
+        (Adds (S.Journal.changes journal.old) (S.Journal.changes journal.new) []))
+        (S.facts store.now).broke (HasFailed S.Input.ahead S.Input.count)
+        (HasGone (S.facts store.now)) (ServesBin (S.facts store.now) given.entry)
         (Serves (S.facts store.now) given.entry))) }
     ensures unmade { IfErr result (IsUnmade
         (Adds (S.Journal.changes journal.old) (S.Journal.changes journal.new) [])) }
@@ -80,8 +85,10 @@ fn run_hex<S: FileStore>(
         (λ _. ForAsked HexTask (IsTaskOf (S.facts store.now) request.entry)
         (IsWritten (S.facts store.now).flushed)) }
     ensures refused { IfErr result
-        (RefusesHex (Lacks (S.facts store.now) (paths_of request.entry))
-        (S.facts store.now).broke (IsBinOf (S.facts store.now) request.entry)
+        (RefusesHex (LacksEarly (S.facts store.now) (paths_of request.entry) Out
+        (Adds (S.Journal.changes journal.old) (S.Journal.changes journal.new) []))
+        (S.facts store.now).broke (HasFailed S.Input.ahead S.Input.count)
+        (HasGone (S.facts store.now)) (IsBinOf (S.facts store.now) request.entry)
         (IsTaskOf (S.facts store.now) request.entry)) }
     ensures unmade { IfErr result (IsUnmade
         (Adds (S.Journal.changes journal.old) (S.Journal.changes journal.new) [])) }

@@ -15,7 +15,7 @@ use Rattle.norprog_common.specs.declared.faults.Refusal.TheVariants.{Text, Usage
 use Rattle.norprog_list.specs.declared.steps.Stop.{Stop}
 use Rattle.norprog_list.specs.declared.steps.Stop.TheVariants as stop
 use Rattle.norprog_list.specs.Stop.{Lists, refusal_of}
-use Rattle.norprog_list.specs.Answer.{CutsListing, PrintsListing, IsListFault, RefusesList}
+use Rattle.norprog_list.specs.Answer.{BlamesScript, CutsListing, PrintsListing, IsListFault, RefusesList}
 use Rattle.nor_script.specs.Stream.{IsTextOf, reading}
 use Rattle.nor_script.proofs.StreamLaws.{reads_none}
 use Rattle.nor_script.proofs.TextLaws.{any_text}
@@ -25,11 +25,12 @@ use Rattle.norprog_common.specs.Setup.{IsKnown, RefusesChipOf}
 use Rattle.norprog_common.specs.Chip.{origin_of}
 use Rattle.norprog_common.specs.Setup.{setup_task}
 use Rattle.norprog_common.specs.FileStore.{AreTables, FileFacts}
+use Rattle.norprog_common.specs.Reading.{GivesSome, HasFailed}
 use Rattle.norprog_common.specs.Told.{TellsBroken}
 use Rattle.norprog_common.proofs.ToldLemmas.{by_fault}
 use Rattle.norprog_list.specs.declared.request.ListRequest.{ListRequest}
 use Rattle.norprog_list.specs.Served.{ListTask, IsTaskOf}
-use Rattle.norprog_list.specs.Listed.{RefusesListing, ListsText, RefusesText}
+use Rattle.norprog_list.specs.Listed.{CountsSource, RefusesListing, ListsText, RefusesText, of_source}
 
 -- by the chip of the inputs
 module _ (t : Task) (m : Parameters) (known : IsKnown t m) (first : Bool) (begins : first ≡ begins4 m (start_of t)) (ahead rest : Ahead) (before after : Option (List ℕ)) where
@@ -102,11 +103,22 @@ module _ (Asked : ListTask → Type 0) (t : ListTask) (asked : Asked t) (rest : 
   all_printed (Ok x) h = record { it = t; asked = asked; has = (rest, h) }
   all_printed (Err why) h = tt
 
-  pub refused_so : {T : Type 0} (Lacked : FileName → Type 0) (count count' : ℕ) (r : Result T Refusal) → CountsWriter count count' r → IfErr r (RefusesText t.chip t.script rest before after)
-      → IfErr r (RefusesList Lacked (count < count') Asked before after)
-  refused_so Lacked count count' (Ok x) counts h = tt
-  refused_so Lacked count count' (Err why) counts h =
-      by_fault Lacked (count < count') (IsListFault Asked before after) ⊥ why (tells_broken count count' why counts) (record { it = t; asked = asked; has = (rest, h) })
+  pub refused_so : {T : Type 0} (Lacked : FileName → Type 0) (Failed : Ahead → Type 0) (count count' : ℕ) (r : Result T Refusal) → CountsWriter count count' r
+      → IfErr r (RefusesText t.chip t.script rest before after) → IfErr r (BlamesScript (Failed t.script)) → IfErr r (RefusesList Lacked (count < count') Asked Failed before after)
+  refused_so Lacked Failed count count' (Ok x) counts h blamed = tt
+  refused_so Lacked Failed count count' (Err why) counts h blamed =
+      by_fault Lacked (count < count') (IsListFault Asked Failed before after) ⊥ why (tells_broken count count' why counts)
+      (record { it = t; asked = asked; has = record { rest = rest; refused = h; blamed = blamed } })
+
+-- the script's file is told where its reader failed
+module _ {R : Type 0} (ahead : R → Ahead) (count : R → ℕ) (script script' : R) (gave : GivesSome (ahead script) (ahead script')) where
+  blames : (why : Refusal) → count script' ≡ count script + of_source why → BlamesScript (HasFailed ahead count (ahead script)) why
+  blames (File file.Script) counts = let one : count script' ≡ count script + 1 = counts in record { reader = script'; gave = gave; failed = omega (arith, one) }
+  blames other counts = tt
+
+  pub all_blamed : {T : Type 0} (r : Result T Refusal) → CountsSource (count script) (count script') r → IfErr r (BlamesScript (HasFailed ahead count (ahead script)))
+  all_blamed (Ok x) counts = tt
+  all_blamed (Err why) counts = blames why counts
 
 -- what was read of the files that a request names
 pub asked_of : (files : FileFacts) (request : ListRequest) (chip : Task) (tables : List ℕ) (ahead : Ahead) (len : ℕ) → chip ≡ setup_task request.setup tables

@@ -1,5 +1,6 @@
 -- The chip of a request is the one that its texts ask for, and what is so of it is so of that.
 use Rattle.std.proofs.Common.{ap, refl, option_map, List, ℕ, Option}
+use Rattle.nor_base.specs.Device.{Ahead}
 use Rattle.norprog_common.specs.declared.faults.FileName.{FileName}
 use Rattle.norprog_common.specs.declared.faults.Refusal.{Refusal}
 use Rattle.norprog_common.specs.declared.given.ListArgs.{ListArgs}
@@ -31,15 +32,15 @@ same_paths given request asks =
     rw (asks.script, tables) refl
 
 -- a file that couldn't be used
-pub file_refused : (Lacked : FileName → Type 0) (Broke : Type 0) (Asked : ListTask → Type 0) (before after : Option (List ℕ)) (why : Refusal) → TellsFile Lacked why
-    → RefusesList Lacked Broke Asked before after why
-file_refused Lacked Broke Asked before after why lacks = by_files Lacked Lacked Broke (IsListFault Asked before after) ⊥ why (λ told is. is) lacks
+pub file_refused : (Lacked : FileName → Type 0) (Broke : Type 0) (Asked : ListTask → Type 0) (Failed : Ahead → Type 0) (before after : Option (List ℕ)) (why : Refusal)
+    → TellsFile Lacked why → RefusesList Lacked Broke Asked Failed before after why
+file_refused Lacked Broke Asked Failed before after why lacks = by_files Lacked Lacked Broke (IsListFault Asked Failed before after) ⊥ why (λ told is. is) lacks
 
-pub refusal_asked : (files : FileFacts) (given : ListArgs) (request : ListRequest) (Broke : Type 0) (before after : Option (List ℕ)) (why : Refusal)
-    → AsksFor given request → RefusesList (Lacks files (paths_of request)) Broke (IsTaskOf files request) before after why
-    → RefusesList (Lacks files (paths_asked given)) Broke (Serves files given) before after why
-refusal_asked files given request Broke before after why asks =
-    refuses_wider (Lacks files (paths_of request)) (Lacks files (paths_asked given)) Broke Broke (IsListFault (IsTaskOf files request) before after)
-    (IsListFault (Serves files given) before after) ⊥ ⊥ (lacks_same files (paths_of request) (paths_asked given) (same_paths given request asks)) (λ broke. broke)
-    (λ why of. asked_wider ListTask (IsTaskOf files request) (Serves files given) (StopsScript before after why) (serves files given request asks) of)
+pub refusal_asked : (files : FileFacts) (given : ListArgs) (request : ListRequest) (Broke : Type 0) (Failed : Ahead → Type 0) (before after : Option (List ℕ)) (why : Refusal)
+    → AsksFor given request → RefusesList (Lacks files (paths_of request)) Broke (IsTaskOf files request) Failed before after why
+    → RefusesList (Lacks files (paths_asked given)) Broke (Serves files given) Failed before after why
+refusal_asked files given request Broke Failed before after why asks =
+    refuses_wider (Lacks files (paths_of request)) (Lacks files (paths_asked given)) Broke Broke (IsListFault (IsTaskOf files request) Failed before after)
+    (IsListFault (Serves files given) Failed before after) ⊥ ⊥ (lacks_same files (paths_of request) (paths_asked given) (same_paths given request asks)) (λ broke. broke)
+    (λ why of. asked_wider ListTask (IsTaskOf files request) (Serves files given) (StopsScript Failed before after why) (serves files given request asks) of)
     (λ none. none) why

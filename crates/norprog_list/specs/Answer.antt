@@ -1,11 +1,13 @@
 -- What is told of a listing (this project's).
-use Rattle.std.specs.Prelude.{◌≡◌, ◌⊎◌, ℕ, List, Option}
+use Rattle.std.specs.Prelude.{◌≡◌, ◌⊎◌, ⊤, ℕ, List, Option}
 use Rattle.nor_base.specs.Device.{Ahead}
 use Rattle.nor_script.specs.declared.fault.ScriptFault.{ScriptFault}
 use Rattle.nor_script.specs.Stream.{HadText}
 use Rattle.norprog_common.specs.FileStore.{FileFacts, Lacks}
 use Rattle.norprog_common.specs.declared.faults.FileName.{FileName}
+use Rattle.norprog_common.specs.declared.faults.FileName.TheVariants as file
 use Rattle.norprog_common.specs.declared.faults.Refusal.{Refusal}
+use Rattle.norprog_common.specs.declared.faults.Refusal.TheVariants.{File}
 use Rattle.norprog_common.specs.declared.given.ListArgs.{ListArgs}
 use Rattle.norprog_common.specs.Told.{ForAsked, RefusesFor, Answers}
 use Rattle.norprog_list.specs.Listed.{WasCut, WasStopped, WasToldAbove, ListsText, RefusesText}
@@ -31,22 +33,30 @@ PrintsPart before after t =
 abbrev pub CutsListing : (ListTask → Type 0) → Option (List ℕ) → Option (List ℕ) → Type 0
 CutsListing Asked before after = (after ≡ before) ⊎ ForAsked ListTask Asked (PrintsPart before after)
 
--- why the script's text isn't listed by that chip
-abbrev pub StopsScript : Option (List ℕ) → Option (List ℕ) → Refusal → ListTask → Type 0
-StopsScript before after why t = (rest : Ahead) × RefusesText t.chip t.script rest before after why
+-- the script's file is told where a reading of it failed
+abbrev pub BlamesScript : Type 0 → Refusal → Type 0
+BlamesScript Failed (File file.Script) = Failed
+BlamesScript Failed other = ⊤
 
-abbrev pub IsListFault : (ListTask → Type 0) → Option (List ℕ) → Option (List ℕ) → Refusal → Type 0
-IsListFault Asked before after why = ForAsked ListTask Asked (StopsScript before after why)
+-- why the script's text isn't listed by that chip; `Failed`: a reader that had this ahead has failed
+pub record StopsScript (Failed : Ahead → Type 0) (before after : Option (List ℕ)) (why : Refusal) (t : ListTask) : Type 0 where
+  pub rest : Ahead
+  pub refused : RefusesText t.chip t.script rest before after why
+  pub blamed : BlamesScript (Failed t.script) why
+
+abbrev pub IsListFault : (ListTask → Type 0) → (Ahead → Type 0) → Option (List ℕ) → Option (List ℕ) → Refusal → Type 0
+IsListFault Asked Failed before after why = ForAsked ListTask Asked (StopsScript Failed before after why)
 
 -- why a listing that was asked for isn't printed: a file can't be used, or a growth was refused; else the fault of the work
-abbrev pub RefusesList : (FileName → Type 0) → Type 0 → (ListTask → Type 0) → Option (List ℕ) → Option (List ℕ) → Refusal → Type 0
-RefusesList Lacked Broke Asked before after = RefusesFor Lacked Broke (IsListFault Asked before after) ⊥
+abbrev pub RefusesList : (FileName → Type 0) → Type 0 → (ListTask → Type 0) → (Ahead → Type 0) → Option (List ℕ) → Option (List ℕ) → Refusal → Type 0
+RefusesList Lacked Broke Asked Failed before after = RefusesFor Lacked Broke (IsListFault Asked Failed before after) ⊥
 
--- what `list` answers to the texts of a command line, where `Broke` says that an output failed: the listing at status 0, or a refusal
-abbrev pub AnswersList : FileFacts → ListArgs → Type 0 → Option (List ℕ) → Option (List ℕ) → Type 0 → Type 0 → Option (List ℕ) → Option (List ℕ) → ℕ → Type 0
-AnswersList files given Broke before after Quiet Works told_before told_after status =
+-- what `list` answers to the texts of a command line, where `Failed` says that a reader of the store that had this ahead has failed, and
+-- `Broke` that an output has: the listing at status 0, or a refusal
+abbrev pub AnswersList : FileFacts → (Ahead → Type 0) → ListArgs → Type 0 → Option (List ℕ) → Option (List ℕ) → Type 0 → Type 0 → Option (List ℕ) → Option (List ℕ) → ℕ → Type 0
+AnswersList files Failed given Broke before after Quiet Works told_before told_after status =
     Answers (is_well_formed given)
     ((status ≡ 0) × PrintsListing (Serves files given) before after × Quiet)
     (CutsListing (Serves files given) before after)
-    (RefusesList (Lacks files (paths_asked given)) Broke (Serves files given) before after)
+    (RefusesList (Lacks files (paths_asked given)) Broke (Serves files given) Failed before after)
     Works told_before told_after status

@@ -2,6 +2,7 @@
 
 ghost use Rattle.std.specs.Prelude.{◌≡◌, ◌<◌, ◌≤◌, ◌-◌, ◌^◌, true, IfOk, IfErr};
 ghost use Rattle.norprog_common.specs.FileStore.{Lacks};
+ghost use Rattle.norprog_common.specs.Reading.{HasFailed};
 ghost use Rattle.norprog_common.specs.Told.{OrUsage};
 ghost use Rattle.norprog_list.specs.Answer.{PrintsListing, CutsListing, RefusesList, AnswersList};
 ghost use Rattle.norprog_list.specs.Request.{is_well_formed};
@@ -27,7 +28,8 @@ pub fn list<S: FileStore, O: ByteOut, E: ByteOut>(
     requires err { E.count err.old < 2 ^ 64 - 1 }
     ensures status { result ≤ 2 }
     ensures quiet { result ≡ 0 → err.new ≡ err.old }
-    ensures answer { AnswersList (S.facts store.now) given.entry (O.count out.old < O.count out.new)
+    ensures answer { AnswersList (S.facts store.now) (HasFailed S.Input.ahead S.Input.count)
+        given.entry (O.count out.old < O.count out.new)
         (O.held out.old) (O.held out.new) (err.new ≡ err.old)
         (E.count err.new ≡ E.count err.old) (E.held err.old) (E.held err.new) result }
 {
@@ -54,7 +56,7 @@ fn listed_in<S: FileStore, O: ByteOut>(
         (OrUsage (is_well_formed given.entry)
         (RefusesList (Lacks (S.facts store.now) (paths_asked given.entry))
         (O.count out.old < O.count out.new) (Serves (S.facts store.now) given.entry)
-        (O.held out.old) (O.held out.new))) }
+        (HasFailed S.Input.ahead S.Input.count) (O.held out.old) (O.held out.new))) }
 {
     let request = request_of(given).ok_or(Refusal::Usage)?;
     run_list(alloc, store, request, out)?;
@@ -78,7 +80,7 @@ fn run_list<S: FileStore, O: ByteOut>(
     ensures refused { IfErr result
         (RefusesList (Lacks (S.facts store.now) (paths_of request.entry))
         (O.count out.old < O.count out.new) (IsTaskOf (S.facts store.now) request.entry)
-        (O.held out.old) (O.held out.new)) }
+        (HasFailed S.Input.ahead S.Input.count) (O.held out.old) (O.held out.new)) }
 {
     let tables = tables_of(alloc, store, request.setup.chip)?;
     let (mut script, _place, _len) = store.open(request.script, FileName::Script)?;

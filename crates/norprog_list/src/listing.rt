@@ -3,6 +3,7 @@
 ghost use Rattle.std.specs.Prelude.{◌≡◌, ◌<◌, ◌-◌, ◌^◌, false, IfOk, IfErr};
 ghost use Rattle.norprog_list.specs.Listed.{ListsText, RefusesText, CountsSource, may_print};
 ghost use Rattle.norprog_common.specs.Content.{CountsWriter};
+ghost use Rattle.norprog_common.specs.Reading.{GivesSome};
 ghost use Rattle.norprog_list.specs.Stop.{refusal_of as told_of};
 
 use crate::steps::{Stop, list_steps};
@@ -33,6 +34,7 @@ pub fn list_script<R: ByteIn, W: ByteOut>(
         (W.held out.new)) }
     ensures untouched { IfErr result (λ why. may_print why ≡ false → script.new ≡ script.old)
         × IfErr result (λ why. may_print why ≡ false → out.new ≡ out.old) }
+    ensures gave { GivesSome (R.ahead script.old) (R.ahead script.new) }
     ensures counts { CountsSource (R.count script.old) (R.count script.new) result
         × CountsWriter (W.count out.old) (W.count out.new) result }
 {

@@ -5,6 +5,7 @@ ghost use Rattle.nor_listing.specs.Listing.{line, mode_past};
 ghost use Rattle.nor_script.specs.View.{step_of};
 ghost use Rattle.nor_script.specs.declared.fault.ScriptFault.TheVariants.{Memory};
 ghost use Rattle.nor_script.specs.declared.fault.ReadFault.TheVariants as read;
+ghost use Rattle.norprog_common.specs.Reading.{GivesSome};
 ghost use Rattle.norprog_list.specs.Stop.{Lists, PutsLine, CountsStop, CountsOut};
 ghost use Rattle.norprog_list.specs.declared.steps.Stop.TheVariants.{Script, Out};
 
@@ -51,6 +52,7 @@ pub(crate) fn list_steps<R: ByteIn, W: ByteOut>(
     requires out { W.count out.old < 2 ^ 64 - 1 }
     ensures lists { Lists meaning.now first (R.ahead script.old) (R.ahead script.new)
         (W.held out.old) (W.held out.new) result }
+    ensures gave { GivesSome (R.ahead script.old) (R.ahead script.new) }
     ensures source { CountsStop (R.count script.old) (R.count script.new) result }
     ensures count { CountsOut (W.count out.old) (W.count out.new) result }
 {

@@ -1,82 +1,67 @@
--- What was planned, and why nothing was, of a job that is asked for.
-use Rattle.std.proofs.Common.{◌≡◌, ℕ, ◌⊎◌, inl, inr, refl, ap, arith, ◌<◌, ◌++◌, [], length, Bool, true, is_some, List, Option, Some, Result, Ok, Err, IfOk, IfErr, subst, sym}
+-- What was printed, and why no more was, of a job that is asked for.
+use Rattle.std.proofs.Common.{◌≡◌, ◌∙◌, ℕ, ◌+◌, ◌<◌, ◌⊎◌, inl, inr, refl, arith, ◌++◌, [], Bool, is_some, List, Option, Some, Result, Ok, Err, IfOk, IfErr, subst, sym}
 use Rattle.std.specs.Io.KnownBytes.{Appends}
 use Rattle.nor_base.specs.Device.{Ahead, Cuts}
+use Rattle.nor_base.specs.Parameters.{Parameters}
+use Rattle.nor_base.proofs.DeviceLaws.{Appends-append, Cuts-then}
 use Rattle.nor_job.specs.declared.fault.BuildFault.{BuildFault}
 use Rattle.nor_job.specs.declared.fault.BuildFault.TheVariants as fault
-use Rattle.nor_job.specs.Causes.{RefusesInputs}
+use Rattle.nor_job.specs.declared.job.Job.{Job as Work}
+use Rattle.nor_job.specs.Chip.{chip_says}
+use Rattle.nor_job.specs.Job.{IsJob}
 use Rattle.nor_job.specs.Task.{Task}
-use Rattle.norprog.specs.Plan.{IsPlanOf, StopsPlan}
+use Rattle.nor_job.specs.Written.{of_writer}
+use Rattle.nor_plan_read.specs.Lines.{lines_text}
+use Rattle.nor_plan_read.specs.declared.line.PlanLine.{PlanLine}
+use Rattle.norprog.specs.Plan.{StopsPlan}
 use Rattle.norprog.specs.declared.report.Report.{Report}
 use Rattle.norprog_common.specs.declared.faults.FileName.{FileName}
 use Rattle.norprog_common.specs.declared.faults.Refusal.{Refusal}
 use Rattle.norprog_common.specs.declared.faults.Refusal.TheVariants.{Text, Usage, File, Build, Page, Script, BinSize, Steps, EmptyRegion, Log}
-use Rattle.norprog_common.specs.Told.{ForAsked, OfFault, OrUsage, TellsBroken}
-use Rattle.norprog_common.proofs.ToldLemmas.{asked_wider, fault_wider, by_fault, by_files, refuses_wider, or_usage}
-use Rattle.norprog_plan.specs.Answer.{FailsToDraw, IsUndrawn, IsPart, in_memory, behind_lines, read_lines, Draws, IsLines, IsShown, IsWhole, IsTold, PrintsPlan, CutsPlan, FailsToPrint, StopsPlanOf, StopsTask, StopsAsked, IsPlanFault, RefusesPlan}
+use Rattle.norprog_common.specs.Told.{ForAsked, OfFault, TellsBroken}
 use Rattle.norprog_common.specs.Served.{Job, Is}
-use Rattle.norprog_common.specs.Files.{TellsFile}
 use Rattle.norprog_common.specs.Strict.{Filled, OrEmpty, RefusesEmpty}
-use Rattle.norprog_common.proofs.StrictLemmas.{filled_wider, empty_wider, by_empty}
-use Rattle.norprog_plan.specs.declared.outline.Shows.{Shows}
-use Rattle.norprog_plan.specs.Regions.{EndsWith}
 use Rattle.norprog_common.proofs.ServedLemmas.{of_one}
+use Rattle.norprog_common.proofs.StrictLemmas.{filled_wider, empty_wider, by_empty}
+use Rattle.norprog_common.proofs.ToldLemmas.{asked_wider, fault_wider, by_fault, refuses_wider}
+use Rattle.norprog_plan.specs.Answer.{behind_lines, CutsPlan, Draws, FailsToDraw, FailsToPrint, IsBehind, IsLinesOf, IsPlanFault, IsTold, IsUndrawn, IsWhole, LacksMap, PrintsPlan, RefusesPlan, StopsPlanOf, StopsPrinting}
+use Rattle.norprog_plan.specs.Regions.{EndsWith}
+use Rattle.norprog_plan.specs.Sums.{PrintsLines}
+use Rattle.norprog_plan.specs.declared.outline.Shows.{Shows}
+use Rattle.norprog_plan.specs.declared.sums.Sums.{Sums}
 
--- a fault of a plan that was written to memory, as it is told
-told_so : (Broke : Type 0) (P : Refusal → Type 0) (why : BuildFault) → (TellsBroken Broke (Build why) → P (Build why)) → P (Build fault.Memory) → P (in_memory why)
-told_so Broke P fault.Write is lacks = lacks
-told_so Broke P fault.Memory is lacks = is tt
-told_so Broke P (fault.Contradiction number) is lacks = is tt
-told_so Broke P (fault.Hex why) is lacks = is tt
-told_so Broke P (fault.Layout why) is lacks = is tt
-told_so Broke P (fault.Sfdp why) is lacks = is tt
-told_so Broke P (fault.Status number) is lacks = is tt
-told_so Broke P fault.ModeImpossible is lacks = is tt
-told_so Broke P fault.ContentSize is lacks = is tt
-told_so Broke P (fault.Plan why) is lacks = is tt
-told_so Broke P fault.ContentShort is lacks = is tt
-told_so Broke P fault.Read is lacks = is tt
+-- what is so of a job is so of one that is asked for
 
-pub stops_of_plan : (Lacked : FileName → Type 0) (Broke C D : Type 0) (j : Job) (behind : Ahead) (before after : Option (List ℕ)) (why : BuildFault)
-    → (RefusesInputs j.task j.len why × C × D) ⊎ StopsPlan j.task j.len j.content behind before after why → StopsTask Lacked Broke (Is j) (in_memory why)
-stops_of_plan Lacked Broke C D j behind before after why refused =
-    let cause : RefusesInputs j.task j.len why ⊎ StopsPlan j.task j.len j.content behind before after why = elim refused [ inl early ↦ inl early.0 | inr late ↦ inr late ] in
-    told_so Broke (StopsTask Lacked Broke (Is j)) why (λ broke. by_fault Lacked Broke (OfFault (IsPlanFault (Is j))) (FailsToDraw (Is j)) (Build why) broke (record {
-      it = j;
-      asked = refl;
-      has = record { behind = behind; before = before; after = after; refused = cause };
-    })) tt
+pub prints_wider : (Sent : Option (List ℕ) → Type 0) (shows : Shows) (A B : Job → Type 0) → ((j : Job) → A j → B j) → (x y : Option (List ℕ))
+    → PrintsPlan Sent shows A x y → PrintsPlan Sent shows B x y
+prints_wider Sent shows A B wider x y all =
+    record { lines = all.lines; rest = all.rest; whole = asked_wider Job A B (IsWhole Sent shows all.lines all.rest) wider all.whole; put = all.put }
 
--- what was told of the plan of the job that is asked for
+pub cuts_wider : (Sent : Option (List ℕ) → Type 0) (shows : Shows) (A B : Job → Type 0) → ((j : Job) → A j → B j) → (x y : Option (List ℕ))
+    → CutsPlan Sent shows A x y → CutsPlan Sent shows B x y
+cuts_wider Sent shows A B wider x y (inl same) = inl same
+cuts_wider Sent shows A B wider x y (inr some) =
+    inr (record { bytes = some.bytes; of = asked_wider Job A B (IsTold Sent shows some.bytes) wider some.of; put = some.put })
 
-pub wholes_of : {V : Type 0} (r : Result V Refusal) (items : V → List ℕ) (Sent : Option (List ℕ) → Type 0) (shows : Shows) (lines : List ℕ) (Asked : Job → Type 0) (j : Job)
-    → Asked j → IfOk r (λ rest. IsWhole Sent shows lines (items rest) j) → IfOk r (λ rest. ForAsked Job Asked (IsWhole Sent shows lines (items rest)))
-wholes_of (Ok rest) items Sent shows lines Asked j asked of = record { it = j; asked = asked; has = of }
-wholes_of (Err why) items Sent shows lines Asked j asked of = tt
+fails_wider : (Sent : Option (List ℕ) → Type 0) (shows : Shows) (A B : Job → Type 0) → ((j : Job) → A j → B j) → (x y : Option (List ℕ))
+    → FailsToDraw A ⊎ FailsToPrint Sent shows A x y → FailsToDraw B ⊎ FailsToPrint Sent shows B x y
+fails_wider Sent shows A B wider x y (inl undrawn) = inl (asked_wider Job A B IsUndrawn wider undrawn)
+fails_wider Sent shows A B wider x y (inr fails) =
+    inr (record { bytes = fails.bytes; of = asked_wider Job A B (IsTold Sent shows fails.bytes) wider fails.of; put = fails.put })
 
-pub parts_of : {V : Type 0} (r : Result V Refusal) (lines : List ℕ) (Asked : Job → Type 0) (j : Job) → Asked j
-    → IfErr r (λ why. (lines ≡ []) ⊎ IsPart lines j) → IfErr r (λ why. (lines ≡ []) ⊎ ForAsked Job Asked (IsPart lines))
-parts_of (Ok rest) lines Asked j asked of = tt
-parts_of (Err why) lines Asked j asked (inl none) = inl none
-parts_of (Err why) lines Asked j asked (inr of) = inr (record { it = j; asked = asked; has = of })
+faults_wider : (A B : Job → Type 0) → ((j : Job) → A j → B j) → (why : Refusal) → OfFault (IsPlanFault A) why → OfFault (IsPlanFault B) why
+faults_wider A B wider = fault_wider (IsPlanFault A) (IsPlanFault B) (λ why of. asked_wider Job A B (StopsPlanOf why) wider of)
 
-pub stops_wider : (L M : FileName → Type 0) (Broke : Type 0) (A B : Job → Type 0) → ((told : FileName) → L told → M told) → ((j : Job) → A j → B j) → (why : Refusal)
-    → StopsTask L Broke A why → StopsTask M Broke B why
-stops_wider L M Broke A B files wider =
-    refuses_wider L M Broke Broke (OfFault (IsPlanFault A)) (OfFault (IsPlanFault B)) (FailsToDraw A) (FailsToDraw B)
-    files (λ broke. broke) (fault_wider (IsPlanFault A) (IsPlanFault B) (λ why of. asked_wider Job A B (StopsPlanOf why) wider of)) (asked_wider Job A B IsUndrawn wider)
-
--- of strict jobs
-pub asked_wider_stops : (strict : Bool) (L M : FileName → Type 0) (Broke : Type 0) (A B : Job → Type 0) → ((told : FileName) → L told → M told) → ((j : Job) → A j → B j) → (why : Refusal)
-    → StopsAsked strict L Broke A why → StopsAsked strict M Broke B why
-asked_wider_stops strict L M Broke A B files wider =
+pub refuses_asked : (strict : Bool) (L M : FileName → Type 0) (Broke : Type 0) (Sent : Option (List ℕ) → Type 0) (shows : Shows) (A B : Job → Type 0)
+    → ((name : FileName) → L name → M name) → ((j : Job) → A j → B j) → (x y : Option (List ℕ)) (why : Refusal)
+    → RefusesPlan strict L Broke Sent shows A x y why → RefusesPlan strict M Broke Sent shows B x y why
+refuses_asked strict L M Broke Sent shows A B files wider x y =
     let filled = filled_wider strict A B wider in
     refuses_wider L M Broke Broke (OrEmpty strict A (OfFault (IsPlanFault (Filled strict A)))) (OrEmpty strict B (OfFault (IsPlanFault (Filled strict B))))
-    (FailsToDraw (Filled strict A)) (FailsToDraw (Filled strict B))
+    (FailsToDraw (Filled strict A) ⊎ FailsToPrint Sent shows (Filled strict A) x y) (FailsToDraw (Filled strict B) ⊎ FailsToPrint Sent shows (Filled strict B) x y)
     files (λ broke. broke)
-    (empty_wider strict A B (OfFault (IsPlanFault (Filled strict A))) (OfFault (IsPlanFault (Filled strict B))) wider
-    (fault_wider (IsPlanFault (Filled strict A)) (IsPlanFault (Filled strict B)) (λ why of. asked_wider Job (Filled strict A) (Filled strict B) (StopsPlanOf why) filled of)))
-    (asked_wider Job (Filled strict A) (Filled strict B) IsUndrawn filled)
+    (empty_wider strict A B (OfFault (IsPlanFault (Filled strict A))) (OfFault (IsPlanFault (Filled strict B))) wider (faults_wider (Filled strict A) (Filled strict B) filled))
+    (fails_wider Sent shows (Filled strict A) (Filled strict B) filled x y)
 
 -- a fault of the work is told as such
 fault_so : (strict : Bool) (A : Job → Type 0) (P : BuildFault → Type 0) (why : Refusal) → OfFault P why → OrEmpty strict A (OfFault P) why
@@ -91,197 +76,198 @@ fault_so strict A P (Steps number) is = is
 fault_so strict A P (EmptyRegion index) is = absurd is
 fault_so strict A P (Log line) is = is
 
-pub asked_stops : {V : Type 0} (strict : Bool) (Lacked : FileName → Type 0) (Broke : Type 0) (A : Job → Type 0) (r : Result V Refusal) → IfErr r (StopsTask Lacked Broke (Filled strict A)) → IfErr r (StopsAsked strict Lacked Broke A)
-asked_stops strict Lacked Broke A (Ok x) is = tt
-asked_stops strict Lacked Broke A (Err why) is =
-    refuses_wider Lacked Lacked Broke Broke (OfFault (IsPlanFault (Filled strict A))) (OrEmpty strict A (OfFault (IsPlanFault (Filled strict A))))
-    (FailsToDraw (Filled strict A)) (FailsToDraw (Filled strict A)) (λ name lacks. lacks) (λ broke. broke) (fault_so strict A (IsPlanFault (Filled strict A))) (λ late. late) why is
+stops_asked : (strict : Bool) (Lacked : FileName → Type 0) (Broke : Type 0) (Sent : Option (List ℕ) → Type 0) (shows : Shows) (A : Job → Type 0) (j : Job) (x y : Option (List ℕ))
+    (why : Refusal) → Filled strict A j → StopsPrinting Broke Sent shows j x y why → RefusesPlan strict Lacked Broke Sent shows A x y why
+stops_asked strict Lacked Broke Sent shows A j x y why asked =
+    let B = Filled strict A in
+    let wider = of_one B j asked in
+    refuses_wider (λ name. ⊥) Lacked Broke Broke (OfFault (IsPlanFault (Is j))) (OrEmpty strict A (OfFault (IsPlanFault B)))
+    (FailsToDraw (Is j) ⊎ FailsToPrint Sent shows (Is j) x y) (FailsToDraw B ⊎ FailsToPrint Sent shows B x y)
+    (λ name never. absurd never) (λ broke. broke) (λ why is. fault_so strict A (IsPlanFault B) why (faults_wider (Is j) B wider why is)) (fails_wider Sent shows (Is j) B wider x y) why
 
-pub empty_stops : {V : Type 0} (strict : Bool) (Lacked : FileName → Type 0) (Broke : Type 0) (A : Job → Type 0) (j : Job) (why : Refusal) (r : Result V Refusal) → A j → RefusesEmpty strict j.task j.len why
-    → r ≡ Err why → IfErr r (StopsAsked strict Lacked Broke A)
-empty_stops strict Lacked Broke A j why r asked is refused =
-    rw refused (by_empty strict Lacked Broke A (OfFault (IsPlanFault (Filled strict A))) (FailsToDraw (Filled strict A)) j why asked is)
+-- the answer of a job is that of what is asked for
 
-pub files_stop : {V : Type 0} (strict : Bool) (Lacked : FileName → Type 0) (Broke : Type 0) (A : Job → Type 0) (why : Refusal) (r : Result V Refusal) → TellsFile Lacked why
-    → r ≡ Err why → IfErr r (StopsAsked strict Lacked Broke A)
-files_stop strict Lacked Broke A why r is refused =
-    rw refused (by_files Lacked Lacked Broke (OrEmpty strict A (OfFault (IsPlanFault (Filled strict A)))) (FailsToDraw (Filled strict A)) why (λ name lacks. lacks) is)
+pub job_prints : {U : Type 0} (r : Result U Refusal) (Sent : Option (List ℕ) → Type 0) (shows : Shows) (A : Job → Type 0) (j : Job) (x y : Option (List ℕ)) → A j
+    → IfOk r (λ u. PrintsPlan Sent shows (Is j) x y) → IfOk r (λ u. PrintsPlan Sent shows A x y)
+job_prints (Ok u) Sent shows A j x y asked prints = prints_wider Sent shows (Is j) A (of_one A j asked) x y prints
+job_prints (Err why) Sent shows A j x y asked prints = tt
 
-pub nothing_told : {V : Type 0} (r : Result V Refusal) (lines : List ℕ) (P : Type 0) → lines ≡ [] → IfErr r (λ why. (lines ≡ []) ⊎ P)
-nothing_told (Ok x) lines P none = tt
-nothing_told (Err why) lines P none = inl none
+pub job_cuts : {U : Type 0} (r : Result U Refusal) (Sent : Option (List ℕ) → Type 0) (shows : Shows) (A : Job → Type 0) (j : Job) (x y : Option (List ℕ)) → A j
+    → IfErr r (λ why. CutsPlan Sent shows (Is j) x y) → IfErr r (λ why. CutsPlan Sent shows A x y)
+job_cuts (Ok u) Sent shows A j x y asked cuts = tt
+job_cuts (Err why) Sent shows A j x y asked cuts = cuts_wider Sent shows (Is j) A (of_one A j asked) x y cuts
 
--- why a plan wasn't made is why it isn't told
-pub unmade : (strict : Bool) (Lacked : FileName → Type 0) (D E : Type 0) (Sent : Option (List ℕ) → Type 0) (shows : Shows) (Asked : Job → Type 0) (before after : Option (List ℕ)) → (D → E) → (why : Refusal) → StopsAsked strict Lacked D Asked why
-    → RefusesPlan strict Lacked E Sent shows Asked before after why
-unmade strict Lacked D E Sent shows Asked before after broken =
-    refuses_wider Lacked Lacked D E (OrEmpty strict Asked (OfFault (IsPlanFault (Filled strict Asked)))) (OrEmpty strict Asked (OfFault (IsPlanFault (Filled strict Asked))))
-    (FailsToDraw (Filled strict Asked)) (FailsToDraw (Filled strict Asked) ⊎ FailsToPrint Sent shows (Filled strict Asked) before after)
-    (λ name lacks. lacks) broken (λ why of. of) (λ late. inl late)
+pub job_stops : {U : Type 0} (r : Result U Refusal) (strict : Bool) (Lacked : FileName → Type 0) (Broke : Type 0) (Sent : Option (List ℕ) → Type 0) (shows : Shows) (A : Job → Type 0)
+    (j : Job) (x y : Option (List ℕ)) → Filled strict A j → IfErr r (StopsPrinting Broke Sent shows j x y) → IfErr r (RefusesPlan strict Lacked Broke Sent shows A x y)
+job_stops (Ok u) strict Lacked Broke Sent shows A j x y asked stops = tt
+job_stops (Err why) strict Lacked Broke Sent shows A j x y asked stops = stops_asked strict Lacked Broke Sent shows A j x y why asked stops
 
--- what a plan is told with
+-- what comes before a job
 
--- lines that were written to memory that held nothing
-lines_in : (t : Task) (len : ℕ) (ahead behind : Ahead) (begun lines : List ℕ) (report : Report) → begun ≡ []
-    → IsPlanOf t len ahead behind (Some begun) (Some lines) report → IsLines lines report t len ahead
-lines_in t len ahead behind begun lines report none planned = record {
-  behind = behind;
-  planned = subst (λ xs. IsPlanOf t len ahead behind (Some xs) (Some lines) report) none planned;
+pub empty_refused : (strict : Bool) (Lacked : FileName → Type 0) (Broke : Type 0) (Sent : Option (List ℕ) → Type 0) (shows : Shows) (A : Job → Type 0) (j : Job) (x y : Option (List ℕ)) (why : Refusal)
+    → A j → RefusesEmpty strict j.task j.len why → RefusesPlan strict Lacked Broke Sent shows A x y why
+empty_refused strict Lacked Broke Sent shows A j x y why =
+    by_empty strict Lacked Broke A (OfFault (IsPlanFault (Filled strict A))) (FailsToDraw (Filled strict A) ⊎ FailsToPrint Sent shows (Filled strict A) x y) j why
+
+-- why a job isn't told
+
+stops_of : (Broke : Type 0) (Sent : Option (List ℕ) → Type 0) (shows : Shows) (j : Job) (x y : Option (List ℕ)) (why : BuildFault) → TellsBroken Broke (Build why)
+    → StopsPlanOf why j → StopsPrinting Broke Sent shows j x y (Build why)
+stops_of Broke Sent shows j x y why broke is =
+    by_fault (λ name. ⊥) Broke (OfFault (IsPlanFault (Is j))) (FailsToDraw (Is j) ⊎ FailsToPrint Sent shows (Is j) x y) (Build why) broke
+    (record { it = j; asked = refl; has = is })
+
+-- that the writer failed is told only where its count rose
+count_broke : (Broke : Type 0) (before after : ℕ) (why : BuildFault) → (before < after → Broke) → after ≡ before + of_writer why → TellsBroken Broke (Build why)
+count_broke Broke before after fault.Write broke is = broke (omega (arith, is))
+count_broke Broke before after fault.Memory broke is = tt
+count_broke Broke before after (fault.Contradiction number) broke is = tt
+count_broke Broke before after (fault.Hex why) broke is = tt
+count_broke Broke before after (fault.Layout why) broke is = tt
+count_broke Broke before after (fault.Sfdp why) broke is = tt
+count_broke Broke before after (fault.Status number) broke is = tt
+count_broke Broke before after fault.ModeImpossible broke is = tt
+count_broke Broke before after fault.ContentSize broke is = tt
+count_broke Broke before after (fault.Plan why) broke is = tt
+count_broke Broke before after fault.ContentShort broke is = tt
+count_broke Broke before after fault.Read broke is = tt
+
+pub lines_stop : (Broke : Type 0) (Sent : Option (List ℕ) → Type 0) (shows : Shows) (j : Job) (b : Ahead) (before after : ℕ) (x y : Option (List ℕ)) (why : BuildFault)
+    → (before < after → Broke) → after ≡ before + of_writer why → StopsPlan j.task j.len j.content b x y why → StopsPrinting Broke Sent shows j x y (Build why)
+lines_stop Broke Sent shows j b before after x y why broke count stops =
+    stops_of Broke Sent shows j x y why (count_broke Broke before after why broke count) (record { behind = b; before = x; after = y; refused = inr stops })
+
+-- some lines were printed
+in_memory : (j : Job) (b : Ahead) (x y : Option (List ℕ)) (why : BuildFault) → (stops : StopsPlan j.task j.len j.content b x y why)
+    → StopsPlan j.task j.len j.content b (Some []) (Some stops.bytes) why
+in_memory j b x y why stops = record {
+  image = stops.image;
+  regions = stops.regions;
+  m = stops.m;
+  accepted = stops.accepted;
+  part = stops.part;
+  within = stops.within;
+  given = stops.given;
+  cause = stops.cause;
+  window = stops.window;
+  its_size = stops.its_size;
+  known = stops.known;
+  windows = stops.windows;
+  bytes = stops.bytes;
+  lines = stops.lines;
+  put = refl;
 }
 
-pub outline_whole : {V : Type 0} (r : Result V Refusal) (items : V → List ℕ) (Sent : Option (List ℕ) → Type 0) (times : Bool) (j : Job) (behind : Ahead)
-    (begun lines slice : List ℕ) (report : Report) → begun ≡ [] → slice ≡ lines → IsPlanOf j.task j.len j.content behind (Some begun) (Some lines) report
-    → ((len : ℕ) (ahead : Ahead) (of : IsLines slice report j.task len ahead) → IfOk r (λ rest. items rest ≡ behind_lines times report j.task of.planned.m (read_lines of)))
-    → ((len : ℕ) (ahead : Ahead) (of : IsLines slice report j.task len ahead) → IfOk r (λ rest. Draws Sent j.begun j.task of.planned.m (read_lines of) (items rest)))
-    → IfOk r (λ rest. IsShown Sent times lines (items rest) j)
-outline_whole (Err why) items Sent times j behind begun lines slice report none same planned rests drawn = tt
-outline_whole (Ok rest) items Sent times j behind begun lines slice report none same planned rests drawn =
-    let of : IsLines lines report j.task j.len j.content = lines_in j.task j.len j.content behind begun lines report none planned in
-    record {
-      report = report;
-      of = of;
-      ends = subst (λ xs. (of : IsLines xs report j.task j.len j.content) → items rest ≡ behind_lines times report j.task of.planned.m (read_lines of)) same (rests j.len j.content) of;
-      drawn = subst (λ xs. (of : IsLines xs report j.task j.len j.content) → Draws Sent j.begun j.task of.planned.m (read_lines of) (items rest)) same (drawn j.len j.content) of;
-    }
-
-pub outline_lines : {V : Type 0} (j : Job) (behind : Ahead) (begun lines : List ℕ) (report : Report)
-    (r : Result V Refusal) → begun ≡ [] → IsPlanOf j.task j.len j.content behind (Some begun) (Some lines) report
-    → IfErr r (λ why. (lines ≡ []) ⊎ IsPart lines j)
-outline_lines j behind begun lines report (Ok rest) none planned = tt
-outline_lines j behind begun lines report (Err why) none planned =
-    inr (inr (report, lines_in j.task j.len j.content behind begun lines report none planned))
-
-pub outline_stops : {V F : Type 0} (Lacked : FileName → Type 0) (Broke : Type 0) (r : Result V Refusal) (j : Job) (map : Option F) (behind : Ahead) (begun lines : List ℕ)
-    (report : Report) → begun ≡ [] → is_some j.begun ≡ is_some map → IsPlanOf j.task j.len j.content behind (Some begun) (Some lines) report
-    → IfErr r (λ why. (why ≡ Build fault.Memory) ⊎ ((is_some map ≡ true) × (why ≡ Build fault.Write) × Broke)) → IfErr r (StopsTask Lacked Broke (Is j))
-outline_stops Lacked Broke (Ok rest) j map behind begun lines report none there planned lacks = tt
-outline_stops Lacked Broke (Err why) j map behind begun lines report none there planned (inl memory) = rw memory tt
-outline_stops Lacked Broke (Err why) j map behind begun lines report none there planned (inr output) = rw output.1 (
-  inr (record {
-    it = j;
-    asked = refl;
-    has = (rw there output.0, lines, report, lines_in j.task j.len j.content behind begun lines report none planned);
-  }),
-  output.2,
-)
-
-pub stops_for : {V : Type 0} (L M : FileName → Type 0) (Broke : Type 0) (r : Result V Refusal) (Asked : Job → Type 0) (j : Job) → ((told : FileName) → L told → M told) → Asked j
-    → IfErr r (StopsTask L Broke (Is j)) → IfErr r (StopsTask M Broke Asked)
-stops_for L M Broke (Ok x) Asked j files of stops = tt
-stops_for L M Broke (Err why) Asked j files of stops = stops_wider L M Broke (Is j) Asked files (of_one Asked j of) why stops
-
-told_wider : (Sent : Option (List ℕ) → Type 0) (shows : Shows) (A B : Job → Type 0) → ((j : Job) → A j → B j) → (lines : List ℕ)
-    → (lines ≡ []) ⊎ ForAsked Job A (IsPart lines) → (lines ≡ []) ⊎ ForAsked Job B (IsTold Sent shows lines)
-told_wider Sent shows A B wider lines (inl none) = inl none
-told_wider Sent shows A B wider lines (inr of) = inr (record { it = of.it; asked = wider of.it of.asked; has = inl of.has })
-
--- of all lines and what stands behind them
-
--- they are those that the plan's outline has, where it has what stands behind them
-pub whole_of : {V : Type 0} (r : Result V Refusal) (rest : V) (items : V → List ℕ) (Sent : Option (List ℕ) → Type 0) (shows : Shows) (A : Job → Type 0) (lines slice tail : List ℕ)
-    → r ≡ Ok rest → slice ≡ lines → tail ≡ items rest → IfOk r (λ rest. ForAsked Job A (IsWhole Sent shows lines (items rest))) → ForAsked Job A (IsWhole Sent shows slice tail)
-whole_of r rest items Sent shows A lines slice tail is same behind of =
-    rw (same, behind) (subst (λ r. IfOk r (λ rest. ForAsked Job A (IsWhole Sent shows lines (items rest)))) is of)
-
-whole_is_told : (Sent : Option (List ℕ) → Type 0) (shows : Shows) (A : Job → Type 0) (lines rest : List ℕ) → ForAsked Job A (IsWhole Sent shows lines rest)
-    → ForAsked Job A (IsTold Sent shows (lines ++ rest))
-whole_is_told Sent shows A lines rest of = record { it = of.it; asked = of.asked; has = inr (lines, rest, of.has, refl) }
-
-pub whole_printed : {U : Type 0} (Sent : Option (List ℕ) → Type 0) (shows : Shows) (A B : Job → Type 0) → ((j : Job) → A j → B j) → (lines rest : List ℕ) (before after : Option (List ℕ))
-    (r : Result U Refusal) → ForAsked Job A (IsWhole Sent shows lines rest) → IfOk r (λ u. Appends before after (lines ++ rest))
-    → IfOk r (λ u. PrintsPlan Sent shows B before after)
-whole_printed Sent shows A B wider lines rest before after (Ok u) of put =
-    record { lines = lines; rest = rest; whole = asked_wider Job A B (IsWhole Sent shows lines rest) wider of; put = put }
-whole_printed Sent shows A B wider lines rest before after (Err why) of put = tt
-
-pub whole_cut : {U : Type 0} (Sent : Option (List ℕ) → Type 0) (shows : Shows) (A B : Job → Type 0) → ((j : Job) → A j → B j) → (lines rest : List ℕ) (before after : Option (List ℕ))
-    (r : Result U Refusal) → ForAsked Job A (IsWhole Sent shows lines rest) → IfErr r (λ why. Cuts before after (lines ++ rest))
-    → IfErr r (λ why. CutsPlan Sent shows B before after)
-whole_cut Sent shows A B wider lines rest before after (Ok u) of put = tt
-whole_cut Sent shows A B wider lines rest before after (Err why) of put = inr (record {
-  bytes = lines ++ rest;
-  of = whole_is_told Sent shows B lines rest (asked_wider Job A B (IsWhole Sent shows lines rest) wider of);
-  put = inr put;
+pub lines_cut : (Sent : Option (List ℕ) → Type 0) (shows : Shows) (j : Job) (b : Ahead) (x y : Option (List ℕ)) (why : BuildFault) → StopsPlan j.task j.len j.content b x y why
+    → CutsPlan Sent shows (Is j) x y
+lines_cut Sent shows j b x y why stops = inr (record {
+  bytes = stops.bytes;
+  of = record { it = j; asked = refl; has = inl (inl (record { behind = b; why = why; stops = in_memory j b x y why stops })) };
+  put = inl stops.put;
 })
 
-pub whole_refused : {U : Type 0} (strict : Bool) (Lacked : FileName → Type 0) (More Broke : Type 0) → (More → Broke) → (Sent : Option (List ℕ) → Type 0) (shows : Shows) (A B : Job → Type 0) → ((j : Job) → A j → Filled strict B j) → (lines rest : List ℕ) (before after : Option (List ℕ))
-    (asks : Bool) (r : Result U Refusal) → asks ≡ true → ForAsked Job A (IsWhole Sent shows lines rest)
-    → IfErr r (λ why. Cuts before after (lines ++ rest)) → IfErr r (λ why. (why ≡ Build fault.Write) × More)
-    → IfErr r (OrUsage asks (RefusesPlan strict Lacked Broke Sent shows B before after))
-whole_refused strict Lacked More Broke broken Sent shows A B wider lines rest before after asks (Ok u) formed of put is = tt
-whole_refused strict Lacked More Broke broken Sent shows A B wider lines rest before after asks (Err why) formed of put is = or_usage _ _ _ formed (rw is.0 (
-  inr (inr (record {
-    bytes = lines ++ rest;
-    of = whole_is_told Sent shows (Filled strict B) lines rest (asked_wider Job A (Filled strict B) (IsWhole Sent shows lines rest) wider of);
-    put = put;
+-- all lines were, and what stands behind them, or some of that
+
+same_chip : {E : Type 0} (says : Result Parameters E) (m n : Parameters) → says ≡ Ok m → says ≡ Ok n → m ≡ n
+same_chip (Ok k) m n one other = cc
+same_chip (Err why) m n one other = cc
+
+lines_of : (j : Job) (work : Work) (begun done : Sums) (b : Ahead) (x y : Option (List ℕ)) (report : Report) → (all : PrintsLines work begun done j.task j.len j.content b x y report)
+    → IsLinesOf (lines_text all.lines) report j
+lines_of j work begun done b x y report all = record { behind = b; lines = all.lines; planned = all.planned; text = refl }
+
+whole_of : (Sent : Option (List ℕ) → Type 0) (shows : Shows) (j : Job) (work : Work) (begun done : Sums) (b : Ahead) (x y : Option (List ℕ)) (report : Report) (rest : List ℕ)
+    → (all : PrintsLines work begun done j.task j.len j.content b x y report) → IsJob j.task j.len work
+    → IsBehind Sent shows j.begun report j.task j.len work.meaning all.lines rest → ForAsked Job (Is j) (IsWhole Sent shows (lines_text all.lines) rest)
+unfolding lines_of
+whole_of Sent shows j work begun done b x y report rest all is behind = record {
+  it = j;
+  asked = refl;
+  has = record {
+    report = report;
+    of = lines_of j work begun done b x y report all;
+    ends = subst (λ (m : Parameters). IsBehind Sent shows j.begun report j.task j.len m all.lines rest)
+        (same_chip (chip_says j.task) work.meaning all.planned.m is.accepted.means all.planned.accepted.means) behind;
+  };
+}
+
+told_of : (Sent : Option (List ℕ) → Type 0) (shows : Shows) (j : Job) (lines rest : List ℕ) → ForAsked Job (Is j) (IsWhole Sent shows lines rest)
+    → ForAsked Job (Is j) (IsTold Sent shows (lines ++ rest))
+told_of Sent shows j lines rest whole = record { it = whole.it; asked = whole.asked; has = inr (lines, rest, whole.has, refl) }
+
+pub all_printed : {U : Type 0} (r : Result U Refusal) (Sent : Option (List ℕ) → Type 0) (shows : Shows) (j : Job) (work : Work) (begun done : Sums) (b : Ahead) (x y z : Option (List ℕ)) (report : Report)
+    → (all : PrintsLines work begun done j.task j.len j.content b x y report) → IsJob j.task j.len work
+    → IfOk r (λ u. (rest : List ℕ) × IsBehind Sent shows j.begun report j.task j.len work.meaning all.lines rest × Appends y z rest)
+    → IfOk r (λ u. PrintsPlan Sent shows (Is j) x z)
+all_printed (Ok u) Sent shows j work begun done b x y z report all is behind = record {
+  lines = lines_text all.lines;
+  rest = behind.0;
+  whole = whole_of Sent shows j work begun done b x y report behind.0 all is behind.1;
+  put = Appends-append x y z (lines_text all.lines) behind.0 all.put behind.2;
+}
+all_printed (Err why) Sent shows j work begun done b x y z report all is behind = tt
+
+abbrev CutsBehind : Type 0 → Type 0 → Type 0 → (Option (List ℕ) → Type 0) → Shows → Job → Work → Report → Bool → Option (List ℕ) → Option (List ℕ) → Refusal → List PlanLine → Type 0
+CutsBehind Same More Broke Sent shows j work report drawn y z why lines =
+    (Same × LacksMap drawn Broke why)
+    ⊎ ((rest : List ℕ) × IsBehind Sent shows j.begun report j.task j.len work.meaning lines rest × Cuts y z rest × (why ≡ Build fault.Write) × More)
+
+cut_of : (Same More Broke : Type 0) (Sent : Option (List ℕ) → Type 0) (shows : Shows) (j : Job) (work : Work) (begun done : Sums) (b : Ahead) (x y z : Option (List ℕ)) (report : Report)
+    (drawn : Bool) (why : Refusal) → (all : PrintsLines work begun done j.task j.len j.content b x y report) → IsJob j.task j.len work → (Same → z ≡ y)
+    → CutsBehind Same More Broke Sent shows j work report drawn y z why all.lines → CutsPlan Sent shows (Is j) x z
+cut_of Same More Broke Sent shows j work begun done b x y z report drawn why all is same (inl lacks) = inr (record {
+  bytes = lines_text all.lines;
+  of = record { it = j; asked = refl; has = inl (inr (report, lines_of j work begun done b x y report all)) };
+  put = inl (subst (λ (z : Option (List ℕ)). Appends x z (lines_text all.lines)) (sym (same lacks.0)) all.put);
+})
+cut_of Same More Broke Sent shows j work begun done b x y z report drawn why all is same (inr cut) = inr (record {
+  bytes = lines_text all.lines ++ cut.0;
+  of = told_of Sent shows j (lines_text all.lines) cut.0 (whole_of Sent shows j work begun done b x y report cut.0 all is cut.1);
+  put = inr (Cuts-then x y z (lines_text all.lines) cut.0 all.put cut.2);
+})
+
+pub behind_cut : {U : Type 0} (r : Result U Refusal) (Same More Broke : Type 0) (Sent : Option (List ℕ) → Type 0) (shows : Shows) (j : Job) (work : Work) (begun done : Sums) (b : Ahead)
+    (x y z : Option (List ℕ)) (report : Report) (drawn : Bool) → (all : PrintsLines work begun done j.task j.len j.content b x y report) → IsJob j.task j.len work → (Same → z ≡ y)
+    → IfErr r (λ why. CutsBehind Same More Broke Sent shows j work report drawn y z why all.lines) → IfErr r (λ why. CutsPlan Sent shows (Is j) x z)
+behind_cut (Ok u) Same More Broke Sent shows j work begun done b x y z report drawn all is same cut = tt
+behind_cut (Err why) Same More Broke Sent shows j work begun done b x y z report drawn all is same cut =
+    cut_of Same More Broke Sent shows j work begun done b x y z report drawn why all is same cut
+
+stop_of : (Same More Broke Files : Type 0) (Sent : Option (List ℕ) → Type 0) (shows : Shows) (j : Job) (work : Work) (begun done : Sums) (b : Ahead) (x y z : Option (List ℕ)) (report : Report)
+    (drawn : Bool) (why : Refusal) → (all : PrintsLines work begun done j.task j.len j.content b x y report) → IsJob j.task j.len work → drawn ≡ is_some j.begun
+    → (Files → Broke) → (More → Broke) → CutsBehind Same More Files Sent shows j work report drawn y z why all.lines → StopsPrinting Broke Sent shows j x z why
+stop_of Same More Broke Files Sent shows j work begun done b x y z report drawn why all is there files more (inl (same, inl memory)) = rw memory tt
+stop_of Same More Broke Files Sent shows j work begun done b x y z report drawn why all is there files more (inl (same, inr map)) = rw map.1 (
+  inr (inl (record {
+    it = j;
+    asked = refl;
+    has = (sym there ∙ map.0, lines_text all.lines, report, lines_of j work begun done b x y report all);
   })),
-  broken is.1,
-))
+  files map.2,
+)
+stop_of Same More Broke Files Sent shows j work begun done b x y z report drawn why all is there files more (inr cut) = rw cut.3 (
+  inr (inr (record {
+    bytes = lines_text all.lines ++ cut.0;
+    of = told_of Sent shows j (lines_text all.lines) cut.0 (whole_of Sent shows j work begun done b x y report cut.0 all is cut.1);
+    put = Cuts-then x y z (lines_text all.lines) cut.0 all.put cut.2;
+  })),
+  more cut.4,
+)
 
--- of the lines before a refusal
+pub behind_stops : {U : Type 0} (r : Result U Refusal) (Same More Broke Files : Type 0) (Sent : Option (List ℕ) → Type 0) (shows : Shows) (j : Job) (work : Work) (begun done : Sums) (b : Ahead)
+    (x y z : Option (List ℕ)) (report : Report) (drawn : Bool) → (all : PrintsLines work begun done j.task j.len j.content b x y report) → IsJob j.task j.len work
+    → drawn ≡ is_some j.begun → (Files → Broke) → (More → Broke)
+    → IfErr r (λ why. CutsBehind Same More Files Sent shows j work report drawn y z why all.lines) → IfErr r (StopsPrinting Broke Sent shows j x z)
+behind_stops (Ok u) Same More Broke Files Sent shows j work begun done b x y z report drawn all is there files more cut = tt
+behind_stops (Err why) Same More Broke Files Sent shows j work begun done b x y z report drawn all is there files more cut =
+    stop_of Same More Broke Files Sent shows j work begun done b x y z report drawn why all is there files more cut
 
-pub part_of_lines : {V : Type 0} (r : Result V Refusal) (why : Refusal) (A : Job → Type 0) (lines slice : List ℕ) → r ≡ Err why → slice ≡ lines
-    → IfErr r (λ why. (lines ≡ []) ⊎ ForAsked Job A (IsPart lines)) → (slice ≡ []) ⊎ ForAsked Job A (IsPart slice)
-part_of_lines r why A lines slice is same of =
-    rw same (subst (λ r. IfErr r (λ why. (lines ≡ []) ⊎ ForAsked Job A (IsPart lines))) is of)
-
-abbrev PrintsLines : Type 0 → Type 0 → List ℕ → Option (List ℕ) → Option (List ℕ) → Refusal → Refusal → Type 0
-PrintsLines Same More lines before after why told =
-    ((lines ≡ []) × Same × (told ≡ why))
-    ⊎ (((0 < length lines) × Appends before after lines × (told ≡ why)) ⊎ (Cuts before after lines × (told ≡ Build fault.Write) × More))
-
-lines_cut_of : (Same More : Type 0) (before after : Option (List ℕ)) → (Same → after ≡ before) → (Sent : Option (List ℕ) → Type 0) (shows : Shows) (B : Job → Type 0) (lines : List ℕ) (why told : Refusal)
-    → (lines ≡ []) ⊎ ForAsked Job B (IsTold Sent shows lines) → PrintsLines Same More lines before after why told → CutsPlan Sent shows B before after
-lines_cut_of Same More before after same Sent shows B lines why told part (inl none) = inl (same none.1)
-lines_cut_of Same More before after same Sent shows B lines why told (inr of) (inr (inl all)) = inr (record { bytes = lines; of = of; put = inl all.1 })
-lines_cut_of Same More before after same Sent shows B lines why told (inl none) (inr (inl all)) = absurd (omega (arith, all.0, ap length none))
-lines_cut_of Same More before after same Sent shows B lines why told (inr of) (inr (inr cut)) = inr (record { bytes = lines; of = of; put = inr cut.0 })
-lines_cut_of Same More before after same Sent shows B lines why told (inl none) (inr (inr cut)) = absurd (omega (arith, cut.0.1, ap length none))
-
-pub lines_cut : (Same More : Type 0) (before after : Option (List ℕ)) → (Same → after ≡ before) → (Sent : Option (List ℕ) → Type 0) (shows : Shows) (A B : Job → Type 0) → ((j : Job) → A j → B j)
-    → (lines : List ℕ) (why told : Refusal) → (lines ≡ []) ⊎ ForAsked Job A (IsPart lines) → PrintsLines Same More lines before after why told
-    → CutsPlan Sent shows B before after
-lines_cut Same More before after same Sent shows A B wider lines why told part =
-    lines_cut_of Same More before after same Sent shows B lines why told (told_wider Sent shows A B wider lines part)
-
-lines_refused_of : (strict : Bool) (Lacked : FileName → Type 0) (D Broke Same More : Type 0) → (D → Broke) → (More → Broke) → (before after : Option (List ℕ)) (Sent : Option (List ℕ) → Type 0) (shows : Shows) (B : Job → Type 0) (lines : List ℕ) (why told : Refusal)
-    → (lines ≡ []) ⊎ ForAsked Job (Filled strict B) (IsTold Sent shows lines) → StopsAsked strict Lacked D B why → PrintsLines Same More lines before after why told
-    → RefusesPlan strict Lacked Broke Sent shows B before after told
-lines_refused_of strict Lacked D Broke Same More broken printed before after Sent shows B lines why told part stops (inl none) = rw none.2 (unmade strict Lacked D Broke Sent shows B before after broken why stops)
-lines_refused_of strict Lacked D Broke Same More broken printed before after Sent shows B lines why told part stops (inr (inl all)) = rw all.2 (unmade strict Lacked D Broke Sent shows B before after broken why stops)
-lines_refused_of strict Lacked D Broke Same More broken printed before after Sent shows B lines why told (inr of) stops (inr (inr cut)) = rw cut.1 (inr (inr (record { bytes = lines; of = of; put = cut.0 })), printed cut.2)
-lines_refused_of strict Lacked D Broke Same More broken printed before after Sent shows B lines why told (inl none) stops (inr (inr cut)) = absurd (omega (arith, cut.0.1, ap length none))
-
-pub lines_refused : (strict : Bool) (Lacked : FileName → Type 0) (D Broke Same More : Type 0) → (D → Broke) → (More → Broke) → (before after : Option (List ℕ)) (Sent : Option (List ℕ) → Type 0) (shows : Shows) (A B : Job → Type 0) → ((j : Job) → A j → Filled strict B j)
-    → (lines : List ℕ) (asks : Bool) (why told : Refusal) → asks ≡ true → (lines ≡ []) ⊎ ForAsked Job A (IsPart lines) → StopsAsked strict Lacked D B why
-    → PrintsLines Same More lines before after why told → OrUsage asks (RefusesPlan strict Lacked Broke Sent shows B before after) told
-lines_refused strict Lacked D Broke Same More broken printed before after Sent shows A B wider lines asks why told formed part stops prints =
-    or_usage _ _ _ formed (lines_refused_of strict Lacked D Broke Same More broken printed before after Sent shows B lines why told (told_wider Sent shows A (Filled strict B) wider lines part) stops prints)
-
--- ---- with the lines of the regions
-apart : {V : Type 0} (x : V) (e : Refusal) → ◌≡◌ {A = Result V Refusal} (Ok x) (Err e) → ⊥
-apart x e h = cc
-
-pub job_whole : {V : Type 0} (r q : Result V Refusal) (items : V → List ℕ) (Sent : Option (List ℕ) → Type 0) (shows : Shows) (lines : List ℕ) (j : Job)
-    → IfOk r (λ text. IsShown Sent shows.times lines (items text) j) → IfOk r (λ text. IfOk q (λ rest. EndsWith shows.regions j.task j.len (items text) (items rest)))
-    → IfErr r (λ why. q ≡ Err why) → IfOk q (λ rest. IsWhole Sent shows lines (items rest) j)
-job_whole (Ok text) (Ok rest) items Sent shows lines j of told kept = record { shown = items text; planned = of; ends = told }
-job_whole (Ok text) (Err why) items Sent shows lines j of told kept = tt
-job_whole (Err e) (Ok rest) items Sent shows lines j of told kept = absurd (apart rest e kept)
-job_whole (Err e) (Err why) items Sent shows lines j of told kept = tt
-
-pub job_part : {V : Type 0} (r q : Result V Refusal) (items : V → List ℕ) (Sent : Option (List ℕ) → Type 0) (shows : Shows) (lines : List ℕ) (j : Job)
-    → IfOk r (λ text. IsShown Sent shows.times lines (items text) j) → IfErr r (λ why. (lines ≡ []) ⊎ IsPart lines j)
-    → IfErr q (λ why. (lines ≡ []) ⊎ IsPart lines j)
-job_part (Ok text) (Ok rest) items Sent shows lines j of part = tt
-job_part (Ok text) (Err why) items Sent shows lines j of part = inr (inr (of.report, of.of))
-job_part (Err e) (Ok rest) items Sent shows lines j of part = tt
-job_part (Err e) (Err why) items Sent shows lines j of part = part
-
-pub job_stops : {V : Type 0} (Lacked : FileName → Type 0) (Broke : Type 0) (r q : Result V Refusal) (j : Job) → IfErr r (StopsTask Lacked Broke (Is j)) → IfOk r (λ text. IfErr q (λ why. why ≡ Build fault.Memory))
-    → IfErr r (λ why. q ≡ Err why) → IfErr q (StopsTask Lacked Broke (Is j))
-job_stops Lacked Broke (Ok text) (Ok rest) j stops memory kept = tt
-job_stops Lacked Broke (Ok text) (Err why) j stops memory kept = rw memory tt
-job_stops Lacked Broke (Err e) (Ok rest) j stops memory kept = tt
-job_stops Lacked Broke (Err e) (Err why) j stops memory kept =
-    subst (λ r. IfErr r (StopsTask Lacked Broke (Is j))) (sym kept) stops
+-- what stands behind the lines, with the lines of the regions
+pub behind_is : {V : Type 0} (r : Result V Refusal) (items : V → List ℕ) (Sent : Option (List ℕ) → Type 0) (shows : Shows) (begun : Option (Option (List ℕ))) (report : Report) (t : Task) (len : ℕ)
+    (m : Parameters) (lines : List PlanLine) (text : List ℕ) → text ≡ behind_lines shows.times report t m lines → Draws Sent begun t m lines text
+    → IfOk r (λ rest. EndsWith shows.regions t len text (items rest)) → IfOk r (λ rest. IsBehind Sent shows begun report t len m lines (items rest))
+behind_is (Ok rest) items Sent shows begun report t len m lines text is drawn ends = record {
+  drawn = subst (Draws Sent begun t m lines) is drawn;
+  ends = subst (λ text. EndsWith shows.regions t len text (items rest)) is ends;
+}
+behind_is (Err why) items Sent shows begun report t len m lines text is drawn ends = tt

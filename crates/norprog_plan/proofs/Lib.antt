@@ -1,3 +1,4 @@
 mod ServedLemmas
 mod AnswerLemmas
 mod DrawnLemmas
+mod SumsLemmas

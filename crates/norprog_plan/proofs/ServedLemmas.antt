@@ -1,16 +1,17 @@
 -- The job of a request is the one that the texts ask for.
-use Rattle.std.proofs.Common.{◌≡◌, ◌∙◌, subst, Bool, refl, option_map, Option, Some, IfSome}
-use Rattle.norprog_common.specs.FileStore.{FileFacts, Lacks}
+use Rattle.std.proofs.Common.{◌≡◌, ◌∙◌, ℕ, List, subst, Bool, refl, option_map, Option, Some, IfSome}
+use Rattle.norprog_common.specs.FileStore.{FileFacts, LacksEarly}
 use Rattle.norprog_common.specs.declared.given.PlanArgs.{PlanArgs}
 use Rattle.norprog_common.specs.declared.request.Request.{Request}
 use Rattle.norprog_common.specs.Request.{AsksFor}
 use Rattle.norprog_common.specs.Served.{Job, IsJobOf, map_path, paths_asked, paths_of}
 use Rattle.norprog_common.specs.Strict.{Filled}
+use Rattle.norprog_common.specs.declared.faults.FileName.TheVariants.{Map}
 use Rattle.norprog_common.specs.declared.faults.Refusal.{Refusal}
-use Rattle.norprog_plan.specs.Answer.{StopsAsked}
-use Rattle.norprog_plan.proofs.AnswerLemmas.{asked_wider_stops}
-use Rattle.norprog_plan.specs.Served.{ServesPlan}
-use Rattle.norprog_common.proofs.LackedLemmas.{lacks_same, paths_are}
+use Rattle.norprog_plan.specs.Answer.{RefusesPlan}
+use Rattle.norprog_plan.specs.Served.{ServesPlan, shows_of}
+use Rattle.norprog_plan.proofs.AnswerLemmas.{refuses_asked}
+use Rattle.norprog_common.proofs.LackedLemmas.{early_same, paths_are}
 use Rattle.norprog_common.proofs.ServedLemmas.{serves, asks_of}
 
 pub plan_serves : (files : FileFacts) (given : PlanArgs) (o : Option Request) (request : Request) → o ≡ Some request → IfSome o (AsksFor given.job)
@@ -22,14 +23,16 @@ pub plan_filled : (files : FileFacts) (given : PlanArgs) (o : Option Request) (r
 plan_filled files given o request some asks j of =
     (plan_serves files given o request some asks j of.0, λ strict. of.1 ((asks_of given.job o request some asks).strict ∙ strict))
 
-pub plan_stops : (files : FileFacts) (given : PlanArgs) (o : Option Request) (request : Request) → o ≡ Some request → IfSome o (AsksFor given.job)
-    → (why : Refusal)
-    → StopsAsked request.strict (Lacks files (paths_of request (map_path (option_map (λ t. t.now) given.map)))) files.broke (IsJobOf files request (option_map (λ t. t.now) given.map)) why
-    → StopsAsked given.job.strict (Lacks files (paths_asked given.job (map_path (option_map (λ t. t.now) given.map)))) files.broke (ServesPlan files given) why
-plan_stops files given o request some asks why of =
+pub plan_refused : (files : FileFacts) (given : PlanArgs) (Nothing : Type 0) (o : Option Request) (request : Request) → o ≡ Some request → IfSome o (AsksFor given.job)
+    → (Broke : Type 0) (x y : Option (List ℕ)) (why : Refusal)
+    → RefusesPlan request.strict (LacksEarly files (paths_of request (map_path (option_map (λ t. t.now) given.map))) Map Nothing) Broke files.flushed (shows_of given)
+    (IsJobOf files request (option_map (λ t. t.now) given.map)) x y why
+    → RefusesPlan given.job.strict (LacksEarly files (paths_asked given.job (map_path (option_map (λ t. t.now) given.map))) Map Nothing) Broke files.flushed (shows_of given)
+    (ServesPlan files given) x y why
+plan_refused files given Nothing o request some asks Broke x y why of =
     let map = option_map (λ t. t.now) given.map in
-    let Lacked = Lacks files (paths_of request (map_path map)) in
-    asked_wider_stops given.job.strict Lacked (Lacks files (paths_asked given.job (map_path map))) files.broke (IsJobOf files request map) (ServesPlan files given)
-    (lacks_same files (paths_of request (map_path map)) (paths_asked given.job (map_path map)) (paths_are given.job request (map_path map) (asks_of given.job o request some asks)))
-    (plan_serves files given o request some asks) why
-    (subst (λ (strict : Bool). StopsAsked strict Lacked files.broke (IsJobOf files request map) why) (asks_of given.job o request some asks).strict of)
+    let Lacked = LacksEarly files (paths_of request (map_path map)) Map Nothing in
+    refuses_asked given.job.strict Lacked (LacksEarly files (paths_asked given.job (map_path map)) Map Nothing) Broke files.flushed (shows_of given) (IsJobOf files request map) (ServesPlan files given)
+    (early_same files (paths_of request (map_path map)) (paths_asked given.job (map_path map)) Map Nothing (paths_are given.job request (map_path map) (asks_of given.job o request some asks)))
+    (plan_serves files given o request some asks) x y why
+    (subst (λ (strict : Bool). RefusesPlan strict Lacked Broke files.flushed (shows_of given) (IsJobOf files request map) x y why) (asks_of given.job o request some asks).strict of)

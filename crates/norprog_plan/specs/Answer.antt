@@ -8,28 +8,29 @@ use Rattle.nor_job.specs.declared.fault.BuildFault.TheVariants.{Memory, Write}
 use Rattle.nor_job.specs.Causes.{LayoutSays, RefusesInputs}
 use Rattle.nor_job.specs.Status.{start_of}
 use Rattle.nor_job.specs.Task.{Task, Origin, Sfdp, Uniform}
-use Rattle.nor_job.specs.Wanted.{wanted}
 use Rattle.nor_layout.specs.Chosen.{is_chosen}
 use Rattle.nor_layout.specs.Region.{Region}
 use Rattle.nor_map.specs.Rows.{grid_of}
 use Rattle.nor_map.specs.Map.{map_text}
+use Rattle.nor_plan_read.specs.Lines.{lines_text}
 use Rattle.nor_plan_read.specs.declared.line.PlanLine.{PlanLine}
 use Rattle.nor_times.specs.declared.times.Times.{Times}
 use Rattle.nor_times.specs.Times.{times_of}
 use Rattle.nor_times.specs.Busy.{busy_of}
 use Rattle.nor_times.specs.Bus.{bus_of}
-use Rattle.nor_times.specs.Plan.{plan_of}
 use Rattle.nor_times.specs.Text.{times_text}
-use Rattle.norprog.specs.Plan.{IsPlanOf, StopsPlan}
+use Rattle.norprog.specs.Plan.{StopsPlan}
+use Rattle.norprog.specs.Planner.{IsPlanned}
 use Rattle.norprog.specs.Report.{report_text}
 use Rattle.norprog.specs.declared.report.Report.{Report}
 use Rattle.norprog_common.specs.declared.faults.FileName.{FileName}
+use Rattle.norprog_common.specs.declared.faults.FileName.TheVariants.{Map}
 use Rattle.norprog_common.specs.declared.faults.Refusal.{Refusal}
 use Rattle.norprog_common.specs.declared.faults.Refusal.TheVariants.{Build}
 use Rattle.norprog_common.specs.declared.given.PlanArgs.{PlanArgs}
-use Rattle.norprog_common.specs.FileStore.{FileFacts, Change, Lacks}
+use Rattle.norprog_common.specs.FileStore.{FileFacts, Change, LacksEarly}
 use Rattle.norprog_common.specs.Told.{ForAsked, OfFault, RefusesFor, Answers}
-use Rattle.norprog_common.specs.Served.{Job, MakesFor, MayMakeFor, map_path, paths_asked}
+use Rattle.norprog_common.specs.Served.{Is, Job, MakesFor, MayMakeFor, map_path, paths_asked}
 use Rattle.norprog_common.specs.Strict.{Filled, OrEmpty}
 use Rattle.norprog_plan.specs.declared.outline.Shows.{Shows}
 use Rattle.norprog_plan.specs.Regions.{EndsWith}
@@ -52,14 +53,12 @@ behind_lines false report t m lines = report_text report
 -- the bytes are the lines of the plan of the task, of so long a content that is ahead, and this is its report
 pub record IsLines (told : List ℕ) (report : Report) (t : Task) (len : ℕ) (ahead : Ahead) : Type 0 where
   pub behind : Ahead
-  pub planned : IsPlanOf t len ahead behind (Some []) (Some told) report
+  pub lines : List PlanLine
+  pub planned : IsPlanned t len ahead behind lines report
+  pub text : told ≡ lines_text lines
 
 abbrev pub IsLinesOf : List ℕ → Report → Job → Type 0
 IsLinesOf told report j = IsLines told report j.task j.len j.content
-
--- what a reader of those lines reads
-abbrev pub read_lines : {told : List ℕ} {report : Report} {t : Task} {len : ℕ} {ahead : Ahead} → IsLines told report t len ahead → List PlanLine
-read_lines {t = t} of = plan_of of.planned.m (start_of t) of.planned.content (wanted t of.planned.image of.planned.regions of.planned.content)
 
 -- the picture of such a plan: of the chip under these lines, with the regions of the layout, what of them is chosen, and the text
 -- behind the lines
@@ -85,19 +84,17 @@ abbrev pub Draws : (Option (List ℕ) → Type 0) → Option (Option (List ℕ))
 Draws Sent (Some begun) t m lines rest = IsDrawn Sent begun t m lines rest
 Draws Sent None t m lines rest = ⊤
 
--- these are the lines of the plan of the job, and what stands behind them, with its times or without; and it was drawn, where it
--- has an output for that
-pub record IsShown (Sent : Option (List ℕ) → Type 0) (times : Bool) (told shown : List ℕ) (j : Job) : Type 0 where
+-- what stands behind the lines of a plan: its report, with its times or without; a picture that has them was drawn, where the job has
+-- an output for that; and then come the lines of its chosen regions, where they are asked for
+pub record IsBehind (Sent : Option (List ℕ) → Type 0) (shows : Shows) (begun : Option (Option (List ℕ))) (report : Report) (t : Task) (len : ℕ) (m : Parameters) (lines : List PlanLine) (rest : List ℕ) : Type 0 where
+  pub drawn : Draws Sent begun t m lines (behind_lines shows.times report t m lines)
+  pub ends : EndsWith shows.regions t len (behind_lines shows.times report t m lines) rest
+
+-- these are the lines of the plan of the job, and what stands behind them
+pub record IsWhole (Sent : Option (List ℕ) → Type 0) (shows : Shows) (told rest : List ℕ) (j : Job) : Type 0 where
   pub report : Report
   pub of : IsLinesOf told report j
-  pub ends : shown ≡ behind_lines times report j.task of.planned.m (read_lines of)
-  pub drawn : Draws Sent j.begun j.task of.planned.m (read_lines of) shown
-
--- and behind that the lines of its chosen regions, where they are asked for
-pub record IsWhole (Sent : Option (List ℕ) → Type 0) (shows : Shows) (told rest : List ℕ) (j : Job) : Type 0 where
-  pub shown : List ℕ
-  pub planned : IsShown Sent shows.times told shown j
-  pub ends : EndsWith shows.regions j.task j.len shown rest
+  pub ends : IsBehind Sent shows j.begun report j.task j.len of.planned.m of.lines rest
 
 -- the plan of the job stopped so, and the bytes are the lines that had been before
 pub record IsStopped (told : List ℕ) (j : Job) : Type 0 where
@@ -147,11 +144,6 @@ pub record StopsPlanOf (why : BuildFault) (j : Job) : Type 0 where
 abbrev pub IsPlanFault : (Job → Type 0) → BuildFault → Type 0
 IsPlanFault Asked why = ForAsked Job Asked (StopsPlanOf why)
 
--- a fault of a plan that is written to memory
-abbrev pub in_memory : BuildFault → Refusal
-in_memory Write = Build Memory
-in_memory other = Build other
-
 -- the plan of the job was told, and it has an output for a picture, which was not taken or didn't go out
 abbrev pub IsUndrawn : Job → Type 0
 IsUndrawn j = (is_some j.begun ≡ true) × (told : List ℕ) × (report : Report) × IsLinesOf told report j
@@ -159,24 +151,24 @@ IsUndrawn j = (is_some j.begun ≡ true) × (told : List ℕ) × (report : Repor
 abbrev pub FailsToDraw : (Job → Type 0) → Type 0
 FailsToDraw Asked = ForAsked Job Asked IsUndrawn
 
--- why a plan that was asked for isn't made, or not drawn; `Broke`: an output failed
-abbrev pub StopsTask : (FileName → Type 0) → Type 0 → (Job → Type 0) → Refusal → Type 0
-StopsTask Lacked Broke Asked = RefusesFor Lacked Broke (OfFault (IsPlanFault Asked)) (FailsToDraw Asked)
+-- memory was refused, or the output of a picture, where there is one, can't be written
+abbrev pub LacksMap : Bool → Type 0 → Refusal → Type 0
+LacksMap drawn Broke why = (why ≡ Build Memory) ⊎ ((drawn ≡ true) × (why ≡ Build Write) × Broke)
 
--- the same where a job may be strict: the first chosen region without a byte of the image is told, and of a plan that went further
--- each has one
-abbrev pub StopsAsked : Bool → (FileName → Type 0) → Type 0 → (Job → Type 0) → Refusal → Type 0
-StopsAsked strict Lacked Broke Asked =
-    RefusesFor Lacked Broke (OrEmpty strict Asked (OfFault (IsPlanFault (Filled strict Asked)))) (FailsToDraw (Filled strict Asked))
+-- why the plan of a job isn't told; `Broke`: an output failed
+abbrev pub StopsPrinting : Type 0 → (Option (List ℕ) → Type 0) → Shows → Job → Option (List ℕ) → Option (List ℕ) → Refusal → Type 0
+StopsPrinting Broke Sent shows j before after =
+    RefusesFor (λ name. ⊥) Broke (OfFault (IsPlanFault (Is j))) (FailsToDraw (Is j) ⊎ FailsToPrint Sent shows (Is j) before after)
 
--- why a plan that was asked for isn't told
+-- the same of a plan that was asked for; where a job may be strict the first chosen region without a byte of the image is told, and of a
+-- plan that went further each has one
 abbrev pub RefusesPlan : Bool → (FileName → Type 0) → Type 0 → (Option (List ℕ) → Type 0) → Shows → (Job → Type 0) → Option (List ℕ) → Option (List ℕ) → Refusal → Type 0
 RefusesPlan strict Lacked Broke Sent shows Asked before after =
     RefusesFor Lacked Broke (OrEmpty strict Asked (OfFault (IsPlanFault (Filled strict Asked))))
     (FailsToDraw (Filled strict Asked) ⊎ FailsToPrint Sent shows (Filled strict Asked) before after)
 
 -- what `plan` answers to the texts of a command line, where `Made` says which changes it made, and `Broke` that an output failed: the
--- lines and the report at status 0, after the picture has gone out where one is asked for, and just its file was made; or a refusal,
+-- lines and the report at status 0, where the picture has gone out if one is asked for, and just its file was made; or a refusal,
 -- and at most that was, nothing where the texts ask for no plan
 abbrev pub AnswersPlan : FileFacts → PlanArgs → (List Change → Type 0) → Type 0 → Option (List ℕ) → Option (List ℕ) → Type 0 → Type 0 → Option (List ℕ) → Option (List ℕ) → ℕ → Type 0
 AnswersPlan files given Made Broke before after Quiet Works told_before told_after status =
@@ -185,6 +177,6 @@ AnswersPlan files given Made Broke before after Quiet Works told_before told_aft
     × MakesFor files given.job (option_map (λ t. t.now) given.map) Made × Quiet)
     (CutsPlan files.flushed (shows_of given) (Filled given.job.strict (ServesPlan files given)) before after
     × (MayMakeFor files given.job (option_map (λ t. t.now) given.map) Made × (asks_plan given ≡ false → Made [])))
-    (RefusesPlan given.job.strict (Lacks files (paths_asked given.job (map_path (option_map (λ t. t.now) given.map)))) Broke files.flushed (shows_of given)
+    (RefusesPlan given.job.strict (LacksEarly files (paths_asked given.job (map_path (option_map (λ t. t.now) given.map))) Map (Made [])) Broke files.flushed (shows_of given)
     (ServesPlan files given) before after)
     Works told_before told_after status

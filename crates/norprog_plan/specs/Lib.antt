@@ -1,3 +1,4 @@
 pub mod Served
 pub mod Regions
 pub mod Answer
+pub mod Sums

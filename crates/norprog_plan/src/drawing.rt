@@ -1,45 +1,75 @@
 //! The picture of a plan.
 
-ghost use Rattle.std.specs.Prelude.{◌<◌, ◌-◌, ◌^◌, ℕ, List, IfOk, IfErr};
+ghost use Rattle.std.specs.Prelude.{◌≡◌, ◌<◌, ◌-◌, ◌^◌, ℕ, List, IfOk, IfErr, IfSome, is_some};
+ghost use Rattle.std.specs.Prelude.{option_map};
 ghost use Rattle.std.specs.Io.KnownBytes.{Appends};
-ghost use Rattle.nor_base.specs.Device.{Ahead};
 ghost use Rattle.nor_hex.specs.Image.{Pairs};
 ghost use Rattle.nor_job.specs.Causes.{HasRegions};
 ghost use Rattle.nor_layout.specs.Chosen.{has};
 ghost use Rattle.nor_layout.specs.Region.{Region as NamedRegion};
+ghost use Rattle.nor_map.specs.Marks.{marks_of};
 ghost use Rattle.nor_map.specs.Rows.{grid_of};
 ghost use Rattle.nor_map.specs.Map.{map_text};
-ghost use Rattle.norprog.specs.declared.report.Report.{Report};
-ghost use Rattle.norprog_plan.specs.Answer.{IsDrawn, IsLines, LacksOutput, read_lines, PutsMap};
+ghost use Rattle.nor_plan_read.specs.declared.line.PlanLine.{PlanLine as Line};
+ghost use Rattle.norprog_plan.specs.Answer.{Draws, IsDrawn, LacksMap, LacksOutput, PutsMap};
 
-use crate::outline::lines_of;
 use nor_base::{ByteOut, Meaning};
-use nor_job::{Inputs, chip_of};
+use nor_job::Inputs;
 use nor_layout::{Chosen, Region};
-use nor_map::{Grid, write_map};
-use nor_plan_read::PlanLine;
+use nor_map::{Grid, PlanMarks, write_map};
 use norprog_common::{FileStore, Refusal};
 use std::alloc::Global;
 
-/// Draws the plan of the inputs that these lines tell into a file, with the text behind the lines.
+/// Draws the plan of the inputs whose lines have these marks, with the text behind the lines, where
+/// there is a file for that.
 ///
 /// `Write` where the file fails, also at its flush, and `Memory` where a growth is refused.
-pub(crate) fn draw_file<S: FileStore>(
+pub(crate) fn draw_where_asked<S: FileStore>(
     alloc: Global,
     store: &S,
     inputs: &Inputs<'_>,
-    text: &[u8],
+    meaning: &Meaning,
+    marks: &Option<PlanMarks>,
+    rest: &[u8],
+    map: Option<S::Output>,
+) -> Result<(), Refusal>
+    requires map { IfSome map (λ file. S.Output.count file < 2 ^ 64 - 1) }
+    requires marks { is_some marks.now ≡ is_some map }
+    ensures drawn { (lines : List Line) (image : Pairs) (regions : List NamedRegion)
+        → IfSome marks.now (λ marks. marks ≡ marks_of meaning.now.size meaning.now.page lines)
+        → HasRegions inputs.now image regions
+        → IfOk result (λ _. Draws (S.facts store.now).flushed (option_map S.Output.held map)
+        inputs.now meaning.now lines rest.now) }
+    ensures refused { IfErr result (LacksMap (is_some map) (S.facts store.now).broke) }
+{
+    match (map, marks) {
+        (Some(file), Some(marks)) => draw_file(alloc, store, inputs, meaning, marks, rest, file),
+        _ => Ok(()),
+    }
+}
+
+/// Draws the plan of the inputs whose lines have these marks into a file, with the text behind the
+/// lines.
+///
+/// `Write` where the file fails, also at its flush, and `Memory` where a growth is refused.
+fn draw_file<S: FileStore>(
+    alloc: Global,
+    store: &S,
+    inputs: &Inputs<'_>,
+    meaning: &Meaning,
+    marks: &PlanMarks,
     rest: &[u8],
     mut file: S::Output,
 ) -> Result<(), Refusal>
     requires { S.Output.count file < 2 ^ 64 - 1 }
-    ensures drawn { (report : Report) (len : ℕ) (ahead : Ahead)
-        (of : IsLines text.now report inputs.now len ahead)
+    ensures drawn { (lines : List Line) (image : Pairs) (regions : List NamedRegion)
+        → marks.now ≡ marks_of meaning.now.size meaning.now.page lines
+        → HasRegions inputs.now image regions
         → IfOk result (λ _. IsDrawn (S.facts store.now).flushed (S.Output.held file) inputs.now
-        of.planned.m (read_lines of) rest.now) }
+        meaning.now lines rest.now) }
     ensures refused { IfErr result (LacksOutput (S.facts store.now).broke) }
 {
-    let drawn = draw(alloc, inputs, text, rest, &mut file);
+    let drawn = draw(alloc, inputs, meaning, marks, rest, &mut file);
     let flushed = store.flush(file);
     drawn?;
     match flushed {
@@ -48,50 +78,27 @@ pub(crate) fn draw_file<S: FileStore>(
     }
 }
 
-/// Draws the plan of the inputs that these lines tell, with the text behind the lines.
+/// Draws the plan of the inputs, with the regions of their layout and what of them is chosen.
 ///
 /// `Write` where the writer fails, and `Memory` where a growth is refused.
 fn draw<W: ByteOut>(
     alloc: Global,
     inputs: &Inputs<'_>,
-    text: &[u8],
-    rest: &[u8],
-    out: &mut W,
-) -> Result<(), Refusal>
-    requires { W.count out.old < 2 ^ 64 - 1 }
-    ensures drawn { (report : Report) (len : ℕ) (ahead : Ahead)
-        (of : IsLines text.now report inputs.now len ahead)
-        → IfOk result (λ _. PutsMap inputs.now of.planned.m (read_lines of) rest.now
-        (W.held out.old) (W.held out.new)) }
-    ensures refused { IfErr result (LacksOutput (W.count out.old < W.count out.new)) }
-{
-    // the plan was made of this chip, so no cause is left
-    let Ok((meaning, _start)) = chip_of(inputs) else {
-        return Err(Refusal::MEMORY);
-    };
-    let lines = lines_of(alloc, text)?;
-    draw_lines(alloc, inputs, &meaning, lines.as_slice(), rest, out)
-}
-
-/// Draws a plan of these lines on a chip, with the regions of the inputs' layout and what of them
-/// is chosen.
-fn draw_lines<W: ByteOut>(
-    alloc: Global,
-    inputs: &Inputs<'_>,
     meaning: &Meaning,
-    lines: &[PlanLine],
+    marks: &PlanMarks,
     rest: &[u8],
     out: &mut W,
 ) -> Result<(), Refusal>
     requires { W.count out.old < 2 ^ 64 - 1 }
-    ensures drawn { (image : Pairs) (regions : List NamedRegion)
+    ensures drawn { (lines : List Line) (image : Pairs) (regions : List NamedRegion)
+        → marks.now ≡ marks_of meaning.now.size meaning.now.page lines
         → HasRegions inputs.now image regions
-        → IfOk result (λ _. PutsMap inputs.now meaning.now lines.now rest.now (W.held out.old)
+        → IfOk result (λ _. PutsMap inputs.now meaning.now lines rest.now (W.held out.old)
         (W.held out.new)) }
     ensures refused { IfErr result (LacksOutput (W.count out.old < W.count out.new)) }
 {
     let Some(text) = inputs.layout else {
-        return put_map(alloc, meaning, lines, &Chosen::whole(), &[], rest, out);
+        return put_map(alloc, marks, &Chosen::whole(), &[], rest, out);
     };
     // the plan was made with this layout, so no cause is left
     let Ok(layout) = nor_layout::read(alloc, text) else {
@@ -100,27 +107,26 @@ fn draw_lines<W: ByteOut>(
     let Ok(chosen) = layout.choose(alloc, inputs.regions) else {
         return Err(Refusal::MEMORY);
     };
-    put_map(alloc, meaning, lines, &chosen, layout.regions(), rest, out)
+    put_map(alloc, marks, &chosen, layout.regions(), rest, out)
 }
 
-/// Puts the picture of a plan of these lines on a chip, with these regions and what is chosen.
+/// Puts the picture of a plan whose lines have these marks, with these regions and what is chosen.
 fn put_map<W: ByteOut>(
     alloc: Global,
-    meaning: &Meaning,
-    lines: &[PlanLine],
+    marks: &PlanMarks,
     chosen: &Chosen,
     regions: &[Region<'_>],
     rest: &[u8],
     out: &mut W,
 ) -> Result<(), Refusal>
     requires { W.count out.old < 2 ^ 64 - 1 }
-    ensures drawn { IfOk result (λ _. Appends (W.held out.old) (W.held out.new)
-        (map_text (grid_of meaning.now.size meaning.now.page lines.now (has chosen.now)) lines.now
-        regions.now rest.now)) }
+    ensures drawn { (size page : ℕ) (lines : List Line) → marks.now ≡ marks_of size page lines
+        → IfOk result (λ _. Appends (W.held out.old) (W.held out.new)
+        (map_text (grid_of size page lines (has chosen.now)) lines regions.now rest.now)) }
     ensures refused { IfErr result (LacksOutput (W.count out.old < W.count out.new)) }
 {
-    let grid = Grid::of(alloc, meaning.size, meaning.page, lines, chosen)?;
-    match write_map(&grid, lines, regions, rest, out) {
+    let grid = Grid::of(alloc, marks, chosen)?;
+    match write_map(&grid, marks, regions, rest, out) {
         Ok(()) => Ok(()),
         Err(_) => Err(Refusal::WRITE),
     }

@@ -10,6 +10,7 @@ mod command;
 mod drawing;
 mod outline;
 mod regions;
+mod sums;
 
 pub use command::plan;
 pub use norprog_common::PlanArgs;

@@ -1,38 +1,39 @@
-//! What tells a plan: its lines, and behind them its report and its times.
+//! What tells a plan: its lines, printed window after window, and behind them its report, its times
+//! and what its image gives the chosen regions.
 
-ghost use Rattle.std.specs.Prelude.{◌≡◌, ◌⊎◌, ◌<◌, ◌-◌, ◌++◌, ◌^◌, ℕ, List, [], Some, true};
-ghost use Rattle.std.specs.Prelude.{is_some, option_map, IfOk, IfErr, IfSome};
-ghost use Rattle.nor_base.specs.declared.meaning.Start.{Start};
-ghost use Rattle.nor_base.specs.Device.{Ahead, Writes, Counts};
-ghost use Rattle.nor_base.specs.Parameters.{Parameters};
-ghost use Rattle.nor_base.specs.Planned.{IsWorkable};
-ghost use Rattle.nor_job.specs.declared.fault.BuildFault.TheVariants.{Memory, Write};
+ghost use Rattle.std.specs.Prelude.{◌≡◌, ◌⊎◌, ◌<◌, ◌-◌, ◌^◌, ℕ, List, [], Option, true, is_some};
+ghost use Rattle.std.specs.Prelude.{option_map, IfOk, IfErr, IfSome};
+ghost use Rattle.std.specs.Io.KnownBytes.{Appends};
+ghost use Rattle.nor_base.specs.Accepted.{IsAccepted};
+ghost use Rattle.nor_base.specs.Device.{Counts, Cuts, HaveRoom, Writes};
+ghost use Rattle.nor_job.specs.Job.{IsJob};
 ghost use Rattle.nor_job.specs.Status.{start_of};
-ghost use Rattle.nor_times.specs.Plan.{plan_of};
-ghost use Rattle.norprog.specs.PlanWindows.{plan_text};
-ghost use Rattle.norprog.specs.Report.{report_text};
+ghost use Rattle.nor_job.specs.Task.{Task};
+ghost use Rattle.nor_job.specs.Written.{CountsReader, CountsWriter};
+ghost use Rattle.nor_job.specs.declared.fault.BuildFault.TheVariants.{Memory, Write};
+ghost use Rattle.nor_base.specs.Parameters.{Parameters};
+ghost use Rattle.nor_plan_read.specs.declared.line.PlanLine.{PlanLine as Line};
+ghost use Rattle.nor_times.specs.Timing.{timing_of};
+ghost use Rattle.nor_times.specs.declared.times.Times.{Times as KnownTimes};
+ghost use Rattle.norprog.specs.Planner.{IsReady, HasTold};
+ghost use Rattle.norprog.specs.Windows.{IsCutPlan};
+ghost use Rattle.norprog_common.specs.FileStore.{Breaks};
 ghost use Rattle.norprog_common.specs.declared.faults.Refusal.TheVariants.{Build};
-ghost use Rattle.norprog_plan.specs.Answer.{behind_lines, in_memory, times_lines, read_lines};
-ghost use Rattle.norprog_plan.specs.Answer.{Draws, IsLines, IsPart, IsShown, IsWhole, StopsTask};
 ghost use Rattle.norprog_common.specs.Served.{job_with, Is};
+ghost use Rattle.norprog_plan.specs.Answer.{behind_lines, tables_times, CutsPlan, IsBehind};
+ghost use Rattle.norprog_plan.specs.Answer.{LacksMap, PrintsPlan, StopsPrinting};
+ghost use Rattle.norprog_plan.specs.Sums.{AreSums, PrintsAll, PrintsLines};
 
-use crate::drawing::draw_file;
+use crate::drawing::draw_where_asked;
 use crate::regions::with_regions;
-use nor_base::{ByteIn, ByteOut, Failed, IntoWrite, Meaning, Start};
-use nor_job::{BuildFault, Inputs, Source, chip_of};
-use nor_plan_read::{PlanLine, read_plan};
-use nor_times::{bus_clocks, busy_time, read_times, text_of_plan, write_times};
-use norprog::{Report, plan, write_report};
+use crate::sums::Sums;
+use nor_base::{ByteIn, ByteOut, Failed, IntoWrite, put_all};
+use nor_job::{BuildFault, Inputs, Job, job_of};
+use nor_plan_read::write_lines;
+use nor_times::PlanTimes;
+use norprog::{Planner, Report, planned_lines, write_report};
 use norprog_common::{FileStore, Refusal};
 use std::alloc::Global;
-
-/// The text that tells a plan.
-pub(crate) struct Outline {
-    /// The lines of its units, all or those before it stopped.
-    pub lines: Vec<u8>,
-    /// What comes after all of them, or why it stopped.
-    pub rest: Result<Vec<u8>, Refusal>,
-}
 
 /// What is reported besides a plan's lines and its report.
 #[derive(Clone, Copy)]
@@ -43,9 +44,10 @@ pub(crate) struct Shows {
     pub regions: bool,
 }
 
-/// What tells the plan of a job, with the lines that are asked for; it is drawn where there is a
-/// file for that. Memory is taken for the text.
-pub(crate) fn outline_job<S: FileStore, R: ByteIn>(
+/// Prints the plan of a job, with the lines that are asked for; it is drawn where there is a file
+/// for that, after its lines were printed. Memory is taken for a window, for the picture, and for
+/// the lines of the chosen regions.
+pub(crate) fn print_job<S: FileStore, R: ByteIn, O: ByteOut>(
     alloc: Global,
     store: &S,
     inputs: &Inputs<'_>,
@@ -53,197 +55,201 @@ pub(crate) fn outline_job<S: FileStore, R: ByteIn>(
     len: u64,
     shows: Shows,
     map: Option<S::Output>,
-) -> Outline
-    requires content { R.count content.old < 2 ^ 64 - 1 }
+    out: &mut O,
+) -> Result<(), Refusal>
+    requires room { HaveRoom (R.count content.old) (O.count out.old) }
     requires map { IfSome map (λ file. S.Output.count file < 2 ^ 64 - 1) }
-    ensures whole { IfOk result.rest (λ rest.
-        IsWhole (S.facts store.now).flushed shows result.lines.items rest.items
-        (job_with inputs.now (R.ahead content.old) len (option_map S.Output.held map))) }
-    ensures part { IfErr result.rest (λ _. (result.lines.items ≡ [])
-        ⊎ IsPart result.lines.items
-        (job_with inputs.now (R.ahead content.old) len (option_map S.Output.held map))) }
-    ensures refused { IfErr result.rest (StopsTask (λ told. ⊥) (S.facts store.now).broke
-        (Is (job_with inputs.now (R.ahead content.old) len (option_map S.Output.held map)))) }
+    ensures printed { IfOk result (λ _. PrintsPlan (S.facts store.now).flushed shows
+        (Is (job_with inputs.now (R.ahead content.old) len (option_map S.Output.held map)))
+        (O.held out.old) (O.held out.new)) }
+    ensures cut { IfErr result (λ _. CutsPlan (S.facts store.now).flushed shows
+        (Is (job_with inputs.now (R.ahead content.old) len (option_map S.Output.held map)))
+        (O.held out.old) (O.held out.new)) }
+    ensures refused { IfErr result (StopsPrinting
+        (Breaks (S.facts store.now) (O.count out.old) (O.count out.new))
+        (S.facts store.now).flushed shows
+        (job_with inputs.now (R.ahead content.old) len (option_map S.Output.held map))
+        (O.held out.old) (O.held out.new)) }
 {
-    let Outline { lines, rest } = outline_of(alloc, store, inputs, content, len, shows.times, map);
-    let rest = with_regions(alloc, inputs, len, shows.regions, rest);
-    Outline { lines, rest }
+    planned_lines();
+    let job = job_of(alloc, inputs, len).map_err(Refusal::Build)?;
+    job.meaning.acceptance();
+    let mut sums = Sums::new(alloc, inputs, &job, map.is_some())?;
+    match print_lines(alloc, &job, content, &mut sums, out) {
+        Ok(report) => print_behind(alloc, store, inputs, &job, &report, shows, &sums, map, out),
+        Err(fault) => Err(Refusal::Build(fault)),
+    }
 }
 
-/// What tells the plan of the inputs, with the lines of its times where they are asked for; it is
-/// drawn where there is a file for that. Memory is taken for the text.
-fn outline_of<S: FileStore, R: ByteIn>(
+/// Prints the lines of a job's plan, and adds them up.
+///
+/// `Write` where `out` fails, `Memory` where a growth is refused; else its faults are those of a
+/// [`Planner`].
+fn print_lines<R: ByteIn, O: ByteOut>(
+    alloc: Global,
+    job: &Job,
+    content: &mut R,
+    sums: &mut Sums<'_>,
+    out: &mut O,
+) -> Result<Report, BuildFault>
+    requires accepted { IsAccepted job.now.meaning }
+    requires room { HaveRoom (R.count content.old) (O.count out.old) }
+    requires sums { (times : Option KnownTimes) × AreSums job.now times sums.old [] }
+    ensures printed { IfOk result (λ report. (t : Task) (len : ℕ) → IsJob t len job.now
+        → PrintsLines job.now sums.old sums.new t len (R.ahead content.old)
+        (R.ahead content.new) (O.held out.old) (O.held out.new) report) }
+    ensures cut { IfErr result (IsCutPlan job.now (R.ahead content.old) (R.ahead content.new)
+        (O.held out.old) (O.held out.new)) }
+    ensures counts { CountsReader (R.count content.old) (R.count content.new) result
+        × CountsWriter (O.count out.old) (O.count out.new) result
+        × (is_some sums.new.marks ≡ is_some sums.old.marks) }
+{
+    let mut planner = Planner::new(alloc, job)?;
+    print_windows(alloc, &mut planner, content, sums, out)?;
+    planner.close(alloc)
+}
+
+/// Prints the lines of all windows, and adds them up. Its faults are those of [`print_lines`].
+fn print_windows<R: ByteIn, O: ByteOut>(
+    alloc: Global,
+    planner: &mut Planner<'_>,
+    content: &mut R,
+    sums: &mut Sums<'_>,
+    out: &mut O,
+) -> Result<(), BuildFault>
+    requires begun { IsReady planner.old
+        × HasTold planner.old (R.ahead content.old) (R.ahead content.old) [] }
+    requires room { HaveRoom (R.count content.old) (O.count out.old) }
+    requires sums { (times : Option KnownTimes) × AreSums planner.old.job times sums.old [] }
+    ensures printed { IfOk result (λ _. PrintsAll planner.old planner.new sums.old sums.new
+        (R.ahead content.old) (R.ahead content.new) (O.held out.old) (O.held out.new)) }
+    ensures cut { IfErr result (IsCutPlan planner.old.job (R.ahead content.old)
+        (R.ahead content.new) (O.held out.old) (O.held out.new)) }
+    ensures counts { CountsReader (R.count content.old) (R.count content.new) result
+        × CountsWriter (O.count out.old) (O.count out.new) result
+        × (is_some sums.new.marks ≡ is_some sums.old.marks) }
+{
+    planned_lines();
+    while let Some(lines) = planner.next_window(alloc, content)? {
+        sums.add(&lines)?;
+        match write_lines(&lines, out) {
+            Ok(()) => {}
+            Err(_) => return Err(BuildFault::Write),
+        }
+    }
+    Ok(())
+}
+
+/// Draws a plan whose lines were printed, where there is a file for that, and prints what comes
+/// after them.
+///
+/// `Write` where an output fails, and `Memory` where a growth is refused.
+fn print_behind<S: FileStore, O: ByteOut>(
     alloc: Global,
     store: &S,
     inputs: &Inputs<'_>,
-    content: &mut R,
-    len: u64,
-    times: bool,
+    job: &Job,
+    report: &Report,
+    shows: Shows,
+    sums: &Sums<'_>,
     map: Option<S::Output>,
-) -> Outline
-    requires content { R.count content.old < 2 ^ 64 - 1 }
+    out: &mut O,
+) -> Result<(), Refusal>
     requires map { IfSome map (λ file. S.Output.count file < 2 ^ 64 - 1) }
-    ensures whole { IfOk result.rest (λ rest.
-        IsShown (S.facts store.now).flushed times result.lines.items rest.items
-        (job_with inputs.now (R.ahead content.old) len (option_map S.Output.held map))) }
-    ensures part { IfErr result.rest (λ _. (result.lines.items ≡ [])
-        ⊎ IsPart result.lines.items
-        (job_with inputs.now (R.ahead content.old) len (option_map S.Output.held map))) }
-    ensures refused { IfErr result.rest (StopsTask (λ told. ⊥) (S.facts store.now).broke
-        (Is (job_with inputs.now (R.ahead content.old) len (option_map S.Output.held map)))) }
+    requires marks { is_some sums.now.marks ≡ is_some map }
+    requires room { O.count out.old < 2 ^ 64 - 1 }
+    ensures printed { (len : ℕ) (lines : List Line) → IsJob inputs.now len job.now
+        → AreSums job.now (tables_times inputs.now.chip) sums.now lines
+        → IfOk result (λ _. (rest : List ℕ) × IsBehind (S.facts store.now).flushed shows
+        (option_map S.Output.held map) report.now inputs.now len job.now.meaning lines rest
+        × Appends (O.held out.old) (O.held out.new) rest) }
+    ensures cut { (len : ℕ) (lines : List Line) → IsJob inputs.now len job.now
+        → AreSums job.now (tables_times inputs.now.chip) sums.now lines
+        → IfErr result (λ why. ((out.new ≡ out.old)
+        × LacksMap (is_some map) (S.facts store.now).broke why)
+        ⊎ ((rest : List ℕ) × IsBehind (S.facts store.now).flushed shows
+        (option_map S.Output.held map) report.now inputs.now len job.now.meaning lines rest
+        × Cuts (O.held out.old) (O.held out.new) rest × (why ≡ Build Write)
+        × (O.count out.old < O.count out.new))) }
 {
-    let mut lines = IntoWrite::new(Vec::new(alloc));
-    match plan(alloc, inputs, content, len, &mut lines) {
-        Ok(report) => {
-            let lines = lines.inner;
-            let rest = rest_of(alloc, store, inputs, &report, lines.as_slice(), times, map);
-            Outline { lines, rest }
-        }
-        Err(fault) => Outline {
-            lines: lines.inner,
-            rest: Err(in_memory(fault)),
-        },
+    let rest = behind(alloc, store, inputs, job, report, shows, sums, map)?;
+    match put_all(out, &rest) {
+        Ok(()) => Ok(()),
+        Err(_) => Err(Refusal::WRITE),
     }
 }
 
 /// What comes after the lines of a plan, which is drawn where there is a file for that.
 ///
 /// `Write` where that file fails, and `Memory` where a growth is refused.
-fn rest_of<S: FileStore>(
+fn behind<S: FileStore>(
     alloc: Global,
     store: &S,
     inputs: &Inputs<'_>,
+    job: &Job,
     report: &Report,
-    lines: &[u8],
-    times: bool,
+    shows: Shows,
+    sums: &Sums<'_>,
     map: Option<S::Output>,
 ) -> Result<Vec<u8>, Refusal>
-    requires { IfSome map (λ file. S.Output.count file < 2 ^ 64 - 1) }
-    ensures rest { (len : ℕ) (ahead : Ahead)
-        (of : IsLines lines.now report.now inputs.now len ahead)
-        → IfOk result (λ rest. rest.items ≡ behind_lines times report.now inputs.now of.planned.m
-        (read_lines of)) }
-    ensures drawn { (len : ℕ) (ahead : Ahead)
-        (of : IsLines lines.now report.now inputs.now len ahead)
-        → IfOk result (λ rest. Draws (S.facts store.now).flushed (option_map S.Output.held map)
-        inputs.now of.planned.m (read_lines of)
+    requires map { IfSome map (λ file. S.Output.count file < 2 ^ 64 - 1) }
+    requires marks { is_some sums.now.marks ≡ is_some map }
+    ensures rest { (len : ℕ) (lines : List Line) → IsJob inputs.now len job.now
+        → AreSums job.now (tables_times inputs.now.chip) sums.now lines
+        → IfOk result (λ rest. IsBehind (S.facts store.now).flushed shows
+        (option_map S.Output.held map) report.now inputs.now len job.now.meaning lines
         rest.items) }
-    ensures refused { IfErr result (λ why. (why ≡ Build Memory)
-        ⊎ ((is_some map ≡ true) × (why ≡ Build Write) × (S.facts store.now).broke)) }
+    ensures refused { IfErr result (LacksMap (is_some map) (S.facts store.now).broke) }
 {
-    let rest = behind_lines(alloc, inputs, report, lines, times)?;
-    if let Some(file) = map {
-        draw_file(alloc, store, inputs, lines, rest.as_slice(), file)?;
-        return Ok(rest);
-    }
-    Ok(rest)
+    let rest = report_in_memory(alloc, report, shows.times, &sums.times)?;
+    draw_where_asked(
+        alloc,
+        store,
+        inputs,
+        &job.meaning,
+        &sums.marks,
+        rest.as_slice(),
+        map,
+    )?;
+    with_regions(alloc, inputs, job, shows.regions, rest)
 }
 
-/// A fault of a plan that is written to memory.
-fn in_memory(fault: BuildFault) -> Refusal
-    ensures { result ≡ in_memory fault }
-{
-    match fault {
-        BuildFault::Write => Refusal::MEMORY,
-        other => Refusal::Build(other),
-    }
-}
-
-/// What comes after the lines of a plan: its report, and its times where they are asked for.
-/// `Memory` where a growth is refused.
-fn behind_lines(
+/// A plan's report, and its times where they are asked for. `Memory` where a growth is refused.
+fn report_in_memory(
     alloc: Global,
-    inputs: &Inputs<'_>,
     report: &Report,
-    lines: &[u8],
-    times: bool,
+    shown: bool,
+    times: &PlanTimes<'_>,
 ) -> Result<Vec<u8>, Refusal>
-    ensures rest { (len : ℕ) (ahead : Ahead)
-        (of : IsLines lines.now report.now inputs.now len ahead)
-        → IfOk result (λ rest. rest.items ≡ behind_lines times report.now inputs.now of.planned.m
-        (read_lines of)) }
-    ensures refused { IfErr result (λ why. why ≡ Build Memory) }
-{
-    let mut rest = report_in_memory(alloc, report)?;
-    if !times {
-        return Ok(rest.inner);
-    }
-    put_times(alloc, inputs, lines, &mut rest)?;
-    Ok(rest.inner)
-}
-
-/// A writer that holds the lines of a report. `Memory` where a growth is refused.
-fn report_in_memory(alloc: Global, report: &Report) -> Result<IntoWrite<Vec<u8>>, Refusal>
-    ensures report { IfOk result (λ rest. rest.inner.items ≡ report_text report.now) }
-    ensures fresh { IfOk result (λ rest. rest.failed ≡ 0) }
+    ensures rest { (t : Task) (m : Parameters) (lines : List Line)
+        → times.now ≡ timing_of m (start_of t) t.verify (tables_times t.chip) lines
+        → IfOk result (λ rest. rest.items ≡ behind_lines shown report.now t m lines) }
     ensures refused { IfErr result (λ why. why ≡ Build Memory) }
 {
     let mut rest = IntoWrite::new(Vec::new(alloc));
-    match write_report(report, &mut rest) {
-        Ok(()) => Ok(rest),
+    match put_report(report, shown, times, &mut rest) {
+        Ok(()) => Ok(rest.inner),
         Err(_) => Err(Refusal::MEMORY),
     }
 }
 
-/// Writes the lines on how long a plan takes, by its lines. `Memory` where a growth is refused.
-fn put_times(
-    alloc: Global,
-    inputs: &Inputs<'_>,
-    lines: &[u8],
-    out: &mut IntoWrite<Vec<u8>>,
-) -> Result<(), Refusal>
-    requires { out.old.failed < 2 ^ 64 - 1 }
-    ensures times { (report : Report) (len : ℕ) (ahead : Ahead)
-        (of : IsLines lines.now report inputs.now len ahead)
-        → IfOk result (λ _. out.new.inner.items
-        ≡ out.old.inner.items ++ times_lines inputs.now of.planned.m (read_lines of)) }
-    ensures refused { IfErr result (λ why. why ≡ Build Memory) }
-{
-    // the plan was made of this chip, so no cause is left
-    let Ok((meaning, start)) = chip_of(inputs) else {
-        return Err(Refusal::MEMORY);
-    };
-    let lines = lines_of(alloc, lines)?;
-    match write_sums(inputs, &meaning, &start, lines.as_slice(), out) {
-        Ok(()) => Ok(()),
-        Err(_) => Err(Refusal::MEMORY),
-    }
-}
-
-/// What a reader of a plan's lines reads. `Memory` where a growth is refused.
-pub(crate) fn lines_of(alloc: Global, text: &[u8]) -> Result<Vec<PlanLine>, Refusal>
-    ensures read { (m : Parameters) (start : Start) (have want : List ℕ)
-        → IsWorkable m start have want
-        → text.now ≡ plan_text m start have want
-        → IfOk result (λ lines. lines.items ≡ plan_of m start have want) }
-    ensures refused { IfErr result (λ why. why ≡ Build Memory) }
-{
-    text_of_plan();
-    match read_plan(alloc, text) {
-        Ok(lines) => Ok(lines),
-        Err(_) => Err(Refusal::MEMORY),
-    }
-}
-
-/// Writes the lines on how long the lines of a plan take.
-fn write_sums<W: ByteOut>(
-    inputs: &Inputs<'_>,
-    meaning: &Meaning,
-    start: &Start,
-    lines: &[PlanLine],
+/// Puts a plan's report, and its times where they are asked for.
+fn put_report<W: ByteOut>(
+    report: &Report,
+    shown: bool,
+    times: &PlanTimes<'_>,
     out: &mut W,
 ) -> Result<(), Failed>
     requires { W.count out.old < 2 ^ 64 - 1 }
-    ensures bytes { start.now ≡ start_of inputs.now
+    ensures bytes { (t : Task) (m : Parameters) (lines : List Line)
+        → times.now ≡ timing_of m (start_of t) t.verify (tables_times t.chip) lines
         → Writes (W.held out.old) (W.held out.new) result
-        (times_lines inputs.now meaning.now lines.now) }
+        (behind_lines shown report.now t m lines) }
     ensures count { Counts (W.count out.old) (W.count out.new) result }
 {
-    let busy = match inputs.chip {
-        Source::Sfdp { bytes, .. } => read_times(bytes).map(|times| busy_time(
-            &times, meaning, lines,
-        )),
-        Source::Uniform(_) => None,
-    };
-    write_times(busy, bus_clocks(meaning, start, inputs.verify, lines), out)
+    write_report(report, out)?;
+    if shown {
+        return times.write(out);
+    }
+    Ok(())
 }

@@ -1,17 +1,17 @@
 //! The lines on what the image gives the chosen regions.
 
-ghost use Rattle.std.specs.Prelude.{◌≡◌, ◌<◌, ◌≤◌, ◌-◌, ◌^◌, ◌++◌, Err, IfOk, IfErr};
+ghost use Rattle.std.specs.Prelude.{◌≡◌, ◌<◌, ◌≤◌, ◌-◌, ◌^◌, ◌++◌, ℕ, IfOk, IfErr};
 ghost use Rattle.nor_base.specs.Device.{Writes, Counts};
 ghost use Rattle.nor_hex.specs.Image.{byte_at};
+ghost use Rattle.nor_job.specs.Job.{IsJob};
 ghost use Rattle.nor_job.specs.declared.fault.BuildFault.TheVariants.{Memory};
 ghost use Rattle.norprog_common.specs.declared.faults.Refusal.TheVariants.{Build};
-ghost use Rattle.norprog_plan.specs.Regions.{region_line, region_lines, share_line, AreRegionLines};
-ghost use Rattle.norprog_plan.specs.Regions.{EndsWith};
+ghost use Rattle.norprog_plan.specs.Regions.{EndsWith, region_line, region_lines, share_line};
 
 use itoa::Buffer;
 use nor_base::{ByteOut, Failed, IntoWrite, put_parts};
 use nor_hex::Image;
-use nor_job::{Inputs, chosen_regions, job_of};
+use nor_job::{Inputs, Job, chosen_regions};
 use nor_layout::Region;
 use nor_script::hex_number;
 use nor_target::{Share, share_of};
@@ -19,65 +19,47 @@ use norprog_common::Refusal;
 use std::alloc::Global;
 
 /// The text that comes after a plan's lines, with those of the chosen regions where they are asked
-/// for.
-///
-/// `Memory` where a growth is refused; else the refusal that stands in the text's place.
+/// for. `Memory` where a growth is refused.
 pub(crate) fn with_regions(
     alloc: Global,
     inputs: &Inputs<'_>,
-    len: u64,
+    job: &Job,
     regions: bool,
-    shown: Result<Vec<u8>, Refusal>,
+    shown: Vec<u8>,
 ) -> Result<Vec<u8>, Refusal>
-    ensures told { IfOk shown
-        (λ text. IfOk result (λ rest. EndsWith regions inputs.now len text.items rest.items)) }
-    ensures memory { IfOk shown (λ _. IfErr result (λ why. why ≡ Build Memory)) }
-    ensures kept { IfErr shown (λ why. result ≡ Err why) }
+    ensures told { (len : ℕ) → IsJob inputs.now len job.now
+        → IfOk result (λ rest. EndsWith regions inputs.now len shown.items rest.items) }
+    ensures memory { IfErr result (λ why. why ≡ Build Memory) }
 {
-    let shown = shown?;
     if !regions {
         return Ok(shown);
     }
-    let mut rest = shown;
-    let lines = lines_of(alloc, inputs, len)?;
-    rest.extend_from_slice(lines.as_slice())?;
-    Ok(rest)
-}
-
-/// The lines of the chosen regions. `Memory` where a growth is refused.
-fn lines_of(alloc: Global, inputs: &Inputs<'_>, len: u64) -> Result<Vec<u8>, Refusal>
-    ensures lines { IfOk result (λ lines. AreRegionLines inputs.now len lines.items) }
-    ensures refused { IfErr result (λ why. why ≡ Build Memory) }
-{
     // the plan was made of these inputs, so no cause is left
-    let Ok(job) = job_of(alloc, inputs, len) else {
+    let Ok(chosen) = chosen_regions(alloc, inputs, job.meaning.size) else {
         return Err(Refusal::MEMORY);
     };
-    let Ok(regions) = chosen_regions(alloc, inputs, job.meaning.size) else {
-        return Err(Refusal::MEMORY);
-    };
-    lines_in(
-        alloc,
+    add_lines(
         &job.image,
         job.base,
         job.meaning.size,
-        regions.as_slice(),
+        chosen.as_slice(),
+        IntoWrite::new(shown),
     )
 }
 
-/// The lines of these regions. `Memory` where a growth is refused.
-fn lines_in(
-    alloc: Global,
+/// Adds the lines of these regions to lines in memory. `Memory` where a growth is refused.
+fn add_lines(
     image: &Image,
     base: u32,
     size: u32,
     regions: &[Region<'_>],
+    mut lines: IntoWrite<Vec<u8>>,
 ) -> Result<Vec<u8>, Refusal>
-    ensures lines { IfOk result (λ lines. lines.items
-        ≡ region_lines (byte_at image.now) base size regions.now) }
+    requires { lines.failed ≡ 0 }
+    ensures lines { IfOk result (λ rest. rest.items
+        ≡ lines.inner.items ++ region_lines (byte_at image.now) base size regions.now) }
     ensures refused { IfErr result (λ why. why ≡ Build Memory) }
 {
-    let mut lines = IntoWrite::new(Vec::new(alloc));
     for region in regions {
         let share = share_of(image, base, size, region);
         add_line(region, share, &mut lines)?;

@@ -1,6 +1,6 @@
 -- The play that a request has is the one that its texts ask for.
 use Rattle.std.proofs.Common.{◌≡◌, ◌⊎◌, ◌+◌, ◌<◌, Bool, Bor, ap, arith, option_map, refl, sym, subst, inl, inr, List, [], ◌∷◌, ◌++◌, ℕ, None, Some, true, false, Option, Result, Ok, Err, IfOk, IfErr}
-use Rattle.std.specs.Prelude.{⊤, MatchResult}
+use Rattle.std.specs.Prelude.{◌≢◌, MatchResult}
 use Rattle.nor_base.specs.Device.{Ahead}
 use Rattle.nor_job.specs.Task.{Task}
 use Rattle.nor_job.specs.declared.fault.BuildFault.TheVariants as fault
@@ -13,25 +13,25 @@ use Rattle.norprog_common.specs.declared.faults.Refusal.TheVariants.{Text, Usage
 use Rattle.norprog_common.specs.Chip.{origin_of}
 use Rattle.norprog_common.specs.Files.{TellsFile}
 use Rattle.norprog_common.specs.Setup.{setup_task}
-use Rattle.norprog_common.specs.FileStore.{FileFacts, Change, Emptied, Adds, Tries, MakesNamed, MayMake, AreTables, GoesOut, IsMadeApart, IsTextIn, Lacks, Named, Notes, WhereNamed, tables_file}
+use Rattle.norprog_common.specs.FileStore.{FileFacts, Change, Emptied, Adds, Tries, MakesNamed, MayMake, AreTables, GoesOut, HasGone, IsMadeApart, IsTextIn, Lacks, LacksEarly, Named, Notes, WhereNamed, tables_file}
 use Rattle.norprog_common.specs.Served.{out_path}
-use Rattle.norprog_common.proofs.LackedLemmas.{lacks_same, tables_named}
+use Rattle.norprog_common.proofs.LackedLemmas.{early_same, tables_named}
 use Rattle.norprog_common.proofs.StoreLemmas.{made_apart, more_noted, one_noted}
 use Rattle.norprog_common.proofs.JournalLemmas.{adds_none, may_make, output_made}
 use Rattle.norprog_common.specs.Content.{CountsReader, CountsWriter, of_reader, of_writer}
 use Rattle.norprog_common.specs.Reading.{FailsReading, HasFailed}
-use Rattle.norprog_common.specs.Told.{RefusesFor, OrScript, OrUsage, TellsBroken}
+use Rattle.norprog_common.specs.Told.{RefusesFor, OrUsage, TellsBroken}
 use Rattle.norprog_common.proofs.ToldLemmas.{by_fault, by_files, refuses_wider, or_usage}
 use Rattle.norprog_run.specs.declared.request.ChipBehaviour.{ChipBehaviour}
 use Rattle.norprog_common.specs.declared.given.RunArgs.{RunArgs}
 use Rattle.norprog_run.specs.declared.request.RunRequest.{RunRequest}
 use Rattle.norprog_run.specs.declared.verdict.Verdict.{Verdict}
-use Rattle.norprog_run.specs.Answer.{WasPlayedSo, IsPlayVerdict, BlamesContent, IsStopOf, IsPlayFault, RefusesRun, RefusesToRun}
+use Rattle.norprog_run.specs.Answer.{WasPlayedSo, IsPlayVerdict, BlamesContent, LosesScript, IsCauseOf, StopsSo, IsPlayFault, RefusesRun, RefusesToRun}
 use Rattle.norprog_run.specs.Play.{WasPlayed}
 use Rattle.norprog_run.specs.Refusals.{RefusesPaged, RefusesPlay}
 use Rattle.norprog_run.specs.Request.{is_well_formed, AsksFor, RefusesGiven}
 use Rattle.norprog_run.specs.Streams.{CountsScript, PlaysStreams, RefusesStreams}
-use Rattle.norprog_run.specs.Served.{PlayTask, play_with, Is, IsMadeFor, IsTaskOf, input_files_of, input_files_asked, paths_of, paths_asked, FailsScriptOf, MakesFor, MayMakeFor, Serves, ServesScript}
+use Rattle.norprog_run.specs.Served.{PlayTask, play_with, IsMadeFor, IsTaskOf, input_files_of, input_files_asked, paths_of, paths_asked, FailsScriptOf, MakesFor, MayMakeFor, Serves, ServesScript}
 
 -- no texts ask for a play and for none
 both : (asks : Bool) → asks ≡ true → asks ≡ false → ⊥
@@ -79,39 +79,53 @@ verdict_wider Asked Other P Q Sent verdict tasks texts of = record {
   has = record { before = of.has.before; after = of.has.after; out = of.has.out; played = played_wider P Q _ _ _ _ _ _ verdict texts of.has.played };
 }
 
-on_wider : (P Q : List ℕ → Type 0) (F : Ahead → Type 0) (why : Refusal) (t : PlayTask) → ((text : List ℕ) → P text → Q text) → IsStopOf P F why t → IsStopOf Q F why t
-on_wider P Q F why t texts (inl chip) = inl chip
-on_wider P Q F why t texts (inr on) = inr (record {
-  text = on.text;
-  script = texts on.text on.script;
-  after = on.after;
-  held_before = on.held_before;
-  held_after = on.held_after;
-  refused = on.refused;
-  blamed = on.blamed;
-})
+cause_wider : (P Q : List ℕ → Type 0) (F : Ahead → Type 0) (L M : Type 0) (before after : Option (List ℕ)) (why : Refusal) (t : PlayTask) → ((text : List ℕ) → P text → Q text)
+    → (LosesScript L why → LosesScript M why) → IsCauseOf P F L before after why t → IsCauseOf Q F M before after why t
+cause_wider P Q F L M before after why t texts lost (inl chip) = inl chip
+cause_wider P Q F L M before after why t texts lost (inr (inl on)) = inr (inl (record { text = on.text; script = texts on.text on.script; rest = on.rest; refused = on.refused; blamed = on.blamed }))
+cause_wider P Q F L M before after why t texts lost (inr (inr of)) = inr (inr (lost of))
 
-stop_wider : (Asked Other : PlayTask → Type 0) (P Q : List ℕ → Type 0) (F : Ahead → Type 0) → ((t : PlayTask) → Asked t → Other t) → ((text : List ℕ) → P text → Q text)
-    → (why : Refusal) → IsPlayFault Asked P F why → IsPlayFault Other Q F why
-stop_wider Asked Other P Q F tasks texts why of = record { it = of.it; asked = tasks of.it of.asked; has = on_wider P Q F why of.it texts of.has }
+loses : (L M : Type 0) → (L → M) → (why : Refusal) → LosesScript L why → LosesScript M why
+loses L M more (File file.Script) is = more is
+loses L M more other is = absurd is
 
-refusal_wider : (L M : FileName → Type 0) (D E : Type 0) (Asked Other : PlayTask → Type 0) (P Q : List ℕ → Type 0) (F : Ahead → Type 0) → ((name : FileName) → L name → M name)
-    → (D → E) → ((t : PlayTask) → Asked t → Other t) → ((text : List ℕ) → P text → Q text) → (why : Refusal) → RefusesRun L D Asked P F why → RefusesRun M E Other Q F why
-refusal_wider L M D E Asked Other P Q F files broken tasks texts why =
-    refuses_wider L M D E (IsPlayFault Asked P F) (IsPlayFault Other Q F) ((verdict : Verdict) × IsPlayVerdict Asked P (λ held. ⊤) verdict)
-    ((verdict : Verdict) × IsPlayVerdict Other Q (λ held. ⊤) verdict)
-    files broken (stop_wider Asked Other P Q F tasks texts)
-    (λ late. (late.0, verdict_wider Asked Other P Q (λ held. ⊤) late.0 tasks texts late.1)) why
+so_wider : (P Q : List ℕ → Type 0) (F : Ahead → Type 0) (L M : Type 0) (before after : Option (List ℕ)) (t : PlayTask) → ((text : List ℕ) → P text → Q text) → (L → M)
+    → (why : Refusal) → StopsSo P F L before after why t → StopsSo Q F M before after why t
+so_wider P Q F L M before after t texts lost why of = (of.0, cause_wider P Q F L M before after why t texts (loses L M lost why) of.1)
+
+stop_wider : (Asked Other : PlayTask → Type 0) (P Q : List ℕ → Type 0) (F : Ahead → Type 0) (L M : Type 0) (Gone : Option (List ℕ) → Type 0) → ((t : PlayTask) → Asked t → Other t)
+    → ((text : List ℕ) → P text → Q text) → (L → M) → (why : Refusal) → IsPlayFault Asked P F L Gone why → IsPlayFault Other Q F M Gone why
+stop_wider Asked Other P Q F L M Gone tasks texts lost why of = record {
+  it = of.it;
+  asked = tasks of.it of.asked;
+  has = record {
+    before = of.has.before;
+    after = of.has.after;
+    out = of.has.out;
+    stops = so_wider P Q F L M of.has.before of.has.after of.it texts lost why of.has.stops;
+  };
+}
+
+refusal_wider : (L M : FileName → Type 0) (D E : Type 0) (Asked Other : PlayTask → Type 0) (P Q : List ℕ → Type 0) (F : Ahead → Type 0) (Lost More : Type 0) (Gone : Option (List ℕ) → Type 0)
+    → ((name : FileName) → L name → M name) → (D → E) → ((t : PlayTask) → Asked t → Other t) → ((text : List ℕ) → P text → Q text) → (Lost → More) → (why : Refusal)
+    → RefusesRun L D Asked P F Lost Gone why → RefusesRun M E Other Q F More Gone why
+refusal_wider L M D E Asked Other P Q F Lost More Gone files broken tasks texts lost why =
+    refuses_wider L M D E (IsPlayFault Asked P F Lost Gone) (IsPlayFault Other Q F More Gone) ((verdict : Verdict) × IsPlayVerdict Asked P Gone verdict)
+    ((verdict : Verdict) × IsPlayVerdict Other Q Gone verdict)
+    files broken (stop_wider Asked Other P Q F Lost More Gone tasks texts lost)
+    (λ late. (late.0, verdict_wider Asked Other P Q Gone late.0 tasks texts late.1)) why
 
 pub verdicts_wider : (Asked Other : PlayTask → Type 0) (P Q : List ℕ → Type 0) (Sent : Option (List ℕ) → Type 0) → ((t : PlayTask) → Asked t → Other t)
     → ((text : List ℕ) → P text → Q text) → (r : Result Verdict Refusal) → IfOk r (IsPlayVerdict Asked P Sent) → IfOk r (IsPlayVerdict Other Q Sent)
 verdicts_wider Asked Other P Q Sent tasks texts (Ok verdict) of = verdict_wider Asked Other P Q Sent verdict tasks texts of
 verdicts_wider Asked Other P Q Sent tasks texts (Err why) of = tt
 
-pub refusals_wider : (L M : FileName → Type 0) (Broke : Type 0) (Asked Other : PlayTask → Type 0) (P Q : List ℕ → Type 0) (F : Ahead → Type 0) → ((name : FileName) → L name → M name)
-    → ((t : PlayTask) → Asked t → Other t) → ((text : List ℕ) → P text → Q text) → (r : Result Verdict Refusal) → IfErr r (RefusesRun L Broke Asked P F) → IfErr r (RefusesRun M Broke Other Q F)
-refusals_wider L M Broke Asked Other P Q F files tasks texts (Ok verdict) of = tt
-refusals_wider L M Broke Asked Other P Q F files tasks texts (Err why) of = refusal_wider L M Broke Broke Asked Other P Q F files (λ broke. broke) tasks texts why of
+pub refusals_wider : (L M : FileName → Type 0) (Broke : Type 0) (Asked Other : PlayTask → Type 0) (P Q : List ℕ → Type 0) (F : Ahead → Type 0) (Lost More : Type 0) (Gone : Option (List ℕ) → Type 0)
+    → ((name : FileName) → L name → M name) → ((t : PlayTask) → Asked t → Other t) → ((text : List ℕ) → P text → Q text) → (Lost → More) → (r : Result Verdict Refusal)
+    → IfErr r (RefusesRun L Broke Asked P F Lost Gone) → IfErr r (RefusesRun M Broke Other Q F More Gone)
+refusals_wider L M Broke Asked Other P Q F Lost More Gone files tasks texts lost (Ok verdict) of = tt
+refusals_wider L M Broke Asked Other P Q F Lost More Gone files tasks texts lost (Err why) of =
+    refusal_wider L M Broke Broke Asked Other P Q F Lost More Gone files (λ broke. broke) tasks texts lost why of
 
 module _ (files : FileFacts) (given : RunArgs) (request : RunRequest) (asks : AsksFor given request) where
   verdict_asked : (Sent : Option (List ℕ) → Type 0) (verdict : Verdict) → IsPlayVerdict (IsTaskOf files request) (IsTextIn files request.script.now) Sent verdict
@@ -119,17 +133,15 @@ module _ (files : FileFacts) (given : RunArgs) (request : RunRequest) (asks : As
   verdict_asked Sent verdict = verdict_wider (IsTaskOf files request) (Serves files given) (IsTextIn files request.script.now) (ServesScript files given) Sent verdict
       (serves files given request asks) (serves_script files given request asks)
 
-  refusal_asked : (F : Ahead → Type 0) (why : Refusal)
-      → RefusesRun (OrScript (Lacks files (paths_of request)) (FailsReading files F request.script.now)) files.broke (IsTaskOf files request) (IsTextIn files request.script.now) F why
-      → RefusesRun (OrScript (Lacks files (paths_asked given)) (FailsScriptOf files F given)) files.broke (Serves files given) (ServesScript files given) F why
-  refusal_asked F = refusal_wider (OrScript (Lacks files (paths_of request)) (FailsReading files F request.script.now)) (OrScript (Lacks files (paths_asked given)) (FailsScriptOf files F given))
-      files.broke files.broke
+  refusal_asked : (F : Ahead → Type 0) (Nothing : Type 0) (why : Refusal)
+      → RefusesRun (LacksEarly files (paths_of request) file.Out Nothing) files.broke (IsTaskOf files request) (IsTextIn files request.script.now) F (FailsReading files F request.script.now) (HasGone files) why
+      → RefusesRun (LacksEarly files (paths_asked given) file.Out Nothing) files.broke (Serves files given) (ServesScript files given) F (FailsScriptOf files F given) (HasGone files) why
+  refusal_asked F Nothing = refusal_wider (LacksEarly files (paths_of request) file.Out Nothing) (LacksEarly files (paths_asked given) file.Out Nothing) files.broke files.broke
       (IsTaskOf files request) (Serves files given) (IsTextIn files request.script.now) (ServesScript files given) F
-      (λ name lacks. elim lacks [
-        | inl lacked ↦ inl (lacks_same files (paths_of request) (paths_asked given) (same_paths given request asks) name lacked)
-        | inr failed ↦ inr (failed.0, subst (λ s. Named (FailsReading files F) (option_map (λ t. t.now) s)) (sym asks.beside.script) failed.1)
-      ])
+      (FailsReading files F request.script.now) (FailsScriptOf files F given) (HasGone files)
+      (early_same files (paths_of request) (paths_asked given) file.Out Nothing (same_paths given request asks))
       (λ broke. broke) (serves files given request asks) (serves_script files given request asks)
+      (λ failed. subst (λ s. Named (FailsReading files F) (option_map (λ t. t.now) s)) (sym asks.beside.script) failed)
 
   -- the same of whichever came
 
@@ -138,11 +150,11 @@ module _ (files : FileFacts) (given : RunArgs) (request : RunRequest) (asks : As
   verdicts_asked Sent (Ok verdict) of = verdict_asked Sent verdict of
   verdicts_asked Sent (Err why) of = tt
 
-  pub refusals_asked : (F : Ahead → Type 0) (r : Result Verdict Refusal) → is_well_formed given ≡ true
-      → IfErr r (RefusesRun (OrScript (Lacks files (paths_of request)) (FailsReading files F request.script.now)) files.broke (IsTaskOf files request) (IsTextIn files request.script.now) F)
-      → IfErr r (RefusesToRun files F given files.broke)
-  refusals_asked F (Ok verdict) formed of = tt
-  refusals_asked F (Err why) formed of = inl (or_usage _ _ why formed (refusal_asked F why of))
+  pub refusals_asked : (F : Ahead → Type 0) (Nothing : Type 0) (r : Result Verdict Refusal) → is_well_formed given ≡ true
+      → IfErr r (RefusesRun (LacksEarly files (paths_of request) file.Out Nothing) files.broke (IsTaskOf files request) (IsTextIn files request.script.now) F (FailsReading files F request.script.now) (HasGone files))
+      → IfErr r (RefusesToRun files F given Nothing files.broke)
+  refusals_asked F Nothing (Ok verdict) formed of = tt
+  refusals_asked F Nothing (Err why) formed of = inl (or_usage _ _ why formed (refusal_asked F Nothing why of))
 
   -- the output that was made is the one that they ask for
   makes_asked : (Made : List Change → Type 0) → MakesNamed files (input_files_of request) (option_map (λ t. t.now) request.out) Made → MakesFor files given Made
@@ -197,9 +209,13 @@ file_broke Broke before after (Ok u) whole broke more = absurd (omega (arith, mo
 file_broke Broke before after (Err e) whole broke more = broke
 
 module _ {R : Type 0} (ahead : R → Ahead) (count : R → ℕ) (content rest : R) (t : Task) (bench : ChipBehaviour) (len : ℕ) (held held' : Option (List ℕ))
-    (begun : Option (Option (List ℕ))) (Spoken : List ℕ → Type 0) (Lacked : FileName → Type 0) (writes writes' : ℕ) where
+    (begun : Option (Option (List ℕ))) (Spoken : List ℕ → Type 0) (Lost Same : Type 0)
+    (same : Same → held' ≡ held) (writes writes' : ℕ) where
+  abbrev Stops : Refusal → Type 0
+  Stops why = StopsSo Spoken (HasFailed ahead count) Lost held held' why (play_with t bench (ahead content) len begun)
+
   abbrev Told : Refusal → Type 0
-  Told = RefusesFor Lacked (writes < writes') (IsPlayFault (Is (play_with t bench (ahead content) len begun)) Spoken (HasFailed ahead count)) ⊥
+  Told = RefusesFor (λ told. ⊥) (writes < writes') Stops ⊥
 
   -- the content's reader is blamed where it failed
   blamed : (text : List ℕ) (why : Refusal) → RefusesPlay t bench text len (ahead content) (ahead rest) held held' why → count rest ≡ count content + of_reader why
@@ -208,37 +224,25 @@ module _ {R : Type 0} (ahead : R → Ahead) (count : R → ℕ) (content rest : 
   blamed text other refused counts = tt
 
   stopped : (text : List ℕ) (why : Refusal) → Spoken text → RefusesPlay t bench text len (ahead content) (ahead rest) held held' why
-      → count rest ≡ count content + of_reader why → writes' ≡ writes + of_writer why → Told why
-  stopped text why is refused counts wrote = by_fault Lacked (writes < writes') (IsPlayFault (Is (play_with t bench (ahead content) len begun)) Spoken (HasFailed ahead count)) ⊥ why (writer_failed writes writes' why wrote) (record {
-    it = play_with t bench (ahead content) len begun;
-    asked = refl;
-    has = inr (record {
-      text = text;
-      script = is;
-      after = ahead rest;
-      held_before = held;
-      held_after = held';
-      refused = refused;
-      blamed = blamed text why refused counts;
-    });
-  })
+      → count rest ≡ count content + of_reader why → writes' ≡ writes + of_writer why → (why ≢ Build fault.Write → Same) → Told why
+  stopped text why is refused counts wrote unwritten = by_fault (λ told. ⊥) (writes < writes') Stops ⊥ why (writer_failed writes writes' why wrote) (
+    (λ other. same (unwritten other)),
+    inr (inl (record { text = text; script = is; rest = ahead rest; refused = refused; blamed = blamed text why refused counts })),
+  )
 
-  chipless : (why : Refusal) → RefusesPaged t bench.page len why → Told why
-  chipless why refused = by_fault Lacked (writes < writes') (IsPlayFault (Is (play_with t bench (ahead content) len begun)) Spoken (HasFailed ahead count)) ⊥ why (chip_writes_none t bench len (writes < writes') why refused) (record {
-    it = play_with t bench (ahead content) len begun;
-    asked = refl;
-    has = inl refused;
-  })
+  chipless : (why : Refusal) → RefusesPaged t bench.page len why → (why ≢ Build fault.Write → Same) → Told why
+  chipless why refused unwritten =
+      by_fault (λ told. ⊥) (writes < writes') Stops ⊥ why (chip_writes_none t bench len (writes < writes') why refused) ((λ other. same (unwritten other)), inl refused)
 
   pub of_stop : (text : List ℕ) (r : Result Verdict Refusal) → Spoken text → IfErr r (RefusesPlay t bench text len (ahead content) (ahead rest) held held')
-      → CountsReader (count content) (count rest) r → CountsWriter writes writes' r → IfErr r Told
-  of_stop text (Ok verdict) is refused counts wrote = tt
-  of_stop text (Err why) is refused counts wrote = stopped text why is refused counts wrote
+      → CountsReader (count content) (count rest) r → CountsWriter writes writes' r → IfErr r (λ why. why ≢ Build fault.Write → Same) → IfErr r Told
+  of_stop text (Ok verdict) is refused counts wrote unwritten = tt
+  of_stop text (Err why) is refused counts wrote unwritten = stopped text why is refused counts wrote unwritten
 
   -- of a script that is read twice
   module _ {F : Type 0} (ahead_of : F → Ahead) (count_of : F → ℕ) (first first' again again' : F) (Untouched : Type 0) (untouched : Untouched → again' ≡ again)
       (wide : (text : List ℕ) → IsTextOf (ahead_of first) (ahead_of first') text ⊎ IsTextOf (ahead_of again) (ahead_of again') text → Spoken text)
-      (lacks : HasFailed ahead_of count_of (ahead_of first) ⊎ HasFailed ahead_of count_of (ahead_of again) → Lacked file.Script) where
+      (lacks : HasFailed ahead_of count_of (ahead_of first) ⊎ HasFailed ahead_of count_of (ahead_of again) → Lost) where
     abbrev Why : Refusal → Type 0
     Why = RefusesStreams t bench (ahead_of first) (ahead_of first') (ahead_of again) (ahead_of again') len (ahead content) (ahead rest) held held' Untouched
 
@@ -254,20 +258,20 @@ module _ {R : Type 0} (ahead : R → Ahead) (count : R → ℕ) (content rest : 
         ]
 
     streams_stop : (why : Refusal) → Why why → count rest ≡ count content + of_reader why → writes' ≡ writes + of_writer why
-        → CountsScript {T = Verdict} (count_of first) (count_of first') (count_of again) (count_of again') (Err why) → Told why
-    streams_stop (Script why) p counts wrote script =
-        elim p [ inl q ↦ stopped q.0.0 (Script why) (wide q.0.0 (inl q.0.1)) q.0.2 counts wrote | inr q ↦ stopped q.2.0 (Script why) (wide q.2.0 (inr q.2.1)) q.2.2 counts wrote ]
-    streams_stop (Build fault.ContentShort) p counts wrote script = stopped p.0 (Build fault.ContentShort) (wide p.0 (inl p.1)) p.2 counts wrote
-    streams_stop (Build fault.Read) p counts wrote script = stopped p.0 (Build fault.Read) (wide p.0 (inl p.1)) p.2 counts wrote
-    streams_stop (Build fault.Write) p counts wrote script = stopped p.1.0 (Build fault.Write) (wide p.1.0 (inr p.1.1)) p.1.2 counts wrote
-    streams_stop (Build fault.Memory) p counts wrote script = tt
-    streams_stop (File file.Script) p counts wrote script = inl (lacks (lost p script))
-    streams_stop other p counts wrote script = chipless other p
+        → CountsScript {T = Verdict} (count_of first) (count_of first') (count_of again) (count_of again') (Err why) → (why ≢ Build fault.Write → Same) → Told why
+    streams_stop (Script why) p counts wrote script unwritten =
+        elim p [ inl q ↦ stopped q.0.0 (Script why) (wide q.0.0 (inl q.0.1)) q.0.2 counts wrote unwritten | inr q ↦ stopped q.2.0 (Script why) (wide q.2.0 (inr q.2.1)) q.2.2 counts wrote unwritten ]
+    streams_stop (Build fault.ContentShort) p counts wrote script unwritten = stopped p.0 (Build fault.ContentShort) (wide p.0 (inl p.1)) p.2 counts wrote unwritten
+    streams_stop (Build fault.Read) p counts wrote script unwritten = stopped p.0 (Build fault.Read) (wide p.0 (inl p.1)) p.2 counts wrote unwritten
+    streams_stop (Build fault.Write) p counts wrote script unwritten = stopped p.1.0 (Build fault.Write) (wide p.1.0 (inr p.1.1)) p.1.2 counts wrote unwritten
+    streams_stop (Build fault.Memory) p counts wrote script unwritten = tt
+    streams_stop (File file.Script) p counts wrote script unwritten = inr ((λ other. same (unwritten other)), inr (inr (lacks (lost p script))))
+    streams_stop other p counts wrote script unwritten = chipless other p unwritten
 
     pub of_streams_stop : (r : Result Verdict Refusal) → IfErr r Why → CountsReader (count content) (count rest) r → CountsWriter writes writes' r
-        → CountsScript (count_of first) (count_of first') (count_of again) (count_of again') r → IfErr r Told
-    of_streams_stop (Ok verdict) p counts wrote script = tt
-    of_streams_stop (Err why) p counts wrote script = streams_stop why p counts wrote script
+        → CountsScript (count_of first) (count_of first') (count_of again) (count_of again') r → IfErr r (λ why. why ≢ Build fault.Write → Same) → IfErr r Told
+    of_streams_stop (Ok verdict) p counts wrote script unwritten = tt
+    of_streams_stop (Err why) p counts wrote script unwritten = streams_stop why p counts wrote script unwritten
 
 -- what was played of the files that a request names
 
@@ -351,39 +355,41 @@ module _ (Asked : PlayTask → Type 0) (P Q : List ℕ → Type 0) (chip : Task)
   all_played Sent (Ok verdict) out of = one_played Sent verdict out of
   all_played Sent (Err why) out of = tt
 
-pub one_refused : (L M : FileName → Type 0) (D E : Type 0) (Asked : PlayTask → Type 0) (P Q : List ℕ → Type 0) (F : Ahead → Type 0) (t : PlayTask) (asked : Asked t) → ((name : FileName) → L name → M name)
-    → (D → E) → ((text : List ℕ) → P text → Q text) → (why : Refusal) → RefusesFor L D (IsPlayFault (Is t) P F) ⊥ why → RefusesRun M E Asked Q F why
-one_refused L M D E Asked P Q F t asked files broken texts why =
-    refuses_wider L M D E (IsPlayFault (Is t) P F) (IsPlayFault Asked Q F) ⊥ ((verdict : Verdict) × IsPlayVerdict Asked Q (λ held. ⊤) verdict)
-    files broken (stop_wider (Is t) Asked P Q F (λ u same. subst Asked (sym same) asked) texts) (λ none. absurd none) why
-
 -- a file that couldn't be used
-pub lacked_refused : (Lacked : FileName → Type 0) (Lost Broke : Type 0) (Asked : PlayTask → Type 0) (Spoken : List ℕ → Type 0) (F : Ahead → Type 0) (why : Refusal) → TellsFile Lacked why
-    → RefusesRun (OrScript Lacked Lost) Broke Asked Spoken F why
-lacked_refused Lacked Lost Broke Asked Spoken F why =
-    by_files Lacked (OrScript Lacked Lost) Broke (IsPlayFault Asked Spoken F) ((verdict : Verdict) × IsPlayVerdict Asked Spoken (λ held. ⊤) verdict) why (λ name is. inl is)
+pub lacked_refused : (Lacked : FileName → Type 0) (Broke : Type 0) (Asked : PlayTask → Type 0) (Spoken : List ℕ → Type 0) (F : Ahead → Type 0) (Lost : Type 0) (Gone : Option (List ℕ) → Type 0)
+    (why : Refusal) → TellsFile Lacked why → RefusesRun Lacked Broke Asked Spoken F Lost Gone why
+lacked_refused Lacked Broke Asked Spoken F Lost Gone why =
+    by_files Lacked Lacked Broke (IsPlayFault Asked Spoken F Lost Gone) ((verdict : Verdict) × IsPlayVerdict Asked Spoken Gone verdict) why (λ name is. is)
 
-pub all_refused : (L M : FileName → Type 0) (D E : Type 0) (Asked : PlayTask → Type 0) (P Q : List ℕ → Type 0) (F : Ahead → Type 0) (t : PlayTask) (asked : Asked t) → ((name : FileName) → L name → M name)
-    → (D → E) → ((text : List ℕ) → P text → Q text) → (r : Result Verdict Refusal) → IfErr r (RefusesFor L D (IsPlayFault (Is t) P F) ⊥) → IfErr r (RefusesRun M E Asked Q F)
-all_refused L M D E Asked P Q F t asked files broken texts (Ok verdict) of = tt
-all_refused L M D E Asked P Q F t asked files broken texts (Err why) of = one_refused L M D E Asked P Q F t asked files broken texts why of
+-- a play that was refused, with what its output had taken
+module _ (L : FileName → Type 0) (D E : Type 0) (Asked : PlayTask → Type 0) (P Q : List ℕ → Type 0) (F : Ahead → Type 0) (Lost More : Type 0) (Gone : Option (List ℕ) → Type 0) (t : PlayTask)
+    (before after : Option (List ℕ)) (asked : Asked t) (broken : D → E) (out : GoesOut Gone t.begun before after) (texts : (text : List ℕ) → P text → Q text) (lost : Lost → More) where
+  one_refused : (why : Refusal) → RefusesFor (λ told. ⊥) D (λ why. StopsSo P F Lost before after why t) ⊥ why → RefusesRun L E Asked Q F More Gone why
+  one_refused =
+      refuses_wider (λ told. ⊥) L D E (λ why. StopsSo P F Lost before after why t) (IsPlayFault Asked Q F More Gone) ⊥ ((verdict : Verdict) × IsPlayVerdict Asked Q Gone verdict)
+      (λ told none. absurd none) broken
+      (λ why stops. record { it = t; asked = asked; has = record { before = before; after = after; out = out; stops = so_wider P Q F Lost More before after t texts lost why stops } })
+      (λ none. absurd none)
+
+  pub all_refused : (r : Result Verdict Refusal) → IfErr r (RefusesFor (λ told. ⊥) D (λ why. StopsSo P F Lost before after why t) ⊥) → IfErr r (RefusesRun L E Asked Q F More Gone)
+  all_refused (Ok verdict) of = tt
+  all_refused (Err why) of = one_refused why of
 
 -- where only the verdict's line, or what the chip holds, didn't go out, the play was one that was asked for
-goes : (Sent : Option (List ℕ) → Type 0) (begun : Option (Option (List ℕ))) (before after : Option (List ℕ)) → GoesOut Sent begun before after
-    → GoesOut (λ held. ⊤) begun before after
-goes Sent (Some held) before after out = (out.0, tt)
-goes Sent None before after out = tt
+goes : (files : FileFacts) (begun : Option (Option (List ℕ))) (before after : Option (List ℕ)) → GoesOut files.flushed begun before after → GoesOut (HasGone files) begun before after
+goes files (Some held) before after out = (out.0, inl out.1)
+goes files None before after out = tt
 
-pub late_refused : (files : FileFacts) (Failed : Ahead → Type 0) (given : RunArgs) (Broke : Type 0) (verdict : Verdict) → Broke → is_well_formed given ≡ true
+pub late_refused : (files : FileFacts) (Failed : Ahead → Type 0) (given : RunArgs) (Nothing Broke : Type 0) (verdict : Verdict) → Broke → is_well_formed given ≡ true
     → IsPlayVerdict (Serves files given) (ServesScript files given) files.flushed verdict
-    → RefusesToRun files Failed given Broke (Build fault.Write)
-late_refused files Failed given Broke verdict broke formed of = inl (or_usage _ _ _ formed (
+    → RefusesToRun files Failed given Nothing Broke (Build fault.Write)
+late_refused files Failed given Nothing Broke verdict broke formed of = inl (or_usage _ _ _ formed (
   inr (
     verdict,
     record {
       it = of.it;
       asked = of.asked;
-      has = record { before = of.has.before; after = of.has.after; out = goes files.flushed of.it.begun _ _ of.has.out; played = of.has.played };
+      has = record { before = of.has.before; after = of.has.after; out = goes files of.it.begun _ _ of.has.out; played = of.has.played };
     },
   ),
   broke,
@@ -394,37 +400,39 @@ usage_wider : (asks : Bool) (P Q : Refusal → Type 0) (why : Refusal) → (P wh
 usage_wider true P Q why wider is = wider is
 usage_wider false P Q why wider is = is
 
-pub told_wider : (files : FileFacts) (Failed : Ahead → Type 0) (given : RunArgs) (D E : Type 0) → (D → E) → (why : Refusal) → RefusesToRun files Failed given D why
-    → RefusesToRun files Failed given E why
-told_wider files Failed given D E broken why (inl is) =
-    let L = OrScript (Lacks files (paths_asked given)) (FailsScriptOf files Failed given) in
+pub told_wider : (files : FileFacts) (Failed : Ahead → Type 0) (given : RunArgs) (Nothing D E : Type 0) → (D → E) → (why : Refusal) → RefusesToRun files Failed given Nothing D why
+    → RefusesToRun files Failed given Nothing E why
+told_wider files Failed given Nothing D E broken why (inl is) =
+    let L = LacksEarly files (paths_asked given) file.Out Nothing in
     let Asked = Serves files given in
     let Spoken = ServesScript files given in
-    inl (usage_wider (is_well_formed given) (RefusesRun L D Asked Spoken Failed) (RefusesRun L E Asked Spoken Failed) why
-    (refusal_wider L L D E Asked Asked Spoken Spoken Failed (λ name lacks. lacks) broken (λ t of. of) (λ text of. of) why) is)
-told_wider files Failed given D E broken why (inr memory) = inr memory
+    let Lost = FailsScriptOf files Failed given in
+    let Gone = HasGone files in
+    inl (usage_wider (is_well_formed given) (RefusesRun L D Asked Spoken Failed Lost Gone) (RefusesRun L E Asked Spoken Failed Lost Gone) why
+    (refusal_wider L L D E Asked Asked Spoken Spoken Failed Lost Lost Gone (λ name lacks. lacks) broken (λ t of. of) (λ text of. of) (λ failed. failed) why) is)
+told_wider files Failed given Nothing D E broken why (inr memory) = inr memory
 
 -- texts that ask for nothing, and want of memory
-pub given_refused : (files : FileFacts) (Failed : Ahead → Type 0) (given : RunArgs) (Broke : Type 0) (why : Refusal) → RefusesGiven given why
-    → RefusesToRun files Failed given Broke why
-given_refused files Failed given Broke Usage refused = inl (rw refused refl)
-given_refused files Failed given Broke (Build fault.Memory) refused = inr refl
-given_refused files Failed given Broke (Build (fault.Contradiction number)) refused = absurd refused
-given_refused files Failed given Broke (Build (fault.Hex why)) refused = absurd refused
-given_refused files Failed given Broke (Build (fault.Layout why)) refused = absurd refused
-given_refused files Failed given Broke (Build (fault.Sfdp why)) refused = absurd refused
-given_refused files Failed given Broke (Build (fault.Status number)) refused = absurd refused
-given_refused files Failed given Broke (Build fault.ModeImpossible) refused = absurd refused
-given_refused files Failed given Broke (Build fault.ContentSize) refused = absurd refused
-given_refused files Failed given Broke (Build (fault.Plan why)) refused = absurd refused
-given_refused files Failed given Broke (Build fault.ContentShort) refused = absurd refused
-given_refused files Failed given Broke (Build fault.Read) refused = absurd refused
-given_refused files Failed given Broke (Build fault.Write) refused = absurd refused
-given_refused files Failed given Broke (Text words) refused = absurd refused
-given_refused files Failed given Broke (File name) refused = absurd refused
-given_refused files Failed given Broke Page refused = absurd refused
-given_refused files Failed given Broke (Script why) refused = absurd refused
-given_refused files Failed given Broke BinSize refused = absurd refused
-given_refused files Failed given Broke (Steps number) refused = absurd refused
-given_refused files Failed given Broke (EmptyRegion index) refused = absurd refused
-given_refused files Failed given Broke (Log line) refused = absurd refused
+pub given_refused : (files : FileFacts) (Failed : Ahead → Type 0) (given : RunArgs) (Nothing Broke : Type 0) (why : Refusal) → RefusesGiven given why
+    → RefusesToRun files Failed given Nothing Broke why
+given_refused files Failed given Nothing Broke Usage refused = inl (rw refused refl)
+given_refused files Failed given Nothing Broke (Build fault.Memory) refused = inr refl
+given_refused files Failed given Nothing Broke (Build (fault.Contradiction number)) refused = absurd refused
+given_refused files Failed given Nothing Broke (Build (fault.Hex why)) refused = absurd refused
+given_refused files Failed given Nothing Broke (Build (fault.Layout why)) refused = absurd refused
+given_refused files Failed given Nothing Broke (Build (fault.Sfdp why)) refused = absurd refused
+given_refused files Failed given Nothing Broke (Build (fault.Status number)) refused = absurd refused
+given_refused files Failed given Nothing Broke (Build fault.ModeImpossible) refused = absurd refused
+given_refused files Failed given Nothing Broke (Build fault.ContentSize) refused = absurd refused
+given_refused files Failed given Nothing Broke (Build (fault.Plan why)) refused = absurd refused
+given_refused files Failed given Nothing Broke (Build fault.ContentShort) refused = absurd refused
+given_refused files Failed given Nothing Broke (Build fault.Read) refused = absurd refused
+given_refused files Failed given Nothing Broke (Build fault.Write) refused = absurd refused
+given_refused files Failed given Nothing Broke (Text words) refused = absurd refused
+given_refused files Failed given Nothing Broke (File name) refused = absurd refused
+given_refused files Failed given Nothing Broke Page refused = absurd refused
+given_refused files Failed given Nothing Broke (Script why) refused = absurd refused
+given_refused files Failed given Nothing Broke BinSize refused = absurd refused
+given_refused files Failed given Nothing Broke (Steps number) refused = absurd refused
+given_refused files Failed given Nothing Broke (EmptyRegion index) refused = absurd refused
+given_refused files Failed given Nothing Broke (Log line) refused = absurd refused

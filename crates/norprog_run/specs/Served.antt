@@ -29,10 +29,6 @@ pub record PlayTask : Type 0 where
 abbrev pub play_with : Task → ChipBehaviour → Ahead → ℕ → Option (Option (List ℕ)) → PlayTask
 play_with chip bench content len begun = record { chip = chip; bench = bench; content = content; len = len; begun = begun }
 
--- the play is this one
-abbrev pub Is : PlayTask → PlayTask → Type 0
-Is one other = other ≡ one
-
 -- the play is on that chip and bench, with that content, and its output of this name was made at none of these places
 pub record IsMadeFor (files : FileFacts) (path : List ℕ) (places : List FileId) (chip : Task) (bench : ChipBehaviour) (content : Ahead) (len : ℕ) (t : PlayTask) : Type 0
   where

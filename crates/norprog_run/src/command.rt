@@ -1,18 +1,19 @@
 //! `run`: from the texts of the command line to the line of a verdict.
 
-ghost use Rattle.std.specs.Prelude.{◌≡◌, ◌<◌, ◌≤◌, ◌-◌, ◌^◌, List, ℕ, Some, true, Option, IfOk};
+ghost use Rattle.std.specs.Prelude.{◌≡◌, ◌<◌, ◌≤◌, ◌-◌, ◌^◌, List, [], ℕ, Some, true, Option, IfOk};
 ghost use Rattle.std.specs.Prelude.{IfErr, MatchResult, option_map};
 ghost use Rattle.std.specs.Io.KnownBytes.{Appends};
-ghost use Rattle.norprog_common.specs.FileStore.{Adds, Breaks, DoNotFail, Emptied, IsTextIn};
-ghost use Rattle.norprog_common.specs.FileStore.{IsTextOfFile, Lacks, MakesNamed, MayMake, Tries};
+ghost use Rattle.norprog_common.specs.FileStore.{Adds, Breaks, DoNotFail, Emptied, HasGone};
+ghost use Rattle.norprog_common.specs.FileStore.{IsTextIn, IsTextOfFile, LacksEarly, MakesNamed};
+ghost use Rattle.norprog_common.specs.FileStore.{MayMake, Tries};
 ghost use Rattle.norprog_common.specs.Reading.{FailsReading, FailsScript, HasFailed, IsTextRead};
-ghost use Rattle.norprog_common.specs.declared.faults.FileName.TheVariants.{Script};
+ghost use Rattle.norprog_common.specs.declared.faults.FileName.TheVariants.{Out};
 ghost use Rattle.norprog_common.specs.Served.{out_path};
-ghost use Rattle.norprog_common.specs.Told.{RefusesFor, OrScript};
-ghost use Rattle.norprog_run.specs.Answer.{WasPlayedSo, IsPlayFault, IsPlayVerdict, CutsVerdict};
+ghost use Rattle.norprog_common.specs.Told.{RefusesFor};
+ghost use Rattle.norprog_run.specs.Answer.{WasPlayedSo, StopsSo, IsPlayVerdict, CutsVerdict};
 ghost use Rattle.norprog_run.specs.Answer.{RefusesRun, RefusesToRun, AnswersRun};
 ghost use Rattle.norprog_run.specs.Request.{is_well_formed};
-ghost use Rattle.norprog_run.specs.Served.{play_with, Is, IsMadeFor, IsTaskOf, Serves};
+ghost use Rattle.norprog_run.specs.Served.{play_with, IsMadeFor, IsTaskOf, Serves};
 ghost use Rattle.norprog_run.specs.Served.{ServesScript, MakesFor, MayMakeFor, input_files_of};
 ghost use Rattle.norprog_run.specs.Served.{paths_of};
 ghost use Rattle.norprog_run.specs.Verdict.{verdict_line};
@@ -78,6 +79,7 @@ fn report_run<S: FileStore, O: ByteOut>(
         (Adds (S.Journal.changes journal.old) (S.Journal.changes journal.new))) }
     ensures first { IfErr result
         (RefusesToRun (S.facts store.now) (HasFailed S.Input.ahead S.Input.count) given.entry
+        (Adds (S.Journal.changes journal.old) (S.Journal.changes journal.new) [])
         (Breaks (S.facts store.now) (O.count out.old) (O.count out.new))) }
 {
     let verdict = verdict_of(alloc, store, journal, given)?;
@@ -104,6 +106,7 @@ fn verdict_of<S: FileStore>(
         (Adds (S.Journal.changes journal.old) (S.Journal.changes journal.new))) }
     ensures first { IfErr result
         (RefusesToRun (S.facts store.now) (HasFailed S.Input.ahead S.Input.count) given.entry
+        (Adds (S.Journal.changes journal.old) (S.Journal.changes journal.new) [])
         (S.facts store.now).broke) }
 {
     let request = request_of(alloc, given)?;
@@ -121,13 +124,13 @@ fn play_request<S: FileStore>(
     ensures played { IfOk result (IsPlayVerdict (IsTaskOf (S.facts store.now) request.entry)
         (IsTextIn (S.facts store.now) request.entry.script.now) (S.facts store.now).flushed) }
     ensures refused { IfErr result
-        (RefusesRun (OrScript (Lacks (S.facts store.now) (paths_of request.entry))
-        (FailsReading (S.facts store.now) (HasFailed S.Input.ahead S.Input.count)
-        request.entry.script.now))
-        (S.facts store.now).broke
-        (IsTaskOf (S.facts store.now) request.entry)
+        (RefusesRun (LacksEarly (S.facts store.now) (paths_of request.entry) Out
+        (Adds (S.Journal.changes journal.old) (S.Journal.changes journal.new) []))
+        (S.facts store.now).broke (IsTaskOf (S.facts store.now) request.entry)
         (IsTextIn (S.facts store.now) request.entry.script.now)
-        (HasFailed S.Input.ahead S.Input.count)) }
+        (HasFailed S.Input.ahead S.Input.count)
+        (FailsReading (S.facts store.now) (HasFailed S.Input.ahead S.Input.count)
+        request.entry.script.now) (HasGone (S.facts store.now))) }
     ensures journal { MatchResult result
         (λ _. MakesNamed (S.facts store.now) (input_files_of request.entry)
         (option_map (λ t. t.now) request.entry.out)
@@ -190,12 +193,14 @@ fn play_to<S: FileStore>(
         (S.Input.ahead content.old) len)
         (IsTextOfFile S.Input.ahead script) (S.facts store.now).flushed) }
     ensures refused { IfErr result
-        (RefusesRun (OrScript (Lacks (S.facts store.now) (out_path (Some path.now)))
-        (FailsScript S.Input.ahead (HasFailed S.Input.ahead S.Input.count) script))
+        (RefusesRun (LacksEarly (S.facts store.now) (out_path (Some path.now)) Out
+        (Adds (S.Journal.changes journal.old) (S.Journal.changes journal.new) []))
         (S.facts store.now).broke
         (IsMadeFor (S.facts store.now) path.now places.now inputs.now bench
         (S.Input.ahead content.old) len) (IsTextRead S.Input.ahead script)
-        (HasFailed S.Input.ahead S.Input.count)) }
+        (HasFailed S.Input.ahead S.Input.count)
+        (FailsScript S.Input.ahead (HasFailed S.Input.ahead S.Input.count) script)
+        (HasGone (S.facts store.now))) }
     ensures journal { Tries (S.Journal.changes journal.old) (S.Journal.changes journal.new)
         (Emptied path.now places.now) result }
 {
@@ -226,11 +231,10 @@ fn play_file<F: ByteIn + Drop, R: ByteIn, W: ByteOut>(
         (WasPlayedSo (IsTextOfFile F.ahead script) inputs.now bench (R.ahead content.old) len
         (W.held out.old) (W.held out.new)) }
     ensures refused { (begun : Option (Option (List ℕ)))
-        → IfErr result (RefusesFor
-        (λ told. (told ≡ Script) × FailsScript F.ahead (HasFailed F.ahead F.count) script)
-        (W.count out.old < W.count out.new)
-        (IsPlayFault (Is (play_with inputs.now bench (R.ahead content.old) len begun))
-        (IsTextRead F.ahead script) (HasFailed R.ahead R.count)) ⊥) }
+        → IfErr result (RefusesFor (λ told. ⊥) (W.count out.old < W.count out.new)
+        (λ why. StopsSo (IsTextRead F.ahead script) (HasFailed R.ahead R.count)
+        (FailsScript F.ahead (HasFailed F.ahead F.count) script) (W.held out.old) (W.held out.new)
+        why (play_with inputs.now bench (R.ahead content.old) len begun)) ⊥) }
 {
     match script {
         ScriptFile::Twice(mut first, mut again) => play_streams(

@@ -1,12 +1,11 @@
 -- What is written for a request is what its texts ask for, and what is so of it is so of that.
 use Rattle.std.proofs.Common.{◌≡◌, ◌+◌, arith, inl, ◌++◌, ◌||◌, Bool, Bor, true, false, is_some, option_map, option_to_list, refl, sym, subst, List, [], ◌∷◌, ℕ, Option, None, Some, Result, Ok, Err, IfOk, IfErr, inr}
-use Rattle.std.specs.Prelude.{⊤}
-use Rattle.norprog_common.specs.FileStore.{FileFacts, AreTables, Breaks, IsMadeApart, Lacks, Named, Notes, tables_file}
+use Rattle.norprog_common.specs.FileStore.{FileFacts, AreTables, Breaks, HasGone, IsMadeApart, LacksEarly, Named, Notes, tables_file}
 use Rattle.norprog_common.specs.Chip.{origin_of}
 use Rattle.norprog_common.specs.Setup.{setup_task}
 use Rattle.norprog_common.specs.declared.files.FileId.{FileId}
 use Rattle.norprog_common.specs.declared.setup.Setup.{Setup}
-use Rattle.norprog_common.proofs.StoreLemmas.{one_noted, more_noted, made_apart}
+use Rattle.norprog_common.proofs.StoreLemmas.{gone_out, one_noted, more_noted, made_apart}
 use Rattle.nor_job.specs.Task.{Task}
 use Rattle.nor_job.specs.declared.fault.BuildFault.TheVariants as fault
 use Rattle.norprog_common.specs.Content.{CountsWriter, of_writer}
@@ -14,9 +13,10 @@ use Rattle.norprog_common.specs.Files.{TellsFile}
 use Rattle.norprog_common.specs.Told.{TellsBroken}
 use Rattle.norprog_common.specs.declared.faults.Refusal.TheVariants.{Build}
 use Rattle.norprog_common.specs.declared.faults.FileName.{FileName}
+use Rattle.norprog_common.specs.declared.faults.FileName.TheVariants.{Out}
 use Rattle.norprog_common.specs.declared.faults.Refusal.{Refusal}
 use Rattle.norprog_common.specs.declared.given.SetupArgs.{SetupArgs}
-use Rattle.norprog_common.proofs.LackedLemmas.{lacks_same, tables_named}
+use Rattle.norprog_common.proofs.LackedLemmas.{early_same, tables_named}
 use Rattle.norprog_common.proofs.ToldLemmas.{asked_wider, refuses_wider, by_fault, by_files}
 use Rattle.norprog_common.specs.declared.given.ScriptArgs.{ScriptArgs}
 use Rattle.norprog_script.specs.declared.request.ScriptRequest.{ScriptRequest}
@@ -61,25 +61,28 @@ same_paths : (given : ScriptArgs) (request : ScriptRequest) → AsksFor given re
 same_paths given request asks = let tables = tables_said given.setup request.chip asks.chip in rw (asks.log, asks.out, tables) refl
 
 -- a file that couldn't be used
-pub file_refused : (Lacked : FileName → Type 0) (Broke : Type 0) (Asked : LogTask → Type 0) (why : Refusal) → TellsFile Lacked why → RefusesScript Lacked Broke Asked why
-file_refused Lacked Broke Asked why lacks = by_files Lacked Lacked Broke (IsLogFault Asked) ((tally : Tally) × IsScripted Asked (λ held. ⊤) tally) why (λ told is. is) lacks
+pub file_refused : (Lacked : FileName → Type 0) (Broke : Type 0) (Gone : Option (List ℕ) → Type 0) (Asked : LogTask → Type 0) (why : Refusal) → TellsFile Lacked why
+    → RefusesScript Lacked Broke Gone Asked why
+file_refused Lacked Broke Gone Asked why lacks = by_files Lacked Lacked Broke (IsLogFault Gone Asked) ((tally : Tally) × IsScripted Asked Gone tally) why (λ told is. is) lacks
 
-pub refusal_asked : (files : FileFacts) (given : ScriptArgs) (request : ScriptRequest) (count count' : ℕ) (why : Refusal) → AsksFor given request
-    → RefusesScript (Lacks files (paths_of request)) files.broke (IsTaskOf files request) why
-    → RefusesScript (Lacks files (paths_asked given)) (Breaks files count count') (Serves files given) why
-refusal_asked files given request count count' why asks =
-    refuses_wider (Lacks files (paths_of request)) (Lacks files (paths_asked given)) files.broke (Breaks files count count') (IsLogFault (IsTaskOf files request)) (IsLogFault (Serves files given))
-    ((tally : Tally) × IsScripted (IsTaskOf files request) (λ held. ⊤) tally) ((tally : Tally) × IsScripted (Serves files given) (λ held. ⊤) tally)
-    (lacks_same files (paths_of request) (paths_asked given) (same_paths given request asks)) (λ broke. inl broke)
-    (λ why of. asked_wider LogTask (IsTaskOf files request) (Serves files given) (IsStopOf why) (serves files given request asks) of)
-    (λ late. (late.0, scripted_asked files given request (λ held. ⊤) late.0 asks late.1)) why
+pub refusal_asked : (files : FileFacts) (given : ScriptArgs) (request : ScriptRequest) (Nothing : Type 0) (count count' : ℕ) (why : Refusal) → AsksFor given request
+    → RefusesScript (LacksEarly files (paths_of request) Out Nothing) files.broke (HasGone files) (IsTaskOf files request) why
+    → RefusesScript (LacksEarly files (paths_asked given) Out Nothing) (Breaks files count count') (HasGone files) (Serves files given) why
+refusal_asked files given request Nothing count count' why asks =
+    refuses_wider (LacksEarly files (paths_of request) Out Nothing) (LacksEarly files (paths_asked given) Out Nothing) files.broke (Breaks files count count')
+    (IsLogFault (HasGone files) (IsTaskOf files request)) (IsLogFault (HasGone files) (Serves files given))
+    ((tally : Tally) × IsScripted (IsTaskOf files request) (HasGone files) tally) ((tally : Tally) × IsScripted (Serves files given) (HasGone files) tally)
+    (early_same files (paths_of request) (paths_asked given) Out Nothing (same_paths given request asks)) (λ broke. inl broke)
+    (λ why of. asked_wider LogTask (IsTaskOf files request) (Serves files given) (IsStopOf (HasGone files) why) (serves files given request asks) of)
+    (λ late. (late.0, scripted_asked files given request (HasGone files) late.0 asks late.1)) why
 
--- a script whose number of steps wasn't printed was written, whether it has gone out or not
-pub unsent : (Asked : LogTask → Type 0) (Sent : Option (List ℕ) → Type 0) (tally : Tally) → IsScripted Asked Sent tally → IsScripted Asked (λ held. ⊤) tally
-unsent Asked Sent tally of = record {
+-- a script whose number of steps wasn't printed was written, and has gone out
+pub gone : (Asked : LogTask → Type 0) (Sent Gone : Option (List ℕ) → Type 0) (tally : Tally) → ((held : Option (List ℕ)) → Sent held → Gone held) → IsScripted Asked Sent tally
+    → IsScripted Asked Gone tally
+gone Asked Sent Gone tally wider of = record {
   it = of.it;
   asked = of.asked;
-  has = record { after = of.has.after; sent = tt; written = of.has.written };
+  has = record { after = of.has.after; sent = wider of.has.after of.has.sent; written = of.has.written };
 }
 
 -- an output that failed isn't flushed
@@ -90,7 +93,7 @@ told_broken Broke k k' (Build fault.Write) (Err e) none counts whole broke = bro
 told_broken Broke k k' other flushed none counts whole broke = tt
 
 -- a script whose file was flushed
-module _ (files : FileFacts) (request : ScriptRequest) (text : List ℕ) (from : Source) (before after : Option (List ℕ)) (gave : files.gave request.log.now text)
+module _ (files : FileFacts) (Nothing : Type 0) (request : ScriptRequest) (text : List ℕ) (from : Source) (before after : Option (List ℕ)) (gave : files.gave request.log.now text)
     (is_from : IsSourceOf files request.chip request.without_identity from) (made : IsMadeApart files (chip_file request.chip ++ request.log.now ∷ []) request.out.now before) where
   abbrev task : LogTask
   task = record { text = text; from = from; begun = before }
@@ -101,12 +104,13 @@ module _ (files : FileFacts) (request : ScriptRequest) (text : List ℕ) (from :
   was_written : (Sent : Option (List ℕ) → Type 0) (tally : Tally) → Sent after → WasWritten from text before after tally → IsScripted (IsTaskOf files request) Sent tally
   was_written Sent tally sent is = record { it = task; asked = asked; has = record { after = after; sent = sent; written = is } }
 
-  was_refused : (why : Refusal) → TellsBroken files.broke why → RefusesLog from text before after why → RefusesScript (Lacks files (paths_of request)) files.broke (IsTaskOf files request) why
-  was_refused why broke is =
-      by_fault (Lacks files (paths_of request)) files.broke (IsLogFault (IsTaskOf files request)) ((tally : Tally) × IsScripted (IsTaskOf files request) (λ held. ⊤) tally) why broke (record {
+  was_refused : (why : Refusal) → HasGone files after → TellsBroken files.broke why → RefusesLog from text before after why
+      → RefusesScript (LacksEarly files (paths_of request) Out Nothing) files.broke (HasGone files) (IsTaskOf files request) why
+  was_refused why gone broke is =
+      by_fault (LacksEarly files (paths_of request) Out Nothing) files.broke (IsLogFault (HasGone files) (IsTaskOf files request)) ((tally : Tally) × IsScripted (IsTaskOf files request) (HasGone files) tally) why broke (record {
         it = task;
         asked = asked;
-        has = record { after = after; refused = is };
+        has = record { after = after; refused = is; gone = gone };
       })
 
   pub done_is_written : {U E : Type 0} (answer : Result Tally Refusal) (flushed : Result U E) (r : Result Tally Refusal) → IfOk answer (WasWritten from text before after)
@@ -116,11 +120,12 @@ module _ (files : FileFacts) (request : ScriptRequest) (text : List ℕ) (from :
   done_is_written (Ok tally) (Ok u) r written sent is = rw is (was_written files.flushed tally sent written)
 
   pub done_is_refused : {U E : Type 0} (k k' : ℕ) (answer : Result Tally Refusal) (flushed : Result U E) (r : Result Tally Refusal) → IfOk answer (WasWritten from text before after)
-      → IfErr answer (RefusesLog from text before after) → k ≡ 0 → CountsWriter k k' answer → IfOk flushed (λ _. k' ≡ 0) → IfErr flushed (λ _. files.broke)
-      → r ≡ done answer flushed → IfErr r (RefusesScript (Lacks files (paths_of request)) files.broke (IsTaskOf files request))
-  done_is_refused k k' (Err why) flushed r written refused none counts whole broke is = rw is (was_refused why (told_broken files.broke k k' why flushed none counts whole broke) refused)
-  done_is_refused k k' (Ok tally) (Err e) r written refused none counts whole broke is = rw is (inr (tally, was_written (λ held. ⊤) tally tt written), broke)
-  done_is_refused k k' (Ok tally) (Ok u) r written refused none counts whole broke is = rw is tt
+      → IfErr answer (RefusesLog from text before after) → k ≡ 0 → CountsWriter k k' answer → IfOk flushed (λ _. k' ≡ 0) → IfOk flushed (λ _. files.flushed after) → IfErr flushed (λ _. files.broke)
+      → r ≡ done answer flushed → IfErr r (RefusesScript (LacksEarly files (paths_of request) Out Nothing) files.broke (HasGone files) (IsTaskOf files request))
+  done_is_refused k k' (Err why) flushed r written refused none counts whole sent broke is =
+      rw is (was_refused why (gone_out files after flushed sent broke) (told_broken files.broke k k' why flushed none counts whole broke) refused)
+  done_is_refused k k' (Ok tally) (Err e) r written refused none counts whole sent broke is = rw is (inr (tally, was_written (HasGone files) tally (inr broke) written), broke)
+  done_is_refused k k' (Ok tally) (Ok u) r written refused none counts whole sent broke is = rw is tt
 
 -- what a request of a log of another tool has
 pub of_foreign : (files : FileFacts) (request : ScriptRequest) → request.chip ≡ None → IsSourceOf files request.chip request.without_identity (foreign request.without_identity)

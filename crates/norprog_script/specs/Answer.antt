@@ -1,13 +1,14 @@
 -- What is told of a log's script (this project's).
-use Rattle.std.specs.Prelude.{◌≡◌, ◌⊎◌, ⊤, ℕ, List, Option, Result, Ok, Err}
+use Rattle.std.specs.Prelude.{◌≡◌, ◌⊎◌, ℕ, List, [], Option, Result, Ok, Err}
 use Rattle.std.specs.Io.KnownBytes.{Appends}
 use Rattle.nor_base.specs.Device.{Cuts}
 use Rattle.nor_job.specs.declared.fault.BuildFault.TheVariants.{Write}
 use Rattle.norprog_common.specs.declared.faults.FileName.{FileName}
+use Rattle.norprog_common.specs.declared.faults.FileName.TheVariants.{Out}
 use Rattle.norprog_common.specs.declared.faults.Refusal.{Refusal}
 use Rattle.norprog_common.specs.declared.faults.Refusal.TheVariants.{Build}
 use Rattle.norprog_common.specs.declared.given.ScriptArgs.{ScriptArgs}
-use Rattle.norprog_common.specs.FileStore.{FileFacts, Change, Lacks}
+use Rattle.norprog_common.specs.FileStore.{FileFacts, Change, HasGone, LacksEarly}
 use Rattle.norprog_common.specs.Told.{ForAsked, RefusesFor, Answers}
 use Rattle.norprog_script.specs.declared.tally.Tally.{Tally}
 use Rattle.norprog_script.specs.Request.{is_well_formed}
@@ -24,18 +25,19 @@ pub record IsScriptedAs (Sent : Option (List ℕ) → Type 0) (tally : Tally) (t
 abbrev pub IsScripted : (LogTask → Type 0) → (Option (List ℕ) → Type 0) → Tally → Type 0
 IsScripted Asked Sent tally = ForAsked LogTask Asked (IsScriptedAs Sent tally)
 
--- why the log's script isn't written
-pub record IsStopOf (why : Refusal) (t : LogTask) : Type 0 where
+-- why the log's script isn't written, and what the output holds then. `Gone`: nothing more was written to it
+pub record IsStopOf (Gone : Option (List ℕ) → Type 0) (why : Refusal) (t : LogTask) : Type 0 where
   pub after : Option (List ℕ)
   pub refused : RefusesLog t.from t.text t.begun after why
+  pub gone : Gone after
 
-abbrev pub IsLogFault : (LogTask → Type 0) → Refusal → Type 0
-IsLogFault Asked why = ForAsked LogTask Asked (IsStopOf why)
+abbrev pub IsLogFault : (Option (List ℕ) → Type 0) → (LogTask → Type 0) → Refusal → Type 0
+IsLogFault Gone Asked why = ForAsked LogTask Asked (IsStopOf Gone why)
 
 -- why a script that was asked for isn't written: a file can't be used, or a growth was refused; the output failed while it was
--- written, or after; else the fault of the log
-abbrev pub RefusesScript : (FileName → Type 0) → Type 0 → (LogTask → Type 0) → Refusal → Type 0
-RefusesScript Lacked Broke Asked = RefusesFor Lacked Broke (IsLogFault Asked) ((tally : Tally) × IsScripted Asked (λ held. ⊤) tally)
+-- written, or after, or what its number of steps is printed to; else the fault of the log
+abbrev pub RefusesScript : (FileName → Type 0) → Type 0 → (Option (List ℕ) → Type 0) → (LogTask → Type 0) → Refusal → Type 0
+RefusesScript Lacked Broke Gone Asked = RefusesFor Lacked Broke (IsLogFault Gone Asked) ((tally : Tally) × IsScripted Asked Gone tally)
 
 -- the number of steps of a script that was asked for and written was printed, and nothing else
 pub record PrintsTally (Asked : LogTask → Type 0) (Sent : Option (List ℕ) → Type 0) (before after : Option (List ℕ)) : Type 0 where
@@ -61,5 +63,5 @@ AnswersScript files given Made Broke before after Quiet Works told_before told_a
     Answers (is_well_formed given)
     ((status ≡ 0) × PrintsTally (Serves files given) files.flushed before after × MakesScript files given Made × Quiet)
     (CutsTally (Serves files given) files.flushed before after × MayMakeScript files given Made)
-    (RefusesScript (Lacks files (paths_asked given)) Broke (Serves files given))
+    (RefusesScript (LacksEarly files (paths_asked given) Out (Made [])) Broke (HasGone files) (Serves files given))
     Works told_before told_after status

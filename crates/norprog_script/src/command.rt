@@ -2,7 +2,8 @@
 
 ghost use Rattle.std.specs.Prelude.{◌≡◌, ◌<◌, ◌≤◌, ◌-◌, ◌^◌, [], ◌∷◌, ◌++◌, true, None, Some};
 ghost use Rattle.std.specs.Prelude.{IfOk, IfErr, MatchResult};
-ghost use Rattle.norprog_common.specs.FileStore.{Adds, Breaks, Lacks, MakesIf};
+ghost use Rattle.norprog_common.specs.FileStore.{Adds, Breaks, HasGone, LacksEarly, MakesIf};
+ghost use Rattle.norprog_common.specs.declared.faults.FileName.TheVariants.{Out};
 ghost use Rattle.norprog_common.specs.Told.{OrUsage};
 ghost use Rattle.norprog_script.specs.Answer.{IsScripted, RefusesScript, PrintsTally, CutsTally};
 ghost use Rattle.norprog_script.specs.Answer.{AnswersScript, done};
@@ -68,9 +69,10 @@ fn scripted_in<S: FileStore, O: ByteOut>(
         (O.held out.old) (O.held out.new)) }
     ensures first { IfErr result
         (OrUsage (is_well_formed given.entry)
-        (RefusesScript (Lacks (S.facts store.now) (paths_asked given.entry))
+        (RefusesScript (LacksEarly (S.facts store.now) (paths_asked given.entry) Out
+        (Adds (S.Journal.changes journal.old) (S.Journal.changes journal.new) []))
         (Breaks (S.facts store.now) (O.count out.old) (O.count out.new))
-        (Serves (S.facts store.now) given.entry))) }
+        (HasGone (S.facts store.now)) (Serves (S.facts store.now) given.entry))) }
 {
     let request = request_of(given).ok_or(Refusal::Usage)?;
     let tally = run_script(alloc, store, journal, request)?;
@@ -93,8 +95,10 @@ fn run_script<S: FileStore>(
     ensures written { IfOk result
         (IsScripted (IsTaskOf (S.facts store.now) request.entry) (S.facts store.now).flushed) }
     ensures refused { IfErr result
-        (RefusesScript (Lacks (S.facts store.now) (paths_of request.entry))
-        (S.facts store.now).broke (IsTaskOf (S.facts store.now) request.entry)) }
+        (RefusesScript (LacksEarly (S.facts store.now) (paths_of request.entry) Out
+        (Adds (S.Journal.changes journal.old) (S.Journal.changes journal.new) []))
+        (S.facts store.now).broke (HasGone (S.facts store.now))
+        (IsTaskOf (S.facts store.now) request.entry)) }
 {
     match request.chip {
         Some(setup) => run_listing(alloc, store, journal, setup, request),
@@ -117,8 +121,10 @@ fn run_listing<S: FileStore>(
     ensures written { IfOk result
         (IsScripted (IsTaskOf (S.facts store.now) request.entry) (S.facts store.now).flushed) }
     ensures refused { IfErr result
-        (RefusesScript (Lacks (S.facts store.now) (paths_of request.entry))
-        (S.facts store.now).broke (IsTaskOf (S.facts store.now) request.entry)) }
+        (RefusesScript (LacksEarly (S.facts store.now) (paths_of request.entry) Out
+        (Adds (S.Journal.changes journal.old) (S.Journal.changes journal.new) []))
+        (S.facts store.now).broke (HasGone (S.facts store.now))
+        (IsTaskOf (S.facts store.now) request.entry)) }
 {
     let mut places = Vec::new(alloc);
     let tables = noted_tables(alloc, store, setup.chip, &mut places)?;
@@ -151,8 +157,10 @@ fn run_log<S: FileStore>(
     ensures written { IfOk result
         (IsScripted (IsTaskOf (S.facts store.now) request.entry) (S.facts store.now).flushed) }
     ensures refused { IfErr result
-        (RefusesScript (Lacks (S.facts store.now) (paths_of request.entry))
-        (S.facts store.now).broke (IsTaskOf (S.facts store.now) request.entry)) }
+        (RefusesScript (LacksEarly (S.facts store.now) (paths_of request.entry) Out
+        (Adds (S.Journal.changes journal.old) (S.Journal.changes journal.new) []))
+        (S.facts store.now).broke (HasGone (S.facts store.now))
+        (IsTaskOf (S.facts store.now) request.entry)) }
 {
     let (log, place) = store.read(alloc, request.log, FileName::Log)?;
     let mut out = store.create(journal, alloc, request.out, FileName::Out, &[place])?;

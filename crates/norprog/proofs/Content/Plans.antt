@@ -1,5 +1,5 @@
 -- The lines of a plan, window after window.
-use Rattle.std.proofs.Common.{◌≡◌, ℕ, ◌+◌, ◌/◌, ◌%◌, ◌<◌, List, [], ◌++◌, length, take, drop, Option, Err, refl, sym, ◌∙◌, ap, subst, arith, inl, inr, length-append, min, ◌-◌, None, Some, option_map}
+use Rattle.std.proofs.Common.{◌≡◌, ◌⊎◌, ℕ, ◌+◌, ◌/◌, ◌%◌, ◌<◌, List, [], ◌++◌, length, take, drop, Option, Err, refl, sym, ◌∙◌, ap, subst, arith, inl, inr, length-append, min, ◌-◌, None, Some, option_map}
 use Rattle.std.specs.Prelude.{flat_map}
 use Rattle.std.specs.Io.KnownBytes.{Appends}
 use Rattle.std.proofs.Math.Nat.{zero-div}
@@ -34,7 +34,7 @@ use Rattle.nor_steps.specs.declared.fault.StepsFault.{StepsFault}
 use Rattle.nor_steps.specs.declared.fault.StepsFault.TheVariants as steps
 use Rattle.nor_steps.specs.declared.tally.Tally.{Tally}
 use Rattle.norprog.specs.Planner.{Planning, IsReady, IsPlannedPart, HasTold, GoesOn, CutsPlan, StopsPlanning}
-use Rattle.norprog.specs.Windows.{first_writing, lifted_steps, IsDone, IsCutPlan, BeginsText}
+use Rattle.norprog.specs.Windows.{first_writing, lifted_steps, AreRecent, CutCause, IsDone, IsCutPlan, BeginsText}
 use Rattle.norprog.proofs.Content.Places.{IsPlace, place_is, chip_pages, window_pages}
 use Rattle.norprog.proofs.Content.Stretches.{stretch_units_join, sound_join, work_none}
 use Rattle.norprog.proofs.Content.Targets.{part_left, part_right, target_of_parts, bytes_of_parts}
@@ -233,47 +233,59 @@ pub lines_two : (these more : List PlanLine) → lines_text (these ++ more) ≡ 
 lines_two these more = flat_map-append (λ (l : PlanLine). closed (line_words l)) these more
 
 -- some of the text of lines, from its beginning on
-begun_lines : (w : Writing) (have want : List ℕ) (these more : List PlanLine) (k : ℕ) → IsStretchPlan w.streaming.meaning w.streaming.by 0 have want (these ++ more)
-    → IsBegunText unit_outline w 0 have want (lines_text these ++ take k (lines_text more))
-begun_lines w have want these more k plan content target has has' =
-    let of = plan_text w 0 have want (these ++ more) plan content target has has' in
-    let front = lines_text these in
-    let text = lines_text more in
-    record {
-      rest = drop k text;
-      whole = of.are ∙ lines_two these more ∙ ap (λ rest. front ++ rest) (sym (take-append-drop k text)) ∙ sym (append_assoc front (take k text) (drop k text));
-      sound = of.sound;
-    }
+begun_lines : (w : Writing) (have want : List ℕ) (lines : List PlanLine) (front rest : List ℕ) → IsStretchPlan w.streaming.meaning w.streaming.by 0 have want lines
+    → lines_text lines ≡ front ++ rest → IsBegunText unit_outline w 0 have want front
+begun_lines w have want lines front rest plan is content target has has' =
+    let of = plan_text w 0 have want lines plan content target has has' in
+    record { rest = rest; whole = of.are ∙ is; sound = of.sound }
 
--- a writer that failed at the last window's lines
-pub written_cut : (p : Planning) (a b : Ahead) (x y z : Option (List ℕ)) (these more : List PlanLine) → IsReady p → HasTold p a b (these ++ more)
-    → Appends x y (lines_text these) → Cuts y z (lines_text more) → IsCutPlan p.job a b x z fault.Write
-written_cut p a b x y z these more ready its put cut =
+-- a writer stopped in the text of the lines so far
+cut_at : (p : Planning) (a b : Ahead) (x y : Option (List ℕ)) (lines : List PlanLine) (front rest : List ℕ) (why : BuildFault) → IsReady p → (its : HasTold p a b lines)
+    → lines_text lines ≡ front ++ rest → Appends x y front → CutCause p.job its.part b why → AreRecent p.job.meaning.size p.window (length its.part) (length its.part) why
+    → ((have want : List ℕ) → IsBegunText unit_outline (first_writing p.job) 0 have want front → BeginsText unit_outline (first_writing p.job) have want front why)
+    → IsCutPlan p.job a b x y why
+cut_at p a b x y lines front rest why ready its is put cause recent begins =
     let job = p.job in
     let w = first_writing job in
     let part = its.part in
     let read = length part in
     let all = sym (take_all read part (omega arith)) in
-    let text = lines_text these ++ take cut.0 (lines_text more) in
     record {
       part = part;
       within = omega (arith, its.size, ready.within);
       given = its.given;
-      cause = tt;
+      cause = cause;
       window = p.window;
       its_size = ready.window;
       known = read;
       windows = record {
         within = omega arith;
         whole = λ less. ap (λ n. n % p.window) its.size ∙ ready.aligned (omega (arith, less, its.size));
-        recent = refl;
+        recent = recent;
       };
-      bytes = text;
+      bytes = front;
       front = record {
         pages = ap (λ n. n % job.meaning.page) its.size ∙ ready_pages p ready;
         bytes = subst (λ (part : List ℕ). AreBytes (target_from job 0 part)) all its.bytes;
-        begun = subst (λ (part : List ℕ). BeginsText unit_outline w part (target_from job 0 part) text fault.Write) all
-            (begun_lines w part (target_from job 0 part) these more cut.0 its.plan);
+        begun = subst (λ (part : List ℕ). BeginsText unit_outline w part (target_from job 0 part) front why) all
+            (begins part (target_from job 0 part) (begun_lines w part (target_from job 0 part) lines front rest its.plan is));
       };
-      put = Appends-append x y z (lines_text these) (take cut.0 (lines_text more)) put cut.2;
+      put = put;
     }
+
+pub cut_anywhere : (p : Planning) (a b : Ahead) (x y : Option (List ℕ)) (lines : List PlanLine) (front rest : List ℕ) (why : BuildFault) → IsReady p → HasTold p a b lines
+    → lines_text lines ≡ front ++ rest → Appends x y front → (why ≡ fault.Write) ⊎ (why ≡ fault.Memory) → IsCutPlan p.job a b x y why
+cut_anywhere p a b x y lines front rest why ready its is put (inl write) =
+    subst (IsCutPlan p.job a b x y) (sym write) (cut_at p a b x y lines front rest fault.Write ready its is put tt refl (λ have want begun. begun))
+cut_anywhere p a b x y lines front rest why ready its is put (inr memory) =
+    subst (IsCutPlan p.job a b x y) (sym memory) (cut_at p a b x y lines front rest fault.Memory ready its is put tt (inl refl) (λ have want begun. begun))
+
+-- a writer that failed at the last window's lines
+pub written_cut : (p : Planning) (a b : Ahead) (x y z : Option (List ℕ)) (these more : List PlanLine) → IsReady p → HasTold p a b (these ++ more)
+    → Appends x y (lines_text these) → Cuts y z (lines_text more) → IsCutPlan p.job a b x z fault.Write
+written_cut p a b x y z these more ready its put cut =
+    let front = lines_text these in
+    let text = lines_text more in
+    let is : lines_text (these ++ more) ≡ (front ++ take cut.0 text) ++ drop cut.0 text =
+    lines_two these more ∙ ap (λ rest. front ++ rest) (sym (take-append-drop cut.0 text)) ∙ sym (append_assoc front (take cut.0 text) (drop cut.0 text)) in
+    cut_anywhere p a b x z (these ++ more) (front ++ take cut.0 text) (drop cut.0 text) fault.Write ready its is (Appends-append x y z front (take cut.0 text) put cut.2) (inl refl)

@@ -14,3 +14,9 @@ returns-in-Plan-clause-answer g c = rw c.in-Plan.is c.plan.ensures.answer
 
 pub returns-in-Run-clause-answer : goal.returns-in-Run-clause-answer
 returns-in-Run-clause-answer g c = rw c.in-Run.is c.run.ensures.answer
+
+pub returns-in-List-clause-answer : goal.returns-in-List-clause-answer
+returns-in-List-clause-answer g c = rw c.in-List.is (adds_none _ _ refl, c.list.ensures.answer)
+
+pub returns-in-Hex-clause-answer : goal.returns-in-Hex-clause-answer
+returns-in-Hex-clause-answer g c = rw c.in-Hex.is (refl, c.hex.ensures.answer)

@@ -2,12 +2,12 @@
 use Rattle.std.proofs.Common.{ap, inl, inr, refl, is_some, Some, option_map, ◌&&◌}
 use Rattle.nor_base.proofs.FaultLaws.{handed_on}
 use Rattle.norprog_common.proofs.ToldLemmas.{asked_wider, or_usage}
-use Rattle.norprog_common.specs.FileStore.{Breaks}
+use Rattle.norprog_common.specs.FileStore.{Breaks, HasGone}
 use Rattle.norprog_build.specs.Served.{asks_build, ServesBuild}
 use Rattle.norprog_build.specs.Answer.{IsReportOf}
 use Rattle.norprog_common.specs.Served.{Job, IsJobOf}
 use Rattle.norprog_common.specs.Strict.{Filled}
-use Rattle.norprog_build.proofs.AnswerLemmas.{rose, unsent}
+use Rattle.norprog_build.proofs.AnswerLemmas.{gone, rose}
 use Rattle.norprog_build.proofs.ServedLemmas.{build_filled, build_refused, build_asked}
 use Rattle.norprog_common.proofs.ServedLemmas.{no_job}
 use Rattle.norprog_build.proofs.command.report_build.Goals as goal
@@ -59,7 +59,7 @@ returns-clause-first g c =
     or_usage _ _ _ formed (
       inr (
         c.in_ok-report.report,
-        unsent (Filled c.args.given.job.strict (ServesBuild files c.args.given)) files.flushed c.in_ok-report.report
+        gone (Filled c.args.given.job.strict (ServesBuild files c.args.given)) files.flushed (HasGone files) c.in_ok-report.report (λ held sent. inl sent)
             (asked_wider Job (Filled c.in_ok-request.request.strict (IsJobOf files c.in_ok-request.request (Some c.in_ok-path.path.now))) (Filled c.args.given.job.strict (ServesBuild files c.args.given)) (IsReportOf files.flushed c.in_ok-report.report) wider c.in_ok-report.ensures.built),
       ),
       inr (rose _ _ c.in-Err.ensures.count),

@@ -1,16 +1,16 @@
 -- The report, or the fault, is that of the request's job.
-use Rattle.std.proofs.Common.{[], ap, Some, option_map, refl}
-use Rattle.norprog_common.specs.FileStore.{Adds, Lacks, tables_name}
-use Rattle.norprog_common.proofs.LackedLemmas.{lacks_at, lacks_own}
+use Rattle.std.proofs.Common.{[], inr, ap, Some, option_map, refl}
+use Rattle.norprog_common.specs.FileStore.{Adds, HasGone, Lacks, LacksEarly, tables_name}
+use Rattle.norprog_common.proofs.LackedLemmas.{lacks_at, lacks_output, lacks_own}
 use Rattle.norprog_common.proofs.JournalLemmas.{adds_none, made_anyway, output_made}
-use Rattle.norprog_common.proofs.StoreLemmas.{made_apart}
+use Rattle.norprog_common.proofs.StoreLemmas.{gone_out, made_apart}
 use Rattle.norprog_common.specs.Served.{IsJobOf, held_in, input_files_of, no_path, out_path, paths_of}
 use Rattle.nor_base.proofs.FaultLaws.{handed_on}
 use Rattle.norprog_common.specs.Strict.{Filled}
-use Rattle.norprog_build.specs.Answer.{HasGone, LacksEarly, RefusesBuild}
+use Rattle.norprog_build.specs.Answer.{RefusesBuild}
 use Rattle.norprog_common.specs.Chip.{origin_of}
 use Rattle.norprog_common.specs.declared.faults.FileName.TheVariants.{Out}
-use Rattle.norprog_build.proofs.AnswerLemmas.{build_broke, gone_out, untouched, out_lacks, report_of, refusal_of_build, empty_refused, file_refused}
+use Rattle.norprog_build.proofs.AnswerLemmas.{build_broke, report_of, refusal_of_build, empty_refused, file_refused}
 use Rattle.norprog_common.proofs.ServedLemmas.{job_of}
 use Rattle.norprog_build.proofs.command.run_build.Goals as goal
 
@@ -21,7 +21,7 @@ returns-clause-built g c =
     c.in_ok-script.ensures.made in
     let asked = job_of files c.args.request.now (Some c.args.path.now) c.inputs_of-inputs.result _ _ (Some _) (held_in c.in_ok-texts.texts)
     c.in_ok-texts.ensures.given c.inputs_of-inputs.ensures c.in_ok-texts.ensures.content made in
-    report_of (Filled c.args.request.now.strict (IsJobOf files c.args.request.now (Some c.args.path.now))) files.flushed _ _ _ _ _ _ c.build-answer.result c.flush-flushed.result _ (asked, c.in_ok-refuse_empty.ensures.filled)
+    report_of (Filled c.args.request.now.strict (IsJobOf files c.args.request.now (Some c.args.path.now))) files.flushed _ _ _ _ _ _ c.build-answer.result c.flush-flushed.result _ (asked, c.in-Ok.ensures.filled)
     c.build-answer.ensures.built c.flush-flushed.ensures.flushed c.done.ensures
 
 pub returns-clause-refused : goal.returns-clause-refused
@@ -34,20 +34,21 @@ returns-clause-refused g c =
     c.in_ok-texts.ensures.given c.inputs_of-inputs.ensures c.in_ok-texts.ensures.content made in
     let broke = build_broke files.broke _ _ c.build-answer.result c.flush-flushed.result c.build-answer.ensures.counts.1
     c.flush-flushed.ensures.whole c.flush-flushed.ensures.broke in
-    refusal_of_build c.args.request.now.strict (LacksEarly files (paths_of c.args.request.now (out_path (Some c.args.path.now))) (Adds (changes c.args.journal.now) (changes c.create.new.journal) [])) files.broke _ _ (HasGone files) (IsJobOf files c.args.request.now (Some c.args.path.now)) _ _ _ _ _ _ c.build-answer.result c.flush-flushed.result _ (asked, c.in_ok-refuse_empty.ensures.filled)
+    refusal_of_build c.args.request.now.strict (LacksEarly files (paths_of c.args.request.now (out_path (Some c.args.path.now))) Out (Adds (changes c.args.journal.now) (changes c.create.new.journal) [])) files.broke _ _ (HasGone files) (IsJobOf files c.args.request.now (Some c.args.path.now)) _ _ _ _ _ _ c.build-answer.result c.flush-flushed.result _ (asked, c.in-Ok.ensures.filled)
     c.build-answer.ensures.built c.build-answer.ensures.refused (ap g.S.Output.ByteOut.held)
     (gone_out files _ c.flush-flushed.result c.flush-flushed.ensures.flushed c.flush-flushed.ensures.broke) broke c.done.ensures
 
-pub returns-in_err-refuse_empty-clause-refused : goal.returns-in_err-refuse_empty-clause-refused
-returns-in_err-refuse_empty-clause-refused g c =
+pub returns-in-Err-clause-refused : goal.returns-in-Err-clause-refused
+returns-in-Err-clause-refused g c =
     let files = g.S.FileStore.facts c.args.store.now in
     let changes = g.S.Journal.Journal.changes in
     let made = made_apart files (input_files_of c.args.request.now) c.args.path.now _ _ _ _ c.new-places.ensures.items c.in_ok-texts.ensures.noted c.as_slice.ensures.value
     c.in_ok-script.ensures.made in
     let asked = job_of files c.args.request.now (Some c.args.path.now) c.inputs_of-inputs.result _ _ (Some _) (held_in c.in_ok-texts.texts)
     c.in_ok-texts.ensures.given c.inputs_of-inputs.ensures c.in_ok-texts.ensures.content made in
-    handed_on _ _ _ c.from_residual-in_err-refuse_empty.ensures.1
-    (empty_refused c.args.request.now.strict (LacksEarly files (paths_of c.args.request.now (out_path (Some c.args.path.now))) (Adds (changes c.args.journal.now) (changes c.create.new.journal) [])) files.broke (HasGone files) (IsJobOf files c.args.request.now (Some c.args.path.now)) _ _ asked c.in_err-refuse_empty.ensures.refused)
+    let gone = c.left.ensures.gone in
+    rw c.left.ensures.same
+    (empty_refused c.args.request.now.strict (LacksEarly files (paths_of c.args.request.now (out_path (Some c.args.path.now))) Out (Adds (changes c.args.journal.now) (changes c.create.new.journal) [])) files.broke (HasGone files) (IsJobOf files c.args.request.now (Some c.args.path.now)) _ _ (asked, gone) c.in-Err.ensures.refused)
 
 -- a file that couldn't be used is the one that its option names
 pub returns-in_err-texts-clause-refused : goal.returns-in_err-texts-clause-refused
@@ -58,11 +59,11 @@ returns-in_err-texts-clause-refused g c =
     let Asked = IsJobOf files request (Some c.args.path.now) in
     let changes = g.S.Journal.Journal.changes in
     let Nothing = Adds (changes c.args.journal.now) (changes c.args.journal.now) [] in
-    handed_on (RefusesBuild request.strict (LacksEarly files (paths_of request own) Nothing) files.broke (HasGone files) Asked) _ _ c.from_residual.ensures.1
-    (file_refused request.strict (Lacks files (paths_of request no_path)) (LacksEarly files (paths_of request own) Nothing) files.broke (HasGone files) Asked c.in_err-texts.field-0.0
+    handed_on (RefusesBuild request.strict (LacksEarly files (paths_of request own) Out Nothing) files.broke (HasGone files) Asked) _ _ c.from_residual.ensures.1
+    (file_refused request.strict (Lacks files (paths_of request no_path)) (LacksEarly files (paths_of request own) Out Nothing) files.broke (HasGone files) Asked c.in_err-texts.field-0.0
     (λ told lacks. (
       lacks_own files (Some request.hex.now) (option_map (λ t. t.now) request.layout) (tables_name (origin_of request.chip)) (Some request.content.now) own told lacks,
-      untouched Nothing (adds_none _ _ refl) told,
+      inr (adds_none _ _ refl),
     ))
     c.in_err-texts.ensures.lacked)
 
@@ -74,9 +75,9 @@ returns-in_err-script-clause-refused g c =
     let Asked = IsJobOf files request (Some c.args.path.now) in
     let changes = g.S.Journal.Journal.changes in
     let Nothing = Adds (changes c.args.journal.now) (changes c.create.new.journal) [] in
-    handed_on (RefusesBuild request.strict (LacksEarly files paths Nothing) files.broke (HasGone files) Asked) _ _ c.from_residual-in_err-script.ensures.1
-    (file_refused request.strict (LacksEarly files paths Nothing) (LacksEarly files paths Nothing) files.broke (HasGone files) Asked c.in_err-script.field-0.0 (λ told lacks. lacks)
-    (out_lacks (Lacks files paths) Nothing c.in_err-script.field-0.0 c.in_err-script.ensures.refused
+    handed_on (RefusesBuild request.strict (LacksEarly files paths Out Nothing) files.broke (HasGone files) Asked) _ _ c.from_residual-in_err-script.ensures.1
+    (file_refused request.strict (LacksEarly files paths Out Nothing) (LacksEarly files paths Out Nothing) files.broke (HasGone files) Asked c.in_err-script.field-0.0 (λ told lacks. lacks)
+    (lacks_output files paths Out Nothing c.in_err-script.field-0.0 c.in_err-script.ensures.refused
     (lacks_at files paths Out c.args.path.now c.in_err-script.field-0.0 refl c.in_err-script.ensures.refused c.in_err-script.ensures.lacked)))
 
 -- the output was made once, as none of the files that were opened before it

@@ -13,4 +13,4 @@ pub returns-clause-first : goal.returns-clause-first
 returns-clause-first g c =
     let asks : AsksFor c.args.given c.in_ok-request.request = search rules in
     let formed : is_well_formed c.args.given ≡ true = search rules in
-    refusals_asked (g.S.FileStore.facts c.args.store.now) c.args.given c.in_ok-request.request _ asks formed c.run_hex.ensures.refused
+    refusals_asked (g.S.FileStore.facts c.args.store.now) c.args.given c.in_ok-request.request _ _ _ asks formed c.run_hex.ensures.refused

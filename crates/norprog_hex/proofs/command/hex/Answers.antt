@@ -1,7 +1,9 @@
 -- What is answered is what the work came to.
-use Rattle.std.proofs.Common.{option_map, option_to_list}
-use Rattle.norprog_common.specs.FileStore.{Adds, Lacks}
+use Rattle.std.proofs.Common.{[], option_map, option_to_list}
+use Rattle.norprog_common.specs.FileStore.{Adds, HasGone, LacksEarly}
+use Rattle.norprog_common.specs.Reading.{HasFailed}
 use Rattle.norprog_common.specs.Told.{ForAsked}
+use Rattle.norprog_common.specs.declared.faults.FileName.TheVariants.{Out}
 use Rattle.norprog_hex.specs.Answer.{IsWritten, RefusesHex}
 use Rattle.norprog_hex.specs.Request.{is_well_formed}
 use Rattle.norprog_hex.specs.Served.{HexTask, Serves, ServesBin, paths_asked}
@@ -15,6 +17,6 @@ returns-clause-answer g c =
     let changes = g.S.Journal.Journal.changes in
     answer_is files (option_to_list (option_map (λ t. t.now) given.bin)) (option_map (λ t. t.now) given.out) (Adds (changes c.args.journal.now) (changes c.converted_in.new.journal))
     (is_well_formed given) (ForAsked HexTask (Serves files given) (IsWritten files.flushed)) _ _
-    (RefusesHex (Lacks files (paths_asked given)) files.broke (ServesBin files given) (Serves files given)) _ _ c.converted_in.result c.answered.result
+    (RefusesHex (LacksEarly files (paths_asked given) Out (Adds (changes c.args.journal.now) (changes c.converted_in.new.journal) [])) files.broke (HasFailed g.S.Input.ByteIn.ahead g.S.Input.ByteIn.count) (HasGone files) (ServesBin files given) (Serves files given)) _ _ c.converted_in.result c.answered.result
     c.converted_in.ensures.status c.converted_in.ensures.journal c.converted_in.ensures.written c.converted_in.ensures.asked c.converted_in.ensures.first
     c.converted_in.ensures.unmade c.answered.ensures.done c.answered.ensures.told

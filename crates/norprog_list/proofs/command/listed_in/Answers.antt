@@ -11,4 +11,4 @@ returns-in_err-run_list-clause-first g c =
     let asks : AsksFor c.args.given c.in_ok-request.request = search rules in
     let formed : is_well_formed c.args.given ≡ true = search rules in
     handed_on _ _ _ c.from_residual-in_err-run_list.ensures.1
-    (or_usage _ _ _ formed (refusal_asked (g.S.FileStore.facts c.args.store.now) c.args.given c.in_ok-request.request _ _ _ _ asks c.in_err-run_list.ensures.refused))
+    (or_usage _ _ _ formed (refusal_asked (g.S.FileStore.facts c.args.store.now) c.args.given c.in_ok-request.request _ _ _ _ _ asks c.in_err-run_list.ensures.refused))

@@ -3,13 +3,14 @@ use Rattle.std.proofs.Common.{ℕ, ◌<◌, refl, sym, subst}
 use Rattle.nor_base.specs.Device.{Ahead}
 use Rattle.norprog_common.specs.Chip.{origin_of}
 use Rattle.norprog_common.specs.FileStore.{AreTables, Lacks, tables_name}
+use Rattle.norprog_common.specs.Reading.{HasFailed}
 use Rattle.norprog_common.specs.declared.faults.FileName.TheVariants.{Sfdp, Script}
 use Rattle.nor_base.proofs.FaultLaws.{handed_on}
 use Rattle.norprog_common.proofs.LackedLemmas.{lacks_at, lacks_named}
 use Rattle.norprog_list.specs.Answer.{RefusesList}
 use Rattle.norprog_list.specs.Served.{IsTaskOf, paths_of}
 use Rattle.norprog_list.proofs.ServedLemmas.{file_refused}
-use Rattle.norprog_list.proofs.ListedLemmas.{refused_cut, all_printed, refused_so, asked_of}
+use Rattle.norprog_list.proofs.ListedLemmas.{all_blamed, refused_cut, all_printed, refused_so, asked_of}
 use Rattle.norprog_list.proofs.command.run_list.Given as given
 use Rattle.norprog_list.proofs.command.run_list.Goals as goal
 
@@ -29,7 +30,8 @@ returns-clause-unprinted g c =
 
 pub returns-clause-refused : goal.returns-clause-refused
 returns-clause-refused g c =
-    refused_so (IsTaskOf (g.S.FileStore.facts c.args.store.now) c.args.request) _ (asked g c _ _ c.in_ok-script.ensures.opened) _ _ _ _ _ _ _ c.list_script.ensures.counts.1 c.list_script.ensures.refused
+    refused_so (IsTaskOf (g.S.FileStore.facts c.args.store.now) c.args.request) _ (asked g c _ _ c.in_ok-script.ensures.opened) _ _ _ _ (HasFailed g.S.Input.ByteIn.ahead g.S.Input.ByteIn.count) _ _ _ c.list_script.ensures.counts.1 c.list_script.ensures.refused
+    (all_blamed g.S.Input.ByteIn.ahead g.S.Input.ByteIn.count _ _ c.list_script.ensures.gave c.list_script.result c.list_script.ensures.counts.0)
 
 -- a file that couldn't be used is the one that its option names
 pub returns-in_err-tables-clause-refused : goal.returns-in_err-tables-clause-refused
@@ -39,9 +41,10 @@ returns-in_err-tables-clause-refused g c =
     let Lacked = Lacks files (paths_of request) in
     let why = c.in_err-tables.field-0.0 in
     let out = g.O.ByteOut.held c.args.out.now in
+    let Failed = HasFailed g.S.Input.ByteIn.ahead g.S.Input.ByteIn.count in
     let Broke = g.O.ByteOut.count c.args.out.now < g.O.ByteOut.count c.args.out.now in
-    handed_on (RefusesList Lacked Broke (IsTaskOf files request) out out) _ _ c.from_residual.ensures.1
-    (file_refused Lacked Broke (IsTaskOf files request) out out why
+    handed_on (RefusesList Lacked Broke (IsTaskOf files request) Failed out out) _ _ c.from_residual.ensures.1
+    (file_refused Lacked Broke (IsTaskOf files request) Failed out out why
     (lacks_named files (paths_of request) Sfdp (tables_name (origin_of request.setup.chip)) why refl c.in_err-tables.ensures.refused c.in_err-tables.ensures.lacked))
 
 pub returns-in_err-script-clause-refused : goal.returns-in_err-script-clause-refused
@@ -51,7 +54,8 @@ returns-in_err-script-clause-refused g c =
     let Lacked = Lacks files (paths_of request) in
     let why = c.in_err-script.field-0.0 in
     let out = g.O.ByteOut.held c.args.out.now in
+    let Failed = HasFailed g.S.Input.ByteIn.ahead g.S.Input.ByteIn.count in
     let Broke = g.O.ByteOut.count c.args.out.now < g.O.ByteOut.count c.args.out.now in
-    handed_on (RefusesList Lacked Broke (IsTaskOf files request) out out) _ _ c.from_residual-in_err-script.ensures.1
-    (file_refused Lacked Broke (IsTaskOf files request) out out why
+    handed_on (RefusesList Lacked Broke (IsTaskOf files request) Failed out out) _ _ c.from_residual-in_err-script.ensures.1
+    (file_refused Lacked Broke (IsTaskOf files request) Failed out out why
     (lacks_at files (paths_of request) Script request.script.now why refl c.in_err-script.ensures.refused c.in_err-script.ensures.lacked))

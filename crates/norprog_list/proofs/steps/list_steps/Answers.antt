@@ -5,6 +5,8 @@ use Rattle.norprog_list.specs.Stop.{Lists}
 use Rattle.nor_script.specs.Stream.{reading, Advances, CountsStep}
 use Rattle.nor_script.proofs.StreamLaws.{has_begun, has_more}
 use Rattle.nor_base.proofs.FaultLaws.{answered}
+use Rattle.nor_job.proofs.TargetLemmas.{gives_none}
+use Rattle.norprog_common.proofs.ReadingLemmas.{header_gave, more_gave, step_gave}
 use Rattle.norprog_list.proofs.StepsLemmas.{unended_none, line_put, mode_next, lists_none, lists_header, lists_fault, lists_step, lists_all, lists_end_cut}
 use Rattle.norprog_list.proofs.steps.list_steps.Goals as goal
 
@@ -81,3 +83,39 @@ returns-clause-lists g c =
     let same : CountsStep c.loop-reader.reader.steps c.advance.new.self.steps (Ok false) = subst (λ b. CountsStep c.loop-reader.reader.steps c.advance.new.self.steps (Ok b)) c.if-branch.false c.in_ok-advance.ensures.number in
     lists_all c.args.meaning.now c.args.first (g.R.ByteIn.ahead c.args.script.now) (reading (g.R.ByteIn.ahead c.loop-reader.script) c.loop-reader.reader.held) (reading (g.R.ByteIn.ahead c.advance.new.source) c.advance.new.self.held) v.above c.loop-reader.reader.steps c.steps-2.result c.advance.new.self.step (g.W.ByteOut.held c.args.out.now) (g.W.ByteOut.held c.loop-reader.out) (g.W.ByteOut.held c.finish.new.out) v.read v.number
     (c.steps-2.ensures ∙ same ∙ v.number) read v.put c.in_ok-finish.ensures.bytes
+
+-- whatever stopped it, the script gave the beginning of what it had ahead
+pub returns-in_err-begin-clause-gave : goal.returns-in_err-begin-clause-gave
+returns-in_err-begin-clause-gave g c = ([], gives_none (g.R.ByteIn.ahead c.args.script.now))
+
+pub returns-in_err-reader-clause-gave : goal.returns-in_err-reader-clause-gave
+returns-in_err-reader-clause-gave g c = header_gave _ _ c.in_err-reader.field-0.0 c.in_err-reader.ensures.begun
+
+pub returns-in_err-advance-clause-gave : goal.returns-in_err-advance-clause-gave
+returns-in_err-advance-clause-gave g c =
+    step_gave _ (reading (g.R.ByteIn.ahead c.loop-reader.script) c.loop-reader.reader.held) (reading (g.R.ByteIn.ahead c.advance.new.source) c.advance.new.self.held)
+    c.loop-reader.invariant.above c.loop-reader.reader.steps c.advance.new.self.step c.in_err-advance.field-0.0 c.loop-reader.invariant.read c.in_err-advance.ensures.step
+
+pub returns-in_err-mode4-clause-gave : goal.returns-in_err-mode4-clause-gave
+returns-in_err-mode4-clause-gave g c =
+    let before = reading (g.R.ByteIn.ahead c.loop-reader.script) c.loop-reader.reader.held in
+    let after = reading (g.R.ByteIn.ahead c.advance.new.source) c.advance.new.self.held in
+    let read : Advances before after c.loop-reader.reader.steps c.advance.new.self.step (Ok true) =
+    subst (λ more. Advances before after c.loop-reader.reader.steps c.advance.new.self.step (Ok more)) c.if-branch.true c.in_ok-advance.ensures.step in
+    more_gave _ before after c.loop-reader.invariant.above _ c.loop-reader.invariant.read read.0
+
+pub returns-in_err-finish-clause-gave : goal.returns-in_err-finish-clause-gave
+returns-in_err-finish-clause-gave g c =
+    let before = reading (g.R.ByteIn.ahead c.loop-reader.script) c.loop-reader.reader.held in
+    let after = reading (g.R.ByteIn.ahead c.advance.new.source) c.advance.new.self.held in
+    let read : Advances before after c.loop-reader.reader.steps c.advance.new.self.step (Ok false) =
+    subst (λ more. Advances before after c.loop-reader.reader.steps c.advance.new.self.step (Ok more)) c.if-branch.false c.in_ok-advance.ensures.step in
+    more_gave _ before after c.loop-reader.invariant.above _ c.loop-reader.invariant.read read.0
+
+pub returns-clause-gave : goal.returns-clause-gave
+returns-clause-gave g c =
+    let before = reading (g.R.ByteIn.ahead c.loop-reader.script) c.loop-reader.reader.held in
+    let after = reading (g.R.ByteIn.ahead c.advance.new.source) c.advance.new.self.held in
+    let read : Advances before after c.loop-reader.reader.steps c.advance.new.self.step (Ok false) =
+    subst (λ more. Advances before after c.loop-reader.reader.steps c.advance.new.self.step (Ok more)) c.if-branch.false c.in_ok-advance.ensures.step in
+    more_gave _ before after c.loop-reader.invariant.above _ c.loop-reader.invariant.read read.0

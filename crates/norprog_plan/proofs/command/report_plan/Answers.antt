@@ -1,61 +1,53 @@
 -- The plan is of what the texts ask for.
-use Rattle.std.proofs.Common.{ap, inl, inr, option_map}
+use Rattle.std.proofs.Common.{[], option_map}
 use Rattle.nor_base.proofs.FaultLaws.{handed_on}
 use Rattle.norprog_plan.specs.Served.{asks_plan, shows_of, ServesPlan}
-use Rattle.norprog_common.specs.Strict.{Filled}
+use Rattle.norprog_plan.specs.Answer.{CutsPlan, RefusesPlan}
+use Rattle.norprog_common.specs.declared.faults.FileName.TheVariants.{Map}
+use Rattle.norprog_common.specs.FileStore.{Adds, Breaks, LacksEarly}
 use Rattle.norprog_common.specs.Served.{IsJobOf, map_path, paths_asked}
-use Rattle.norprog_common.specs.FileStore.{Breaks, Lacks}
-use Rattle.norprog_plan.proofs.AnswerLemmas.{whole_of, part_of_lines, whole_printed, whole_cut, whole_refused, lines_cut, lines_refused}
-use Rattle.norprog_plan.proofs.ServedLemmas.{plan_filled, plan_stops}
+use Rattle.norprog_common.specs.Strict.{Filled}
+use Rattle.norprog_common.specs.Told.{OrUsage}
 use Rattle.norprog_common.proofs.ServedLemmas.{is_formed, no_job}
+use Rattle.norprog_common.proofs.ToldLemmas.{or_usage}
+use Rattle.norprog_plan.proofs.AnswerLemmas.{cuts_wider, prints_wider}
+use Rattle.norprog_plan.proofs.ServedLemmas.{plan_filled, plan_refused}
 use Rattle.norprog_plan.proofs.command.report_plan.Goals as goal
 
-pub returns-in-Ok-clause-printed : goal.returns-in-Ok-clause-printed
-returns-in-Ok-clause-printed g c =
+pub returns-in_err-run_plan-clause-unprinted : goal.returns-in_err-run_plan-clause-unprinted
+returns-in_err-run_plan-clause-unprinted g c =
     let files = g.S.FileStore.facts c.args.store.now in
-    let wider = plan_filled files c.args.given c.request_of.result c.in_ok-request.request c.in_ok-request.ensures.ok_part c.request_of.ensures.values in
-    let whole = whole_of c.run_plan-lines.result.rest c.in-Ok.rest (λ rest. rest.items) files.flushed (shows_of c.args.given) (Filled c.in_ok-request.request.strict (IsJobOf files c.in_ok-request.request (option_map (λ t. t.now) c.args.given.map)))
-    _ _ _ c.in-Ok.is c.as_slice.ensures.value c.as_slice-in-Ok.ensures.value c.run_plan-lines.ensures.whole in
-    whole_printed files.flushed _ _ _ wider _ _ _ _ _ whole c.print_whole.ensures.printed
+    let request = c.in_ok-request.request in
+    let out = option_map (λ t. t.now) c.args.given.map in
+    let wider = plan_filled files c.args.given c.request_of.result request c.in_ok-request.ensures.ok_part c.request_of.ensures.values in
+    handed_on (λ _. CutsPlan files.flushed (shows_of c.args.given) (Filled c.args.given.job.strict (ServesPlan files c.args.given)) (g.O.ByteOut.held c.args.out.now) (g.O.ByteOut.held c.run_plan.new.out))
+    _ _ c.from_residual-in_err-run_plan.ensures.1
+    (cuts_wider files.flushed (shows_of c.args.given) (Filled request.strict (IsJobOf files request out)) (Filled c.args.given.job.strict (ServesPlan files c.args.given)) wider _ _
+    c.in_err-run_plan.ensures.unprinted)
 
-pub returns-in-Ok-clause-unprinted : goal.returns-in-Ok-clause-unprinted
-returns-in-Ok-clause-unprinted g c =
+pub returns-in_err-run_plan-clause-first : goal.returns-in_err-run_plan-clause-first
+returns-in_err-run_plan-clause-first g c =
     let files = g.S.FileStore.facts c.args.store.now in
-    let wider = plan_filled files c.args.given c.request_of.result c.in_ok-request.request c.in_ok-request.ensures.ok_part c.request_of.ensures.values in
-    let whole = whole_of c.run_plan-lines.result.rest c.in-Ok.rest (λ rest. rest.items) files.flushed (shows_of c.args.given) (Filled c.in_ok-request.request.strict (IsJobOf files c.in_ok-request.request (option_map (λ t. t.now) c.args.given.map)))
-    _ _ _ c.in-Ok.is c.as_slice.ensures.value c.as_slice-in-Ok.ensures.value c.run_plan-lines.ensures.whole in
-    whole_cut files.flushed _ _ _ wider _ _ _ _ _ whole c.print_whole.ensures.cut
+    let request = c.in_ok-request.request in
+    let x = g.O.ByteOut.held c.args.out.now in
+    let y = g.O.ByteOut.held c.run_plan.new.out in
+    let Broke = Breaks files (g.O.ByteOut.count c.args.out.now) (g.O.ByteOut.count c.run_plan.new.out) in
+    let Nothing = Adds (g.S.Journal.Journal.changes c.args.journal.now) (g.S.Journal.Journal.changes c.run_plan.new.journal) [] in
+    let formed = is_formed c.args.given.job c.request_of.result request c.in_ok-request.ensures.ok_part c.request_of.ensures.forms in
+    let Work = RefusesPlan c.args.given.job.strict (LacksEarly files (paths_asked c.args.given.job (map_path (option_map (λ t. t.now) c.args.given.map))) Map Nothing) Broke files.flushed (shows_of c.args.given)
+    (ServesPlan files c.args.given) x y in
+    handed_on (OrUsage (asks_plan c.args.given) Work) _ _ c.from_residual-in_err-run_plan.ensures.1
+    (or_usage (asks_plan c.args.given) Work c.in_err-run_plan.field-0.0 formed
+    (plan_refused files c.args.given Nothing c.request_of.result request c.in_ok-request.ensures.ok_part c.request_of.ensures.values Broke x y c.in_err-run_plan.field-0.0 c.in_err-run_plan.ensures.refused))
 
-pub returns-in-Ok-clause-first : goal.returns-in-Ok-clause-first
-returns-in-Ok-clause-first g c =
+pub returns-clause-printed : goal.returns-clause-printed
+returns-clause-printed g c =
     let files = g.S.FileStore.facts c.args.store.now in
-    let wider = plan_filled files c.args.given c.request_of.result c.in_ok-request.request c.in_ok-request.ensures.ok_part c.request_of.ensures.values in
-    let formed = is_formed c.args.given.job c.request_of.result c.in_ok-request.request c.in_ok-request.ensures.ok_part c.request_of.ensures.forms in
-    let whole = whole_of c.run_plan-lines.result.rest c.in-Ok.rest (λ rest. rest.items) files.flushed (shows_of c.args.given) (Filled c.in_ok-request.request.strict (IsJobOf files c.in_ok-request.request (option_map (λ t. t.now) c.args.given.map)))
-    _ _ _ c.in-Ok.is c.as_slice.ensures.value c.as_slice-in-Ok.ensures.value c.run_plan-lines.ensures.whole in
-    let Broke = Breaks files (g.O.ByteOut.count c.args.out.now) (g.O.ByteOut.count c.print_whole.new.out) in
-    whole_refused c.args.given.job.strict (Lacks files (paths_asked c.args.given.job (map_path (option_map (λ t. t.now) c.args.given.map)))) _ Broke (λ more. inr more) files.flushed _ _ (ServesPlan files c.args.given) wider _ _ _ _ _ _ formed whole c.print_whole.ensures.cut c.print_whole.ensures.failed
-
-pub returns-clause-unprinted : goal.returns-clause-unprinted
-returns-clause-unprinted g c =
-    let files = g.S.FileStore.facts c.args.store.now in
-    let wider = plan_filled files c.args.given c.request_of.result c.in_ok-request.request c.in_ok-request.ensures.ok_part c.request_of.ensures.values in
-    let part = part_of_lines c.run_plan-lines.result.rest c.in-Err.refusal (Filled c.in_ok-request.request.strict (IsJobOf files c.in_ok-request.request (option_map (λ t. t.now) c.args.given.map)))
-    _ _ c.in-Err.is c.as_slice-in-Err.ensures.value c.run_plan-lines.ensures.part in
-    lines_cut _ _ _ _ (λ same. ap g.O.ByteOut.held same) files.flushed (shows_of c.args.given) _ _ wider _ _ _ part c.print_lines.ensures
-
-pub returns-clause-first : goal.returns-clause-first
-returns-clause-first g c =
-    let files = g.S.FileStore.facts c.args.store.now in
-    let wider = plan_filled files c.args.given c.request_of.result c.in_ok-request.request c.in_ok-request.ensures.ok_part c.request_of.ensures.values in
-    let formed = is_formed c.args.given.job c.request_of.result c.in_ok-request.request c.in_ok-request.ensures.ok_part c.request_of.ensures.forms in
-    let part = part_of_lines c.run_plan-lines.result.rest c.in-Err.refusal (Filled c.in_ok-request.request.strict (IsJobOf files c.in_ok-request.request (option_map (λ t. t.now) c.args.given.map)))
-    _ _ c.in-Err.is c.as_slice-in-Err.ensures.value c.run_plan-lines.ensures.part in
-    let stops = rw c.in-Err.is at c.run_plan-lines.ensures.refused in
-    let asked = plan_stops files c.args.given c.request_of.result c.in_ok-request.request c.in_ok-request.ensures.ok_part c.request_of.ensures.values c.in-Err.refusal stops in
-    let Broke = Breaks files (g.O.ByteOut.count c.args.out.now) (g.O.ByteOut.count c.print_lines.new.out) in
-    lines_refused c.args.given.job.strict (Lacks files (paths_asked c.args.given.job (map_path (option_map (λ t. t.now) c.args.given.map)))) files.broke Broke _ _
-    (λ broke. inl broke) (λ more. inr more) _ _ files.flushed (shows_of c.args.given) _ (ServesPlan files c.args.given) wider _ _ _ _ formed part asked c.print_lines.ensures
+    let request = c.in_ok-request.request in
+    let out = option_map (λ t. t.now) c.args.given.map in
+    let wider = plan_filled files c.args.given c.request_of.result request c.in_ok-request.ensures.ok_part c.request_of.ensures.values in
+    prints_wider files.flushed (shows_of c.args.given) (Filled request.strict (IsJobOf files request out)) (Filled c.args.given.job.strict (ServesPlan files c.args.given)) wider _ _
+    c.in_ok-run_plan.ensures.printed
 
 pub returns-in_err-request-clause-first : goal.returns-in_err-request-clause-first
 returns-in_err-request-clause-first g c =

@@ -1,17 +1,25 @@
--- The chip and the lines are those of the plan.
-use Rattle.std.proofs.Common.{rules, ◌≡◌, ◌∙◌, sym, subst, IfOk}
-use Rattle.nor_job.specs.Status.{start_of}
-use Rattle.nor_job.specs.Wanted.{wanted}
-use Rattle.norprog_plan.specs.Answer.{PutsMap, read_lines}
+-- What is chosen is what the layout and the names choose.
+use Rattle.std.proofs.Common.{rules, ◌≡◌, ◌∙◌, ap, subst, None, Some, [], ℕ}
+use Rattle.nor_job.specs.Causes.{LayoutSays}
+use Rattle.nor_job.proofs.LayoutLemmas.{all_without_a_layout}
+use Rattle.nor_layout.specs.Chosen.{has, is_chosen}
+use Rattle.norprog_plan.proofs.DrawnLemmas.{puts}
 use Rattle.norprog_plan.proofs.drawing.draw.Goals as goal
 
-pub returns-clause-drawn : goal.returns-clause-drawn
-returns-clause-drawn g c report len ahead of =
+pub returns-in_default-clause-drawn : goal.returns-in_default-clause-drawn
+returns-in_default-clause-drawn g c lines image regions are of =
     let t = c.args.inputs.now in
-    let meant : of.planned.m ≡ c.in-Ok.meaning = search rules in
-    let read : c.in_ok-lines.lines.items ≡ read_lines of =
-    c.in_ok-lines.ensures.read of.planned.m (start_of t) of.planned.content (wanted t of.planned.image of.planned.regions of.planned.content) of.planned.workable of.planned.put in
-    let drawn = c.draw_lines.ensures.drawn of.planned.image of.planned.regions of.planned.accepted.named in
-    subst (λ m. IfOk c.draw_lines.result (λ x. PutsMap t m (read_lines of) c.args.rest.now (g.W.ByteOut.held c.args.out.now) (g.W.ByteOut.held c.draw_lines.new.out))) (sym meant)
-    (subst (λ ls. IfOk c.draw_lines.result (λ x. PutsMap t c.in-Ok.meaning ls c.args.rest.now (g.W.ByteOut.held c.args.out.now) (g.W.ByteOut.held c.draw_lines.new.out)))
-    (c.as_slice.ensures.value ∙ read) drawn)
+    let none : t.layout ≡ None = search rules in
+    let all = all_without_a_layout t image none of.imaged in
+    let empty : all.0 ≡ [] = subst (λ l. LayoutSays l all.0) none all.1.layout in
+    let whole : c.whole.result ≡ None = c.whole.ensures in
+    puts t c.args.meaning.now lines c.args.rest.now _ _ [] (has c.whole.result) _ (subst (λ rs. LayoutSays t.layout rs) empty all.1.layout)
+    (λ a. ap (λ set. has set a) whole ∙ (all.2 a ∙ ap (λ rs. is_chosen rs t.regions a) empty)) (c.put_map-in_default.ensures.drawn _ _ lines are)
+
+pub returns-clause-drawn : goal.returns-clause-drawn
+returns-clause-drawn g c lines image regions are of =
+    let t = c.args.inputs.now in
+    let some : t.layout ≡ Some c.in-Some.text.now = search rules in
+    let says : LayoutSays t.layout c.regions.result.now = search rules in
+    let same : (a : ℕ) → has c.in-Ok-choose.chosen a ≡ is_chosen c.regions.result.now t.regions a = search rules in
+    puts t c.args.meaning.now lines c.args.rest.now _ _ c.regions.result.now (has c.in-Ok-choose.chosen) _ says same (c.put_map-2.ensures.drawn _ _ lines are)

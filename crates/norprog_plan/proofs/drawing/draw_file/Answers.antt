@@ -5,8 +5,8 @@ use Rattle.norprog_plan.proofs.DrawnLemmas.{lacks_flushed}
 use Rattle.norprog_plan.proofs.drawing.draw_file.Goals as goal
 
 pub returns-in-Ok-clause-drawn : goal.returns-in-Ok-clause-drawn
-returns-in-Ok-clause-drawn g c report len ahead of =
-    let drawn = rw c.in_ok-drawn.was at c.draw-drawn.ensures.drawn report len ahead of in
+returns-in-Ok-clause-drawn g c lines image regions are of =
+    let drawn = rw c.in_ok-drawn.was at c.draw-drawn.ensures.drawn lines image regions are of in
     let flushed = rw c.in-Ok.is at c.flush-flushed.ensures.flushed in
     (_, drawn, flushed)
 

@@ -1,14 +1,14 @@
 -- What was played is of the chip, the content and the script of the request's files.
-use Rattle.std.proofs.Common.{List, ℕ, ◌<◌, Some, None, inl, inr, refl, sym, subst}
+use Rattle.std.proofs.Common.{List, [], ℕ, ◌<◌, Some, None, refl, sym, subst}
 use Rattle.norprog_common.specs.Chip.{origin_of}
-use Rattle.norprog_common.specs.FileStore.{AreTables, IsTextIn, IsTextOfFile, Lacks, tables_name}
+use Rattle.norprog_common.specs.FileStore.{Adds, AreTables, HasGone, IsTextIn, IsTextOfFile, LacksEarly, tables_name}
 use Rattle.norprog_common.specs.Served.{out_path}
 use Rattle.norprog_common.specs.declared.faults.FileName.TheVariants as file
-use Rattle.norprog_common.proofs.LackedLemmas.{lacks_at, lacks_named}
+use Rattle.norprog_common.proofs.LackedLemmas.{lacks_at, lacks_early, lacks_named}
+use Rattle.norprog_common.proofs.JournalLemmas.{adds_none}
 use Rattle.norprog_common.proofs.StoreLemmas.{text_in}
 use Rattle.norprog_common.specs.Reading.{FailsReading, FailsScript, HasFailed, IsTextRead}
 use Rattle.norprog_common.proofs.ReadingLemmas.{fails_in, read_in}
-use Rattle.norprog_common.specs.Told.{OrScript}
 use Rattle.nor_base.proofs.FaultLaws.{handed_on}
 use Rattle.norprog_run.specs.Answer.{RefusesRun}
 use Rattle.norprog_run.specs.Served.{IsTaskOf, paths_of}
@@ -35,9 +35,11 @@ returns-clause-refused g c =
     let tables = subst (AreTables files (origin_of request.setup.chip)) (sym c.as_slice.ensures.value) c.in_ok-sfdp.ensures.tables in
     let asked = asked_of files request c.setup_inputs-inputs.result request.bench _ _ c.in_ok-content.len None c.setup_inputs-inputs.ensures refl tables
     c.in_ok-content.ensures.opened (rw c.in-None.is tt) in
-    all_refused _ (OrScript (Lacks files (paths_of request)) (FailsReading files Failed request.script.now)) (0 < 0) files.broke (IsTaskOf files request) (IsTextRead ahead c.in_ok-script.script) (IsTextIn files request.script.now) Failed _ asked
-    (λ name is. inr (is.0, fails_in files request.script.now ahead Failed c.in_ok-script.script of is.1)) (λ more. absurd (never more))
-    (λ text is. read_in files request.script.now ahead c.in_ok-script.script text of is) c.play_file.result (c.play_file.ensures.refused None)
+    let changes = g.S.Journal.Journal.changes in
+    all_refused (LacksEarly files (paths_of request) file.Out (Adds (changes c.args.journal.now) (changes c.args.journal.now) [])) (0 < 0) files.broke (IsTaskOf files request) (IsTextRead ahead c.in_ok-script.script) (IsTextIn files request.script.now) Failed
+    (FailsScript ahead Failed c.in_ok-script.script) (FailsReading files Failed request.script.now) (HasGone files) _ _ _ asked (λ more. absurd (never more)) tt
+    (λ text is. read_in files request.script.now ahead c.in_ok-script.script text of is) (λ failed. fails_in files request.script.now ahead Failed c.in_ok-script.script of failed)
+    c.play_file.result (c.play_file.ensures.refused None)
 
 pub returns-in-Some-clause-played : goal.returns-in-Some-clause-played
 returns-in-Some-clause-played g c =
@@ -62,10 +64,12 @@ returns-in-Some-clause-refused g c =
     let noted = all_noted files request _ _ _ _ _ _ c.in_ok-sfdp.ensures.noted c.in_ok-content.ensures.stood c.in_ok-push.ensures.items c.in_ok-script.ensures.stood c.in_ok-push-2.ensures.items in
     let tasks = made_for files request c.in-Some.path.now _ c.setup_inputs-inputs.result request.bench _ _ c.in_ok-content.len c.setup_inputs-inputs.ensures refl tables
     c.in_ok-content.ensures.opened (λ held made. made_beside files request c.in-Some.path _ _ _ held c.in-Some.is c.new-places.ensures.items noted c.as_slice-in-Some.ensures.value made) in
-    refusals_wider (OrScript (Lacks files (out_path (Some c.in-Some.path.now))) (FailsScript ahead Failed c.in_ok-script.script)) (OrScript (Lacks files (paths_of request)) (FailsReading files Failed request.script.now)) files.broke _ (IsTaskOf files request) (IsTextRead ahead c.in_ok-script.script)
-    (IsTextIn files request.script.now) Failed
-    (λ name is. elim is [ inl lacked ↦ inl (out_lacks files request c.in-Some.path c.in-Some.is name lacked) | inr failed ↦ inr (failed.0, fails_in files request.script.now ahead Failed c.in_ok-script.script of failed.1) ])
-    tasks (λ text is. read_in files request.script.now ahead c.in_ok-script.script text of is) c.play_to.result c.play_to.ensures.refused
+    let changes = g.S.Journal.Journal.changes in
+    let Nothing = Adds (changes c.args.journal.now) (changes c.play_to.new.journal) [] in
+    refusals_wider (LacksEarly files (out_path (Some c.in-Some.path.now)) file.Out Nothing) (LacksEarly files (paths_of request) file.Out Nothing) files.broke _ (IsTaskOf files request) (IsTextRead ahead c.in_ok-script.script)
+    (IsTextIn files request.script.now) Failed (FailsScript ahead Failed c.in_ok-script.script) (FailsReading files Failed request.script.now) (HasGone files)
+    (λ name is. (out_lacks files request c.in-Some.path c.in-Some.is name is.0, is.1)) tasks (λ text is. read_in files request.script.now ahead c.in_ok-script.script text of is)
+    (λ failed. fails_in files request.script.now ahead Failed c.in_ok-script.script of failed) c.play_to.result c.play_to.ensures.refused
 
 pub returns-in-Some-clause-journal : goal.returns-in-Some-clause-journal
 returns-in-Some-clause-journal g c =
@@ -80,23 +84,44 @@ returns-clause-journal g c = none_made (g.S.FileStore.facts c.args.store.now) c.
 pub returns-in_err-sfdp-clause-refused : goal.returns-in_err-sfdp-clause-refused
 returns-in_err-sfdp-clause-refused g c =
     let files = g.S.FileStore.facts c.args.store.now in
+    let request = c.args.request in
     let Failed = HasFailed g.S.Input.ByteIn.ahead g.S.Input.ByteIn.count in
-    handed_on (RefusesRun (OrScript (Lacks files (paths_of c.args.request)) (FailsReading files Failed c.args.request.script.now)) files.broke (IsTaskOf files c.args.request) (IsTextIn files c.args.request.script.now) Failed) _ _ c.from_residual.ensures.1
-    (lacked_refused (Lacks files (paths_of c.args.request)) (FailsReading files Failed c.args.request.script.now) files.broke (IsTaskOf files c.args.request) (IsTextIn files c.args.request.script.now) Failed c.in_err-sfdp.field-0.0
-    (lacks_named files (paths_of c.args.request) file.Sfdp (tables_name (origin_of c.args.request.setup.chip)) c.in_err-sfdp.field-0.0 refl c.in_err-sfdp.ensures.refused c.in_err-sfdp.ensures.lacked))
+    let Lost = FailsReading files Failed request.script.now in
+    let changes = g.S.Journal.Journal.changes in
+    let Nothing = Adds (changes c.args.journal.now) (changes c.args.journal.now) [] in
+    let Told = LacksEarly files (paths_of request) file.Out Nothing in
+    let why = c.in_err-sfdp.field-0.0 in
+    handed_on (RefusesRun Told files.broke (IsTaskOf files request) (IsTextIn files request.script.now) Failed Lost (HasGone files)) _ _ c.from_residual.ensures.1
+    (lacked_refused Told files.broke (IsTaskOf files request) (IsTextIn files request.script.now) Failed Lost (HasGone files) why
+    (lacks_early files (paths_of request) file.Out Nothing why (adds_none _ _ refl)
+    (lacks_named files (paths_of request) file.Sfdp (tables_name (origin_of request.setup.chip)) why refl c.in_err-sfdp.ensures.refused c.in_err-sfdp.ensures.lacked)))
 
 pub returns-in_err-content-clause-refused : goal.returns-in_err-content-clause-refused
 returns-in_err-content-clause-refused g c =
     let files = g.S.FileStore.facts c.args.store.now in
+    let request = c.args.request in
     let Failed = HasFailed g.S.Input.ByteIn.ahead g.S.Input.ByteIn.count in
-    handed_on (RefusesRun (OrScript (Lacks files (paths_of c.args.request)) (FailsReading files Failed c.args.request.script.now)) files.broke (IsTaskOf files c.args.request) (IsTextIn files c.args.request.script.now) Failed) _ _ c.from_residual-in_err-content.ensures.1
-    (lacked_refused (Lacks files (paths_of c.args.request)) (FailsReading files Failed c.args.request.script.now) files.broke (IsTaskOf files c.args.request) (IsTextIn files c.args.request.script.now) Failed c.in_err-content.field-0.0
-    (lacks_at files (paths_of c.args.request) file.Content c.args.request.content.now c.in_err-content.field-0.0 refl c.in_err-content.ensures.refused c.in_err-content.ensures.lacked))
+    let Lost = FailsReading files Failed request.script.now in
+    let changes = g.S.Journal.Journal.changes in
+    let Nothing = Adds (changes c.args.journal.now) (changes c.args.journal.now) [] in
+    let Told = LacksEarly files (paths_of request) file.Out Nothing in
+    let why = c.in_err-content.field-0.0 in
+    handed_on (RefusesRun Told files.broke (IsTaskOf files request) (IsTextIn files request.script.now) Failed Lost (HasGone files)) _ _ c.from_residual-in_err-content.ensures.1
+    (lacked_refused Told files.broke (IsTaskOf files request) (IsTextIn files request.script.now) Failed Lost (HasGone files) why
+    (lacks_early files (paths_of request) file.Out Nothing why (adds_none _ _ refl)
+    (lacks_at files (paths_of request) file.Content request.content.now why refl c.in_err-content.ensures.refused c.in_err-content.ensures.lacked)))
 
 pub returns-in_err-script-clause-refused : goal.returns-in_err-script-clause-refused
 returns-in_err-script-clause-refused g c =
     let files = g.S.FileStore.facts c.args.store.now in
+    let request = c.args.request in
     let Failed = HasFailed g.S.Input.ByteIn.ahead g.S.Input.ByteIn.count in
-    handed_on (RefusesRun (OrScript (Lacks files (paths_of c.args.request)) (FailsReading files Failed c.args.request.script.now)) files.broke (IsTaskOf files c.args.request) (IsTextIn files c.args.request.script.now) Failed) _ _ c.from_residual-in_err-script.ensures.1
-    (lacked_refused (Lacks files (paths_of c.args.request)) (FailsReading files Failed c.args.request.script.now) files.broke (IsTaskOf files c.args.request) (IsTextIn files c.args.request.script.now) Failed c.in_err-script.field-0.0
-    (lacks_at files (paths_of c.args.request) file.Script c.args.request.script.now c.in_err-script.field-0.0 refl c.in_err-script.ensures.refused c.in_err-script.ensures.lacked))
+    let Lost = FailsReading files Failed request.script.now in
+    let changes = g.S.Journal.Journal.changes in
+    let Nothing = Adds (changes c.args.journal.now) (changes c.args.journal.now) [] in
+    let Told = LacksEarly files (paths_of request) file.Out Nothing in
+    let why = c.in_err-script.field-0.0 in
+    handed_on (RefusesRun Told files.broke (IsTaskOf files request) (IsTextIn files request.script.now) Failed Lost (HasGone files)) _ _ c.from_residual-in_err-script.ensures.1
+    (lacked_refused Told files.broke (IsTaskOf files request) (IsTextIn files request.script.now) Failed Lost (HasGone files) why
+    (lacks_early files (paths_of request) file.Out Nothing why (adds_none _ _ refl)
+    (lacks_at files (paths_of request) file.Script request.script.now why refl c.in_err-script.ensures.refused c.in_err-script.ensures.lacked)))

@@ -1,7 +1,7 @@
 -- Where only the line's writer failed, the play was one that was asked for.
-use Rattle.std.proofs.Common.{inl, inr}
+use Rattle.std.proofs.Common.{[], inl, inr}
 use Rattle.nor_base.proofs.FaultLaws.{handed_on}
-use Rattle.norprog_common.specs.FileStore.{Breaks}
+use Rattle.norprog_common.specs.FileStore.{Adds, Breaks}
 use Rattle.norprog_common.specs.Reading.{HasFailed}
 use Rattle.norprog_run.specs.Answer.{RefusesToRun}
 use Rattle.norprog_run.proofs.ServedLemmas.{late_refused, rose, told_wider}
@@ -11,7 +11,8 @@ pub returns-in-Err-clause-first : goal.returns-in-Err-clause-first
 returns-in-Err-clause-first g c =
     let files = g.S.FileStore.facts c.args.store.now in
     let Broke = Breaks files (g.O.ByteOut.count c.args.out.now) (g.O.ByteOut.count c.write_verdict.new.writer) in
-    late_refused files (HasFailed g.S.Input.ByteIn.ahead g.S.Input.ByteIn.count) c.args.given Broke c.in_ok-verdict.verdict (inr (rose _ _ c.in-Err.ensures.count)) c.in_ok-verdict.ensures.asked c.in_ok-verdict.ensures.played
+    let changes = g.S.Journal.Journal.changes in
+    late_refused files (HasFailed g.S.Input.ByteIn.ahead g.S.Input.ByteIn.count) c.args.given (Adds (changes c.args.journal.now) (changes c.verdict_of.new.journal) []) Broke c.in_ok-verdict.verdict (inr (rose _ _ c.in-Err.ensures.count)) c.in_ok-verdict.ensures.asked c.in_ok-verdict.ensures.played
 
 -- nothing was printed, so it was an output that was made that failed
 pub returns-in_err-verdict-clause-first : goal.returns-in_err-verdict-clause-first
@@ -19,5 +20,7 @@ returns-in_err-verdict-clause-first g c =
     let files = g.S.FileStore.facts c.args.store.now in
     let Failed = HasFailed g.S.Input.ByteIn.ahead g.S.Input.ByteIn.count in
     let Broke = Breaks files (g.O.ByteOut.count c.args.out.now) (g.O.ByteOut.count c.args.out.now) in
-    handed_on (RefusesToRun files Failed c.args.given Broke) _ _ c.from_residual.ensures.1
-    (told_wider files Failed c.args.given files.broke Broke (λ broke. inl broke) c.in_err-verdict.field-0.0 c.in_err-verdict.ensures.first)
+    let changes = g.S.Journal.Journal.changes in
+    let Nothing = Adds (changes c.args.journal.now) (changes c.verdict_of.new.journal) [] in
+    handed_on (RefusesToRun files Failed c.args.given Nothing Broke) _ _ c.from_residual.ensures.1
+    (told_wider files Failed c.args.given Nothing files.broke Broke (λ broke. inl broke) c.in_err-verdict.field-0.0 c.in_err-verdict.ensures.first)

@@ -12,7 +12,7 @@ returns-clause-played g c =
 pub returns-clause-first : goal.returns-clause-first
 returns-clause-first g c =
     let formed : is_well_formed c.args.given ≡ true = search rules in
-    refusals_asked (g.S.FileStore.facts c.args.store.now) c.args.given c.in_ok-request.request c.in_ok-request.ensures.values (HasFailed g.S.Input.ByteIn.ahead g.S.Input.ByteIn.count) _ formed c.play_request.ensures.refused
+    refusals_asked (g.S.FileStore.facts c.args.store.now) c.args.given c.in_ok-request.request c.in_ok-request.ensures.values (HasFailed g.S.Input.ByteIn.ahead g.S.Input.ByteIn.count) _ _ formed c.play_request.ensures.refused
 
 pub returns-clause-journal : goal.returns-clause-journal
 returns-clause-journal g c =

@@ -1,10 +1,11 @@
 -- What was written, or the fault, is that of the request.
-use Rattle.std.proofs.Common.{ap, refl, sym, subst}
+use Rattle.std.proofs.Common.{[], ap, refl, sym, subst}
 use Rattle.norprog_common.specs.Chip.{origin_of}
 use Rattle.nor_base.proofs.FaultLaws.{handed_on}
-use Rattle.norprog_common.specs.FileStore.{AreTables, Lacks, tables_name}
+use Rattle.norprog_common.proofs.JournalLemmas.{adds_none}
+use Rattle.norprog_common.specs.FileStore.{Adds, AreTables, HasGone, LacksEarly, tables_name}
 use Rattle.norprog_common.specs.declared.faults.FileName.TheVariants.{Sfdp, Log, Out}
-use Rattle.norprog_common.proofs.LackedLemmas.{lacks_at, lacks_named}
+use Rattle.norprog_common.proofs.LackedLemmas.{lacks_at, lacks_early, lacks_named, lacks_output}
 use Rattle.norprog_script.specs.Answer.{RefusesScript}
 use Rattle.norprog_script.specs.Served.{IsTaskOf, chip_name, paths_of}
 use Rattle.norprog_script.specs.Written.{listed}
@@ -16,7 +17,7 @@ returns-clause-written g c =
     let files = g.S.FileStore.facts c.args.store.now in
     let gave = subst (files.gave c.args.request.log.now) (sym c.as_slice-3.ensures.value) c.in_ok-listing.ensures.gave in
     let tables = subst (AreTables files (origin_of c.args.setup.chip)) (sym c.as_slice-2.ensures.value) c.in_ok-tables.ensures.tables in
-    done_is_written files c.args.request _ (listed c.setup_inputs-inputs.result) _ _ gave
+    done_is_written files (Unit {0}) c.args.request _ (listed c.setup_inputs-inputs.result) _ _ gave
     (of_listing files c.args.request c.args.setup _ c.setup_inputs-inputs.result c.requires tables c.setup_inputs-inputs.ensures)
     (apart_listing files c.args.request c.args.setup _ _ _ _ _ _ c.requires c.new-places.ensures.items c.in_ok-tables.ensures.noted c.in_ok-listing.ensures.stood
     c.in_ok-push.ensures.items c.as_slice.ensures.value c.in_ok-out.ensures.made) c.script_listing-answer.result
@@ -25,42 +26,49 @@ returns-clause-written g c =
 pub returns-clause-refused : goal.returns-clause-refused
 returns-clause-refused g c =
     let files = g.S.FileStore.facts c.args.store.now in
+    let changes = g.S.Journal.Journal.changes in
     let gave = subst (files.gave c.args.request.log.now) (sym c.as_slice-3.ensures.value) c.in_ok-listing.ensures.gave in
     let tables = subst (AreTables files (origin_of c.args.setup.chip)) (sym c.as_slice-2.ensures.value) c.in_ok-tables.ensures.tables in
-    done_is_refused files c.args.request _ (listed c.setup_inputs-inputs.result) _ _ gave
+    done_is_refused files (Adds (changes c.args.journal.now) (changes c.create.new.journal) []) c.args.request _ (listed c.setup_inputs-inputs.result) _ _ gave
     (of_listing files c.args.request c.args.setup _ c.setup_inputs-inputs.result c.requires tables c.setup_inputs-inputs.ensures)
     (apart_listing files c.args.request c.args.setup _ _ _ _ _ _ c.requires c.new-places.ensures.items c.in_ok-tables.ensures.noted c.in_ok-listing.ensures.stood
     c.in_ok-push.ensures.items c.as_slice.ensures.value c.in_ok-out.ensures.made) _ _ c.script_listing-answer.result
     c.flush-flushed.result _ c.script_listing-answer.ensures.written c.script_listing-answer.ensures.refused
-    c.in_ok-out.ensures.count c.script_listing-answer.ensures.count c.flush-flushed.ensures.whole c.flush-flushed.ensures.broke c.done.ensures
+    c.in_ok-out.ensures.count c.script_listing-answer.ensures.count c.flush-flushed.ensures.whole c.flush-flushed.ensures.flushed c.flush-flushed.ensures.broke c.done.ensures
 
 -- a file that couldn't be used is the one that its option names
 pub returns-in_err-tables-clause-refused : goal.returns-in_err-tables-clause-refused
 returns-in_err-tables-clause-refused g c =
     let files = g.S.FileStore.facts c.args.store.now in
     let request = c.args.request in
-    let Lacked = Lacks files (paths_of request) in
+    let changes = g.S.Journal.Journal.changes in
+    let Nothing = Adds (changes c.args.journal.now) (changes c.args.journal.now) [] in
+    let Lacked = LacksEarly files (paths_of request) Out Nothing in
     let why = c.in_err-tables.field-0.0 in
-    handed_on (RefusesScript Lacked files.broke (IsTaskOf files request)) _ _ c.from_residual.ensures.1
-    (file_refused Lacked files.broke (IsTaskOf files request) why
-    (lacks_named files (paths_of request) Sfdp (tables_name (origin_of c.args.setup.chip)) why (ap chip_name c.requires) c.in_err-tables.ensures.refused c.in_err-tables.ensures.lacked))
+    handed_on (RefusesScript Lacked files.broke (HasGone files) (IsTaskOf files request)) _ _ c.from_residual.ensures.1
+    (file_refused Lacked files.broke (HasGone files) (IsTaskOf files request) why
+    (lacks_early files (paths_of request) Out Nothing why (adds_none _ _ refl) (lacks_named files (paths_of request) Sfdp (tables_name (origin_of c.args.setup.chip)) why (ap chip_name c.requires) c.in_err-tables.ensures.refused c.in_err-tables.ensures.lacked)))
 
 pub returns-in_err-listing-clause-refused : goal.returns-in_err-listing-clause-refused
 returns-in_err-listing-clause-refused g c =
     let files = g.S.FileStore.facts c.args.store.now in
     let request = c.args.request in
-    let Lacked = Lacks files (paths_of request) in
+    let changes = g.S.Journal.Journal.changes in
+    let Nothing = Adds (changes c.args.journal.now) (changes c.args.journal.now) [] in
+    let Lacked = LacksEarly files (paths_of request) Out Nothing in
     let why = c.in_err-listing.field-0.0 in
-    handed_on (RefusesScript Lacked files.broke (IsTaskOf files request)) _ _ c.from_residual-in_err-listing.ensures.1
-    (file_refused Lacked files.broke (IsTaskOf files request) why
-    (lacks_at files (paths_of request) Log request.log.now why refl c.in_err-listing.ensures.refused c.in_err-listing.ensures.lacked))
+    handed_on (RefusesScript Lacked files.broke (HasGone files) (IsTaskOf files request)) _ _ c.from_residual-in_err-listing.ensures.1
+    (file_refused Lacked files.broke (HasGone files) (IsTaskOf files request) why
+    (lacks_early files (paths_of request) Out Nothing why (adds_none _ _ refl) (lacks_at files (paths_of request) Log request.log.now why refl c.in_err-listing.ensures.refused c.in_err-listing.ensures.lacked)))
 
 pub returns-in_err-out-clause-refused : goal.returns-in_err-out-clause-refused
 returns-in_err-out-clause-refused g c =
     let files = g.S.FileStore.facts c.args.store.now in
     let request = c.args.request in
-    let Lacked = Lacks files (paths_of request) in
+    let changes = g.S.Journal.Journal.changes in
+    let Nothing = Adds (changes c.args.journal.now) (changes c.create.new.journal) [] in
+    let Lacked = LacksEarly files (paths_of request) Out Nothing in
     let why = c.in_err-out.field-0.0 in
-    handed_on (RefusesScript Lacked files.broke (IsTaskOf files request)) _ _ c.from_residual-in_err-out.ensures.1
-    (file_refused Lacked files.broke (IsTaskOf files request) why
-    (lacks_at files (paths_of request) Out request.out.now why refl c.in_err-out.ensures.refused c.in_err-out.ensures.lacked))
+    handed_on (RefusesScript Lacked files.broke (HasGone files) (IsTaskOf files request)) _ _ c.from_residual-in_err-out.ensures.1
+    (file_refused Lacked files.broke (HasGone files) (IsTaskOf files request) why
+    (lacks_output files (paths_of request) Out Nothing why c.in_err-out.ensures.refused (lacks_at files (paths_of request) Out request.out.now why refl c.in_err-out.ensures.refused c.in_err-out.ensures.lacked)))

@@ -1,9 +1,10 @@
 -- What was written, or the fault, is that of the request.
 use Rattle.std.proofs.Common.{refl, sym, subst, [], ◌∷◌}
 use Rattle.nor_base.proofs.FaultLaws.{handed_on}
-use Rattle.norprog_common.specs.FileStore.{Lacks}
+use Rattle.norprog_common.proofs.JournalLemmas.{adds_none}
+use Rattle.norprog_common.specs.FileStore.{Adds, HasGone, LacksEarly}
 use Rattle.norprog_common.specs.declared.faults.FileName.TheVariants.{Log, Out}
-use Rattle.norprog_common.proofs.LackedLemmas.{lacks_at}
+use Rattle.norprog_common.proofs.LackedLemmas.{lacks_at, lacks_early, lacks_output}
 use Rattle.norprog_script.specs.Answer.{RefusesScript}
 use Rattle.norprog_script.specs.Served.{IsTaskOf, paths_of}
 use Rattle.norprog_script.specs.Written.{foreign}
@@ -14,36 +15,41 @@ pub returns-clause-written : goal.returns-clause-written
 returns-clause-written g c =
     let files = g.S.FileStore.facts c.args.store.now in
     let gave = subst (files.gave c.args.request.log.now) (sym c.as_slice.ensures.value) c.in_ok-log.ensures.gave in
-    done_is_written files c.args.request _ (foreign c.args.request.without_identity) _ _ gave (of_foreign files c.args.request c.requires)
+    done_is_written files (Unit {0}) c.args.request _ (foreign c.args.request.without_identity) _ _ gave (of_foreign files c.args.request c.requires)
     (apart_foreign files c.args.request _ c.requires (c.in_ok-log.place ∷ [], (c.in_ok-log.ensures.stood, tt), c.in_ok-out.ensures.made)) c.script_log-answer.result
     c.flush-flushed.result _ c.script_log-answer.ensures.written c.flush-flushed.ensures.flushed c.done.ensures
 
 pub returns-clause-refused : goal.returns-clause-refused
 returns-clause-refused g c =
     let files = g.S.FileStore.facts c.args.store.now in
+    let changes = g.S.Journal.Journal.changes in
     let gave = subst (files.gave c.args.request.log.now) (sym c.as_slice.ensures.value) c.in_ok-log.ensures.gave in
-    done_is_refused files c.args.request _ (foreign c.args.request.without_identity) _ _ gave (of_foreign files c.args.request c.requires)
+    done_is_refused files (Adds (changes c.args.journal.now) (changes c.create.new.journal) []) c.args.request _ (foreign c.args.request.without_identity) _ _ gave (of_foreign files c.args.request c.requires)
     (apart_foreign files c.args.request _ c.requires (c.in_ok-log.place ∷ [], (c.in_ok-log.ensures.stood, tt), c.in_ok-out.ensures.made)) _ _ c.script_log-answer.result
     c.flush-flushed.result _ c.script_log-answer.ensures.written c.script_log-answer.ensures.refused
-    c.in_ok-out.ensures.count c.script_log-answer.ensures.count c.flush-flushed.ensures.whole c.flush-flushed.ensures.broke c.done.ensures
+    c.in_ok-out.ensures.count c.script_log-answer.ensures.count c.flush-flushed.ensures.whole c.flush-flushed.ensures.flushed c.flush-flushed.ensures.broke c.done.ensures
 
 -- a file that couldn't be used is the one that its option names
 pub returns-in_err-log-clause-refused : goal.returns-in_err-log-clause-refused
 returns-in_err-log-clause-refused g c =
     let files = g.S.FileStore.facts c.args.store.now in
     let request = c.args.request in
-    let Lacked = Lacks files (paths_of request) in
+    let changes = g.S.Journal.Journal.changes in
+    let Nothing = Adds (changes c.args.journal.now) (changes c.args.journal.now) [] in
+    let Lacked = LacksEarly files (paths_of request) Out Nothing in
     let why = c.in_err-log.field-0.0 in
-    handed_on (RefusesScript Lacked files.broke (IsTaskOf files request)) _ _ c.from_residual.ensures.1
-    (file_refused Lacked files.broke (IsTaskOf files request) why
-    (lacks_at files (paths_of request) Log request.log.now why refl c.in_err-log.ensures.refused c.in_err-log.ensures.lacked))
+    handed_on (RefusesScript Lacked files.broke (HasGone files) (IsTaskOf files request)) _ _ c.from_residual.ensures.1
+    (file_refused Lacked files.broke (HasGone files) (IsTaskOf files request) why
+    (lacks_early files (paths_of request) Out Nothing why (adds_none _ _ refl) (lacks_at files (paths_of request) Log request.log.now why refl c.in_err-log.ensures.refused c.in_err-log.ensures.lacked)))
 
 pub returns-in_err-out-clause-refused : goal.returns-in_err-out-clause-refused
 returns-in_err-out-clause-refused g c =
     let files = g.S.FileStore.facts c.args.store.now in
     let request = c.args.request in
-    let Lacked = Lacks files (paths_of request) in
+    let changes = g.S.Journal.Journal.changes in
+    let Nothing = Adds (changes c.args.journal.now) (changes c.create.new.journal) [] in
+    let Lacked = LacksEarly files (paths_of request) Out Nothing in
     let why = c.in_err-out.field-0.0 in
-    handed_on (RefusesScript Lacked files.broke (IsTaskOf files request)) _ _ c.from_residual-in_err-out.ensures.1
-    (file_refused Lacked files.broke (IsTaskOf files request) why
-    (lacks_at files (paths_of request) Out request.out.now why refl c.in_err-out.ensures.refused c.in_err-out.ensures.lacked))
+    handed_on (RefusesScript Lacked files.broke (HasGone files) (IsTaskOf files request)) _ _ c.from_residual-in_err-out.ensures.1
+    (file_refused Lacked files.broke (HasGone files) (IsTaskOf files request) why
+    (lacks_output files (paths_of request) Out Nothing why c.in_err-out.ensures.refused (lacks_at files (paths_of request) Out request.out.now why refl c.in_err-out.ensures.refused c.in_err-out.ensures.lacked)))

@@ -1,2 +1,0 @@
-mod NumberLemmas
-mod LineLemmas
