@@ -1,5 +1,6 @@
 -- The job of a request is the one that the texts ask for.
 use Rattle.std.proofs.Common.{◌≡◌, ◌∙◌, ap, sym, subst, Bool, true, is_some, option_map, Option, Some, IfSome, List, ℕ}
+use Rattle.nor_base.specs.Device.{Ahead}
 use Rattle.norprog_common.specs.FileStore.{FileFacts, HasGone, LacksEarly}
 use Rattle.norprog_common.specs.declared.given.BuildArgs.{BuildArgs}
 use Rattle.norprog_common.specs.declared.request.Request.{Request}
@@ -33,15 +34,15 @@ same_files files given Nothing o request path some asks out =
     early_same files (paths_of request (out_path (Some path))) (paths_asked given.job (out_path (option_map (λ t. t.now) given.out))) Out Nothing
     (paths_are given.job request (out_path (Some path)) (asks_of given.job o request some asks) ∙ ap (λ (named : Option (List ℕ)). paths_asked given.job (out_path named)) (sym out))
 
-pub build_refused : (files : FileFacts) (given : BuildArgs) (Broke Nothing : Type 0) (o : Option Request) (request : Request) (path : List ℕ) → (files.broke → Broke) → o ≡ Some request
+pub build_refused : (files : FileFacts) (Failed : Ahead → Type 0) (given : BuildArgs) (Broke Nothing : Type 0) (o : Option Request) (request : Request) (path : List ℕ) → (files.broke → Broke) → o ≡ Some request
     → IfSome o (AsksFor given.job) → option_map (λ t. t.now) given.out ≡ Some path → (why : Refusal)
-    → RefusesBuild request.strict (LacksEarly files (paths_of request (out_path (Some path))) Out Nothing) files.broke (HasGone files) (IsJobOf files request (Some path)) why
-    → RefusesBuild given.job.strict (LacksEarly files (paths_asked given.job (out_path (option_map (λ t. t.now) given.out))) Out Nothing) Broke (HasGone files) (ServesBuild files given) why
-build_refused files given Broke Nothing o request path broken some asks out why of =
+    → RefusesBuild request.strict (LacksEarly files (paths_of request (out_path (Some path))) Out Nothing) files.broke (HasGone files) Failed (IsJobOf files request (Some path)) why
+    → RefusesBuild given.job.strict (LacksEarly files (paths_asked given.job (out_path (option_map (λ t. t.now) given.out))) Out Nothing) Broke (HasGone files) Failed (ServesBuild files given) why
+build_refused files Failed given Broke Nothing o request path broken some asks out why of =
     let Lacked = LacksEarly files (paths_of request (out_path (Some path))) Out Nothing in
-    build_wider given.job.strict Lacked (LacksEarly files (paths_asked given.job (out_path (option_map (λ t. t.now) given.out))) Out Nothing) files.broke Broke (HasGone files) (IsJobOf files request (Some path))
+    build_wider given.job.strict Lacked (LacksEarly files (paths_asked given.job (out_path (option_map (λ t. t.now) given.out))) Out Nothing) files.broke Broke (HasGone files) Failed (IsJobOf files request (Some path))
     (ServesBuild files given) (same_files files given Nothing o request path some asks out) broken (build_serves files given o request path some asks out) why
-    (subst (λ (strict : Bool). RefusesBuild strict Lacked files.broke (HasGone files) (IsJobOf files request (Some path)) why) (asks_of given.job o request some asks).strict of)
+    (subst (λ (strict : Bool). RefusesBuild strict Lacked files.broke (HasGone files) Failed (IsJobOf files request (Some path)) why) (asks_of given.job o request some asks).strict of)
 
 pub build_asked : (given : BuildArgs) (o : Option Request) (request : Request) (path : List ℕ) → o ≡ Some request → is_some o ≡ is_well_formed given.job
     → option_map (λ t. t.now) given.out ≡ Some path → asks_build given ≡ true

@@ -9,6 +9,7 @@ ghost use Rattle.norprog_build.specs.Answer.{IsBuildReport, RefusesBuild, Prints
 ghost use Rattle.norprog_build.specs.Answer.{AnswersBuild, done};
 ghost use Rattle.norprog_common.specs.FileStore.{Adds, Breaks, HasGone, LacksEarly, MakesIf};
 ghost use Rattle.norprog_common.specs.declared.faults.FileName.TheVariants.{Out};
+ghost use Rattle.norprog_common.specs.Reading.{HasFailed};
 ghost use Rattle.norprog_common.specs.Served.{IsJobOf, MakesFor, MayMakeFor, input_files_of};
 ghost use Rattle.norprog_common.specs.Served.{out_path, paths_asked, paths_of};
 ghost use Rattle.norprog_common.specs.Strict.{Filled};
@@ -36,7 +37,8 @@ pub fn build<S: FileStore, O: ByteOut, E: ByteOut>(
     requires err { E.count err.old < 2 ^ 64 - 1 }
     ensures status { result ≤ 2 }
     ensures quiet { result ≡ 0 → err.new ≡ err.old }
-    ensures answer { AnswersBuild (S.facts store.now) given.entry
+    ensures answer { AnswersBuild (S.facts store.now) (HasFailed S.Input.ahead S.Input.count)
+        given.entry
         (Adds (S.Journal.changes journal.old) (S.Journal.changes journal.new))
         (Breaks (S.facts store.now) (O.count out.old) (O.count out.new))
         (O.held out.old) (O.held out.new) (err.new ≡ err.old)
@@ -78,7 +80,8 @@ fn report_build<S: FileStore, O: ByteOut>(
         (paths_asked given.entry.job (out_path (option_map (λ t. t.now) given.entry.out))) Out
         (Adds (S.Journal.changes journal.old) (S.Journal.changes journal.new) []))
         (Breaks (S.facts store.now) (O.count out.old) (O.count out.new))
-        (HasGone (S.facts store.now)) (ServesBuild (S.facts store.now) given.entry))) }
+        (HasGone (S.facts store.now)) (HasFailed S.Input.ahead S.Input.count)
+        (ServesBuild (S.facts store.now) given.entry))) }
 {
     let request = request_of(given.job).ok_or(Refusal::Usage)?;
     let path = given.out.ok_or(Refusal::Usage)?;
@@ -107,6 +110,7 @@ fn run_build<S: FileStore>(
         (LacksEarly (S.facts store.now) (paths_of request.now (out_path (Some path.now))) Out
         (Adds (S.Journal.changes journal.old) (S.Journal.changes journal.new) []))
         (S.facts store.now).broke (HasGone (S.facts store.now))
+        (HasFailed S.Input.ahead S.Input.count)
         (IsJobOf (S.facts store.now) request.now (Some path.now))) }
 {
     let mut places = Vec::new(alloc);

@@ -35,9 +35,9 @@ use Rattle.norprog_script.specs.Answer.{AnswersScript}
 -- journal changes none, and makes no output
 abbrev pub AnswersTo : FileFacts → (Ahead → Type 0) → (List Change → Type 0) → Type 0 → Asked → Option (List ℕ) → Option (List ℕ) → Type 0 → Type 0 → Option (List ℕ) → Option (List ℕ) → ℕ → Type 0
 AnswersTo files Failed Made Unprinted (command.Build given) before after Quiet Works told_before told_after status =
-    AnswersBuild files given Made (files.broke ⊎ Unprinted) before after Quiet Works told_before told_after status
+    AnswersBuild files Failed given Made (files.broke ⊎ Unprinted) before after Quiet Works told_before told_after status
 AnswersTo files Failed Made Unprinted (command.Plan given) before after Quiet Works told_before told_after status =
-    AnswersPlan files given Made (files.broke ⊎ Unprinted) before after Quiet Works told_before told_after status
+    AnswersPlan files Failed given Made (files.broke ⊎ Unprinted) before after Quiet Works told_before told_after status
 AnswersTo files Failed Made Unprinted (command.Check given) before after Quiet Works told_before told_after status =
     Made [] × AnswersCheck files Failed given Unprinted before after Quiet Works told_before told_after status
 AnswersTo files Failed Made Unprinted (command.Run given) before after Quiet Works told_before told_after status =

@@ -4,7 +4,7 @@ use Rattle.std.specs.Io.KnownBytes.{Appends}
 use Rattle.nor_base.specs.Device.{Ahead, Cuts}
 use Rattle.nor_base.specs.Parameters.{Parameters}
 use Rattle.nor_job.specs.declared.fault.BuildFault.{BuildFault}
-use Rattle.nor_job.specs.declared.fault.BuildFault.TheVariants.{Memory, Write}
+use Rattle.nor_job.specs.declared.fault.BuildFault.TheVariants.{Memory, Read, Write}
 use Rattle.nor_job.specs.Causes.{LayoutSays, RefusesInputs}
 use Rattle.nor_job.specs.Status.{start_of}
 use Rattle.nor_job.specs.Task.{Task, Origin, Sfdp, Uniform}
@@ -134,15 +134,21 @@ pub record FailsToPrint (Sent : Option (List ℕ) → Type 0) (shows : Shows) (A
   pub of : ForAsked Job Asked (IsTold Sent shows bytes)
   pub put : Cuts before after bytes
 
--- the inputs of the job are refused, or its plan stopped
-pub record StopsPlanOf (why : BuildFault) (j : Job) : Type 0 where
+-- that a reading of the content failed is reported only where its reader has failed
+abbrev pub BlamesReader : Type 0 → BuildFault → Type 0
+BlamesReader Failed Read = Failed
+BlamesReader Failed other = ⊤
+
+-- the inputs of the job are refused, or its plan stopped; `Failed`: a reader that had this ahead has failed
+pub record StopsPlanOf (Failed : Ahead → Type 0) (why : BuildFault) (j : Job) : Type 0 where
   pub behind : Ahead
   pub before : Option (List ℕ)
   pub after : Option (List ℕ)
   pub refused : RefusesInputs j.task j.len why ⊎ StopsPlan j.task j.len j.content behind before after why
+  pub blamed : BlamesReader (Failed j.content) why
 
-abbrev pub IsPlanFault : (Job → Type 0) → BuildFault → Type 0
-IsPlanFault Asked why = ForAsked Job Asked (StopsPlanOf why)
+abbrev pub IsPlanFault : (Ahead → Type 0) → (Job → Type 0) → BuildFault → Type 0
+IsPlanFault Failed Asked why = ForAsked Job Asked (StopsPlanOf Failed why)
 
 -- the plan of the job was told, and it has an output for a picture, which was not taken or didn't go out
 abbrev pub IsUndrawn : Job → Type 0
@@ -156,27 +162,28 @@ abbrev pub LacksMap : Bool → Type 0 → Refusal → Type 0
 LacksMap drawn Broke why = (why ≡ Build Memory) ⊎ ((drawn ≡ true) × (why ≡ Build Write) × Broke)
 
 -- why the plan of a job isn't told; `Broke`: an output failed
-abbrev pub StopsPrinting : Type 0 → (Option (List ℕ) → Type 0) → Shows → Job → Option (List ℕ) → Option (List ℕ) → Refusal → Type 0
-StopsPrinting Broke Sent shows j before after =
-    RefusesFor (λ name. ⊥) Broke (OfFault (IsPlanFault (Is j))) (FailsToDraw (Is j) ⊎ FailsToPrint Sent shows (Is j) before after)
+abbrev pub StopsPrinting : Type 0 → (Ahead → Type 0) → (Option (List ℕ) → Type 0) → Shows → Job → Option (List ℕ) → Option (List ℕ) → Refusal → Type 0
+StopsPrinting Broke Failed Sent shows j before after =
+    RefusesFor (λ name. ⊥) Broke (OfFault (IsPlanFault Failed (Is j))) (FailsToDraw (Is j) ⊎ FailsToPrint Sent shows (Is j) before after)
 
 -- the same of a plan that was asked for; where a job may be strict the first chosen region without a byte of the image is told, and of a
 -- plan that went further each has one
-abbrev pub RefusesPlan : Bool → (FileName → Type 0) → Type 0 → (Option (List ℕ) → Type 0) → Shows → (Job → Type 0) → Option (List ℕ) → Option (List ℕ) → Refusal → Type 0
-RefusesPlan strict Lacked Broke Sent shows Asked before after =
-    RefusesFor Lacked Broke (OrEmpty strict Asked (OfFault (IsPlanFault (Filled strict Asked))))
+abbrev pub RefusesPlan : Bool → (FileName → Type 0) → Type 0 → (Ahead → Type 0) → (Option (List ℕ) → Type 0) → Shows → (Job → Type 0) → Option (List ℕ) → Option (List ℕ) → Refusal → Type 0
+RefusesPlan strict Lacked Broke Failed Sent shows Asked before after =
+    RefusesFor Lacked Broke (OrEmpty strict Asked (OfFault (IsPlanFault Failed (Filled strict Asked))))
     (FailsToDraw (Filled strict Asked) ⊎ FailsToPrint Sent shows (Filled strict Asked) before after)
 
--- what `plan` answers to the texts of a command line, where `Made` says which changes it made, and `Broke` that an output failed: the
+-- what `plan` answers to the texts of a command line, where `Made` says which changes it made, `Failed` that a reader that had this
+-- ahead has failed, and `Broke` that an output has: the
 -- lines and the report at status 0, where the picture has gone out if one is asked for, and just its file was made; or a refusal,
 -- and at most that was, nothing where the texts ask for no plan
-abbrev pub AnswersPlan : FileFacts → PlanArgs → (List Change → Type 0) → Type 0 → Option (List ℕ) → Option (List ℕ) → Type 0 → Type 0 → Option (List ℕ) → Option (List ℕ) → ℕ → Type 0
-AnswersPlan files given Made Broke before after Quiet Works told_before told_after status =
+abbrev pub AnswersPlan : FileFacts → (Ahead → Type 0) → PlanArgs → (List Change → Type 0) → Type 0 → Option (List ℕ) → Option (List ℕ) → Type 0 → Type 0 → Option (List ℕ) → Option (List ℕ) → ℕ → Type 0
+AnswersPlan files Failed given Made Broke before after Quiet Works told_before told_after status =
     Answers (asks_plan given)
     ((status ≡ 0) × PrintsPlan files.flushed (shows_of given) (Filled given.job.strict (ServesPlan files given)) before after
     × MakesFor files given.job (option_map (λ t. t.now) given.map) Made × Quiet)
     (CutsPlan files.flushed (shows_of given) (Filled given.job.strict (ServesPlan files given)) before after
     × (MayMakeFor files given.job (option_map (λ t. t.now) given.map) Made × (asks_plan given ≡ false → Made [])))
-    (RefusesPlan given.job.strict (LacksEarly files (paths_asked given.job (map_path (option_map (λ t. t.now) given.map))) Map (Made [])) Broke files.flushed (shows_of given)
+    (RefusesPlan given.job.strict (LacksEarly files (paths_asked given.job (map_path (option_map (λ t. t.now) given.map))) Map (Made [])) Broke Failed files.flushed (shows_of given)
     (ServesPlan files given) before after)
     Works told_before told_after status

@@ -11,6 +11,7 @@ ghost use Rattle.norprog_common.specs.Strict.{Filled};
 ghost use Rattle.norprog_common.specs.Told.{OrUsage};
 ghost use Rattle.norprog_plan.specs.Served.{asks_plan, shows_of, ServesPlan};
 ghost use Rattle.norprog_plan.specs.Answer.{AnswersPlan, CutsPlan, PrintsPlan, RefusesPlan};
+ghost use Rattle.norprog_common.specs.Reading.{HasFailed};
 ghost use Rattle.norprog_common.specs.Served.{IsJobOf, AreGiven, held_in, input_files_of};
 ghost use Rattle.norprog_common.specs.Served.{map_path, paths_asked, paths_of};
 ghost use Rattle.norprog_common.specs.Served.{MakesFor, MayMakeFor};
@@ -39,7 +40,8 @@ pub fn plan<S: FileStore, O: ByteOut, E: ByteOut>(
     requires err { E.count err.old < 2 ^ 64 - 1 }
     ensures status { result ≤ 2 }
     ensures quiet { result ≡ 0 → err.new ≡ err.old }
-    ensures answer { AnswersPlan (S.facts store.now) given.entry
+    ensures answer { AnswersPlan (S.facts store.now) (HasFailed S.Input.ahead S.Input.count)
+        given.entry
         (Adds (S.Journal.changes journal.old) (S.Journal.changes journal.new))
         (Breaks (S.facts store.now) (O.count out.old) (O.count out.new))
         (O.held out.old) (O.held out.new)
@@ -82,7 +84,7 @@ fn report_plan<S: FileStore, O: ByteOut>(
         (paths_asked given.entry.job (map_path (option_map (λ t. t.now) given.entry.map))) Map
         (Adds (S.Journal.changes journal.old) (S.Journal.changes journal.new) []))
         (Breaks (S.facts store.now) (O.count out.old) (O.count out.new))
-        (S.facts store.now).flushed (shows_of given.entry)
+        (HasFailed S.Input.ahead S.Input.count) (S.facts store.now).flushed (shows_of given.entry)
         (ServesPlan (S.facts store.now) given.entry) (O.held out.old) (O.held out.new))) }
 {
     let PlanArgs {
@@ -134,7 +136,7 @@ fn run_plan<S: FileStore, O: ByteOut>(
         (paths_of request.now (map_path (option_map (λ t. t.now) map.entry))) Map
         (Adds (S.Journal.changes journal.old) (S.Journal.changes journal.new) []))
         (Breaks (S.facts store.now) (O.count out.old) (O.count out.new))
-        (S.facts store.now).flushed shows
+        (HasFailed S.Input.ahead S.Input.count) (S.facts store.now).flushed shows
         (IsJobOf (S.facts store.now) request.now (option_map (λ t. t.now) map.entry))
         (O.held out.old) (O.held out.new)) }
 {

@@ -19,6 +19,7 @@ ghost use Rattle.norprog.specs.Planner.{IsReady, HasTold};
 ghost use Rattle.norprog.specs.Windows.{IsCutPlan};
 ghost use Rattle.norprog_common.specs.FileStore.{Breaks};
 ghost use Rattle.norprog_common.specs.declared.faults.Refusal.TheVariants.{Build};
+ghost use Rattle.norprog_common.specs.Reading.{HasFailed};
 ghost use Rattle.norprog_common.specs.Served.{job_with, Is};
 ghost use Rattle.norprog_plan.specs.Answer.{behind_lines, tables_times, CutsPlan, IsBehind};
 ghost use Rattle.norprog_plan.specs.Answer.{LacksMap, PrintsPlan, StopsPrinting};
@@ -67,7 +68,7 @@ pub(crate) fn print_job<S: FileStore, R: ByteIn, O: ByteOut>(
         (O.held out.old) (O.held out.new)) }
     ensures refused { IfErr result (StopsPrinting
         (Breaks (S.facts store.now) (O.count out.old) (O.count out.new))
-        (S.facts store.now).flushed shows
+        (HasFailed R.ahead R.count) (S.facts store.now).flushed shows
         (job_with inputs.now (R.ahead content.old) len (option_map S.Output.held map))
         (O.held out.old) (O.held out.new)) }
 {

@@ -6,6 +6,7 @@ use Rattle.norprog_common.specs.FileStore.{Breaks, HasGone}
 use Rattle.norprog_build.specs.Served.{asks_build, ServesBuild}
 use Rattle.norprog_build.specs.Answer.{IsReportOf}
 use Rattle.norprog_common.specs.Served.{Job, IsJobOf}
+use Rattle.norprog_common.specs.Reading.{HasFailed}
 use Rattle.norprog_common.specs.Strict.{Filled}
 use Rattle.norprog_build.proofs.AnswerLemmas.{gone, rose}
 use Rattle.norprog_build.proofs.ServedLemmas.{build_filled, build_refused, build_asked}
@@ -29,7 +30,7 @@ returns-in_err-report-clause-first g c =
     let files = g.S.FileStore.facts c.args.store.now in
     let out = ap (option_map (λ t. t.now)) c.in_ok-path.ensures.ok_part in
     let Broke = Breaks files (g.O.ByteOut.count c.args.out.now) (g.O.ByteOut.count c.args.out.now) in
-    let wider = build_refused files c.args.given Broke _ c.request_of.result c.in_ok-request.request c.in_ok-path.path.now (λ broke. inl broke)
+    let wider = build_refused files (HasFailed g.S.Input.ByteIn.ahead g.S.Input.ByteIn.count) c.args.given Broke _ c.request_of.result c.in_ok-request.request c.in_ok-path.path.now (λ broke. inl broke)
     c.in_ok-request.ensures.ok_part c.request_of.ensures.values out in
     let formed = build_asked c.args.given c.request_of.result c.in_ok-request.request c.in_ok-path.path.now
     c.in_ok-request.ensures.ok_part c.request_of.ensures.forms out in

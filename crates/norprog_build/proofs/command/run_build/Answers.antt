@@ -10,8 +10,9 @@ use Rattle.norprog_common.specs.Strict.{Filled}
 use Rattle.norprog_build.specs.Answer.{RefusesBuild}
 use Rattle.norprog_common.specs.Chip.{origin_of}
 use Rattle.norprog_common.specs.declared.faults.FileName.TheVariants.{Out}
-use Rattle.norprog_build.proofs.AnswerLemmas.{build_broke, report_of, refusal_of_build, empty_refused, file_refused}
+use Rattle.norprog_build.proofs.AnswerLemmas.{build_blames, build_broke, report_of, refusal_of_build, empty_refused, file_refused}
 use Rattle.norprog_common.proofs.ServedLemmas.{job_of}
+use Rattle.norprog_common.specs.Reading.{HasFailed}
 use Rattle.norprog_build.proofs.command.run_build.Goals as goal
 
 pub returns-clause-built : goal.returns-clause-built
@@ -27,6 +28,7 @@ returns-clause-built g c =
 pub returns-clause-refused : goal.returns-clause-refused
 returns-clause-refused g c =
     let files = g.S.FileStore.facts c.args.store.now in
+    let Failed = HasFailed g.S.Input.ByteIn.ahead g.S.Input.ByteIn.count in
     let changes = g.S.Journal.Journal.changes in
     let made = made_apart files (input_files_of c.args.request.now) c.args.path.now _ _ _ _ c.new-places.ensures.items c.in_ok-texts.ensures.noted c.as_slice.ensures.value
     c.in_ok-script.ensures.made in
@@ -34,13 +36,15 @@ returns-clause-refused g c =
     c.in_ok-texts.ensures.given c.inputs_of-inputs.ensures c.in_ok-texts.ensures.content made in
     let broke = build_broke files.broke _ _ c.build-answer.result c.flush-flushed.result c.build-answer.ensures.counts.1
     c.flush-flushed.ensures.whole c.flush-flushed.ensures.broke in
-    refusal_of_build c.args.request.now.strict (LacksEarly files (paths_of c.args.request.now (out_path (Some c.args.path.now))) Out (Adds (changes c.args.journal.now) (changes c.create.new.journal) [])) files.broke _ _ (HasGone files) (IsJobOf files c.args.request.now (Some c.args.path.now)) _ _ _ _ _ _ c.build-answer.result c.flush-flushed.result _ (asked, c.in-Ok.ensures.filled)
+    refusal_of_build c.args.request.now.strict (LacksEarly files (paths_of c.args.request.now (out_path (Some c.args.path.now))) Out (Adds (changes c.args.journal.now) (changes c.create.new.journal) [])) files.broke _ _ (HasGone files) Failed (IsJobOf files c.args.request.now (Some c.args.path.now)) _ _ _ _ _ _ c.build-answer.result c.flush-flushed.result _ (asked, c.in-Ok.ensures.filled)
     c.build-answer.ensures.built c.build-answer.ensures.refused (ap g.S.Output.ByteOut.held)
-    (gone_out files _ c.flush-flushed.result c.flush-flushed.ensures.flushed c.flush-flushed.ensures.broke) broke c.done.ensures
+    (gone_out files _ c.flush-flushed.result c.flush-flushed.ensures.flushed c.flush-flushed.ensures.broke)
+    (build_blames g.S.Input.ByteIn.ahead g.S.Input.ByteIn.count _ _ _ c.build-answer.result c.build-answer.ensures.within c.build-answer.ensures.counts.0) broke c.done.ensures
 
 pub returns-in-Err-clause-refused : goal.returns-in-Err-clause-refused
 returns-in-Err-clause-refused g c =
     let files = g.S.FileStore.facts c.args.store.now in
+    let Failed = HasFailed g.S.Input.ByteIn.ahead g.S.Input.ByteIn.count in
     let changes = g.S.Journal.Journal.changes in
     let made = made_apart files (input_files_of c.args.request.now) c.args.path.now _ _ _ _ c.new-places.ensures.items c.in_ok-texts.ensures.noted c.as_slice.ensures.value
     c.in_ok-script.ensures.made in
@@ -48,7 +52,7 @@ returns-in-Err-clause-refused g c =
     c.in_ok-texts.ensures.given c.inputs_of-inputs.ensures c.in_ok-texts.ensures.content made in
     let gone = c.left.ensures.gone in
     rw c.left.ensures.same
-    (empty_refused c.args.request.now.strict (LacksEarly files (paths_of c.args.request.now (out_path (Some c.args.path.now))) Out (Adds (changes c.args.journal.now) (changes c.create.new.journal) [])) files.broke (HasGone files) (IsJobOf files c.args.request.now (Some c.args.path.now)) _ _ (asked, gone) c.in-Err.ensures.refused)
+    (empty_refused c.args.request.now.strict (LacksEarly files (paths_of c.args.request.now (out_path (Some c.args.path.now))) Out (Adds (changes c.args.journal.now) (changes c.create.new.journal) [])) files.broke (HasGone files) Failed (IsJobOf files c.args.request.now (Some c.args.path.now)) _ _ (asked, gone) c.in-Err.ensures.refused)
 
 -- a file that couldn't be used is the one that its option names
 pub returns-in_err-texts-clause-refused : goal.returns-in_err-texts-clause-refused
@@ -57,10 +61,11 @@ returns-in_err-texts-clause-refused g c =
     let request = c.args.request.now in
     let own = out_path (Some c.args.path.now) in
     let Asked = IsJobOf files request (Some c.args.path.now) in
+    let Failed = HasFailed g.S.Input.ByteIn.ahead g.S.Input.ByteIn.count in
     let changes = g.S.Journal.Journal.changes in
     let Nothing = Adds (changes c.args.journal.now) (changes c.args.journal.now) [] in
-    handed_on (RefusesBuild request.strict (LacksEarly files (paths_of request own) Out Nothing) files.broke (HasGone files) Asked) _ _ c.from_residual.ensures.1
-    (file_refused request.strict (Lacks files (paths_of request no_path)) (LacksEarly files (paths_of request own) Out Nothing) files.broke (HasGone files) Asked c.in_err-texts.field-0.0
+    handed_on (RefusesBuild request.strict (LacksEarly files (paths_of request own) Out Nothing) files.broke (HasGone files) Failed Asked) _ _ c.from_residual.ensures.1
+    (file_refused request.strict (Lacks files (paths_of request no_path)) (LacksEarly files (paths_of request own) Out Nothing) files.broke (HasGone files) Failed Asked c.in_err-texts.field-0.0
     (λ told lacks. (
       lacks_own files (Some request.hex.now) (option_map (λ t. t.now) request.layout) (tables_name (origin_of request.chip)) (Some request.content.now) own told lacks,
       inr (adds_none _ _ refl),
@@ -73,10 +78,11 @@ returns-in_err-script-clause-refused g c =
     let request = c.args.request.now in
     let paths = paths_of request (out_path (Some c.args.path.now)) in
     let Asked = IsJobOf files request (Some c.args.path.now) in
+    let Failed = HasFailed g.S.Input.ByteIn.ahead g.S.Input.ByteIn.count in
     let changes = g.S.Journal.Journal.changes in
     let Nothing = Adds (changes c.args.journal.now) (changes c.create.new.journal) [] in
-    handed_on (RefusesBuild request.strict (LacksEarly files paths Out Nothing) files.broke (HasGone files) Asked) _ _ c.from_residual-in_err-script.ensures.1
-    (file_refused request.strict (LacksEarly files paths Out Nothing) (LacksEarly files paths Out Nothing) files.broke (HasGone files) Asked c.in_err-script.field-0.0 (λ told lacks. lacks)
+    handed_on (RefusesBuild request.strict (LacksEarly files paths Out Nothing) files.broke (HasGone files) Failed Asked) _ _ c.from_residual-in_err-script.ensures.1
+    (file_refused request.strict (LacksEarly files paths Out Nothing) (LacksEarly files paths Out Nothing) files.broke (HasGone files) Failed Asked c.in_err-script.field-0.0 (λ told lacks. lacks)
     (lacks_output files paths Out Nothing c.in_err-script.field-0.0 c.in_err-script.ensures.refused
     (lacks_at files paths Out c.args.path.now c.in_err-script.field-0.0 refl c.in_err-script.ensures.refused c.in_err-script.ensures.lacked)))
 
@@ -84,6 +90,7 @@ returns-in_err-script-clause-refused g c =
 pub returns-clause-journal : goal.returns-clause-journal
 returns-clause-journal g c =
     let files = g.S.FileStore.facts c.args.store.now in
+    let Failed = HasFailed g.S.Input.ByteIn.ahead g.S.Input.ByteIn.count in
     let changes = g.S.Journal.Journal.changes in
     let names = input_files_of c.args.request.now in
     let Made = Adds (changes c.args.journal.now) (changes c.create.new.journal) in

@@ -3,6 +3,7 @@ use Rattle.std.proofs.Common.{[], option_map}
 use Rattle.nor_base.proofs.FaultLaws.{handed_on}
 use Rattle.norprog_common.specs.declared.faults.FileName.TheVariants.{Map}
 use Rattle.norprog_common.specs.FileStore.{Adds, Breaks, LacksEarly}
+use Rattle.norprog_common.specs.Reading.{HasFailed}
 use Rattle.norprog_common.specs.Served.{IsJobOf, held_in, map_path, paths_of}
 use Rattle.norprog_common.specs.Strict.{Filled}
 use Rattle.norprog_common.proofs.ServedLemmas.{job_of}
@@ -21,8 +22,8 @@ returns-in_err-refuse_empty-clause-refused g c =
     let Lacked = LacksEarly files (paths_of c.args.request.now (map_path out)) Map (Adds (g.S.Journal.Journal.changes c.args.journal.now) (g.S.Journal.Journal.changes c.open_files.new.journal) []) in
     let asked = job_of files c.args.request.now out c.inputs_of-inputs.result _ _ _ (held_in c.in_ok-texts.field-0.texts)
     c.in_ok-texts.ensures.given c.inputs_of-inputs.ensures c.in_ok-texts.ensures.content c.in_ok-texts.ensures.made in
-    handed_on (RefusesPlan strict Lacked (Breaks files count count) files.flushed c.args.shows Asked x x) _ _ c.from_residual-in_err-refuse_empty.ensures.1
-    (empty_refused strict Lacked (Breaks files count count) files.flushed c.args.shows Asked _ x x c.in_err-refuse_empty.field-0.0 asked c.in_err-refuse_empty.ensures.refused)
+    handed_on (RefusesPlan strict Lacked (Breaks files count count) (HasFailed g.S.Input.ByteIn.ahead g.S.Input.ByteIn.count) files.flushed c.args.shows Asked x x) _ _ c.from_residual-in_err-refuse_empty.ensures.1
+    (empty_refused strict Lacked (Breaks files count count) (HasFailed g.S.Input.ByteIn.ahead g.S.Input.ByteIn.count) files.flushed c.args.shows Asked _ x x c.in_err-refuse_empty.field-0.0 asked c.in_err-refuse_empty.ensures.refused)
 
 pub returns-clause-printed : goal.returns-clause-printed
 returns-clause-printed g c =
@@ -49,5 +50,5 @@ returns-clause-refused g c =
     let Lacked = LacksEarly files (paths_of c.args.request.now (map_path out)) Map (Adds (g.S.Journal.Journal.changes c.args.journal.now) (g.S.Journal.Journal.changes c.open_files.new.journal) []) in
     let asked = job_of files c.args.request.now out c.inputs_of-inputs.result _ _ _ (held_in c.in_ok-texts.field-0.texts)
     c.in_ok-texts.ensures.given c.inputs_of-inputs.ensures c.in_ok-texts.ensures.content c.in_ok-texts.ensures.made in
-    job_stops c.print_job.result c.args.request.now.strict Lacked (Breaks files (g.O.ByteOut.count c.args.out.now) (g.O.ByteOut.count c.print_job.new.out)) files.flushed c.args.shows
+    job_stops c.print_job.result c.args.request.now.strict Lacked (Breaks files (g.O.ByteOut.count c.args.out.now) (g.O.ByteOut.count c.print_job.new.out)) (HasFailed g.S.Input.ByteIn.ahead g.S.Input.ByteIn.count) files.flushed c.args.shows
     (IsJobOf files c.args.request.now out) _ _ _ (asked, c.in_ok-refuse_empty.ensures.filled) c.print_job.ensures.refused

@@ -2,10 +2,11 @@
 use Rattle.std.proofs.Common.{rules, ap, arith, inl, inr, is_some, option_map, sym}
 use Rattle.nor_job.specs.Job.{IsJob}
 use Rattle.norprog_common.specs.FileStore.{Breaks}
+use Rattle.norprog_common.specs.Reading.{HasFailed}
 use Rattle.norprog_common.specs.Served.{job_with}
 use Rattle.norprog_common.proofs.ServedLemmas.{same_some}
 use Rattle.norprog_plan.specs.Answer.{tables_times}
-use Rattle.norprog_plan.proofs.AnswerLemmas.{all_printed, behind_cut, behind_stops, lines_cut, lines_stop}
+use Rattle.norprog_plan.proofs.AnswerLemmas.{all_printed, behind_cut, behind_stops, lines_cut, lines_stop, read_blames}
 use Rattle.norprog_plan.proofs.outline.print_job.Goals as goal
 
 pub returns-in-Ok-clause-printed : goal.returns-in-Ok-clause-printed
@@ -38,7 +39,7 @@ returns-in-Ok-clause-refused g c =
     let is : IsJob t c.args.len c.in_ok-job.job = search rules in
     let all = c.in-Ok.ensures.printed t c.args.len is in
     let are = all.sums (tables_times t.chip) c.in_ok-sums.ensures.sums in
-    behind_stops c.print_behind.result _ _ (Breaks files (g.O.ByteOut.count c.args.out.now) (g.O.ByteOut.count c.print_behind.new.out)) _ files.flushed c.args.shows j c.in_ok-job.job
+    behind_stops c.print_behind.result _ _ (Breaks files (g.O.ByteOut.count c.args.out.now) (g.O.ByteOut.count c.print_behind.new.out)) _ (HasFailed g.R.ByteIn.ahead g.R.ByteIn.count) files.flushed c.args.shows j c.in_ok-job.job
     c.in_ok-sums.sums c.print_lines.new.sums (g.R.ByteIn.ahead c.print_lines.new.content) (g.O.ByteOut.held c.args.out.now) (g.O.ByteOut.held c.print_lines.new.out)
     (g.O.ByteOut.held c.print_behind.new.out) c.in-Ok.report (is_some c.args.map) all is (sym (same_some _ c.args.map)) (λ broke. inl broke)
     (λ more. inr (omega (arith, more, c.in-Ok.ensures.counts.1))) (c.print_behind.ensures.cut c.args.len all.lines is are)
@@ -58,5 +59,6 @@ returns-in-Err-clause-refused g c =
     let j = job_with t (g.R.ByteIn.ahead c.args.content.now) c.args.len (option_map g.S.Output.ByteOut.held c.args.map) in
     let is : IsJob t c.args.len c.in_ok-job.job = search rules in
     let stops = c.planned_lines.ensures.inputs t c.args.len c.in_ok-job.job _ _ _ _ c.in-Err.fault is c.in-Err.ensures.cut in
-    lines_stop (Breaks files (g.O.ByteOut.count c.args.out.now) (g.O.ByteOut.count c.print_lines.new.out)) files.flushed c.args.shows j _
-    (g.O.ByteOut.count c.args.out.now) (g.O.ByteOut.count c.print_lines.new.out) _ _ c.in-Err.fault (λ more. inr more) c.in-Err.ensures.counts.1 stops
+    lines_stop (Breaks files (g.O.ByteOut.count c.args.out.now) (g.O.ByteOut.count c.print_lines.new.out)) (HasFailed g.R.ByteIn.ahead g.R.ByteIn.count) files.flushed c.args.shows j _
+    (g.O.ByteOut.count c.args.out.now) (g.O.ByteOut.count c.print_lines.new.out) _ _ c.in-Err.fault (λ more. inr more) c.in-Err.ensures.counts.1
+    (read_blames g.R.ByteIn.ahead g.R.ByteIn.count _ _ c.in-Err.fault (stops.part, stops.given) c.in-Err.ensures.counts.0) stops
