@@ -1,5 +1,5 @@
 -- What is told of a plan (this project's).
-use Rattle.std.specs.Prelude.{◌≡◌, ◌⊎◌, ⊤, ℕ, Bool, true, false, List, [], ◌++◌, Option, Some, None, is_some, option_map}
+use Rattle.std.specs.Prelude.{◌≡◌, ◌⊎◌, ⊤, ℕ, Bool, true, false, List, [], ◌++◌, Option, Some, None, is_some, option_map, IfSome}
 use Rattle.std.specs.Io.KnownBytes.{Appends}
 use Rattle.nor_base.specs.Device.{Ahead, Cuts}
 use Rattle.nor_base.specs.Parameters.{Parameters}
@@ -28,7 +28,7 @@ use Rattle.norprog_common.specs.declared.faults.FileName.TheVariants.{Map}
 use Rattle.norprog_common.specs.declared.faults.Refusal.{Refusal}
 use Rattle.norprog_common.specs.declared.faults.Refusal.TheVariants.{Build}
 use Rattle.norprog_common.specs.declared.given.PlanArgs.{PlanArgs}
-use Rattle.norprog_common.specs.FileStore.{FileFacts, Change, LacksEarly}
+use Rattle.norprog_common.specs.FileStore.{FileFacts, Change, HasGone, LacksEarly}
 use Rattle.norprog_common.specs.Told.{ForAsked, OfFault, RefusesFor, Answers}
 use Rattle.norprog_common.specs.Served.{Is, Job, MakesFor, MayMakeFor, map_path, paths_asked}
 use Rattle.norprog_common.specs.Strict.{Filled, OrEmpty}
@@ -128,27 +128,30 @@ pub record PrintsSome (Sent : Option (List ℕ) → Type 0) (shows : Shows) (Ask
 abbrev pub CutsPlan : (Option (List ℕ) → Type 0) → Shows → (Job → Type 0) → Option (List ℕ) → Option (List ℕ) → Type 0
 CutsPlan Sent shows Asked before after = (after ≡ before) ⊎ PrintsSome Sent shows Asked before after
 
--- the output failed at the bytes that tell the plan of a job that was asked for
+-- the output failed at the bytes that tell the whole plan of a job that was asked for, whose picture had gone out
 pub record FailsToPrint (Sent : Option (List ℕ) → Type 0) (shows : Shows) (Asked : Job → Type 0) (before after : Option (List ℕ)) : Type 0 where
-  pub bytes : List ℕ
-  pub of : ForAsked Job Asked (IsTold Sent shows bytes)
-  pub put : Cuts before after bytes
+  pub lines : List ℕ
+  pub rest : List ℕ
+  pub whole : ForAsked Job Asked (IsWhole Sent shows lines rest)
+  pub put : Cuts before after (lines ++ rest)
 
 -- that a reading of the content failed is reported only where its reader has failed
 abbrev pub BlamesReader : Type 0 → BuildFault → Type 0
 BlamesReader Failed Read = Failed
 BlamesReader Failed other = ⊤
 
--- the inputs of the job are refused, or its plan stopped; `Failed`: a reader that had this ahead has failed
-pub record StopsPlanOf (Failed : Ahead → Type 0) (why : BuildFault) (j : Job) : Type 0 where
+-- the inputs of the job are refused, or its plan stopped, and the output of its picture holds what it held as it was made; `Failed`: a
+-- reader that had this ahead has failed; `Gone`: nothing more was written to it
+pub record StopsPlanOf (Failed : Ahead → Type 0) (Gone : Option (List ℕ) → Type 0) (why : BuildFault) (j : Job) : Type 0 where
   pub behind : Ahead
   pub before : Option (List ℕ)
   pub after : Option (List ℕ)
   pub refused : RefusesInputs j.task j.len why ⊎ StopsPlan j.task j.len j.content behind before after why
   pub blamed : BlamesReader (Failed j.content) why
+  pub left : IfSome j.begun Gone
 
-abbrev pub IsPlanFault : (Ahead → Type 0) → (Job → Type 0) → BuildFault → Type 0
-IsPlanFault Failed Asked why = ForAsked Job Asked (StopsPlanOf Failed why)
+abbrev pub IsPlanFault : (Ahead → Type 0) → (Option (List ℕ) → Type 0) → (Job → Type 0) → BuildFault → Type 0
+IsPlanFault Failed Gone Asked why = ForAsked Job Asked (StopsPlanOf Failed Gone why)
 
 -- the plan of the job was told, and it has an output for a picture, which was not taken or didn't go out
 abbrev pub IsUndrawn : Job → Type 0
@@ -162,15 +165,19 @@ abbrev pub LacksMap : Bool → Type 0 → Refusal → Type 0
 LacksMap drawn Broke why = (why ≡ Build Memory) ⊎ ((drawn ≡ true) × (why ≡ Build Write) × Broke)
 
 -- why the plan of a job isn't told; `Broke`: an output failed
-abbrev pub StopsPrinting : Type 0 → (Ahead → Type 0) → (Option (List ℕ) → Type 0) → Shows → Job → Option (List ℕ) → Option (List ℕ) → Refusal → Type 0
-StopsPrinting Broke Failed Sent shows j before after =
-    RefusesFor (λ name. ⊥) Broke (OfFault (IsPlanFault Failed (Is j))) (FailsToDraw (Is j) ⊎ FailsToPrint Sent shows (Is j) before after)
+abbrev pub StopsPrinting : Type 0 → (Ahead → Type 0) → (Option (List ℕ) → Type 0) → (Option (List ℕ) → Type 0) → Shows → Job → Option (List ℕ) → Option (List ℕ) → Refusal → Type 0
+StopsPrinting Broke Failed Gone Sent shows j before after =
+    RefusesFor (λ name. ⊥) Broke (OfFault (IsPlanFault Failed Gone (Is j))) (FailsToDraw (Is j) ⊎ FailsToPrint Sent shows (Is j) before after)
+
+-- the output of the job's picture holds what it held as it was made; `Gone`: nothing more was written to it
+abbrev pub IsLeft : (Option (List ℕ) → Type 0) → (Job → Type 0) → Job → Type 0
+IsLeft Gone Asked j = Asked j × IfSome j.begun Gone
 
 -- the same of a plan that was asked for; where a job may be strict the first chosen region without a byte of the image is told, and of a
 -- plan that went further each has one
-abbrev pub RefusesPlan : Bool → (FileName → Type 0) → Type 0 → (Ahead → Type 0) → (Option (List ℕ) → Type 0) → Shows → (Job → Type 0) → Option (List ℕ) → Option (List ℕ) → Refusal → Type 0
-RefusesPlan strict Lacked Broke Failed Sent shows Asked before after =
-    RefusesFor Lacked Broke (OrEmpty strict Asked (OfFault (IsPlanFault Failed (Filled strict Asked))))
+abbrev pub RefusesPlan : Bool → (FileName → Type 0) → Type 0 → (Ahead → Type 0) → (Option (List ℕ) → Type 0) → (Option (List ℕ) → Type 0) → Shows → (Job → Type 0) → Option (List ℕ) → Option (List ℕ) → Refusal → Type 0
+RefusesPlan strict Lacked Broke Failed Gone Sent shows Asked before after =
+    RefusesFor Lacked Broke (OrEmpty strict (IsLeft Gone Asked) (OfFault (IsPlanFault Failed Gone (Filled strict Asked))))
     (FailsToDraw (Filled strict Asked) ⊎ FailsToPrint Sent shows (Filled strict Asked) before after)
 
 -- what `plan` answers to the texts of a command line, where `Made` says which changes it made, `Failed` that a reader that had this
@@ -184,6 +191,6 @@ AnswersPlan files Failed given Made Broke before after Quiet Works told_before t
     × MakesFor files given.job (option_map (λ t. t.now) given.map) Made × Quiet)
     (CutsPlan files.flushed (shows_of given) (Filled given.job.strict (ServesPlan files given)) before after
     × (MayMakeFor files given.job (option_map (λ t. t.now) given.map) Made × (asks_plan given ≡ false → Made [])))
-    (RefusesPlan given.job.strict (LacksEarly files (paths_asked given.job (map_path (option_map (λ t. t.now) given.map))) Map (Made [])) Broke Failed files.flushed (shows_of given)
+    (RefusesPlan given.job.strict (LacksEarly files (paths_asked given.job (map_path (option_map (λ t. t.now) given.map))) Map (Made [])) Broke Failed (HasGone files) files.flushed (shows_of given)
     (ServesPlan files given) before after)
     Works told_before told_after status

@@ -5,7 +5,8 @@ ghost use Rattle.std.specs.Prelude.{◌≡◌, ◌<◌, ◌≤◌, ◌-◌, ◌^
 ghost use Rattle.std.specs.Prelude.{IfOk, IfErr, IfSome, MatchResult, option_map};
 ghost use Rattle.norprog_common.specs.Files.{TellsFile};
 ghost use Rattle.norprog_common.specs.declared.faults.FileName.TheVariants.{Map};
-ghost use Rattle.norprog_common.specs.FileStore.{Adds, Breaks, IsMadeApart, LacksEarly, MakesIf};
+ghost use Rattle.norprog_common.specs.FileStore.{Adds, Breaks, HasGone, IsMadeApart};
+ghost use Rattle.norprog_common.specs.FileStore.{LacksEarly, MakesIf};
 ghost use Rattle.norprog_common.specs.FileStore.{WhereNamed};
 ghost use Rattle.norprog_common.specs.Strict.{Filled};
 ghost use Rattle.norprog_common.specs.Told.{OrUsage};
@@ -16,6 +17,7 @@ ghost use Rattle.norprog_common.specs.Served.{IsJobOf, AreGiven, held_in, input_
 ghost use Rattle.norprog_common.specs.Served.{map_path, paths_asked, paths_of};
 ghost use Rattle.norprog_common.specs.Served.{MakesFor, MayMakeFor};
 
+use crate::drawing::left;
 use crate::outline::{Shows, print_job};
 use nor_base::ByteOut;
 use norprog_common::{
@@ -84,7 +86,8 @@ fn report_plan<S: FileStore, O: ByteOut>(
         (paths_asked given.entry.job (map_path (option_map (λ t. t.now) given.entry.map))) Map
         (Adds (S.Journal.changes journal.old) (S.Journal.changes journal.new) []))
         (Breaks (S.facts store.now) (O.count out.old) (O.count out.new))
-        (HasFailed S.Input.ahead S.Input.count) (S.facts store.now).flushed (shows_of given.entry)
+        (HasFailed S.Input.ahead S.Input.count) (HasGone (S.facts store.now))
+        (S.facts store.now).flushed (shows_of given.entry)
         (ServesPlan (S.facts store.now) given.entry) (O.held out.old) (O.held out.new))) }
 {
     let PlanArgs {
@@ -136,7 +139,8 @@ fn run_plan<S: FileStore, O: ByteOut>(
         (paths_of request.now (map_path (option_map (λ t. t.now) map.entry))) Map
         (Adds (S.Journal.changes journal.old) (S.Journal.changes journal.new) []))
         (Breaks (S.facts store.now) (O.count out.old) (O.count out.new))
-        (HasFailed S.Input.ahead S.Input.count) (S.facts store.now).flushed shows
+        (HasFailed S.Input.ahead S.Input.count) (HasGone (S.facts store.now))
+        (S.facts store.now).flushed shows
         (IsJobOf (S.facts store.now) request.now (option_map (λ t. t.now) map.entry))
         (O.held out.old) (O.held out.new)) }
 {
@@ -147,8 +151,10 @@ fn run_plan<S: FileStore, O: ByteOut>(
         map,
     } = open_files(alloc, store, journal, request, map)?;
     let inputs = inputs_of(request, &texts);
-    refuse_empty(alloc, request.strict, &inputs, len)?;
-    print_job(alloc, store, &inputs, &mut content, len, shows, map, out)
+    match refuse_empty(alloc, request.strict, &inputs, len) {
+        Ok(()) => print_job(alloc, store, &inputs, &mut content, len, shows, map, out),
+        Err(refusal) => Err(left(store, map, refusal)),
+    }
 }
 
 /// Opens the files of a request in their order, and then makes the file for the picture where there

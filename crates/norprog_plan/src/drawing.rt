@@ -11,6 +11,7 @@ ghost use Rattle.nor_map.specs.Marks.{marks_of};
 ghost use Rattle.nor_map.specs.Rows.{grid_of};
 ghost use Rattle.nor_map.specs.Map.{map_text};
 ghost use Rattle.nor_plan_read.specs.declared.line.PlanLine.{PlanLine as Line};
+ghost use Rattle.norprog_common.specs.FileStore.{HasGone};
 ghost use Rattle.norprog_plan.specs.Answer.{Draws, IsDrawn, LacksMap, LacksOutput, PutsMap};
 
 use nor_base::{ByteOut, Meaning};
@@ -19,6 +20,20 @@ use nor_layout::{Chosen, Region};
 use nor_map::{Grid, PlanMarks, write_map};
 use norprog_common::{FileStore, Refusal};
 use std::alloc::Global;
+
+/// Flushes the file of a picture, where there is one, of a plan that is refused before it is drawn;
+/// returns that refusal.
+pub(crate) fn left<S: FileStore>(store: &S, map: Option<S::Output>, refusal: Refusal) -> Refusal
+    ensures gone { IfSome (option_map S.Output.held map) (HasGone (S.facts store.now)) }
+    ensures same { result ≡ refusal }
+{
+    let Some(file) = map else {
+        return refusal;
+    };
+    match store.flush(file) {
+        Ok(()) | Err(_) => refusal,
+    }
+}
 
 /// Draws the plan of the inputs whose lines have these marks, with the text behind the lines, where
 /// there is a file for that.

@@ -17,7 +17,7 @@ ghost use Rattle.nor_times.specs.Timing.{timing_of};
 ghost use Rattle.nor_times.specs.declared.times.Times.{Times as KnownTimes};
 ghost use Rattle.norprog.specs.Planner.{IsReady, HasTold};
 ghost use Rattle.norprog.specs.Windows.{IsCutPlan};
-ghost use Rattle.norprog_common.specs.FileStore.{Breaks};
+ghost use Rattle.norprog_common.specs.FileStore.{Breaks, HasGone};
 ghost use Rattle.norprog_common.specs.declared.faults.Refusal.TheVariants.{Build};
 ghost use Rattle.norprog_common.specs.Reading.{HasFailed};
 ghost use Rattle.norprog_common.specs.Served.{job_with, Is};
@@ -25,7 +25,7 @@ ghost use Rattle.norprog_plan.specs.Answer.{behind_lines, tables_times, CutsPlan
 ghost use Rattle.norprog_plan.specs.Answer.{LacksMap, PrintsPlan, StopsPrinting};
 ghost use Rattle.norprog_plan.specs.Sums.{AreSums, PrintsAll, PrintsLines};
 
-use crate::drawing::draw_where_asked;
+use crate::drawing::{draw_where_asked, left};
 use crate::regions::with_regions;
 use crate::sums::Sums;
 use nor_base::{ByteIn, ByteOut, Failed, IntoWrite, put_all};
@@ -68,17 +68,21 @@ pub(crate) fn print_job<S: FileStore, R: ByteIn, O: ByteOut>(
         (O.held out.old) (O.held out.new)) }
     ensures refused { IfErr result (StopsPrinting
         (Breaks (S.facts store.now) (O.count out.old) (O.count out.new))
-        (HasFailed R.ahead R.count) (S.facts store.now).flushed shows
+        (HasFailed R.ahead R.count) (HasGone (S.facts store.now))
+        (S.facts store.now).flushed shows
         (job_with inputs.now (R.ahead content.old) len (option_map S.Output.held map))
         (O.held out.old) (O.held out.new)) }
 {
     planned_lines();
-    let job = job_of(alloc, inputs, len).map_err(Refusal::Build)?;
+    let job = match job_of(alloc, inputs, len) {
+        Ok(job) => job,
+        Err(fault) => return Err(left(store, map, Refusal::Build(fault))),
+    };
     job.meaning.acceptance();
     let mut sums = Sums::new(alloc, inputs, &job, map.is_some())?;
     match print_lines(alloc, &job, content, &mut sums, out) {
         Ok(report) => print_behind(alloc, store, inputs, &job, &report, shows, &sums, map, out),
-        Err(fault) => Err(Refusal::Build(fault)),
+        Err(fault) => Err(left(store, map, Refusal::Build(fault))),
     }
 }
 
