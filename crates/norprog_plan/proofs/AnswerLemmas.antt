@@ -44,25 +44,25 @@ cuts_wider Sent shows A B wider x y (inl same) = inl same
 cuts_wider Sent shows A B wider x y (inr some) =
     inr (record { bytes = some.bytes; of = asked_wider Job A B (IsTold Sent shows some.bytes) wider some.of; put = some.put })
 
-fails_wider : (Sent : Option (List ℕ) → Type 0) (shows : Shows) (A B : Job → Type 0) → ((j : Job) → A j → B j) → (x y : Option (List ℕ))
-    → FailsToDraw A ⊎ FailsToPrint Sent shows A x y → FailsToDraw B ⊎ FailsToPrint Sent shows B x y
-fails_wider Sent shows A B wider x y (inl undrawn) = inl (asked_wider Job A B IsUndrawn wider undrawn)
-fails_wider Sent shows A B wider x y (inr fails) =
+fails_wider : (Lost : Type 0) (Sent : Option (List ℕ) → Type 0) (shows : Shows) (A B : Job → Type 0) → ((j : Job) → A j → B j) → (x y : Option (List ℕ))
+    → FailsToDraw Lost A ⊎ FailsToPrint Sent shows A x y → FailsToDraw Lost B ⊎ FailsToPrint Sent shows B x y
+fails_wider Lost Sent shows A B wider x y (inl undrawn) = inl (asked_wider Job A B (IsUndrawn Lost) wider undrawn)
+fails_wider Lost Sent shows A B wider x y (inr fails) =
     inr (record { lines = fails.lines; rest = fails.rest; whole = asked_wider Job A B (IsWhole Sent shows fails.lines fails.rest) wider fails.whole; put = fails.put })
 
 faults_wider : (Failed : Ahead → Type 0) (Gone : Option (List ℕ) → Type 0) (A B : Job → Type 0) → ((j : Job) → A j → B j) → (why : Refusal) → OfFault (IsPlanFault Failed Gone A) why → OfFault (IsPlanFault Failed Gone B) why
 faults_wider Failed Gone A B wider = fault_wider (IsPlanFault Failed Gone A) (IsPlanFault Failed Gone B) (λ why of. asked_wider Job A B (StopsPlanOf Failed Gone why) wider of)
 
-pub refuses_asked : (strict : Bool) (L M : FileName → Type 0) (Broke : Type 0) (Failed : Ahead → Type 0) (Gone : Option (List ℕ) → Type 0) (Sent : Option (List ℕ) → Type 0) (shows : Shows) (A B : Job → Type 0)
+pub refuses_asked : (strict : Bool) (L M : FileName → Type 0) (Broke Lost : Type 0) (Failed : Ahead → Type 0) (Gone : Option (List ℕ) → Type 0) (Sent : Option (List ℕ) → Type 0) (shows : Shows) (A B : Job → Type 0)
     → ((name : FileName) → L name → M name) → ((j : Job) → A j → B j) → (x y : Option (List ℕ)) (why : Refusal)
-    → RefusesPlan strict L Broke Failed Gone Sent shows A x y why → RefusesPlan strict M Broke Failed Gone Sent shows B x y why
-refuses_asked strict L M Broke Failed Gone Sent shows A B files wider x y =
+    → RefusesPlan strict L Broke Lost Failed Gone Sent shows A x y why → RefusesPlan strict M Broke Lost Failed Gone Sent shows B x y why
+refuses_asked strict L M Broke Lost Failed Gone Sent shows A B files wider x y =
     let filled = filled_wider strict A B wider in
     refuses_wider L M Broke Broke (OrEmpty strict (IsLeft Gone A) (OfFault (IsPlanFault Failed Gone (Filled strict A)))) (OrEmpty strict (IsLeft Gone B) (OfFault (IsPlanFault Failed Gone (Filled strict B))))
-    (FailsToDraw (Filled strict A) ⊎ FailsToPrint Sent shows (Filled strict A) x y) (FailsToDraw (Filled strict B) ⊎ FailsToPrint Sent shows (Filled strict B) x y)
+    (FailsToDraw Lost (Filled strict A) ⊎ FailsToPrint Sent shows (Filled strict A) x y) (FailsToDraw Lost (Filled strict B) ⊎ FailsToPrint Sent shows (Filled strict B) x y)
     files (λ broke. broke)
     (empty_wider strict (IsLeft Gone A) (IsLeft Gone B) (OfFault (IsPlanFault Failed Gone (Filled strict A))) (OfFault (IsPlanFault Failed Gone (Filled strict B))) (λ j left. (wider j left.0, left.1)) (faults_wider Failed Gone (Filled strict A) (Filled strict B) filled))
-    (fails_wider Sent shows (Filled strict A) (Filled strict B) filled x y)
+    (fails_wider Lost Sent shows (Filled strict A) (Filled strict B) filled x y)
 
 -- a fault of the work is told as such
 fault_so : (strict : Bool) (A : Job → Type 0) (P : BuildFault → Type 0) (why : Refusal) → OfFault P why → OrEmpty strict A (OfFault P) why
@@ -77,14 +77,14 @@ fault_so strict A P (Steps number) is = is
 fault_so strict A P (EmptyRegion index) is = absurd is
 fault_so strict A P (Log line) is = is
 
-stops_asked : (strict : Bool) (Lacked : FileName → Type 0) (Broke : Type 0) (Failed : Ahead → Type 0) (Gone : Option (List ℕ) → Type 0) (Sent : Option (List ℕ) → Type 0) (shows : Shows) (A : Job → Type 0) (j : Job) (x y : Option (List ℕ))
-    (why : Refusal) → Filled strict A j → StopsPrinting Broke Failed Gone Sent shows j x y why → RefusesPlan strict Lacked Broke Failed Gone Sent shows A x y why
-stops_asked strict Lacked Broke Failed Gone Sent shows A j x y why asked =
+stops_asked : (strict : Bool) (Lacked : FileName → Type 0) (Broke Lost : Type 0) (Failed : Ahead → Type 0) (Gone : Option (List ℕ) → Type 0) (Sent : Option (List ℕ) → Type 0) (shows : Shows) (A : Job → Type 0) (j : Job) (x y : Option (List ℕ))
+    (why : Refusal) → Filled strict A j → StopsPrinting Broke Lost Failed Gone Sent shows j x y why → RefusesPlan strict Lacked Broke Lost Failed Gone Sent shows A x y why
+stops_asked strict Lacked Broke Lost Failed Gone Sent shows A j x y why asked =
     let B = Filled strict A in
     let wider = of_one B j asked in
     refuses_wider (λ name. ⊥) Lacked Broke Broke (OfFault (IsPlanFault Failed Gone (Is j))) (OrEmpty strict (IsLeft Gone A) (OfFault (IsPlanFault Failed Gone B)))
-    (FailsToDraw (Is j) ⊎ FailsToPrint Sent shows (Is j) x y) (FailsToDraw B ⊎ FailsToPrint Sent shows B x y)
-    (λ name never. absurd never) (λ broke. broke) (λ why is. fault_so strict (IsLeft Gone A) (IsPlanFault Failed Gone B) why (faults_wider Failed Gone (Is j) B wider why is)) (fails_wider Sent shows (Is j) B wider x y) why
+    (FailsToDraw Lost (Is j) ⊎ FailsToPrint Sent shows (Is j) x y) (FailsToDraw Lost B ⊎ FailsToPrint Sent shows B x y)
+    (λ name never. absurd never) (λ broke. broke) (λ why is. fault_so strict (IsLeft Gone A) (IsPlanFault Failed Gone B) why (faults_wider Failed Gone (Is j) B wider why is)) (fails_wider Lost Sent shows (Is j) B wider x y) why
 
 -- the answer of a job is that of what is asked for
 
@@ -98,24 +98,24 @@ pub job_cuts : {U : Type 0} (r : Result U Refusal) (Sent : Option (List ℕ) →
 job_cuts (Ok u) Sent shows A j x y asked cuts = tt
 job_cuts (Err why) Sent shows A j x y asked cuts = cuts_wider Sent shows (Is j) A (of_one A j asked) x y cuts
 
-pub job_stops : {U : Type 0} (r : Result U Refusal) (strict : Bool) (Lacked : FileName → Type 0) (Broke : Type 0) (Failed : Ahead → Type 0) (Gone : Option (List ℕ) → Type 0) (Sent : Option (List ℕ) → Type 0) (shows : Shows) (A : Job → Type 0)
-    (j : Job) (x y : Option (List ℕ)) → Filled strict A j → IfErr r (StopsPrinting Broke Failed Gone Sent shows j x y) → IfErr r (RefusesPlan strict Lacked Broke Failed Gone Sent shows A x y)
-job_stops (Ok u) strict Lacked Broke Failed Gone Sent shows A j x y asked stops = tt
-job_stops (Err why) strict Lacked Broke Failed Gone Sent shows A j x y asked stops = stops_asked strict Lacked Broke Failed Gone Sent shows A j x y why asked stops
+pub job_stops : {U : Type 0} (r : Result U Refusal) (strict : Bool) (Lacked : FileName → Type 0) (Broke Lost : Type 0) (Failed : Ahead → Type 0) (Gone : Option (List ℕ) → Type 0) (Sent : Option (List ℕ) → Type 0) (shows : Shows) (A : Job → Type 0)
+    (j : Job) (x y : Option (List ℕ)) → Filled strict A j → IfErr r (StopsPrinting Broke Lost Failed Gone Sent shows j x y) → IfErr r (RefusesPlan strict Lacked Broke Lost Failed Gone Sent shows A x y)
+job_stops (Ok u) strict Lacked Broke Lost Failed Gone Sent shows A j x y asked stops = tt
+job_stops (Err why) strict Lacked Broke Lost Failed Gone Sent shows A j x y asked stops = stops_asked strict Lacked Broke Lost Failed Gone Sent shows A j x y why asked stops
 
 -- what comes before a job
 
-pub empty_refused : (strict : Bool) (Lacked : FileName → Type 0) (Broke : Type 0) (Failed : Ahead → Type 0) (Gone : Option (List ℕ) → Type 0) (Sent : Option (List ℕ) → Type 0) (shows : Shows) (A : Job → Type 0) (j : Job) (x y : Option (List ℕ)) (why : Refusal)
-    → IsLeft Gone A j → RefusesEmpty strict j.task j.len why → RefusesPlan strict Lacked Broke Failed Gone Sent shows A x y why
-empty_refused strict Lacked Broke Failed Gone Sent shows A j x y why =
-    by_empty strict Lacked Broke (IsLeft Gone A) (OfFault (IsPlanFault Failed Gone (Filled strict A))) (FailsToDraw (Filled strict A) ⊎ FailsToPrint Sent shows (Filled strict A) x y) j why
+pub empty_refused : (strict : Bool) (Lacked : FileName → Type 0) (Broke Lost : Type 0) (Failed : Ahead → Type 0) (Gone : Option (List ℕ) → Type 0) (Sent : Option (List ℕ) → Type 0) (shows : Shows) (A : Job → Type 0) (j : Job) (x y : Option (List ℕ)) (why : Refusal)
+    → IsLeft Gone A j → RefusesEmpty strict j.task j.len why → RefusesPlan strict Lacked Broke Lost Failed Gone Sent shows A x y why
+empty_refused strict Lacked Broke Lost Failed Gone Sent shows A j x y why =
+    by_empty strict Lacked Broke (IsLeft Gone A) (OfFault (IsPlanFault Failed Gone (Filled strict A))) (FailsToDraw Lost (Filled strict A) ⊎ FailsToPrint Sent shows (Filled strict A) x y) j why
 
 -- why a job isn't told
 
-stops_of : (Broke : Type 0) (Failed : Ahead → Type 0) (Gone : Option (List ℕ) → Type 0) (Sent : Option (List ℕ) → Type 0) (shows : Shows) (j : Job) (x y : Option (List ℕ)) (why : BuildFault) → TellsBroken Broke (Build why)
-    → StopsPlanOf Failed Gone why j → StopsPrinting Broke Failed Gone Sent shows j x y (Build why)
-stops_of Broke Failed Gone Sent shows j x y why broke is =
-    by_fault (λ name. ⊥) Broke (OfFault (IsPlanFault Failed Gone (Is j))) (FailsToDraw (Is j) ⊎ FailsToPrint Sent shows (Is j) x y) (Build why) broke
+stops_of : (Broke Lost : Type 0) (Failed : Ahead → Type 0) (Gone : Option (List ℕ) → Type 0) (Sent : Option (List ℕ) → Type 0) (shows : Shows) (j : Job) (x y : Option (List ℕ)) (why : BuildFault) → TellsBroken Broke (Build why)
+    → StopsPlanOf Failed Gone why j → StopsPrinting Broke Lost Failed Gone Sent shows j x y (Build why)
+stops_of Broke Lost Failed Gone Sent shows j x y why broke is =
+    by_fault (λ name. ⊥) Broke (OfFault (IsPlanFault Failed Gone (Is j))) (FailsToDraw Lost (Is j) ⊎ FailsToPrint Sent shows (Is j) x y) (Build why) broke
     (record { it = j; asked = refl; has = is })
 
 -- that the writer failed is told only where its count rose
@@ -139,10 +139,10 @@ pub read_blames : {F : Type 0} (ahead : F → Ahead) (count : F → ℕ) (conten
 read_blames ahead count content after fault.Read gave counts = record { reader = after; gave = gave; failed = omega (arith, counts) }
 read_blames ahead count content after other gave counts = tt
 
-pub lines_stop : (Broke : Type 0) (Failed : Ahead → Type 0) (Gone : Option (List ℕ) → Type 0) (Sent : Option (List ℕ) → Type 0) (shows : Shows) (j : Job) (b : Ahead) (before after : ℕ) (x y : Option (List ℕ)) (why : BuildFault)
-    → (before < after → Broke) → after ≡ before + of_writer why → BlamesReader (Failed j.content) why → IfSome j.begun Gone → StopsPlan j.task j.len j.content b x y why → StopsPrinting Broke Failed Gone Sent shows j x y (Build why)
-lines_stop Broke Failed Gone Sent shows j b before after x y why broke count blamed left stops =
-    stops_of Broke Failed Gone Sent shows j x y why (count_broke Broke before after why broke count) (record { behind = b; before = x; after = y; refused = inr stops; blamed = blamed; left = left })
+pub lines_stop : (Broke Lost : Type 0) (Failed : Ahead → Type 0) (Gone : Option (List ℕ) → Type 0) (Sent : Option (List ℕ) → Type 0) (shows : Shows) (j : Job) (b : Ahead) (before after : ℕ) (x y : Option (List ℕ)) (why : BuildFault)
+    → (before < after → Broke) → after ≡ before + of_writer why → BlamesReader (Failed j.content) why → IfSome j.begun Gone → StopsPlan j.task j.len j.content b x y why → StopsPrinting Broke Lost Failed Gone Sent shows j x y (Build why)
+lines_stop Broke Lost Failed Gone Sent shows j b before after x y why broke count blamed left stops =
+    stops_of Broke Lost Failed Gone Sent shows j x y why (count_broke Broke before after why broke count) (record { behind = b; before = x; after = y; refused = inr stops; blamed = blamed; left = left })
 
 -- some lines were printed
 in_memory : (j : Job) (b : Ahead) (x y : Option (List ℕ)) (why : BuildFault) → (stops : StopsPlan j.task j.len j.content b x y why)
@@ -242,13 +242,13 @@ behind_cut (Err why) Same More Broke Sent shows j work begun done b x y z report
 
 stop_of : (Same More Broke Files : Type 0) (Failed : Ahead → Type 0) (Gone : Option (List ℕ) → Type 0) (Sent : Option (List ℕ) → Type 0) (shows : Shows) (j : Job) (work : Work) (begun done : Sums) (b : Ahead) (x y z : Option (List ℕ)) (report : Report)
     (drawn : Bool) (why : Refusal) → (all : PrintsLines work begun done j.task j.len j.content b x y report) → IsJob j.task j.len work → drawn ≡ is_some j.begun
-    → (Files → Broke) → (More → Broke) → CutsBehind Same More Files Sent shows j work report drawn y z why all.lines → StopsPrinting Broke Failed Gone Sent shows j x z why
+    → (Files → Broke) → (More → Broke) → CutsBehind Same More Files Sent shows j work report drawn y z why all.lines → StopsPrinting Broke Files Failed Gone Sent shows j x z why
 stop_of Same More Broke Files Failed Gone Sent shows j work begun done b x y z report drawn why all is there files more (inl (same, inl memory)) = rw memory tt
 stop_of Same More Broke Files Failed Gone Sent shows j work begun done b x y z report drawn why all is there files more (inl (same, inr map)) = rw map.1 (
   inr (inl (record {
     it = j;
     asked = refl;
-    has = (sym there ∙ map.0, lines_text all.lines, report, lines_of j work begun done b x y report all);
+    has = (sym there ∙ map.0, map.2, lines_text all.lines, report, lines_of j work begun done b x y report all);
   })),
   files map.2,
 )
@@ -265,7 +265,7 @@ stop_of Same More Broke Files Failed Gone Sent shows j work begun done b x y z r
 pub behind_stops : {U : Type 0} (r : Result U Refusal) (Same More Broke Files : Type 0) (Failed : Ahead → Type 0) (Gone : Option (List ℕ) → Type 0) (Sent : Option (List ℕ) → Type 0) (shows : Shows) (j : Job) (work : Work) (begun done : Sums) (b : Ahead)
     (x y z : Option (List ℕ)) (report : Report) (drawn : Bool) → (all : PrintsLines work begun done j.task j.len j.content b x y report) → IsJob j.task j.len work
     → drawn ≡ is_some j.begun → (Files → Broke) → (More → Broke)
-    → IfErr r (λ why. CutsBehind Same More Files Sent shows j work report drawn y z why all.lines) → IfErr r (StopsPrinting Broke Failed Gone Sent shows j x z)
+    → IfErr r (λ why. CutsBehind Same More Files Sent shows j work report drawn y z why all.lines) → IfErr r (StopsPrinting Broke Files Failed Gone Sent shows j x z)
 behind_stops (Ok u) Same More Broke Files Failed Gone Sent shows j work begun done b x y z report drawn all is there files more cut = tt
 behind_stops (Err why) Same More Broke Files Failed Gone Sent shows j work begun done b x y z report drawn all is there files more cut =
     stop_of Same More Broke Files Failed Gone Sent shows j work begun done b x y z report drawn why all is there files more cut

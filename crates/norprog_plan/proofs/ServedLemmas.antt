@@ -26,14 +26,14 @@ plan_filled files given o request some asks j of =
 
 pub plan_refused : (files : FileFacts) (Failed : Ahead → Type 0) (given : PlanArgs) (Nothing : Type 0) (o : Option Request) (request : Request) → o ≡ Some request → IfSome o (AsksFor given.job)
     → (Broke : Type 0) (x y : Option (List ℕ)) (why : Refusal)
-    → RefusesPlan request.strict (LacksEarly files (paths_of request (map_path (option_map (λ t. t.now) given.map))) Map Nothing) Broke Failed (HasGone files) files.flushed (shows_of given)
+    → RefusesPlan request.strict (LacksEarly files (paths_of request (map_path (option_map (λ t. t.now) given.map))) Map Nothing) Broke files.broke Failed (HasGone files) files.flushed (shows_of given)
     (IsJobOf files request (option_map (λ t. t.now) given.map)) x y why
-    → RefusesPlan given.job.strict (LacksEarly files (paths_asked given.job (map_path (option_map (λ t. t.now) given.map))) Map Nothing) Broke Failed (HasGone files) files.flushed (shows_of given)
+    → RefusesPlan given.job.strict (LacksEarly files (paths_asked given.job (map_path (option_map (λ t. t.now) given.map))) Map Nothing) Broke files.broke Failed (HasGone files) files.flushed (shows_of given)
     (ServesPlan files given) x y why
 plan_refused files Failed given Nothing o request some asks Broke x y why of =
     let map = option_map (λ t. t.now) given.map in
     let Lacked = LacksEarly files (paths_of request (map_path map)) Map Nothing in
-    refuses_asked given.job.strict Lacked (LacksEarly files (paths_asked given.job (map_path map)) Map Nothing) Broke Failed (HasGone files) files.flushed (shows_of given) (IsJobOf files request map) (ServesPlan files given)
+    refuses_asked given.job.strict Lacked (LacksEarly files (paths_asked given.job (map_path map)) Map Nothing) Broke files.broke Failed (HasGone files) files.flushed (shows_of given) (IsJobOf files request map) (ServesPlan files given)
     (early_same files (paths_of request (map_path map)) (paths_asked given.job (map_path map)) Map Nothing (paths_are given.job request (map_path map) (asks_of given.job o request some asks)))
     (plan_serves files given o request some asks) x y why
-    (subst (λ (strict : Bool). RefusesPlan strict Lacked Broke Failed (HasGone files) files.flushed (shows_of given) (IsJobOf files request map) x y why) (asks_of given.job o request some asks).strict of)
+    (subst (λ (strict : Bool). RefusesPlan strict Lacked Broke files.broke Failed (HasGone files) files.flushed (shows_of given) (IsJobOf files request map) x y why) (asks_of given.job o request some asks).strict of)

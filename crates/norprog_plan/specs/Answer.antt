@@ -153,21 +153,22 @@ pub record StopsPlanOf (Failed : Ahead → Type 0) (Gone : Option (List ℕ) →
 abbrev pub IsPlanFault : (Ahead → Type 0) → (Option (List ℕ) → Type 0) → (Job → Type 0) → BuildFault → Type 0
 IsPlanFault Failed Gone Asked why = ForAsked Job Asked (StopsPlanOf Failed Gone why)
 
--- the plan of the job was told, and it has an output for a picture, which was not taken or didn't go out
-abbrev pub IsUndrawn : Job → Type 0
-IsUndrawn j = (is_some j.begun ≡ true) × (told : List ℕ) × (report : Report) × IsLinesOf told report j
+-- the plan of the job was told, and it has an output for a picture, which was not taken or didn't go out; `Lost`: an output that was
+-- made failed
+abbrev pub IsUndrawn : Type 0 → Job → Type 0
+IsUndrawn Lost j = (is_some j.begun ≡ true) × Lost × (told : List ℕ) × (report : Report) × IsLinesOf told report j
 
-abbrev pub FailsToDraw : (Job → Type 0) → Type 0
-FailsToDraw Asked = ForAsked Job Asked IsUndrawn
+abbrev pub FailsToDraw : Type 0 → (Job → Type 0) → Type 0
+FailsToDraw Lost Asked = ForAsked Job Asked (IsUndrawn Lost)
 
 -- memory was refused, or the output of a picture, where there is one, can't be written
 abbrev pub LacksMap : Bool → Type 0 → Refusal → Type 0
 LacksMap drawn Broke why = (why ≡ Build Memory) ⊎ ((drawn ≡ true) × (why ≡ Build Write) × Broke)
 
--- why the plan of a job isn't told; `Broke`: an output failed
-abbrev pub StopsPrinting : Type 0 → (Ahead → Type 0) → (Option (List ℕ) → Type 0) → (Option (List ℕ) → Type 0) → Shows → Job → Option (List ℕ) → Option (List ℕ) → Refusal → Type 0
-StopsPrinting Broke Failed Gone Sent shows j before after =
-    RefusesFor (λ name. ⊥) Broke (OfFault (IsPlanFault Failed Gone (Is j))) (FailsToDraw (Is j) ⊎ FailsToPrint Sent shows (Is j) before after)
+-- why the plan of a job isn't told; `Broke`: an output failed; `Lost`: one that was made did
+abbrev pub StopsPrinting : Type 0 → Type 0 → (Ahead → Type 0) → (Option (List ℕ) → Type 0) → (Option (List ℕ) → Type 0) → Shows → Job → Option (List ℕ) → Option (List ℕ) → Refusal → Type 0
+StopsPrinting Broke Lost Failed Gone Sent shows j before after =
+    RefusesFor (λ name. ⊥) Broke (OfFault (IsPlanFault Failed Gone (Is j))) (FailsToDraw Lost (Is j) ⊎ FailsToPrint Sent shows (Is j) before after)
 
 -- the output of the job's picture holds what it held as it was made; `Gone`: nothing more was written to it
 abbrev pub IsLeft : (Option (List ℕ) → Type 0) → (Job → Type 0) → Job → Type 0
@@ -175,15 +176,14 @@ IsLeft Gone Asked j = Asked j × IfSome j.begun Gone
 
 -- the same of a plan that was asked for; where a job may be strict the first chosen region without a byte of the image is told, and of a
 -- plan that went further each has one
-abbrev pub RefusesPlan : Bool → (FileName → Type 0) → Type 0 → (Ahead → Type 0) → (Option (List ℕ) → Type 0) → (Option (List ℕ) → Type 0) → Shows → (Job → Type 0) → Option (List ℕ) → Option (List ℕ) → Refusal → Type 0
-RefusesPlan strict Lacked Broke Failed Gone Sent shows Asked before after =
+abbrev pub RefusesPlan : Bool → (FileName → Type 0) → Type 0 → Type 0 → (Ahead → Type 0) → (Option (List ℕ) → Type 0) → (Option (List ℕ) → Type 0) → Shows → (Job → Type 0) → Option (List ℕ) → Option (List ℕ) → Refusal → Type 0
+RefusesPlan strict Lacked Broke Lost Failed Gone Sent shows Asked before after =
     RefusesFor Lacked Broke (OrEmpty strict (IsLeft Gone Asked) (OfFault (IsPlanFault Failed Gone (Filled strict Asked))))
-    (FailsToDraw (Filled strict Asked) ⊎ FailsToPrint Sent shows (Filled strict Asked) before after)
+    (FailsToDraw Lost (Filled strict Asked) ⊎ FailsToPrint Sent shows (Filled strict Asked) before after)
 
 -- what `plan` answers to the texts of a command line, where `Made` says which changes it made, `Failed` that a reader that had this
--- ahead has failed, and `Broke` that an output has: the
--- lines and the report at status 0, where the picture has gone out if one is asked for, and just its file was made; or a refusal,
--- and at most that was, nothing where the texts ask for no plan
+-- ahead has failed, and `Broke` that an output has: the lines and the report at status 0, where the picture has gone out if one is asked
+-- for, and just its file was made; or a refusal, and at most that was, nothing where the texts ask for no plan
 abbrev pub AnswersPlan : FileFacts → (Ahead → Type 0) → PlanArgs → (List Change → Type 0) → Type 0 → Option (List ℕ) → Option (List ℕ) → Type 0 → Type 0 → Option (List ℕ) → Option (List ℕ) → ℕ → Type 0
 AnswersPlan files Failed given Made Broke before after Quiet Works told_before told_after status =
     Answers (asks_plan given)
@@ -191,6 +191,6 @@ AnswersPlan files Failed given Made Broke before after Quiet Works told_before t
     × MakesFor files given.job (option_map (λ t. t.now) given.map) Made × Quiet)
     (CutsPlan files.flushed (shows_of given) (Filled given.job.strict (ServesPlan files given)) before after
     × (MayMakeFor files given.job (option_map (λ t. t.now) given.map) Made × (asks_plan given ≡ false → Made [])))
-    (RefusesPlan given.job.strict (LacksEarly files (paths_asked given.job (map_path (option_map (λ t. t.now) given.map))) Map (Made [])) Broke Failed (HasGone files) files.flushed (shows_of given)
+    (RefusesPlan given.job.strict (LacksEarly files (paths_asked given.job (map_path (option_map (λ t. t.now) given.map))) Map (Made [])) Broke files.broke Failed (HasGone files) files.flushed (shows_of given)
     (ServesPlan files given) before after)
     Works told_before told_after status

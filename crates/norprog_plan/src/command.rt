@@ -86,7 +86,8 @@ fn report_plan<S: FileStore, O: ByteOut>(
         (paths_asked given.entry.job (map_path (option_map (λ t. t.now) given.entry.map))) Map
         (Adds (S.Journal.changes journal.old) (S.Journal.changes journal.new) []))
         (Breaks (S.facts store.now) (O.count out.old) (O.count out.new))
-        (HasFailed S.Input.ahead S.Input.count) (HasGone (S.facts store.now))
+        (S.facts store.now).broke (HasFailed S.Input.ahead S.Input.count)
+        (HasGone (S.facts store.now))
         (S.facts store.now).flushed (shows_of given.entry)
         (ServesPlan (S.facts store.now) given.entry) (O.held out.old) (O.held out.new))) }
 {
@@ -139,7 +140,8 @@ fn run_plan<S: FileStore, O: ByteOut>(
         (paths_of request.now (map_path (option_map (λ t. t.now) map.entry))) Map
         (Adds (S.Journal.changes journal.old) (S.Journal.changes journal.new) []))
         (Breaks (S.facts store.now) (O.count out.old) (O.count out.new))
-        (HasFailed S.Input.ahead S.Input.count) (HasGone (S.facts store.now))
+        (S.facts store.now).broke (HasFailed S.Input.ahead S.Input.count)
+        (HasGone (S.facts store.now))
         (S.facts store.now).flushed shows
         (IsJobOf (S.facts store.now) request.now (option_map (λ t. t.now) map.entry))
         (O.held out.old) (O.held out.new)) }

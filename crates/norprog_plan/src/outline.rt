@@ -68,7 +68,7 @@ pub(crate) fn print_job<S: FileStore, R: ByteIn, O: ByteOut>(
         (O.held out.old) (O.held out.new)) }
     ensures refused { IfErr result (StopsPrinting
         (Breaks (S.facts store.now) (O.count out.old) (O.count out.new))
-        (HasFailed R.ahead R.count) (HasGone (S.facts store.now))
+        (S.facts store.now).broke (HasFailed R.ahead R.count) (HasGone (S.facts store.now))
         (S.facts store.now).flushed shows
         (job_with inputs.now (R.ahead content.old) len (option_map S.Output.held map))
         (O.held out.old) (O.held out.new)) }

@@ -18,6 +18,6 @@ returns-clause-answer g c =
     let before = g.O.ByteOut.held c.args.out.now in
     let after = g.O.ByteOut.held c.report_plan.new.out in
     answer_is (asks_plan c.args.given) (PrintsPlan files.flushed (shows_of c.args.given) Asked before after) (CutsPlan files.flushed (shows_of c.args.given) Asked before after)
-    _ _ _ _ (RefusesPlan strict (LacksEarly files (paths_asked c.args.given.job (map_path (option_map (λ t. t.now) c.args.given.map))) Map (Adds (g.S.Journal.Journal.changes c.args.journal.now) (g.S.Journal.Journal.changes c.report_plan.new.journal) [])) (Breaks files (g.O.ByteOut.count c.args.out.now) (g.O.ByteOut.count c.report_plan.new.out)) (HasFailed g.S.Input.ByteIn.ahead g.S.Input.ByteIn.count) (HasGone files) files.flushed (shows_of c.args.given) (ServesPlan files c.args.given) before after) _ _ c.report_plan.result c.answered.result
+    _ _ _ _ (RefusesPlan strict (LacksEarly files (paths_asked c.args.given.job (map_path (option_map (λ t. t.now) c.args.given.map))) Map (Adds (g.S.Journal.Journal.changes c.args.journal.now) (g.S.Journal.Journal.changes c.report_plan.new.journal) [])) (Breaks files (g.O.ByteOut.count c.args.out.now) (g.O.ByteOut.count c.report_plan.new.out)) files.broke (HasFailed g.S.Input.ByteIn.ahead g.S.Input.ByteIn.count) (HasGone files) files.flushed (shows_of c.args.given) (ServesPlan files c.args.given) before after) _ _ c.report_plan.result c.answered.result
     c.report_plan.ensures.done c.report_plan.ensures.journal c.report_plan.ensures.printed c.report_plan.ensures.unprinted c.report_plan.ensures.first
     c.answered.ensures.done c.answered.ensures.told

@@ -35,7 +35,7 @@ returns-in_err-run_plan-clause-first g c =
     let Broke = Breaks files (g.O.ByteOut.count c.args.out.now) (g.O.ByteOut.count c.run_plan.new.out) in
     let Nothing = Adds (g.S.Journal.Journal.changes c.args.journal.now) (g.S.Journal.Journal.changes c.run_plan.new.journal) [] in
     let formed = is_formed c.args.given.job c.request_of.result request c.in_ok-request.ensures.ok_part c.request_of.ensures.forms in
-    let Work = RefusesPlan c.args.given.job.strict (LacksEarly files (paths_asked c.args.given.job (map_path (option_map (λ t. t.now) c.args.given.map))) Map Nothing) Broke (HasFailed g.S.Input.ByteIn.ahead g.S.Input.ByteIn.count) (HasGone files) files.flushed (shows_of c.args.given)
+    let Work = RefusesPlan c.args.given.job.strict (LacksEarly files (paths_asked c.args.given.job (map_path (option_map (λ t. t.now) c.args.given.map))) Map Nothing) Broke files.broke (HasFailed g.S.Input.ByteIn.ahead g.S.Input.ByteIn.count) (HasGone files) files.flushed (shows_of c.args.given)
     (ServesPlan files c.args.given) x y in
     handed_on (OrUsage (asks_plan c.args.given) Work) _ _ c.from_residual-in_err-run_plan.ensures.1
     (or_usage (asks_plan c.args.given) Work c.in_err-run_plan.field-0.0 formed

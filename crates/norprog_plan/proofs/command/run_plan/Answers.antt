@@ -21,7 +21,7 @@ returns-clause-refused g c =
     let asked = job_of files c.args.request.now out c.inputs_of-inputs.result _ _ _ (held_in c.in_ok-texts.field-0.texts)
     c.in_ok-texts.ensures.given c.inputs_of-inputs.ensures c.in_ok-texts.ensures.content c.in_ok-texts.ensures.made in
     rw c.left.ensures.same
-    (empty_refused strict Lacked (Breaks files count count) (HasFailed g.S.Input.ByteIn.ahead g.S.Input.ByteIn.count) (HasGone files) files.flushed c.args.shows Asked _ x x c.in-Err.refusal
+    (empty_refused strict Lacked (Breaks files count count) files.broke (HasFailed g.S.Input.ByteIn.ahead g.S.Input.ByteIn.count) (HasGone files) files.flushed c.args.shows Asked _ x x c.in-Err.refusal
     (asked, c.left.ensures.gone) c.in-Err.ensures.refused)
 
 pub returns-in-Ok-clause-printed : goal.returns-in-Ok-clause-printed
@@ -49,5 +49,5 @@ returns-in-Ok-clause-refused g c =
     let Lacked = LacksEarly files (paths_of c.args.request.now (map_path out)) Map (Adds (g.S.Journal.Journal.changes c.args.journal.now) (g.S.Journal.Journal.changes c.open_files.new.journal) []) in
     let asked = job_of files c.args.request.now out c.inputs_of-inputs.result _ _ _ (held_in c.in_ok-texts.field-0.texts)
     c.in_ok-texts.ensures.given c.inputs_of-inputs.ensures c.in_ok-texts.ensures.content c.in_ok-texts.ensures.made in
-    job_stops c.print_job.result c.args.request.now.strict Lacked (Breaks files (g.O.ByteOut.count c.args.out.now) (g.O.ByteOut.count c.print_job.new.out)) (HasFailed g.S.Input.ByteIn.ahead g.S.Input.ByteIn.count) (HasGone files) files.flushed c.args.shows
+    job_stops c.print_job.result c.args.request.now.strict Lacked (Breaks files (g.O.ByteOut.count c.args.out.now) (g.O.ByteOut.count c.print_job.new.out)) files.broke (HasFailed g.S.Input.ByteIn.ahead g.S.Input.ByteIn.count) (HasGone files) files.flushed c.args.shows
     (IsJobOf files c.args.request.now out) _ _ _ (asked, c.in-Ok.ensures.filled) c.print_job.ensures.refused

@@ -39,7 +39,7 @@ returns-in-Ok-print_lines-clause-refused g c =
     let is : IsJob t c.args.len c.in-Ok.job = c.in-Ok.ensures.job in
     let all = c.in-Ok-print_lines.ensures.printed t c.args.len is in
     let are = all.sums (tables_times t.chip) c.in_ok-sums.ensures.sums in
-    behind_stops c.print_behind.result _ _ (Breaks files (g.O.ByteOut.count c.args.out.now) (g.O.ByteOut.count c.print_behind.new.out)) _ (HasFailed g.R.ByteIn.ahead g.R.ByteIn.count) (HasGone files) files.flushed c.args.shows j c.in-Ok.job
+    behind_stops c.print_behind.result _ _ (Breaks files (g.O.ByteOut.count c.args.out.now) (g.O.ByteOut.count c.print_behind.new.out)) files.broke (HasFailed g.R.ByteIn.ahead g.R.ByteIn.count) (HasGone files) files.flushed c.args.shows j c.in-Ok.job
     c.in_ok-sums.sums c.print_lines.new.sums (g.R.ByteIn.ahead c.print_lines.new.content) (g.O.ByteOut.held c.args.out.now) (g.O.ByteOut.held c.print_lines.new.out)
     (g.O.ByteOut.held c.print_behind.new.out) c.in-Ok-print_lines.report (is_some c.args.map) all is (sym (same_some _ c.args.map)) (λ broke. inl broke)
     (λ more. inr (omega (arith, more, c.in-Ok-print_lines.ensures.counts.1))) (c.print_behind.ensures.cut c.args.len all.lines is are)
@@ -60,6 +60,6 @@ returns-clause-refused g c =
     let is : IsJob t c.args.len c.in-Ok.job = c.in-Ok.ensures.job in
     let stops = c.planned_lines.ensures.inputs t c.args.len c.in-Ok.job _ _ _ _ c.in-Err-print_lines.fault is c.in-Err-print_lines.ensures.cut in
     rw c.left-in-Err-print_lines.ensures.same
-    (lines_stop (Breaks files (g.O.ByteOut.count c.args.out.now) (g.O.ByteOut.count c.print_lines.new.out)) (HasFailed g.R.ByteIn.ahead g.R.ByteIn.count) (HasGone files) files.flushed c.args.shows j _
+    (lines_stop (Breaks files (g.O.ByteOut.count c.args.out.now) (g.O.ByteOut.count c.print_lines.new.out)) files.broke (HasFailed g.R.ByteIn.ahead g.R.ByteIn.count) (HasGone files) files.flushed c.args.shows j _
     (g.O.ByteOut.count c.args.out.now) (g.O.ByteOut.count c.print_lines.new.out) _ _ c.in-Err-print_lines.fault (λ more. inr more) c.in-Err-print_lines.ensures.counts.1
     (read_blames g.R.ByteIn.ahead g.R.ByteIn.count _ _ c.in-Err-print_lines.fault (stops.part, stops.given) c.in-Err-print_lines.ensures.counts.0) c.left-in-Err-print_lines.ensures.gone stops)
