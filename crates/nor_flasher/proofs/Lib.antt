@@ -3,3 +3,4 @@ mod DoableLemmas
 mod LengthLemmas
 mod BegunLemmas
 mod StepsLemmas
+mod ShownLemmas

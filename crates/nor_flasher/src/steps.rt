@@ -1,10 +1,11 @@
 //! Steps done by a device.
 
-ghost use Rattle.std.specs.Prelude.{◌≡◌, ◌≤◌, ◌<◌, ◌+◌, ◌-◌, ◌^◌, ◌↔◌, All, IsTrue, MatchResult};
+ghost use Rattle.std.specs.Prelude.{◌≡◌, ◌≤◌, ◌<◌, ◌+◌, ◌-◌, ◌^◌, ◌↔◌, length, All, IsTrue};
+ghost use Rattle.std.specs.Prelude.{MatchResult};
 ghost use Rattle.nor_base.specs.Device.{HaveRoom};
 ghost use Rattle.nor_serprog.specs.declared.fault.Fault.TheVariants.{Read, Write};
 ghost use Rattle.nor_serprog.specs.Done.{IsDoable, HasDoneAll};
-ghost use Rattle.nor_progress.specs.Far.{HasRoom};
+ghost use Rattle.nor_progress.specs.Text.{Reports};
 ghost use Rattle.nor_serprog.specs.Row.{HasHalted, CountsHalt};
 
 use nor_base::{ByteIn, ByteOut, Step};
@@ -22,7 +23,7 @@ pub fn are_doable(steps: &[Step]) -> bool
 /// Has the device do steps, one after the other, row by row, as [`do_row`]. A poll reads the status
 /// `turns` times at most.
 ///
-/// How far it has come is written to `progress`; where that fails nothing changes. At the first
+/// How many are done is written to `progress`; where that fails nothing else changes. At the first
 /// step that can't be done it stops: the halt has its number, from 0, and the reason.
 pub fn do_steps<R: ByteIn, W: ByteOut, P: ByteOut>(
     from: &mut R,
@@ -41,10 +42,16 @@ pub fn do_steps<R: ByteIn, W: ByteOut, P: ByteOut>(
         (λ halt. HasHalted (W.held to.old) (W.held to.new) (R.ahead from.old) (R.ahead from.new)
         limits.now turns steps.now
         halt) }
+    ensures shown { MatchResult result
+        (λ _. Reports steps.now (length steps.now) (P.held progress.old) (P.held progress.new)
+        (P.count progress.old)
+        (P.count progress.new))
+        (λ halt. Reports steps.now halt.step (P.held progress.old) (P.held progress.new)
+        (P.count progress.old)
+        (P.count progress.new)) }
     ensures counts { CountsHalt Read (R.count from.old) (R.count from.new) result
-        × CountsHalt Write (W.count to.old) (W.count to.new) result }
-    ensures failures { (R.count from.new ≤ R.count from.old + 1)
-        × (W.count to.new ≤ W.count to.old + 1) }
+        × CountsHalt Write (W.count to.old) (W.count to.new) result
+        × (R.count from.new ≤ R.count from.old + 1) × (W.count to.new ≤ W.count to.old + 1) }
 {
     rows();
     let mut far = Progress::of(steps);
@@ -52,7 +59,7 @@ pub fn do_steps<R: ByteIn, W: ByteOut, P: ByteOut>(
     while !rest.is_empty() {
         let (row, later) = rest.split_at(row_length(rest, limits));
         if let Err(halt) = do_row(from, to, limits, turns, row) {
-            row_done(&row[..halt.step as usize], &mut far, progress);
+            far.row_done(&row[..halt.step as usize], progress);
             far.end(progress);
             let step = (steps.len() - rest.len()) as u64 + halt.step;
             return Err(Halt {
@@ -60,19 +67,9 @@ pub fn do_steps<R: ByteIn, W: ByteOut, P: ByteOut>(
                 why: halt.why,
             });
         }
-        row_done(row, &mut far, progress);
+        far.row_done(row, progress);
         rest = later;
     }
     far.end(progress);
     Ok(())
-}
-
-/// These steps of a row were done.
-fn row_done<P: ByteOut>(row: &[Step], far: &mut Progress, progress: &mut P)
-    requires { HasRoom far.old (P.count progress.old) }
-    ensures { HasRoom far.new (P.count progress.new) }
-{
-    for step in row {
-        far.step_done(step, progress);
-    }
 }

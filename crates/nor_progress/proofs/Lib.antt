@@ -1,1 +1,2 @@
 mod FarLemmas
+pub mod ReportLaws

@@ -1,2 +1,4 @@
 pub mod Line
 pub mod Far
+pub mod Text
+pub mod Come

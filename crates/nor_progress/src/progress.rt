@@ -1,7 +1,8 @@
 //! How far work has come.
 
-ghost use Rattle.std.specs.Prelude.{◌≡◌, ◌<◌, ◌-◌, ◌^◌};
+ghost use Rattle.std.specs.Prelude.{◌≡◌, ◌<◌, ◌-◌, ◌^◌, length};
 ghost use Rattle.nor_base.specs.Device.{Writes, Counts};
+ghost use Rattle.nor_progress.specs.Come.{MovesOn};
 ghost use Rattle.nor_progress.specs.Far.{begun, bus_bytes, is_due, line_of, HasRoom, StepTold};
 ghost use Rattle.nor_progress.specs.Far.{Ended};
 
@@ -28,7 +29,8 @@ pub struct Progress {
 impl Progress {
     /// None of these steps is done.
     pub fn of(steps: &[Step]) -> Progress
-        ensures { result ≡ begun steps.now }
+        ensures none { result ≡ begun steps.now }
+        ensures few { length steps.now < 2 ^ 64 }
     {
         let mut all_bytes: u64 = 0;
         for step in steps {
@@ -58,6 +60,20 @@ impl Progress {
         if self.is_due() {
             self.works = self.write_line(out).is_ok();
             self.shown = true;
+        }
+    }
+
+    /// These steps are done, one after the other: of whatever steps they are the next, what was
+    /// written so far is what is due after the first so many and these.
+    pub fn row_done<P: ByteOut>(&mut self, row: &[Step], out: &mut P)
+        requires { HasRoom self.old (P.count out.old) }
+        ensures moves { MovesOn self.old self.new row.now (P.held out.old) (P.held out.new)
+            (P.count out.old)
+            (P.count out.new) }
+        ensures room { HasRoom self.new (P.count out.new) }
+    {
+        for step in row {
+            self.step_done(step, out);
         }
     }
 

@@ -114,22 +114,24 @@ WorkCause t image regions m len part after fault.Write = ⊤
 WorkCause t image regions m len part after fault.Memory = ⊤
 WorkCause t image regions m len part after other = ⊥
 
--- bytes that a build wrote which then was refused, of a part of the content that it read: with some more they are the script
--- of the planned work of a content that begins with the windows of that part that were planned; no address of these is at
--- fault
+-- with some more bytes these are the script of the planned work of this content
+pub record BeginsScript (m : Parameters) (start : Start) (verify : Bool) (content goal bytes : List ℕ) : Type 0 where
+  pub steps : List Step
+  pub planned : ArePlanned m start verify content goal steps
+  pub rest : List ℕ
+  pub script : IsScript (bytes ++ rest) steps
+  pub more : rest ≢ []
+
+-- bytes that a build wrote which then was refused, of a part of the content that it read, of which the first windows were planned:
+-- some work can be done on a content that begins with these windows; and whatever else such a content has, the bytes begin its script
 pub record IsFrontOf (m : Parameters) (start : Start) (verify : Bool) (goal : List ℕ → List ℕ) (part bytes : List ℕ) (why : BuildFault) : Type 0 where
-  pub content : List ℕ
   pub window : ℕ
   pub its_size : IsWindowSize m window
   pub known : ℕ
   pub windows : AreWindows m.size window known (length part) why
-  pub begins : take known content ≡ take known part
-  pub workable : IsWorkable m start content (goal content)
-  pub steps : List Step
-  pub planned : ArePlanned m start verify content (goal content) steps
-  pub rest : List ℕ
-  pub script : IsScript (bytes ++ rest) steps
-  pub more : rest ≢ []
+  pub workable : (content : List ℕ) × (take known content ≡ take known part) × IsWorkable m start content (goal content)
+  pub begins : (content : List ℕ) → take known content ≡ take known part → IsWorkable m start content (goal content)
+      → BeginsScript m start verify content (goal content) bytes
 
 -- the inputs are accepted, some of the content was read, its cause, and what was written, which is no script
 pub record StopsWork (t : Task) (len : ℕ) (before after : Ahead) (held_before held_after : Option (List ℕ)) (why : BuildFault) : Type 0 where

@@ -1,5 +1,5 @@
 -- What was built, and why nothing was, of a job that is asked for.
-use Rattle.std.proofs.Common.{◌≡◌, ℕ, ◌+◌, ◌<◌, Bool, ◌⊎◌, inl, inr, refl, arith, List, Option, Some, Result, Ok, Err, IfOk, IfErr}
+use Rattle.std.proofs.Common.{◌≡◌, ℕ, ◌+◌, ◌<◌, Bool, ◌⊎◌, inl, inr, refl, subst, arith, List, Option, Some, Result, Ok, Err, IfOk, IfErr}
 use Rattle.nor_base.specs.Device.{Ahead}
 use Rattle.nor_job.specs.declared.fault.BuildFault.{BuildFault}
 use Rattle.nor_job.specs.declared.fault.BuildFault.TheVariants as fault
@@ -14,9 +14,9 @@ use Rattle.norprog_common.specs.declared.faults.Refusal.{Refusal}
 use Rattle.norprog_common.specs.declared.faults.Refusal.TheVariants.{Build}
 use Rattle.norprog_common.specs.Files.{TellsFile}
 use Rattle.norprog_common.specs.Reading.{HasFailed}
-use Rattle.norprog_common.specs.Told.{OfFault, TellsBroken}
-use Rattle.norprog_common.proofs.ToldLemmas.{asked_wider, fault_wider, by_fault, by_files, refuses_wider}
-use Rattle.norprog_build.specs.Answer.{BlamesReader, IsReportOf, IsBuildReport, IsFaultOf, IsBuildFault, IsLeft, RefusesBuild, done}
+use Rattle.norprog_common.specs.Told.{AtMemory, OfFault, TellsBroken}
+use Rattle.norprog_common.proofs.ToldLemmas.{write_is_other, asked_wider, fault_wider, by_fault, by_files, refuses_wider}
+use Rattle.norprog_build.specs.Answer.{BlamesReader, IsBegunBuild, IsReportOf, IsBuildReport, IsFaultOf, IsBuildFault, IsLeft, RefusesBuild, done}
 use Rattle.norprog_common.specs.Served.{Job, job_with}
 use Rattle.norprog_common.specs.Strict.{Filled, OrEmpty, RefusesEmpty}
 use Rattle.norprog_common.proofs.StrictLemmas.{filled_wider, empty_wider, by_empty}
@@ -61,6 +61,43 @@ pub build_blames : {F : Type 0} (ahead : F → Ahead) (count : F → ℕ) (conte
 build_blames ahead count content after len (Ok report) within counts = tt
 build_blames ahead count content after len (Err why) within counts = read_blames ahead count content after len why within counts
 
+-- the fault of a job of which so much was written
+fault_is : (Gone : Option (List ℕ) → Type 0) (Failed : Ahead → Type 0) (Asked : Job → Type 0) (A B : Type 0) (t : Task) (len : ℕ) (before after : Ahead) (held held' : Option (List ℕ)) (why : BuildFault)
+    → Asked (job_with t before len (Some held)) → (RefusesInputs t len why × A × B) ⊎ StopsWork t len before after held held' why → (B → held' ≡ held) → Gone held'
+    → BlamesReader (Failed before) why → IsBuildFault Gone Failed Asked why
+fault_is Gone Failed Asked A B t len before after held held' why asked refused same gone blamed = record {
+  it = job_with t before len (Some held);
+  asked = asked;
+  has = record {
+    after = after;
+    held_before = held;
+    held_after = held';
+    begun = refl;
+    refused = elim refused [ inl early ↦ inl (early.0, same early.2) | inr late ↦ inr late ];
+    gone = gone;
+    blamed = blamed;
+  };
+}
+
+is_memory : (why : BuildFault) → Path Refusal (Build why) (Build fault.Memory) → why ≡ fault.Memory
+is_memory why is = cc
+
+-- what the output of a job holds that was begun, where memory ran out
+pub memory_of_build : {U E : Type 0} (strict : Bool) (Nothing A B : Type 0) (Gone : Option (List ℕ) → Type 0) (Failed : Ahead → Type 0) (Asked : Job → Type 0) (t : Task) (len : ℕ) (before after : Ahead)
+    (held held' : Option (List ℕ)) (answer : Result Report BuildFault) (flushed : Result U E) (r : Result Report Refusal) → Filled strict Asked (job_with t before len (Some held))
+    → IfErr answer (λ why. (RefusesInputs t len why × A × B) ⊎ StopsWork t len before after held held' why)
+    → (B → held' ≡ held) → Gone held' → IfErr answer (BlamesReader (Failed before)) → r ≡ done answer flushed → IfErr r (AtMemory (Nothing ⊎ IsBegunBuild strict Gone Failed Asked))
+memory_of_build strict Nothing A B Gone Failed Asked t len before after held held' (Err why) flushed r asked refused same gone blamed is =
+    rw is (λ memory. inr (inr (subst (IsBuildFault Gone Failed (Filled strict Asked)) (is_memory why memory) (fault_is Gone Failed (Filled strict Asked) A B t len before after held held' why asked refused same gone blamed))))
+memory_of_build strict Nothing A B Gone Failed Asked t len before after held held' (Ok report) (Err e) r asked refused same gone blamed is = rw is (λ memory. absurd (write_is_other memory))
+memory_of_build strict Nothing A B Gone Failed Asked t len before after held held' (Ok report) (Ok u) r asked refused same gone blamed is = rw is tt
+
+-- with more jobs that may be asked for
+pub begun_wider : (strict : Bool) (Gone : Option (List ℕ) → Type 0) (Failed : Ahead → Type 0) (A B : Job → Type 0) → ((j : Job) → A j → B j)
+    → IsBegunBuild strict Gone Failed A → IsBegunBuild strict Gone Failed B
+begun_wider strict Gone Failed A B wider (inl left) = inl (left.0, (wider left.0 left.1.0, left.1.1))
+begun_wider strict Gone Failed A B wider (inr stop) = inr (asked_wider Job (Filled strict A) (Filled strict B) (IsFaultOf Gone Failed fault.Memory) (filled_wider strict A B wider) stop)
+
 pub refusal_of_build : {U E : Type 0} (strict : Bool) (Lacked : FileName → Type 0) (Broke A B : Type 0) (Gone : Option (List ℕ) → Type 0) (Failed : Ahead → Type 0) (Asked : Job → Type 0) (t : Task) (len : ℕ) (before after : Ahead) (held held' : Option (List ℕ))
     (answer : Result Report BuildFault) (flushed : Result U E) (r : Result Report Refusal) → Filled strict Asked (job_with t before len (Some held))
     → IfOk answer (IsBuilt t len before after held held')
@@ -68,13 +105,8 @@ pub refusal_of_build : {U E : Type 0} (strict : Bool) (Lacked : FileName → Typ
     → (B → held' ≡ held) → Gone held' → IfErr answer (BlamesReader (Failed before)) → IfErr (done answer flushed) (TellsBroken Broke) → r ≡ done answer flushed
     → IfErr r (RefusesBuild strict Lacked Broke Gone Failed Asked)
 refusal_of_build strict Lacked Broke A B Gone Failed Asked t len before after held held' (Err why) flushed r asked built refused same gone blamed broke is =
-    let cause : (RefusesInputs t len why × (held' ≡ held)) ⊎ StopsWork t len before after held held' why =
-    elim refused [ inl early ↦ inl (early.0, same early.2) | inr late ↦ inr late ] in
-    rw is (by_fault Lacked Broke (OrEmpty strict (IsLeft Gone Asked) (OfFault (IsBuildFault Gone Failed (Filled strict Asked)))) _ (Build why) broke (record {
-      it = job_with t before len (Some held);
-      asked = asked;
-      has = record { after = after; held_before = held; held_after = held'; begun = refl; refused = cause; gone = gone; blamed = blamed };
-    }))
+    rw is (by_fault Lacked Broke (OrEmpty strict (IsLeft Gone Asked) (OfFault (IsBuildFault Gone Failed (Filled strict Asked)))) _ (Build why) broke
+    (fault_is Gone Failed (Filled strict Asked) A B t len before after held held' why asked refused same gone blamed))
 refusal_of_build strict Lacked Broke A B Gone Failed Asked t len before after held held' (Ok report) (Err e) r asked built refused same gone blamed broke is = rw is (
   inr (
     report,

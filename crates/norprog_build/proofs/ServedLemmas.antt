@@ -1,7 +1,7 @@
 -- The job of a request is the one that the texts ask for.
-use Rattle.std.proofs.Common.{◌≡◌, ◌∙◌, ap, sym, subst, Bool, true, is_some, option_map, Option, Some, IfSome, List, ℕ}
+use Rattle.std.proofs.Common.{◌≡◌, ◌∙◌, ap, sym, subst, inl, inr, Bool, true, is_some, option_map, Option, Some, IfSome, List, ℕ}
 use Rattle.nor_base.specs.Device.{Ahead}
-use Rattle.norprog_common.specs.FileStore.{FileFacts, HasGone, LacksEarly}
+use Rattle.norprog_common.specs.FileStore.{FileFacts, Change, HasGone, LacksEarly, TookNothing}
 use Rattle.norprog_common.specs.declared.given.BuildArgs.{BuildArgs}
 use Rattle.norprog_common.specs.declared.request.Request.{Request}
 use Rattle.norprog_build.specs.Served.{asks_build, ServesBuild}
@@ -11,8 +11,8 @@ use Rattle.norprog_common.specs.Strict.{Filled}
 use Rattle.norprog_common.specs.declared.faults.FileName.{FileName}
 use Rattle.norprog_common.specs.declared.faults.FileName.TheVariants.{Out}
 use Rattle.norprog_common.specs.declared.faults.Refusal.{Refusal}
-use Rattle.norprog_build.specs.Answer.{RefusesBuild}
-use Rattle.norprog_build.proofs.AnswerLemmas.{build_wider}
+use Rattle.norprog_build.specs.Answer.{HoldsBuild, IsBegunBuild, RefusesBuild}
+use Rattle.norprog_build.proofs.AnswerLemmas.{begun_wider, build_wider}
 use Rattle.norprog_common.proofs.LackedLemmas.{early_same, paths_are}
 use Rattle.norprog_common.proofs.ServedLemmas.{serves, asks_of, both, is_formed, is_named}
 
@@ -48,3 +48,15 @@ pub build_asked : (given : BuildArgs) (o : Option Request) (request : Request) (
     → option_map (λ t. t.now) given.out ≡ Some path → asks_build given ≡ true
 build_asked given o request path some forms out =
     both (is_well_formed given.job) (is_some given.out) (is_formed given.job o request some forms) (is_named (λ t. t.now) given.out path out)
+
+-- what the output holds is said of the one that the texts name
+pub build_holds : (files : FileFacts) (Failed : Ahead → Type 0) (given : BuildArgs) (Made : List Change → Type 0) (o : Option Request) (request : Request) (path : List ℕ) → o ≡ Some request
+    → IfSome o (AsksFor given.job) → option_map (λ t. t.now) given.out ≡ Some path → (why : Refusal) → HoldsBuild files (Some path) Made request.strict Failed (IsJobOf files request (Some path)) why
+    → HoldsBuild files (option_map (λ t. t.now) given.out) Made given.job.strict Failed (ServesBuild files given) why
+build_holds files Failed given Made o request path some asks out why holds = λ memory.
+    elim (holds memory) [
+      | inl none ↦ inl (subst (λ (named : Option (List ℕ)). TookNothing files named Made) (sym out) none)
+      | inr begun ↦
+          inr (begun_wider given.job.strict (HasGone files) Failed (IsJobOf files request (Some path)) (ServesBuild files given) (build_serves files given o request path some asks out)
+          (subst (λ (strict : Bool). IsBegunBuild strict (HasGone files) Failed (IsJobOf files request (Some path))) (asks_of given.job o request some asks).strict begun))
+    ]

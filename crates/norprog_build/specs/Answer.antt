@@ -3,7 +3,7 @@ use Rattle.std.specs.Prelude.{◌≡◌, ◌⊎◌, ⊤, ℕ, Bool, false, List,
 use Rattle.std.specs.Io.KnownBytes.{Appends}
 use Rattle.nor_base.specs.Device.{Ahead, Cuts}
 use Rattle.nor_job.specs.declared.fault.BuildFault.{BuildFault}
-use Rattle.nor_job.specs.declared.fault.BuildFault.TheVariants.{Read, Write}
+use Rattle.nor_job.specs.declared.fault.BuildFault.TheVariants.{Memory, Read, Write}
 use Rattle.nor_job.specs.Causes.{RefusesInputs}
 use Rattle.norprog.specs.Build.{IsBuilt, StopsWork}
 use Rattle.norprog.specs.Report.{report_text}
@@ -13,8 +13,8 @@ use Rattle.norprog_common.specs.declared.faults.FileName.TheVariants.{Out}
 use Rattle.norprog_common.specs.declared.faults.Refusal.{Refusal}
 use Rattle.norprog_common.specs.declared.faults.Refusal.TheVariants.{Build}
 use Rattle.norprog_common.specs.declared.given.BuildArgs.{BuildArgs}
-use Rattle.norprog_common.specs.FileStore.{FileFacts, Change, HasGone, LacksEarly}
-use Rattle.norprog_common.specs.Told.{ForAsked, OfFault, RefusesFor, Answers}
+use Rattle.norprog_common.specs.FileStore.{FileFacts, Change, HasGone, LacksEarly, TookNothing}
+use Rattle.norprog_common.specs.Told.{ForAsked, AtMemory, OfFault, RefusesFor, Answers}
 use Rattle.norprog_build.specs.Served.{asks_build, ServesBuild}
 use Rattle.norprog_common.specs.Served.{Job, MakesFor, MayMakeFor, out_path, paths_asked}
 use Rattle.norprog_common.specs.Strict.{Filled, OrEmpty}
@@ -54,6 +54,14 @@ IsBuildFault Gone Failed Asked why = ForAsked Job Asked (IsFaultOf Gone Failed w
 abbrev pub IsLeft : (Option (List ℕ) → Type 0) → (Job → Type 0) → Job → Type 0
 IsLeft Gone Asked j = Asked j × IfSome j.begun Gone
 
+-- a job was begun: its output holds what it held as it was made, or what its work wrote until memory ran out
+abbrev pub IsBegunBuild : Bool → (Option (List ℕ) → Type 0) → (Ahead → Type 0) → (Job → Type 0) → Type 0
+IsBegunBuild strict Gone Failed Asked = ((j : Job) × IsLeft Gone Asked j) ⊎ IsBuildFault Gone Failed (Filled strict Asked) Memory
+
+-- what the output of that name holds at out of memory
+abbrev pub HoldsBuild : FileFacts → Option (List ℕ) → (List Change → Type 0) → Bool → (Ahead → Type 0) → (Job → Type 0) → Refusal → Type 0
+HoldsBuild files out Made strict Failed Asked = AtMemory (TookNothing files out Made ⊎ IsBegunBuild strict (HasGone files) Failed Asked)
+
 -- why a build that was asked for isn't done; one that was may have failed to go out, or its report; `Broke`: an output failed. Under `--strict` also
 -- the first chosen region without a byte of the image, and of a build that went further each has one
 abbrev pub RefusesBuild : Bool → (FileName → Type 0) → Type 0 → (Option (List ℕ) → Type 0) → (Ahead → Type 0) → (Job → Type 0) → Refusal → Type 0
@@ -87,6 +95,6 @@ AnswersBuild files Failed given Made Broke before after Quiet Works told_before 
     × MakesFor files given.job (option_map (λ t. t.now) given.out) Made × Quiet)
     (CutsReport (Filled given.job.strict (ServesBuild files given)) files.flushed before after
     × (MayMakeFor files given.job (option_map (λ t. t.now) given.out) Made × (asks_build given ≡ false → Made [])))
-    (RefusesBuild given.job.strict (LacksEarly files (paths_asked given.job (out_path (option_map (λ t. t.now) given.out))) Out (Made [])) Broke (HasGone files)
-    Failed (ServesBuild files given))
+    (λ why. RefusesBuild given.job.strict (LacksEarly files (paths_asked given.job (out_path (option_map (λ t. t.now) given.out))) Out (Made [])) Broke (HasGone files)
+    Failed (ServesBuild files given) why × HoldsBuild files (option_map (λ t. t.now) given.out) Made given.job.strict Failed (ServesBuild files given) why)
     Works told_before told_after status

@@ -6,7 +6,7 @@ ghost use Rattle.std.specs.Prelude.{IfOk, IfErr, MatchResult};
 ghost use Rattle.norprog_common.specs.Told.{OrUsage};
 ghost use Rattle.norprog_build.specs.Served.{asks_build, ServesBuild};
 ghost use Rattle.norprog_build.specs.Answer.{IsBuildReport, RefusesBuild, PrintsReport, CutsReport};
-ghost use Rattle.norprog_build.specs.Answer.{AnswersBuild, done};
+ghost use Rattle.norprog_build.specs.Answer.{AnswersBuild, HoldsBuild, done};
 ghost use Rattle.norprog_common.specs.FileStore.{Adds, Breaks, HasGone, LacksEarly, MakesIf};
 ghost use Rattle.norprog_common.specs.declared.faults.FileName.TheVariants.{Out};
 ghost use Rattle.norprog_common.specs.Reading.{HasFailed};
@@ -82,6 +82,11 @@ fn report_build<S: FileStore, O: ByteOut>(
         (Breaks (S.facts store.now) (O.count out.old) (O.count out.new))
         (HasGone (S.facts store.now)) (HasFailed S.Input.ahead S.Input.count)
         (ServesBuild (S.facts store.now) given.entry))) }
+    ensures memory { IfErr result
+        (HoldsBuild (S.facts store.now) (option_map (λ t. t.now) given.entry.out)
+        (Adds (S.Journal.changes journal.old) (S.Journal.changes journal.new))
+        given.entry.job.strict (HasFailed S.Input.ahead S.Input.count)
+        (ServesBuild (S.facts store.now) given.entry)) }
 {
     let request = request_of(given.job).ok_or(Refusal::Usage)?;
     let path = given.out.ok_or(Refusal::Usage)?;
@@ -111,6 +116,10 @@ fn run_build<S: FileStore>(
         (Adds (S.Journal.changes journal.old) (S.Journal.changes journal.new) []))
         (S.facts store.now).broke (HasGone (S.facts store.now))
         (HasFailed S.Input.ahead S.Input.count)
+        (IsJobOf (S.facts store.now) request.now (Some path.now))) }
+    ensures memory { IfErr result (HoldsBuild (S.facts store.now) (Some path.now)
+        (Adds (S.Journal.changes journal.old) (S.Journal.changes journal.new))
+        request.now.strict (HasFailed S.Input.ahead S.Input.count)
         (IsJobOf (S.facts store.now) request.now (Some path.now))) }
 {
     let mut places = Vec::new(alloc);

@@ -1,8 +1,8 @@
 -- What the program answers (this project's).
-use Rattle.std.specs.Prelude.{◌≡◌, ◌⊎◌, ◌<◌, ◌-◌, ◌^◌, ℕ, zero, suc, List, [], Option, Some, None, Result, Ok, Err}
+use Rattle.std.specs.Prelude.{◌≡◌, ◌≢◌, ◌⊎◌, ◌<◌, ◌+◌, ◌-◌, ◌^◌, ℕ, zero, suc, min, List, [], Option, Some, None, Result, Ok, Err}
 use Rattle.std.specs.Io.KnownBytes.{Keeps}
 use Rattle.nor_base.specs.Device.{Ahead}
-use Rattle.nor_job.specs.declared.fault.BuildFault.TheVariants.{Write}
+use Rattle.nor_job.specs.declared.fault.BuildFault.TheVariants.{Memory, Write}
 use Rattle.norprog_common.specs.declared.faults.Refusal.{Refusal}
 use Rattle.norprog_common.specs.declared.faults.Refusal.TheVariants.{Build}
 use Rattle.norprog_common.specs.FileStore.{FileFacts, Change}
@@ -19,6 +19,7 @@ use Rattle.norprog_check.specs.Answer.{AnswersCheck}
 use Rattle.norprog_sfdp.specs.Answer.{AnswersChip}
 use Rattle.norprog_details.specs.declared.typed.CommandLine.{CommandLine}
 use Rattle.norprog_details.specs.Details.{TellsDetails}
+use Rattle.norprog_details.specs.Heard.{IsLastLine}
 use Rattle.norprog_draw.specs.Answer.{AnswersDraw}
 use Rattle.norprog_explain.specs.Explained.{explained, AnswersExplain}
 use Rattle.norprog_explain.specs.Topics.{topics}
@@ -29,42 +30,52 @@ use Rattle.norprog_play.specs.Answer.{AnswersPlay}
 use Rattle.norprog_read.specs.Answer.{AnswersRead}
 use Rattle.norprog_run.specs.Answer.{AnswersRun}
 use Rattle.norprog_script.specs.Answer.{AnswersScript}
+use Rattle.nor_progress.specs.Far.{IsSilent}
+
+-- what progress is shown on: what it held before and after, and how often it had failed before and after
+abbrev pub ProgressShown : Type 0
+ProgressShown = Option (List ℕ) × Option (List ℕ) × ℕ × ℕ
+
+-- nothing was shown
+abbrev pub ShowsNone : ProgressShown → Type 0
+ShowsNone shown = IsSilent shown.0 shown.1 shown.2 shown.3
 
 -- to what is asked for, each command its answer, by what is known of files by their names. `Failed` says what a reader had ahead that
 -- has failed, `Made` which files and devices were changed, `Unprinted` that what is printed to failed; a command that isn't handed the
--- journal changes none, and makes no output
-abbrev pub AnswersTo : FileFacts → (Ahead → Type 0) → (List Change → Type 0) → Type 0 → Asked → Option (List ℕ) → Option (List ℕ) → Type 0 → Type 0 → Option (List ℕ) → Option (List ℕ) → ℕ → Type 0
-AnswersTo files Failed Made Unprinted (command.Build given) before after Quiet Works told_before told_after status =
-    AnswersBuild files Failed given Made (files.broke ⊎ Unprinted) before after Quiet Works told_before told_after status
-AnswersTo files Failed Made Unprinted (command.Plan given) before after Quiet Works told_before told_after status =
-    AnswersPlan files Failed given Made (files.broke ⊎ Unprinted) before after Quiet Works told_before told_after status
-AnswersTo files Failed Made Unprinted (command.Check given) before after Quiet Works told_before told_after status =
-    Made [] × AnswersCheck files Failed given Unprinted before after Quiet Works told_before told_after status
-AnswersTo files Failed Made Unprinted (command.Run given) before after Quiet Works told_before told_after status =
-    AnswersRun files Failed given Made (files.broke ⊎ Unprinted) before after Quiet Works told_before told_after status
-AnswersTo files Failed Made Unprinted (command.List given) before after Quiet Works told_before told_after status =
-    Made [] × AnswersList files Failed given Unprinted before after Quiet Works told_before told_after status
-AnswersTo files Failed Made Unprinted (command.Draw given) before after Quiet Works told_before told_after status =
-    (after ≡ before) × AnswersDraw files given Made Quiet Works told_before told_after status
-AnswersTo files Failed Made Unprinted (command.Play given) before after Quiet Works told_before told_after status =
-    AnswersPlay files Failed given Made (files.broke ⊎ Unprinted) before after Quiet Works told_before told_after status
-AnswersTo files Failed Made Unprinted (command.Read given) before after Quiet Works told_before told_after status =
-    AnswersRead files given Made (files.broke ⊎ Unprinted) before after Quiet Works told_before told_after status
-AnswersTo files Failed Made Unprinted (command.Flash given) before after Quiet Works told_before told_after status =
-    AnswersFlash files given Made (files.broke ⊎ Unprinted) before after Quiet Works told_before told_after status
-AnswersTo files Failed Made Unprinted (command.Sfdp given) before after Quiet Works told_before told_after status =
-    Made [] × AnswersChip files given Unprinted before after Quiet Works told_before told_after status
-AnswersTo files Failed Made Unprinted (command.Hex given) before after Quiet Works told_before told_after status =
-    (after ≡ before) × AnswersHex files Failed given Made Quiet Works told_before told_after status
-AnswersTo files Failed Made Unprinted (command.Script given) before after Quiet Works told_before told_after status =
-    AnswersScript files given Made (files.broke ⊎ Unprinted) before after Quiet Works told_before told_after status
-AnswersTo files Failed Made Unprinted (command.Explain words) before after Quiet Works told_before told_after status =
-    Made [] × AnswersExplain (explained topics words.items) Unprinted before after Quiet Works told_before told_after status
+-- journal changes none, and makes no output; only `play` and `flash` show progress
+abbrev pub AnswersTo : FileFacts → (Ahead → Type 0) → (List Change → Type 0) → Type 0 → Asked → Option (List ℕ) → Option (List ℕ) → Type 0
+    → Type 0 → Option (List ℕ) → Option (List ℕ) → ℕ → ProgressShown → Type 0
+AnswersTo files Failed Made Unprinted (command.Build given) before after Quiet Works told_before told_after status shown =
+    ShowsNone shown × AnswersBuild files Failed given Made (files.broke ⊎ Unprinted) before after Quiet Works told_before told_after status
+AnswersTo files Failed Made Unprinted (command.Plan given) before after Quiet Works told_before told_after status shown =
+    ShowsNone shown × AnswersPlan files Failed given Made (files.broke ⊎ Unprinted) before after Quiet Works told_before told_after status
+AnswersTo files Failed Made Unprinted (command.Check given) before after Quiet Works told_before told_after status shown =
+    ShowsNone shown × Made [] × AnswersCheck files Failed given Unprinted before after Quiet Works told_before told_after status
+AnswersTo files Failed Made Unprinted (command.Run given) before after Quiet Works told_before told_after status shown =
+    ShowsNone shown × AnswersRun files Failed given Made (files.broke ⊎ Unprinted) before after Quiet Works told_before told_after status
+AnswersTo files Failed Made Unprinted (command.List given) before after Quiet Works told_before told_after status shown =
+    ShowsNone shown × Made [] × AnswersList files Failed given Unprinted before after Quiet Works told_before told_after status
+AnswersTo files Failed Made Unprinted (command.Draw given) before after Quiet Works told_before told_after status shown =
+    ShowsNone shown × (after ≡ before) × AnswersDraw files given Made Quiet Works told_before told_after status
+AnswersTo files Failed Made Unprinted (command.Play given) before after Quiet Works told_before told_after status shown =
+    AnswersPlay files Failed given Made (files.broke ⊎ Unprinted) before after Quiet Works told_before told_after status shown.0 shown.1 shown.2 shown.3
+AnswersTo files Failed Made Unprinted (command.Read given) before after Quiet Works told_before told_after status shown =
+    ShowsNone shown × AnswersRead files given Made (files.broke ⊎ Unprinted) before after Quiet Works told_before told_after status
+AnswersTo files Failed Made Unprinted (command.Flash given) before after Quiet Works told_before told_after status shown =
+    AnswersFlash files given Made (files.broke ⊎ Unprinted) before after Quiet Works told_before told_after status shown.0 shown.1 shown.2 shown.3
+AnswersTo files Failed Made Unprinted (command.Sfdp given) before after Quiet Works told_before told_after status shown =
+    ShowsNone shown × Made [] × AnswersChip files given Unprinted before after Quiet Works told_before told_after status
+AnswersTo files Failed Made Unprinted (command.Hex given) before after Quiet Works told_before told_after status shown =
+    ShowsNone shown × (after ≡ before) × AnswersHex files Failed given Made Quiet Works told_before told_after status
+AnswersTo files Failed Made Unprinted (command.Script given) before after Quiet Works told_before told_after status shown =
+    ShowsNone shown × AnswersScript files given Made (files.broke ⊎ Unprinted) before after Quiet Works told_before told_after status
+AnswersTo files Failed Made Unprinted (command.Explain words) before after Quiet Works told_before told_after status shown =
+    ShowsNone shown × Made [] × AnswersExplain (explained topics words.items) Unprinted before after Quiet Works told_before told_after status
 
--- more of a refusal was written, by what stands on the command line
+-- more was written of the refusal that is the last line of the text so far, by what stands on the command line
 abbrev pub AddsLines : {E : Type 0} → (E → ℕ) → (E → Option (List ℕ)) → FileFacts → TypedLine → E → E → Type 0
 AddsLines count held files typed before after =
-    (line : CommandLine) × (refusal : List ℕ) × IsLineOf typed line
+    (line : CommandLine) × (refusal : List ℕ) × IsLineOf typed line × IsLastLine (held before) refusal
     × TellsDetails files line refusal ((count before < 2 ^ 64 - 1) × (count after ≡ count before)) (held before) (held after)
 
 -- that is so where the command line wants it and the command isn't done; else nothing was written
@@ -75,39 +86,63 @@ AddsDetails count held files (Some typed) (suc status) before after = AddsLines 
 
 -- a command line has its command's answer, and then more of a refusal
 pub record AnswersLine (E : Type 0) (count : E → ℕ) (held : E → Option (List ℕ)) (files : FileFacts) (Failed : Ahead → Type 0)
-    (Made : List Change → Type 0) (Unprinted : Type 0) (before after : Option (List ℕ)) (err_before err_after : E) (status : ℕ) (line : Line) : Type 0 where
+    (Made : List Change → Type 0) (Unprinted : Type 0) (before after : Option (List ℕ)) (err_before err_after : E) (status : ℕ)
+    (shown : ProgressShown) (line : Line) : Type 0 where
   pub answered : E
-  pub answers : AnswersTo files Failed Made Unprinted line.asked before after (answered ≡ err_before) (count answered ≡ count err_before) (held err_before)
-      (held answered) status
+  pub answers : AnswersTo files Failed Made Unprinted line.asked before after (answered ≡ err_before) (count answered ≡ count err_before)
+      (held err_before) (held answered) status shown
   pub details : AddsDetails count held files line.details status answered err_after
 
 -- to the command line that the words are its answer; to words that are refused, why
-abbrev pub AnswersTyped : {E : Type 0} → (E → ℕ) → (E → Option (List ℕ)) → FileFacts → (Ahead → Type 0) → (List Change → Type 0) → Type 0 → List (List ℕ) → Option (List ℕ) → Option (List ℕ) → E → E → ℕ
-    → Result Line Refusal → Type 0
-AnswersTyped count held files Failed Made Unprinted words before after err_before err_after status (Ok line) =
-    Spells words line × AnswersLine _ count held files Failed Made Unprinted before after err_before err_after status line
-AnswersTyped count held files Failed Made Unprinted words before after err_before err_after status (Err why) =
-    Refuses words why × Made [] × (after ≡ before) × TellsOf (λ told. told ≡ why) (count err_after ≡ count err_before) (held err_before) (held err_after) status
+abbrev pub AnswersTyped : {E : Type 0} → (E → ℕ) → (E → Option (List ℕ)) → FileFacts → (Ahead → Type 0) → (List Change → Type 0) → Type 0
+    → List (List ℕ) → Option (List ℕ) → Option (List ℕ) → E → E → ℕ
+    → ProgressShown → Result Line Refusal → Type 0
+AnswersTyped count held files Failed Made Unprinted words before after err_before err_after status shown (Ok line) =
+    Spells words line × AnswersLine _ count held files Failed Made Unprinted before after err_before err_after status shown line
+AnswersTyped count held files Failed Made Unprinted words before after err_before err_after status shown (Err why) =
+    ShowsNone shown × Refuses words why × Made [] × (after ≡ before)
+    × TellsOf (λ told. told ≡ why) (count err_after ≡ count err_before) (held err_before) (held err_after) status
 
 -- what the program answers to words
-abbrev pub AnswersWords : {E : Type 0} → (E → ℕ) → (E → Option (List ℕ)) → FileFacts → (Ahead → Type 0) → (List Change → Type 0) → Type 0 → List (List ℕ) → Option (List ℕ) → Option (List ℕ) → E → E → ℕ → Type 0
-AnswersWords count held files Failed Made Unprinted words before after err_before err_after status =
-    (read : Result Line Refusal) × AnswersTyped count held files Failed Made Unprinted words before after err_before err_after status read
+abbrev pub AnswersWords : {E : Type 0} → (E → ℕ) → (E → Option (List ℕ)) → FileFacts → (Ahead → Type 0) → (List Change → Type 0) → Type 0
+    → List (List ℕ) → Option (List ℕ) → Option (List ℕ) → E → E → ℕ → ProgressShown → Type 0
+AnswersWords count held files Failed Made Unprinted words before after err_before err_after status shown =
+    (read : Result Line Refusal) × AnswersTyped count held files Failed Made Unprinted words before after err_before err_after status shown read
 
--- the same of a command after which all that it wrote was to go out, where what is printed to had failed that often before and after:
--- the status is the command's; or it was done, and what it wrote didn't go out, which is reported
+-- one more failure is counted; a count stops at 2^64 - 1
+abbrev pub one_more : ℕ → ℕ
+one_more failures = min (failures + 1) (2 ^ 64 - 1)
+
+-- a command whose last bytes may not have gone out: if it isn't done its status is its own, else that is reported
+abbrev pub EndsUnwritten : {E : Type 0} → (E → ℕ) → (E → Option (List ℕ)) → ℕ → E → E → ℕ → Type 0
+EndsUnwritten count held own answered err_after status =
+    ((own ≢ 0) × (status ≡ own) × (err_after ≡ answered))
+    ⊎ ((own ≡ 0) × TellsOf (λ told. told ≡ Build Write) (count err_after ≡ count answered) (held answered) (held err_after) status)
+
+-- the same of a command after which all that it wrote was to go out, where what is printed to had failed that often before and after,
+-- and this is left of it: nothing is, and the status is the command's; or a failure was counted after the command
 pub record IsEnd (E : Type 0) (count : E → ℕ) (held : E → Option (List ℕ)) (files : FileFacts) (Failed : Ahead → Type 0)
     (Made : List Change → Type 0) (words : List (List ℕ))
-    (failures failed : ℕ) (before after : Option (List ℕ)) (err_before err_after : E) (status : ℕ) : Type 0 where
+    (failures failed : ℕ) (left : List ℕ) (before after : Option (List ℕ)) (err_before err_after : E) (status : ℕ)
+    (shown : ProgressShown) : Type 0 where
   pub written : Option (List ℕ)
   pub answered : E
   pub own : ℕ
   pub counted : ℕ
-  pub answers : AnswersWords count held files Failed Made (failures < counted) words before written err_before answered own
+  pub answers : AnswersWords count held files Failed Made (failures < counted) words before written err_before answered own shown
   pub kept : Keeps written after
-  pub ends : ((status ≡ own) × (err_after ≡ answered))
-      ⊎ ((own ≡ 0) × (0 < failed) × TellsOf (λ told. told ≡ Build Write) (count err_after ≡ count answered) (held answered) (held err_after) status)
+  pub ends : ((left ≡ []) × (failed ≡ counted) × (status ≡ own) × (err_after ≡ answered))
+      ⊎ ((failed ≡ one_more counted) × EndsUnwritten count held own answered err_after status)
 
-abbrev pub EndsCommand : {E : Type 0} → (E → ℕ) → (E → Option (List ℕ)) → FileFacts → (Ahead → Type 0) → (List Change → Type 0) → List (List ℕ) → ℕ → ℕ → Option (List ℕ) → Option (List ℕ) → E → E → ℕ → Type 0
-EndsCommand count held files Failed Made words failures failed before after err_before err_after status =
-    IsEnd _ count held files Failed Made words failures failed before after err_before err_after status
+abbrev pub EndsCommand : {E : Type 0} → (E → ℕ) → (E → Option (List ℕ)) → FileFacts → (Ahead → Type 0) → (List Change → Type 0)
+    → List (List ℕ) → ℕ → ℕ → List ℕ → Option (List ℕ) → Option (List ℕ) → E → E → ℕ → ProgressShown → Type 0
+EndsCommand count held files Failed Made words failures failed left before after err_before err_after status shown =
+    IsEnd _ count held files Failed Made words failures failed left before after err_before err_after status shown
+
+-- the same of a command whose output is gathered: memory for that is refused, which is reported, and nothing was done; or it ends so
+abbrev pub EndsGathered : {E : Type 0} → (E → ℕ) → (E → Option (List ℕ)) → FileFacts → (Ahead → Type 0) → (List Change → Type 0)
+    → List (List ℕ) → Option (List ℕ) → E → E → ℕ → ProgressShown → Type 0
+EndsGathered count held files Failed Made words before err_before err_after status shown =
+    (ShowsNone shown × Made [] × TellsOf (λ told. told ≡ Build Memory) (count err_after ≡ count err_before) (held err_before) (held err_after) status)
+    ⊎ ((gathered : Option (List ℕ)) × (failed : ℕ) × (left : List ℕ) × (after : Option (List ℕ)) × Keeps before gathered
+    × EndsCommand count held files Failed Made words 0 failed left gathered after err_before err_after status shown)

@@ -11,13 +11,17 @@
 //! `norprog_flash`, `norprog_hex`, `norprog_script` and `norprog_explain` do the work behind them.
 #![tactic(auto)]
 
-ghost use Rattle.std.specs.Prelude.{◌≡◌, ◌<◌, ◌≤◌, ◌-◌, ◌^◌, [], map, string_bytes, IfOk, IfErr};
+ghost use Rattle.std.specs.Prelude.{◌≡◌, ◌<◌, ◌≤◌, ◌-◌, ◌^◌, [], drop, map, string_bytes};
+ghost use Rattle.std.specs.Prelude.{IfOk, IfErr};
+ghost use Rattle.std.specs.Vec.Iter.{into_iter_items};
 ghost use Rattle.std.specs.Io.KnownBytes.{Keeps};
 ghost use Rattle.std.specs.Io.Buffered.{writer_buffer, writer_contents};
+ghost use Rattle.nor_job.specs.declared.fault.BuildFault.TheVariants.{Memory};
+ghost use Rattle.norprog_common.specs.declared.faults.Refusal.TheVariants.{Build};
 ghost use Rattle.norprog_common.specs.FileStore.{Adds};
 ghost use Rattle.norprog_common.specs.Reading.{HasFailed};
 ghost use Rattle.norprog_cli.specs.Answers.{AnswersTo, AnswersWords, AddsDetails, AddsLines};
-ghost use Rattle.norprog_cli.specs.Answers.{EndsCommand};
+ghost use Rattle.norprog_cli.specs.Answers.{EndsCommand, EndsGathered, one_more};
 
 use nor_base::{ByteOut, Failed, IntoWrite, Nowhere};
 use norprog_build::build;
@@ -37,6 +41,7 @@ use norprog_run::run;
 use norprog_script::script;
 use norprog_sfdp::sfdp;
 use std::alloc::Global;
+use std::env::{self, Args};
 use std::io::{BufWriter, ErrorKind, IsTerminal, Write};
 use std::process::ExitCode;
 
@@ -48,8 +53,8 @@ fn main(rt: HostRuntime) -> ExitCode {
     ExitCode::from(main_status(&rt, &mut err))
 }
 
-/// Does what the program's words say, with standard output gathered, and returns the status. Where
-/// standard error is a terminal the progress of a play goes there too.
+/// Does what the program's words say, and returns the status. Where standard error is a terminal
+/// the progress of a play goes there too.
 fn main_status<E: ByteOut + Drop>(rt: &HostRuntime, err: &mut Heard<E>) -> u8
     requires { E.count err.old.out < 2 ^ 64 - 1 }
 {
@@ -57,34 +62,47 @@ fn main_status<E: ByteOut + Drop>(rt: &HostRuntime, err: &mut Heard<E>) -> u8
         Ok(words) => words,
         Err(refusal) => return refuse(&refusal, err),
     };
-    let gathered = match BufWriter::with_capacity(rt.alloc(), BUFFER, rt.stdout()) {
-        Ok(gathered) => gathered,
-        Err(_) => return refuse(&Refusal::MEMORY, err),
-    };
-    let mut out = IntoWrite::new(gathered);
+    let alloc = rt.alloc();
     let files = SystemFiles::new(rt);
     let mut journal = Unrecorded;
+    let out = rt.stdout();
     if rt.stderr().is_terminal() {
         let mut progress = IntoWrite::new(rt.stderr());
-        command_flushed(
-            rt.alloc(),
-            &files,
-            &mut journal,
-            words,
-            &mut out,
-            err,
-            &mut progress,
-        )
+        command_gathered(alloc, &files, &mut journal, words, out, err, &mut progress)
     } else {
-        command_flushed(
-            rt.alloc(),
-            &files,
-            &mut journal,
-            words,
-            &mut out,
-            err,
-            &mut Nowhere,
-        )
+        command_gathered(alloc, &files, &mut journal, words, out, err, &mut Nowhere)
+    }
+}
+
+/// Runs a command as [`command_flushed`] does, with what it prints gathered. Returns its status; 1
+/// where memory to gather in is refused, which is reported.
+fn command_gathered<S: FileStore, W: Write + Drop, E: ByteOut + Drop, P: ByteOut>(
+    alloc: Global,
+    store: &S,
+    journal: &mut S::Journal,
+    words: Vec<String>,
+    out: W,
+    err: &mut Heard<E>,
+    progress: &mut P,
+) -> u8
+    requires err { E.count err.old.out < 2 ^ 64 - 1 }
+    requires progress { P.count progress.old < 2 ^ 64 - 1 }
+    ensures { EndsGathered ⟦<Heard<E> as ByteOut>⟧.count ⟦<Heard<E> as ByteOut>⟧.held
+        (S.facts store.now) (HasFailed S.Input.ahead S.Input.count)
+        (Adds (S.Journal.changes journal.old) (S.Journal.changes journal.new))
+        (map string_bytes words.items) (W.contents out) err.old err.new result (
+          P.held progress.old,
+          P.held progress.new,
+          P.count progress.old,
+          P.count progress.new,
+        ) }
+{
+    match BufWriter::with_capacity(alloc, BUFFER, out) {
+        Ok(gathered) => {
+            let mut out = IntoWrite::new(gathered);
+            command_flushed(alloc, store, journal, words, &mut out, err, progress)
+        }
+        Err(_) => refuse(&Refusal::MEMORY, err),
     }
 }
 
@@ -102,12 +120,18 @@ fn command_flushed<S: FileStore, W: Write + Drop, E: ByteOut + Drop, P: ByteOut>
     requires out { out.old.failed < 2 ^ 64 - 2 }
     requires err { E.count err.old.out < 2 ^ 64 - 1 }
     requires progress { P.count progress.old < 2 ^ 64 - 1 }
-    ensures ends { EndsCommand (λ heard. E.count heard.out) (λ heard. E.held heard.out)
+    ensures ends { EndsCommand ⟦<Heard<E> as ByteOut>⟧.count ⟦<Heard<E> as ByteOut>⟧.held
         (S.facts store.now) (HasFailed S.Input.ahead S.Input.count)
         (Adds (S.Journal.changes journal.old) (S.Journal.changes journal.new))
         (map string_bytes words.items) out.old.failed out.new.failed
+        (writer_buffer out.new.inner)
         (writer_contents W.contents out.old.inner) (writer_contents W.contents out.new.inner)
-        err.old err.new result }
+        err.old err.new result (
+          P.held progress.old,
+          P.held progress.new,
+          P.count progress.old,
+          P.count progress.new,
+        ) }
     ensures out { result ≡ 0 → writer_buffer out.new.inner ≡ [] }
 {
     let status = command(alloc, store, journal, words, out, err, progress);
@@ -122,8 +146,9 @@ fn command_flushed<S: FileStore, W: Write + Drop, E: ByteOut + Drop, P: ByteOut>
 fn flush_out<W: Write + Drop>(out: &mut IntoWrite<BufWriter<W>>) -> Result<(), Failed>
     ensures kept { Keeps (writer_contents W.contents out.old.inner)
         (writer_contents W.contents out.new.inner) }
-    ensures whole { IfOk result (λ _. writer_buffer out.new.inner ≡ []) }
-    ensures failed { IfErr result (λ _. 0 < out.new.failed) }
+    ensures whole { IfOk result (λ _. (writer_buffer out.new.inner ≡ [])
+        × (out.new.failed ≡ out.old.failed)) }
+    ensures failed { IfErr result (λ _. out.new.failed ≡ one_more out.old.failed) }
 {
     match out.inner.flush() {
         Ok(()) => Ok(()),
@@ -136,12 +161,19 @@ fn flush_out<W: Write + Drop>(out: &mut IntoWrite<BufWriter<W>>) -> Result<(), F
 
 /// The words after the program's name.
 fn words_of(rt: &HostRuntime) -> Result<Vec<String>, Refusal> {
-    let words = match std::env::args(rt) {
-        Ok(words) => words,
-        Err(error) if error.kind() == ErrorKind::OutOfMemory => return Err(Refusal::MEMORY),
-        Err(_) => return Err(Refusal::Usage),
-    };
-    match words.skip(1).collect(rt.alloc()) {
+    match env::args(rt) {
+        Ok(words) => words_after_name(rt.alloc(), words),
+        Err(error) if error.kind() == ErrorKind::OutOfMemory => Err(Refusal::MEMORY),
+        Err(_) => Err(Refusal::Usage),
+    }
+}
+
+/// All words but the first.
+fn words_after_name(alloc: Global, words: Args) -> Result<Vec<String>, Refusal>
+    ensures words { IfOk result (λ found. found.items ≡ drop 1 (into_iter_items words)) }
+    ensures memory { IfErr result (λ why. why ≡ Build Memory) }
+{
+    match words.skip(1).collect(alloc) {
         Ok(words) => Ok(words),
         Err(_) => Err(Refusal::MEMORY),
     }
@@ -165,11 +197,16 @@ fn command<S: FileStore, O: ByteOut, E: ByteOut + Drop, P: ByteOut>(
     requires progress { P.count progress.old < 2 ^ 64 - 1 }
     ensures status { result ≤ 2 }
     ensures quiet { result ≡ 0 → err.new ≡ err.old }
-    ensures answer { AnswersWords (λ heard. E.count heard.out) (λ heard. E.held heard.out)
+    ensures answer { AnswersWords ⟦<Heard<E> as ByteOut>⟧.count ⟦<Heard<E> as ByteOut>⟧.held
         (S.facts store.now) (HasFailed S.Input.ahead S.Input.count)
         (Adds (S.Journal.changes journal.old) (S.Journal.changes journal.new))
         (O.count out.old < O.count out.new)
-        (map string_bytes words.items) (O.held out.old) (O.held out.new) err.old err.new result }
+        (map string_bytes words.items) (O.held out.old) (O.held out.new) err.old err.new result (
+          P.held progress.old,
+          P.held progress.new,
+          P.count progress.old,
+          P.count progress.new,
+        ) }
 {
     match asked_by(alloc, words.as_slice()) {
         Ok(line) => {
@@ -190,7 +227,7 @@ fn add_details<S: FileStore, E: ByteOut + Drop>(
     status: u8,
     err: &mut Heard<E>,
 )
-    ensures { AddsDetails (λ heard. E.count heard.out) (λ heard. E.held heard.out)
+    ensures { AddsDetails ⟦<Heard<E> as ByteOut>⟧.count ⟦<Heard<E> as ByteOut>⟧.held
         (S.facts store.now) details.entry status err.old err.new }
 {
     let Some(typed) = details else {
@@ -208,13 +245,13 @@ fn add_lines<S: FileStore, E: ByteOut + Drop>(
     typed: TypedLine<'_>,
     err: &mut Heard<E>,
 )
-    ensures { AddsLines (λ heard. E.count heard.out) (λ heard. E.held heard.out) (S.facts store.now)
-        typed.entry err.old err.new }
+    ensures { AddsLines ⟦<Heard<E> as ByteOut>⟧.count ⟦<Heard<E> as ByteOut>⟧.held
+        (S.facts store.now) typed.entry err.old err.new }
 {
-    let refusal = err.take_line();
+    let refusal = err.last_line();
     let line = typed.as_line();
     if err.failures() < u64::MAX {
-        write_details(alloc, store, line, refusal.as_slice(), &mut err.out)
+        write_details(alloc, store, line, refusal.as_slice(), err)
     }
 }
 
@@ -238,7 +275,12 @@ fn answer_to<S: FileStore, O: ByteOut, E: ByteOut, P: ByteOut>(
         (Adds (S.Journal.changes journal.old) (S.Journal.changes journal.new))
         (O.count out.old < O.count out.new) asked.entry (O.held out.old) (O.held out.new)
         (err.new ≡ err.old)
-        (E.count err.new ≡ E.count err.old) (E.held err.old) (E.held err.new) result }
+        (E.count err.new ≡ E.count err.old) (E.held err.old) (E.held err.new) result (
+          P.held progress.old,
+          P.held progress.new,
+          P.count progress.old,
+          P.count progress.new,
+        ) }
 {
     match asked {
         Asked::Build(given) => build(alloc, store, journal, given, out, err),

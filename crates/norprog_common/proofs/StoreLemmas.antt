@@ -1,10 +1,10 @@
 -- The text of a script is that of its file; which files were noted.
-use Rattle.std.proofs.Common.{◌≡◌, ℕ, Result, Ok, Err, IfOk, IfErr, List, [], ◌∷◌, ◌++◌, Option, inl, inr, sym, ap, ◌∙◌, subst, append-nil, append_assoc}
+use Rattle.std.proofs.Common.{◌≡◌, ℕ, List, [], ◌∷◌, ◌++◌, Option, inl, inr, sym, ap, ◌∙◌, subst, append-nil, append_assoc}
 use Rattle.nor_base.specs.Device.{Ahead}
 use Rattle.norprog_common.specs.declared.files.FileId.{FileId}
 use Rattle.norprog_common.specs.declared.files.ScriptFile.{ScriptFile}
 use Rattle.norprog_common.specs.declared.files.ScriptFile.TheVariants.{Twice, Held}
-use Rattle.norprog_common.specs.FileStore.{FileFacts, HasGone, IsOfScript, IsTextIn, IsTextOfFile, StoodAt, Notes, IsMadeApart}
+use Rattle.norprog_common.specs.FileStore.{FileFacts, IsOfScript, IsTextIn, IsTextOfFile, StoodAt, Notes, IsMadeApart}
 
 pub text_in : {F : Type 0} (files : FileFacts) (name : List ℕ) (ahead : F → Ahead) (script : ScriptFile F) (text : List ℕ)
     → IsOfScript files name ahead script → IsTextOfFile ahead script text → IsTextIn files name text
@@ -39,9 +39,3 @@ pub made_apart : (files : FileFacts) (names : List (List ℕ)) (name : List ℕ)
     → Notes files names none places → inputs ≡ places → files.made name inputs held → IsMadeApart files names name held
 made_apart files names name none places inputs held first noted same made =
     (noted.0, noted.1, subst (λ (ps : List FileId). files.made name ps held) (same ∙ noted.2 ∙ ap (λ (front : List FileId). front ++ noted.0) first) made)
-
--- what a file had taken as it was flushed
-pub gone_out : {U E : Type 0} (files : FileFacts) (held : Option (List ℕ)) (flushed : Result U E) → IfOk flushed (λ u. files.flushed held) → IfErr flushed (λ e. files.broke)
-    → HasGone files held
-gone_out files held (Ok u) sent broke = inl sent
-gone_out files held (Err e) sent broke = inr broke

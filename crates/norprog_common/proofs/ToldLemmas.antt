@@ -1,5 +1,5 @@
 -- Refusals: which command line has one, and why.
-use Rattle.std.proofs.Common.{◌≡◌, ◌∙◌, ℕ, Bool, true, inl, inr, List, Option, Result, Ok, Err, IfOk, IfErr, MatchResult, ◌<◌, arith}
+use Rattle.std.proofs.Common.{◌≡◌, ◌∙◌, ℕ, Bool, true, false, inl, inr, List, Option, Result, Ok, Err, IfOk, IfErr, MatchResult, ◌<◌, arith}
 use Rattle.std.specs.Io.KnownBytes.{Appends}
 use Rattle.nor_job.specs.declared.fault.BuildFault.{BuildFault}
 use Rattle.nor_job.specs.declared.fault.BuildFault.TheVariants as fault
@@ -128,3 +128,14 @@ answer_is asks Done Cut Quiet Works Makes MayMake Work told_before told_after (O
     inl (ends.1, (done.0 ∙ ends.0, is, makes, done.1))
 answer_is asks Done Cut Quiet Works Makes MayMake Work told_before told_after (Err why) status ends makes is cut first done told =
     inr ((cut, makes), (why, first, told.0, told.1))
+
+-- a failed output isn't out of memory
+pub write_is_other : Path Refusal (Build fault.Write) (Build fault.Memory) → ⊥
+write_is_other is = cc
+
+-- what else is so of a refusal
+pub and_also : {T : Type 0} (asks : Bool) (Work Also : Refusal → Type 0) (r : Result T Refusal) → IfErr r (OrUsage asks Work) → IfErr r Also
+    → IfErr r (OrUsage asks (λ why. Work why × Also why))
+and_also true Work Also (Err why) first also = (first, also)
+and_also false Work Also (Err why) first also = first
+and_also asks Work Also (Ok x) first also = tt

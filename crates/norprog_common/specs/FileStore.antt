@@ -11,7 +11,9 @@ use Rattle.norprog_common.specs.declared.files.ScriptFile.TheVariants.{Twice, He
 -- what is known of files, each by its name. `gave`: the file gave these bytes, read whole. `opened`: it was opened, this is ahead
 -- of its reader, and this is its length in bytes. `stood`: it was opened, and stood at this place. `made`: it was made, or emptied,
 -- at none of these places, and held this then. `fresh`: no file of this name was there, and the one that was made held this.
--- `flushed`: some file that was made had taken this, all of it has gone out, and the file took nothing after it. `lacked`: the file
+-- `emptied`: an output of this name was to be made and can't be used; it may be there, or may have been emptied, and took nothing.
+-- `flushed`: some file that was made had taken this, all of it has gone out, and the file took nothing after it. `closed`: some file
+-- that was made had taken this as it was closed, though it may not have gone out, and took nothing after it. `lacked`: the file
 -- of this name, which is told so, couldn't be used. `device`: the device of this name was opened to be read and written; it had this
 -- yet to give, and had taken this, where that is known. `left`: a device that was opened took nothing after this. `broke`: an output
 -- that was made failed, or some of what it had taken may not have gone out
@@ -21,7 +23,9 @@ pub record FileFacts : Type 1 where
   pub stood : List ℕ → FileId → Type 0
   pub made : List ℕ → List FileId → Option (List ℕ) → Type 0
   pub fresh : List ℕ → Option (List ℕ) → Type 0
+  pub emptied : List ℕ → Type 0
   pub flushed : Option (List ℕ) → Type 0
+  pub closed : Option (List ℕ) → Type 0
   pub lacked : List ℕ → FileName → Type 0
   pub device : List ℕ → Option (List ℕ) → Option (List ℕ) → Type 0
   pub left : Option (List ℕ) → Type 0
@@ -35,7 +39,9 @@ nothing_known = record {
   stood = λ name place. ⊤;
   made = λ name places held. ⊤;
   fresh = λ name held. ⊤;
+  emptied = λ name. ⊤;
   flushed = λ held. ⊤;
+  closed = λ held. ⊤;
   lacked = λ name told. ⊤;
   device = λ name remaining contents. ⊤;
   left = λ contents. ⊤;
@@ -112,6 +118,10 @@ abbrev pub Named : (List ℕ → Type 0) → Option (List ℕ) → Type 0
 Named Has (Some name) = Has name
 Named Has None = ⊥
 
+-- nothing was made, or the output that is named can't be used, and took nothing
+abbrev pub TookNothing : FileFacts → Option (List ℕ) → (List Change → Type 0) → Type 0
+TookNothing files out Made = Made [] ⊎ Named files.emptied out
+
 -- the file that this option names couldn't be used, and is told as this
 abbrev pub LacksNamed : FileFacts → Option (List ℕ) → FileName → Type 0
 LacksNamed files named told = Named (λ name. files.lacked name told) named
@@ -128,9 +138,9 @@ LeavesOutput out Nothing told = (told ≡ out) ⊎ Nothing
 abbrev pub LacksEarly : FileFacts → (FileName → Option (List ℕ)) → FileName → Type 0 → FileName → Type 0
 LacksEarly files paths out Nothing told = Lacks files paths told × LeavesOutput out Nothing told
 
--- what an output had taken then has gone out, and it took nothing after that; or it failed
+-- what an output had taken then has gone out, or may not have, and it took nothing after that
 abbrev pub HasGone : FileFacts → Option (List ℕ) → Type 0
-HasGone files held = files.flushed held ⊎ files.broke
+HasGone files held = files.flushed held ⊎ files.closed held
 
 -- an output failed: one that was made, or the one that is printed to, whose count of failures rose
 abbrev pub Breaks : FileFacts → ℕ → ℕ → Type 0

@@ -28,6 +28,10 @@ RefusesFor Lacked Broke Fault Done (Build Memory) = ⊤
 RefusesFor Lacked Broke Fault Done (Build Write) = (Fault (Build Write) ⊎ Done) × Broke
 RefusesFor Lacked Broke Fault Done why = Fault why
 
+-- this is so at out of memory
+abbrev pub AtMemory : Type 0 → Refusal → Type 0
+AtMemory Holds why = why ≡ Build Memory → Holds
+
 -- that an output can't be written is told only where one failed
 abbrev pub TellsBroken : Type 0 → Refusal → Type 0
 TellsBroken Broke (Build Write) = Broke

@@ -1,13 +1,14 @@
 //! Files by name.
 
 ghost use Rattle.std.specs.Prelude.{◌≡◌, ◌≤◌, ◌^◌, [], ◌∷◌, length, IfOk, IfErr, MatchResult};
-ghost use Rattle.std.specs.Prelude.{List, Option};
+ghost use Rattle.std.specs.Prelude.{List, Option, Some};
 ghost use Rattle.norprog_common.specs.Chip.{origin_of};
 ghost use Rattle.norprog_common.specs.declared.faults.FileName.TheVariants.{Device, Script, Sfdp};
 ghost use Rattle.norprog_common.specs.Files.{RefusesFile, TellsFile};
 ghost use Rattle.norprog_common.specs.FileStore.{AreTables, FileFacts, IsOfScript, DoNotFail};
 ghost use Rattle.norprog_common.specs.FileStore.{LacksNamed, Notes, tables_file, tables_name};
 ghost use Rattle.norprog_common.specs.FileStore.{Adds, Change, Created, Emptied, Opened, Tries};
+ghost use Rattle.norprog_common.specs.FileStore.{TookNothing};
 
 use crate::chip::Chip;
 use crate::faults::{FileName, Refusal};
@@ -102,6 +103,8 @@ pub trait FileStore {
         ensures count { IfOk result (λ file. Self.Output.count file ≡ 0) }
         ensures journal { Tries (Self.Journal.changes journal.old)
             (Self.Journal.changes journal.new) (Emptied path.now inputs.now) result }
+        ensures untaken { IfErr result (λ _. TookNothing (facts self.now) (Some path.now)
+            (Adds (Self.Journal.changes journal.old) (Self.Journal.changes journal.new))) }
         ensures refused { IfErr result (RefusesFile name) }
         ensures lacked { IfErr result (TellsFile ((facts self.now).lacked path.now)) };
 
@@ -122,6 +125,8 @@ pub trait FileStore {
         ensures count { IfOk result (λ file. Self.Output.count file ≡ 0) }
         ensures journal { Tries (Self.Journal.changes journal.old)
             (Self.Journal.changes journal.new) (Created path.now) result }
+        ensures untaken { IfErr result (λ _. TookNothing (facts self.now) (Some path.now)
+            (Adds (Self.Journal.changes journal.old) (Self.Journal.changes journal.new))) }
         ensures refused { IfErr result (RefusesFile name) }
         ensures lacked { IfErr result (TellsFile ((facts self.now).lacked path.now)) };
 
@@ -129,6 +134,7 @@ pub trait FileStore {
     /// out, as where the file failed before.
     fn flush(&self, file: Self::Output) -> Result<(), Failed>
         ensures flushed { IfOk result (λ _. (facts self.now).flushed (Self.Output.held file)) }
+        ensures closed { (facts self.now).closed (Self.Output.held file) }
         ensures whole { IfOk result (λ _. Self.Output.count file ≡ 0) }
         ensures broke { IfErr result (λ _. (facts self.now).broke) };
 

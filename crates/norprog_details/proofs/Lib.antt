@@ -1,1 +1,2 @@
+pub mod HeardLemmas
 pub mod ListLemmas

@@ -1,5 +1,5 @@
 -- The line of a file at which a refusal is (this project's).
-use Rattle.std.specs.Prelude.{ℕ, Bool, nat_le, nat_lt, ◌&&◌, if◌then◌else◌, List, ◌++◌, map, take, codes, decimal, Option}
+use Rattle.std.specs.Prelude.{ℕ, nat_le, nat_lt, ◌&&◌, if◌then◌else◌, List, ◌++◌, map, take, codes, decimal, Option}
 use Rattle.std.specs.List.{find, enumerate_from}
 use Rattle.nor_base.specs.Script.{closed}
 use Rattle.nor_lines.specs.Lines.{lines_of_text}

@@ -1,5 +1,5 @@
 -- What a file seems to be that isn't what its option takes (this project's).
-use Rattle.std.specs.Prelude.{ℕ, Bool, true, false, not, nat_eq, nat_le, nat_lt, ◌==◌, ◌&&◌, ◌||◌, if◌then◌else◌, List, [], ◌∷◌, ◌++◌, take, codes}
+use Rattle.std.specs.Prelude.{ℕ, Bool, false, not, nat_eq, nat_le, nat_lt, ◌==◌, ◌&&◌, ◌||◌, if◌then◌else◌, List, [], ◌∷◌, ◌++◌, take, codes}
 use Rattle.nor_base.specs.Script.{closed}
 use Rattle.std.specs.List.{list_any, starts_with}
 use Rattle.std.specs.Str.{bytes_eq}

@@ -1,12 +1,10 @@
 //! A writer that keeps the last line that went through it.
 
-ghost use Rattle.std.specs.Prelude.{◌≡◌, ◌==◌, ◌≤◌, length, [], true};
-ghost use Rattle.arrayvec.specs.ArrayVec.{array_vec_len};
-ghost use Rattle.norprog_details.specs.Heard.{heard_one, Line};
+ghost use Rattle.std.specs.Prelude.{◌≡◌, [], true, Some};
+ghost use Rattle.norprog_details.specs.Heard.{heard_one, heard_text, IsLastLine};
 
 use arrayvec::ArrayVec;
 use nor_base::{ByteOut, Failed};
-use std::mem;
 
 /// As many bytes of a line are kept.
 const ROOM: usize = 128;
@@ -36,7 +34,8 @@ impl Line {
     }
 }
 
-/// A writer, and the last line that was written.
+/// A writer, and the last line that was written. What it holds is known where its writer's bytes
+/// are, and the line is their last one: so from an empty one on.
 #[derive(Drop)]
 pub struct Heard<E: Drop> {
     /// The writer.
@@ -49,6 +48,9 @@ impl<E: ByteOut + Drop> Heard<E> {
     pub fn new(out: E) -> Heard<E>
         ensures out { result.out ≡ out }
         ensures line { (result.line.bytes.items ≡ []) × (result.line.closed ≡ true) }
+        ensures held { E.held out ≡ Some []
+            → heard_text (E.held result.out) (result.line.bytes.items, result.line.closed)
+            ≡ Some [] }
     {
         let line = Line {
             bytes: ArrayVec::new(),
@@ -57,17 +59,22 @@ impl<E: ByteOut + Drop> Heard<E> {
         Heard { out, line }
     }
 
-    /// Takes the last line that was written, without its LF; of a longer one its first 128 bytes.
-    pub fn take_line(&mut self) -> ArrayVec<u8, ROOM>
-        ensures line { result.items ≡ self.old.line.bytes.items }
-        ensures out { self.new.out ≡ self.old.out }
+    /// A copy of the last line that was written, without its LF; of a longer one its first 128
+    /// bytes.
+    pub fn last_line(&self) -> ArrayVec<u8, ROOM>
+        ensures kept { result.items ≡ self.now.line.bytes.items }
+        ensures last { IsLastLine
+            (heard_text (E.held self.now.out) (self.now.line.bytes.items, self.now.line.closed))
+            result.items }
     {
-        mem::replace(&mut self.line.bytes, ArrayVec::new())
+        let mut line = ArrayVec::new();
+        let _ = line.try_extend_from_slice(self.line.bytes.as_slice());
+        line
     }
 }
 
 impl<E: ByteOut + Drop> ByteOut for Heard<E> {
-    ghost held = { λ s. E.held s.out };
+    ghost held = { λ s. heard_text (E.held s.out) (s.line.bytes.items, s.line.closed) };
 
     ghost count = { λ s. E.count s.out };
 

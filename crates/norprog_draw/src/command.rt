@@ -2,7 +2,7 @@
 
 ghost use Rattle.std.specs.Prelude.{◌≡◌, ◌<◌, ◌≤◌, ◌-◌, ◌^◌, [], ◌∷◌, true, IfOk, IfErr};
 ghost use Rattle.std.specs.Prelude.{Some, option_map, option_to_list};
-ghost use Rattle.norprog_common.specs.FileStore.{Adds, Lacks, MakesIf};
+ghost use Rattle.norprog_common.specs.FileStore.{Adds, HasGone, Lacks, MakesIf, TookNothing};
 ghost use Rattle.norprog_common.specs.Told.{OrUsage};
 ghost use Rattle.norprog_draw.specs.Answer.{IsDrawing, IsUnmade, RefusesDraw, AnswersDraw};
 ghost use Rattle.norprog_draw.specs.Answer.{done};
@@ -54,9 +54,11 @@ fn drawn_in<S: FileStore>(
     ensures first { IfErr result (OrUsage (is_well_formed given.entry)
         (RefusesDraw (Lacks (S.facts store.now) (paths_asked given.entry))
         (S.facts store.now).broke (Serves (S.facts store.now) given.entry)
-        (Makes (S.facts store.now) given.entry))) }
+        (Makes (S.facts store.now) given.entry) (HasGone (S.facts store.now)))) }
     ensures unmade { IfErr result (IsUnmade
-        (Adds (S.Journal.changes journal.old) (S.Journal.changes journal.new) [])) }
+        (Adds (S.Journal.changes journal.old) (S.Journal.changes journal.new) [])
+        (TookNothing (S.facts store.now) (option_map (λ t. t.now) given.entry.out)
+        (Adds (S.Journal.changes journal.old) (S.Journal.changes journal.new)))) }
 {
     let request = request_of(given).ok_or(Refusal::Usage)?;
     run_draw(alloc, store, journal, request)
@@ -78,9 +80,11 @@ fn run_draw<S: FileStore>(
     ensures refused { IfErr result
         (RefusesDraw (Lacks (S.facts store.now) (paths_of request.entry))
         (S.facts store.now).broke (IsTaskOf (S.facts store.now) request.entry)
-        (IsMadeFor (S.facts store.now) request.entry)) }
+        (IsMadeFor (S.facts store.now) request.entry) (HasGone (S.facts store.now))) }
     ensures unmade { IfErr result (IsUnmade
-        (Adds (S.Journal.changes journal.old) (S.Journal.changes journal.new) [])) }
+        (Adds (S.Journal.changes journal.old) (S.Journal.changes journal.new) [])
+        (TookNothing (S.facts store.now) (Some request.entry.out.now)
+        (Adds (S.Journal.changes journal.old) (S.Journal.changes journal.new)))) }
 {
     let (script, place) = store.read(alloc, request.script, FileName::Script)?;
     let steps = steps_of(alloc, script.as_slice(), request.from)?;

@@ -10,7 +10,7 @@ use Rattle.norprog_common.specs.declared.faults.Refusal.TheVariants.{Build}
 use Rattle.norprog_common.specs.declared.given.FlashArgs.{FlashArgs}
 use Rattle.norprog_common.specs.Content.{of_writer}
 use Rattle.norprog_common.specs.Files.{TellsFile}
-use Rattle.norprog_common.specs.FileStore.{FileFacts, Breaks}
+use Rattle.norprog_common.specs.FileStore.{FileFacts, Breaks, Change}
 use Rattle.norprog_common.specs.Told.{TellsBroken}
 use Rattle.norprog_flash.specs.declared.ending.Ending.{Ending}
 use Rattle.norprog_flash.specs.declared.ending.Unflashed.{Unflashed}
@@ -25,7 +25,7 @@ use Rattle.norprog_read.specs.declared.asked.Reading.{Reading}
 use Rattle.norprog_read.specs.declared.fault.Unread.{Unread}
 use Rattle.norprog_read.specs.declared.fault.Unread.TheVariants as unread
 use Rattle.norprog_read.specs.Line.{unlike_line}
-use Rattle.norprog_read.specs.Saved.{FailsToSave}
+use Rattle.norprog_read.specs.Saved.{IsUnsaved}
 use Rattle.norprog_read.specs.Stops.{StopsChip}
 use Rattle.norprog_read.proofs.ReadLemmas.{no_write}
 use Rattle.norprog_read.proofs.ReportLemmas.{reports_wider}
@@ -58,15 +58,6 @@ unread_told files n h i a b job why (inl reading) = (
 unread_told files n h i a b job why (inr unsuited) =
     (omega arith, omega arith, unsuited_told (Breaks files n n) job unsuited.reading why unsuited.unsuited)
 
--- ---- what it holds wasn't saved
-saved_told : (Lacked : FileName → Type 0) (B C : Type 0) → (B → C) → (why : Refusal) → FailsToSave Lacked B why → TellsBroken C why
-saved_told Lacked B C broken (Build fault.Write) fails = broken fails
-saved_told Lacked B C broken other fails = tt
-
-pub unsaved_told : (files : FileFacts) (n : ℕ) (Lacked : FileName → Type 0) (why : Refusal) → FailsToSave Lacked files.broke why → Told files n n (Refused why)
-unsaved_told files n Lacked why fails =
-    (omega arith, omega arith, saved_told Lacked files.broke (Breaks files n n) (λ broke. inl broke) why fails)
-
 -- ---- its work wasn't planned or printed
 pub unplanned_told : (files : FileFacts) (m n : ℕ) (why : Refusal) → n ≡ m + of_writer why → Told files m n (Refused why)
 unplanned_told files m n (Build fault.Write) rose =
@@ -80,6 +71,13 @@ file_told Lacked B other lacks = tt
 
 pub lacked_told : (files : FileFacts) (n : ℕ) (Lacked : FileName → Type 0) (why : Refusal) → TellsFile Lacked why → Told files n n (Refused why)
 lacked_told files n Lacked why lacks = (omega arith, omega arith, file_told Lacked (Breaks files n n) why lacks)
+
+-- ---- what it holds wasn't saved
+pub unsaved_told : (files : FileFacts) (n : ℕ) (name : List ℕ) (told : FileName) (bytes : List ℕ)
+    (Made : List Change → Type 0) (why : Refusal) → IsUnsaved files name told bytes Made why → Told files n n (Refused why)
+unsaved_told files n name told bytes Made why (inl unmade) = lacked_told files n (files.lacked name) why unmade.1
+unsaved_told files n name told bytes Made why (inr broken) =
+    (omega arith, omega arith, subst (TellsBroken (Breaks files n n)) (sym broken.0) (inl broken.1))
 
 input_told : (B : Type 0) (job : Job) (why : BuildFault) → RefusesEarly job why → TellsBroken B (Build why)
 input_told B job fault.Write early = absurd (early.1 0)

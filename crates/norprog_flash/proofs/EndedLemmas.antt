@@ -16,20 +16,21 @@ use Rattle.norprog_flash.specs.declared.job.Job.{Job}
 use Rattle.norprog_flash.specs.Begun.{HasPlanned}
 use Rattle.norprog_flash.specs.Ended.{EndsFlash, IsToDo}
 use Rattle.norprog_flash.specs.Task.{flash_task}
-use Rattle.norprog_flash.specs.Worked.{GoesOn, WorksOut}
+use Rattle.norprog_flash.specs.Worked.{GoesOn, IsSoOfDone, WorksOut}
 use Rattle.norprog_flash.proofs.PlannedLemmas.{every_flashes, every_keeps}
 use Rattle.norprog_read.specs.declared.asked.Reading.{Reading}
 
 module _ (close : Closes) (break : Breaks) (files : FileFacts) (job : Job) (limits : Limits) (h0 h1 : Option (List ℕ)) (a0 a1 : Ahead)
     (r : Reading) (goal : List ℕ) (steps : List Step) (o0 o1 : Option (List ℕ)) (whole : job.ask.content ≡ true) (wet : job.dry ≡ false)
-    (planned : HasPlanned files job h0 h1 a0 a1 r goal steps o0 o1) where
+    (planned : HasPlanned files job h0 h1 a0 a1 r goal steps o0 o1) (Shown : List Step → ℕ → Type 0) where
   abbrev todo : IsToDo files job h0 h1 a0 a1 o0 o1
   todo = record { reading = r; goal = goal; steps = steps; wet = wet; planned = planned }
 
   worked_ends : (h2 : Option (List ℕ)) (a2 : Ahead) (by : ReadBy) (ending : Ending) → GivesBy r.meaning (start_of (flash_task job r.tables.items)) by
-      → WorksOut h1 h2 a1 a2 limits job.ask.turns r.meaning by steps goal ending → EndsFlash files job limits h0 h2 a0 a2 o0 o1 ending
-  worked_ends h2 a2 by Planned way out = absurd out
-  worked_ends h2 a2 by (Done transactions) way out = record {
+      → WorksOut h1 h2 a1 a2 limits job.ask.turns r.meaning by steps goal ending → IsSoOfDone (Shown steps) ending
+      → EndsFlash files job limits h0 h2 a0 a2 o0 o1 Shown ending
+  worked_ends h2 a2 by Planned way out shown = absurd out
+  worked_ends h2 a2 by (Done transactions) way out shown = record {
     held = h1;
     ahead = a1;
     todo = todo;
@@ -38,8 +39,9 @@ module _ (close : Closes) (break : Breaks) (files : FileFacts) (job : Job) (limi
     way = way;
     worked = out.1;
     every = every_flashes files job h0 h1 a0 a1 r goal steps o0 o1 planned whole close out.1.held out.1.ahead limits job.ask.turns out.1.done;
+    shown = shown;
   }
-  worked_ends h2 a2 by (Failed step why) way (inl failed) = inr (inl (record {
+  worked_ends h2 a2 by (Failed step why) way (inl failed) shown = inr (inl (record {
     held = h1;
     ahead = a1;
     todo = todo;
@@ -47,8 +49,9 @@ module _ (close : Closes) (break : Breaks) (files : FileFacts) (job : Job) (limi
     every = subst (λ (n : ℕ). BreaksApart planned.read.read.h3 planned.read.read.h4 planned.read.read.a3 planned.read.read.a4 h1 a1 r.meaning
         (start_of (flash_task job r.tables.items)) r.content.items goal steps n (failed.halted.at ∷ failed.halted.beyond)) (sym failed.at)
         (every_keeps files job h0 h1 a0 a1 r goal steps o0 o1 planned whole break h2 a2 limits job.ask.turns failed.halt failed.halted);
+    shown = shown;
   }))
-  worked_ends h2 a2 by (Failed step why) way (inr missed) = inr (inr (record {
+  worked_ends h2 a2 by (Failed step why) way (inr missed) shown = inr (inr (record {
     held = h1;
     ahead = a1;
     todo = todo;
@@ -56,13 +59,14 @@ module _ (close : Closes) (break : Breaks) (files : FileFacts) (job : Job) (limi
     missed = missed;
     every = every_flashes files job h0 h1 a0 a1 r goal steps o0 o1 planned whole close missed.worked.held missed.worked.ahead limits job.ask.turns
         missed.worked.done;
+    shown = shown;
   }))
 
-  pub goes_ends : (h2 : Option (List ℕ)) (a2 : Ahead) (ending : Ending) → GoesOn h1 h2 a1 a2 limits job r goal steps ending
-      → EndsFlash files job limits h0 h2 a0 a2 o0 o1 ending
-  goes_ends h2 a2 ending (inr out) = worked_ends h2 a2 out.0 ending out.1 out.2
+  pub goes_ends : (h2 : Option (List ℕ)) (a2 : Ahead) (ending : Ending) → GoesOn h1 h2 a1 a2 limits job r goal steps (Shown steps) ending
+      → EndsFlash files job limits h0 h2 a0 a2 o0 o1 Shown ending
+  goes_ends h2 a2 ending (inr out) = worked_ends h2 a2 out.0 ending out.1 out.2 out.3
   goes_ends h2 a2 ending (inl cant) =
-      subst (λ (e : Ending). EndsFlash files job limits h0 h2 a0 a2 o0 o1 e) (sym cant.1)
-      (subst (λ (h : Option (List ℕ)). EndsFlash files job limits h0 h a0 a2 o0 o1 (Failed cant.0 Carried)) (sym cant.3)
-      (subst (λ (a : Ahead). EndsFlash files job limits h0 h1 a0 a o0 o1 (Failed cant.0 Carried)) (sym cant.4)
-      (inl (record { todo = todo; first = cant.2; carried = refl }))))
+      subst (λ (e : Ending). EndsFlash files job limits h0 h2 a0 a2 o0 o1 Shown e) (sym cant.1)
+      (subst (λ (h : Option (List ℕ)). EndsFlash files job limits h0 h a0 a2 o0 o1 Shown (Failed cant.0 Carried)) (sym cant.3)
+      (subst (λ (a : Ahead). EndsFlash files job limits h0 h1 a0 a o0 o1 Shown (Failed cant.0 Carried)) (sym cant.4)
+      (inl (record { todo = todo; first = cant.2; carried = refl; shown = cant.5 }))))

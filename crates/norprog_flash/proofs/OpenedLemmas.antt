@@ -1,11 +1,13 @@
 -- A job after the handshake, and then the pins were let go.
 use Rattle.std.proofs.Common.{ℕ, List, [], ◌∷◌, Option, Result, Ok, Err, IfOk, IfErr, inl, inr, refl}
+use Rattle.nor_base.specs.declared.step.Step.{Step}
 use Rattle.nor_base.specs.Device.{Ahead, ahead_of}
 use Rattle.nor_serprog.specs.declared.limits.Limits.{Limits}
 use Rattle.nor_serprog.specs.Greeting.{Greeted}
 use Rattle.nor_serprog.specs.Line.{TestsLine}
 use Rattle.norprog_common.specs.FileStore.{FileFacts, Adds, Change, Created, Opened}
 use Rattle.norprog_common.proofs.JournalLemmas.{adds_both}
+use Rattle.norprog_common.specs.declared.faults.FileName.TheVariants as file
 use Rattle.norprog_common.specs.declared.faults.Refusal.{Refusal}
 use Rattle.norprog_device.specs.Opened.{IsUntouched, LacksDevice, LetsGo}
 use Rattle.norprog_flash.specs.declared.ending.Ending.{Ending}
@@ -16,11 +18,12 @@ use Rattle.norprog_flash.specs.Answer.{IsUnbegunOn}
 use Rattle.norprog_flash.specs.Early.{IsSoundEarly}
 use Rattle.norprog_flash.specs.Opened.{HasFlashedOpened, HasFlashedTested, IsFlashedOn}
 use Rattle.norprog_flash.specs.Stops.{StopsBegun, StopsOpened, StopsTested, StopsWork}
+use Rattle.norprog_read.proofs.MadeLemmas.{unsaved_by}
 
-pub opened_by : {E : Type 0} (files : FileFacts) (job : Job) (h i j k : Option (List ℕ)) (a b c d : Ahead) (o p : Option (List ℕ)) (limits : Limits)
-    (r : Result Ending E) → Greeted h i a b (Ok limits) → IfOk r (HasFlashedTested files job limits i j b c o p)
-    → LetsGo j k c d limits.pins → IfOk r (HasFlashedOpened files job h k a d o p)
-opened_by files job h i j k a b c d o p limits (Ok ending) greeted tested released = record {
+pub opened_by : {E : Type 0} (files : FileFacts) (job : Job) (h i j k : Option (List ℕ)) (a b c d : Ahead) (o p : Option (List ℕ)) (Shown : List Step → ℕ → Type 0)
+    (limits : Limits) (r : Result Ending E) → Greeted h i a b (Ok limits) → IfOk r (HasFlashedTested files job limits i j b c o p Shown)
+    → LetsGo j k c d limits.pins → IfOk r (HasFlashedOpened files job h k a d o p Shown)
+opened_by files job h i j k a b c d o p Shown limits (Ok ending) greeted tested released = record {
   held = i;
   ahead = b;
   limits = limits;
@@ -30,7 +33,7 @@ opened_by files job h i j k a b c d o p limits (Ok ending) greeted tested releas
   tested = tested;
   released = released;
 }
-opened_by files job h i j k a b c d o p limits (Err why) greeted tested released = tt
+opened_by files job h i j k a b c d o p Shown limits (Err why) greeted tested released = tt
 
 -- or it wasn't begun
 pub stopped_by : {T : Type 0} (files : FileFacts) (Made : List Change → Type 0) (job : Job) (h i j k : Option (List ℕ)) (a b c d : Ahead)
@@ -57,9 +60,10 @@ stopped_after files Made job h i j a b c o p limits (Err why) tested begun =
 
 -- on the device that was opened
 pub flashed_on : {E : Type 0} (files : FileFacts) (device : List ℕ) (job : Job) (remaining contents held : Option (List ℕ)) (ahead : Ahead)
-    (o p : Option (List ℕ)) (r : Result Ending E) → files.device device remaining contents → files.left held
-    → IfOk r (HasFlashedOpened files job contents held (ahead_of remaining) ahead o p) → IfOk r (IsFlashedOn (files.device device) files job o p)
-flashed_on files device job remaining contents held ahead o p (Ok ending) opened left flashed = record {
+    (o p : Option (List ℕ)) (Shown : List Step → ℕ → Type 0) (r : Result Ending E) → files.device device remaining contents → files.left held
+    → IfOk r (HasFlashedOpened files job contents held (ahead_of remaining) ahead o p Shown)
+    → IfOk r (IsFlashedOn (files.device device) files job o p Shown)
+flashed_on files device job remaining contents held ahead o p Shown (Ok ending) opened left flashed = record {
   remaining = remaining;
   contents = contents;
   opened = opened;
@@ -68,7 +72,7 @@ flashed_on files device job remaining contents held ahead o p (Ok ending) opened
   flashed = flashed;
   left = left;
 }
-flashed_on files device job remaining contents held ahead o p (Err why) opened left flashed = tt
+flashed_on files device job remaining contents held ahead o p Shown (Err why) opened left flashed = tt
 
 -- ---- after other changes
 module _ (files : FileFacts) (Made Other : List Change → Type 0) (wider : (xs : List Change) → Made xs → Other xs) (job : Job)
@@ -82,9 +86,7 @@ module _ (files : FileFacts) (Made Other : List Change → Type 0) (wider : (xs 
       read = late.read;
       refusal = late.refusal;
       is = late.is;
-      told = late.told;
-      fails = late.fails;
-      made = elim late.made [ inl none ↦ inl (wider [] none) | inr one ↦ inr (wider (Created job.before.now ∷ []) one) ];
+      unsaved = unsaved_by files Made Other wider job.before.now file.Before late.reading.content.items late.refusal late.unsaved;
     }),
   )
   work_wider h i a b (inr late) = inr (record {

@@ -1,5 +1,6 @@
 -- The job is the one that the texts ask for.
 use Rattle.std.proofs.Common.{◌≡◌, ℕ, true, List, [], ◌∷◌, Option, Result, Ok, Err, IfOk, IfErr, inl, inr, is_some, option_map, refl, sym, ap, ◌∙◌, subst}
+use Rattle.nor_base.specs.declared.step.Step.{Step}
 use Rattle.norprog_common.specs.FileStore.{FileFacts, Change, Created, Lacks, Opened}
 use Rattle.norprog_common.specs.Chip.{origin_of}
 use Rattle.norprog_common.specs.Files.{TellsFile}
@@ -45,10 +46,10 @@ pub wanted : (given : FlashArgs) (request : FlashRequest) (file : List ℕ) (ask
 wanted given request file ask asks is = is.content ∙ (ap is_some asks.read.out ∙ ap is_some asks.before)
 
 pub ending_by : {E : Type 0} (files : FileFacts) (given : FlashArgs) (request : FlashRequest) (Made : List Change → Type 0) (job : Job)
-    (o p : Option (List ℕ)) (r : Result Ending E) → is_well_formed given ≡ true → AsksFor given request → IsJobOf files request job
-    → IfOk r (λ _. IsSoundEarly job) → IfOk r (IsFlashedOn (files.device request.read.device.now) files job o p)
-    → IfOk r (λ _. Made (Opened request.read.device.now ∷ Created job.before.now ∷ [])) → IfOk r (IsEndingOf files given Made o p)
-ending_by files given request Made job o p (Ok ending) formed asks is sound flashed made = record {
+    (o p : Option (List ℕ)) (Shown : List Step → ℕ → Type 0) (r : Result Ending E) → is_well_formed given ≡ true → AsksFor given request
+    → IsJobOf files request job → IfOk r (λ _. IsSoundEarly job) → IfOk r (IsFlashedOn (files.device request.read.device.now) files job o p Shown)
+    → IfOk r (λ _. Made (Opened request.read.device.now ∷ Created job.before.now ∷ [])) → IfOk r (IsEndingOf files given Made o p Shown)
+ending_by files given request Made job o p Shown (Ok ending) formed asks is sound flashed made = record {
   formed = formed;
   request = request;
   asks = asks;
@@ -60,7 +61,7 @@ ending_by files given request Made job o p (Ok ending) formed asks is sound flas
     made = subst (λ (name : List ℕ). Made (Opened request.read.device.now ∷ Created name ∷ [])) is.before made;
   };
 }
-ending_by files given request Made job o p (Err why) formed asks is sound flashed made = tt
+ending_by files given request Made job o p Shown (Err why) formed asks is sound flashed made = tt
 
 pub unbegun_by : {T : Type 0} (files : FileFacts) (given : FlashArgs) (request : FlashRequest) (Made : List Change → Type 0) (job : Job)
     (o p : Option (List ℕ)) (r : Result T Unflashed) → is_well_formed given ≡ true → AsksFor given request → IsJobOf files request job

@@ -1,5 +1,5 @@
 -- Why work isn't begun on a chip that was read.
-use Rattle.std.proofs.Common.{◌≡◌, ◌∙◌, ◌⊎◌, ℕ, Bool, false, List, [], ◌∷◌, length, Option, unwrap_or, inl, inr, refl, sym, ap, subst}
+use Rattle.std.proofs.Common.{◌≡◌, ◌∙◌, ℕ, Bool, false, List, [], ◌∷◌, length, Option, unwrap_or, inl, inr, refl, sym, ap, subst}
 use Rattle.nor_base.specs.declared.meaning.Start.{Start}
 use Rattle.nor_base.specs.Device.{Ahead}
 use Rattle.nor_job.specs.declared.fault.BuildFault.{BuildFault}
@@ -24,7 +24,7 @@ use Rattle.norprog_flash.specs.Task.{dump_of, flash_task}
 use Rattle.norprog_read.specs.declared.asked.Reading.{Reading}
 use Rattle.norprog_read.specs.declared.fault.Unlike.TheVariants.{Unreadable}
 use Rattle.norprog_read.specs.Chip.{HasReadChip}
-use Rattle.norprog_read.specs.Saved.{FailsToSave, IsSaved}
+use Rattle.norprog_read.specs.Saved.{IsSaved, IsUnsaved}
 use Rattle.norprog_work.specs.Refused.{RefusesWork}
 
 pub closed : (h i : Option (List ℕ)) (a b : Ahead) (job : Job) (r : Reading) → HasReadChip h i a b job.ask r → (start : Start) (fits : Bool)
@@ -52,12 +52,20 @@ pub unread : (files : FileFacts) (before : Option (List Change)) (h i : Option (
 unread files before h i a b job o why stops harmless =
     record { stop = inl (refl, inl (adds_none before before refl, stops)); harmless = harmless }
 
-pub unsaved : (files : FileFacts) (h i : Option (List ℕ)) (a b : Ahead) (job : Job) (o : Option (List ℕ)) (r : Reading)
-    → HasRead job h i a b r → HasSentHarmless h i → (why : Refusal) → FailsToSave (λ told. told ≡ file.Before) files.broke why
-    → FailsToSave (files.lacked job.before.now) files.broke why → (before after : Option (List Change))
-    → Adds before after [] ⊎ Adds before after (Created job.before.now ∷ []) → StopsBegun files (Adds before after) h i a b job o o (Refused why)
-unsaved files h i a b job o r read sent why told fails before after made = record {
-  stop = inl (refl, inr (record { reading = r; read = read; refusal = why; is = refl; told = told; fails = fails; made = made }));
+pub unsaved : (files : FileFacts) (Made : List Change → Type 0) (h i : Option (List ℕ)) (a b : Ahead) (job : Job) (o : Option (List ℕ)) (r : Reading)
+    → HasRead job h i a b r → HasSentHarmless h i → (content : List ℕ) → content ≡ r.content.items → (why : Refusal)
+    → IsUnsaved files job.before.now file.Before content Made why → StopsBegun files Made h i a b job o o (Refused why)
+unsaved files Made h i a b job o r read sent content same why fails = record {
+  stop = inl (
+    refl,
+    inr (record {
+      reading = r;
+      read = read;
+      refusal = why;
+      is = refl;
+      unsaved = subst (λ (xs : List ℕ). IsUnsaved files job.before.now file.Before xs Made why) same fails;
+    }),
+  );
   harmless = whole_sent h i sent;
 }
 

@@ -3,9 +3,11 @@ use Rattle.std.specs.Prelude.{◌≡◌, ◌⊎◌, ℕ, Bool, true, false, List
 use Rattle.std.specs.Io.KnownBytes.{Appends}
 use Rattle.nor_base.specs.declared.meaning.Part.{Part}
 use Rattle.nor_base.specs.declared.meaning.Part.TheVariants.{Generic}
+use Rattle.nor_base.specs.declared.step.Step.{Step}
 use Rattle.nor_base.specs.Device.{Cuts}
 use Rattle.nor_job.specs.declared.fault.BuildFault.{BuildFault}
 use Rattle.nor_job.specs.declared.fault.BuildFault.TheVariants.{Write}
+use Rattle.nor_progress.specs.Far.{IsSilent}
 use Rattle.norprog_common.specs.FileStore.{FileFacts, Change, Created, Lacks, Opened}
 use Rattle.norprog_common.specs.Files.{TellsFile}
 use Rattle.norprog_common.specs.Lines.{printed, status_after}
@@ -29,25 +31,26 @@ use Rattle.norprog_flash.specs.Request.{is_well_formed, AsksFor}
 use Rattle.norprog_flash.specs.Served.{paths_asked, IsJobOf}
 use Rattle.norprog_flash.specs.State.{state_line}
 use Rattle.norprog_flash.specs.Stops.{StopsOn, TellsFailed}
+use Rattle.norprog_flash.specs.Worked.{Showing}
 use Rattle.norprog_read.specs.Answer.{Reports}
 use Rattle.norprog_read.specs.Line.{unlike_line}
 
 -- the job of a request ended so on the device that it names; just that was opened, and the file for what the chip held was made
 pub record EndsRequest (files : FileFacts) (request : FlashRequest) (Made : List Change → Type 0) (out_before out_after : Option (List ℕ))
-    (ending : Ending) : Type 0 where
+    (Shown : List Step → ℕ → Type 0) (ending : Ending) : Type 0 where
   pub job : Job
   pub is : IsJobOf files request job
   pub sound : IsSoundEarly job
-  pub flashed : IsFlashedOn (files.device request.read.device.now) files job out_before out_after ending
+  pub flashed : IsFlashedOn (files.device request.read.device.now) files job out_before out_after Shown ending
   pub made : Made (Opened request.read.device.now ∷ Created request.before.now ∷ [])
 
 -- what the texts ask for did
 pub record IsEndingOf (files : FileFacts) (given : FlashArgs) (Made : List Change → Type 0) (out_before out_after : Option (List ℕ))
-    (ending : Ending) : Type 0 where
+    (Shown : List Step → ℕ → Type 0) (ending : Ending) : Type 0 where
   pub formed : is_well_formed given ≡ true
   pub request : FlashRequest
   pub asks : AsksFor given request
-  pub ends : EndsRequest files request Made out_before out_after ending
+  pub ends : EndsRequest files request Made out_before out_after Shown ending
 
 -- the device of this name couldn't be opened, or memory ran out before anything was sent, and nothing was printed; or it was opened,
 -- and the job on its chip stopped so
@@ -129,25 +132,29 @@ ReportsUnflashed (Closed bits) family Broke before after Quiet Works told_before
 
 -- what the texts ask for ended so: the lines of the plan were printed, and that is what was written of the ending
 pub record PrintsEnding (files : FileFacts) (given : FlashArgs) (Made : List Change → Type 0) (Broke : Type 0) (before after : Option (List ℕ))
-    (Quiet Works : Type 0) (told_before told_after : Option (List ℕ)) (status : ℕ) : Type 0 where
+    (Quiet Works : Type 0) (told_before told_after : Option (List ℕ)) (status : ℕ) (Shown : List Step → ℕ → Type 0) : Type 0 where
   pub ending : Ending
   pub middle : Option (List ℕ)
-  pub is : IsEndingOf files given Made before middle ending
+  pub is : IsEndingOf files given Made before middle Shown ending
   pub reported : ReportsEnding ending given Broke middle after Quiet Works told_before told_after status
 
--- it wasn't begun, and that is what was written of it; that an output can't be written only where one failed
+-- it wasn't begun, and that is what was written of it, and nothing as progress; that an output can't be written only where one failed
 pub record PrintsUnflashed (files : FileFacts) (given : FlashArgs) (Made : List Change → Type 0) (Broke : Type 0) (before after : Option (List ℕ))
-    (Quiet Works : Type 0) (told_before told_after : Option (List ℕ)) (status : ℕ) : Type 0 where
+    (Quiet Works : Type 0) (told_before told_after : Option (List ℕ)) (status : ℕ) (Silent : Type 0) : Type 0 where
   pub why : Unflashed
   pub middle : Option (List ℕ)
   pub is : IsUnbegunFor files given Made before middle why
   pub failed : TellsFailed Broke why
+  pub silent : Silent
   pub reported : ReportsUnflashed why (family_of given) Broke middle after Quiet Works told_before told_after status
 
 -- what `flash` answers to the texts of a command line, where `Made` says which changes it made, and `Broke` that an output failed: an
--- ending; or why nothing that changes a chip was sent
+-- ending; or why nothing that changes a chip was sent. What is written as progress, which held `shown_before` and had failed so often, is of
+-- the steps that were done
 abbrev pub AnswersFlash : FileFacts → FlashArgs → (List Change → Type 0) → Type 0 → Option (List ℕ) → Option (List ℕ) → Type 0 → Type 0
-    → Option (List ℕ) → Option (List ℕ) → ℕ → Type 0
-AnswersFlash files given Made Broke before after Quiet Works told_before told_after status =
+    → Option (List ℕ) → Option (List ℕ) → ℕ → Option (List ℕ) → Option (List ℕ) → ℕ → ℕ → Type 0
+AnswersFlash files given Made Broke before after Quiet Works told_before told_after status shown_before shown_after failed_before failed_after =
     PrintsEnding files given Made Broke before after Quiet Works told_before told_after status
+    (Showing shown_before shown_after failed_before failed_after)
     ⊎ PrintsUnflashed files given Made Broke before after Quiet Works told_before told_after status
+    (IsSilent shown_before shown_after failed_before failed_after)

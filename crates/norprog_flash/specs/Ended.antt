@@ -53,7 +53,8 @@ EveryChipKeeps {job = job} {held = held} {ahead = ahead} todo at row =
 
 -- all was done: each step, and then the chip gave just what it must hold
 pub record HasFlashed (files : FileFacts) (job : Job) (limits : Limits) (held_before held_after : Option (List ℕ))
-    (ahead_before ahead_after : Ahead) (out_before out_after : Option (List ℕ)) (transactions : ℕ) : Type 0 where
+    (ahead_before ahead_after : Ahead) (out_before out_after : Option (List ℕ)) (Shown : List Step → ℕ → Type 0) (transactions : ℕ)
+    : Type 0 where
   pub held : Option (List ℕ)
   pub ahead : Ahead
   pub todo : IsToDo files job held_before held ahead_before ahead out_before out_after
@@ -63,42 +64,49 @@ pub record HasFlashed (files : FileFacts) (job : Job) (limits : Limits) (held_be
   pub worked : HasWorked held held_after ahead ahead_after limits job.ask.turns by todo.steps todo.goal
       (λ h i a b. ReadsWhole h i a b (Ok tt) by todo.goal)
   pub every : EveryChipFlashes todo worked.held worked.ahead
+  pub shown : Shown todo.steps transactions
 
 -- a step can't be done by this device: nothing was sent after the chip was read
 pub record CantFlash (files : FileFacts) (job : Job) (limits : Limits) (held_before held_after : Option (List ℕ))
-    (ahead_before ahead_after : Ahead) (out_before out_after : Option (List ℕ)) (step : ℕ) (why : Failure) : Type 0 where
+    (ahead_before ahead_after : Ahead) (out_before out_after : Option (List ℕ)) (Shown : List Step → ℕ → Type 0) (step : ℕ) (why : Failure)
+    : Type 0 where
   pub todo : IsToDo files job held_before held_after ahead_before ahead_after out_before out_after
   pub first : IsFirstNotCarried limits todo.steps step
   pub carried : why ≡ Carried
+  pub shown : Shown todo.steps 0
 
 -- the device halted at a step
 pub record HasHaltedFlash (files : FileFacts) (job : Job) (limits : Limits) (held_before held_after : Option (List ℕ))
-    (ahead_before ahead_after : Ahead) (out_before out_after : Option (List ℕ)) (step : ℕ) (why : Failure) : Type 0 where
+    (ahead_before ahead_after : Ahead) (out_before out_after : Option (List ℕ)) (Shown : List Step → ℕ → Type 0) (step : ℕ) (why : Failure)
+    : Type 0 where
   pub held : Option (List ℕ)
   pub ahead : Ahead
   pub todo : IsToDo files job held_before held ahead_before ahead out_before out_after
   pub failed : HasFailedAt held held_after ahead ahead_after limits job.ask.turns todo.reading.meaning todo.steps step why
   pub every : EveryChipKeeps todo step (failed.halted.at ∷ failed.halted.beyond)
+  pub shown : Shown todo.steps step
 
 -- each step was done, but then the chip didn't give what it must hold
 pub record HasMissedFlash (files : FileFacts) (job : Job) (limits : Limits) (held_before held_after : Option (List ℕ))
-    (ahead_before ahead_after : Ahead) (out_before out_after : Option (List ℕ)) (step : ℕ) (why : Failure) : Type 0 where
+    (ahead_before ahead_after : Ahead) (out_before out_after : Option (List ℕ)) (Shown : List Step → ℕ → Type 0) (step : ℕ) (why : Failure)
+    : Type 0 where
   pub held : Option (List ℕ)
   pub ahead : Ahead
   pub todo : IsToDo files job held_before held ahead_before ahead out_before out_after
   pub by : ReadBy
   pub missed : HasMissed held held_after ahead ahead_after limits job.ask.turns by todo.steps todo.goal step why
   pub every : EveryChipFlashes todo missed.worked.held missed.worked.ahead
+  pub shown : Shown todo.steps step
 
--- how it ends: planned, and nothing else was sent; all done; or why a step wasn't
-abbrev pub EndsFlash : FileFacts → Job → Limits → Option (List ℕ) → Option (List ℕ) → Ahead → Ahead → Option (List ℕ) → Option (List ℕ) → Ending
-    → Type 0
-EndsFlash files job limits held_before held_after ahead_before ahead_after out_before out_after Planned =
+-- how it ends: planned, and nothing else was sent; all done; or why a step wasn't. `Shown`: how many of these steps were done is reported
+abbrev pub EndsFlash : FileFacts → Job → Limits → Option (List ℕ) → Option (List ℕ) → Ahead → Ahead → Option (List ℕ) → Option (List ℕ)
+    → (List Step → ℕ → Type 0) → Ending → Type 0
+EndsFlash files job limits held_before held_after ahead_before ahead_after out_before out_after Shown Planned =
     (job.dry ≡ true) × ((reading : Reading) × (goal : List ℕ) × (steps : List Step)
-    × HasPlanned files job held_before held_after ahead_before ahead_after reading goal steps out_before out_after)
-EndsFlash files job limits held_before held_after ahead_before ahead_after out_before out_after (Done transactions) =
-    HasFlashed files job limits held_before held_after ahead_before ahead_after out_before out_after transactions
-EndsFlash files job limits held_before held_after ahead_before ahead_after out_before out_after (Failed step why) =
-    CantFlash files job limits held_before held_after ahead_before ahead_after out_before out_after step why
-    ⊎ (HasHaltedFlash files job limits held_before held_after ahead_before ahead_after out_before out_after step why
-    ⊎ HasMissedFlash files job limits held_before held_after ahead_before ahead_after out_before out_after step why)
+    × HasPlanned files job held_before held_after ahead_before ahead_after reading goal steps out_before out_after × Shown steps 0)
+EndsFlash files job limits held_before held_after ahead_before ahead_after out_before out_after Shown (Done transactions) =
+    HasFlashed files job limits held_before held_after ahead_before ahead_after out_before out_after Shown transactions
+EndsFlash files job limits held_before held_after ahead_before ahead_after out_before out_after Shown (Failed step why) =
+    CantFlash files job limits held_before held_after ahead_before ahead_after out_before out_after Shown step why
+    ⊎ (HasHaltedFlash files job limits held_before held_after ahead_before ahead_after out_before out_after Shown step why
+    ⊎ HasMissedFlash files job limits held_before held_after ahead_before ahead_after out_before out_after Shown step why)

@@ -1,5 +1,6 @@
 -- Work on the chip behind a device, from its handshake on (this project's).
 use Rattle.std.specs.Prelude.{ℕ, List, Option, Ok}
+use Rattle.nor_base.specs.declared.step.Step.{Step}
 use Rattle.nor_base.specs.Device.{Ahead, ahead_of}
 use Rattle.nor_serprog.specs.declared.limits.Limits.{Limits}
 use Rattle.nor_serprog.specs.Greeting.{Greeted}
@@ -12,32 +13,33 @@ use Rattle.norprog_flash.specs.Ended.{EndsFlash}
 
 -- the line was tested, and then the job ended so
 pub record HasFlashedTested (files : FileFacts) (job : Job) (limits : Limits) (held_before held_after : Option (List ℕ))
-    (ahead_before ahead_after : Ahead) (out_before out_after : Option (List ℕ)) (ending : Ending) : Type 0 where
+    (ahead_before ahead_after : Ahead) (out_before out_after : Option (List ℕ)) (Shown : List Step → ℕ → Type 0) (ending : Ending)
+    : Type 0 where
   pub held : Option (List ℕ)
   pub ahead : Ahead
   pub tested : TestsLine held_before held ahead_before ahead (Ok tt) limits
-  pub ends : EndsFlash files job limits held held_after ahead ahead_after out_before out_after ending
+  pub ends : EndsFlash files job limits held held_after ahead ahead_after out_before out_after Shown ending
 
 -- the handshake, the test of the line, the job, the pins: nothing else was sent
 pub record HasFlashedOpened (files : FileFacts) (job : Job) (held_before held_after : Option (List ℕ)) (ahead_before ahead_after : Ahead)
-    (out_before out_after : Option (List ℕ)) (ending : Ending) : Type 0 where
+    (out_before out_after : Option (List ℕ)) (Shown : List Step → ℕ → Type 0) (ending : Ending) : Type 0 where
   pub held : Option (List ℕ)
   pub ahead : Ahead
   pub limits : Limits
   pub greeted : Greeted held_before held ahead_before ahead (Ok limits)
   pub held_late : Option (List ℕ)
   pub ahead_late : Ahead
-  pub tested : HasFlashedTested files job limits held held_late ahead ahead_late out_before out_after ending
+  pub tested : HasFlashedTested files job limits held held_late ahead ahead_late out_before out_after Shown ending
   pub released : LetsGo held_late held_after ahead_late ahead_after limits.pins
 
 -- the device that was named was opened, had this yet to give, and had taken that; the job on its chip ended so, and nothing was sent
 -- after that
 pub record IsFlashedOn (Device : Option (List ℕ) → Option (List ℕ) → Type 0) (files : FileFacts) (job : Job) (out_before out_after : Option (List ℕ))
-    (ending : Ending) : Type 0 where
+    (Shown : List Step → ℕ → Type 0) (ending : Ending) : Type 0 where
   pub remaining : Option (List ℕ)
   pub contents : Option (List ℕ)
   pub opened : Device remaining contents
   pub held : Option (List ℕ)
   pub ahead : Ahead
-  pub flashed : HasFlashedOpened files job contents held (ahead_of remaining) ahead out_before out_after ending
+  pub flashed : HasFlashedOpened files job contents held (ahead_of remaining) ahead out_before out_after Shown ending
   pub left : files.left held

@@ -32,7 +32,7 @@ use Rattle.norprog_read.specs.declared.fault.Unlike.TheVariants.{Unreadable}
 use Rattle.norprog_read.specs.declared.fault.Unread.{Unread}
 use Rattle.norprog_read.specs.declared.fault.Unread.TheVariants as unread
 use Rattle.norprog_read.specs.Chip.{HasReadChip}
-use Rattle.norprog_read.specs.Saved.{FailsToSave, IsSaved}
+use Rattle.norprog_read.specs.Saved.{IsSaved, IsUnsaved}
 use Rattle.norprog_read.specs.Stops.{StopsChip}
 use Rattle.norprog_read.specs.Way.{has_both, is_readable}
 use Rattle.norprog_work.specs.Refused.{RefusesWork}
@@ -83,16 +83,14 @@ StopsBefore held_before held_after ahead_before ahead_after job why =
     StopsReading held_before held_after ahead_before ahead_after job.ask why
     ⊎ StopsUnsuited held_before held_after ahead_before ahead_after job why
 
--- it was read, and what it holds couldn't be saved in its file, which may have been made
+-- it was read, and what it holds couldn't be saved in its file
 pub record StopsUnsaved (files : FileFacts) (Made : List Change → Type 0) (held_before held_after : Option (List ℕ)) (ahead_before ahead_after : Ahead)
     (job : Job) (why : Unflashed) : Type 0 where
   pub reading : Reading
   pub read : HasRead job held_before held_after ahead_before ahead_after reading
   pub refusal : Refusal
   pub is : why ≡ Refused refusal
-  pub told : FailsToSave (λ told. told ≡ file.Before) files.broke refusal
-  pub fails : FailsToSave (files.lacked job.before.now) files.broke refusal
-  pub made : Made [] ⊎ Made (Created job.before.now ∷ [])
+  pub unsaved : IsUnsaved files job.before.now file.Before reading.content.items Made refusal
 
 -- work is resumed from a dump that hasn't the chip's length, and nothing was printed; or the work from the content to the target, for which some lines of the plan may have been printed, couldn't be planned or printed
 abbrev pub CantPlan : Job → Reading → Option (List ℕ) → Option (List ℕ) → Refusal → Type 0

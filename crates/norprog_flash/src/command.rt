@@ -13,6 +13,7 @@ ghost use Rattle.norprog_flash.specs.Answer.{ReportsUnflashed, family_of};
 ghost use Rattle.norprog_flash.specs.Early.{file_tables, is_known, IsSoundEarly, RefusesEarly};
 ghost use Rattle.norprog_flash.specs.Opened.{IsFlashedOn};
 ghost use Rattle.norprog_flash.specs.Stops.{CountsOut};
+ghost use Rattle.norprog_flash.specs.Worked.{Showing};
 
 use crate::ending::{Ending, Unflashed};
 use crate::files::read_files;
@@ -50,7 +51,9 @@ pub fn flash<S: FileStore, O: ByteOut, E: ByteOut, P: ByteOut>(
         (Adds (S.Journal.changes journal.old) (S.Journal.changes journal.new))
         (Breaks (S.facts store.now) (O.count out.old) (O.count out.new))
         (O.held out.old) (O.held out.new) (err.new ≡ err.old)
-        (E.count err.new ≡ E.count err.old) (E.held err.old) (E.held err.new) result }
+        (E.count err.new ≡ E.count err.old) (E.held err.old) (E.held err.new) result
+        (P.held progress.old) (P.held progress.new) (P.count progress.old)
+        (P.count progress.new) }
 {
     match flash_texts(alloc, store, journal, &given, out, progress) {
         Ok(ending) => report_ending(ending, &given, out, err),
@@ -117,11 +120,14 @@ fn flash_texts<S: FileStore, O: ByteOut, P: ByteOut>(
     ensures ends { IfOk result
         (IsEndingOf (S.facts store.now) given.now
         (Adds (S.Journal.changes journal.old) (S.Journal.changes journal.new))
-        (O.held out.old) (O.held out.new)) }
+        (O.held out.old) (O.held out.new)
+        (Showing (P.held progress.old) (P.held progress.new) (P.count progress.old)
+        (P.count progress.new))) }
     ensures unbegun { IfErr result
         (IsUnbegunFor (S.facts store.now) given.now
         (Adds (S.Journal.changes journal.old) (S.Journal.changes journal.new))
         (O.held out.old) (O.held out.new)) }
+    ensures silent { IfErr result (λ _. progress.new ≡ progress.old) }
     ensures counts { CountsOut (S.facts store.now) (O.count out.old) (O.count out.new) result }
 {
     let request = request_of(given).ok_or(Refusal::Usage)?;
@@ -179,12 +185,15 @@ fn flash_device<S: FileStore, O: ByteOut, P: ByteOut>(
     ensures flashed { IfOk result
         (IsFlashedOn ((S.facts store.now).device device.now) (S.facts store.now) job.now
         (O.held out.old)
-        (O.held out.new)) }
+        (O.held out.new) (Showing (P.held progress.old) (P.held progress.new)
+        (P.count progress.old)
+        (P.count progress.new))) }
     ensures unbegun { IfErr result
         (IsUnbegunOn (S.facts store.now) device.now
         (Adds (S.Journal.changes journal.old) (S.Journal.changes journal.new)) job.now
         (O.held out.old)
         (O.held out.new)) }
+    ensures silent { IfErr result (λ _. progress.new ≡ progress.old) }
     ensures made { IfOk result (λ _. Adds (S.Journal.changes journal.old)
         (S.Journal.changes journal.new)
         (Opened device.now ∷ Created job.now.before.now ∷ [])) }

@@ -10,7 +10,7 @@ ghost use Rattle.norprog_flash.specs.Begun.{IsPlannedOn};
 ghost use Rattle.norprog_flash.specs.Ended.{EndsFlash};
 ghost use Rattle.norprog_flash.specs.Stops.{CountsOut, StopsBegun};
 ghost use Rattle.norprog_flash.specs.Task.{flash_task};
-ghost use Rattle.norprog_flash.specs.Worked.{GoesOn};
+ghost use Rattle.norprog_flash.specs.Worked.{GoesOn, Showing};
 
 use crate::begun::{Begun, begin};
 use crate::ending::{Ending, Unflashed};
@@ -47,12 +47,15 @@ pub fn flash_chip<S: FileStore, R: ByteIn, W: ByteOut, O: ByteOut, P: ByteOut>(
     ensures ends { IfOk result
         (EndsFlash (S.facts store.now) job.now limits.now (W.held to.old) (W.held to.new)
         (R.ahead from.old)
-        (R.ahead from.new) (O.held out.old) (O.held out.new)) }
+        (R.ahead from.new) (O.held out.old) (O.held out.new)
+        (Showing (P.held progress.old) (P.held progress.new) (P.count progress.old)
+        (P.count progress.new))) }
     ensures stops { IfErr result
         (StopsBegun (S.facts store.now)
         (Adds (S.Journal.changes journal.old) (S.Journal.changes journal.new)) (W.held to.old)
         (W.held to.new) (R.ahead from.old) (R.ahead from.new) job.now (O.held out.old)
         (O.held out.new)) }
+    ensures silent { IfErr result (λ _. progress.new ≡ progress.old) }
     ensures made { IfOk result (λ _. Adds (S.Journal.changes journal.old)
         (S.Journal.changes journal.new) (Created job.now.before.now ∷ [])) }
     ensures reads_room { R.count from.new ≤ R.count from.old + 2 }
@@ -87,7 +90,9 @@ fn flash_planned<S: FileStore, R: ByteIn, W: ByteOut, P: ByteOut>(
     requires told { P.count progress.old < 2 ^ 64 - 1 }
     ensures goes { GoesOn (W.held to.old) (W.held to.new) (R.ahead from.old) (R.ahead from.new)
         limits.now job.now begun.now.reading
-        begun.now.work.goal.items begun.now.work.steps.items result }
+        begun.now.work.goal.items begun.now.work.steps.items
+        (Showing (P.held progress.old) (P.held progress.new) (P.count progress.old)
+        (P.count progress.new) begun.now.work.steps.items) result }
     ensures reads_room { R.count from.new ≤ R.count from.old + 1 }
     ensures writes_room { W.count to.new ≤ W.count to.old + 1 }
 {

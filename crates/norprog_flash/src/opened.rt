@@ -4,6 +4,7 @@ ghost use Rattle.std.specs.Prelude.{◌≡◌, ◌≤◌, ◌<◌, ◌+◌, ◌-
 ghost use Rattle.norprog_common.specs.FileStore.{Adds, Created};
 ghost use Rattle.norprog_flash.specs.Stops.{CountsOut, StopsOpened, StopsTested};
 ghost use Rattle.norprog_flash.specs.Opened.{HasFlashedOpened, HasFlashedTested};
+ghost use Rattle.norprog_flash.specs.Worked.{Showing};
 
 use crate::device::flash_chip;
 use crate::ending::{Ending, Unflashed};
@@ -37,12 +38,15 @@ pub fn flash_opened<S: FileStore, R: ByteIn, W: ByteOut, O: ByteOut, P: ByteOut>
     ensures ends { IfOk result
         (HasFlashedOpened (S.facts store.now) job.now (W.held to.old) (W.held to.new)
         (R.ahead from.old)
-        (R.ahead from.new) (O.held out.old) (O.held out.new)) }
+        (R.ahead from.new) (O.held out.old) (O.held out.new)
+        (Showing (P.held progress.old) (P.held progress.new) (P.count progress.old)
+        (P.count progress.new))) }
     ensures stops { IfErr result
         (StopsOpened (S.facts store.now)
         (Adds (S.Journal.changes journal.old) (S.Journal.changes journal.new)) (W.held to.old)
         (W.held to.new) (R.ahead from.old) (R.ahead from.new) job.now (O.held out.old)
         (O.held out.new)) }
+    ensures silent { IfErr result (λ _. progress.new ≡ progress.old) }
     ensures made { IfOk result (λ _. Adds (S.Journal.changes journal.old)
         (S.Journal.changes journal.new) (Created job.now.before.now ∷ [])) }
     ensures out_counts { CountsOut (S.facts store.now) (O.count out.old) (O.count out.new) result }
@@ -76,12 +80,15 @@ fn flash_tested<S: FileStore, R: ByteIn, W: ByteOut, O: ByteOut, P: ByteOut>(
     ensures ends { IfOk result
         (HasFlashedTested (S.facts store.now) job.now limits.now (W.held to.old) (W.held to.new)
         (R.ahead from.old)
-        (R.ahead from.new) (O.held out.old) (O.held out.new)) }
+        (R.ahead from.new) (O.held out.old) (O.held out.new)
+        (Showing (P.held progress.old) (P.held progress.new) (P.count progress.old)
+        (P.count progress.new))) }
     ensures stops { IfErr result
         (StopsTested (S.facts store.now)
         (Adds (S.Journal.changes journal.old) (S.Journal.changes journal.new)) (W.held to.old)
         (W.held to.new) (R.ahead from.old) (R.ahead from.new) limits.now job.now
         (O.held out.old) (O.held out.new)) }
+    ensures silent { IfErr result (λ _. progress.new ≡ progress.old) }
     ensures counts { R.count from.new ≤ R.count from.old + 2
         × W.count to.new ≤ W.count to.old + 2 }
     ensures made { IfOk result (λ _. Adds (S.Journal.changes journal.old)

@@ -4,7 +4,7 @@ ghost use Rattle.std.specs.Prelude.{◌≡◌, ◌<◌, ◌≤◌, ◌+◌, ◌-
 ghost use Rattle.nor_base.specs.Device.{HaveRoom};
 ghost use Rattle.nor_base.specs.Step.{expected};
 ghost use Rattle.nor_serprog.specs.Done.{IsDoable};
-ghost use Rattle.norprog_flash.specs.Worked.{IsFailureAt, WorksOut};
+ghost use Rattle.norprog_flash.specs.Worked.{IsFailureAt, IsSoOfDone, Showing, WorksOut};
 ghost use Rattle.norprog_read.specs.Saved.{IsSaved};
 
 use crate::ending::Ending;
@@ -51,6 +51,9 @@ pub(crate) fn do_work<S: FileStore, R: ByteIn, W: ByteOut, P: ByteOut>(
     ensures ends { WorksOut (W.held to.old) (W.held to.new) (R.ahead from.old) (R.ahead from.new)
         limits.now turns bench.now.meaning.now bench.now.by
         steps.now goal.now result }
+    ensures shown { IsSoOfDone (Showing (P.held progress.old) (P.held progress.new)
+        (P.count progress.old)
+        (P.count progress.new) steps.now) result }
     ensures reads_room { R.count from.new ≤ R.count from.old + 1 }
     ensures writes_room { W.count to.new ≤ W.count to.old + 1 }
 {

@@ -1,26 +1,25 @@
 -- What is written for a request is what its texts ask for, and what is so of it is so of that.
-use Rattle.std.proofs.Common.{◌≡◌, ◌⊎◌, ◌∙◌, arith, ◌+◌, ◌<◌, ◌≤◌, ◌^◌, option_map, option_to_list, Bool, true, false, refl, sym, subst, List, [], ◌∷◌, ℕ, Option, Result, Ok, Err, IfOk, IfErr, inl, inr}
+use Rattle.std.proofs.Common.{◌≡◌, ◌⊎◌, ◌∙◌, arith, ◌+◌, ◌<◌, ◌≤◌, ◌^◌, option_map, option_to_list, Bool, true, false, refl, sym, subst, List, [], ◌∷◌, ℕ, Option, Some, Result, Ok, Err, IfOk, IfErr, inl, inr}
 use Rattle.std.specs.Prelude.{IsErrAnd}
 use Rattle.nor_base.specs.Device.{Ahead}
 use Rattle.nor_base.proofs.FaultLaws.{handed_on}
 use Rattle.nor_job.specs.declared.fault.BuildFault.TheVariants as fault
 use Rattle.std.specs.Io.KnownBytes.{Appends}
-use Rattle.norprog_common.specs.FileStore.{Change, FileFacts, HasGone, IsMadeApart, LacksEarly, MakesIf, MakesNamed, MayMake, Named}
+use Rattle.norprog_common.specs.FileStore.{Change, FileFacts, HasGone, IsMadeApart, LacksEarly, MakesIf, MakesNamed, MayMake, Named, TookNothing}
 use Rattle.norprog_common.specs.Lines.{printed, status_after}
 use Rattle.norprog_common.specs.Files.{TellsFile, RefusesFile}
 use Rattle.norprog_common.specs.declared.faults.FileName.{FileName}
 use Rattle.norprog_common.specs.declared.faults.FileName.TheVariants as file
 use Rattle.norprog_common.specs.declared.faults.Refusal.{Refusal}
-use Rattle.norprog_common.specs.declared.faults.Refusal.TheVariants.{File, Build, BinSize}
+use Rattle.norprog_common.specs.declared.faults.Refusal.TheVariants.{Usage, File, Build, BinSize}
 use Rattle.norprog_common.specs.Content.{CountsWriter, of_writer}
 use Rattle.norprog_common.specs.Reading.{HasFailed}
 use Rattle.norprog_common.specs.Told.{Answers, ForAsked, OrUsage, TellsBroken}
 use Rattle.norprog_common.proofs.LackedLemmas.{early_same}
-use Rattle.norprog_common.proofs.StoreLemmas.{gone_out}
 use Rattle.norprog_common.proofs.ToldLemmas.{asked_wider, or_usage}
 use Rattle.norprog_common.specs.declared.given.HexArgs.{HexArgs}
 use Rattle.norprog_hex.specs.declared.request.HexRequest.{HexRequest}
-use Rattle.norprog_hex.specs.Answer.{Fits, HasOtherLength, IsTooLong, IsUnmade, IsWritten, IsCut, IsBegun, RefusesHex, done}
+use Rattle.norprog_hex.specs.Answer.{Fits, HasOtherLength, IsTooLong, IsUnmade, IsUntaken, IsWritten, IsCut, IsBegun, RefusesHex, done}
 use Rattle.norprog_hex.specs.Converted.{BreaksOff, WasConverted, StopsConverting}
 use Rattle.norprog_hex.specs.Request.{is_well_formed, AsksFor}
 use Rattle.norprog_hex.specs.Served.{BinTask, HexTask, IsBinOf, IsTaskOf, ServesBin, Serves, paths_asked, paths_of}
@@ -127,6 +126,10 @@ module _ (files : FileFacts) (request : HexRequest) (ahead : Ahead) (len : ℕ) 
     was_stopped F (Build fault.Memory) gone cause broke is = tt
     was_stopped F other gone cause broke is = absurd is
 
+    -- an output that took nothing after it was made
+    pub is_untaken : (Made : List Change → Type 0) → HasGone files after → after ≡ begun → IsUntaken files (Some request.out.now) Made (IsTaskOf files request)
+    is_untaken Made gone same = inr (record { it = task; asked = asked; has = subst (HasGone files) same gone })
+
     pub done_is_written : {T U E : Type 0} (rest : Ahead) (answer : Result T Refusal) (flushed : Result U E) (r : Result ℕ Refusal)
         → IfOk answer (λ _. WasConverted request.at len ahead rest begun after) → IfOk flushed (λ _. files.flushed after) → r ≡ done answer flushed
         → IfOk r (λ _. ForAsked HexTask (IsTaskOf files request) (IsWritten files.flushed))
@@ -136,12 +139,12 @@ module _ (files : FileFacts) (request : HexRequest) (ahead : Ahead) (len : ℕ) 
 
     pub done_is_refused : {T U E : Type 0} (F : Ahead → Type 0) (rest : Ahead) (k k' : ℕ) (answer : Result T Refusal) (flushed : Result U E) (r : Result ℕ Refusal)
         → IfOk answer (λ _. WasConverted request.at len ahead rest begun after) → IfErr answer (StopsConverting request.at ahead begun after)
-        → IfErr answer (λ why. why ≡ File file.Bin → F ahead ⊎ HasOtherLength bin_task) → k ≡ 0 → CountsWriter k k' answer → IfOk flushed (λ _. k' ≡ 0) → IfOk flushed (λ _. files.flushed after) → IfErr flushed (λ _. files.broke) → r ≡ done answer flushed
+        → IfErr answer (λ why. why ≡ File file.Bin → F ahead ⊎ HasOtherLength bin_task) → k ≡ 0 → CountsWriter k k' answer → IfOk flushed (λ _. k' ≡ 0) → HasGone files after → IfErr flushed (λ _. files.broke) → r ≡ done answer flushed
         → IfErr r (RefusesHex (LacksEarly files (paths_of request) file.Out Nothing) files.broke F (HasGone files) (IsBinOf files request) (IsTaskOf files request))
-    done_is_refused F rest k k' (Err why) flushed r written stopped cause none counts whole sent broke is =
-        rw is (was_stopped F why (gone_out files after flushed sent broke) cause (told_broken files.broke k k' why flushed none counts whole broke) stopped)
-    done_is_refused F rest k k' (Ok x) (Err e) r written stopped cause none counts whole sent broke is = rw is (inr (was_written (HasGone files) rest (inr broke) written), broke)
-    done_is_refused F rest k k' (Ok x) (Ok u) r written stopped cause none counts whole sent broke is = rw is tt
+    done_is_refused F rest k k' (Err why) flushed r written stopped cause none counts whole gone broke is =
+        rw is (was_stopped F why gone cause (told_broken files.broke k k' why flushed none counts whole broke) stopped)
+    done_is_refused F rest k k' (Ok x) (Err e) r written stopped cause none counts whole gone broke is = rw is (inr (was_written (HasGone files) rest gone written), broke)
+    done_is_refused F rest k k' (Ok x) (Ok u) r written stopped cause none counts whole gone broke is = rw is tt
 
 -- why the file couldn't be read as said
 broken : {R : Type 0} (ahead : R → Ahead) (count : R → ℕ) (bin bin' : R) (len at : ℕ) → BreaksOff (count bin) (count bin') len (ahead bin) (ahead bin')
@@ -157,45 +160,66 @@ all_broken ahead count bin bin' len at (Ok x) breaks = tt
 all_broken ahead count bin bin' len at (Err why) breaks = λ is. broken ahead count bin bin' len at (breaks is)
 
 -- a file that can't be used is told by its name
-pub unmade_file : (P : Type 0) (name : FileName) (why : Refusal) → RefusesFile name why → IsUnmade P why
-unmade_file P name (File told) named = tt
-unmade_file P name (Build fault.Memory) named = tt
-unmade_file P name other named = absurd named
+pub unmade_file : (P Q : Type 0) (name : FileName) (why : Refusal) → Q → RefusesFile name why → IsUnmade P Q why
+unmade_file P Q name (File told) untaken named = tt
+unmade_file P Q name (Build fault.Memory) untaken named = untaken
+unmade_file P Q name other untaken named = absurd named
 
--- a text that wasn't written was begun
-stopped_made : (P : Type 0) (at : ℕ) (ahead : Ahead) (begun after : Option (List ℕ)) (why : Refusal) → StopsConverting at ahead begun after why → IsUnmade P why
-stopped_made P at ahead begun after (File file.Bin) is = tt
-stopped_made P at ahead begun after (Build fault.Write) is = tt
-stopped_made P at ahead begun after (Build fault.Memory) is = tt
-stopped_made P at ahead begun after other is = absurd is
+-- a text that wasn't written was begun, except where memory was refused before that
+stopped_made : (P Q : Type 0) (at : ℕ) (ahead : Ahead) (begun after : Option (List ℕ)) (why : Refusal) → (after ≡ begun → Q) → StopsConverting at ahead begun after why → IsUnmade P Q why
+stopped_made P Q at ahead begun after (File file.Bin) untaken is = tt
+stopped_made P Q at ahead begun after (Build fault.Write) untaken is = tt
+stopped_made P Q at ahead begun after (Build fault.Memory) untaken is = untaken is
+stopped_made P Q at ahead begun after other untaken is = absurd is
 
-pub unmade_done : {T U E : Type 0} (P : Type 0) (at : ℕ) (ahead : Ahead) (begun after : Option (List ℕ)) (answer : Result T Refusal) (flushed : Result U E)
-    (r : Result ℕ Refusal) → IfErr answer (StopsConverting at ahead begun after) → r ≡ done answer flushed → IfErr r (IsUnmade P)
-unmade_done P at ahead begun after (Err why) flushed r stopped is = rw is (stopped_made P at ahead begun after why stopped)
-unmade_done P at ahead begun after (Ok x) (Err e) r stopped is = rw is tt
-unmade_done P at ahead begun after (Ok x) (Ok u) r stopped is = rw is tt
+pub unmade_done : {T U E : Type 0} (P Q : Type 0) (at : ℕ) (ahead : Ahead) (begun after : Option (List ℕ)) (answer : Result T Refusal) (flushed : Result U E)
+    (r : Result ℕ Refusal) → (after ≡ begun → Q) → IfErr answer (StopsConverting at ahead begun after) → r ≡ done answer flushed → IfErr r (IsUnmade P Q)
+unmade_done P Q at ahead begun after (Err why) flushed r untaken stopped is = rw is (stopped_made P Q at ahead begun after why untaken stopped)
+unmade_done P Q at ahead begun after (Ok x) (Err e) r untaken stopped is = rw is tt
+unmade_done P Q at ahead begun after (Ok x) (Ok u) r untaken stopped is = rw is tt
 
-and_unmade : (asks : Bool) (Work : Refusal → Type 0) (P : Type 0) (why : Refusal) → OrUsage asks Work why → IsUnmade P why
-    → OrUsage asks (λ why. Work why × IsUnmade P why) why
-and_unmade true Work P why first unmade = (first, unmade)
-and_unmade false Work P why first unmade = first
+-- the output is the one that the texts name
+untaken_asked : (files : FileFacts) (given : HexArgs) (request : HexRequest) (Made : List Change → Type 0) → AsksFor given request
+    → IsUntaken files (Some request.out.now) Made (IsTaskOf files request) → IsUntaken files (option_map (λ t. t.now) given.out) Made (Serves files given)
+untaken_asked files given request Made asks (inl none) = inl (subst (λ s. TookNothing files (option_map (λ t. t.now) s) Made) (sym asks.out) none)
+untaken_asked files given request Made asks (inr begun) =
+    inr (asked_wider HexTask (IsTaskOf files request) (Serves files given) (λ t. HasGone files t.begun) (serves files given request asks) begun)
 
-usage_unmade : (asks : Bool) (Work : Refusal → Type 0) (P : Type 0) (why : Refusal) → OrUsage asks Work why → IsUnmade P why → asks ≡ false → P
-usage_unmade true Work P why first unmade unasked = absurd (both unasked)
+unmade_wider : (P Q R : Type 0) → (Q → R) → (why : Refusal) → IsUnmade P Q why → IsUnmade P R why
+unmade_wider P Q R more BinSize is = is
+unmade_wider P Q R more Usage is = is
+unmade_wider P Q R more (Build fault.Memory) is = more is
+unmade_wider P Q R more other is = tt
+
+pub unmade_asked : {T : Type 0} (files : FileFacts) (given : HexArgs) (request : HexRequest) (P : Type 0) (Made : List Change → Type 0) (r : Result T Refusal) → AsksFor given request
+    → IfErr r (IsUnmade P (IsUntaken files (Some request.out.now) Made (IsTaskOf files request)))
+    → IfErr r (IsUnmade P (IsUntaken files (option_map (λ t. t.now) given.out) Made (Serves files given)))
+unmade_asked files given request P Made (Ok x) asks is = tt
+unmade_asked files given request P Made (Err why) asks is =
+    unmade_wider P (IsUntaken files (Some request.out.now) Made (IsTaskOf files request)) (IsUntaken files (option_map (λ t. t.now) given.out) Made (Serves files given))
+    (untaken_asked files given request Made asks) why is
+
+and_unmade : (asks : Bool) (Work : Refusal → Type 0) (P Q : Type 0) (why : Refusal) → OrUsage asks Work why → IsUnmade P Q why
+    → OrUsage asks (λ why. Work why × IsUnmade P Q why) why
+and_unmade true Work P Q why first unmade = (first, unmade)
+and_unmade false Work P Q why first unmade = first
+
+usage_unmade : (asks : Bool) (Work : Refusal → Type 0) (P Q : Type 0) (why : Refusal) → OrUsage asks Work why → IsUnmade P Q why → asks ≡ false → P
+usage_unmade true Work P Q why first unmade unasked = absurd (both unasked)
   where
     both : true ≡ false → ⊥
     both is = cc
-usage_unmade false Work P why first unmade unasked = subst (IsUnmade P) first unmade
+usage_unmade false Work P Q why first unmade unasked = subst (IsUnmade P Q) first unmade
 
 -- what is answered, as the work ended
-pub answer_is : (files : FileFacts) (names : List (List ℕ)) (out : Option (List ℕ)) (Made : List Change → Type 0) (asks : Bool) (Done Quiet Works : Type 0)
+pub answer_is : (files : FileFacts) (names : List (List ℕ)) (out : Option (List ℕ)) (Made : List Change → Type 0) (asks : Bool) (Untaken Done Quiet Works : Type 0)
     (Work : Refusal → Type 0) (told_before told_after : Option (List ℕ)) (work : Result ℕ Refusal) (status : ℕ)
     → IfOk work (λ s. s ≡ 0) → MakesIf files names out Made work → IfOk work (λ _. Done) → IfOk work (λ _. asks ≡ true) → IfErr work (OrUsage asks Work)
-    → IfErr work (IsUnmade (Made [])) → IfOk work (λ s. (status ≡ s) × Quiet)
+    → IfErr work (IsUnmade (Made []) Untaken) → IfOk work (λ s. (status ≡ s) × Quiet)
     → IfErr work (λ why. (status ≡ status_after why) × (Works → Appends told_before told_after (printed why)))
-    → Answers asks ((status ≡ 0) × Done × MakesNamed files names out Made × Quiet) (MayMake files names out Made × (asks ≡ false → Made [])) (λ why. Work why × IsUnmade (Made []) why) Works
+    → Answers asks ((status ≡ 0) × Done × MakesNamed files names out Made × Quiet) (MayMake files names out Made × (asks ≡ false → Made [])) (λ why. Work why × IsUnmade (Made []) Untaken why) Works
     told_before told_after status
-answer_is files names out Made asks Done Quiet Works Work told_before told_after (Ok s) status zero made is formed first unmade done told =
+answer_is files names out Made asks Untaken Done Quiet Works Work told_before told_after (Ok s) status zero made is formed first unmade done told =
     inl (formed, (done.0 ∙ zero, is, made, done.1))
-answer_is files names out Made asks Done Quiet Works Work told_before told_after (Err why) status zero made is formed first unmade done told =
-    inr ((made, usage_unmade asks Work (Made []) why first unmade), (why, and_unmade asks Work (Made []) why first unmade, told.0, told.1))
+answer_is files names out Made asks Untaken Done Quiet Works Work told_before told_after (Err why) status zero made is formed first unmade done told =
+    inr ((made, usage_unmade asks Work (Made []) Untaken why first unmade), (why, and_unmade asks Work (Made []) Untaken why first unmade, told.0, told.1))

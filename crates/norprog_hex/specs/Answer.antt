@@ -7,7 +7,7 @@ use Rattle.norprog_common.specs.declared.faults.FileName.TheVariants as file
 use Rattle.norprog_common.specs.declared.faults.Refusal.{Refusal}
 use Rattle.norprog_common.specs.declared.faults.Refusal.TheVariants.{Usage, File, Build, BinSize}
 use Rattle.norprog_common.specs.declared.given.HexArgs.{HexArgs}
-use Rattle.norprog_common.specs.FileStore.{FileFacts, Change, HasGone, LacksEarly, MakesNamed, MayMake}
+use Rattle.norprog_common.specs.FileStore.{FileFacts, Change, HasGone, LacksEarly, MakesNamed, MayMake, TookNothing}
 use Rattle.norprog_common.specs.Told.{ForAsked, Answers}
 use Rattle.norprog_hex.specs.Converted.{IsLonger, IsShorter, WasConverted, WasBegun, WasCut}
 use Rattle.norprog_hex.specs.Request.{is_well_formed}
@@ -54,11 +54,17 @@ RefusesHex Lacked Broke Failed Gone Opened Asked (Build fault.Memory) = ⊤
 RefusesHex Lacked Broke Failed Gone Opened Asked (Build fault.Write) = (ForAsked HexTask Asked IsCut ⊎ ForAsked HexTask Asked (IsWritten Gone)) × Broke
 RefusesHex Lacked Broke Failed Gone Opened Asked other = ⊥
 
--- that the file fits is known before the output is made: `Nothing` says that nothing was made
-abbrev pub IsUnmade : Type 0 → Refusal → Type 0
-IsUnmade Nothing BinSize = Nothing
-IsUnmade Nothing Usage = Nothing
-IsUnmade Nothing other = ⊤
+-- that the file fits is known before the output is made, and at out of memory that took nothing: `Nothing` says that nothing was made,
+-- `Untaken` that the output took nothing
+abbrev pub IsUnmade : Type 0 → Type 0 → Refusal → Type 0
+IsUnmade Nothing Untaken BinSize = Nothing
+IsUnmade Nothing Untaken Usage = Nothing
+IsUnmade Nothing Untaken (Build fault.Memory) = Untaken
+IsUnmade Nothing Untaken other = ⊤
+
+-- the output of that name took nothing: it wasn't made, or it was made for what was asked for, and holds what it held then
+abbrev pub IsUntaken : FileFacts → Option (List ℕ) → (List Change → Type 0) → (HexTask → Type 0) → Type 0
+IsUntaken files out Made Asked = TookNothing files out Made ⊎ ForAsked HexTask Asked (λ t. HasGone files t.begun)
 
 -- what `hex` answers to the texts of a command line, where `Failed` says that a reader of the store that had this ahead has failed, and
 -- `Made` which changes it made: status 0 where it was written and has gone out, and just the output was made; or a refusal, and at most
@@ -69,7 +75,8 @@ AnswersHex files Failed given Made Quiet Works told_before told_after status =
     ((status ≡ 0) × ForAsked HexTask (Serves files given) (IsWritten files.flushed)
     × MakesNamed files (option_to_list (option_map (λ t. t.now) given.bin)) (option_map (λ t. t.now) given.out) Made × Quiet)
     (MayMake files (option_to_list (option_map (λ t. t.now) given.bin)) (option_map (λ t. t.now) given.out) Made × (is_well_formed given ≡ false → Made []))
-    (λ why. RefusesHex (LacksEarly files (paths_asked given) file.Out (Made [])) files.broke Failed (HasGone files) (ServesBin files given) (Serves files given) why × IsUnmade (Made []) why)
+    (λ why. RefusesHex (LacksEarly files (paths_asked given) file.Out (Made [])) files.broke Failed (HasGone files) (ServesBin files given) (Serves files given) why
+    × IsUnmade (Made []) (IsUntaken files (option_map (λ t. t.now) given.out) Made (Serves files given)) why)
     Works told_before told_after status
 
 -- status 0 where the text is whole and the file was flushed as well

@@ -6,7 +6,8 @@ ghost use Rattle.norprog_common.specs.FileStore.{Adds, HasGone, LacksEarly, Make
 ghost use Rattle.norprog_common.specs.declared.faults.FileName.TheVariants.{Out};
 ghost use Rattle.norprog_common.specs.Reading.{HasFailed};
 ghost use Rattle.norprog_common.specs.Told.{ForAsked, OrUsage};
-ghost use Rattle.norprog_hex.specs.Answer.{IsUnmade, IsWritten, RefusesHex, AnswersHex, done};
+ghost use Rattle.norprog_hex.specs.Answer.{IsUnmade, IsUntaken, IsWritten, RefusesHex, AnswersHex};
+ghost use Rattle.norprog_hex.specs.Answer.{done};
 ghost use Rattle.norprog_hex.specs.Request.{is_well_formed};
 ghost use Rattle.norprog_hex.specs.Served.{HexTask, IsBinOf, IsTaskOf, ServesBin, Serves};
 ghost use Rattle.norprog_hex.specs.Served.{paths_asked, paths_of};
@@ -64,7 +65,10 @@ fn converted_in<S: FileStore>(
         (HasGone (S.facts store.now)) (ServesBin (S.facts store.now) given.entry)
         (Serves (S.facts store.now) given.entry))) }
     ensures unmade { IfErr result (IsUnmade
-        (Adds (S.Journal.changes journal.old) (S.Journal.changes journal.new) [])) }
+        (Adds (S.Journal.changes journal.old) (S.Journal.changes journal.new) [])
+        (IsUntaken (S.facts store.now) (option_map (λ t. t.now) given.entry.out)
+        (Adds (S.Journal.changes journal.old) (S.Journal.changes journal.new))
+        (Serves (S.facts store.now) given.entry))) }
 {
     let request = request_of(given).ok_or(Refusal::Usage)?;
     run_hex(alloc, store, journal, request)
@@ -91,7 +95,10 @@ fn run_hex<S: FileStore>(
         (HasGone (S.facts store.now)) (IsBinOf (S.facts store.now) request.entry)
         (IsTaskOf (S.facts store.now) request.entry)) }
     ensures unmade { IfErr result (IsUnmade
-        (Adds (S.Journal.changes journal.old) (S.Journal.changes journal.new) [])) }
+        (Adds (S.Journal.changes journal.old) (S.Journal.changes journal.new) [])
+        (IsUntaken (S.facts store.now) (Some request.entry.out.now)
+        (Adds (S.Journal.changes journal.old) (S.Journal.changes journal.new))
+        (IsTaskOf (S.facts store.now) request.entry))) }
 {
     let (mut bin, place, len) = store.open(request.bin, FileName::Bin)?;
     if len > PAST - u64::from(request.at) {

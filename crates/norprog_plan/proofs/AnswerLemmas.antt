@@ -19,7 +19,7 @@ use Rattle.norprog_common.specs.declared.faults.FileName.{FileName}
 use Rattle.norprog_common.specs.declared.faults.Refusal.{Refusal}
 use Rattle.norprog_common.specs.declared.faults.Refusal.TheVariants.{Text, Usage, File, Build, Page, Script, BinSize, Steps, EmptyRegion, Log}
 use Rattle.norprog_common.specs.Reading.{GivesSome, HasFailed}
-use Rattle.norprog_common.specs.Told.{ForAsked, OfFault, TellsBroken}
+use Rattle.norprog_common.specs.Told.{AtMemory, ForAsked, OfFault, TellsBroken}
 use Rattle.norprog_common.specs.Served.{Job, Is}
 use Rattle.norprog_common.specs.Strict.{Filled, OrEmpty, RefusesEmpty}
 use Rattle.norprog_common.proofs.ServedLemmas.{of_one}
@@ -102,6 +102,11 @@ pub job_stops : {U : Type 0} (r : Result U Refusal) (strict : Bool) (Lacked : Fi
     (j : Job) (x y : Option (List ℕ)) → Filled strict A j → IfErr r (StopsPrinting Broke Lost Failed Gone Sent shows j x y) → IfErr r (RefusesPlan strict Lacked Broke Lost Failed Gone Sent shows A x y)
 job_stops (Ok u) strict Lacked Broke Lost Failed Gone Sent shows A j x y asked stops = tt
 job_stops (Err why) strict Lacked Broke Lost Failed Gone Sent shows A j x y asked stops = stops_asked strict Lacked Broke Lost Failed Gone Sent shows A j x y why asked stops
+
+pub job_holds : {U : Type 0} (r : Result U Refusal) (Nothing : Type 0) (Gone : Option (List ℕ) → Type 0) (A : Job → Type 0) (j : Job) → A j → IfErr r (AtMemory (IfSome j.begun Gone))
+    → IfErr r (AtMemory (Nothing ⊎ ((j : Job) × IsLeft Gone A j)))
+job_holds (Ok u) Nothing Gone A j asked holds = tt
+job_holds (Err why) Nothing Gone A j asked holds = λ memory. inr (j, (asked, holds memory))
 
 -- what comes before a job
 
@@ -270,12 +275,11 @@ behind_stops (Ok u) Same More Broke Files Failed Gone Sent shows j work begun do
 behind_stops (Err why) Same More Broke Files Failed Gone Sent shows j work begun done b x y z report drawn all is there files more cut =
     stop_of Same More Broke Files Failed Gone Sent shows j work begun done b x y z report drawn why all is there files more cut
 
--- what stands behind the lines, with the lines of the regions
-pub behind_is : {V : Type 0} (r : Result V Refusal) (items : V → List ℕ) (Sent : Option (List ℕ) → Type 0) (shows : Shows) (begun : Option (Option (List ℕ))) (report : Report) (t : Task) (len : ℕ)
-    (m : Parameters) (lines : List PlanLine) (text : List ℕ) → text ≡ behind_lines shows.times report t m lines → Draws Sent begun t m lines text
-    → IfOk r (λ rest. EndsWith shows.regions t len text (items rest)) → IfOk r (λ rest. IsBehind Sent shows begun report t len m lines (items rest))
-behind_is (Ok rest) items Sent shows begun report t len m lines text is drawn ends = record {
-  drawn = subst (Draws Sent begun t m lines) is drawn;
-  ends = subst (λ text. EndsWith shows.regions t len text (items rest)) is ends;
+-- what stands behind the lines, with the lines of the regions; the picture has what comes before these
+pub behind_is : (Sent : Option (List ℕ) → Type 0) (shows : Shows) (begun : Option (Option (List ℕ))) (report : Report) (t : Task) (len : ℕ) (m : Parameters) (lines : List PlanLine)
+    (text front rest : List ℕ) → text ≡ behind_lines shows.times report t m lines → front ≡ text → Draws Sent begun t m lines front → EndsWith shows.regions t len text rest
+    → IsBehind Sent shows begun report t len m lines rest
+behind_is Sent shows begun report t len m lines text front rest is same drawn ends = record {
+  drawn = subst (Draws Sent begun t m lines) (same ∙ is) drawn;
+  ends = subst (λ text. EndsWith shows.regions t len text rest) is ends;
 }
-behind_is (Err why) items Sent shows begun report t len m lines text is drawn ends = tt

@@ -1,7 +1,7 @@
 -- The job of a request is the one that the texts ask for.
-use Rattle.std.proofs.Common.{◌≡◌, ◌∙◌, ℕ, List, subst, Bool, refl, option_map, Option, Some, IfSome}
+use Rattle.std.proofs.Common.{◌≡◌, ◌∙◌, ℕ, List, inl, inr, subst, Bool, refl, option_map, Option, Some, IfSome}
 use Rattle.nor_base.specs.Device.{Ahead}
-use Rattle.norprog_common.specs.FileStore.{FileFacts, HasGone, LacksEarly}
+use Rattle.norprog_common.specs.FileStore.{FileFacts, Change, HasGone, LacksEarly}
 use Rattle.norprog_common.specs.declared.given.PlanArgs.{PlanArgs}
 use Rattle.norprog_common.specs.declared.request.Request.{Request}
 use Rattle.norprog_common.specs.Request.{AsksFor}
@@ -9,7 +9,7 @@ use Rattle.norprog_common.specs.Served.{Job, IsJobOf, map_path, paths_asked, pat
 use Rattle.norprog_common.specs.Strict.{Filled}
 use Rattle.norprog_common.specs.declared.faults.FileName.TheVariants.{Map}
 use Rattle.norprog_common.specs.declared.faults.Refusal.{Refusal}
-use Rattle.norprog_plan.specs.Answer.{RefusesPlan}
+use Rattle.norprog_plan.specs.Answer.{HoldsPlan, RefusesPlan}
 use Rattle.norprog_plan.specs.Served.{ServesPlan, shows_of}
 use Rattle.norprog_plan.proofs.AnswerLemmas.{refuses_asked}
 use Rattle.norprog_common.proofs.LackedLemmas.{early_same, paths_are}
@@ -18,6 +18,12 @@ use Rattle.norprog_common.proofs.ServedLemmas.{serves, asks_of}
 pub plan_serves : (files : FileFacts) (given : PlanArgs) (o : Option Request) (request : Request) → o ≡ Some request → IfSome o (AsksFor given.job)
     → (j : Job) → IsJobOf files request (option_map (λ t. t.now) given.map) j → ServesPlan files given j
 plan_serves files given o request some asks = serves files given.job request (option_map (λ t. t.now) given.map) _ refl (asks_of given.job o request some asks)
+
+pub plan_holds : (files : FileFacts) (given : PlanArgs) (Made : List Change → Type 0) (o : Option Request) (request : Request) → o ≡ Some request → IfSome o (AsksFor given.job) → (why : Refusal)
+    → HoldsPlan files (option_map (λ t. t.now) given.map) Made (IsJobOf files request (option_map (λ t. t.now) given.map)) why
+    → HoldsPlan files (option_map (λ t. t.now) given.map) Made (ServesPlan files given) why
+plan_holds files given Made o request some asks why holds = λ memory.
+    elim (holds memory) [ inl none ↦ inl none | inr left ↦ inr (left.0, (plan_serves files given o request some asks left.0 left.1.0, left.1.1)) ]
 
 pub plan_filled : (files : FileFacts) (given : PlanArgs) (o : Option Request) (request : Request) → o ≡ Some request → IfSome o (AsksFor given.job)
     → (j : Job) → Filled request.strict (IsJobOf files request (option_map (λ t. t.now) given.map)) j → Filled given.job.strict (ServesPlan files given) j

@@ -28,8 +28,8 @@ use Rattle.norprog_common.specs.declared.faults.FileName.TheVariants.{Map}
 use Rattle.norprog_common.specs.declared.faults.Refusal.{Refusal}
 use Rattle.norprog_common.specs.declared.faults.Refusal.TheVariants.{Build}
 use Rattle.norprog_common.specs.declared.given.PlanArgs.{PlanArgs}
-use Rattle.norprog_common.specs.FileStore.{FileFacts, Change, HasGone, LacksEarly}
-use Rattle.norprog_common.specs.Told.{ForAsked, OfFault, RefusesFor, Answers}
+use Rattle.norprog_common.specs.FileStore.{FileFacts, Change, HasGone, LacksEarly, TookNothing}
+use Rattle.norprog_common.specs.Told.{ForAsked, AtMemory, OfFault, RefusesFor, Answers}
 use Rattle.norprog_common.specs.Served.{Is, Job, MakesFor, MayMakeFor, map_path, paths_asked}
 use Rattle.norprog_common.specs.Strict.{Filled, OrEmpty}
 use Rattle.norprog_plan.specs.declared.outline.Shows.{Shows}
@@ -181,6 +181,10 @@ RefusesPlan strict Lacked Broke Lost Failed Gone Sent shows Asked before after =
     RefusesFor Lacked Broke (OrEmpty strict (IsLeft Gone Asked) (OfFault (IsPlanFault Failed Gone (Filled strict Asked))))
     (FailsToDraw Lost (Filled strict Asked) ⊎ FailsToPrint Sent shows (Filled strict Asked) before after)
 
+-- at out of memory the output of the picture took nothing
+abbrev pub HoldsPlan : FileFacts → Option (List ℕ) → (List Change → Type 0) → (Job → Type 0) → Refusal → Type 0
+HoldsPlan files out Made Asked = AtMemory (TookNothing files out Made ⊎ ((j : Job) × IsLeft (HasGone files) Asked j))
+
 -- what `plan` answers to the texts of a command line, where `Made` says which changes it made, `Failed` that a reader that had this
 -- ahead has failed, and `Broke` that an output has: the lines and the report at status 0, where the picture has gone out if one is asked
 -- for, and just its file was made; or a refusal, and at most that was, nothing where the texts ask for no plan
@@ -191,6 +195,6 @@ AnswersPlan files Failed given Made Broke before after Quiet Works told_before t
     × MakesFor files given.job (option_map (λ t. t.now) given.map) Made × Quiet)
     (CutsPlan files.flushed (shows_of given) (Filled given.job.strict (ServesPlan files given)) before after
     × (MayMakeFor files given.job (option_map (λ t. t.now) given.map) Made × (asks_plan given ≡ false → Made [])))
-    (RefusesPlan given.job.strict (LacksEarly files (paths_asked given.job (map_path (option_map (λ t. t.now) given.map))) Map (Made [])) Broke files.broke Failed (HasGone files) files.flushed (shows_of given)
-    (ServesPlan files given) before after)
+    (λ why. RefusesPlan given.job.strict (LacksEarly files (paths_asked given.job (map_path (option_map (λ t. t.now) given.map))) Map (Made [])) Broke files.broke Failed (HasGone files) files.flushed (shows_of given)
+    (ServesPlan files given) before after why × HoldsPlan files (option_map (λ t. t.now) given.map) Made (ServesPlan files given) why)
     Works told_before told_after status

@@ -6,12 +6,12 @@ ghost use Rattle.std.specs.Prelude.{IfOk, IfErr, IfSome, MatchResult, option_map
 ghost use Rattle.norprog_common.specs.Files.{TellsFile};
 ghost use Rattle.norprog_common.specs.declared.faults.FileName.TheVariants.{Map};
 ghost use Rattle.norprog_common.specs.FileStore.{Adds, Breaks, HasGone, IsMadeApart};
-ghost use Rattle.norprog_common.specs.FileStore.{LacksEarly, MakesIf};
-ghost use Rattle.norprog_common.specs.FileStore.{WhereNamed};
+ghost use Rattle.norprog_common.specs.FileStore.{LacksEarly, MakesIf, TookNothing, WhereNamed};
 ghost use Rattle.norprog_common.specs.Strict.{Filled};
 ghost use Rattle.norprog_common.specs.Told.{OrUsage};
 ghost use Rattle.norprog_plan.specs.Served.{asks_plan, shows_of, ServesPlan};
-ghost use Rattle.norprog_plan.specs.Answer.{AnswersPlan, CutsPlan, PrintsPlan, RefusesPlan};
+ghost use Rattle.norprog_plan.specs.Answer.{AnswersPlan, CutsPlan, HoldsPlan, PrintsPlan};
+ghost use Rattle.norprog_plan.specs.Answer.{RefusesPlan};
 ghost use Rattle.norprog_common.specs.Reading.{HasFailed};
 ghost use Rattle.norprog_common.specs.Served.{IsJobOf, AreGiven, held_in, input_files_of};
 ghost use Rattle.norprog_common.specs.Served.{map_path, paths_asked, paths_of};
@@ -90,6 +90,10 @@ fn report_plan<S: FileStore, O: ByteOut>(
         (HasGone (S.facts store.now))
         (S.facts store.now).flushed (shows_of given.entry)
         (ServesPlan (S.facts store.now) given.entry) (O.held out.old) (O.held out.new))) }
+    ensures memory { IfErr result
+        (HoldsPlan (S.facts store.now) (option_map (λ t. t.now) given.entry.map)
+        (Adds (S.Journal.changes journal.old) (S.Journal.changes journal.new))
+        (ServesPlan (S.facts store.now) given.entry)) }
 {
     let PlanArgs {
         job,
@@ -145,6 +149,10 @@ fn run_plan<S: FileStore, O: ByteOut>(
         (S.facts store.now).flushed shows
         (IsJobOf (S.facts store.now) request.now (option_map (λ t. t.now) map.entry))
         (O.held out.old) (O.held out.new)) }
+    ensures memory { IfErr result
+        (HoldsPlan (S.facts store.now) (option_map (λ t. t.now) map.entry)
+        (Adds (S.Journal.changes journal.old) (S.Journal.changes journal.new))
+        (IsJobOf (S.facts store.now) request.now (option_map (λ t. t.now) map.entry))) }
 {
     let PlanFiles {
         texts,
@@ -183,7 +191,9 @@ fn open_files<S: FileStore>(
         × IfSome files.map (λ file. S.Output.count file ≡ 0)) }
     ensures lacked { IfErr result (TellsFile (LacksEarly (S.facts store.now)
         (paths_of request.now (map_path (option_map (λ t. t.now) map.entry))) Map
-        (Adds (S.Journal.changes journal.old) (S.Journal.changes journal.new) []))) }
+        (Adds (S.Journal.changes journal.old) (S.Journal.changes journal.new) [])))
+        × IfErr result (λ _. TookNothing (S.facts store.now) (option_map (λ t. t.now) map.entry)
+        (Adds (S.Journal.changes journal.old) (S.Journal.changes journal.new))) }
 {
     let mut places = Vec::new(alloc);
     let (texts, content, len) = open_job(alloc, store, request, &mut places)?;

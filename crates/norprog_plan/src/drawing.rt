@@ -12,6 +12,7 @@ ghost use Rattle.nor_map.specs.Rows.{grid_of};
 ghost use Rattle.nor_map.specs.Map.{map_text};
 ghost use Rattle.nor_plan_read.specs.declared.line.PlanLine.{PlanLine as Line};
 ghost use Rattle.norprog_common.specs.FileStore.{HasGone};
+ghost use Rattle.norprog_common.specs.Told.{AtMemory};
 ghost use Rattle.norprog_plan.specs.Answer.{Draws, IsDrawn, LacksMap, LacksOutput, PutsMap};
 
 use nor_base::{ByteOut, Meaning};
@@ -56,6 +57,8 @@ pub(crate) fn draw_where_asked<S: FileStore>(
         → IfOk result (λ _. Draws (S.facts store.now).flushed (option_map S.Output.held map)
         inputs.now meaning.now lines rest.now) }
     ensures refused { IfErr result (LacksMap (is_some map) (S.facts store.now).broke) }
+    ensures memory { IfErr result
+        (AtMemory (IfSome (option_map S.Output.held map) (HasGone (S.facts store.now)))) }
 {
     match (map, marks) {
         (Some(file), Some(marks)) => draw_file(alloc, store, inputs, meaning, marks, rest, file),
@@ -83,6 +86,8 @@ fn draw_file<S: FileStore>(
         → IfOk result (λ _. IsDrawn (S.facts store.now).flushed (S.Output.held file) inputs.now
         meaning.now lines rest.now) }
     ensures refused { IfErr result (LacksOutput (S.facts store.now).broke) }
+    ensures memory { IfErr result
+        (AtMemory (HasGone (S.facts store.now) (S.Output.held file))) }
 {
     let drawn = draw(alloc, inputs, meaning, marks, rest, &mut file);
     let flushed = store.flush(file);
@@ -111,6 +116,7 @@ fn draw<W: ByteOut>(
         → IfOk result (λ _. PutsMap inputs.now meaning.now lines rest.now (W.held out.old)
         (W.held out.new)) }
     ensures refused { IfErr result (LacksOutput (W.count out.old < W.count out.new)) }
+    ensures kept { IfErr result (AtMemory (out.new ≡ out.old)) }
 {
     let Some(text) = inputs.layout else {
         return put_map(alloc, marks, &Chosen::whole(), &[], rest, out);
@@ -139,6 +145,7 @@ fn put_map<W: ByteOut>(
         → IfOk result (λ _. Appends (W.held out.old) (W.held out.new)
         (map_text (grid_of size page lines (has chosen.now)) lines regions.now rest.now)) }
     ensures refused { IfErr result (LacksOutput (W.count out.old < W.count out.new)) }
+    ensures kept { IfErr result (AtMemory (out.new ≡ out.old)) }
 {
     let grid = Grid::of(alloc, marks, chosen)?;
     match write_map(&grid, marks, regions, rest, out) {

@@ -18,6 +18,7 @@ ghost use Rattle.nor_times.specs.declared.times.Times.{Times as KnownTimes};
 ghost use Rattle.norprog.specs.Planner.{IsReady, HasTold};
 ghost use Rattle.norprog.specs.Windows.{IsCutPlan};
 ghost use Rattle.norprog_common.specs.FileStore.{Breaks, HasGone};
+ghost use Rattle.norprog_common.specs.Told.{AtMemory};
 ghost use Rattle.norprog_common.specs.declared.faults.Refusal.TheVariants.{Build};
 ghost use Rattle.norprog_common.specs.Reading.{HasFailed};
 ghost use Rattle.norprog_common.specs.Served.{job_with, Is};
@@ -72,6 +73,8 @@ pub(crate) fn print_job<S: FileStore, R: ByteIn, O: ByteOut>(
         (S.facts store.now).flushed shows
         (job_with inputs.now (R.ahead content.old) len (option_map S.Output.held map))
         (O.held out.old) (O.held out.new)) }
+    ensures memory { IfErr result
+        (AtMemory (IfSome (option_map S.Output.held map) (HasGone (S.facts store.now)))) }
 {
     planned_lines();
     let job = match job_of(alloc, inputs, len) {
@@ -79,7 +82,10 @@ pub(crate) fn print_job<S: FileStore, R: ByteIn, O: ByteOut>(
         Err(fault) => return Err(left(store, map, Refusal::Build(fault))),
     };
     job.meaning.acceptance();
-    let mut sums = Sums::new(alloc, inputs, &job, map.is_some())?;
+    let mut sums = match Sums::new(alloc, inputs, &job, map.is_some()) {
+        Ok(sums) => sums,
+        Err(_) => return Err(left(store, map, Refusal::MEMORY)),
+    };
     match print_lines(alloc, &job, content, &mut sums, out) {
         Ok(report) => print_behind(alloc, store, inputs, &job, &report, shows, &sums, map, out),
         Err(fault) => Err(left(store, map, Refusal::Build(fault))),
@@ -176,6 +182,8 @@ fn print_behind<S: FileStore, O: ByteOut>(
         (option_map S.Output.held map) report.now inputs.now len job.now.meaning lines rest
         × Cuts (O.held out.old) (O.held out.new) rest × (why ≡ Build Write)
         × (O.count out.old < O.count out.new))) }
+    ensures memory { IfErr result
+        (AtMemory (IfSome (option_map S.Output.held map) (HasGone (S.facts store.now)))) }
 {
     let rest = behind(alloc, store, inputs, job, report, shows, sums, map)?;
     match put_all(out, &rest) {
@@ -205,18 +213,29 @@ fn behind<S: FileStore>(
         (option_map S.Output.held map) report.now inputs.now len job.now.meaning lines
         rest.items) }
     ensures refused { IfErr result (LacksMap (is_some map) (S.facts store.now).broke) }
+    ensures memory { IfErr result
+        (AtMemory (IfSome (option_map S.Output.held map) (HasGone (S.facts store.now)))) }
 {
-    let rest = report_in_memory(alloc, report, shows.times, &sums.times)?;
+    let shown = match report_in_memory(alloc, report, shows.times, &sums.times) {
+        Ok(shown) => shown,
+        Err(why) => return Err(left(store, map, why)),
+    };
+    let drawn = shown.as_slice().len();
+    // all memory is taken before the picture is begun
+    let rest = match with_regions(alloc, inputs, job, shows.regions, shown) {
+        Ok(rest) => rest,
+        Err(why) => return Err(left(store, map, why)),
+    };
     draw_where_asked(
         alloc,
         store,
         inputs,
         &job.meaning,
         &sums.marks,
-        rest.as_slice(),
+        &rest.as_slice()[..drawn],
         map,
     )?;
-    with_regions(alloc, inputs, job, shows.regions, rest)
+    Ok(rest)
 }
 
 /// A plan's report, and its times where they are asked for. `Memory` where a growth is refused.

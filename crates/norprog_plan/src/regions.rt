@@ -1,6 +1,6 @@
 //! The lines on what the image gives the chosen regions.
 
-ghost use Rattle.std.specs.Prelude.{◌≡◌, ◌<◌, ◌≤◌, ◌-◌, ◌^◌, ◌++◌, ℕ, IfOk, IfErr};
+ghost use Rattle.std.specs.Prelude.{◌≡◌, ◌<◌, ◌≤◌, ◌-◌, ◌^◌, ◌++◌, ℕ, List, IfOk, IfErr};
 ghost use Rattle.nor_base.specs.Device.{Writes, Counts};
 ghost use Rattle.nor_hex.specs.Image.{byte_at};
 ghost use Rattle.nor_job.specs.Job.{IsJob};
@@ -29,6 +29,7 @@ pub(crate) fn with_regions(
 ) -> Result<Vec<u8>, Refusal>
     ensures told { (len : ℕ) → IsJob inputs.now len job.now
         → IfOk result (λ rest. EndsWith regions inputs.now len shown.items rest.items) }
+    ensures begins { IfOk result (λ rest. (more : List ℕ) × (rest.items ≡ shown.items ++ more)) }
     ensures memory { IfErr result (λ why. why ≡ Build Memory) }
 {
     if !regions {

@@ -58,7 +58,7 @@ not_none m limits turns b c x given (reason.Differs place byte) can follows fail
     by_address None h = cc
 
 -- of steps that may be sent none fails as none
-never_stops : (limits : Limits) (turns : ℕ) (m : Parameters) (after : Moment) (steps done beyond rest : List Step) (reached : Moment) (x : Step) (given : List ℕ)
+pub never_stops : (limits : Limits) (turns : ℕ) (m : Parameters) (after : Moment) (steps done beyond rest : List Step) (reached : Moment) (x : Step) (given : List ℕ)
     (why : Reason) → steps ≡ done ++ (x ∷ (beyond ++ rest)) → AreCarried limits steps → StopsStep limits turns reached x given why beyond after
     → FailsAs m (step_clocks x) given why failure.Carried → ⊥
 never_stops limits turns m after steps done beyond rest reached x given why those carried (inl stop) fails =

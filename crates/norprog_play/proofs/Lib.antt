@@ -2,6 +2,7 @@ mod TakenLemmas
 mod TogetherLemmas
 mod FollowedLemmas
 mod CarriedLemmas
+mod ProgressLemmas
 mod PieceLemmas
 mod ComparedLemmas
 mod LikenessLemmas

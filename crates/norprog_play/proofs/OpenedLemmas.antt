@@ -1,5 +1,5 @@
 -- Where memory is refused after the handshake.
-use Rattle.std.proofs.Common.{◌≡◌, ◌∙◌, ap, ℕ, List, [], ◌∷◌, Option, Ok, Err, Result, inr, refl, sym, subst}
+use Rattle.std.proofs.Common.{◌≡◌, ◌∙◌, ap, Bool, false, ℕ, List, [], ◌∷◌, Option, Ok, Err, Result, inr, refl, sym, subst}
 use Rattle.std.specs.Prelude.{MatchResult, IsErrAnd}
 use Rattle.nor_base.specs.declared.meaning.Start.{Start}
 use Rattle.nor_base.specs.declared.step.Step.{Step}
@@ -22,23 +22,23 @@ use Rattle.norprog_play.specs.Ending.{EndsSo}
 use Rattle.norprog_play.specs.Expected.{Expectation}
 use Rattle.norprog_play.specs.Moment.{Moment, moment}
 use Rattle.norprog_device.specs.Opened.{Opens}
-use Rattle.norprog_play.specs.Opened.{FailsTest, GreetsSo, HasPlayed, Releases, StopsBefore}
+use Rattle.norprog_play.specs.Opened.{FailsTest, GreetsSo, HasPlayed, Releases, StopsBefore, StopsOpening}
 use Rattle.norprog_play.specs.Played.{EndsOnDevice, Stands, StopsPlay}
 
-pub for_memory : {T : Type 0} (P : T → Type 0) (limits : Limits) (before after : Moment) (r : Result T Unplayed) → IsErrAnd r (λ why. why ≡ Refused (Build Memory))
-    → GreetsSo before after (Ok limits) → MatchResult r P (StopsBefore limits before after)
-for_memory P limits before after (Ok x) is greets = absurd is
-for_memory P limits before after (Err why) is greets = subst (StopsBefore limits before after) (sym is) greets
+pub for_memory : {T : Type 0} (P : T → Type 0) (first limits : Limits) (before after : Moment) (r : Result T Unplayed) → IsErrAnd r (λ why. why ≡ Refused (Build Memory))
+    → GreetsSo before after (Ok limits) → MatchResult r P (StopsBefore first limits before after)
+for_memory P first limits before after (Ok x) is greets = absurd is
+for_memory P first limits before after (Err why) is greets = subst (StopsBefore first limits before after) (sym is) greets
 
 -- a test of the line after a handshake
-pub opens_so : (held held' held'' : Option (List ℕ)) (ahead ahead' ahead'' : Ahead) (limits limits' : Limits) → limits' ≡ limits → Greeted held held' ahead ahead' (Ok limits)
+pub opens_so : (held held' held'' : Option (List ℕ)) (ahead ahead' ahead'' : Ahead) (first limits limits' : Limits) → limits' ≡ limits → Greeted held held' ahead ahead' (Ok limits)
     → (r : Result (Unit {0}) DeviceFault) → MatchResult r (λ _. TestsLine held' held'' ahead' ahead'' (Ok tt) limits) (FailsTest held' held'' ahead' ahead'' limits)
-    → MatchResult r (λ _. Opens held held'' ahead ahead'' (Ok limits')) (λ why. Opens held held'' ahead ahead'' (Err why))
-opens_so held held' held'' ahead ahead' ahead'' limits limits' same greeted (Ok u) tested =
+    → MatchResult r (λ _. Opens held held'' ahead ahead'' (Ok limits')) (StopsOpening held held'' ahead ahead'' first limits')
+opens_so held held' held'' ahead ahead' ahead'' first limits limits' same greeted (Ok u) tested =
     subst (λ (l : Limits). Opens held held'' ahead ahead'' (Ok l)) (sym same) (record { held = held'; ahead = ahead'; greeted = greeted; tested = tested })
-opens_so held held' held'' ahead ahead' ahead'' limits limits' same greeted (Err (Line why)) tested =
-    (limits, record { held = held'; ahead = ahead'; greeted = greeted; tested = tested })
-opens_so held held' held'' ahead ahead' ahead'' limits limits' same greeted (Err (Greet why)) tested = absurd tested
+opens_so held held' held'' ahead ahead' ahead'' first limits limits' same greeted (Err (Line why)) tested =
+    subst (λ (l : Limits). StopsOpening held held'' ahead ahead'' first l (Line why)) (sym same) (record { held = held'; ahead = ahead'; greeted = greeted; tested = tested })
+opens_so held held' held'' ahead ahead' ahead'' first limits limits' same greeted (Err (Greet why)) tested = absurd tested
 
 -- steps that ended after a handshake, by what the code says of the limits and the turns
 pub has_played : (limits limits' : Limits) (turns turns' : ℕ) (x : Expectation) (m : Parameters) (before between after : Moment) (steps : List Step) (ending : Ending)
@@ -52,12 +52,12 @@ has_played limits limits' turns turns' x m before between after steps ending sam
 }
 
 -- a play on that device of steps that may be played
-pub known_ends : (files : FileFacts) (name : List ℕ) (Made : List Change → Type 0) (limit turns : ℕ) (limits : Limits) (x : Expectation) (m : Parameters) (content : List ℕ) (steps : List Step) (before reached after : Moment)
-    → MayPlay (chip_with m x.start content) steps → Stands (files.device name) m x.start content before → turns ≡ limit → Releases limits.pins reached after → files.left after.held
+pub known_ends : (files : FileFacts) (name : List ℕ) (Made : List Change → Type 0) (limit turns : ℕ) (first limits : Limits) (x : Expectation) (m : Parameters) (content : List ℕ) (steps : List Step) (before reached after : Moment)
+    → MayPlay (chip_with m x.start content) steps → Stands (files.device name) m x.start content before → turns ≡ limit → first.pins ≡ false → Releases limits.pins reached after → files.left after.held
     → Made (Opening name ∷ []) → (r : Result Ending Unplayed)
-    → MatchResult r (λ ending. HasPlayed limits turns x m before steps ending reached) (StopsBefore limits before reached)
+    → MatchResult r (λ ending. HasPlayed limits turns x m before steps ending reached) (StopsBefore first limits before reached)
     → MatchResult r (EndsOnDevice files name Made limit x m content steps) (StopsPlay files name Made m x.start content steps)
-known_ends files name Made limit turns limits x m content steps before reached after may stands same released left made (Ok ending) is = record {
+known_ends files name Made limit turns first limits x m content steps before reached after may stands same none released left made (Ok ending) is = record {
   may = may;
   before = before;
   reached = reached;
@@ -69,15 +69,38 @@ known_ends files name Made limit turns limits x m content steps before reached a
   left = left;
   made = made;
 }
-known_ends files name Made limit turns limits x m content steps before reached after may stands same released left made (Err (Device why)) is = (
-  limits.pins,
-  record { may = may; before = before; reached = reached; after = after; stands = stands; greeted = is; released = released; left = left; made = made },
+known_ends files name Made limit turns first limits x m content steps before reached after may stands same none released left made (Err (Device (Greet why))) is =
+    let undriven : limits.pins ≡ false = ap (λ (l : Limits). l.pins) is.stops.0 ∙ none in
+    record {
+      may = may;
+      before = before;
+      reached = reached;
+      after = after;
+      stands = stands;
+      greeted = record { shown = is.shown; opened = is.stops.1 };
+      released = subst (λ (b : Bool). Releases b reached after) undriven released;
+      left = left;
+      made = made;
+    }
+known_ends files name Made limit turns first limits x m content steps before reached after may stands same none released left made (Err (Device (Line why))) is = (
+  limits,
+  record {
+    may = may;
+    before = before;
+    reached = reached;
+    after = after;
+    stands = stands;
+    greeted = record { shown = is.shown; opened = is.stops };
+    released = released;
+    left = left;
+    made = made;
+  },
 )
-known_ends files name Made limit turns limits x m content steps before reached after may stands same released left made (Err (Refused (Build Memory))) is = inr (
+known_ends files name Made limit turns first limits x m content steps before reached after may stands same none released left made (Err (Refused (Build Memory))) is = inr (
   refl,
   (limits, record { may = may; before = before; reached = reached; after = after; stands = stands; greeted = is; released = released; left = left; made = made }),
 )
-known_ends files name Made limit turns limits x m content steps before reached after may stands same released left made (Err (Refused other)) is = absurd is
+known_ends files name Made limit turns first limits x m content steps before reached after may stands same none released left made (Err (Refused other)) is = absurd is
 
 -- what is handed on of a refusal
 pub handed : {T : Type 0} (P : T → Type 0) (Q : Unplayed → Type 0) (why : Unplayed) (r : Result T Unplayed) → IsErrAnd r (λ other. other ≡ why) → Q why → MatchResult r P Q

@@ -46,11 +46,11 @@ serves files given request asks t of = record {
   trusted = rw of.trusted asks.trust;
 }
 
-pub endings_asked : (files : FileFacts) (Made : List Change → Type 0) (given : PlayArgs) (request : PlayRequest) (r : Result Ending Unplayed) → AsksFor given request
-    → IfOk r (IsEnding files Made (IsTaskOf files request)) → IfOk r (IsEnding files Made (Serves files given))
-endings_asked files Made given request (Ok ending) asks of =
-    asked_wider PlayTask (IsTaskOf files request) (Serves files given) (IsEndingOf files Made ending) (serves files given request asks) of
-endings_asked files Made given request (Err why) asks of = tt
+pub endings_asked : (files : FileFacts) (Made : List Change → Type 0) (Told : List Step → Ending → Type 0) (given : PlayArgs) (request : PlayRequest)
+    (r : Result Ending Unplayed) → AsksFor given request → IfOk r (IsEnding files Made Told (IsTaskOf files request)) → IfOk r (IsEnding files Made Told (Serves files given))
+endings_asked files Made Told given request (Ok ending) asks of =
+    asked_wider PlayTask (IsTaskOf files request) (Serves files given) (IsEndingOf files Made Told ending) (serves files given request asks) of
+endings_asked files Made Told given request (Err why) asks of = tt
 
 -- and why it isn't played
 module _ (files : FileFacts) (Failed : Ahead → Type 0) (Made : List Change → Type 0) (given : PlayArgs) (request : PlayRequest) (asks : AsksFor given request) where
@@ -140,10 +140,10 @@ module _ (files : FileFacts) (request : PlayRequest) (tables : List ℕ) (t : Ta
 
   module _ (Failed : Ahead → Type 0) (Made : List Change → Type 0) (rest after : Ahead) (m : Parameters) (steps : List Step) (content : List ℕ)
       (ready : IsReady t script rest len before after m steps content) (x : Expectation) (is_so : x ≡ expectation task) where
-    pub was_played : (r : Result Ending Unplayed)
+    pub was_played : (Told : List Step → Ending → Type 0) (Silent : Type 0) (r : Result Ending Unplayed)
         → MatchResult r (Ends files request.device.now Made request.limit x m content steps) (StopsPlay files request.device.now Made m x.start content steps)
-        → IfOk r (IsEnding files Made (IsTaskOf files request))
-    was_played (Ok ending) is = record {
+        → MatchResult r (Told steps) (λ _. Silent) → IfOk r (IsEnding files Made Told (IsTaskOf files request))
+    was_played Told Silent (Ok ending) is told = record {
       it = task;
       asked = asked;
       has = record {
@@ -154,9 +154,10 @@ module _ (files : FileFacts) (request : PlayRequest) (tables : List ℕ) (t : Ta
         content = content;
         ready = ready;
         ends = subst (λ (y : Expectation). Ends files request.device.now Made request.limit y m content steps ending) is_so is;
+        told = told;
       };
     }
-    was_played (Err why) is = tt
+    was_played Told Silent (Err why) is told = tt
 
     halted : (why : Unplayed) → StopsPlay files request.device.now Made m x.start content steps why → IsHalt files Made (IsTaskOf files request) why
     halted why is = record {

@@ -7,6 +7,7 @@ pub mod Asked
 pub mod Carried
 pub mod Rehearsal
 pub mod Ending
+pub mod Progress
 pub mod Line
 pub mod Compared
 pub mod Likeness

@@ -1,10 +1,11 @@
 -- How a play on a chip behind a device ends (this project's). `Opened` says of the device that was named what it had yet to give, and
 -- what it had taken, as it was opened.
-use Rattle.std.specs.Prelude.{◌≡◌, ◌⊎◌, ℕ, Bool, List, [], ◌∷◌, Option, Result, Ok, Err}
+use Rattle.std.specs.Prelude.{◌≡◌, ◌⊎◌, ℕ, Bool, false, List, [], ◌∷◌, Option, Ok, Err}
 use Rattle.nor_base.specs.declared.meaning.Start.{Start}
 use Rattle.nor_base.specs.declared.step.Step.{Step}
 use Rattle.nor_base.specs.Parameters.{Parameters}
 use Rattle.norprog_device.specs.declared.fault.DeviceFault.{DeviceFault}
+use Rattle.norprog_device.specs.declared.fault.DeviceFault.TheVariants.{Greet, Line}
 use Rattle.nor_serprog.specs.declared.limits.Limits.{Limits}
 use Rattle.nor_job.specs.declared.fault.BuildFault.TheVariants.{Memory}
 use Rattle.norprog_common.specs.declared.faults.Refusal.TheVariants.{Build}
@@ -16,7 +17,7 @@ use Rattle.norprog_play.specs.declared.unplayed.Unplayed.TheVariants.{Refused, D
 use Rattle.norprog_play.specs.Early.{chip_with, MayPlay, EndsInMemory}
 use Rattle.norprog_play.specs.Expected.{Expectation}
 use Rattle.norprog_play.specs.Moment.{Moment, moment}
-use Rattle.norprog_play.specs.Opened.{GreetsSo, HasPlayed, Releases}
+use Rattle.norprog_play.specs.Opened.{FailsLine, GreetsSo, HasPlayed, Releases}
 
 -- a chip with that content in memory, beside that device as it was opened
 pub record Stands (Opened : Option (List ℕ) → Option (List ℕ) → Type 0) (m : Parameters) (start : Start) (content : List ℕ) (now : Moment) : Type 0 where
@@ -45,27 +46,32 @@ abbrev pub Ends : FileFacts → List ℕ → (List Change → Type 0) → ℕ �
 Ends files name Made limit x m content steps ending =
     (EndsInMemory (chip_with m x.start content) steps ending × Made []) ⊎ EndsOnDevice files name Made limit x m content steps ending
 
--- they might be played, and the handshake with that device ended so; nothing went out after it, except that the pins were released
--- where `pins` says that the device drives them. It was opened once, and nothing else was changed
+-- they might be played, and the handshake with that device and the test of the line to it went as `Greets` says; nothing went out after
+-- that, except that the pins were released where `pins` says that the device drives them. It was opened once, and nothing else was changed
 pub record HasGreeted (files : FileFacts) (name : List ℕ) (Made : List Change → Type 0) (m : Parameters) (start : Start) (content : List ℕ)
-    (steps : List Step) (greeting : Result Limits DeviceFault) (pins : Bool) : Type 0 where
+    (steps : List Step) (Greets : Moment → Moment → Type 0) (pins : Bool) : Type 0 where
   pub may : MayPlay (chip_with m start content) steps
   pub before : Moment
   pub reached : Moment
   pub after : Moment
   pub stands : Stands (files.device name) m start content before
-  pub greeted : GreetsSo before reached greeting
+  pub greeted : Greets before reached
   pub released : Releases pins reached after
   pub left : files.left after.held
   pub made : Made (Opening name ∷ [])
 
--- the handshake ended early
+-- the handshake ended early, and nothing more went out; or the device reported these limits and the test of the line ended early, and the
+-- pins were released where those say that the device drives them
 abbrev pub EndsGreeting : FileFacts → List ℕ → (List Change → Type 0) → Parameters → Start → List ℕ → List Step → DeviceFault → Type 0
-EndsGreeting files name Made m start content steps why = (pins : Bool) × HasGreeted files name Made m start content steps (Err why) pins
+EndsGreeting files name Made m start content steps (Greet why) =
+    HasGreeted files name Made m start content steps (λ before reached. GreetsSo before reached (Err (Greet why))) false
+EndsGreeting files name Made m start content steps (Line why) =
+    (limits : Limits) × HasGreeted files name Made m start content steps (FailsLine limits why) limits.pins
 
--- memory was refused after it
+-- memory was refused after both
 abbrev pub EndsForMemory : FileFacts → List ℕ → (List Change → Type 0) → Parameters → Start → List ℕ → List Step → Type 0
-EndsForMemory files name Made m start content steps = (limits : Limits) × HasGreeted files name Made m start content steps (Ok limits) limits.pins
+EndsForMemory files name Made m start content steps =
+    (limits : Limits) × HasGreeted files name Made m start content steps (λ before reached. GreetsSo before reached (Ok limits)) limits.pins
 
 -- why they aren't played: that; or a device that can't be opened, or memory was refused, and no device was opened, or it was left as
 -- it was opened

@@ -10,6 +10,7 @@ ghost use Rattle.norprog_play.specs.Answer.{IsEnding, IsUnplayed, RefusesToPlay,
 ghost use Rattle.norprog_play.specs.Early.{MayPlay, chip_with};
 ghost use Rattle.norprog_play.specs.Expected.{expectation_of};
 ghost use Rattle.norprog_play.specs.Played.{Ends, EndsOnDevice, StopsPlay};
+ghost use Rattle.norprog_play.specs.Progress.{ReportsPlay};
 ghost use Rattle.norprog_play.specs.Request.{is_well_formed};
 ghost use Rattle.norprog_play.specs.Served.{paths_of, IsTaskOf, Serves};
 
@@ -50,7 +51,8 @@ pub fn play<S: FileStore, O: ByteOut, E: ByteOut, P: ByteOut>(
         given.entry (Adds (S.Journal.changes journal.old) (S.Journal.changes journal.new))
         (Breaks (S.facts store.now) (O.count out.old) (O.count out.new))
         (O.held out.old) (O.held out.new) (err.new ≡ err.old)
-        (E.count err.new ≡ E.count err.old) (E.held err.old) (E.held err.new) result }
+        (E.count err.new ≡ E.count err.old) (E.held err.old) (E.held err.new) result
+        (P.held progress.old) (P.held progress.new) (P.count progress.old) (P.count progress.new) }
 {
     match ending_of(alloc, store, journal, given, progress) {
         Ok(ending) => report_ending(&ending, out, err),
@@ -71,11 +73,15 @@ fn ending_of<S: FileStore, P: ByteOut>(
     ensures played { IfOk result
         (IsEnding (S.facts store.now)
         (Adds (S.Journal.changes journal.old) (S.Journal.changes journal.new))
+        (λ steps ending. ReportsPlay steps ending (P.held progress.old) (P.held progress.new)
+        (P.count progress.old)
+        (P.count progress.new))
         (Serves (S.facts store.now) given.entry)) }
     ensures asked { IfOk result (λ _. is_well_formed given.entry ≡ true) }
     ensures first { IfErr result
         (RefusesToPlay (S.facts store.now) (HasFailed S.Input.ahead S.Input.count)
         (Adds (S.Journal.changes journal.old) (S.Journal.changes journal.new)) given.entry) }
+    ensures silent { IfErr result (λ _. progress.new ≡ progress.old) }
 {
     let request = request_of(given).ok_or(Refusal::Usage)?;
     play_request(alloc, store, journal, request, progress)
@@ -93,12 +99,16 @@ fn play_request<S: FileStore, P: ByteOut>(
     ensures played { IfOk result
         (IsEnding (S.facts store.now)
         (Adds (S.Journal.changes journal.old) (S.Journal.changes journal.new))
+        (λ steps ending. ReportsPlay steps ending (P.held progress.old) (P.held progress.new)
+        (P.count progress.old)
+        (P.count progress.new))
         (IsTaskOf (S.facts store.now) request.entry)) }
     ensures refused { IfErr result
         (IsUnplayed (S.facts store.now) (paths_of request.entry)
         (HasFailed S.Input.ahead S.Input.count)
         (Adds (S.Journal.changes journal.old) (S.Journal.changes journal.new))
         (IsTaskOf (S.facts store.now) request.entry)) }
+    ensures silent { IfErr result (λ _. progress.new ≡ progress.old) }
 {
     let tables = tables_of(alloc, store, request.setup.chip)?;
     let (mut content, _place, len) = store.open(request.content, FileName::Content)?;
@@ -137,13 +147,19 @@ fn play_job<S: FileStore, P: ByteOut>(
     requires size { length job.content.items ≡ job.meaning.size }
     requires mode { IsPossible job.meaning expected.start }
     requires progress { P.count progress.old < 2 ^ 64 - 1 }
-    ensures { MatchResult result
+    ensures ends { MatchResult result
         (Ends (S.facts store.now) device.now
         (Adds (S.Journal.changes journal.old) (S.Journal.changes journal.new)) limit
         (expectation_of expected.entry) job.meaning job.content.items job.steps.items)
         (StopsPlay (S.facts store.now) device.now
         (Adds (S.Journal.changes journal.old) (S.Journal.changes journal.new)) job.meaning
         expected.entry.start job.content.items job.steps.items) }
+    ensures told { MatchResult result
+        (λ ending. ReportsPlay job.steps.items ending (P.held progress.old)
+        (P.held progress.new)
+        (P.count progress.old)
+        (P.count progress.new))
+        (λ _. progress.new ≡ progress.old) }
 {
     let Job {
         meaning,
@@ -186,18 +202,23 @@ fn play_known<S: FileStore, P: ByteOut>(
 ) -> Result<Ending, Unplayed>
     requires size { length content.items ≡ meaning.now.size }
     requires mode { IsPossible meaning.now expected.start }
-    requires may { MayPlay (chip_with meaning.now expected.start content.items) steps.now }
-    requires counted { transactions
+    requires may { MayPlay (chip_with meaning.now expected.start content.items) steps.now
+        × (transactions
         ≡ length (trail (chip_with meaning.now expected.start content.items).setting
-        (chip_with meaning.now expected.start content.items).chip steps.now) }
+        (chip_with meaning.now expected.start content.items).chip steps.now)) }
     requires progress { P.count progress.old < 2 ^ 64 - 1 }
-    ensures { MatchResult result
+    ensures ends { MatchResult result
         (EndsOnDevice (S.facts store.now) device.now
         (Adds (S.Journal.changes journal.old) (S.Journal.changes journal.new)) limit
         (expectation_of expected.entry) meaning.now content.items steps.now)
         (StopsPlay (S.facts store.now) device.now
         (Adds (S.Journal.changes journal.old) (S.Journal.changes journal.new)) meaning.now
         expected.entry.start content.items steps.now) }
+    ensures told { MatchResult result
+        (λ ending. ReportsPlay steps.now ending (P.held progress.old) (P.held progress.new)
+        (P.count progress.old)
+        (P.count progress.new))
+        (λ _. progress.new ≡ progress.old) }
 {
     let (from, to) = open_port(alloc, store, journal, device)?;
     let chip = Chip::new(meaning, expected.start, content, Vec::new(alloc), false);

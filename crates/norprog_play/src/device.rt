@@ -11,6 +11,7 @@ ghost use Rattle.norprog_play.specs.Early.{GoesWellInMemory};
 ghost use Rattle.norprog_play.specs.Moment.{moment};
 ghost use Rattle.norprog_play.specs.Ending.{EndsComparing, EndsSo, MayBegin, SaysBlank};
 ghost use Rattle.norprog_play.specs.Expected.{expectation_of};
+ghost use Rattle.norprog_play.specs.Progress.{ReportsPlay};
 ghost use Rattle.nor_cells.specs.Cells.{IsInCellOf};
 ghost use Rattle.nor_cells.specs.Marks.{IsMarked};
 ghost use Rattle.nor_cells.specs.Wrap.{ShowsWrap};
@@ -45,14 +46,14 @@ pub fn play_on_device<R: Read + Drop, W: Write + Drop, P: ByteOut>(
     progress: &mut P,
 ) -> Result<Ending, AllocError>
     requires ready { (port.old.reason ≡ None)
-        × (port.old.failed < 2 ^ 64 - 1) }
+        × (port.old.failed < 2 ^ 64 - 1)
+        × (P.count progress.old < 2 ^ 64 - 1) }
     requires chip { (port.old.chip ≡ ready_chip (chip_of meaning.now expected.start [] false)
         port.old.chip.chip.array)
         × (length port.old.chip.chip.array ≡ meaning.now.size) }
     requires well { GoesWellInMemory port.old.chip steps.now
         × (transactions
         ≡ length (trail port.old.chip.setting port.old.chip.chip steps.now)) }
-    requires told { P.count progress.old < 2 ^ 64 - 1 }
     ensures ends { MatchResult result
         (λ ending. EndsSo port.old.limits port.old.turns (expectation_of expected.entry) meaning.now
         (moment port.old.chip (W.contents port.old.to.inner) (R.remaining port.old.from.inner))
@@ -61,6 +62,11 @@ pub fn play_on_device<R: Read + Drop, W: Write + Drop, P: ByteOut>(
         (λ _. port.new ≡ port.old) }
     ensures after { (port.new.failed ≤ port.old.failed + 1)
         × (port.new.limits ≡ port.old.limits) }
+    ensures told { MatchResult result
+        (λ ending. ReportsPlay steps.now ending (P.held progress.old) (P.held progress.new)
+        (P.count progress.old)
+        (P.count progress.new))
+        (λ _. progress.new ≡ progress.old) }
 {
     if let Err(step) = carried(steps, &port.limits) {
         let why = Failure::Carried;
@@ -101,7 +107,8 @@ fn play_compared<R: Read + Drop, W: Write + Drop, P: ByteOut>(
     progress: &mut P,
 ) -> Ending
     requires ready { (port.old.reason ≡ None)
-        × (port.old.failed < 2 ^ 64 - 1) }
+        × (port.old.failed < 2 ^ 64 - 1)
+        × (P.count progress.old < 2 ^ 64 - 1) }
     requires content { (length port.old.chip.chip.array < 2 ^ 32)
         × (length port.old.chip.chip.array ≡ 256 * length cells.old)
         × SaysBlank (expectation_of expected) port.old.chip.chip.array blank }
@@ -111,7 +118,6 @@ fn play_compared<R: Read + Drop, W: Write + Drop, P: ByteOut>(
         × (transactions
         ≡ length (trail port.old.chip.setting port.old.chip.chip steps.now))
         × All (λ step. sampled_count (step_clocks step) ≤ length room.old) steps.now }
-    requires told { P.count progress.old < 2 ^ 64 - 1 }
     ensures ends { EndsComparing port.old.limits port.old.turns (expectation_of expected.entry)
         meaning.now access (IsMarked cells.old)
         (λ left a. IsMarked cells.old a ⊎ IsInCellOf (ShowsWrap left) a)
@@ -120,6 +126,9 @@ fn play_compared<R: Read + Drop, W: Write + Drop, P: ByteOut>(
         (moment port.new.chip (W.contents port.new.to.inner) (R.remaining port.new.from.inner)) }
     ensures after { (port.new.failed ≤ port.old.failed + 1)
         × (port.new.limits ≡ port.old.limits) }
+    ensures told { ReportsPlay steps.now result (P.held progress.old) (P.held progress.new)
+        (P.count progress.old)
+        (P.count progress.new) }
 {
     if let Err(why) = begin(port, expected, access, cells) {
         return Ending::Unlike { why };

@@ -6,7 +6,7 @@ ghost use Rattle.nor_base.specs.Chip.{Chip as ShownChip};
 ghost use Rattle.nor_base.specs.Run.{played};
 ghost use Rattle.nor_base.specs.Sample.{sampled_count};
 ghost use Rattle.nor_base.specs.Step.{expected, step_clocks};
-ghost use Rattle.nor_progress.specs.Far.{HasRoom};
+ghost use Rattle.nor_progress.specs.Text.{Reports};
 ghost use Rattle.nor_serprog.specs.Row.{IsRow};
 ghost use Rattle.norprog_play.specs.Carried.{AreCarried};
 ghost use Rattle.norprog_failure.specs.Reported.{FailsAs};
@@ -40,12 +40,12 @@ pub(crate) fn follow_steps<R: Read + Drop, W: Write + Drop, P: ByteOut>(
     progress: &mut P,
 ) -> Result<(), Halt>
     requires ready { (port.old.reason ≡ None)
-        × (port.old.failed < 2 ^ 64 - 1) }
+        × (port.old.failed < 2 ^ 64 - 1)
+        × (P.count progress.old < 2 ^ 64 - 1) }
     requires steps { All (λ step. sampled_count (step_clocks step) ≤ length room.old) steps.now
         × ((chip : ShownChip)
         × (played port.old.chip.setting 1 port.old.chip.chip steps.now ≡ Ok chip))
         × AreCarried port.old.limits steps.now }
-    requires told { P.count progress.old < 2 ^ 64 - 1 }
     ensures chip { IfOk result (λ _. played port.old.chip.setting 1 port.old.chip.chip steps.now
         ≡ Ok port.new.chip.chip) }
     ensures failures { IfOk result (λ _. port.new.failed ≡ port.old.failed)
@@ -60,6 +60,13 @@ pub(crate) fn follow_steps<R: Read + Drop, W: Write + Drop, P: ByteOut>(
         (moment port.old.chip (W.contents port.old.to.inner) (R.remaining port.old.from.inner))
         steps.now halt.step halt.why
         (moment port.new.chip (W.contents port.new.to.inner) (R.remaining port.new.from.inner))) }
+    ensures told { MatchResult result
+        (λ _. Reports steps.now (length steps.now) (P.held progress.old) (P.held progress.new)
+        (P.count progress.old)
+        (P.count progress.new))
+        (λ halt. Reports steps.now halt.step (P.held progress.old) (P.held progress.new)
+        (P.count progress.old)
+        (P.count progress.new)) }
 {
     let mut far = Progress::of(steps);
     let mut done = 0;
@@ -67,26 +74,17 @@ pub(crate) fn follow_steps<R: Read + Drop, W: Write + Drop, P: ByteOut>(
         let rest = &steps[done..];
         let count = row_of(rest, &port.limits);
         if let Err(halt) = follow_row(meaning, rest, count, port, room) {
+            far.row_done(&rest[..halt.step as usize], progress);
             far.end(progress);
             let step = done as u64 + halt.step;
             let why = halt.why;
             return Err(Halt { step, why });
         }
-        row_done(&rest[..count], &mut far, progress);
+        far.row_done(&rest[..count], progress);
         done += count;
     }
     far.end(progress);
     Ok(())
-}
-
-/// These steps of a row were done.
-fn row_done<P: ByteOut>(row: &[Step], far: &mut Progress, progress: &mut P)
-    requires { HasRoom far.old (P.count progress.old) }
-    ensures { HasRoom far.new (P.count progress.new) }
-{
-    for step in row {
-        far.step_done(step, progress);
-    }
 }
 
 /// Has the device do so many of the first steps, which the chip in memory takes, at once.

@@ -11,8 +11,10 @@ ghost use Rattle.nor_serprog.specs.Line.{TestsLine};
 ghost use Rattle.norprog_play.specs.Early.{GoesWellInMemory};
 ghost use Rattle.norprog_play.specs.Expected.{expectation_of};
 ghost use Rattle.norprog_play.specs.Moment.{moment};
+ghost use Rattle.norprog_play.specs.Progress.{ReportsPlay};
 ghost use Rattle.norprog_device.specs.Opened.{Opens};
 ghost use Rattle.norprog_play.specs.Opened.{FailsTest, HasPlayed, Releases, StopsBefore};
+ghost use Rattle.norprog_play.specs.Opened.{StopsOpening};
 
 use crate::device::play_on_device;
 use crate::ending::Ending;
@@ -40,23 +42,28 @@ pub fn greet_and_play<R: Read + Drop, W: Write + Drop, P: ByteOut>(
     progress: &mut P,
 ) -> Result<Ending, Unplayed>
     requires ready { (port.old.reason ≡ None)
-        × (port.old.failed < 2 ^ 64 - 1) }
+        × (port.old.failed < 2 ^ 64 - 1)
+        × (P.count progress.old < 2 ^ 64 - 1) }
     requires chip { (port.old.chip ≡ ready_chip (chip_of meaning.now expected.start [] false)
         port.old.chip.chip.array)
         × (length port.old.chip.chip.array ≡ meaning.now.size) }
     requires well { GoesWellInMemory port.old.chip steps.now
         × (transactions
         ≡ length (trail port.old.chip.setting port.old.chip.chip steps.now)) }
-    requires told { P.count progress.old < 2 ^ 64 - 1 }
     ensures ends { MatchResult result
         (λ ending. HasPlayed port.new.limits port.old.turns (expectation_of expected.entry)
         meaning.now
         (moment port.old.chip (W.contents port.old.to.inner) (R.remaining port.old.from.inner))
         steps.now ending
         (moment port.new.chip (W.contents port.new.to.inner) (R.remaining port.new.from.inner)))
-        (StopsBefore port.new.limits
+        (StopsBefore port.old.limits port.new.limits
         (moment port.old.chip (W.contents port.old.to.inner) (R.remaining port.old.from.inner))
         (moment port.new.chip (W.contents port.new.to.inner) (R.remaining port.new.from.inner))) }
+    ensures told { MatchResult result
+        (λ ending. ReportsPlay steps.now ending (P.held progress.old) (P.held progress.new)
+        (P.count progress.old)
+        (P.count progress.new))
+        (λ _. progress.new ≡ progress.old) }
     ensures room { port.new.failed ≤ port.old.failed + 1 }
 {
     greet_and_test(port)?;
@@ -82,9 +89,9 @@ fn greet_and_test<R: Read + Drop, W: Write + Drop>(
         (λ _. Opens (W.contents port.old.to.inner) (W.contents port.new.to.inner)
         (ahead_of (R.remaining port.old.from.inner))
         (ahead_of (R.remaining port.new.from.inner)) (Ok port.new.limits))
-        (λ why. Opens (W.contents port.old.to.inner) (W.contents port.new.to.inner)
+        (StopsOpening (W.contents port.old.to.inner) (W.contents port.new.to.inner)
         (ahead_of (R.remaining port.old.from.inner))
-        (ahead_of (R.remaining port.new.from.inner)) (Err why)) }
+        (ahead_of (R.remaining port.new.from.inner)) port.old.limits port.new.limits) }
     ensures chip { port.new.chip ≡ port.old.chip }
     ensures turns { port.new.turns ≡ port.old.turns }
     ensures fresh { port.new.reason ≡ port.old.reason }
@@ -104,9 +111,9 @@ fn greet_port<R: Read + Drop, W: Write + Drop>(
         (λ _. Greeted (W.contents port.old.to.inner) (W.contents port.new.to.inner)
         (ahead_of (R.remaining port.old.from.inner))
         (ahead_of (R.remaining port.new.from.inner)) (Ok port.new.limits))
-        (λ why. Opens (W.contents port.old.to.inner) (W.contents port.new.to.inner)
+        (StopsOpening (W.contents port.old.to.inner) (W.contents port.new.to.inner)
         (ahead_of (R.remaining port.old.from.inner))
-        (ahead_of (R.remaining port.new.from.inner)) (Err why)) }
+        (ahead_of (R.remaining port.new.from.inner)) port.old.limits port.new.limits) }
     ensures chip { port.new.chip ≡ port.old.chip }
     ensures turns { port.new.turns ≡ port.old.turns }
     ensures fresh { port.new.reason ≡ port.old.reason }

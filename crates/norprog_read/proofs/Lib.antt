@@ -6,6 +6,6 @@ pub mod LackedLemmas
 mod ServedLemmas
 mod LineLemmas
 mod OpenedLemmas
-mod MadeLemmas
+pub mod MadeLemmas
 mod SavedLemmas
 pub mod ReportLemmas

@@ -12,16 +12,15 @@ use Rattle.norprog_read.specs.declared.asked.Reading.{Reading}
 use Rattle.norprog_read.specs.declared.fault.Unread.{Unread}
 use Rattle.norprog_read.specs.declared.fault.Unread.TheVariants.{Refused, Device, Unlike}
 use Rattle.norprog_read.specs.declared.request.ReadRequest.{ReadRequest}
-use Rattle.norprog_read.specs.Answer.{outputs_of, IsKept, IsReadOf, IsStopOf, IsUnread, AreSavedIf, RefusesReading, RefusesTexts}
-use Rattle.norprog_read.specs.Made.{creates, opens, IsUnused, MakesFirst}
+use Rattle.norprog_read.specs.Answer.{outputs_of, IsKept, IsReadOf, IsStopOf, IsUnread, AreSavedIf, AreUnsaved, RefusesReading, RefusesTexts}
+use Rattle.norprog_read.specs.Made.{creates, opens, IsUnused}
 use Rattle.norprog_read.specs.Opened.{IsReadOn, IsUnreadOn, StopsNamed}
 use Rattle.norprog_read.specs.Request.{is_well_formed, AsksFor, IsAskOf}
-use Rattle.norprog_read.specs.Saved.{FailsToSave}
-use Rattle.norprog_read.specs.Served.{opened_asked, saved_asked, saved_paths, tables_named, AreTablesIf, Serves}
+use Rattle.norprog_read.specs.Served.{opened_asked, tables_named, AreTablesIf, Serves}
 use Rattle.norprog_common.proofs.JournalLemmas.{adds_both}
 use Rattle.norprog_common.proofs.LackedLemmas.{lacks_at, lacks_named}
 use Rattle.norprog_read.proofs.LackedLemmas.{tables_are}
-use Rattle.norprog_read.proofs.MadeLemmas.{first_after}
+use Rattle.norprog_read.proofs.MadeLemmas.{are_unsaved_by}
 
 -- ---- a file that couldn't be used by the request is one that the texts name
 module _ (files : FileFacts) (given : ReadArgs) (request : ReadRequest) (asks : AsksFor given request) where
@@ -39,10 +38,6 @@ module _ (files : FileFacts) (given : ReadArgs) (request : ReadRequest) (asks : 
         lacks_named files (opened_asked given) file.Sfdp (tables_named (option_map origin_of request.chip)) why same refused lacks,
         subst (λ (device : Option (List ℕ)). IsUnused files device Made why) (sym device_asked) (inl none),
       ) in rw formed told
-
-  output_told : (why : Refusal) → FailsToSave (Lacks files (saved_paths (option_map (λ t. t.now) request.tables) (option_map (λ t. t.now) request.out))) files.broke why
-      → FailsToSave (Lacks files (saved_asked given)) files.broke why
-  output_told why fails = rw (sym asks.tables, sym asks.out) fails
 
 module _ (files : FileFacts) (given : ReadArgs) (request : ReadRequest) (file : List ℕ) (ask : Ask) (asks : AsksFor given request)
     (gave : AreTablesIf files (option_map origin_of request.chip) file) (of : IsAskOf request file ask) where
@@ -118,14 +113,19 @@ module _ (files : FileFacts) (given : ReadArgs) (request : ReadRequest) (file : 
     }
 
     pub unsaved : is_well_formed given ≡ true → (why : Refusal)
-        → FailsToSave (Lacks files (saved_paths (option_map (λ t. t.now) request.tables) (option_map (λ t. t.now) request.out))) files.broke why
-        → MakesFirst (creates (option_map (λ t. t.now) request.tables) ++ creates (option_map (λ t. t.now) request.out)) (Adds b c)
+        → AreUnsaved files (option_map (λ t. t.now) request.tables) (option_map (λ t. t.now) request.out) r (Adds b c) why
         → IsUnread files given (Adds a c) (Refused why)
-    unsaved formed why fails made = of_texts (Adds a c) formed why (inr (inr (
-      output_told files given request asks why fails,
-      record {
-        reading = r;
-        is = was_read r on;
-        made = first_after a b c _ (outputs_of given) first (subst (λ (changes : List Change). MakesFirst changes (Adds b c)) (sym outputs) made);
-      },
-    )))
+    unsaved formed why fails =
+        let opened_first = opens (option_map (λ t. t.now) given.device) in
+        let After : List Change → Type 0 = λ next. Adds a c (opened_first ++ next) in
+        of_texts (Adds a c) formed why (inr (inr (record {
+          reading = r;
+          is = was_read r on;
+          unsaved =
+              subst (λ (out : Option (List ℕ)). AreUnsaved files (option_map (λ t. t.now) given.tables) out r After why)
+              (ap (λ s. option_map (λ t. t.now) s) asks.out)
+              (subst (λ (tables : Option (List ℕ)). AreUnsaved files tables (option_map (λ t. t.now) request.out) r After why)
+              (ap (λ s. option_map (λ t. t.now) s) asks.tables)
+              (are_unsaved_by files (Adds b c) After (λ next more. adds_both a b c opened_first next first more) (option_map (λ t. t.now) request.tables)
+              (option_map (λ t. t.now) request.out) r why fails));
+        })))

@@ -3,6 +3,8 @@ use Rattle.std.specs.Prelude.{◌≡◌, ◌⊎◌, ⊤, ℕ, Bool, true, false,
 use Rattle.std.specs.Io.KnownBytes.{Appends}
 use Rattle.nor_base.specs.Device.{Cuts}
 use Rattle.nor_job.specs.declared.fault.BuildFault.TheVariants.{Write}
+use Rattle.norprog_common.specs.declared.faults.FileName.{FileName}
+use Rattle.norprog_common.specs.declared.faults.FileName.TheVariants as file
 use Rattle.norprog_common.specs.declared.faults.Refusal.{Refusal}
 use Rattle.norprog_common.specs.declared.faults.Refusal.TheVariants.{Usage, Build}
 use Rattle.norprog_common.specs.declared.given.ReadArgs.{ReadArgs}
@@ -18,11 +20,11 @@ use Rattle.norprog_read.specs.declared.fault.Unlike.{Unlike as Unlikeness}
 use Rattle.norprog_read.specs.declared.fault.Unread.{Unread}
 use Rattle.norprog_read.specs.declared.fault.Unread.TheVariants.{Refused, Device, Unlike}
 use Rattle.norprog_read.specs.Line.{reading_text, unlike_line}
-use Rattle.norprog_read.specs.Made.{creates, opens, IsUnused, MakesFirst}
+use Rattle.norprog_read.specs.Made.{creates, opens, IsUnused}
 use Rattle.norprog_read.specs.Opened.{IsReadOn, StopsOnDevice}
 use Rattle.norprog_read.specs.Request.{is_well_formed}
-use Rattle.norprog_read.specs.Saved.{FailsToSave, IsSaved}
-use Rattle.norprog_read.specs.Served.{Serves, opened_asked, saved_asked}
+use Rattle.norprog_read.specs.Saved.{IsSaved, IsUnsaved}
+use Rattle.norprog_read.specs.Served.{Serves, opened_asked}
 
 -- the chip behind the device that is named was read so, by what was asked for
 pub record IsReadOf (files : FileFacts) (given : ReadArgs) (r : Reading) : Type 0 where
@@ -46,6 +48,18 @@ abbrev pub AreSavedIf : FileFacts → Option (List ℕ) → List ℕ → Type 0
 AreSavedIf files (Some name) bytes = IsSaved files name bytes
 AreSavedIf files None bytes = ⊤
 
+-- an output is named, and these bytes couldn't be saved in it
+abbrev pub IsUnsavedIf : FileFacts → Option (List ℕ) → FileName → List ℕ → (List Change → Type 0) → Refusal → Type 0
+IsUnsavedIf files (Some name) told bytes Made why = IsUnsaved files name told bytes Made why
+IsUnsavedIf files None told bytes Made why = ⊥
+
+-- the tables couldn't be saved, and no other output was made; or they are saved, where theirs is named, and the content couldn't be
+abbrev pub AreUnsaved : FileFacts → Option (List ℕ) → Option (List ℕ) → Reading → (List Change → Type 0) → Refusal → Type 0
+AreUnsaved files tables out r Made why =
+    IsUnsavedIf files tables file.Tables r.tables.items Made why
+    ⊎ (AreSavedIf files tables r.tables.items
+    × IsUnsavedIf files out file.Out r.content.items (λ next. Made (creates tables ++ next)) why)
+
 -- the outputs that are named, first that of the tables
 abbrev pub outputs_of : ReadArgs → List Change
 outputs_of given = creates (option_map (λ t. t.now) given.tables) ++ creates (option_map (λ t. t.now) given.out)
@@ -57,11 +71,12 @@ pub record IsKept (files : FileFacts) (given : ReadArgs) (Made : List Change →
   pub content_saved : AreSavedIf files (option_map (λ t. t.now) given.out) reading.content.items
   pub made : Made (opens (option_map (λ t. t.now) given.device) ++ outputs_of given)
 
--- that chip was read so; just the device was opened, and of the outputs that are named at most the first ones were made
-pub record IsUnkept (files : FileFacts) (given : ReadArgs) (Made : List Change → Type 0) : Type 0 where
+-- that chip was read so; just the device was opened, and then an output couldn't be saved
+pub record IsUnkept (files : FileFacts) (given : ReadArgs) (Made : List Change → Type 0) (why : Refusal) : Type 0 where
   pub reading : Reading
   pub is : IsReadOf files given reading
-  pub made : MakesFirst (outputs_of given) (λ first. Made (opens (option_map (λ t. t.now) given.device) ++ first))
+  pub unsaved : AreUnsaved files (option_map (λ t. t.now) given.tables) (option_map (λ t. t.now) given.out) reading
+      (λ next. Made (opens (option_map (λ t. t.now) given.device) ++ next)) why
 
 -- a refusal of work that is asked for: a file couldn't be used, or memory ran out, before anything was sent; or why the chip wasn't
 -- read; or it was read, and an output failed, or memory ran out
@@ -69,7 +84,7 @@ abbrev pub RefusesReading : FileFacts → ReadArgs → (List Change → Type 0) 
 RefusesReading files given Made why =
     (TellsFile (Lacks files (opened_asked given)) why × IsUnused files (option_map (λ t. t.now) given.device) Made why)
     ⊎ (IsStopOf files given Made (Refused why)
-    ⊎ (FailsToSave (Lacks files (saved_asked given)) files.broke why × IsUnkept files given Made))
+    ⊎ IsUnkept files given Made why)
 
 -- where the texts ask for none it is usage, and nothing was changed
 abbrev pub RefusesTexts : Bool → FileFacts → ReadArgs → (List Change → Type 0) → Refusal → Type 0

@@ -1,5 +1,5 @@
 -- What a command that reads a chip opens and makes (this project's).
-use Rattle.std.specs.Prelude.{◌≡◌, ℕ, List, [], ◌∷◌, ◌++◌, Option, Some, None}
+use Rattle.std.specs.Prelude.{ℕ, List, [], ◌∷◌, Option, Some, None}
 use Rattle.norprog_common.specs.declared.faults.Refusal.{Refusal}
 use Rattle.norprog_common.specs.FileStore.{FileFacts, Change, Created, Opened}
 use Rattle.norprog_device.specs.Opened.{IsUntouched}
@@ -13,10 +13,6 @@ opens None = []
 abbrev pub creates : Option (List ℕ) → List Change
 creates (Some name) = Created name ∷ []
 creates None = []
-
--- of these changes just the first ones were made: none, some or all
-abbrev pub MakesFirst : List Change → (List Change → Type 0) → Type 0
-MakesFirst changes Made = (first : List Change) × (rest : List Change) × (changes ≡ first ++ rest) × Made first
 
 -- nothing was changed; or memory ran out as the device that is named was open, and it was left as it was
 abbrev pub IsUnused : FileFacts → Option (List ℕ) → (List Change → Type 0) → Refusal → Type 0

@@ -26,18 +26,9 @@ opened_paths tables device file.Sfdp = tables
 opened_paths tables device file.Device = device
 opened_paths tables device other = None
 
--- and of the outputs
-abbrev pub saved_paths : Option (List ℕ) → Option (List ℕ) → FileName → Option (List ℕ)
-saved_paths tables out file.Tables = tables
-saved_paths tables out file.Out = out
-saved_paths tables out other = None
-
 -- as the texts give them
 abbrev pub opened_asked : ReadArgs → FileName → Option (List ℕ)
 opened_asked given = opened_paths (option_map (λ t. t.now) given.chip.sfdp) (option_map (λ t. t.now) given.device)
-
-abbrev pub saved_asked : ReadArgs → FileName → Option (List ℕ)
-saved_asked given = saved_paths (option_map (λ t. t.now) given.tables) (option_map (λ t. t.now) given.out)
 
 -- each by the value that its text spells, the tables by the file of their name
 pub record Serves (files : FileFacts) (given : ReadArgs) (ask : Ask) : Type 0 where

@@ -1,19 +1,18 @@
 //! `read`: from the texts of the command line to the lines of a chip that was read.
 
 ghost use Rattle.std.specs.Prelude.{◌≡◌, ◌≤◌, ◌<◌, ◌-◌, ◌^◌, ◌∷◌, [], ◌++◌, true, option_map};
-ghost use Rattle.std.specs.Prelude.{IfOk, IfErr, MatchResult};
+ghost use Rattle.std.specs.Prelude.{IfOk, IfErr};
 ghost use Rattle.norprog_common.specs.Chip.{origin_of};
 ghost use Rattle.norprog_common.specs.declared.faults.FileName.TheVariants.{Sfdp};
 ghost use Rattle.norprog_common.specs.Files.{RefusesFile, TellsFile};
-ghost use Rattle.norprog_common.specs.FileStore.{Adds, Breaks, Lacks, LacksNamed, Opened};
-ghost use Rattle.norprog_read.specs.Answer.{AnswersRead, AreSavedIf, IsKept, IsUnread};
-ghost use Rattle.norprog_read.specs.Answer.{PrintsReading, Reports};
+ghost use Rattle.norprog_common.specs.FileStore.{Adds, Breaks, LacksNamed, Opened};
+ghost use Rattle.norprog_read.specs.Answer.{AnswersRead, AreSavedIf, AreUnsaved, IsKept};
+ghost use Rattle.norprog_read.specs.Answer.{IsUnread, IsUnsavedIf, PrintsReading, Reports};
 ghost use Rattle.norprog_read.specs.Line.{reading_text, unlike_line};
-ghost use Rattle.norprog_read.specs.Made.{creates, MakesFirst};
+ghost use Rattle.norprog_read.specs.Made.{creates};
 ghost use Rattle.norprog_read.specs.Opened.{IsReadOn, IsUnreadOn};
 ghost use Rattle.norprog_read.specs.Request.{is_well_formed};
-ghost use Rattle.norprog_read.specs.Saved.{FailsToSave};
-ghost use Rattle.norprog_read.specs.Served.{saved_paths, tables_named, AreTablesIf};
+ghost use Rattle.norprog_read.specs.Served.{tables_named, AreTablesIf};
 
 use crate::asked::{Ask, Reading};
 use crate::fault::{Unlike, Unread};
@@ -168,16 +167,14 @@ fn save_all<S: FileStore>(
     ensures content { IfOk result
         (λ _. AreSavedIf (S.facts store.now) (option_map (λ t. t.now) request.entry.out)
         reading.now.content.items) }
-    ensures journal { MatchResult result
-        (λ _. Adds (S.Journal.changes journal.old) (S.Journal.changes journal.new)
+    ensures made { IfOk result (λ _. Adds (S.Journal.changes journal.old)
+        (S.Journal.changes journal.new)
         (creates (option_map (λ t. t.now) request.entry.tables)
-        ++ creates (option_map (λ t. t.now) request.entry.out)))
-        (λ _. MakesFirst (creates (option_map (λ t. t.now) request.entry.tables)
-        ++ creates (option_map (λ t. t.now) request.entry.out))
+        ++ creates (option_map (λ t. t.now) request.entry.out))) }
+    ensures unsaved { IfErr result (AreUnsaved (S.facts store.now)
+        (option_map (λ t. t.now) request.entry.tables)
+        (option_map (λ t. t.now) request.entry.out) reading.now
         (Adds (S.Journal.changes journal.old) (S.Journal.changes journal.new))) }
-    ensures fails { IfErr result (FailsToSave (Lacks (S.facts store.now)
-        (saved_paths (option_map (λ t. t.now) request.entry.tables)
-        (option_map (λ t. t.now) request.entry.out))) (S.facts store.now).broke) }
 {
     let tables = reading.tables.as_slice();
     save_if(
@@ -203,15 +200,11 @@ fn save_if<S: FileStore>(
 ) -> Result<(), Refusal>
     ensures saved { IfOk result
         (λ _. AreSavedIf (S.facts store.now) (option_map (λ t. t.now) path.entry) bytes.now) }
-    ensures journal { MatchResult result
-        (λ _. Adds (S.Journal.changes journal.old) (S.Journal.changes journal.new)
-        (creates (option_map (λ t. t.now) path.entry)))
-        (λ _. MakesFirst (creates (option_map (λ t. t.now) path.entry))
+    ensures made { IfOk result (λ _. Adds (S.Journal.changes journal.old)
+        (S.Journal.changes journal.new) (creates (option_map (λ t. t.now) path.entry))) }
+    ensures unsaved { IfErr result (IsUnsavedIf (S.facts store.now)
+        (option_map (λ t. t.now) path.entry) name bytes.now
         (Adds (S.Journal.changes journal.old) (S.Journal.changes journal.new))) }
-    ensures refused { IfErr result (FailsToSave (λ told. told ≡ name) (S.facts store.now).broke) }
-    ensures lacked { IfErr result
-        (FailsToSave (LacksNamed (S.facts store.now) (option_map (λ t. t.now) path.entry))
-        (S.facts store.now).broke) }
 {
     match path {
         Some(path) => save(alloc, store, journal, path, name, bytes),

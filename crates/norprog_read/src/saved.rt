@@ -1,8 +1,8 @@
 //! An output that is made anew.
 
-ghost use Rattle.std.specs.Prelude.{◌≡◌, IfOk, IfErr};
-ghost use Rattle.norprog_common.specs.FileStore.{Created, Tries};
-ghost use Rattle.norprog_read.specs.Saved.{FailsToSave, IsSaved};
+ghost use Rattle.std.specs.Prelude.{◌∷◌, [], IfOk, IfErr};
+ghost use Rattle.norprog_common.specs.FileStore.{Adds, Created};
+ghost use Rattle.norprog_read.specs.Saved.{IsSaved, IsUnsaved};
 
 use nor_base::put_all;
 use norprog_common::{FileName, FileStore, Refusal};
@@ -22,11 +22,10 @@ pub fn save<S: FileStore>(
     bytes: &[u8],
 ) -> Result<(), Refusal>
     ensures saved { IfOk result (λ _. IsSaved (S.facts store.now) path.now bytes.now) }
-    ensures journal { Tries (S.Journal.changes journal.old) (S.Journal.changes journal.new)
-        (Created path.now) result }
-    ensures refused { IfErr result (FailsToSave (λ told. told ≡ name) (S.facts store.now).broke) }
-    ensures lacked { IfErr result
-        (FailsToSave ((S.facts store.now).lacked path.now) (S.facts store.now).broke) }
+    ensures made { IfOk result (λ _. Adds (S.Journal.changes journal.old)
+        (S.Journal.changes journal.new) (Created path.now ∷ [])) }
+    ensures unsaved { IfErr result (IsUnsaved (S.facts store.now) path.now name bytes.now
+        (Adds (S.Journal.changes journal.old) (S.Journal.changes journal.new))) }
 {
     let mut file = store.create_new(journal, alloc, path, name)?;
     // A file that fails here can't be flushed.

@@ -1,6 +1,6 @@
 -- The play that a request has is the one that its texts ask for.
-use Rattle.std.proofs.Common.{◌≡◌, ◌⊎◌, ◌+◌, ◌<◌, Bool, Bor, ap, arith, option_map, refl, sym, subst, inl, inr, List, [], ◌∷◌, ◌++◌, ℕ, None, Some, true, false, Option, Result, Ok, Err, IfOk, IfErr}
-use Rattle.std.specs.Prelude.{◌≢◌, MatchResult}
+use Rattle.std.proofs.Common.{◌≡◌, ◌⊎◌, ◌+◌, ◌<◌, ◌∙◌, Bool, Bor, ap, arith, option_map, refl, sym, subst, inl, inr, List, [], ◌∷◌, ◌++◌, ℕ, None, Some, true, false, Option, Result, Ok, Err, IfOk, IfErr}
+use Rattle.std.specs.Prelude.{◌≢◌, IfSome, MatchResult}
 use Rattle.nor_base.specs.Device.{Ahead}
 use Rattle.nor_job.specs.Task.{Task}
 use Rattle.nor_job.specs.declared.fault.BuildFault.TheVariants as fault
@@ -21,12 +21,12 @@ use Rattle.norprog_common.proofs.JournalLemmas.{adds_none, may_make, output_made
 use Rattle.norprog_common.specs.Content.{CountsReader, CountsWriter, of_reader, of_writer}
 use Rattle.norprog_common.specs.Reading.{FailsReading, HasFailed}
 use Rattle.norprog_common.specs.Told.{RefusesFor, OrUsage, TellsBroken}
-use Rattle.norprog_common.proofs.ToldLemmas.{by_fault, by_files, refuses_wider, or_usage}
+use Rattle.norprog_common.proofs.ToldLemmas.{asked_wider, by_fault, by_files, refuses_wider, or_usage, write_is_other}
 use Rattle.norprog_run.specs.declared.request.ChipBehaviour.{ChipBehaviour}
 use Rattle.norprog_common.specs.declared.given.RunArgs.{RunArgs}
 use Rattle.norprog_run.specs.declared.request.RunRequest.{RunRequest}
 use Rattle.norprog_run.specs.declared.verdict.Verdict.{Verdict}
-use Rattle.norprog_run.specs.Answer.{WasPlayedSo, IsPlayVerdict, BlamesContent, LosesScript, IsCauseOf, StopsSo, IsPlayFault, RefusesRun, RefusesToRun}
+use Rattle.norprog_run.specs.Answer.{HoldsRun, WasPlayedSo, IsPlayVerdict, BlamesContent, LosesScript, IsCauseOf, StopsSo, IsPlayFault, RefusesRun, RefusesToRun}
 use Rattle.norprog_run.specs.Play.{WasPlayed}
 use Rattle.norprog_run.specs.Refusals.{RefusesPaged, RefusesPlay}
 use Rattle.norprog_run.specs.Request.{is_well_formed, AsksFor, RefusesGiven}
@@ -436,3 +436,26 @@ given_refused files Failed given Nothing Broke BinSize refused = absurd refused
 given_refused files Failed given Nothing Broke (Steps number) refused = absurd refused
 given_refused files Failed given Nothing Broke (EmptyRegion index) refused = absurd refused
 given_refused files Failed given Nothing Broke (Log line) refused = absurd refused
+
+-- what the output holds at out of memory, of more plays that may be asked for
+pub holds_wider : (files : FileFacts) (out : Option (List ℕ)) (Made : List Change → Type 0) (Asked Other : PlayTask → Type 0) (r : Result Verdict Refusal) → ((t : PlayTask) → Asked t → Other t)
+    → IfErr r (HoldsRun files out Made Asked) → IfErr r (HoldsRun files out Made Other)
+holds_wider files out Made Asked Other (Ok verdict) wider holds = tt
+holds_wider files out Made Asked Other (Err why) wider holds = λ memory.
+    elim (holds memory) [ inl none ↦ inl none | inr begun ↦ inr (asked_wider PlayTask Asked Other (λ t. IfSome t.begun (HasGone files)) wider begun) ]
+
+-- of the output that the texts name
+pub holds_asked : (files : FileFacts) (given : RunArgs) (request : RunRequest) (Made : List Change → Type 0) (r : Result Verdict Refusal) → AsksFor given request
+    → IfErr r (HoldsRun files (option_map (λ t. t.now) request.out) Made (IsTaskOf files request)) → IfErr r (HoldsRun files (option_map (λ t. t.now) given.out) Made (Serves files given))
+holds_asked files given request Made r asks holds =
+    subst (λ s. IfErr r (HoldsRun files (option_map (λ t. t.now) s) Made (Serves files given))) asks.beside.out
+    (holds_wider files (option_map (λ t. t.now) request.out) Made (IsTaskOf files request) (Serves files given) r (serves files given request asks) holds)
+
+-- nothing was made
+pub none_holds : (files : FileFacts) (out : Option (List ℕ)) (Made : List Change → Type 0) (Asked : PlayTask → Type 0) (r : Result Verdict Refusal) → Made [] → IfErr r (HoldsRun files out Made Asked)
+none_holds files out Made Asked (Ok verdict) none = tt
+none_holds files out Made Asked (Err why) none = λ memory. inl (inl none)
+
+-- an output that failed isn't out of memory
+pub not_written : (why : Refusal) → why ≡ Build fault.Memory → why ≢ Build fault.Write
+not_written why memory write = write_is_other (sym write ∙ memory)

@@ -1,5 +1,5 @@
 -- What is told of a play (this project's).
-use Rattle.std.specs.Prelude.{◌≡◌, ◌≢◌, ◌⊎◌, ⊤, ℕ, true, List, [], Option}
+use Rattle.std.specs.Prelude.{◌≡◌, ◌≢◌, ◌⊎◌, ⊤, ℕ, true, List, [], Option, option_map, IfSome}
 use Rattle.std.specs.Io.KnownBytes.{Appends}
 use Rattle.nor_base.specs.Device.{Ahead, Cuts}
 use Rattle.nor_job.specs.Task.{Task}
@@ -9,8 +9,8 @@ use Rattle.norprog_common.specs.declared.faults.FileName.TheVariants as file
 use Rattle.norprog_common.specs.declared.faults.Refusal.{Refusal}
 use Rattle.norprog_common.specs.declared.faults.Refusal.TheVariants.{Build, File}
 use Rattle.norprog_common.specs.declared.given.RunArgs.{RunArgs}
-use Rattle.norprog_common.specs.FileStore.{FileFacts, Change, GoesOut, HasGone, LacksEarly}
-use Rattle.norprog_common.specs.Told.{ForAsked, RefusesFor, OrUsage, TellsOf}
+use Rattle.norprog_common.specs.FileStore.{FileFacts, Change, GoesOut, HasGone, LacksEarly, TookNothing}
+use Rattle.norprog_common.specs.Told.{ForAsked, AtMemory, RefusesFor, OrUsage, TellsOf}
 use Rattle.norprog_run.specs.Request.{is_well_formed}
 use Rattle.norprog_run.specs.declared.request.ChipBehaviour.{ChipBehaviour}
 use Rattle.norprog_run.specs.declared.verdict.Verdict.{Verdict}
@@ -99,6 +99,10 @@ RefusesToRun files Failed given Nothing Broke why =
     (HasGone files)) why
     ⊎ (why ≡ Build Memory)
 
+-- at out of memory the output that is named took nothing
+abbrev pub HoldsRun : FileFacts → Option (List ℕ) → (List Change → Type 0) → (PlayTask → Type 0) → Refusal → Type 0
+HoldsRun files out Made Asked = AtMemory (TookNothing files out Made ⊎ ForAsked PlayTask Asked (λ t. IfSome t.begun (HasGone files)))
+
 -- what `run` answers to the texts of a command line, where `Made` says which changes it made, `Failed` that a reader of the store
 -- that had this ahead has failed, and `Broke` that an output has: the line of the verdict, whose status it is, after what the chip holds has gone out into the output
 -- that it made, if one is named; or a refusal, and at most that output was made
@@ -107,5 +111,6 @@ AnswersRun files Failed given Made Broke before after Quiet Works told_before to
     ((is_well_formed given ≡ true) × PrintsVerdict (Serves files given) (ServesScript files given) files.flushed before after status
     × MakesFor files given Made × Quiet)
     ⊎ (CutsVerdict (Serves files given) (ServesScript files given) files.flushed before after
-    × TellsOf (RefusesToRun files Failed given (Made []) Broke) Works told_before told_after status
+    × TellsOf (λ why. RefusesToRun files Failed given (Made []) Broke why × HoldsRun files (option_map (λ t. t.now) given.out) Made (Serves files given) why)
+    Works told_before told_after status
     × MayMakeFor files given Made)

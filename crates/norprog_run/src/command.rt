@@ -1,17 +1,19 @@
 //! `run`: from the texts of the command line to the line of a verdict.
 
-ghost use Rattle.std.specs.Prelude.{◌≡◌, ◌<◌, ◌≤◌, ◌-◌, ◌^◌, List, [], ℕ, Some, true, Option, IfOk};
-ghost use Rattle.std.specs.Prelude.{IfErr, MatchResult, option_map};
+ghost use Rattle.std.specs.Prelude.{◌≡◌, ◌≢◌, ◌<◌, ◌≤◌, ◌-◌, ◌^◌, List, [], ℕ, Some, true, Option};
+ghost use Rattle.std.specs.Prelude.{IfOk, IfErr, MatchResult, option_map};
+ghost use Rattle.nor_job.specs.declared.fault.BuildFault.TheVariants.{Write};
 ghost use Rattle.std.specs.Io.KnownBytes.{Appends};
 ghost use Rattle.norprog_common.specs.FileStore.{Adds, Breaks, DoNotFail, Emptied, HasGone};
 ghost use Rattle.norprog_common.specs.FileStore.{IsTextIn, IsTextOfFile, LacksEarly, MakesNamed};
 ghost use Rattle.norprog_common.specs.FileStore.{MayMake, Tries};
 ghost use Rattle.norprog_common.specs.Reading.{FailsReading, FailsScript, HasFailed, IsTextRead};
 ghost use Rattle.norprog_common.specs.declared.faults.FileName.TheVariants.{Out};
+ghost use Rattle.norprog_common.specs.declared.faults.Refusal.TheVariants.{Build};
 ghost use Rattle.norprog_common.specs.Served.{out_path};
 ghost use Rattle.norprog_common.specs.Told.{RefusesFor};
 ghost use Rattle.norprog_run.specs.Answer.{WasPlayedSo, StopsSo, IsPlayVerdict, CutsVerdict};
-ghost use Rattle.norprog_run.specs.Answer.{RefusesRun, RefusesToRun, AnswersRun};
+ghost use Rattle.norprog_run.specs.Answer.{HoldsRun, RefusesRun, RefusesToRun, AnswersRun};
 ghost use Rattle.norprog_run.specs.Request.{is_well_formed};
 ghost use Rattle.norprog_run.specs.Served.{play_with, IsMadeFor, IsTaskOf, Serves};
 ghost use Rattle.norprog_run.specs.Served.{ServesScript, MakesFor, MayMakeFor, input_files_of};
@@ -81,6 +83,10 @@ fn report_run<S: FileStore, O: ByteOut>(
         (RefusesToRun (S.facts store.now) (HasFailed S.Input.ahead S.Input.count) given.entry
         (Adds (S.Journal.changes journal.old) (S.Journal.changes journal.new) [])
         (Breaks (S.facts store.now) (O.count out.old) (O.count out.new))) }
+    ensures memory { IfErr result
+        (HoldsRun (S.facts store.now) (option_map (λ t. t.now) given.entry.out)
+        (Adds (S.Journal.changes journal.old) (S.Journal.changes journal.new))
+        (Serves (S.facts store.now) given.entry)) }
 {
     let verdict = verdict_of(alloc, store, journal, given)?;
     match write_verdict(&verdict, out) {
@@ -108,6 +114,10 @@ fn verdict_of<S: FileStore>(
         (RefusesToRun (S.facts store.now) (HasFailed S.Input.ahead S.Input.count) given.entry
         (Adds (S.Journal.changes journal.old) (S.Journal.changes journal.new) [])
         (S.facts store.now).broke) }
+    ensures memory { IfErr result
+        (HoldsRun (S.facts store.now) (option_map (λ t. t.now) given.entry.out)
+        (Adds (S.Journal.changes journal.old) (S.Journal.changes journal.new))
+        (Serves (S.facts store.now) given.entry)) }
 {
     let request = request_of(alloc, given)?;
     play_request(alloc, store, journal, request)
@@ -138,6 +148,10 @@ fn play_request<S: FileStore>(
         (λ _. MayMake (S.facts store.now) (input_files_of request.entry)
         (option_map (λ t. t.now) request.entry.out)
         (Adds (S.Journal.changes journal.old) (S.Journal.changes journal.new))) }
+    ensures memory { IfErr result
+        (HoldsRun (S.facts store.now) (option_map (λ t. t.now) request.entry.out)
+        (Adds (S.Journal.changes journal.old) (S.Journal.changes journal.new))
+        (IsTaskOf (S.facts store.now) request.entry)) }
 {
     let mut places = Vec::new(alloc);
     let sfdp = noted_tables(alloc, store, request.setup.chip, &mut places)?;
@@ -203,6 +217,10 @@ fn play_to<S: FileStore>(
         (HasGone (S.facts store.now))) }
     ensures journal { Tries (S.Journal.changes journal.old) (S.Journal.changes journal.new)
         (Emptied path.now places.now) result }
+    ensures memory { IfErr result (HoldsRun (S.facts store.now) (Some path.now)
+        (Adds (S.Journal.changes journal.old) (S.Journal.changes journal.new))
+        (IsMadeFor (S.facts store.now) path.now places.now inputs.now bench
+        (S.Input.ahead content.old) len)) }
 {
     let mut file = store.create(journal, alloc, path, FileName::Out, places)?;
     let played = play_file(alloc, inputs, bench, script, content, len, &mut file);
@@ -235,6 +253,7 @@ fn play_file<F: ByteIn + Drop, R: ByteIn, W: ByteOut>(
         (λ why. StopsSo (IsTextRead F.ahead script) (HasFailed R.ahead R.count)
         (FailsScript F.ahead (HasFailed F.ahead F.count) script) (W.held out.old) (W.held out.new)
         why (play_with inputs.now bench (R.ahead content.old) len begun)) ⊥) }
+    ensures unwritten { IfErr result (λ why. why ≢ Build Write → out.new ≡ out.old) }
 {
     match script {
         ScriptFile::Twice(mut first, mut again) => play_streams(

@@ -1,11 +1,11 @@
 -- What is written for a request is what its texts ask for, and what is so of it is so of that.
 use Rattle.std.proofs.Common.{◌≡◌, ◌+◌, arith, inl, ◌++◌, ◌||◌, Bool, Bor, true, false, is_some, option_map, option_to_list, refl, sym, subst, List, [], ◌∷◌, ℕ, Option, None, Some, Result, Ok, Err, IfOk, IfErr, inr}
-use Rattle.norprog_common.specs.FileStore.{FileFacts, AreTables, Breaks, HasGone, IsMadeApart, LacksEarly, Named, Notes, tables_file}
+use Rattle.norprog_common.specs.FileStore.{FileFacts, Change, AreTables, Breaks, HasGone, IsMadeApart, LacksEarly, Named, Notes, TookNothing, tables_file}
 use Rattle.norprog_common.specs.Chip.{origin_of}
 use Rattle.norprog_common.specs.Setup.{setup_task}
 use Rattle.norprog_common.specs.declared.files.FileId.{FileId}
 use Rattle.norprog_common.specs.declared.setup.Setup.{Setup}
-use Rattle.norprog_common.proofs.StoreLemmas.{gone_out, one_noted, more_noted, made_apart}
+use Rattle.norprog_common.proofs.StoreLemmas.{one_noted, more_noted, made_apart}
 use Rattle.nor_job.specs.Task.{Task}
 use Rattle.nor_job.specs.declared.fault.BuildFault.TheVariants as fault
 use Rattle.norprog_common.specs.Content.{CountsWriter, of_writer}
@@ -17,11 +17,11 @@ use Rattle.norprog_common.specs.declared.faults.FileName.TheVariants.{Out}
 use Rattle.norprog_common.specs.declared.faults.Refusal.{Refusal}
 use Rattle.norprog_common.specs.declared.given.SetupArgs.{SetupArgs}
 use Rattle.norprog_common.proofs.LackedLemmas.{early_same, tables_named}
-use Rattle.norprog_common.proofs.ToldLemmas.{asked_wider, refuses_wider, by_fault, by_files}
+use Rattle.norprog_common.proofs.ToldLemmas.{asked_wider, refuses_wider, by_fault, by_files, write_is_other}
 use Rattle.norprog_common.specs.declared.given.ScriptArgs.{ScriptArgs}
 use Rattle.norprog_script.specs.declared.request.ScriptRequest.{ScriptRequest}
 use Rattle.norprog_script.specs.declared.tally.Tally.{Tally}
-use Rattle.norprog_script.specs.Answer.{IsScriptedAs, IsScripted, IsStopOf, IsLogFault, RefusesScript, done}
+use Rattle.norprog_script.specs.Answer.{HoldsScript, IsScriptedAs, IsScripted, IsStopOf, IsLogFault, RefusesScript, done}
 use Rattle.norprog_script.specs.Request.{AsksChip, AsksFor}
 use Rattle.norprog_script.specs.Served.{LogTask, IsSourceOf, IsTaskOf, Serves, chip_file, chip_name, paths_asked, paths_of}
 use Rattle.norprog_script.specs.Written.{Source, foreign, listed, WasWritten, RefusesLog}
@@ -76,6 +76,15 @@ refusal_asked files given request Nothing count count' why asks =
     (λ why of. asked_wider LogTask (IsTaskOf files request) (Serves files given) (IsStopOf (HasGone files) why) (serves files given request asks) of)
     (λ late. (late.0, scripted_asked files given request (HasGone files) late.0 asks late.1)) why
 
+-- what the output holds at out of memory is said of the one that the texts name
+pub holds_asked : (files : FileFacts) (given : ScriptArgs) (request : ScriptRequest) (Made : List Change → Type 0) (why : Refusal) → AsksFor given request
+    → HoldsScript files (Some request.out.now) Made (IsTaskOf files request) why → HoldsScript files (option_map (λ t. t.now) given.out) Made (Serves files given) why
+holds_asked files given request Made why asks holds = λ memory.
+    elim (holds memory) [
+      | inl none ↦ inl (subst (λ s. TookNothing files (option_map (λ t. t.now) s) Made) (sym asks.out) none)
+      | inr begun ↦ inr (asked_wider LogTask (IsTaskOf files request) (Serves files given) (λ t. HasGone files t.begun) (serves files given request asks) begun)
+    ]
+
 -- a script whose number of steps wasn't printed was written, and has gone out
 pub gone : (Asked : LogTask → Type 0) (Sent Gone : Option (List ℕ) → Type 0) (tally : Tally) → ((held : Option (List ℕ)) → Sent held → Gone held) → IsScripted Asked Sent tally
     → IsScripted Asked Gone tally
@@ -113,6 +122,19 @@ module _ (files : FileFacts) (Nothing : Type 0) (request : ScriptRequest) (text 
         has = record { after = after; refused = is; gone = gone };
       })
 
+  -- memory is refused before anything is written
+  pub done_holds : {U E : Type 0} (Made : List Change → Type 0) (answer : Result Tally Refusal) (flushed : Result U E) (r : Result Tally Refusal)
+      → IfErr answer (RefusesLog from text before after) → HasGone files after → r ≡ done answer flushed
+      → IfErr r (HoldsScript files (Some request.out.now) Made (IsTaskOf files request))
+  done_holds Made (Err why) flushed r refused went is =
+      rw is (λ memory. inr (record {
+        it = task;
+        asked = asked;
+        has = subst (HasGone files) (subst (RefusesLog from text before after) memory refused) went;
+      }))
+  done_holds Made (Ok tally) (Err e) r refused went is = rw is (λ memory. absurd (write_is_other memory))
+  done_holds Made (Ok tally) (Ok u) r refused went is = rw is tt
+
   pub done_is_written : {U E : Type 0} (answer : Result Tally Refusal) (flushed : Result U E) (r : Result Tally Refusal) → IfOk answer (WasWritten from text before after)
       → IfOk flushed (λ _. files.flushed after) → r ≡ done answer flushed → IfOk r (IsScripted (IsTaskOf files request) files.flushed)
   done_is_written (Err why) flushed r written sent is = rw is tt
@@ -120,12 +142,12 @@ module _ (files : FileFacts) (Nothing : Type 0) (request : ScriptRequest) (text 
   done_is_written (Ok tally) (Ok u) r written sent is = rw is (was_written files.flushed tally sent written)
 
   pub done_is_refused : {U E : Type 0} (k k' : ℕ) (answer : Result Tally Refusal) (flushed : Result U E) (r : Result Tally Refusal) → IfOk answer (WasWritten from text before after)
-      → IfErr answer (RefusesLog from text before after) → k ≡ 0 → CountsWriter k k' answer → IfOk flushed (λ _. k' ≡ 0) → IfOk flushed (λ _. files.flushed after) → IfErr flushed (λ _. files.broke)
+      → IfErr answer (RefusesLog from text before after) → k ≡ 0 → CountsWriter k k' answer → IfOk flushed (λ _. k' ≡ 0) → HasGone files after → IfErr flushed (λ _. files.broke)
       → r ≡ done answer flushed → IfErr r (RefusesScript (LacksEarly files (paths_of request) Out Nothing) files.broke (HasGone files) (IsTaskOf files request))
-  done_is_refused k k' (Err why) flushed r written refused none counts whole sent broke is =
-      rw is (was_refused why (gone_out files after flushed sent broke) (told_broken files.broke k k' why flushed none counts whole broke) refused)
-  done_is_refused k k' (Ok tally) (Err e) r written refused none counts whole sent broke is = rw is (inr (tally, was_written (HasGone files) tally (inr broke) written), broke)
-  done_is_refused k k' (Ok tally) (Ok u) r written refused none counts whole sent broke is = rw is tt
+  done_is_refused k k' (Err why) flushed r written refused none counts whole went broke is =
+      rw is (was_refused why went (told_broken files.broke k k' why flushed none counts whole broke) refused)
+  done_is_refused k k' (Ok tally) (Err e) r written refused none counts whole went broke is = rw is (inr (tally, was_written (HasGone files) tally went written), broke)
+  done_is_refused k k' (Ok tally) (Ok u) r written refused none counts whole went broke is = rw is tt
 
 -- what a request of a log of another tool has
 pub of_foreign : (files : FileFacts) (request : ScriptRequest) → request.chip ≡ None → IsSourceOf files request.chip request.without_identity (foreign request.without_identity)

@@ -1,5 +1,5 @@
 -- What is told of a log's script (this project's).
-use Rattle.std.specs.Prelude.{◌≡◌, ◌⊎◌, ℕ, List, [], Option, Result, Ok, Err}
+use Rattle.std.specs.Prelude.{◌≡◌, ◌⊎◌, ℕ, List, [], Option, option_map, Result, Ok, Err}
 use Rattle.std.specs.Io.KnownBytes.{Appends}
 use Rattle.nor_base.specs.Device.{Cuts}
 use Rattle.nor_job.specs.declared.fault.BuildFault.TheVariants.{Write}
@@ -8,8 +8,8 @@ use Rattle.norprog_common.specs.declared.faults.FileName.TheVariants.{Out}
 use Rattle.norprog_common.specs.declared.faults.Refusal.{Refusal}
 use Rattle.norprog_common.specs.declared.faults.Refusal.TheVariants.{Build}
 use Rattle.norprog_common.specs.declared.given.ScriptArgs.{ScriptArgs}
-use Rattle.norprog_common.specs.FileStore.{FileFacts, Change, HasGone, LacksEarly}
-use Rattle.norprog_common.specs.Told.{ForAsked, RefusesFor, Answers}
+use Rattle.norprog_common.specs.FileStore.{FileFacts, Change, HasGone, LacksEarly, TookNothing}
+use Rattle.norprog_common.specs.Told.{ForAsked, AtMemory, RefusesFor, Answers}
 use Rattle.norprog_script.specs.declared.tally.Tally.{Tally}
 use Rattle.norprog_script.specs.Request.{is_well_formed}
 use Rattle.norprog_script.specs.Served.{LogTask, Serves, MakesScript, MayMakeScript, paths_asked}
@@ -56,6 +56,10 @@ done (Err why) flushed = Err why
 done (Ok tally) (Err e) = Err (Build Write)
 done (Ok tally) (Ok u) = Ok tally
 
+-- at out of memory the output of that name took nothing
+abbrev pub HoldsScript : FileFacts → Option (List ℕ) → (List Change → Type 0) → (LogTask → Type 0) → Refusal → Type 0
+HoldsScript files out Made Asked = AtMemory (TookNothing files out Made ⊎ ForAsked LogTask Asked (λ t. HasGone files t.begun))
+
 -- what `script` answers to the texts of a command line, where `Made` says which changes it made, and `Broke` that an output failed: the
 -- number of steps at status 0, after the script has gone out, and just the output was made; or a refusal, and at most that was
 abbrev pub AnswersScript : FileFacts → ScriptArgs → (List Change → Type 0) → Type 0 → Option (List ℕ) → Option (List ℕ) → Type 0 → Type 0 → Option (List ℕ) → Option (List ℕ) → ℕ → Type 0
@@ -63,5 +67,6 @@ AnswersScript files given Made Broke before after Quiet Works told_before told_a
     Answers (is_well_formed given)
     ((status ≡ 0) × PrintsTally (Serves files given) files.flushed before after × MakesScript files given Made × Quiet)
     (CutsTally (Serves files given) files.flushed before after × MayMakeScript files given Made)
-    (RefusesScript (LacksEarly files (paths_asked given) Out (Made [])) Broke (HasGone files) (Serves files given))
+    (λ why. RefusesScript (LacksEarly files (paths_asked given) Out (Made [])) Broke (HasGone files) (Serves files given) why
+    × HoldsScript files (option_map (λ t. t.now) given.out) Made (Serves files given) why)
     Works told_before told_after status

@@ -1,12 +1,13 @@
 //! `script`: from the texts of the command line to the script in its file.
 
 ghost use Rattle.std.specs.Prelude.{◌≡◌, ◌<◌, ◌≤◌, ◌-◌, ◌^◌, [], ◌∷◌, ◌++◌, true, None, Some};
+ghost use Rattle.std.specs.Prelude.{option_map};
 ghost use Rattle.std.specs.Prelude.{IfOk, IfErr, MatchResult};
 ghost use Rattle.norprog_common.specs.FileStore.{Adds, Breaks, HasGone, LacksEarly, MakesIf};
 ghost use Rattle.norprog_common.specs.declared.faults.FileName.TheVariants.{Out};
 ghost use Rattle.norprog_common.specs.Told.{OrUsage};
 ghost use Rattle.norprog_script.specs.Answer.{IsScripted, RefusesScript, PrintsTally, CutsTally};
-ghost use Rattle.norprog_script.specs.Answer.{AnswersScript, done};
+ghost use Rattle.norprog_script.specs.Answer.{AnswersScript, HoldsScript, done};
 ghost use Rattle.norprog_script.specs.Request.{is_well_formed};
 ghost use Rattle.norprog_script.specs.Served.{IsTaskOf, Serves, chip_file};
 ghost use Rattle.norprog_script.specs.Served.{paths_asked, paths_of, MakesScript, MayMakeScript};
@@ -73,6 +74,10 @@ fn scripted_in<S: FileStore, O: ByteOut>(
         (Adds (S.Journal.changes journal.old) (S.Journal.changes journal.new) []))
         (Breaks (S.facts store.now) (O.count out.old) (O.count out.new))
         (HasGone (S.facts store.now)) (Serves (S.facts store.now) given.entry))) }
+    ensures memory { IfErr result
+        (HoldsScript (S.facts store.now) (option_map (λ t. t.now) given.entry.out)
+        (Adds (S.Journal.changes journal.old) (S.Journal.changes journal.new))
+        (Serves (S.facts store.now) given.entry)) }
 {
     let request = request_of(given).ok_or(Refusal::Usage)?;
     let tally = run_script(alloc, store, journal, request)?;
@@ -99,6 +104,10 @@ fn run_script<S: FileStore>(
         (Adds (S.Journal.changes journal.old) (S.Journal.changes journal.new) []))
         (S.facts store.now).broke (HasGone (S.facts store.now))
         (IsTaskOf (S.facts store.now) request.entry)) }
+    ensures memory { IfErr result
+        (HoldsScript (S.facts store.now) (Some request.entry.out.now)
+        (Adds (S.Journal.changes journal.old) (S.Journal.changes journal.new))
+        (IsTaskOf (S.facts store.now) request.entry)) }
 {
     match request.chip {
         Some(setup) => run_listing(alloc, store, journal, setup, request),
@@ -124,6 +133,10 @@ fn run_listing<S: FileStore>(
         (RefusesScript (LacksEarly (S.facts store.now) (paths_of request.entry) Out
         (Adds (S.Journal.changes journal.old) (S.Journal.changes journal.new) []))
         (S.facts store.now).broke (HasGone (S.facts store.now))
+        (IsTaskOf (S.facts store.now) request.entry)) }
+    ensures memory { IfErr result
+        (HoldsScript (S.facts store.now) (Some request.entry.out.now)
+        (Adds (S.Journal.changes journal.old) (S.Journal.changes journal.new))
         (IsTaskOf (S.facts store.now) request.entry)) }
 {
     let mut places = Vec::new(alloc);
@@ -160,6 +173,10 @@ fn run_log<S: FileStore>(
         (RefusesScript (LacksEarly (S.facts store.now) (paths_of request.entry) Out
         (Adds (S.Journal.changes journal.old) (S.Journal.changes journal.new) []))
         (S.facts store.now).broke (HasGone (S.facts store.now))
+        (IsTaskOf (S.facts store.now) request.entry)) }
+    ensures memory { IfErr result
+        (HoldsScript (S.facts store.now) (Some request.entry.out.now)
+        (Adds (S.Journal.changes journal.old) (S.Journal.changes journal.new))
         (IsTaskOf (S.facts store.now) request.entry)) }
 {
     let (log, place) = store.read(alloc, request.log, FileName::Log)?;

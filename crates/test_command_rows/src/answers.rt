@@ -50,7 +50,7 @@ fn status_into(rt: &HostRuntime, line: Result<Line<'_>, Refusal>, out: File, err
         && err.failures() < u64::MAX
     {
         let files = SystemFiles::new(rt);
-        let refusal = err.take_line();
+        let refusal = err.last_line();
         write_details(
             rt.alloc(),
             &files,

@@ -40,7 +40,7 @@ lacks files device name told =
     ⊎ (((bytes : List ℕ) × (bytes_in files name ≡ Some bytes) × (2 ^ 36 < length bytes)) ⊎ ((told ≡ told_as.Device) × (answers_of device name ≡ None)))
 
 -- a file gives the bytes that it has; an output is empty when it is made, and has gone out with what it took, unless memory was
--- refused to it, of which nothing is told; a device has its answers ahead when it is opened, and has taken nothing
+-- refused to it, of which nothing is told; none is emptied that then can't be used; a device has its answers ahead when it is opened, and has taken nothing
 abbrev pub told_files : List File → Option Device → FileFacts
 told_files files device = record {
   gave = λ name bytes. bytes_in files name ≡ Some bytes;
@@ -48,7 +48,9 @@ told_files files device = record {
   stood = λ name place. option_map (λ file. file.id) (file_of files name) ≡ Some place;
   made = λ name places held. held ≡ Some [];
   fresh = λ name held. held ≡ Some [];
+  emptied = λ name. ⊥;
   flushed = λ held. (bytes : List ℕ) × (held ≡ Some bytes);
+  closed = λ held. (bytes : List ℕ) × (held ≡ Some bytes);
   lacked = lacks files device;
   device = λ name remaining contents. (answers_of device name ≡ remaining) × (contents ≡ Some []);
   left = λ contents. (bytes : List ℕ) × (contents ≡ Some bytes);

@@ -1,10 +1,10 @@
 -- From a job to what a build promises of its inputs.
-use Rattle.std.proofs.Common.{◌≡◌, ℕ, zero, suc, ◌+◌, ◌-◌, ◌<◌, ◌≤◌, Bool, true, not, ◌&&◌, cond, nat_lt, nat_le, List, [], ◌∷◌, length, map, Option, refl, sym, ◌∙◌, ap, subst, arith, ltb-true}
+use Rattle.std.proofs.Common.{◌≡◌, ℕ, zero, suc, ◌+◌, ◌-◌, ◌<◌, ◌≤◌, Bool, true, not, ◌&&◌, cond, nat_lt, nat_le, List, [], ◌∷◌, ◌++◌, length, take, drop, map, Option, refl, sym, ◌∙◌, ap, subst, arith, ltb-true}
 use Rattle.std.specs.Prelude.{count_by, sum_by, is_some}
 use Rattle.std.specs.Option.{option_map_or}
 use Rattle.std.specs.List.{fold, slice_index, AllByRecursion}
 use Rattle.std.proofs.lemmas.Bool.{and_parts}
-use Rattle.std.proofs.lemmas.List.{length-map}
+use Rattle.std.proofs.lemmas.List.{length-map, take-append-drop}
 use Rattle.nor_base.specs.declared.meaning.Start.{Start}
 use Rattle.nor_base.specs.declared.meaning.Strategy.{Strategy}
 use Rattle.nor_base.specs.declared.step.Step.{Step}
@@ -19,7 +19,7 @@ use Rattle.nor_base.specs.Planned.{planned, planned_ops, planned_units, ArePlann
 use Rattle.nor_base.specs.Step.{IsStep}
 use Rattle.nor_base.specs.Strategies.{strategy}
 use Rattle.nor_base.specs.Target.{is_ignored}
-use Rattle.nor_geometry.specs.Plan.{IsFault}
+use Rattle.nor_geometry.specs.Plan.{HasPart, IsFault}
 use Rattle.nor_hex.specs.Image.{Pairs}
 use Rattle.nor_job.specs.declared.fault.BuildFault.{BuildFault}
 use Rattle.nor_job.specs.declared.fault.BuildFault.TheVariants as fault
@@ -40,6 +40,7 @@ use Rattle.norprog.specs.Laws.{Laws}
 use Rattle.norprog.specs.Build.{report_of, AreLargest, RunsAsPlanned, IsBuilt, IsLate, WorkCause, IsFrontOf, StopsWork}
 use Rattle.nor_job.specs.Filled.{target_from}
 use Rattle.norprog.specs.Windows.{CutCause, IsWorked, IsScripted, IsCutScript, job_report}
+use Rattle.norprog.proofs.Content.Targets.{target_of_parts, part_front}
 use Rattle.norprog.proofs.Promise.Counts.{erases_told, erased_told, programs_told}
 use Rattle.norprog.proofs.Promise.Filled.{filled, filled_is}
 use Rattle.norprog.proofs.Promise.Image.{image_bytes}
@@ -209,32 +210,59 @@ work_cause t len job is part after fault.Write cause = tt
 work_cause t len job is part after fault.Memory cause = tt
 work_cause t len job is part after other cause = absurd cause
 
+-- a content that begins so has its target begin so
+pub record HasParts (job : Job) (known : ℕ) (part content : List ℕ) : Type 0 where
+  pub has : HasPart content (take known part) 0
+  pub has' : HasPart (target_from job 0 content) (target_from job 0 (take known part)) 0
+
+parts_are : (job : Job) (known : ℕ) (part content : List ℕ) → take known content ≡ take known part → HasParts job known part content
+parts_are job known part content begins =
+    let xs = take known content in
+    let ys = drop known content in
+    let whole : xs ++ ys ≡ content = take-append-drop known content in
+    let goal : target_from job 0 (xs ++ ys) ≡ target_from job 0 xs ++ target_from job (length xs) ys = target_of_parts job 0 (length xs) xs ys (omega arith) in
+    let target : target_from job 0 xs ++ target_from job (length xs) ys ≡ target_from job 0 content = sym goal ∙ ap (target_from job 0) whole in
+    record {
+      has = subst (λ (zs : List ℕ). HasPart content zs 0) begins (subst (λ (zs : List ℕ). HasPart zs xs 0) whole (part_front xs ys));
+      has' = subst (λ (zs : List ℕ). HasPart (target_from job 0 content) (target_from job 0 zs) 0) begins
+          (subst (λ (zs : List ℕ). HasPart zs (target_from job 0 xs) 0) target (part_front (target_from job 0 xs) (target_from job (length xs) ys)));
+    }
+
 front_is : (t : Task) (len : ℕ) (job : Job) (before after : Ahead) (x y : Option (List ℕ)) (why : BuildFault) → Laws → IsAccepted job.meaning → (is : IsJob t len job)
     → (cut : IsCutScript job before after x y why) → IsFrontOf job.meaning (start_of t) t.verify (wanted t job.image is.regions) cut.part cut.bytes why
 front_is t len job before after x y why laws accepted is cut =
     let m = job.meaning in
-    let content = filled job cut.known cut.part in
-    let own = target_from job 0 content in
-    let same : own ≡ wanted t job.image is.regions content = target_is t len job is content in
+    let goal = wanted t job.image is.regions in
     let gives = image_bytes t.hex job.image is.accepted.named.imaged.spelled in
     let fill = filled_is job cut.known cut.part cut.bytes accepted gives cut.within cut.front in
-    let text = cut.front.front content own fill.size fill.has fill.has' in
-    let spelled = spelled_is laws.spelled laws.has m job.start job.verify content own fill.workable in
-    let steps = steps_of (planned m job.start job.verify content own) in
+    let some = filled job cut.known cut.part in
     record {
-      content = content;
       window = cut.window;
       its_size = cut.its_size;
       known = cut.known;
       windows = cut.windows;
-      begins = fill.begins;
-      workable = subst (IsWorkable m (start_of t) content) same (subst (λ (s : Start). IsWorkable m s content own) is.start fill.workable);
-      steps = steps;
-      planned = subst (λ (wish : List ℕ). ArePlanned m (start_of t) t.verify content wish steps) same
-          (subst (λ v. ArePlanned m (start_of t) v content own steps) is.verify (subst (λ (s : Start). ArePlanned m s job.verify content own steps) is.start spelled.planned));
-      rest = text.rest;
-      script = record { each = spelled.each; spelled = sym text.whole };
-      more = text.more;
+      workable = (
+        some,
+        fill.begins,
+        subst (IsWorkable m (start_of t) some) (target_is t len job is some) (subst (λ (s : Start). IsWorkable m s some (target_from job 0 some)) is.start fill.workable),
+      );
+      begins = λ content begins workable.
+          let own = target_from job 0 content in
+          let same : own ≡ goal content = target_is t len job is content in
+          let work : IsWorkable m job.start content own =
+          subst (λ (s : Start). IsWorkable m s content own) (sym is.start) (subst (IsWorkable m (start_of t) content) (sym same) workable) in
+          let parts = parts_are job cut.known cut.part content begins in
+          let text = cut.front.front content own work.have_size parts.has parts.has' in
+          let spelled = spelled_is laws.spelled laws.has m job.start job.verify content own work in
+          let steps = steps_of (planned m job.start job.verify content own) in
+          record {
+            steps = steps;
+            planned = subst (λ (wish : List ℕ). ArePlanned m (start_of t) t.verify content wish steps) same
+                (subst (λ v. ArePlanned m (start_of t) v content own steps) is.verify (subst (λ (s : Start). ArePlanned m s job.verify content own steps) is.start spelled.planned));
+            rest = text.rest;
+            script = record { each = spelled.each; spelled = sym text.whole };
+            more = text.more;
+          };
     }
 
 pub stops_is : (t : Task) (len : ℕ) (job : Job) (before after : Ahead) (x y : Option (List ℕ)) (why : BuildFault) → Laws → IsAccepted job.meaning → IsJob t len job

@@ -1,18 +1,13 @@
--- The writer is the one behind the line that was taken.
-use Rattle.std.proofs.Common.{◌≡◌, ◌<◌, ◌-◌, ◌^◌, subst}
-use Rattle.norprog_details.specs.Details.{TellsDetails}
+-- The line that was taken is the last one.
+use Rattle.std.proofs.Common.{subst, sym}
+use Rattle.norprog_details.specs.Heard.{IsLastLine}
 use Rattle.norprog_cli.proofs.add_lines.Goals as goal
 
 pub returns-then-failures-lt18446744073709551615 : goal.returns-then-failures-lt18446744073709551615
-returns-then-failures-lt18446744073709551615 g c =
-    let files = g.S.FileStore.facts c.args.store.now in
-    let line = c.as_line-line.result in
-    let refusal = c.as_slice.result.now in
-    let after = c.write_details.new.err in (
-      line,
-      refusal,
-      c.as_line-line.ensures,
-      subst (λ (out : g.row.E.Denot). TellsDetails files line refusal ((g.E.ByteOut.count out < 2 ^ 64 - 1) × (g.E.ByteOut.count after ≡ g.E.ByteOut.count out))
-          (g.E.ByteOut.held out) (g.E.ByteOut.held after))
-          c.take_line-refusal.ensures.out (λ works. c.write_details.ensures.told works.1),
-    )
+returns-then-failures-lt18446744073709551615 g c = (
+  c.as_line-line.result,
+  c.as_slice.result.now,
+  c.as_line-line.ensures,
+  subst (IsLastLine _) (sym c.as_slice.ensures.value) c.last_line-refusal.ensures.last,
+  λ works. c.write_details.ensures.told works.1,
+)

@@ -17,6 +17,7 @@ pub returns-clause-answer : goal.returns-clause-answer
 returns-clause-answer g c = (
   Err c.in-Err.refusal,
   (
+    record { held = refl; count = refl },
     subst (λ words. Refuses (map string_bytes words) c.in-Err.refusal) c.as_slice.ensures.value c.in-Err.ensures.refused,
     adds_none _ _ refl,
     refl,

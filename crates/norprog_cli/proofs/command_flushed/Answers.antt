@@ -11,7 +11,7 @@ returns-in-Err-clause-ends g c = record {
   counted = c.command-status.new.out.failed;
   answers = c.command-status.ensures.answer;
   kept = c.flush_out.ensures.kept;
-  ends = inr (search rules, c.in-Err.ensures.failed, search rules);
+  ends = inr (c.in-Err.ensures.failed, inr (search rules, search rules));
 }
 
 pub returns-in_default-clause-ends : goal.returns-in_default-clause-ends
@@ -22,7 +22,7 @@ returns-in_default-clause-ends g c = record {
   counted = c.command-status.new.out.failed;
   answers = c.command-status.ensures.answer;
   kept = c.flush_out.ensures.kept;
-  ends = inl (refl, refl);
+  ends = inr (search rules, inl (search rules, refl, refl));
 }
 
 pub returns-in_default-2-clause-ends : goal.returns-in_default-2-clause-ends
@@ -33,5 +33,5 @@ returns-in_default-2-clause-ends g c = record {
   counted = c.command-status.new.out.failed;
   answers = c.command-status.ensures.answer;
   kept = c.flush_out.ensures.kept;
-  ends = inl (refl, refl);
+  ends = inl (search rules, search rules, refl, refl);
 }

@@ -2,14 +2,14 @@
 use Rattle.std.proofs.Common.{ap, inl, inr, refl, is_some, Some, option_map, ◌&&◌}
 use Rattle.nor_base.proofs.FaultLaws.{handed_on}
 use Rattle.norprog_common.proofs.ToldLemmas.{asked_wider, or_usage}
-use Rattle.norprog_common.specs.FileStore.{Breaks, HasGone}
+use Rattle.norprog_common.specs.FileStore.{Adds, Breaks, HasGone}
 use Rattle.norprog_build.specs.Served.{asks_build, ServesBuild}
 use Rattle.norprog_build.specs.Answer.{IsReportOf}
 use Rattle.norprog_common.specs.Served.{Job, IsJobOf}
 use Rattle.norprog_common.specs.Reading.{HasFailed}
 use Rattle.norprog_common.specs.Strict.{Filled}
 use Rattle.norprog_build.proofs.AnswerLemmas.{gone, rose}
-use Rattle.norprog_build.proofs.ServedLemmas.{build_filled, build_refused, build_asked}
+use Rattle.norprog_build.proofs.ServedLemmas.{build_filled, build_holds, build_refused, build_asked}
 use Rattle.norprog_common.proofs.ServedLemmas.{no_job}
 use Rattle.norprog_build.proofs.command.report_build.Goals as goal
 
@@ -78,3 +78,12 @@ returns-in-Ok-clause-done g c = (
   build_asked c.args.given c.request_of.result c.in_ok-request.request c.in_ok-path.path.now
       c.in_ok-request.ensures.ok_part c.request_of.ensures.forms (ap (option_map (λ t. t.now)) c.in_ok-path.ensures.ok_part),
 )
+
+pub returns-in_err-report-clause-memory : goal.returns-in_err-report-clause-memory
+returns-in_err-report-clause-memory g c =
+    let files = g.S.FileStore.facts c.args.store.now in
+    let out = ap (option_map (λ t. t.now)) c.in_ok-path.ensures.ok_part in
+    let changes = g.S.Journal.Journal.changes in
+    handed_on _ _ _ c.from_residual-in_err-report.ensures.1
+    (build_holds files (HasFailed g.S.Input.ByteIn.ahead g.S.Input.ByteIn.count) c.args.given (Adds (changes c.args.journal.now) (changes c.run_build.new.journal)) c.request_of.result
+    c.in_ok-request.request c.in_ok-path.path.now c.in_ok-request.ensures.ok_part c.request_of.ensures.values out _ c.in_err-report.ensures.memory)

@@ -1,16 +1,16 @@
 -- The report, or the fault, is that of the request's job.
-use Rattle.std.proofs.Common.{[], inr, ap, Some, option_map, refl}
-use Rattle.norprog_common.specs.FileStore.{Adds, HasGone, Lacks, LacksEarly, tables_name}
+use Rattle.std.proofs.Common.{[], inl, inr, ap, Some, option_map, refl}
+use Rattle.norprog_common.specs.FileStore.{Adds, HasGone, Lacks, LacksEarly, TookNothing, tables_name}
 use Rattle.norprog_common.proofs.LackedLemmas.{lacks_at, lacks_output, lacks_own}
 use Rattle.norprog_common.proofs.JournalLemmas.{adds_none, made_anyway, output_made}
-use Rattle.norprog_common.proofs.StoreLemmas.{gone_out, made_apart}
+use Rattle.norprog_common.proofs.StoreLemmas.{made_apart}
 use Rattle.norprog_common.specs.Served.{IsJobOf, held_in, input_files_of, no_path, out_path, paths_of}
 use Rattle.nor_base.proofs.FaultLaws.{handed_on}
 use Rattle.norprog_common.specs.Strict.{Filled}
-use Rattle.norprog_build.specs.Answer.{RefusesBuild}
+use Rattle.norprog_build.specs.Answer.{HoldsBuild, RefusesBuild}
 use Rattle.norprog_common.specs.Chip.{origin_of}
 use Rattle.norprog_common.specs.declared.faults.FileName.TheVariants.{Out}
-use Rattle.norprog_build.proofs.AnswerLemmas.{build_blames, build_broke, report_of, refusal_of_build, empty_refused, file_refused}
+use Rattle.norprog_build.proofs.AnswerLemmas.{build_blames, build_broke, memory_of_build, report_of, refusal_of_build, empty_refused, file_refused}
 use Rattle.norprog_common.proofs.ServedLemmas.{job_of}
 use Rattle.norprog_common.specs.Reading.{HasFailed}
 use Rattle.norprog_build.proofs.command.run_build.Goals as goal
@@ -38,7 +38,7 @@ returns-clause-refused g c =
     c.flush-flushed.ensures.whole c.flush-flushed.ensures.broke in
     refusal_of_build c.args.request.now.strict (LacksEarly files (paths_of c.args.request.now (out_path (Some c.args.path.now))) Out (Adds (changes c.args.journal.now) (changes c.create.new.journal) [])) files.broke _ _ (HasGone files) Failed (IsJobOf files c.args.request.now (Some c.args.path.now)) _ _ _ _ _ _ c.build-answer.result c.flush-flushed.result _ (asked, c.in-Ok.ensures.filled)
     c.build-answer.ensures.built c.build-answer.ensures.refused (ap g.S.Output.ByteOut.held)
-    (gone_out files _ c.flush-flushed.result c.flush-flushed.ensures.flushed c.flush-flushed.ensures.broke)
+    (inr c.flush-flushed.ensures.closed)
     (build_blames g.S.Input.ByteIn.ahead g.S.Input.ByteIn.count _ _ _ c.build-answer.result c.build-answer.ensures.within c.build-answer.ensures.counts.0) broke c.done.ensures
 
 pub returns-in-Err-clause-refused : goal.returns-in-Err-clause-refused
@@ -97,3 +97,49 @@ returns-clause-journal g c =
     let made = output_made files names c.args.path.now _ _ _ Made
     c.new-places.ensures.items c.in_ok-texts.ensures.noted c.as_slice.ensures.value c.in_ok-script.ensures.journal in
     made_anyway files names (Some c.args.path.now) Made c.done.result made
+
+-- before the output is made nothing is; one that couldn't be made took nothing
+pub returns-in_err-texts-clause-memory : goal.returns-in_err-texts-clause-memory
+returns-in_err-texts-clause-memory g c =
+    let files = g.S.FileStore.facts c.args.store.now in
+    let request = c.args.request.now in
+    let out = Some c.args.path.now in
+    let changes = g.S.Journal.Journal.changes in
+    let Failed = HasFailed g.S.Input.ByteIn.ahead g.S.Input.ByteIn.count in
+    handed_on (HoldsBuild files out (Adds (changes c.args.journal.now) (changes c.args.journal.now)) request.strict Failed (IsJobOf files request out)) _ _ c.from_residual.ensures.1
+    (λ memory. inl (inl (adds_none _ _ refl)))
+
+pub returns-in_err-script-clause-memory : goal.returns-in_err-script-clause-memory
+returns-in_err-script-clause-memory g c =
+    let files = g.S.FileStore.facts c.args.store.now in
+    let request = c.args.request.now in
+    let out = Some c.args.path.now in
+    let changes = g.S.Journal.Journal.changes in
+    let Failed = HasFailed g.S.Input.ByteIn.ahead g.S.Input.ByteIn.count in
+    handed_on (HoldsBuild files out (Adds (changes c.args.journal.now) (changes c.create.new.journal)) request.strict Failed (IsJobOf files request out)) _ _ c.from_residual-in_err-script.ensures.1
+    (λ memory. inl c.in_err-script.ensures.untaken)
+
+-- one that was made holds what was written, and nothing more
+pub returns-in-Err-clause-memory : goal.returns-in-Err-clause-memory
+returns-in-Err-clause-memory g c =
+    let files = g.S.FileStore.facts c.args.store.now in
+    let made = made_apart files (input_files_of c.args.request.now) c.args.path.now _ _ _ _ c.new-places.ensures.items c.in_ok-texts.ensures.noted c.as_slice.ensures.value
+    c.in_ok-script.ensures.made in
+    let asked = job_of files c.args.request.now (Some c.args.path.now) c.inputs_of-inputs.result _ _ (Some _) (held_in c.in_ok-texts.texts)
+    c.in_ok-texts.ensures.given c.inputs_of-inputs.ensures c.in_ok-texts.ensures.content made in
+    λ memory. inr (inl (_, (asked, c.left.ensures.gone)))
+
+pub returns-clause-memory : goal.returns-clause-memory
+returns-clause-memory g c =
+    let files = g.S.FileStore.facts c.args.store.now in
+    let Failed = HasFailed g.S.Input.ByteIn.ahead g.S.Input.ByteIn.count in
+    let changes = g.S.Journal.Journal.changes in
+    let out = Some c.args.path.now in
+    let made = made_apart files (input_files_of c.args.request.now) c.args.path.now _ _ _ _ c.new-places.ensures.items c.in_ok-texts.ensures.noted c.as_slice.ensures.value
+    c.in_ok-script.ensures.made in
+    let asked = job_of files c.args.request.now (Some c.args.path.now) c.inputs_of-inputs.result _ _ (Some _) (held_in c.in_ok-texts.texts)
+    c.in_ok-texts.ensures.given c.inputs_of-inputs.ensures c.in_ok-texts.ensures.content made in
+    memory_of_build c.args.request.now.strict (TookNothing files out (Adds (changes c.args.journal.now) (changes c.create.new.journal))) _ _ (HasGone files) Failed (IsJobOf files c.args.request.now out)
+    _ _ _ _ _ _ c.build-answer.result c.flush-flushed.result _ (asked, c.in-Ok.ensures.filled) c.build-answer.ensures.refused (ap g.S.Output.ByteOut.held)
+    (inr c.flush-flushed.ensures.closed)
+    (build_blames g.S.Input.ByteIn.ahead g.S.Input.ByteIn.count _ _ _ c.build-answer.result c.build-answer.ensures.within c.build-answer.ensures.counts.0) c.done.ensures

@@ -1,5 +1,5 @@
 -- The parts are all that there are.
-use Rattle.std.proofs.Common.{ℕ, List, lit<, sym, ◌∙◌, ap}
+use Rattle.std.proofs.Common.{ℕ, List, lit<, ◌∙◌, ap}
 use Rattle.std.specs.Prelude.{is_some}
 use Rattle.std.specs.List.{list_all}
 use Rattle.std.specs.Str.Iter.{split_text, split_has_more, split_pattern}

@@ -1,5 +1,5 @@
 -- This option is it, or isn't.
-use Rattle.std.proofs.Common.{◌≡◌, ℕ, List, Option, None, Some, sym, ◌∙◌, ap, add-one, take}
+use Rattle.std.proofs.Common.{ℕ, Option, sym, ◌∙◌, ap, add-one, take}
 use Rattle.std.specs.Prelude.{option_map}
 use Rattle.std.specs.List.{find}
 use Rattle.norprog_details.specs.declared.typed.Typed.{Typed}

@@ -1,6 +1,6 @@
 -- This name isn't it.
-use Rattle.std.proofs.Common.{◌≡◌, ◌+◌, ℕ, List, Bool, Option, None, Some, Bor, sym, ◌∙◌, ap, drop, map, get_or, add-one, suc, slice_index_or, []}
-use Rattle.std.specs.Prelude.{codes, cond}
+use Rattle.std.proofs.Common.{◌≡◌, ◌+◌, ℕ, List, Bool, Bor, sym, ◌∙◌, ap, drop, map, add-one, suc, slice_index_or, []}
+use Rattle.std.specs.Prelude.{codes}
 use Rattle.std.specs.List.{enumerate_from, find}
 use Rattle.norprog_details.specs.Subject.{ends_in}
 use Rattle.norprog_details.proofs.ListLemmas.{counted_on}

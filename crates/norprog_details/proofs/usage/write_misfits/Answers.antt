@@ -1,6 +1,4 @@
 -- At a failure the lines before this one were put, and a proper prefix of it.
-use Rattle.std.proofs.Common.{rules}
-use Rattle.nor_base.specs.Device.{Cuts}
 use Rattle.nor_base.proofs.DeviceLaws.{Cuts-at, Writes-cut}
 use Rattle.norprog_details.specs.Usage.{misfit_line}
 use Rattle.norprog_details.proofs.usage.write_misfits.Goals as goal

@@ -1,6 +1,6 @@
 -- What is answered is what the work came to.
 use Rattle.std.proofs.Common.{option_map, option_to_list}
-use Rattle.norprog_common.specs.FileStore.{Adds, Lacks}
+use Rattle.norprog_common.specs.FileStore.{Adds, HasGone, Lacks, TookNothing}
 use Rattle.norprog_draw.specs.Answer.{IsDrawing, RefusesDraw}
 use Rattle.norprog_draw.specs.Request.{is_well_formed}
 use Rattle.norprog_draw.specs.Served.{Serves, Makes, paths_asked}
@@ -13,6 +13,7 @@ returns-clause-answer g c =
     let given = c.args.given in
     let changes = g.S.Journal.Journal.changes in
     answer_is files (option_to_list (option_map (λ t. t.now) given.script)) (option_map (λ t. t.now) given.out) (Adds (changes c.args.journal.now) (changes c.drawn_in.new.journal))
-    (is_well_formed given) (IsDrawing (Serves files given) (Makes files given) files.flushed) _ _
-    (RefusesDraw (Lacks files (paths_asked given)) files.broke (Serves files given) (Makes files given)) _ _ c.drawn_in.result c.answered.result
+    (is_well_formed given) (TookNothing files (option_map (λ t. t.now) given.out) (Adds (changes c.args.journal.now) (changes c.drawn_in.new.journal)))
+    (IsDrawing (Serves files given) (Makes files given) files.flushed) _ _
+    (RefusesDraw (Lacks files (paths_asked given)) files.broke (Serves files given) (Makes files given) (HasGone files)) _ _ c.drawn_in.result c.answered.result
     c.drawn_in.ensures.status c.drawn_in.ensures.journal c.drawn_in.ensures.drawn c.drawn_in.ensures.asked c.drawn_in.ensures.first c.drawn_in.ensures.unmade c.answered.ensures.done c.answered.ensures.told

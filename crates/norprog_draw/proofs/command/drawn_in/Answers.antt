@@ -1,7 +1,8 @@
 -- What was drawn, or the refusal, is of what the texts ask for.
-use Rattle.std.proofs.Common.{rules, ◌≡◌, true}
+use Rattle.std.proofs.Common.{rules, ◌≡◌, [], true}
+use Rattle.norprog_common.specs.FileStore.{Adds}
 use Rattle.norprog_draw.specs.Request.{is_well_formed, AsksFor}
-use Rattle.norprog_draw.proofs.ServedLemmas.{drawings_asked, refusals_asked}
+use Rattle.norprog_draw.proofs.ServedLemmas.{drawings_asked, refusals_asked, unmade_asked}
 use Rattle.norprog_draw.proofs.command.drawn_in.Goals as goal
 
 pub returns-clause-drawn : goal.returns-clause-drawn
@@ -14,3 +15,10 @@ returns-clause-first g c =
     let asks : AsksFor c.args.given c.in_ok-request.request = search rules in
     let formed : is_well_formed c.args.given ≡ true = search rules in
     refusals_asked (g.S.FileStore.facts c.args.store.now) c.args.given c.in_ok-request.request _ asks formed c.run_draw.ensures.refused
+
+pub returns-clause-unmade : goal.returns-clause-unmade
+returns-clause-unmade g c =
+    let asks : AsksFor c.args.given c.in_ok-request.request = search rules in
+    let changes = g.S.Journal.Journal.changes in
+    let Made = Adds (changes c.args.journal.now) (changes c.run_draw.new.journal) in
+    unmade_asked (g.S.FileStore.facts c.args.store.now) c.args.given c.in_ok-request.request (Made []) Made c.run_draw.result asks c.run_draw.ensures.unmade

@@ -1,11 +1,11 @@
 -- What was drawn, or the fault, is that of the request.
-use Rattle.std.proofs.Common.{refl, sym, subst, List, [], ◌∷◌}
+use Rattle.std.proofs.Common.{inl, inr, refl, sym, subst, List, [], ◌∷◌, Some}
 use Rattle.nor_base.specs.declared.step.Step.{Step}
 use Rattle.nor_base.specs.Device.{Writes}
 use Rattle.nor_base.proofs.FaultLaws.{handed_on}
 use Rattle.nor_waves.specs.Waves.{waves}
 use Rattle.norprog_common.proofs.JournalLemmas.{adds_none}
-use Rattle.norprog_common.specs.FileStore.{Adds, Lacks}
+use Rattle.norprog_common.specs.FileStore.{Adds, HasGone, Lacks, TookNothing}
 use Rattle.norprog_common.specs.declared.faults.FileName.TheVariants.{Script, Out}
 use Rattle.norprog_common.proofs.LackedLemmas.{lacks_at}
 use Rattle.norprog_draw.specs.Answer.{IsUnmade, RefusesDraw}
@@ -33,7 +33,7 @@ returns-clause-refused g c =
     (c.in_ok-script.place ∷ [], (c.in_ok-script.ensures.stood, tt), c.in_ok-out.ensures.made) _ _ c.draw_steps-answer.result c.flush-flushed.result _
     (subst (λ (steps : List Step). Writes (g.S.Output.ByteOut.held c.in_ok-out.out) (g.S.Output.ByteOut.held c.draw_steps-answer.new.out) c.draw_steps-answer.result
     (waves (part c.args.request.from c.args.request.count steps))) c.as_slice-2.ensures.value c.draw_steps-answer.ensures.bytes)
-    c.in_ok-out.ensures.count c.draw_steps-answer.ensures.count c.flush-flushed.ensures.whole c.flush-flushed.ensures.broke c.done.ensures
+    c.in_ok-out.ensures.count c.draw_steps-answer.ensures.count c.flush-flushed.ensures.whole (inr c.flush-flushed.ensures.closed) c.flush-flushed.ensures.broke c.done.ensures
 
 pub returns-in_err-steps-clause-refused : goal.returns-in_err-steps-clause-refused
 returns-in_err-steps-clause-refused g c =
@@ -48,8 +48,8 @@ returns-in_err-script-clause-refused g c =
     let request = c.args.request in
     let Lacked = Lacks files (paths_of request) in
     let why = c.in_err-script.field-0.0 in
-    handed_on (RefusesDraw Lacked files.broke (IsTaskOf files request) (IsMadeFor files request)) _ _ c.from_residual.ensures.1
-    (file_refused Lacked files.broke (IsTaskOf files request) (IsMadeFor files request) why
+    handed_on (RefusesDraw Lacked files.broke (IsTaskOf files request) (IsMadeFor files request) (HasGone files)) _ _ c.from_residual.ensures.1
+    (file_refused Lacked files.broke (IsTaskOf files request) (IsMadeFor files request) (HasGone files) why
     (lacks_at files (paths_of request) Script request.script.now why refl c.in_err-script.ensures.refused c.in_err-script.ensures.lacked))
 
 pub returns-in_err-out-clause-refused : goal.returns-in_err-out-clause-refused
@@ -58,28 +58,31 @@ returns-in_err-out-clause-refused g c =
     let request = c.args.request in
     let Lacked = Lacks files (paths_of request) in
     let why = c.in_err-out.field-0.0 in
-    handed_on (RefusesDraw Lacked files.broke (IsTaskOf files request) (IsMadeFor files request)) _ _ c.from_residual-in_err-out.ensures.1
-    (file_refused Lacked files.broke (IsTaskOf files request) (IsMadeFor files request) why
+    handed_on (RefusesDraw Lacked files.broke (IsTaskOf files request) (IsMadeFor files request) (HasGone files)) _ _ c.from_residual-in_err-out.ensures.1
+    (file_refused Lacked files.broke (IsTaskOf files request) (IsMadeFor files request) (HasGone files) why
     (lacks_at files (paths_of request) Out request.out.now why refl c.in_err-out.ensures.refused c.in_err-out.ensures.lacked))
 
 -- what shows before the output is made leaves the journal as it was
 pub returns-in_err-script-clause-unmade : goal.returns-in_err-script-clause-unmade
 returns-in_err-script-clause-unmade g c =
     let changes = g.S.Journal.Journal.changes in
-    let Nothing = Adds (changes c.args.journal.now) (changes c.args.journal.now) [] in
-    handed_on (IsUnmade Nothing) _ _ c.from_residual.ensures.1 (unmade_any Nothing (adds_none _ _ refl) _)
+    let Made = Adds (changes c.args.journal.now) (changes c.args.journal.now) in
+    let Untaken = TookNothing (g.S.FileStore.facts c.args.store.now) (Some c.args.request.out.now) Made in
+    handed_on (IsUnmade (Made []) Untaken) _ _ c.from_residual.ensures.1 (unmade_any (Made []) Untaken (adds_none _ _ refl) (inl (adds_none _ _ refl)) _)
 
 pub returns-in_err-steps-clause-unmade : goal.returns-in_err-steps-clause-unmade
 returns-in_err-steps-clause-unmade g c =
     let changes = g.S.Journal.Journal.changes in
-    let Nothing = Adds (changes c.args.journal.now) (changes c.args.journal.now) [] in
-    handed_on (IsUnmade Nothing) _ _ c.from_residual-in_err-steps.ensures.1 (unmade_any Nothing (adds_none _ _ refl) _)
+    let Made = Adds (changes c.args.journal.now) (changes c.args.journal.now) in
+    let Untaken = TookNothing (g.S.FileStore.facts c.args.store.now) (Some c.args.request.out.now) Made in
+    handed_on (IsUnmade (Made []) Untaken) _ _ c.from_residual-in_err-steps.ensures.1 (unmade_any (Made []) Untaken (adds_none _ _ refl) (inl (adds_none _ _ refl)) _)
 
 pub returns-in_err-out-clause-unmade : goal.returns-in_err-out-clause-unmade
 returns-in_err-out-clause-unmade g c =
     let changes = g.S.Journal.Journal.changes in
-    let Nothing = Adds (changes c.args.journal.now) (changes c.create.new.journal) [] in
-    handed_on (IsUnmade Nothing) _ _ c.from_residual-in_err-out.ensures.1 (unmade_out Nothing _ c.in_err-out.ensures.refused)
+    let Made = Adds (changes c.args.journal.now) (changes c.create.new.journal) in
+    let Untaken = TookNothing (g.S.FileStore.facts c.args.store.now) (Some c.args.request.out.now) Made in
+    handed_on (IsUnmade (Made []) Untaken) _ _ c.from_residual-in_err-out.ensures.1 (unmade_out (Made []) Untaken _ c.in_err-out.ensures.untaken c.in_err-out.ensures.refused)
 
 pub returns-clause-unmade : goal.returns-clause-unmade
-returns-clause-unmade g c = unmade_done _ c.draw_steps-answer.result c.flush-flushed.result _ c.done.ensures
+returns-clause-unmade g c = unmade_done _ _ c.draw_steps-answer.result c.flush-flushed.result _ c.done.ensures

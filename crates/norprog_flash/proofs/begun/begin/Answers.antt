@@ -1,5 +1,6 @@
 -- The chip wasn't read, what was read couldn't be saved, or its work couldn't be planned.
 use Rattle.nor_base.proofs.FaultLaws.{answered, handed_on}
+use Rattle.norprog_common.specs.declared.faults.FileName.TheVariants as file
 use Rattle.norprog_common.specs.FileStore.{Adds}
 use Rattle.norprog_flash.specs.declared.ending.Unflashed.TheVariants.{Refused}
 use Rattle.norprog_flash.specs.Stops.{CountsOut, StopsBegun}
@@ -18,11 +19,10 @@ pub returns-in_err-save-clause-stops : goal.returns-in_err-save-clause-stops
 returns-in_err-save-clause-stops g c =
     handed_on (StopsBegun (g.S.FileStore.facts c.args.store.now) (Adds _ _) _ _ _ _ c.args.job.now _ _) _ (Refused c.in_err-save.field-0.0)
     c.from_residual-in_err-save.ensures.1
-    (unsaved (g.S.FileStore.facts c.args.store.now) (g.W.ByteOut.held c.args.to.now) (g.W.ByteOut.held c.read_suited.new.to)
+    (unsaved (g.S.FileStore.facts c.args.store.now) (Adds _ _) (g.W.ByteOut.held c.args.to.now) (g.W.ByteOut.held c.read_suited.new.to)
     (g.R.ByteIn.ahead c.args.from.now) (g.R.ByteIn.ahead c.read_suited.new.from) c.args.job.now (g.O.ByteOut.held c.args.out.now)
-    c.in_ok-reading.reading c.in_ok-reading.ensures.read c.in_ok-reading.ensures.harmless c.in_err-save.field-0.0 c.in_err-save.ensures.refused
-    c.in_err-save.ensures.lacked _ _
-    c.in_err-save.ensures.journal)
+    c.in_ok-reading.reading c.in_ok-reading.ensures.read c.in_ok-reading.ensures.harmless c.as_slice.result.now
+    c.as_slice.ensures.value c.in_err-save.field-0.0 c.in_err-save.ensures.unsaved)
 
 pub returns-in_err-work-clause-stops : goal.returns-in_err-work-clause-stops
 returns-in_err-work-clause-stops g c =
@@ -31,7 +31,7 @@ returns-in_err-work-clause-stops g c =
     (unplanned (g.S.FileStore.facts c.args.store.now) (Adds _ _) (g.W.ByteOut.held c.args.to.now) (g.W.ByteOut.held c.read_suited.new.to)
     (g.R.ByteIn.ahead c.args.from.now) (g.R.ByteIn.ahead c.read_suited.new.from) c.args.job.now (g.O.ByteOut.held c.args.out.now)
     (g.O.ByteOut.held c.plan_for.new.out) c.in_ok-reading.reading c.in_ok-reading.ensures.read c.in_ok-reading.ensures.harmless
-    c.as_slice.result.now c.as_slice.ensures.value c.in_ok-save.ensures.saved c.in_ok-save.ensures.journal c.in_err-work.field-0.0
+    c.as_slice.result.now c.as_slice.ensures.value c.in_ok-save.ensures.saved c.in_ok-save.ensures.made c.in_err-work.field-0.0
     c.in_err-work.ensures.refused)
 
 pub returns-in_err-reading-clause-out_counts : goal.returns-in_err-reading-clause-out_counts
@@ -45,8 +45,10 @@ pub returns-in_err-save-clause-out_counts : goal.returns-in_err-save-clause-out_
 returns-in_err-save-clause-out_counts g c =
     let files = g.S.FileStore.facts c.args.store.now in
     let n = g.O.ByteOut.count c.args.out.now in
+    let changes = g.S.Journal.Journal.changes in
     answered c.from_residual-in_err-save.result (λ r. CountsOut files n n r) (Refused c.in_err-save.field-0.0)
-    (unsaved_told files n (files.lacked c.args.job.now.before.now) c.in_err-save.field-0.0 c.in_err-save.ensures.lacked)
+    (unsaved_told files n c.args.job.now.before.now file.Before c.as_slice.result.now (Adds (changes c.args.journal.now) (changes c.save.new.journal))
+    c.in_err-save.field-0.0 c.in_err-save.ensures.unsaved)
     c.from_residual-in_err-save.ensures.1
 
 pub returns-in_err-work-clause-out_counts : goal.returns-in_err-work-clause-out_counts

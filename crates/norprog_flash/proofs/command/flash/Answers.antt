@@ -1,5 +1,5 @@
 -- The ending, or why there is none, is reported.
-use Rattle.std.proofs.Common.{◌<◌, inl, inr, subst, ℕ, arith}
+use Rattle.std.proofs.Common.{◌<◌, inl, inr, ap, subst, ℕ, arith}
 use Rattle.norprog_common.specs.FileStore.{Breaks}
 use Rattle.norprog_flash.specs.Answer.{family_of}
 use Rattle.norprog_flash.proofs.CountLemmas.{breaks_later, ending_wider, told_wider, unflashed_wider}
@@ -32,6 +32,10 @@ returns-clause-answer g c =
       is = c.in-Err.ensures.unbegun;
       failed = told_wider (Breaks files n m) (Breaks files n p) (breaks_later files n m p c.report_unflashed.ensures.count) c.in-Err.why
           c.in-Err.ensures.counts.2;
+      silent = record {
+        held = ap (λ w. g.P.ByteOut.held w) c.in-Err.ensures.silent;
+        count = ap (λ w. g.P.ByteOut.count w) c.in-Err.ensures.silent;
+      };
       reported = unflashed_wider _ (Breaks files n p) (λ rose. inr (omega (arith, low, rose))) _ _ _ _ _ _ _ c.in-Err.why c.family_of.result
           (family_of c.args.given) c.family_of.ensures c.report_unflashed.ensures.reported;
     })

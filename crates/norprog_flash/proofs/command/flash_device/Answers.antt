@@ -5,6 +5,7 @@ use Rattle.norprog_common.specs.FileStore.{Adds}
 use Rattle.norprog_flash.specs.declared.ending.Unflashed.TheVariants.{Refused}
 use Rattle.norprog_flash.specs.Answer.{IsUnbegunOn}
 use Rattle.norprog_flash.specs.Stops.{CountsOut}
+use Rattle.norprog_flash.specs.Worked.{Showing}
 use Rattle.norprog_flash.proofs.CountLemmas.{early_told, lacked_told}
 use Rattle.norprog_flash.proofs.OpenedLemmas.{flashed_on, made_on, unbegun_on, unopened}
 use Rattle.norprog_flash.proofs.command.flash_device.Goals as goal
@@ -20,7 +21,7 @@ returns-in_err-from-clause-unbegun g c =
 
 pub returns-clause-flashed : goal.returns-clause-flashed
 returns-clause-flashed g c =
-    flashed_on (g.S.FileStore.facts c.args.store.now) c.args.device.now c.args.job.now _ _ _ _ _ _ c.flash_opened-flashed.result (search rules)
+    flashed_on (g.S.FileStore.facts c.args.store.now) c.args.device.now c.args.job.now _ _ _ _ _ _ (Showing _ _ _ _) c.flash_opened-flashed.result (search rules)
     (search rules) c.flash_opened-flashed.ensures.ends
 
 pub returns-clause-unbegun : goal.returns-clause-unbegun

@@ -9,6 +9,7 @@ use Rattle.norprog_flash.specs.Request.{is_well_formed, AsksFor}
 use Rattle.norprog_common.specs.FileStore.{Lacks}
 use Rattle.norprog_flash.specs.Served.{paths_of}
 use Rattle.norprog_flash.specs.Stops.{CountsOut}
+use Rattle.norprog_flash.specs.Worked.{Showing}
 use Rattle.norprog_flash.proofs.CountLemmas.{lacked_told}
 use Rattle.norprog_flash.proofs.ServedLemmas.{ending_by, lacked_by, unbegun_by, wanted}
 use Rattle.norprog_read.specs.Request.{IsAskOf}
@@ -35,7 +36,7 @@ returns-clause-ends g c =
     let asks : AsksFor c.args.given.now c.in_ok-request.request = search rules in
     let formed : is_well_formed c.args.given.now ≡ true = search rules in
     let e = subst (λ (file : List ℕ). IsAskOf c.in_ok-request.request.read file c.ask_of-asked.result) c.as_slice.ensures.value c.ask_of-asked.ensures in
-    ending_by files c.args.given.now c.in_ok-request.request (Adds _ _) _ _ _ c.flash_device.result formed asks
+    ending_by files c.args.given.now c.in_ok-request.request (Adds _ _) _ _ _ (Showing _ _ _ _) c.flash_device.result formed asks
     (record {
       held = c.in_ok-files.files;
       given = c.in_ok-files.ensures.given;

@@ -3,7 +3,8 @@ use Rattle.std.proofs.Common.{List, ℕ, All, inl, inr, refl, subst, sym}
 use Rattle.nor_base.specs.declared.step.Step.{Step}
 use Rattle.nor_serprog.specs.Done.{IsDoable}
 use Rattle.nor_serprog.specs.Steps.{IsFirstNotCarried}
-use Rattle.norprog_flash.specs.Worked.{WorksOut}
+use Rattle.nor_progress.proofs.ReportLaws.{none_reported}
+use Rattle.norprog_flash.specs.Worked.{IsSoOfDone, Showing, WorksOut}
 use Rattle.norprog_flash.proofs.PlannedLemmas.{steps_doable}
 use Rattle.norprog_flash.proofs.device.flash_planned.Goals as goal
 
@@ -15,6 +16,7 @@ returns-in-Err-clause-goes g c =
       subst (λ (xs : List Step). IsFirstNotCarried c.args.limits.now xs c.in-Err.step) c.as_slice-steps.ensures.value c.in-Err.ensures,
       refl,
       refl,
+      none_reported c.args.begun.now.work.steps.items _ _ _ _ refl refl,
     )
 
 pub returns-clause-goes : goal.returns-clause-goes
@@ -33,6 +35,9 @@ returns-clause-goes g c =
           c.as_slice-steps.ensures.value
           (subst (λ (xs : List ℕ). WorksOut h0 h1 a0 a1 limits job.ask.turns m c.args.begun.now.by c.as_slice-steps.result.now xs c.do_work.result)
           c.as_slice-2.ensures.value c.do_work.ensures.ends),
+      subst (λ (xs : List Step). IsSoOfDone (Showing (g.P.ByteOut.held c.args.progress.now) (g.P.ByteOut.held c.do_work.new.progress)
+          (g.P.ByteOut.count c.args.progress.now) (g.P.ByteOut.count c.do_work.new.progress) xs) c.do_work.result)
+          c.as_slice-steps.ensures.value c.do_work.ensures.shown,
     )
 
 pub do_work-requires-clause-form : goal.do_work-requires-clause-form

@@ -1,7 +1,8 @@
 -- What was written, or the refusal, is of what the texts ask for.
-use Rattle.std.proofs.Common.{rules, ◌≡◌, true}
+use Rattle.std.proofs.Common.{rules, ◌≡◌, [], true}
+use Rattle.norprog_common.specs.FileStore.{Adds}
 use Rattle.norprog_hex.specs.Request.{is_well_formed, AsksFor}
-use Rattle.norprog_hex.proofs.ServedLemmas.{written_asked, refusals_asked}
+use Rattle.norprog_hex.proofs.ServedLemmas.{unmade_asked, written_asked, refusals_asked}
 use Rattle.norprog_hex.proofs.command.converted_in.Goals as goal
 
 pub returns-clause-written : goal.returns-clause-written
@@ -14,3 +15,10 @@ returns-clause-first g c =
     let asks : AsksFor c.args.given c.in_ok-request.request = search rules in
     let formed : is_well_formed c.args.given ≡ true = search rules in
     refusals_asked (g.S.FileStore.facts c.args.store.now) c.args.given c.in_ok-request.request _ _ _ asks formed c.run_hex.ensures.refused
+
+pub returns-clause-unmade : goal.returns-clause-unmade
+returns-clause-unmade g c =
+    let asks : AsksFor c.args.given c.in_ok-request.request = search rules in
+    let changes = g.S.Journal.Journal.changes in
+    let Made = Adds (changes c.args.journal.now) (changes c.run_hex.new.journal) in
+    unmade_asked (g.S.FileStore.facts c.args.store.now) c.args.given c.in_ok-request.request (Made []) Made c.run_hex.result asks c.run_hex.ensures.unmade

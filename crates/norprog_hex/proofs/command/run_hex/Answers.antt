@@ -1,15 +1,15 @@
 -- What was written, or the fault, is that of the request.
-use Rattle.std.proofs.Common.{[], ◌∷◌, arith, refl}
+use Rattle.std.proofs.Common.{[], ◌∷◌, Some, inl, inr, arith, refl}
 use Rattle.nor_base.proofs.FaultLaws.{handed_on}
 use Rattle.norprog_common.proofs.JournalLemmas.{adds_none}
 use Rattle.norprog_common.specs.FileStore.{Adds, HasGone, LacksEarly}
-use Rattle.norprog_hex.specs.Answer.{IsUnmade}
+use Rattle.norprog_hex.specs.Answer.{IsUnmade, IsUntaken}
 use Rattle.norprog_common.specs.Reading.{HasFailed}
 use Rattle.norprog_common.specs.declared.faults.FileName.TheVariants.{Bin, Out}
 use Rattle.norprog_common.proofs.LackedLemmas.{lacks_at, lacks_early, lacks_output}
-use Rattle.norprog_hex.specs.Served.{paths_of}
+use Rattle.norprog_hex.specs.Served.{IsTaskOf, paths_of}
 use Rattle.norprog_hex.proofs.ServedLemmas.{all_broken, unopened, unmade, fits_so, too_long, done_is_written, done_is_refused}
-use Rattle.norprog_hex.proofs.ServedLemmas.{unmade_done, unmade_file}
+use Rattle.norprog_hex.proofs.ServedLemmas.{is_untaken, unmade_done, unmade_file}
 use Rattle.norprog_hex.proofs.command.run_hex.Goals as goal
 
 pub returns-in_err-bin-clause-refused : goal.returns-in_err-bin-clause-refused
@@ -50,24 +50,33 @@ returns-clause-refused g c =
     done_is_refused files c.args.request _ c.in_ok-bin.len c.in_ok-bin.ensures.opened (Adds (changes c.args.journal.now) (changes c.create.new.journal) []) _ _ (c.in_ok-bin.place ∷ [], (c.in_ok-bin.ensures.stood, tt), c.in_ok-out.ensures.made)
     (omega (arith, c.if-len-from.false, c.from.ensures)) (HasFailed g.S.Input.ByteIn.ahead g.S.Input.ByteIn.count) _ _ _ c.write_bin-answer.result c.flush-flushed.result _ c.write_bin-answer.ensures.converted c.write_bin-answer.ensures.stopped
     (all_broken g.S.Input.ByteIn.ahead g.S.Input.ByteIn.count _ _ c.in_ok-bin.len c.args.request.at c.write_bin-answer.result c.write_bin-answer.ensures.cause)
-    c.in_ok-out.ensures.count c.write_bin-answer.ensures.count c.flush-flushed.ensures.whole c.flush-flushed.ensures.flushed c.flush-flushed.ensures.broke c.done.ensures
+    c.in_ok-out.ensures.count c.write_bin-answer.ensures.count c.flush-flushed.ensures.whole (inr c.flush-flushed.ensures.closed) c.flush-flushed.ensures.broke c.done.ensures
 
 -- what shows before the output is made leaves the journal as it was
 pub returns-in_err-bin-clause-unmade : goal.returns-in_err-bin-clause-unmade
 returns-in_err-bin-clause-unmade g c =
+    let files = g.S.FileStore.facts c.args.store.now in
     let changes = g.S.Journal.Journal.changes in
-    let Nothing = Adds (changes c.args.journal.now) (changes c.args.journal.now) [] in
-    handed_on (IsUnmade Nothing) _ _ c.from_residual.ensures.1 (unmade_file Nothing Bin _ c.in_err-bin.ensures.refused)
+    let Made = Adds (changes c.args.journal.now) (changes c.args.journal.now) in
+    let Untaken = IsUntaken files (Some c.args.request.out.now) Made (IsTaskOf files c.args.request) in
+    handed_on (IsUnmade (Made []) Untaken) _ _ c.from_residual.ensures.1 (unmade_file (Made []) Untaken Bin _ (inl (inl (adds_none _ _ refl))) c.in_err-bin.ensures.refused)
 
 pub returns-in_err-out-clause-unmade : goal.returns-in_err-out-clause-unmade
 returns-in_err-out-clause-unmade g c =
+    let files = g.S.FileStore.facts c.args.store.now in
     let changes = g.S.Journal.Journal.changes in
-    let Nothing = Adds (changes c.args.journal.now) (changes c.create.new.journal) [] in
-    handed_on (IsUnmade Nothing) _ _ c.from_residual-in_err-out.ensures.1 (unmade_file Nothing Out _ c.in_err-out.ensures.refused)
+    let Made = Adds (changes c.args.journal.now) (changes c.create.new.journal) in
+    let Untaken = IsUntaken files (Some c.args.request.out.now) Made (IsTaskOf files c.args.request) in
+    handed_on (IsUnmade (Made []) Untaken) _ _ c.from_residual-in_err-out.ensures.1 (unmade_file (Made []) Untaken Out _ (inl c.in_err-out.ensures.untaken) c.in_err-out.ensures.refused)
 
 pub returns-then-len-from-clause-unmade : goal.returns-then-len-from-clause-unmade
 returns-then-len-from-clause-unmade g c = adds_none _ _ refl
 
 pub returns-clause-unmade : goal.returns-clause-unmade
 returns-clause-unmade g c =
-    unmade_done _ c.args.request.at _ _ _ c.write_bin-answer.result c.flush-flushed.result _ c.write_bin-answer.ensures.stopped c.done.ensures
+    let files = g.S.FileStore.facts c.args.store.now in
+    let changes = g.S.Journal.Journal.changes in
+    unmade_done _ _ c.args.request.at _ _ _ c.write_bin-answer.result c.flush-flushed.result _
+    (is_untaken files c.args.request _ c.in_ok-bin.len c.in_ok-bin.ensures.opened (Unit {0}) _ _ (c.in_ok-bin.place ∷ [], (c.in_ok-bin.ensures.stood, tt), c.in_ok-out.ensures.made)
+    (omega (arith, c.if-len-from.false, c.from.ensures)) (Adds (changes c.args.journal.now) (changes c.create.new.journal)) (inr c.flush-flushed.ensures.closed))
+    c.write_bin-answer.ensures.stopped c.done.ensures

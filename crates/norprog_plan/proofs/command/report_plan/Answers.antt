@@ -2,7 +2,7 @@
 use Rattle.std.proofs.Common.{[], option_map}
 use Rattle.nor_base.proofs.FaultLaws.{handed_on}
 use Rattle.norprog_plan.specs.Served.{asks_plan, shows_of, ServesPlan}
-use Rattle.norprog_plan.specs.Answer.{CutsPlan, RefusesPlan}
+use Rattle.norprog_plan.specs.Answer.{CutsPlan, HoldsPlan, RefusesPlan}
 use Rattle.norprog_common.specs.declared.faults.FileName.TheVariants.{Map}
 use Rattle.norprog_common.specs.FileStore.{Adds, Breaks, HasGone, LacksEarly}
 use Rattle.norprog_common.specs.Reading.{HasFailed}
@@ -12,7 +12,7 @@ use Rattle.norprog_common.specs.Told.{OrUsage}
 use Rattle.norprog_common.proofs.ServedLemmas.{is_formed, no_job}
 use Rattle.norprog_common.proofs.ToldLemmas.{or_usage}
 use Rattle.norprog_plan.proofs.AnswerLemmas.{cuts_wider, prints_wider}
-use Rattle.norprog_plan.proofs.ServedLemmas.{plan_filled, plan_refused}
+use Rattle.norprog_plan.proofs.ServedLemmas.{plan_filled, plan_holds, plan_refused}
 use Rattle.norprog_plan.proofs.command.report_plan.Goals as goal
 
 pub returns-in_err-run_plan-clause-unprinted : goal.returns-in_err-run_plan-clause-unprinted
@@ -55,3 +55,12 @@ returns-in_err-request-clause-first g c =
     handed_on _ _ _ c.from_residual.ensures.1
     (no_job (asks_plan c.args.given) c.args.given.job c.request_of.result _ c.in_err-request.field-0.0
     (λ none. none) c.request_of.ensures.forms c.in_err-request.ensures.ok_part c.in_err-request.ensures.value)
+
+pub returns-in_err-run_plan-clause-memory : goal.returns-in_err-run_plan-clause-memory
+returns-in_err-run_plan-clause-memory g c =
+    let files = g.S.FileStore.facts c.args.store.now in
+    let changes = g.S.Journal.Journal.changes in
+    let out = option_map (λ t. t.now) c.args.given.map in
+    let Made = Adds (changes c.args.journal.now) (changes c.run_plan.new.journal) in
+    handed_on (HoldsPlan files out Made (ServesPlan files c.args.given)) _ _ c.from_residual-in_err-run_plan.ensures.1
+    (plan_holds files c.args.given Made c.request_of.result c.in_ok-request.request c.in_ok-request.ensures.ok_part c.request_of.ensures.values _ c.in_err-run_plan.ensures.memory)

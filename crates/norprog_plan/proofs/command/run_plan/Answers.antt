@@ -1,12 +1,12 @@
 -- What was printed is of the request's job.
-use Rattle.std.proofs.Common.{[], option_map}
+use Rattle.std.proofs.Common.{[], inr, option_map}
 use Rattle.norprog_common.specs.declared.faults.FileName.TheVariants.{Map}
-use Rattle.norprog_common.specs.FileStore.{Adds, Breaks, HasGone, LacksEarly}
+use Rattle.norprog_common.specs.FileStore.{Adds, Breaks, HasGone, LacksEarly, TookNothing}
 use Rattle.norprog_common.specs.Reading.{HasFailed}
 use Rattle.norprog_common.specs.Served.{IsJobOf, held_in, map_path, paths_of}
 use Rattle.norprog_common.specs.Strict.{Filled}
 use Rattle.norprog_common.proofs.ServedLemmas.{job_of}
-use Rattle.norprog_plan.proofs.AnswerLemmas.{empty_refused, job_cuts, job_prints, job_stops}
+use Rattle.norprog_plan.proofs.AnswerLemmas.{empty_refused, job_cuts, job_holds, job_prints, job_stops}
 use Rattle.norprog_plan.proofs.command.run_plan.Goals as goal
 
 pub returns-clause-refused : goal.returns-clause-refused
@@ -51,3 +51,22 @@ returns-in-Ok-clause-refused g c =
     c.in_ok-texts.ensures.given c.inputs_of-inputs.ensures c.in_ok-texts.ensures.content c.in_ok-texts.ensures.made in
     job_stops c.print_job.result c.args.request.now.strict Lacked (Breaks files (g.O.ByteOut.count c.args.out.now) (g.O.ByteOut.count c.print_job.new.out)) files.broke (HasFailed g.S.Input.ByteIn.ahead g.S.Input.ByteIn.count) (HasGone files) files.flushed c.args.shows
     (IsJobOf files c.args.request.now out) _ _ _ (asked, c.in-Ok.ensures.filled) c.print_job.ensures.refused
+
+-- what the picture's output holds at out of memory
+pub returns-clause-memory : goal.returns-clause-memory
+returns-clause-memory g c =
+    let files = g.S.FileStore.facts c.args.store.now in
+    let out = option_map (λ t. t.now) c.args.map in
+    let asked = job_of files c.args.request.now out c.inputs_of-inputs.result _ _ _ (held_in c.in_ok-texts.field-0.texts)
+    c.in_ok-texts.ensures.given c.inputs_of-inputs.ensures c.in_ok-texts.ensures.content c.in_ok-texts.ensures.made in
+    λ memory. inr (_, (asked, c.left.ensures.gone))
+
+pub returns-in-Ok-clause-memory : goal.returns-in-Ok-clause-memory
+returns-in-Ok-clause-memory g c =
+    let files = g.S.FileStore.facts c.args.store.now in
+    let out = option_map (λ t. t.now) c.args.map in
+    let changes = g.S.Journal.Journal.changes in
+    let asked = job_of files c.args.request.now out c.inputs_of-inputs.result _ _ _ (held_in c.in_ok-texts.field-0.texts)
+    c.in_ok-texts.ensures.given c.inputs_of-inputs.ensures c.in_ok-texts.ensures.content c.in_ok-texts.ensures.made in
+    job_holds c.print_job.result (TookNothing files out (Adds (changes c.args.journal.now) (changes c.open_files.new.journal))) (HasGone files) (IsJobOf files c.args.request.now out) _ asked
+    c.print_job.ensures.memory

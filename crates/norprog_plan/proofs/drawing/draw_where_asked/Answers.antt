@@ -5,3 +5,6 @@ pub returns-in-Some-Some-clause-drawn : goal.returns-in-Some-Some-clause-drawn
 returns-in-Some-Some-clause-drawn g c lines image regions are of =
     let marked = rw c.in-Some-Some.is-1 at are in
     rw c.in-Some-Some.is-0 (c.draw_file.ensures.drawn lines image regions marked of)
+
+pub returns-in-Some-Some-clause-memory : goal.returns-in-Some-Some-clause-memory
+returns-in-Some-Some-clause-memory g c = rw c.in-Some-Some.is-0 c.draw_file.ensures.memory

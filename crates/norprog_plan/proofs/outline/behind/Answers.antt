@@ -1,9 +1,10 @@
 -- The picture has the report, and the lines of the regions follow it.
-use Rattle.std.proofs.Common.{◌≡◌, option_map, Bool, subst}
+use Rattle.std.proofs.Common.{◌≡◌, length, option_map, take, Bool, subst}
+use Rattle.std.proofs.Math.Seq.{take-append_seam}
 use Rattle.nor_base.specs.declared.meaning.Start.{Start}
 use Rattle.nor_job.specs.Status.{start_of}
 use Rattle.nor_times.specs.Timing.{timing_of}
-use Rattle.norprog_plan.specs.Answer.{tables_times, Draws}
+use Rattle.norprog_plan.specs.Answer.{tables_times}
 use Rattle.norprog_plan.proofs.AnswerLemmas.{behind_is}
 use Rattle.norprog_plan.proofs.outline.behind.Goals as goal
 
@@ -13,7 +14,8 @@ returns-clause-rest g c len lines is are =
     let job = c.args.job.now in
     let times = subst (λ (v : Bool). c.args.sums.now.times ≡ timing_of job.meaning (start_of t) v (tables_times t.chip) lines) is.verify
     (subst (λ (s : Start). c.args.sums.now.times ≡ timing_of job.meaning s job.verify (tables_times t.chip) lines) is.start are.times) in
-    behind_is c.with_regions.result (λ rest. rest.items) _ c.args.shows (option_map g.S.Output.ByteOut.held c.args.map) c.args.report.now t len job.meaning lines c.in_ok-rest.rest.items
-    (c.in_ok-rest.ensures.rest t job.meaning lines times)
-    (subst (Draws _ _ t job.meaning lines) c.as_slice.ensures.value (c.in_ok-draw_where_asked.ensures.drawn lines job.image is.regions are.marks is.accepted.named))
-    (c.with_regions.ensures.told len is)
+    let shown = c.in-Ok.shown.items in
+    let begins = c.in-Ok-with_regions.ensures.begins in
+    let front : take (length c.as_slice-drawn.result.now) c.as_slice.result.now ≡ shown = rw (c.as_slice-drawn.ensures.value, c.as_slice.ensures.value, begins.1) (take-append_seam shown begins.0) in
+    behind_is _ c.args.shows (option_map g.S.Output.ByteOut.held c.args.map) c.args.report.now t len job.meaning lines shown _ _ (c.in-Ok.ensures.rest t job.meaning lines times) front
+    (c.in_ok-draw_where_asked.ensures.drawn lines job.image is.regions are.marks is.accepted.named) (c.in-Ok-with_regions.ensures.told len is)

@@ -15,8 +15,8 @@ returns-in-Ok-print_lines-clause-printed g c =
     let j = job_with t (g.R.ByteIn.ahead c.args.content.now) c.args.len (option_map g.S.Output.ByteOut.held c.args.map) in
     let is : IsJob t c.args.len c.in-Ok.job = c.in-Ok.ensures.job in
     let all = c.in-Ok-print_lines.ensures.printed t c.args.len is in
-    let are = all.sums (tables_times t.chip) c.in_ok-sums.ensures.sums in
-    all_printed c.print_behind.result (g.S.FileStore.facts c.args.store.now).flushed c.args.shows j c.in-Ok.job c.in_ok-sums.sums c.print_lines.new.sums
+    let are = all.sums (tables_times t.chip) c.in-Ok-new.ensures.sums in
+    all_printed c.print_behind.result (g.S.FileStore.facts c.args.store.now).flushed c.args.shows j c.in-Ok.job c.in-Ok-new.sums c.print_lines.new.sums
     (g.R.ByteIn.ahead c.print_lines.new.content) (g.O.ByteOut.held c.args.out.now) (g.O.ByteOut.held c.print_lines.new.out) (g.O.ByteOut.held c.print_behind.new.out) c.in-Ok-print_lines.report all is
     (c.print_behind.ensures.printed c.args.len all.lines is are)
 
@@ -26,8 +26,8 @@ returns-in-Ok-print_lines-clause-cut g c =
     let j = job_with t (g.R.ByteIn.ahead c.args.content.now) c.args.len (option_map g.S.Output.ByteOut.held c.args.map) in
     let is : IsJob t c.args.len c.in-Ok.job = c.in-Ok.ensures.job in
     let all = c.in-Ok-print_lines.ensures.printed t c.args.len is in
-    let are = all.sums (tables_times t.chip) c.in_ok-sums.ensures.sums in
-    behind_cut c.print_behind.result _ _ _ (g.S.FileStore.facts c.args.store.now).flushed c.args.shows j c.in-Ok.job c.in_ok-sums.sums c.print_lines.new.sums
+    let are = all.sums (tables_times t.chip) c.in-Ok-new.ensures.sums in
+    behind_cut c.print_behind.result _ _ _ (g.S.FileStore.facts c.args.store.now).flushed c.args.shows j c.in-Ok.job c.in-Ok-new.sums c.print_lines.new.sums
     (g.R.ByteIn.ahead c.print_lines.new.content) (g.O.ByteOut.held c.args.out.now) (g.O.ByteOut.held c.print_lines.new.out) (g.O.ByteOut.held c.print_behind.new.out) c.in-Ok-print_lines.report
     (is_some c.args.map) all is (λ same. ap g.O.ByteOut.held same) (c.print_behind.ensures.cut c.args.len all.lines is are)
 
@@ -38,9 +38,9 @@ returns-in-Ok-print_lines-clause-refused g c =
     let j = job_with t (g.R.ByteIn.ahead c.args.content.now) c.args.len (option_map g.S.Output.ByteOut.held c.args.map) in
     let is : IsJob t c.args.len c.in-Ok.job = c.in-Ok.ensures.job in
     let all = c.in-Ok-print_lines.ensures.printed t c.args.len is in
-    let are = all.sums (tables_times t.chip) c.in_ok-sums.ensures.sums in
+    let are = all.sums (tables_times t.chip) c.in-Ok-new.ensures.sums in
     behind_stops c.print_behind.result _ _ (Breaks files (g.O.ByteOut.count c.args.out.now) (g.O.ByteOut.count c.print_behind.new.out)) files.broke (HasFailed g.R.ByteIn.ahead g.R.ByteIn.count) (HasGone files) files.flushed c.args.shows j c.in-Ok.job
-    c.in_ok-sums.sums c.print_lines.new.sums (g.R.ByteIn.ahead c.print_lines.new.content) (g.O.ByteOut.held c.args.out.now) (g.O.ByteOut.held c.print_lines.new.out)
+    c.in-Ok-new.sums c.print_lines.new.sums (g.R.ByteIn.ahead c.print_lines.new.content) (g.O.ByteOut.held c.args.out.now) (g.O.ByteOut.held c.print_lines.new.out)
     (g.O.ByteOut.held c.print_behind.new.out) c.in-Ok-print_lines.report (is_some c.args.map) all is (sym (same_some _ c.args.map)) (λ broke. inl broke)
     (λ more. inr (omega (arith, more, c.in-Ok-print_lines.ensures.counts.1))) (c.print_behind.ensures.cut c.args.len all.lines is are)
 

@@ -1,7 +1,10 @@
 -- The ending, or why there is none, is of what the texts ask for.
-use Rattle.std.proofs.Common.{rules, ◌≡◌, true}
+use Rattle.std.proofs.Common.{rules, ◌≡◌, true, List}
+use Rattle.nor_base.specs.declared.step.Step.{Step}
 use Rattle.norprog_common.specs.FileStore.{Adds}
 use Rattle.norprog_common.specs.Reading.{HasFailed}
+use Rattle.norprog_play.specs.declared.ending.Ending.{Ending}
+use Rattle.norprog_play.specs.Progress.{ReportsPlay}
 use Rattle.norprog_play.specs.Request.{is_well_formed, AsksFor}
 use Rattle.norprog_play.proofs.ServedLemmas.{endings_asked, refusals_asked}
 use Rattle.norprog_play.proofs.command.ending_of.Goals as goal
@@ -9,7 +12,9 @@ use Rattle.norprog_play.proofs.command.ending_of.Goals as goal
 pub returns-clause-played : goal.returns-clause-played
 returns-clause-played g c =
     let asks : AsksFor c.args.given c.in_ok-request.request = search rules in
-    endings_asked (g.S.FileStore.facts c.args.store.now) (Adds (g.S.Journal.Journal.changes c.args.journal.now) (g.S.Journal.Journal.changes c.play_request.new.journal)) c.args.given c.in_ok-request.request _ asks c.play_request.ensures.played
+    endings_asked (g.S.FileStore.facts c.args.store.now) (Adds (g.S.Journal.Journal.changes c.args.journal.now) (g.S.Journal.Journal.changes c.play_request.new.journal))
+    (λ (steps : List Step) (ending : Ending). ReportsPlay steps ending (g.P.ByteOut.held c.args.progress.now) (g.P.ByteOut.held c.play_request.new.progress)
+    (g.P.ByteOut.count c.args.progress.now) (g.P.ByteOut.count c.play_request.new.progress)) c.args.given c.in_ok-request.request _ asks c.play_request.ensures.played
 
 pub returns-clause-first : goal.returns-clause-first
 returns-clause-first g c =

@@ -1,5 +1,5 @@
 -- An ending is reported; where there is none why is written.
-use Rattle.std.proofs.Common.{inl, inr, refl, subst}
+use Rattle.std.proofs.Common.{ap, inl, inr, refl, subst}
 use Rattle.norprog_common.specs.FileStore.{Adds, Breaks}
 use Rattle.norprog_common.specs.Reading.{HasFailed}
 use Rattle.norprog_play.specs.Answer.{RefusesToPlay}
@@ -11,7 +11,8 @@ returns-in-Err-Refused-clause-answer g c =
     let changes = g.S.Journal.Journal.changes in
     let first = subst (RefusesToPlay (g.S.FileStore.facts c.args.store.now) (HasFailed g.S.Input.ByteIn.ahead g.S.Input.ByteIn.count)
     (Adds (changes c.args.journal.now) (changes c.ending_of.new.journal)) c.args.given) c.in-Err-Refused.field-0-is c.in-Err-Refused.ensures.first in
-    inr (inr (refl, (c.in-Err-Refused.refusal, first, c.refuse.ensures.status, c.refuse.ensures.told)))
+    let still = c.in-Err-Refused.ensures.silent in
+    inr (inr (refl, (c.in-Err-Refused.refusal, first, c.refuse.ensures.status, c.refuse.ensures.told), record { held = ap g.P.ByteOut.held still; count = ap g.P.ByteOut.count still }))
 
 pub returns-in-Ok-clause-answer : goal.returns-in-Ok-clause-answer
 returns-in-Ok-clause-answer g c =

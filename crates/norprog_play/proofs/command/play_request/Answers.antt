@@ -1,5 +1,6 @@
 -- The ending, or why there is none, is of the request's chip, script, content, limit and trust.
-use Rattle.std.proofs.Common.{◌≡◌, Some, ap, refl, sym, subst}
+use Rattle.std.proofs.Common.{◌≡◌, Some, ap, refl, sym, subst, List}
+use Rattle.nor_base.specs.declared.step.Step.{Step}
 use Rattle.nor_job.specs.Task.{Task}
 use Rattle.norprog_common.specs.Chip.{origin_of}
 use Rattle.norprog_common.specs.FileStore.{Adds, AreTables, tables_name}
@@ -9,6 +10,8 @@ use Rattle.norprog_common.proofs.JournalLemmas.{adds_none}
 use Rattle.nor_base.proofs.FaultLaws.{handed_on}
 use Rattle.norprog_play.specs.declared.unplayed.Unplayed.TheVariants.{Refused}
 use Rattle.norprog_play.specs.Answer.{IsUnplayed}
+use Rattle.norprog_play.specs.declared.ending.Ending.{Ending}
+use Rattle.norprog_play.specs.Progress.{ReportsPlay}
 use Rattle.norprog_play.specs.Served.{IsTaskOf, paths_of}
 use Rattle.norprog_play.proofs.ServedLemmas.{blames, expected_so, is_ahead_in, lacked_refused, no_job, was_played, was_stopped}
 use Rattle.norprog_play.proofs.command.play_request.Goals as goal
@@ -32,9 +35,11 @@ returns-clause-played g c =
     let script = is_ahead_in files c.args.request.script.now _ _ c.in_ok-script.ensures.opened in
     let family : c.args.request.setup.part ≡ c.setup_inputs-inputs.result.part = sym (ap (λ (t : Task). t.part) c.setup_inputs-inputs.ensures) in
     let same = expected_so c.setup_inputs-inputs.result c.args.request.setup.part c.in_ok-job.job.start c.known_tables.result.now c.args.request.trust family c.in_ok-job.ensures.ready.0 c.known_tables.ensures.tables in
+    let Told = λ (steps : List Step) (ending : Ending). ReportsPlay steps ending (g.P.ByteOut.held c.args.progress.now) (g.P.ByteOut.held c.play_job.new.progress)
+    (g.P.ByteOut.count c.args.progress.now) (g.P.ByteOut.count c.play_job.new.progress) in
     was_played files c.args.request _ _ _ _ _ c.setup_inputs-inputs.ensures tables script c.in_ok-content.ensures.opened (HasFailed g.S.Input.ByteIn.ahead g.S.Input.ByteIn.count)
     (Adds (g.S.Journal.Journal.changes c.args.journal.now) (g.S.Journal.Journal.changes c.play_job.new.journal)) _ _ c.in_ok-job.job.meaning
-    c.in_ok-job.job.steps.items c.in_ok-job.job.content.items c.in_ok-job.ensures.ready.1 _ same c.play_job.result c.play_job.ensures
+    c.in_ok-job.job.steps.items c.in_ok-job.job.content.items c.in_ok-job.ensures.ready.1 _ same Told _ c.play_job.result c.play_job.ensures.ends c.play_job.ensures.told
 
 pub returns-clause-refused : goal.returns-clause-refused
 returns-clause-refused g c =
@@ -45,7 +50,7 @@ returns-clause-refused g c =
     let same = expected_so c.setup_inputs-inputs.result c.args.request.setup.part c.in_ok-job.job.start c.known_tables.result.now c.args.request.trust family c.in_ok-job.ensures.ready.0 c.known_tables.ensures.tables in
     was_stopped files c.args.request _ _ _ _ _ c.setup_inputs-inputs.ensures tables script c.in_ok-content.ensures.opened (HasFailed g.S.Input.ByteIn.ahead g.S.Input.ByteIn.count)
     (Adds (g.S.Journal.Journal.changes c.args.journal.now) (g.S.Journal.Journal.changes c.play_job.new.journal)) _ _ c.in_ok-job.job.meaning
-    c.in_ok-job.job.steps.items c.in_ok-job.job.content.items c.in_ok-job.ensures.ready.1 _ same c.play_job.result c.play_job.ensures
+    c.in_ok-job.job.steps.items c.in_ok-job.job.content.items c.in_ok-job.ensures.ready.1 _ same c.play_job.result c.play_job.ensures.ends
 
 pub returns-in_err-tables-clause-refused : goal.returns-in_err-tables-clause-refused
 returns-in_err-tables-clause-refused g c =

@@ -8,6 +8,8 @@ use Rattle.norprog_play.specs.Expected.{expectation_of}
 use Rattle.nor_cells.specs.Marks.{IsMarked}
 use Rattle.norprog_play.specs.Moment.{moment}
 use Rattle.norprog_play.proofs.CarriedLemmas.{stops, stops_after, same_bounds, done_bounds}
+use Rattle.nor_progress.proofs.ReportLaws.{none_reported}
+use Rattle.norprog_play.proofs.ProgressLemmas.{stop_reported, unlike_reported}
 use Rattle.norprog_play.proofs.LikenessLemmas.{all_keep, MarkedSince, compares_since, unlike_since}
 use Rattle.norprog_play.proofs.TakenLemmas.{same_end}
 use Rattle.nor_play.specs.Play.{play}
@@ -100,3 +102,17 @@ returns-in-Ok-clause-ends g c =
           c.in-Ok.ensures.compared;
       says = c.requires.content.2;
     }
+
+pub returns-in-Err-clause-told : goal.returns-in-Err-clause-told
+returns-in-Err-clause-told g c = none_reported c.args.steps.now _ _ _ _ refl refl
+
+pub returns-in-Err-follow_steps-clause-told : goal.returns-in-Err-follow_steps-clause-told
+returns-in-Err-follow_steps-clause-told g c =
+    let between = moment c.begin.new.port.chip (g.W.Write.contents c.begin.new.port.to.inner) (g.R.Read.remaining c.begin.new.port.from.inner) in
+    let after = moment c.follow_steps.new.port.chip (g.W.Write.contents c.follow_steps.new.port.to.inner) (g.R.Read.remaining c.follow_steps.new.port.from.inner) in
+    stop_reported c.begin.new.port.limits c.begin.new.port.turns c.args.meaning.now between after c.args.steps.now c.in-Err-follow_steps.halt.step c.in-Err-follow_steps.halt.why _ _ _ _
+    (subst (λ (l : Limits). AreCarried l c.args.steps.now) (sym c.in_default.ensures.kept.1) c.requires.steps.0.carried) c.in-Err-follow_steps.ensures.done c.in-Err-follow_steps.ensures.told
+
+pub returns-in-Err-compare_unless_trusted-clause-told : goal.returns-in-Err-compare_unless_trusted-clause-told
+returns-in-Err-compare_unless_trusted-clause-told g c =
+    unlike_reported c.args.steps.now _ c.in-Err-compare_unless_trusted.why c.failure_by.result _ _ _ _ c.failure_by.ensures refl c.in_default-follow_steps.ensures.told

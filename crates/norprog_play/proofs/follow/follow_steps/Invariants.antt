@@ -1,6 +1,7 @@
 -- The steps so far were done, and what is left goes well.
 use Rattle.std.proofs.Common.{◌≡◌, ◌≤◌, ◌-◌, None, take, drop, length}
 use Rattle.nor_progress.specs.Far.{HasRoom}
+use Rattle.nor_progress.specs.Come.{HasCome}
 use Rattle.norprog_play.specs.Moment.{moment, DoesAll}
 use Rattle.norprog_play.proofs.FollowedLemmas.{GoesOn}
 use Rattle.norprog_play.proofs.follow.follow_steps.Given as goal
@@ -17,6 +18,8 @@ invariant-loop-done g l = record {
   turns : l.port.turns ≡ l.fn.port.turns;
   room : length l.room ≡ length l.fn.room;
   told : HasRoom l.far (g.P.ByteOut.count l.progress);
+  come : HasCome l.steps l.done l.far (g.P.ByteOut.held l.fn.progress) (g.P.ByteOut.held l.progress) (g.P.ByteOut.count l.fn.progress)
+      (g.P.ByteOut.count l.progress);
 }
 
 abbrev pub decreases-loop-done : goal.decreases-loop-done

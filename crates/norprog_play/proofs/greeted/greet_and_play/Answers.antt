@@ -19,5 +19,5 @@ returns-in_err-ending-clause-ends g c =
     let before = moment c.args.port.now.chip (g.W.Write.contents c.args.port.now.to.inner) (g.R.Read.remaining c.args.port.now.from.inner) in
     let after = moment c.play_on_device.new.port.chip (g.W.Write.contents c.play_on_device.new.port.to.inner) (g.R.Read.remaining c.play_on_device.new.port.from.inner) in
     for_memory (λ ending. HasPlayed c.play_on_device.new.port.limits c.args.port.now.turns (expectation_of c.args.expected) c.args.meaning.now before c.args.steps.now ending after)
-    c.play_on_device.new.port.limits before after c.from_residual-in_err-ending.result c.from_residual-in_err-ending.ensures.1
+    c.args.port.now.limits c.play_on_device.new.port.limits before after c.from_residual-in_err-ending.result c.from_residual-in_err-ending.ensures.1
     (rw c.in_err-ending.ensures.ends (record { shown = c.in_ok-greet_and_test.ensures.chip; opened = c.in_ok-greet_and_test.ensures.opened }))

@@ -7,4 +7,4 @@ pub returns-clause-opened : goal.returns-clause-opened
 returns-clause-opened g c =
     opens_so (g.W.Write.contents c.args.port.now.to.inner) (g.W.Write.contents c.greet_port.new.port.to.inner) (g.W.Write.contents c.test_port.new.port.to.inner)
     (ahead_of (g.R.Read.remaining c.args.port.now.from.inner)) (ahead_of (g.R.Read.remaining c.greet_port.new.port.from.inner)) (ahead_of (g.R.Read.remaining c.test_port.new.port.from.inner))
-    c.greet_port.new.port.limits c.test_port.new.port.limits c.test_port.ensures.limits c.in_ok-greet_port.ensures.greeted c.test_port.result c.test_port.ensures.tested
+    c.args.port.now.limits c.greet_port.new.port.limits c.test_port.new.port.limits c.test_port.ensures.limits c.in_ok-greet_port.ensures.greeted c.test_port.result c.test_port.ensures.tested

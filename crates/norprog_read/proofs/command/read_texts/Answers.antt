@@ -40,7 +40,7 @@ returns-in_err-save_all-clause-unread g c =
     handed_on (IsUnread files c.args.given (Adds _ _)) _ (Refused c.in_err-save_all.field-0.0) c.from_residual-in_err-save_all.ensures.1
     (unsaved files c.args.given c.in_ok-request.request c.as_slice.result.now c.ask_of-ask.result asks gave c.ask_of-ask.ensures _ _ _
     c.in_ok-reading.ensures.opened c.in_ok-reading.reading c.in_ok-reading.ensures.read formed c.in_err-save_all.field-0.0
-    c.in_err-save_all.ensures.fails c.in_err-save_all.ensures.journal)
+    c.in_err-save_all.ensures.unsaved)
 
 pub returns-clause-kept : goal.returns-clause-kept
 returns-clause-kept g c =
@@ -48,5 +48,5 @@ returns-clause-kept g c =
     let asks : AsksFor c.args.given c.in_ok-request.request = search rules in
     let gave = subst (AreTablesIf files (option_map origin_of c.in_ok-request.request.chip)) (sym c.as_slice.ensures.value) c.in_ok-file.ensures.file in
     kept files c.args.given c.in_ok-request.request c.as_slice.result.now c.ask_of-ask.result asks gave c.ask_of-ask.ensures _ _ _
-    c.in_ok-reading.ensures.opened c.in_ok-reading.reading c.in_ok-reading.ensures.read c.in_ok-save_all.ensures.journal
+    c.in_ok-reading.ensures.opened c.in_ok-reading.reading c.in_ok-reading.ensures.read c.in_ok-save_all.ensures.made
     c.in_ok-save_all.ensures.tables c.in_ok-save_all.ensures.content

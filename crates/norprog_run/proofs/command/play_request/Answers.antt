@@ -1,5 +1,5 @@
 -- What was played is of the chip, the content and the script of the request's files.
-use Rattle.std.proofs.Common.{List, [], ℕ, ◌<◌, Some, None, refl, sym, subst}
+use Rattle.std.proofs.Common.{List, [], ℕ, ◌<◌, IfErr, inl, option_map, Some, None, refl, sym, subst}
 use Rattle.norprog_common.specs.Chip.{origin_of}
 use Rattle.norprog_common.specs.FileStore.{Adds, AreTables, HasGone, IsTextIn, IsTextOfFile, LacksEarly, tables_name}
 use Rattle.norprog_common.specs.Served.{out_path}
@@ -10,9 +10,9 @@ use Rattle.norprog_common.proofs.StoreLemmas.{text_in}
 use Rattle.norprog_common.specs.Reading.{FailsReading, FailsScript, HasFailed, IsTextRead}
 use Rattle.norprog_common.proofs.ReadingLemmas.{fails_in, read_in}
 use Rattle.nor_base.proofs.FaultLaws.{handed_on}
-use Rattle.norprog_run.specs.Answer.{RefusesRun}
+use Rattle.norprog_run.specs.Answer.{HoldsRun, RefusesRun}
 use Rattle.norprog_run.specs.Served.{IsTaskOf, paths_of}
-use Rattle.norprog_run.proofs.ServedLemmas.{never, all_noted, asked_of, made_for, made_beside, named_made, none_made, all_played, all_refused, lacked_refused, out_lacks, verdicts_wider, refusals_wider}
+use Rattle.norprog_run.proofs.ServedLemmas.{never, all_noted, asked_of, made_for, made_beside, named_made, none_made, all_played, all_refused, lacked_refused, out_lacks, verdicts_wider, refusals_wider, holds_wider, none_holds}
 use Rattle.norprog_run.proofs.command.play_request.Goals as goal
 
 pub returns-clause-played : goal.returns-clause-played
@@ -125,3 +125,58 @@ returns-in_err-script-clause-refused g c =
     (lacked_refused Told files.broke (IsTaskOf files request) (IsTextIn files request.script.now) Failed Lost (HasGone files) why
     (lacks_early files (paths_of request) file.Out Nothing why (adds_none _ _ refl)
     (lacks_at files (paths_of request) file.Script request.script.now why refl c.in_err-script.ensures.refused c.in_err-script.ensures.lacked)))
+
+-- what the output holds at out of memory
+pub returns-clause-memory : goal.returns-clause-memory
+returns-clause-memory g c =
+    let files = g.S.FileStore.facts c.args.store.now in
+    let changes = g.S.Journal.Journal.changes in
+    none_holds files (option_map (λ t. t.now) c.args.request.out) (Adds (changes c.args.journal.now) (changes c.args.journal.now)) (IsTaskOf files c.args.request) c.play_file.result (adds_none _ _ refl)
+
+pub returns-in-Some-clause-memory : goal.returns-in-Some-clause-memory
+returns-in-Some-clause-memory g c =
+    let files = g.S.FileStore.facts c.args.store.now in
+    let request = c.args.request in
+    let changes = g.S.Journal.Journal.changes in
+    let Made = Adds (changes c.args.journal.now) (changes c.play_to.new.journal) in
+    let tables = subst (AreTables files (origin_of request.setup.chip)) (sym c.as_slice.ensures.value) c.in_ok-sfdp.ensures.tables in
+    let noted = all_noted files request _ _ _ _ _ _ c.in_ok-sfdp.ensures.noted c.in_ok-content.ensures.stood c.in_ok-push.ensures.items c.in_ok-script.ensures.stood c.in_ok-push-2.ensures.items in
+    let tasks = made_for files request c.in-Some.path.now _ c.setup_inputs-inputs.result request.bench _ _ c.in_ok-content.len c.setup_inputs-inputs.ensures refl tables
+    c.in_ok-content.ensures.opened (λ held made. made_beside files request c.in-Some.path _ _ _ held c.in-Some.is c.new-places.ensures.items noted c.as_slice-in-Some.ensures.value made) in
+    subst (λ s. IfErr c.play_to.result (HoldsRun files (option_map (λ t. t.now) s) Made (IsTaskOf files request))) (sym c.in-Some.is)
+    (holds_wider files (Some c.in-Some.path.now) Made _ (IsTaskOf files request) c.play_to.result tasks c.play_to.ensures.memory)
+
+pub returns-in_err-sfdp-clause-memory : goal.returns-in_err-sfdp-clause-memory
+returns-in_err-sfdp-clause-memory g c =
+    let files = g.S.FileStore.facts c.args.store.now in
+    let changes = g.S.Journal.Journal.changes in
+    let Made = Adds (changes c.args.journal.now) (changes c.args.journal.now) in
+    handed_on (HoldsRun files (option_map (λ t. t.now) c.args.request.out) Made (IsTaskOf files c.args.request)) _ _ c.from_residual.ensures.1 (λ memory. inl (inl (adds_none _ _ refl)))
+
+pub returns-in_err-content-clause-memory : goal.returns-in_err-content-clause-memory
+returns-in_err-content-clause-memory g c =
+    let files = g.S.FileStore.facts c.args.store.now in
+    let changes = g.S.Journal.Journal.changes in
+    let Made = Adds (changes c.args.journal.now) (changes c.args.journal.now) in
+    handed_on (HoldsRun files (option_map (λ t. t.now) c.args.request.out) Made (IsTaskOf files c.args.request)) _ _ c.from_residual-in_err-content.ensures.1 (λ memory. inl (inl (adds_none _ _ refl)))
+
+pub returns-in_err-push-clause-memory : goal.returns-in_err-push-clause-memory
+returns-in_err-push-clause-memory g c =
+    let files = g.S.FileStore.facts c.args.store.now in
+    let changes = g.S.Journal.Journal.changes in
+    let Made = Adds (changes c.args.journal.now) (changes c.args.journal.now) in
+    handed_on (HoldsRun files (option_map (λ t. t.now) c.args.request.out) Made (IsTaskOf files c.args.request)) _ _ c.from_residual-in_err-push.ensures.1 (λ memory. inl (inl (adds_none _ _ refl)))
+
+pub returns-in_err-script-clause-memory : goal.returns-in_err-script-clause-memory
+returns-in_err-script-clause-memory g c =
+    let files = g.S.FileStore.facts c.args.store.now in
+    let changes = g.S.Journal.Journal.changes in
+    let Made = Adds (changes c.args.journal.now) (changes c.args.journal.now) in
+    handed_on (HoldsRun files (option_map (λ t. t.now) c.args.request.out) Made (IsTaskOf files c.args.request)) _ _ c.from_residual-in_err-script.ensures.1 (λ memory. inl (inl (adds_none _ _ refl)))
+
+pub returns-in_err-push-2-clause-memory : goal.returns-in_err-push-2-clause-memory
+returns-in_err-push-2-clause-memory g c =
+    let files = g.S.FileStore.facts c.args.store.now in
+    let changes = g.S.Journal.Journal.changes in
+    let Made = Adds (changes c.args.journal.now) (changes c.args.journal.now) in
+    handed_on (HoldsRun files (option_map (λ t. t.now) c.args.request.out) Made (IsTaskOf files c.args.request)) _ _ c.from_residual-in_err-push-2.ensures.1 (λ memory. inl (inl (adds_none _ _ refl)))

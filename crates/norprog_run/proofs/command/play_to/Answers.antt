@@ -1,5 +1,5 @@
 -- What was played went out into the output, which was made first.
-use Rattle.std.proofs.Common.{[], ◌<◌, inr, refl, Some}
+use Rattle.std.proofs.Common.{[], ◌<◌, ap, inl, inr, refl, subst, Some}
 use Rattle.nor_base.proofs.FaultLaws.{handed_on}
 use Rattle.norprog_common.specs.FileStore.{Adds, HasGone, IsTextOfFile, LacksEarly}
 use Rattle.norprog_common.specs.Reading.{FailsScript, HasFailed, IsTextRead}
@@ -7,10 +7,10 @@ use Rattle.norprog_common.proofs.ReadingLemmas.{file_read}
 use Rattle.norprog_common.specs.Served.{out_path}
 use Rattle.norprog_common.specs.declared.faults.FileName.TheVariants.{Out}
 use Rattle.norprog_common.proofs.LackedLemmas.{lacks_at, lacks_output}
-use Rattle.norprog_common.proofs.StoreLemmas.{gone_out}
-use Rattle.norprog_run.specs.Answer.{RefusesRun}
+use Rattle.norprog_run.specs.Answer.{HoldsRun, RefusesRun}
 use Rattle.norprog_run.specs.Served.{IsMadeFor, play_with}
-use Rattle.norprog_run.proofs.ServedLemmas.{all_refused, file_broke, lacked_refused, one_played}
+use Rattle.norprog_run.proofs.ServedLemmas.{all_refused, file_broke, lacked_refused, not_written, one_played}
+use Rattle.norprog_common.proofs.ToldLemmas.{write_is_other}
 use Rattle.norprog_run.proofs.command.play_to.Goals as goal
 
 pub returns-in_err-verdict-clause-refused : goal.returns-in_err-verdict-clause-refused
@@ -27,10 +27,9 @@ returns-in_err-verdict-clause-refused g c =
     let Lost = FailsScript ahead Failed c.args.script in
     let before = g.S.Output.ByteOut.count c.in_ok-file.file in
     let after = g.S.Output.ByteOut.count c.play_file-played.new.out in
-    let gone = gone_out files _ c.flush-flushed.result c.flush-flushed.ensures.flushed c.flush-flushed.ensures.broke in
     let refused = all_refused Told (before < after) files.broke Asked Spoken Spoken Failed Lost Lost (HasGone files) t _ _ asked
     (file_broke files.broke before after c.flush-flushed.result c.flush-flushed.ensures.whole c.flush-flushed.ensures.broke)
-    (refl, gone) (λ text of. of) (λ failed. failed) c.play_file-played.result (c.play_file-played.ensures.refused (Some (g.S.Output.ByteOut.held c.in_ok-file.file))) in
+    (refl, inr c.flush-flushed.ensures.closed) (λ text of. of) (λ failed. failed) c.play_file-played.result (c.play_file-played.ensures.refused (Some (g.S.Output.ByteOut.held c.in_ok-file.file))) in
     handed_on (RefusesRun Told files.broke Asked Spoken Failed Lost (HasGone files)) _ _ c.from_residual-in_err-verdict.ensures.1
     (rw c.in_err-verdict.was at refused)
 
@@ -54,7 +53,7 @@ returns-in-Err-clause-refused g c =
     let asked : Asked t = record { held = _; made = c.in_ok-file.ensures.made; is = refl } in
     let played = rw c.in_ok-verdict.was at c.play_file-played.ensures.played in
     let broke = rw c.in-Err.is at c.flush-flushed.ensures.broke in
-    (inr (c.in_ok-verdict.verdict, one_played Asked Spoken (IsTextRead g.S.Input.ByteIn.ahead c.args.script) _ _ _ _ _ asked (λ text of. file_read g.S.Input.ByteIn.ahead c.args.script text of) _ _ (HasGone files) c.in_ok-verdict.verdict (refl, inr broke) played), broke)
+    (inr (c.in_ok-verdict.verdict, one_played Asked Spoken (IsTextRead g.S.Input.ByteIn.ahead c.args.script) _ _ _ _ _ asked (λ text of. file_read g.S.Input.ByteIn.ahead c.args.script text of) _ _ (HasGone files) c.in_ok-verdict.verdict (refl, inr c.flush-flushed.ensures.closed) played), broke)
 
 -- an output that couldn't be made is the one that its option names
 pub returns-in_err-file-clause-refused : goal.returns-in_err-file-clause-refused
@@ -73,3 +72,31 @@ returns-in_err-file-clause-refused g c =
     (lacked_refused Told files.broke Asked Spoken Failed Lost (HasGone files) c.in_err-file.field-0.0
     (lacks_output files paths Out Nothing c.in_err-file.field-0.0 c.in_err-file.ensures.refused
     (lacks_at files paths Out c.args.path.now c.in_err-file.field-0.0 refl c.in_err-file.ensures.refused c.in_err-file.ensures.lacked)))
+
+-- what the output holds at out of memory
+pub returns-in_err-file-clause-memory : goal.returns-in_err-file-clause-memory
+returns-in_err-file-clause-memory g c =
+    let files = g.S.FileStore.facts c.args.store.now in
+    let changes = g.S.Journal.Journal.changes in
+    let Asked = IsMadeFor files c.args.path.now c.args.places.now c.args.inputs.now c.args.bench (g.S.Input.ByteIn.ahead c.args.content.now) c.args.len in
+    handed_on (HoldsRun files (Some c.args.path.now) (Adds (changes c.args.journal.now) (changes c.create.new.journal)) Asked) _ _ c.from_residual.ensures.1
+    (λ memory. inl c.in_err-file.ensures.untaken)
+
+pub returns-in_err-verdict-clause-memory : goal.returns-in_err-verdict-clause-memory
+returns-in_err-verdict-clause-memory g c =
+    let files = g.S.FileStore.facts c.args.store.now in
+    let ahead = g.S.Input.ByteIn.ahead in
+    let changes = g.S.Journal.Journal.changes in
+    let Asked = IsMadeFor files c.args.path.now c.args.places.now c.args.inputs.now c.args.bench (ahead c.args.content.now) c.args.len in
+    let t = play_with c.args.inputs.now c.args.bench (ahead c.args.content.now) c.args.len (Some (g.S.Output.ByteOut.held c.in_ok-file.file)) in
+    let asked : Asked t = record { held = _; made = c.in_ok-file.ensures.made; is = refl } in
+    let unwritten = rw c.in_err-verdict.was at c.play_file-played.ensures.unwritten in
+    handed_on (HoldsRun files (Some c.args.path.now) (Adds (changes c.args.journal.now) (changes c.create.new.journal)) Asked) _ _ c.from_residual-in_err-verdict.ensures.1
+    (λ memory. inr (record {
+      it = t;
+      asked = asked;
+      has = subst (HasGone files) (ap g.S.Output.ByteOut.held (unwritten (not_written _ memory))) (inr c.flush-flushed.ensures.closed);
+    }))
+
+pub returns-in-Err-clause-memory : goal.returns-in-Err-clause-memory
+returns-in-Err-clause-memory g c = λ memory. absurd (write_is_other memory)

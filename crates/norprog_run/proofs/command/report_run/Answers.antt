@@ -5,6 +5,7 @@ use Rattle.norprog_common.specs.FileStore.{Adds, Breaks}
 use Rattle.norprog_common.specs.Reading.{HasFailed}
 use Rattle.norprog_run.specs.Answer.{RefusesToRun}
 use Rattle.norprog_run.proofs.ServedLemmas.{late_refused, rose, told_wider}
+use Rattle.norprog_common.proofs.ToldLemmas.{write_is_other}
 use Rattle.norprog_run.proofs.command.report_run.Goals as goal
 
 pub returns-in-Err-clause-first : goal.returns-in-Err-clause-first
@@ -24,3 +25,6 @@ returns-in_err-verdict-clause-first g c =
     let Nothing = Adds (changes c.args.journal.now) (changes c.verdict_of.new.journal) [] in
     handed_on (RefusesToRun files Failed c.args.given Nothing Broke) _ _ c.from_residual.ensures.1
     (told_wider files Failed c.args.given Nothing files.broke Broke (λ broke. inl broke) c.in_err-verdict.field-0.0 c.in_err-verdict.ensures.first)
+
+pub returns-in-Err-clause-memory : goal.returns-in-Err-clause-memory
+returns-in-Err-clause-memory g c = λ memory. absurd (write_is_other memory)

@@ -1,11 +1,11 @@
 -- What was written, or the refusal, is of what the texts ask for.
 use Rattle.std.proofs.Common.{rules, ◌≡◌, true, inl, inr, arith}
 use Rattle.nor_base.proofs.FaultLaws.{handed_on}
-use Rattle.norprog_common.specs.FileStore.{HasGone}
+use Rattle.norprog_common.specs.FileStore.{Adds, HasGone}
 use Rattle.norprog_common.proofs.ToldLemmas.{or_usage}
 use Rattle.norprog_script.specs.Request.{is_well_formed, AsksFor}
 use Rattle.norprog_script.specs.Served.{Serves}
-use Rattle.norprog_script.proofs.ServedLemmas.{gone, scripted_asked, refusal_asked}
+use Rattle.norprog_script.proofs.ServedLemmas.{gone, holds_asked, scripted_asked, refusal_asked}
 use Rattle.norprog_script.proofs.command.scripted_in.Goals as goal
 
 pub returns-in-Ok-clause-printed : goal.returns-in-Ok-clause-printed
@@ -44,3 +44,10 @@ returns-in-Err-clause-first g c =
     let late = gone (Serves files c.args.given) files.flushed (HasGone files) c.in_ok-tally.tally (λ held sent. inl sent)
     (scripted_asked files c.args.given c.in_ok-request.request files.flushed c.in_ok-tally.tally asks c.in_ok-tally.ensures.written) in
     or_usage _ _ _ formed (inr (c.in_ok-tally.tally, late), inr (omega (arith, c.in-Err.ensures.count)))
+
+pub returns-in_err-tally-clause-memory : goal.returns-in_err-tally-clause-memory
+returns-in_err-tally-clause-memory g c =
+    let files = g.S.FileStore.facts c.args.store.now in
+    let changes = g.S.Journal.Journal.changes in
+    let asks : AsksFor c.args.given c.in_ok-request.request = search rules in
+    handed_on _ _ _ c.from_residual-in_err-tally.ensures.1 (holds_asked files c.args.given c.in_ok-request.request (Adds (changes c.args.journal.now) (changes c.run_script.new.journal)) _ asks c.in_err-tally.ensures.memory)

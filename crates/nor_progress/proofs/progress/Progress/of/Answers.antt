@@ -9,7 +9,7 @@ loop-step-preserved c =
     let one : c.saturating_add-all_bytes.result ≡ capped (c.loop-step.all_bytes + bus_bytes c.step-item.result) = search rules in
     sum_more c.args.steps.now c.loop-step.step-index c.loop-step.all_bytes _ c.step-item.result c.loop-step-test.true c.step-item.is c.loop-step.invariant one
 
-pub returns : goal.returns
-returns c =
+pub returns-clause-none : goal.returns-clause-none
+returns-clause-none c =
     let all = sum_to_end c.args.steps.now c.loop-step.step-index c.loop-step.all_bytes (omega (arith, c.loop-step-test.false)) c.loop-step.invariant in
     cc
