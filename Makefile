@@ -1,6 +1,6 @@
 # README.md says what try, build and install are for, CONTRIBUTING.md the others.
 
-.PHONY: build try demo check test hooks edits refusals peers wire docs-check dist install uninstall
+.PHONY: build try check test hooks edits refusals peers wire docs-check dist install uninstall
 
 # the sample job of one byte, for the program in crates/norprog_cli
 job = build --hex data/one.hex --uniform 8192 --content data/chip.bin --out
@@ -59,9 +59,6 @@ try:
 	@dir=$$(mktemp -d) && cd crates/norprog_cli && rt try -- build --sfdp data/sfdp.bin --layout data/chip.layout \
 		--hex data/config.hex --content data/held.bin --verify --out $$dir/config.script config && cut -c 1-120 $$dir/config.script; \
 	status=$$?; rm -rf "$$dir"; exit $$status
-
-# the old name of try; the next version drops it
-demo: try
 
 # runs each command of README.md and docs/GUIDE.md by the program that was built, and compares what it prints
 docs-check:

@@ -1,19 +1,19 @@
 -- The job of a request is the one that the texts ask for.
 use Rattle.std.proofs.Common.{◌≡◌, ◌∙◌, ap, sym, subst, inl, inr, Bool, true, is_some, option_map, Option, Some, IfSome, List, ℕ}
 use Rattle.nor_base.specs.Device.{Ahead}
-use Rattle.norprog_common.specs.FileStore.{FileFacts, Change, HasGone, LacksEarly, TookNothing}
+use Rattle.norprog_common.specs.FileStore.{FileFacts, Change, HasGone, LacksEarly, MayRead, TookNothing}
 use Rattle.norprog_common.specs.declared.given.BuildArgs.{BuildArgs}
 use Rattle.norprog_common.specs.declared.request.Request.{Request}
 use Rattle.norprog_build.specs.Served.{asks_build, ServesBuild}
 use Rattle.norprog_common.specs.Request.{is_well_formed, AsksFor}
-use Rattle.norprog_common.specs.Served.{Job, IsJobOf, out_path, paths_asked, paths_of}
+use Rattle.norprog_common.specs.Served.{Job, IsJobOf, no_path, out_path, paths_asked, paths_of}
 use Rattle.norprog_common.specs.Strict.{Filled}
 use Rattle.norprog_common.specs.declared.faults.FileName.{FileName}
 use Rattle.norprog_common.specs.declared.faults.FileName.TheVariants.{Out}
 use Rattle.norprog_common.specs.declared.faults.Refusal.{Refusal}
 use Rattle.norprog_build.specs.Answer.{HoldsBuild, IsBegunBuild, RefusesBuild}
 use Rattle.norprog_build.proofs.AnswerLemmas.{begun_wider, build_wider}
-use Rattle.norprog_common.proofs.LackedLemmas.{early_same, paths_are}
+use Rattle.norprog_common.proofs.LackedLemmas.{early_same, may_same, paths_are}
 use Rattle.norprog_common.proofs.ServedLemmas.{serves, asks_of, both, is_formed, is_named}
 
 pub build_serves : (files : FileFacts) (given : BuildArgs) (o : Option Request) (request : Request) (path : List ℕ) → o ≡ Some request → IfSome o (AsksFor given.job)
@@ -33,6 +33,12 @@ same_files : (files : FileFacts) (given : BuildArgs) (Nothing : Type 0) (o : Opt
 same_files files given Nothing o request path some asks out =
     early_same files (paths_of request (out_path (Some path))) (paths_asked given.job (out_path (option_map (λ t. t.now) given.out))) Out Nothing
     (paths_are given.job request (out_path (Some path)) (asks_of given.job o request some asks) ∙ ap (λ (named : Option (List ℕ)). paths_asked given.job (out_path named)) (sym out))
+
+-- the files that the texts name may be read, so those of a request may
+pub build_may : (files : FileFacts) (given : BuildArgs) (o : Option Request) (request : Request) → o ≡ Some request → IfSome o (AsksFor given.job)
+    → MayRead files (paths_asked given.job no_path) → MayRead files (paths_of request no_path)
+build_may files given o request some asks =
+    may_same files (paths_asked given.job no_path) (paths_of request no_path) (sym (paths_are given.job request no_path (asks_of given.job o request some asks)))
 
 pub build_refused : (files : FileFacts) (Failed : Ahead → Type 0) (given : BuildArgs) (Broke Nothing : Type 0) (o : Option Request) (request : Request) (path : List ℕ) → (files.broke → Broke) → o ≡ Some request
     → IfSome o (AsksFor given.job) → option_map (λ t. t.now) given.out ≡ Some path → (why : Refusal)

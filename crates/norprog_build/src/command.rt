@@ -8,10 +8,11 @@ ghost use Rattle.norprog_build.specs.Served.{asks_build, ServesBuild};
 ghost use Rattle.norprog_build.specs.Answer.{IsBuildReport, RefusesBuild, PrintsReport, CutsReport};
 ghost use Rattle.norprog_build.specs.Answer.{AnswersBuild, HoldsBuild, done};
 ghost use Rattle.norprog_common.specs.FileStore.{Adds, Breaks, HasGone, LacksEarly, MakesIf};
+ghost use Rattle.norprog_common.specs.FileStore.{MayRead};
 ghost use Rattle.norprog_common.specs.declared.faults.FileName.TheVariants.{Out};
 ghost use Rattle.norprog_common.specs.Reading.{HasFailed};
 ghost use Rattle.norprog_common.specs.Served.{IsJobOf, MakesFor, MayMakeFor, input_files_of};
-ghost use Rattle.norprog_common.specs.Served.{out_path, paths_asked, paths_of};
+ghost use Rattle.norprog_common.specs.Served.{no_path, out_path, paths_asked, paths_of};
 ghost use Rattle.norprog_common.specs.Strict.{Filled};
 
 use nor_base::{ByteOut, Failed};
@@ -35,6 +36,7 @@ pub fn build<S: FileStore, O: ByteOut, E: ByteOut>(
 ) -> u8
     requires out { O.count out.old < 2 ^ 64 - 1 }
     requires err { E.count err.old < 2 ^ 64 - 1 }
+    requires read { MayRead (S.facts store.now) (paths_asked given.job no_path) }
     ensures status { result ≤ 2 }
     ensures quiet { result ≡ 0 → err.new ≡ err.old }
     ensures answer { AnswersBuild (S.facts store.now) (HasFailed S.Input.ahead S.Input.count)
@@ -55,7 +57,8 @@ fn report_build<S: FileStore, O: ByteOut>(
     given: BuildArgs<'_>,
     out: &mut O,
 ) -> Result<u8, Refusal>
-    requires { O.count out.old < 2 ^ 64 - 1 }
+    requires out { O.count out.old < 2 ^ 64 - 1 }
+    requires read { MayRead (S.facts store.now) (paths_asked given.job no_path) }
     ensures done { IfOk result (λ status. (status ≡ 0) × (asks_build given.entry ≡ true)) }
     ensures journal { MatchResult result
         (λ _. MakesFor (S.facts store.now) given.entry.job
@@ -81,9 +84,8 @@ fn report_build<S: FileStore, O: ByteOut>(
         (Adds (S.Journal.changes journal.old) (S.Journal.changes journal.new) []))
         (Breaks (S.facts store.now) (O.count out.old) (O.count out.new))
         (HasGone (S.facts store.now)) (HasFailed S.Input.ahead S.Input.count)
-        (ServesBuild (S.facts store.now) given.entry))) }
-    ensures memory { IfErr result
-        (HoldsBuild (S.facts store.now) (option_map (λ t. t.now) given.entry.out)
+        (ServesBuild (S.facts store.now) given.entry)))
+        × IfErr result (HoldsBuild (S.facts store.now) (option_map (λ t. t.now) given.entry.out)
         (Adds (S.Journal.changes journal.old) (S.Journal.changes journal.new))
         given.entry.job.strict (HasFailed S.Input.ahead S.Input.count)
         (ServesBuild (S.facts store.now) given.entry)) }
@@ -105,6 +107,7 @@ fn run_build<S: FileStore>(
     request: &Request<'_>,
     path: &str,
 ) -> Result<Report, Refusal>
+    requires read { MayRead (S.facts store.now) (paths_of request.now no_path) }
     ensures journal { MakesIf (S.facts store.now) (input_files_of request.now) (Some path.now)
         (Adds (S.Journal.changes journal.old) (S.Journal.changes journal.new)) result }
     ensures built { IfOk result

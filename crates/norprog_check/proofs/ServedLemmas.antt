@@ -1,6 +1,6 @@
 -- The job of a request is the one that the texts ask for, and so is the script.
-use Rattle.std.proofs.Common.{◌≡◌, ◌∙◌, Bool, refl, sym, subst, true, inl, inr, is_some, option_map, Option, Some, None, IfSome, List, ℕ}
-use Rattle.norprog_common.specs.FileStore.{FileFacts, IsTextIn, Lacks, Named}
+use Rattle.std.proofs.Common.{◌≡◌, ◌∙◌, ap, Bool, refl, sym, subst, true, inl, inr, is_some, option_map, Option, Some, None, IfSome, List, ℕ}
+use Rattle.norprog_common.specs.FileStore.{FileFacts, IsTextIn, Lacks, MayRead, Named}
 use Rattle.norprog_common.specs.declared.given.CheckArgs.{CheckArgs}
 use Rattle.norprog_common.specs.declared.request.Request.{Request}
 use Rattle.norprog_check.specs.Served.{asks_check, check_paths, FailsScriptOf, ServesCheck, ServesScript}
@@ -14,7 +14,7 @@ use Rattle.norprog_common.specs.declared.faults.FileName.{FileName}
 use Rattle.norprog_common.specs.declared.faults.Refusal.{Refusal}
 use Rattle.norprog_check.specs.Answer.{RefusesAsked}
 use Rattle.norprog_check.proofs.AnswerLemmas.{asked_wider_check}
-use Rattle.norprog_common.proofs.LackedLemmas.{lacks_same, paths_are}
+use Rattle.norprog_common.proofs.LackedLemmas.{lacks_same, may_same, paths_are}
 use Rattle.norprog_common.proofs.ServedLemmas.{serves, asks_of, both, is_formed, is_named}
 
 pub check_serves : (files : FileFacts) (given : CheckArgs) (o : Option Request) (request : Request) → o ≡ Some request → IfSome o (AsksFor given.job)
@@ -37,6 +37,14 @@ check_lacks : (files : FileFacts) (given : CheckArgs) (request : Request) (path 
 check_lacks files given request path asks script told lacks =
     subst (λ (o : Option (List ℕ)). Lacks files (paths_asked given.job (script_path o)) told) (sym script)
     (lacks_same files _ _ (paths_are given.job request (script_path (Some path)) asks) told lacks)
+
+-- the files that the texts name may be read, so those of a request may
+pub check_may : (files : FileFacts) (given : CheckArgs) (o : Option Request) (request : Request) (path : List ℕ) → o ≡ Some request → IfSome o (AsksFor given.job)
+    → option_map (λ t. t.now) given.script ≡ Some path → MayRead files (check_paths given) → MayRead files (paths_of request (script_path (Some path)))
+check_may files given o request path some asks script =
+    may_same files (check_paths given) (paths_of request (script_path (Some path)))
+    (ap (λ (named : Option (List ℕ)). paths_asked given.job (script_path named)) script
+    ∙ sym (paths_are given.job request (script_path (Some path)) (asks_of given.job o request some asks)))
 
 pub check_refused : (files : FileFacts) (given : CheckArgs) (o : Option Request) (request : Request) (path : List ℕ) → o ≡ Some request → IfSome o (AsksFor given.job)
     → option_map (λ t. t.now) given.script ≡ Some path → (Failed : Ahead → Type 0) (Broke : Type 0) (why : Refusal)

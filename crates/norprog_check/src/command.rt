@@ -4,6 +4,7 @@ ghost use Rattle.std.specs.Prelude.{◌≡◌, ◌<◌, ◌≤◌, ◌-◌, ◌^
 ghost use Rattle.std.specs.Io.KnownBytes.{Appends};
 ghost use Rattle.norprog_check.specs.Line.{finding_text};
 ghost use Rattle.norprog_common.specs.FileStore.{DoNotFail, IsTextIn, IsTextOfFile, Lacks};
+ghost use Rattle.norprog_common.specs.FileStore.{MayRead};
 ghost use Rattle.norprog_common.specs.declared.faults.FileName.TheVariants.{Script};
 ghost use Rattle.norprog_common.specs.Told.{OrScript, OrUsage};
 ghost use Rattle.norprog_check.specs.Served.{asks_check, check_paths, FailsScriptOf};
@@ -43,6 +44,7 @@ pub fn check<S: FileStore, O: ByteOut, E: ByteOut>(
 ) -> u8
     requires out { O.count out.old < 2 ^ 64 - 1 }
     requires err { E.count err.old < 2 ^ 64 - 1 }
+    requires read { MayRead (S.facts store.now) (check_paths given) }
     ensures status { result ≤ 2 }
     ensures quiet { result ≡ 0 → err.new ≡ err.old }
     ensures answer { AnswersCheck (S.facts store.now) (HasFailed S.Input.ahead S.Input.count)
@@ -73,11 +75,13 @@ fn report_check<S: FileStore, O: ByteOut>(
     given: CheckArgs<'_>,
     out: &mut O,
 ) -> Result<Finding, Refusal>
-    requires { O.count out.old < 2 ^ 64 - 1 }
+    requires out { O.count out.old < 2 ^ 64 - 1 }
+    requires read { MayRead (S.facts store.now) (check_paths given) }
     ensures checked { IfOk result
         (IsCheckFinding (Filled given.entry.job.strict
         (ServesCheck (S.facts store.now) given.entry))
-        (ServesScript (S.facts store.now) given.entry)) }
+        (ServesScript (S.facts store.now) given.entry))
+        × IfOk result (λ _. asks_check given.entry ≡ true) }
     ensures printed { IfOk result
         (λ found. Appends (O.held out.old) (O.held out.new)
         (finding_text given.entry.witness found)) }
@@ -85,7 +89,6 @@ fn report_check<S: FileStore, O: ByteOut>(
         (λ _. CutsVerdict given.entry.witness
         (Filled given.entry.job.strict (ServesCheck (S.facts store.now) given.entry))
         (ServesScript (S.facts store.now) given.entry) (O.held out.old) (O.held out.new)) }
-    ensures asked { IfOk result (λ _. asks_check given.entry ≡ true) }
     ensures first { IfErr result
         (OrUsage (asks_check given.entry)
         (RefusesAsked given.entry.job.strict
@@ -112,6 +115,8 @@ fn run_check<S: FileStore>(
     request: &Request<'_>,
     path: &str,
 ) -> Result<Finding, Refusal>
+    requires read { MayRead (S.facts store.now)
+        (paths_of request.now (script_path (Some path.now))) }
     ensures checked { IfOk result
         (IsCheckFinding (Filled request.now.strict (IsJobOf (S.facts store.now) request.now None))
         (IsTextIn (S.facts store.now) path.now)) }

@@ -22,6 +22,7 @@ ghost use Rattle.norprog_common.specs.FileStore.{Adds};
 ghost use Rattle.norprog_common.specs.Reading.{HasFailed};
 ghost use Rattle.norprog_cli.specs.Answers.{AnswersTo, AnswersWords, AddsDetails, AddsLines};
 ghost use Rattle.norprog_cli.specs.Answers.{EndsCommand, EndsGathered, one_more};
+ghost use Rattle.norprog_cli.specs.Reads.{MayReadAsked, MayReadDetails, MayReadLine, MayReadWords};
 
 use nor_base::{ByteOut, Failed, IntoWrite, Nowhere};
 use norprog_build::build;
@@ -85,6 +86,7 @@ fn command_gathered<S: FileStore, W: Write + Drop, E: ByteOut + Drop, P: ByteOut
     err: &mut Heard<E>,
     progress: &mut P,
 ) -> u8
+    requires read { MayReadWords (S.facts store.now) (map string_bytes words.items) }
     requires err { E.count err.old.out < 2 ^ 64 - 1 }
     requires progress { P.count progress.old < 2 ^ 64 - 1 }
     ensures { EndsGathered ⟦<Heard<E> as ByteOut>⟧.count ⟦<Heard<E> as ByteOut>⟧.held
@@ -117,6 +119,7 @@ fn command_flushed<S: FileStore, W: Write + Drop, E: ByteOut + Drop, P: ByteOut>
     err: &mut Heard<E>,
     progress: &mut P,
 ) -> u8
+    requires read { MayReadWords (S.facts store.now) (map string_bytes words.items) }
     requires out { out.old.failed < 2 ^ 64 - 2 }
     requires err { E.count err.old.out < 2 ^ 64 - 1 }
     requires progress { P.count progress.old < 2 ^ 64 - 1 }
@@ -192,6 +195,7 @@ fn command<S: FileStore, O: ByteOut, E: ByteOut + Drop, P: ByteOut>(
     err: &mut Heard<E>,
     progress: &mut P,
 ) -> u8
+    requires read { MayReadWords (S.facts store.now) (map string_bytes words.items) }
     requires out { O.count out.old < 2 ^ 64 - 2 }
     requires err { E.count err.old.out < 2 ^ 64 - 1 }
     requires progress { P.count progress.old < 2 ^ 64 - 1 }
@@ -227,6 +231,7 @@ fn add_details<S: FileStore, E: ByteOut + Drop>(
     status: u8,
     err: &mut Heard<E>,
 )
+    requires { MayReadDetails (S.facts store.now) details }
     ensures { AddsDetails ⟦<Heard<E> as ByteOut>⟧.count ⟦<Heard<E> as ByteOut>⟧.held
         (S.facts store.now) details.entry status err.old err.new }
 {
@@ -245,6 +250,7 @@ fn add_lines<S: FileStore, E: ByteOut + Drop>(
     typed: TypedLine<'_>,
     err: &mut Heard<E>,
 )
+    requires { MayReadLine (S.facts store.now) typed }
     ensures { AddsLines ⟦<Heard<E> as ByteOut>⟧.count ⟦<Heard<E> as ByteOut>⟧.held
         (S.facts store.now) typed.entry err.old err.new }
 {
@@ -265,6 +271,7 @@ fn answer_to<S: FileStore, O: ByteOut, E: ByteOut, P: ByteOut>(
     err: &mut E,
     progress: &mut P,
 ) -> u8
+    requires read { MayReadAsked (S.facts store.now) asked }
     requires out { O.count out.old < 2 ^ 64 - 2 }
     requires err { E.count err.old < 2 ^ 64 - 1 }
     requires progress { P.count progress.old < 2 ^ 64 - 1 }

@@ -9,7 +9,7 @@ use Rattle.norprog_common.specs.declared.given.Given.{Given}
 use Rattle.norprog_common.specs.declared.request.Request.{Request}
 use Rattle.norprog_common.specs.Chip.{Origin, Uniform, origin_of, chosen_origin}
 use Rattle.norprog_common.specs.Files.{RefusesFile, TellsFile}
-use Rattle.norprog_common.specs.FileStore.{FileFacts, Lacks, LacksEarly, LacksNamed, tables_name}
+use Rattle.norprog_common.specs.FileStore.{FileFacts, Lacks, LacksEarly, LacksNamed, MayRead, MayReadNamed, tables_name}
 use Rattle.norprog_common.specs.Request.{AsksFor}
 use Rattle.norprog_common.specs.Served.{job_paths, paths_of, paths_asked, no_path}
 use Rattle.norprog_common.specs.Values.{decimal_of}
@@ -138,3 +138,29 @@ paths_are given request own asks =
     let tables = tables_named (option_map (λ t. t.now) given.sfdp) (option_map (λ t. t.now) given.uniform) (option_map (λ t. t.now) given.bits)
     (origin_of request.chip) asks.chip in
     rw (asks.hex, sym asks.layout, asks.content, tables) refl
+
+-- a file that may be read by the option that names it
+pub may_at : (files : FileFacts) (named : Option (List ℕ)) (name : List ℕ) → named ≡ Some name → MayReadNamed files named → files.may name
+may_at files named name is may = may name is
+
+-- the same files may be read by the same names
+pub may_same : (files : FileFacts) (paths others : FileName → Option (List ℕ)) → Path (FileName → Option (List ℕ)) paths others
+    → MayRead files paths → MayRead files others
+may_same files paths others same may = subst (λ (ps : FileName → Option (List ℕ)). MayRead files ps) same may
+
+-- those of a job may, where those of a command with more files may
+pub may_job : (files : FileFacts) (hex layout tables content : Option (List ℕ)) (own : FileName → Option (List ℕ))
+    → MayRead files (job_paths hex layout tables content own) → MayRead files (job_paths hex layout tables content no_path)
+may_job files hex layout tables content own may name.Hex = may name.Hex
+may_job files hex layout tables content own may name.Layout = may name.Layout
+may_job files hex layout tables content own may name.Sfdp = may name.Sfdp
+may_job files hex layout tables content own may name.Content = may name.Content
+may_job files hex layout tables content own may name.Script = λ path is. let none : Path (Option (List ℕ)) None (Some path) = is in cc
+may_job files hex layout tables content own may name.Out = λ path is. let none : Path (Option (List ℕ)) None (Some path) = is in cc
+may_job files hex layout tables content own may name.Map = λ path is. let none : Path (Option (List ℕ)) None (Some path) = is in cc
+may_job files hex layout tables content own may name.Device = λ path is. let none : Path (Option (List ℕ)) None (Some path) = is in cc
+may_job files hex layout tables content own may name.Bin = λ path is. let none : Path (Option (List ℕ)) None (Some path) = is in cc
+may_job files hex layout tables content own may name.Tables = λ path is. let none : Path (Option (List ℕ)) None (Some path) = is in cc
+may_job files hex layout tables content own may name.Before = λ path is. let none : Path (Option (List ℕ)) None (Some path) = is in cc
+may_job files hex layout tables content own may name.Resume = λ path is. let none : Path (Option (List ℕ)) None (Some path) = is in cc
+may_job files hex layout tables content own may name.Log = λ path is. let none : Path (Option (List ℕ)) None (Some path) = is in cc

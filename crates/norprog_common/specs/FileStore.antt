@@ -4,11 +4,12 @@ use Rattle.nor_base.specs.Device.{Ahead}
 use Rattle.nor_script.specs.Stream.{IsTextOf}
 use Rattle.norprog_common.specs.Chip.{Origin, Sfdp, Uniform}
 use Rattle.norprog_common.specs.declared.faults.FileName.{FileName}
+use Rattle.norprog_common.specs.declared.faults.FileName.TheVariants.{Out, Map, Device, Tables, Before}
 use Rattle.norprog_common.specs.declared.files.FileId.{FileId}
 use Rattle.norprog_common.specs.declared.files.ScriptFile.{ScriptFile}
 use Rattle.norprog_common.specs.declared.files.ScriptFile.TheVariants.{Twice, Held}
 
--- what is known of files, each by its name. `gave`: the file gave these bytes, read whole. `opened`: it was opened, this is ahead
+-- what is known of files, each by its name. `may`: a file of this name may be opened to be read. `gave`: the file gave these bytes, read whole. `opened`: it was opened, this is ahead
 -- of its reader, and this is its length in bytes. `stood`: it was opened, and stood at this place. `made`: it was made, or emptied,
 -- at none of these places, and held this then. `fresh`: no file of this name was there, and the one that was made held this.
 -- `emptied`: an output of this name was to be made and can't be used; it may be there, or may have been emptied, and took nothing.
@@ -18,6 +19,7 @@ use Rattle.norprog_common.specs.declared.files.ScriptFile.TheVariants.{Twice, He
 -- yet to give, and had taken this, where that is known. `left`: a device that was opened took nothing after this. `broke`: an output
 -- that was made failed, or some of what it had taken may not have gone out
 pub record FileFacts : Type 1 where
+  pub may : List ℕ → Type 0
   pub gave : List ℕ → List ℕ → Type 0
   pub opened : List ℕ → Ahead → ℕ → Type 0
   pub stood : List ℕ → FileId → Type 0
@@ -34,6 +36,7 @@ pub record FileFacts : Type 1 where
 -- of the system's files nothing is known
 abbrev pub nothing_known : FileFacts
 nothing_known = record {
+  may = λ name. ⊤;
   gave = λ name bytes. ⊤;
   opened = λ name ahead len. ⊤;
   stood = λ name place. ⊤;
@@ -47,6 +50,23 @@ nothing_known = record {
   left = λ contents. ⊤;
   broke = ⊤;
 }
+
+-- the file that this option names, if it names one, may be opened to be read
+abbrev pub MayReadNamed : FileFacts → Option (List ℕ) → Type 0
+MayReadNamed files named = (name : List ℕ) → named ≡ Some name → files.may name
+
+-- of the names that options give, those of files that are read; a device and what is made are none
+abbrev pub read_paths : (FileName → Option (List ℕ)) → FileName → Option (List ℕ)
+read_paths paths Out = None
+read_paths paths Map = None
+read_paths paths Device = None
+read_paths paths Tables = None
+read_paths paths Before = None
+read_paths paths other = paths other
+
+-- each file that is read by the name that its option gives may be opened to be read
+abbrev pub MayRead : FileFacts → (FileName → Option (List ℕ)) → Type 0
+MayRead files paths = (told : FileName) → MayReadNamed files (read_paths paths told)
 
 -- what was done to a file or a device. `Emptied`: an output of this name was made, or emptied, as none of the files at these places.
 -- `Created`: a file of this name was made where none was. `Opened`: the device of this name was opened to be written to

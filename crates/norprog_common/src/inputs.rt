@@ -3,7 +3,8 @@
 ghost use Rattle.std.specs.Prelude.{◌≡◌, [], ◌∷◌, IfOk, IfErr, option_map, option_to_list};
 ghost use Rattle.norprog_common.specs.declared.faults.FileName.TheVariants.{Layout};
 ghost use Rattle.norprog_common.specs.Files.{RefusesFile, TellsFile};
-ghost use Rattle.norprog_common.specs.FileStore.{Lacks, LacksNamed, Notes, WhereNamed};
+ghost use Rattle.norprog_common.specs.FileStore.{Lacks, LacksNamed, MayRead, MayReadNamed};
+ghost use Rattle.norprog_common.specs.FileStore.{Notes, WhereNamed};
 ghost use Rattle.norprog_common.specs.Served.{task_by, held_in, no_path, paths_of};
 ghost use Rattle.norprog_common.specs.Served.{text_files_of, AreGiven};
 
@@ -31,6 +32,7 @@ pub(crate) fn read_texts<S: FileStore>(
     request: &Request<'_>,
     places: &mut Vec<FileId>,
 ) -> Result<Texts, Refusal>
+    requires { MayRead (S.facts store.now) (paths_of request.now no_path) }
     ensures given { IfOk result
         (λ texts. AreGiven (S.facts store.now) request.now (held_in texts)) }
     ensures noted { IfOk result
@@ -52,6 +54,7 @@ fn read_layout<S: FileStore>(
     path: Option<&str>,
     places: &mut Vec<FileId>,
 ) -> Result<Option<Vec<u8>>, Refusal>
+    requires { MayReadNamed (S.facts store.now) (option_map (λ t. t.now) path) }
     ensures gave { IfOk result
         (λ bytes. WhereNamed (S.facts store.now).gave (option_map (λ t. t.now) path.entry)
         (option_map (λ held. held.items) bytes)) }
@@ -76,6 +79,7 @@ fn read_noted<S: FileStore>(
     name: FileName,
     places: &mut Vec<FileId>,
 ) -> Result<Vec<u8>, Refusal>
+    requires { (S.facts store.now).may path.now }
     ensures gave { IfOk result (λ bytes. (S.facts store.now).gave path.now bytes.items) }
     ensures noted { IfOk result
         (λ _. Notes (S.facts store.now) (path.now ∷ []) places.old.items places.new.items) }

@@ -2,7 +2,7 @@
 
 ghost use Rattle.std.specs.Prelude.{◌≡◌, IfOk, IfErr};
 ghost use Rattle.norprog_common.specs.Files.{TellsFile};
-ghost use Rattle.norprog_common.specs.FileStore.{Lacks, Notes};
+ghost use Rattle.norprog_common.specs.FileStore.{Lacks, MayRead, Notes};
 ghost use Rattle.norprog_common.specs.Served.{held_in, input_files_of, no_path, paths_of, AreGiven};
 
 use crate::faults::{FileName, Refusal};
@@ -20,6 +20,7 @@ pub fn open_job<S: FileStore>(
     request: &Request<'_>,
     places: &mut Vec<FileId>,
 ) -> Result<(Texts, S::Input, u64), Refusal>
+    requires { MayRead (S.facts store.now) (paths_of request.now no_path) }
     ensures given { IfOk result (λ job. AreGiven (S.facts store.now) request.now (held_in job.0)) }
     ensures content { IfOk result
         (λ job. (S.facts store.now).opened request.now.content.now (S.Input.ahead job.1) job.2) }

@@ -6,7 +6,8 @@ ghost use Rattle.norprog_common.specs.Chip.{origin_of};
 ghost use Rattle.norprog_common.specs.declared.faults.FileName.TheVariants.{Device, Script, Sfdp};
 ghost use Rattle.norprog_common.specs.Files.{RefusesFile, TellsFile};
 ghost use Rattle.norprog_common.specs.FileStore.{AreTables, FileFacts, IsOfScript, DoNotFail};
-ghost use Rattle.norprog_common.specs.FileStore.{LacksNamed, Notes, tables_file, tables_name};
+ghost use Rattle.norprog_common.specs.FileStore.{LacksNamed, MayReadNamed, Notes};
+ghost use Rattle.norprog_common.specs.FileStore.{tables_file, tables_name};
 ghost use Rattle.norprog_common.specs.FileStore.{Adds, Change, Created, Emptied, Opened, Tries};
 ghost use Rattle.norprog_common.specs.FileStore.{TookNothing};
 
@@ -50,6 +51,7 @@ pub trait FileStore {
     /// Where it can't be opened, is a folder or has more bytes, and where a read fails, `File` of
     /// `name`; `Memory` where a growth is refused.
     fn read(&self, alloc: Global, path: &str, name: FileName) -> Result<(Vec<u8>, FileId), Refusal>
+        requires { (facts self.now).may path.now }
         ensures gave { IfOk result (λ read. (facts self.now).gave path.now read.0.items) }
         ensures stood { IfOk result (λ read. (facts self.now).stood path.now read.1) }
         ensures length { IfOk result (λ read. length read.0.items ≤ 2 ^ 36) }
@@ -61,6 +63,7 @@ pub trait FileStore {
     /// Where it can't be opened or asked, and where it is a folder, `File` of `name`; `Memory`
     /// where the system says that it lacks that.
     fn open(&self, path: &str, name: FileName) -> Result<(Self::Input, FileId, u64), Refusal>
+        requires { (facts self.now).may path.now }
         ensures opened { IfOk result (λ file.
             (facts self.now).opened path.now (Self.Input.ahead file.0) file.2) }
         ensures stood { IfOk result (λ file. (facts self.now).stood path.now file.1) }
@@ -78,6 +81,7 @@ pub trait FileStore {
         alloc: Global,
         path: &str,
     ) -> Result<(ScriptFile<Self::Input>, FileId), Refusal>
+        requires { (facts self.now).may path.now }
         ensures script { IfOk result (λ script.
             IsOfScript (facts self.now) path.now Self.Input.ahead script.0) }
         ensures stood { IfOk result (λ script. (facts self.now).stood path.now script.1) }
@@ -171,7 +175,9 @@ pub trait FileStore {
 
     /// Why the system doesn't open a file to be read, in its words. Nothing but a regular file is
     /// opened for that, and none is changed. None where it opens it or memory runs out.
-    fn trouble(&self, alloc: Global, path: &str) -> Option<String> {
+    fn trouble(&self, alloc: Global, path: &str) -> Option<String>
+        requires { (facts self.now).may path.now }
+    {
         let _ = alloc;
         let _ = path;
         None
@@ -182,6 +188,7 @@ pub trait FileStore {
 ///
 /// `File` of `Sfdp` and `Memory`, as [`FileStore::read`] answers them.
 pub fn tables_of<S: FileStore>(alloc: Global, store: &S, chip: Chip<'_>) -> Result<Vec<u8>, Refusal>
+    requires { MayReadNamed (S.facts store.now) (tables_name (origin_of chip)) }
     ensures tables { IfOk result
         (λ tables. AreTables (S.facts store.now) (origin_of chip.entry) tables.items) }
     ensures refused { IfErr result (RefusesFile Sfdp) }
@@ -203,6 +210,7 @@ pub fn noted_tables<S: FileStore>(
     chip: Chip<'_>,
     places: &mut Vec<FileId>,
 ) -> Result<Vec<u8>, Refusal>
+    requires { MayReadNamed (S.facts store.now) (tables_name (origin_of chip)) }
     ensures tables { IfOk result
         (λ tables. AreTables (S.facts store.now) (origin_of chip.entry) tables.items) }
     ensures noted { IfOk result

@@ -1,7 +1,7 @@
 -- What is written after the line of a refusal (this project's; docs/FORMATS.md, section 9).
 use Rattle.std.specs.Prelude.{◌≡◌, ◌⊎◌, ℕ, Bool, true, false, nat_eq, if◌then◌else◌, List, [], ◌∷◌, ◌++◌, length, drop, map, codes, Option, Some, None, Result}
 use Rattle.std.specs.Io.KnownBytes.{Appends}
-use Rattle.std.specs.List.{starts_with}
+use Rattle.std.specs.List.{starts_with, Contains}
 use Rattle.std.specs.Str.{bytes_eq}
 use Rattle.nor_base.specs.Device.{Writes}
 use Rattle.nor_base.specs.Script.{closed}
@@ -10,6 +10,8 @@ use Rattle.norprog_common.specs.FileStore.{FileFacts}
 use Rattle.norprog_explain.specs.Explained.{topic_text}
 use Rattle.norprog_explain.specs.Topics.{topics}
 use Rattle.norprog_details.specs.declared.typed.CommandLine.{CommandLine}
+use Rattle.norprog_details.specs.declared.typed.Typed.{Typed}
+use Rattle.norprog_details.specs.Form.{is_one_of}
 use Rattle.norprog_details.specs.Passage.{passage_line, passage_of}
 use Rattle.norprog_details.specs.Seems.{advice_line}
 use Rattle.norprog_details.specs.Subject.{option_of, region_of}
@@ -43,6 +45,19 @@ text_lines option refusal text = passage_lines (passage_of refusal text) ++ advi
 -- all that is said of an option, by what the system says of its file, what that gave, and the chosen regions
 abbrev pub about_lines : List ℕ × List ℕ → Option (List ℕ) → List ℕ → List (List ℕ) → List ℕ → List ℕ
 about_lines option trouble text names refusal = option_line option trouble ++ (region_line names refusal ++ text_lines option refusal text)
+
+-- the options whose value is a file that may be opened again: `device` too, since a regular file can have its name
+abbrev pub read_options : List (List ℕ)
+read_options =
+    codes "hex" ∷ codes "layout" ∷ codes "sfdp" ∷ codes "content" ∷ codes "script" ∷ codes "log" ∷ codes "bin" ∷ codes "resume" ∷ codes "device" ∷ []
+
+-- the value of an option, by its name and value, may be opened to be read, if the option is one of these
+abbrev pub MayReadOption : FileFacts → List ℕ × List ℕ → Type 0
+MayReadOption files option = is_one_of read_options option.0 ≡ true → files.may option.1
+
+-- so may that of each option that was typed
+abbrev pub MayReadTyped : FileFacts → CommandLine → Type 0
+MayReadTyped files line = (option : Typed) → Contains line.typed.now option → MayReadOption files (option.name.now, option.value.now)
 
 -- the file of that name gave this; or it isn't read, and this is nothing
 abbrev pub IsHeld : FileFacts → List ℕ → List ℕ → Type 0

@@ -1,11 +1,14 @@
 //! What is written after the line of a refusal.
 
-ghost use Rattle.std.specs.Prelude.{◌≡◌, ◌<◌, ◌-◌, ◌^◌, map, option_map, string_bytes};
+ghost use Rattle.std.specs.Prelude.{◌≡◌, ◌<◌, ◌-◌, ◌^◌, true, map, option_map, string_bytes};
+ghost use Rattle.std.specs.Prelude.{IfSome};
 ghost use Rattle.nor_base.specs.Device.{Writes, Counts};
 ghost use Rattle.norprog_details.specs.Passage.{passage_of};
 ghost use Rattle.norprog_details.specs.Details.{about_lines, option_line, region_line};
 ghost use Rattle.norprog_details.specs.Details.{passage_lines, text_lines, words_after, IsHeld};
 ghost use Rattle.norprog_details.specs.Details.{IsParagraph, WritesSome, AreFacts, TellsDetails};
+ghost use Rattle.norprog_details.specs.Details.{read_options, MayReadOption, MayReadTyped};
+ghost use Rattle.norprog_details.specs.Form.{is_one_of};
 
 use crate::passage::{passage_of, write_passage};
 use crate::seems::write_advice;
@@ -18,7 +21,8 @@ use norprog_explain::write_topic;
 use std::alloc::Global;
 
 /// Writes what more there is to say of the line of a refusal, without its LF, of a command line
-/// (docs/FORMATS.md, section 9).
+/// (docs/FORMATS.md, section 9). It opens only files that options of the command line name, and
+/// only to be read.
 ///
 /// Where `err` fails the rest is left out. So is the line of a file that can't be read again.
 pub fn write_details<S: FileStore, E: ByteOut>(
@@ -28,7 +32,8 @@ pub fn write_details<S: FileStore, E: ByteOut>(
     refusal: &[u8],
     err: &mut E,
 )
-    requires { E.count err.old < 2 ^ 64 - 1 }
+    requires read { MayReadTyped (S.facts store.now) line }
+    requires count { E.count err.old < 2 ^ 64 - 1 }
     ensures told { TellsDetails (S.facts store.now) line.entry refusal.now
         (E.count err.new ≡ E.count err.old)
         (E.held err.old) (E.held err.new) }
@@ -68,7 +73,8 @@ fn write_facts<S: FileStore, E: ByteOut>(
     refusal: &[u8],
     err: &mut E,
 ) -> Result<(), Failed>
-    requires { E.count err.old < 2 ^ 64 - 1 }
+    requires read { MayReadTyped (S.facts store.now) line }
+    requires count { E.count err.old < 2 ^ 64 - 1 }
     ensures bytes { WritesSome (AreFacts (S.facts store.now) line.entry refusal.now)
         (E.held err.old) (E.held err.new) result }
     ensures count { Counts (E.count err.old) (E.count err.new) result }
@@ -107,26 +113,36 @@ fn write_about<E: ByteOut>(
 }
 
 /// What the system says of the file that an option names, where it doesn't open it.
-fn trouble_of<S: FileStore>(alloc: Global, store: &S, option: Typed<'_>) -> Option<String> {
-    match option.name {
+fn trouble_of<S: FileStore>(alloc: Global, store: &S, option: Typed<'_>) -> Option<String>
+    requires read { MayReadOption (S.facts store.now) (option.name.now, option.value.now) }
+{
+    if is_read(option.name) {
+        store.trouble(alloc, option.value)
+    } else {
+        None
+    }
+}
+
+/// Whether the value of an option of this name is a file that may be opened again.
+fn is_read(name: &str) -> bool
+    ensures { result ≡ is_one_of read_options name.now }
+{
+    match name {
         "hex" | "layout" | "sfdp" | "content" | "script" | "log" | "bin" | "resume" | "device" => {
-            store.trouble(alloc, option.value)
+            true
         }
-        _ => None,
+        _ => false,
     }
 }
 
 /// What the file of an option of a text gives; nothing where it can't be read, or would be waited
 /// for, as a pipe.
 fn held_by<S: FileStore>(alloc: Global, store: &S, option: Typed<'_>) -> Vec<u8>
+    requires read { MayReadOption (S.facts store.now) (option.name.now, option.value.now) }
     ensures { IsHeld (S.facts store.now) option.entry.value.now result.items }
 {
-    let name = match option.name {
-        "hex" => FileName::Hex,
-        "layout" => FileName::Layout,
-        "script" => FileName::Script,
-        "log" => FileName::Log,
-        _ => return Vec::new(alloc),
+    let Some(name) = text_of(option.name) else {
+        return Vec::new(alloc);
     };
     if !store.is_regular(option.value) {
         return Vec::new(alloc);
@@ -134,6 +150,19 @@ fn held_by<S: FileStore>(alloc: Global, store: &S, option: Typed<'_>) -> Vec<u8>
     match store.read(alloc, option.value, name) {
         Ok((text, _)) => text,
         Err(_) => Vec::new(alloc),
+    }
+}
+
+/// Which text the option of this name names, if it names one.
+fn text_of(name: &str) -> Option<FileName>
+    ensures { IfSome result (λ _. is_one_of read_options name.now ≡ true) }
+{
+    match name {
+        "hex" => Some(FileName::Hex),
+        "layout" => Some(FileName::Layout),
+        "script" => Some(FileName::Script),
+        "log" => Some(FileName::Log),
+        _ => None,
     }
 }
 

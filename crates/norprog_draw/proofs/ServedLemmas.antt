@@ -7,9 +7,9 @@ use Rattle.std.specs.Io.KnownBytes.{Appends}
 use Rattle.nor_base.specs.Script.{IsScript}
 use Rattle.nor_job.specs.declared.fault.BuildFault.TheVariants as fault
 use Rattle.nor_waves.specs.Waves.{waves}
-use Rattle.norprog_common.specs.FileStore.{FileFacts, HasGone, IsMadeApart, Named, Change, Lacks, MakesNamed, MayMake, MakesIf, TookNothing}
+use Rattle.norprog_common.specs.FileStore.{FileFacts, HasGone, IsMadeApart, Named, Change, Lacks, MakesNamed, MayMake, MayRead, MakesIf, TookNothing}
 use Rattle.norprog_common.specs.Files.{RefusesFile, TellsFile}
-use Rattle.norprog_common.proofs.LackedLemmas.{lacks_same}
+use Rattle.norprog_common.proofs.LackedLemmas.{lacks_same, may_same}
 use Rattle.norprog_common.specs.declared.faults.FileName.{FileName}
 use Rattle.norprog_common.specs.declared.faults.FileName.TheVariants as file
 use Rattle.norprog_common.specs.declared.faults.Refusal.{Refusal}
@@ -80,6 +80,10 @@ drawings_asked files given request (Err why) asks of = tt
 -- the files of a request are those that the texts name
 same_paths : (given : DrawArgs) (request : DrawRequest) → AsksFor given request → Path (FileName → Option (List ℕ)) (paths_of request) (paths_asked given)
 same_paths given request asks = rw (asks.script, asks.out) refl
+
+-- they may be read where those may
+pub may_read : (files : FileFacts) (given : DrawArgs) (request : DrawRequest) → AsksFor given request → MayRead files (paths_asked given) → MayRead files (paths_of request)
+may_read files given request asks = may_same files (paths_asked given) (paths_of request) (sym (same_paths given request asks))
 
 -- a file that couldn't be used
 pub file_refused : (Lacked : FileName → Type 0) (Broke : Type 0) (Asked : DrawTask → Type 0) (Made Gone : Option (List ℕ) → Type 0) (why : Refusal) → TellsFile Lacked why
@@ -221,14 +225,19 @@ usage_unmade true Work P Q why first unmade unasked = absurd (both unasked)
     both is = cc
 usage_unmade false Work P Q why first unmade unasked = subst (IsUnmade P Q) first unmade
 
+-- the status of what the texts ask for
+pub done_asked : (asks : Bool) (r : Result ℕ Refusal) → asks ≡ true → IfOk r (λ s. s ≡ 0) → IfOk r (λ s. (s ≡ 0) × (asks ≡ true))
+done_asked asks (Ok s) formed zero = (zero, formed)
+done_asked asks (Err why) formed zero = tt
+
 -- what is answered, as the work ended
 pub answer_is : (files : FileFacts) (names : List (List ℕ)) (out : Option (List ℕ)) (Made : List Change → Type 0) (asks : Bool) (Untaken Done Quiet Works : Type 0)
     (Work : Refusal → Type 0) (told_before told_after : Option (List ℕ)) (work : Result ℕ Refusal) (status : ℕ)
-    → IfOk work (λ s. s ≡ 0) → MakesIf files names out Made work → IfOk work (λ _. Done) → IfOk work (λ _. asks ≡ true) → IfErr work (OrUsage asks Work) → IfErr work (IsUnmade (Made []) Untaken)
+    → IfOk work (λ s. (s ≡ 0) × (asks ≡ true)) → MakesIf files names out Made work → IfOk work (λ _. Done) → IfErr work (OrUsage asks Work) → IfErr work (IsUnmade (Made []) Untaken)
     → IfOk work (λ s. (status ≡ s) × Quiet) → IfErr work (λ why. (status ≡ status_after why) × (Works → Appends told_before told_after (printed why)))
     → Answers asks ((status ≡ 0) × Done × MakesNamed files names out Made × Quiet) (MayMake files names out Made × (asks ≡ false → Made [])) (λ why. Work why × IsUnmade (Made []) Untaken why) Works
     told_before told_after status
-answer_is files names out Made asks Untaken Done Quiet Works Work told_before told_after (Ok s) status zero made is formed why unmade done told =
-    inl (formed, (done.0 ∙ zero, is, made, done.1))
-answer_is files names out Made asks Untaken Done Quiet Works Work told_before told_after (Err why) status zero made is formed first unmade done told =
+answer_is files names out Made asks Untaken Done Quiet Works Work told_before told_after (Ok s) status ends made is first unmade done told =
+    inl (ends.1, (done.0 ∙ ends.0, is, made, done.1))
+answer_is files names out Made asks Untaken Done Quiet Works Work told_before told_after (Err why) status ends made is first unmade done told =
     inr ((made, usage_unmade asks Work (Made []) Untaken why first unmade), (why, and_unmade asks Work (Made []) Untaken why first unmade, told.0, told.1))

@@ -2,7 +2,8 @@
 
 ghost use Rattle.std.specs.Prelude.{◌≡◌, ◌<◌, ◌≤◌, ◌-◌, ◌^◌, [], ◌∷◌, true, IfOk, IfErr};
 ghost use Rattle.std.specs.Prelude.{Some, option_map, option_to_list};
-ghost use Rattle.norprog_common.specs.FileStore.{Adds, HasGone, Lacks, MakesIf, TookNothing};
+ghost use Rattle.norprog_common.specs.FileStore.{Adds, HasGone, Lacks, MakesIf, MayRead};
+ghost use Rattle.norprog_common.specs.FileStore.{TookNothing};
 ghost use Rattle.norprog_common.specs.Told.{OrUsage};
 ghost use Rattle.norprog_draw.specs.Answer.{IsDrawing, IsUnmade, RefusesDraw, AnswersDraw};
 ghost use Rattle.norprog_draw.specs.Answer.{done};
@@ -26,7 +27,8 @@ pub fn draw<S: FileStore, E: ByteOut>(
     given: DrawArgs<'_>,
     err: &mut E,
 ) -> u8
-    requires { E.count err.old < 2 ^ 64 - 1 }
+    requires err { E.count err.old < 2 ^ 64 - 1 }
+    requires read { MayRead (S.facts store.now) (paths_asked given) }
     ensures status { result ≤ 2 }
     ensures quiet { result ≡ 0 → err.new ≡ err.old }
     ensures answer { AnswersDraw (S.facts store.now) given.entry
@@ -43,14 +45,14 @@ fn drawn_in<S: FileStore>(
     journal: &mut S::Journal,
     given: DrawArgs<'_>,
 ) -> Result<u8, Refusal>
-    ensures status { IfOk result (λ status. status ≡ 0) }
+    requires read { MayRead (S.facts store.now) (paths_asked given) }
+    ensures done { IfOk result (λ status. (status ≡ 0) × (is_well_formed given.entry ≡ true)) }
     ensures journal { MakesIf (S.facts store.now)
         (option_to_list (option_map (λ t. t.now) given.entry.script))
         (option_map (λ t. t.now) given.entry.out)
         (Adds (S.Journal.changes journal.old) (S.Journal.changes journal.new)) result }
     ensures drawn { IfOk result (λ _. IsDrawing (Serves (S.facts store.now) given.entry)
         (Makes (S.facts store.now) given.entry) (S.facts store.now).flushed) }
-    ensures asked { IfOk result (λ _. is_well_formed given.entry ≡ true) }
     ensures first { IfErr result (OrUsage (is_well_formed given.entry)
         (RefusesDraw (Lacks (S.facts store.now) (paths_asked given.entry))
         (S.facts store.now).broke (Serves (S.facts store.now) given.entry)
@@ -71,6 +73,7 @@ fn run_draw<S: FileStore>(
     journal: &mut S::Journal,
     request: DrawRequest<'_>,
 ) -> Result<u8, Refusal>
+    requires read { MayRead (S.facts store.now) (paths_of request) }
     ensures status { IfOk result (λ status. status ≡ 0) }
     ensures journal { MakesIf (S.facts store.now) (request.entry.script.now ∷ [])
         (Some request.entry.out.now)

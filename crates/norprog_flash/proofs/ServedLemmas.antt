@@ -1,7 +1,7 @@
 -- The job is the one that the texts ask for.
 use Rattle.std.proofs.Common.{◌≡◌, ℕ, true, List, [], ◌∷◌, Option, Result, Ok, Err, IfOk, IfErr, inl, inr, is_some, option_map, refl, sym, ap, ◌∙◌, subst}
 use Rattle.nor_base.specs.declared.step.Step.{Step}
-use Rattle.norprog_common.specs.FileStore.{FileFacts, Change, Created, Lacks, Opened}
+use Rattle.norprog_common.specs.FileStore.{FileFacts, Change, Created, Lacks, MayRead, Opened}
 use Rattle.norprog_common.specs.Chip.{origin_of}
 use Rattle.norprog_common.specs.Files.{TellsFile}
 use Rattle.norprog_common.specs.declared.faults.FileName.{FileName}
@@ -17,18 +17,28 @@ use Rattle.norprog_flash.specs.Early.{IsSoundEarly}
 use Rattle.norprog_flash.specs.Opened.{IsFlashedOn}
 use Rattle.norprog_flash.specs.Request.{is_well_formed, AsksFor}
 use Rattle.norprog_flash.specs.Served.{paths_asked, paths_of, IsJobOf}
+use Rattle.norprog_common.proofs.LackedLemmas.{may_same}
 use Rattle.norprog_common.proofs.ToldLemmas.{or_usage}
 use Rattle.norprog_read.proofs.LackedLemmas.{tables_are}
 use Rattle.norprog_read.specs.declared.asked.Ask.{Ask}
 use Rattle.norprog_read.specs.Request.{IsAskOf}
 
+-- the options of a request are those of the texts that ask for it
+same_paths : (given : FlashArgs) (request : FlashRequest) → AsksFor given request → Path (FileName → Option (List ℕ)) (paths_of request) (paths_asked given)
+same_paths given request asks =
+    let tables = tables_are given.chip (option_map origin_of request.read.chip) asks.read.chip in
+    rw (asks.hex, sym asks.layout, tables, sym asks.resume) refl
+
+-- its files may be read, since those of the texts may
+pub may_by : (files : FileFacts) (given : FlashArgs) (request : FlashRequest) → AsksFor given request → MayRead files (paths_asked given)
+    → MayRead files (paths_of request)
+may_by files given request asks may = may_same files (paths_asked given) (paths_of request) (sym (same_paths given request asks)) may
+
 -- a file that couldn't be used by the request is one that the texts name
 lacks_asked : (files : FileFacts) (given : FlashArgs) (request : FlashRequest) → AsksFor given request → (why : Refusal)
     → TellsFile (Lacks files (paths_of request)) why → TellsFile (Lacks files (paths_asked given)) why
 lacks_asked files given request asks why lacks =
-    let tables = tables_are given.chip (option_map origin_of request.read.chip) asks.read.chip in
-    let same : Path (FileName → Option (List ℕ)) (paths_of request) (paths_asked given) = rw (asks.hex, sym asks.layout, tables, sym asks.resume) refl in
-    subst (λ (paths : FileName → Option (List ℕ)). TellsFile (Lacks files paths) why) same lacks
+    subst (λ (paths : FileName → Option (List ℕ)). TellsFile (Lacks files paths) why) (same_paths given request asks) lacks
 
 pub lacked_by : (files : FileFacts) (given : FlashArgs) (request : FlashRequest) (Made : List Change → Type 0) (o : Option (List ℕ)) → AsksFor given request
     → is_well_formed given ≡ true → Made [] → (why : Refusal) → TellsFile (Lacks files (paths_of request)) why → IsUnbegunFor files given Made o o (Refused why)

@@ -141,8 +141,8 @@ fn read_suited<R: ByteIn, W: ByteOut>(
         job.now) }
     ensures harmless { MatchResult result (λ _. HasSentHarmless (W.held to.old) (W.held to.new))
         (λ _. SendsHarmless (W.held to.old) (W.held to.new)) }
-    ensures reads_room { R.count from.new ≤ R.count from.old + 1 }
-    ensures writes_room { W.count to.new ≤ W.count to.old + 1 }
+    ensures counts { R.count from.new ≤ R.count from.old + 1
+        × W.count to.new ≤ W.count to.old + 1 }
 {
     let reading = read_chip(alloc, from, to, limits, &job.ask)?;
     let start = start_at(job, reading.status);

@@ -6,12 +6,13 @@ ghost use Rattle.std.specs.Io.KnownBytes.{Appends};
 ghost use Rattle.nor_job.specs.declared.fault.BuildFault.{BuildFault};
 ghost use Rattle.nor_job.specs.declared.fault.BuildFault.TheVariants.{Write};
 ghost use Rattle.norprog_common.specs.declared.faults.Refusal.TheVariants.{Build};
-ghost use Rattle.norprog_common.specs.FileStore.{Adds, Breaks, Created, Opened};
+ghost use Rattle.norprog_common.specs.FileStore.{Adds, Breaks, Created, MayRead, Opened};
 ghost use Rattle.norprog_common.specs.Lines.{printed};
 ghost use Rattle.norprog_flash.specs.Answer.{AnswersFlash, IsEndingOf, IsUnbegunFor, IsUnbegunOn};
 ghost use Rattle.norprog_flash.specs.Answer.{ReportsUnflashed, family_of};
 ghost use Rattle.norprog_flash.specs.Early.{file_tables, is_known, IsSoundEarly, RefusesEarly};
 ghost use Rattle.norprog_flash.specs.Opened.{IsFlashedOn};
+ghost use Rattle.norprog_flash.specs.Served.{paths_asked};
 ghost use Rattle.norprog_flash.specs.Stops.{CountsOut};
 ghost use Rattle.norprog_flash.specs.Worked.{Showing};
 
@@ -42,6 +43,7 @@ pub fn flash<S: FileStore, O: ByteOut, E: ByteOut, P: ByteOut>(
     err: &mut E,
     progress: &mut P,
 ) -> u8
+    requires read { MayRead (S.facts store.now) (paths_asked given) }
     requires out { O.count out.old < 2 ^ 64 - 2 }
     requires err { E.count err.old < 2 ^ 64 - 1 }
     requires progress { P.count progress.old < 2 ^ 64 - 1 }
@@ -115,8 +117,8 @@ fn flash_texts<S: FileStore, O: ByteOut, P: ByteOut>(
     out: &mut O,
     progress: &mut P,
 ) -> Result<Ending, Unflashed>
-    requires out { O.count out.old < 2 ^ 64 - 1 }
-    requires progress { P.count progress.old < 2 ^ 64 - 1 }
+    requires read { MayRead (S.facts store.now) (paths_asked given.now) }
+    requires room { (O.count out.old < 2 ^ 64 - 1) × (P.count progress.old < 2 ^ 64 - 1) }
     ensures ends { IfOk result
         (IsEndingOf (S.facts store.now) given.now
         (Adds (S.Journal.changes journal.old) (S.Journal.changes journal.new))

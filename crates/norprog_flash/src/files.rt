@@ -3,7 +3,8 @@
 ghost use Rattle.std.specs.Prelude.{◌≡◌, option_map, IfOk, IfErr};
 ghost use Rattle.norprog_common.specs.Chip.{origin_of};
 ghost use Rattle.norprog_common.specs.Files.{RefusesFile, TellsFile};
-ghost use Rattle.norprog_common.specs.FileStore.{Lacks, LacksNamed, WhereNamed};
+ghost use Rattle.norprog_common.specs.FileStore.{Lacks, LacksNamed, MayRead, MayReadNamed};
+ghost use Rattle.norprog_common.specs.FileStore.{WhereNamed};
 ghost use Rattle.norprog_flash.specs.Served.{paths_of, AreGiven};
 
 use crate::request::FlashRequest;
@@ -28,6 +29,7 @@ pub(crate) fn read_files<S: FileStore>(
     store: &S,
     request: &FlashRequest<'_>,
 ) -> Result<Files, Refusal>
+    requires read { MayRead (S.facts store.now) (paths_of request.now) }
     ensures given { IfOk result (AreGiven (S.facts store.now) request.now) }
     ensures lacked { IfErr result
         (TellsFile (Lacks (S.facts store.now) (paths_of request.now))) }
@@ -51,6 +53,7 @@ fn read_if<S: FileStore>(
     path: Option<&str>,
     name: FileName,
 ) -> Result<Option<Vec<u8>>, Refusal>
+    requires read { MayReadNamed (S.facts store.now) (option_map (λ t. t.now) path) }
     ensures given { IfOk result
         (λ held. WhereNamed (S.facts store.now).gave (option_map (λ t. t.now) path.entry)
         (option_map (λ bytes. bytes.items) held)) }

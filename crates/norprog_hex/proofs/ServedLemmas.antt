@@ -5,7 +5,7 @@ use Rattle.nor_base.specs.Device.{Ahead}
 use Rattle.nor_base.proofs.FaultLaws.{handed_on}
 use Rattle.nor_job.specs.declared.fault.BuildFault.TheVariants as fault
 use Rattle.std.specs.Io.KnownBytes.{Appends}
-use Rattle.norprog_common.specs.FileStore.{Change, FileFacts, HasGone, IsMadeApart, LacksEarly, MakesIf, MakesNamed, MayMake, Named, TookNothing}
+use Rattle.norprog_common.specs.FileStore.{Change, FileFacts, HasGone, IsMadeApart, LacksEarly, MakesIf, MakesNamed, MayMake, MayRead, Named, TookNothing}
 use Rattle.norprog_common.specs.Lines.{printed, status_after}
 use Rattle.norprog_common.specs.Files.{TellsFile, RefusesFile}
 use Rattle.norprog_common.specs.declared.faults.FileName.{FileName}
@@ -15,7 +15,7 @@ use Rattle.norprog_common.specs.declared.faults.Refusal.TheVariants.{Usage, File
 use Rattle.norprog_common.specs.Content.{CountsWriter, of_writer}
 use Rattle.norprog_common.specs.Reading.{HasFailed}
 use Rattle.norprog_common.specs.Told.{Answers, ForAsked, OrUsage, TellsBroken}
-use Rattle.norprog_common.proofs.LackedLemmas.{early_same}
+use Rattle.norprog_common.proofs.LackedLemmas.{early_same, may_same}
 use Rattle.norprog_common.proofs.ToldLemmas.{asked_wider, or_usage}
 use Rattle.norprog_common.specs.declared.given.HexArgs.{HexArgs}
 use Rattle.norprog_hex.specs.declared.request.HexRequest.{HexRequest}
@@ -51,12 +51,16 @@ wider L M C F G O P A B files opened asked (File file.Out) is = (files file.Out 
 wider L M C F G O P A B files opened asked BinSize is = asked_wider BinTask O P IsTooLong opened is
 wider L M C F G O P A B files opened asked (Build fault.Memory) is = tt
 wider L M C F G O P A B files opened asked (Build fault.Write) is =
-    (elim is.0 [ inl cut ↦ inl (asked_wider HexTask A B IsCut asked cut) | inr late ↦ inr (asked_wider HexTask A B (IsWritten G) asked late) ], is.1)
+    (elim is.0 [ inl cut ↦ inl (asked_wider HexTask A B (IsCut G) asked cut) | inr late ↦ inr (asked_wider HexTask A B (IsWritten G) asked late) ], is.1)
 wider L M C F G O P A B files opened asked other is = absurd is
 
 -- the files of a request are those that the texts name
 same_paths : (given : HexArgs) (request : HexRequest) → AsksFor given request → Path (FileName → Option (List ℕ)) (paths_of request) (paths_asked given)
 same_paths given request asks = rw (asks.bin, asks.out) refl
+
+-- they may be read where those may
+pub may_read : (files : FileFacts) (given : HexArgs) (request : HexRequest) → AsksFor given request → MayRead files (paths_asked given) → MayRead files (paths_of request)
+may_read files given request asks = may_same files (paths_asked given) (paths_of request) (sym (same_paths given request asks))
 
 pub refusals_asked : {T : Type 0} (files : FileFacts) (given : HexArgs) (request : HexRequest) (F : Ahead → Type 0) (Nothing : Type 0) (r : Result T Refusal) → AsksFor given request → is_well_formed given ≡ true
     → IfErr r (RefusesHex (LacksEarly files (paths_of request) file.Out Nothing) files.broke F (HasGone files) (IsBinOf files request) (IsTaskOf files request))
@@ -122,7 +126,7 @@ module _ (files : FileFacts) (request : HexRequest) (ahead : Ahead) (len : ℕ) 
         → StopsConverting request.at ahead begun after why
         → RefusesHex (LacksEarly files (paths_of request) file.Out Nothing) files.broke F (HasGone files) (IsBinOf files request) (IsTaskOf files request) why
     was_stopped F (File file.Bin) gone cause broke is = inr (record { it = task; asked = asked; has = record { after = after; begun = is; cause = cause refl; gone = gone } })
-    was_stopped F (Build fault.Write) gone cause broke is = (inl (record { it = task; asked = asked; has = record { after = after; cut = is } }), broke)
+    was_stopped F (Build fault.Write) gone cause broke is = (inl (record { it = task; asked = asked; has = record { after = after; cut = is; gone = gone } }), broke)
     was_stopped F (Build fault.Memory) gone cause broke is = tt
     was_stopped F other gone cause broke is = absurd is
 
@@ -211,15 +215,20 @@ usage_unmade true Work P Q why first unmade unasked = absurd (both unasked)
     both is = cc
 usage_unmade false Work P Q why first unmade unasked = subst (IsUnmade P Q) first unmade
 
+-- the status of what the texts ask for
+pub done_asked : (asks : Bool) (r : Result ℕ Refusal) → asks ≡ true → IfOk r (λ s. s ≡ 0) → IfOk r (λ s. (s ≡ 0) × (asks ≡ true))
+done_asked asks (Ok s) formed zero = (zero, formed)
+done_asked asks (Err why) formed zero = tt
+
 -- what is answered, as the work ended
 pub answer_is : (files : FileFacts) (names : List (List ℕ)) (out : Option (List ℕ)) (Made : List Change → Type 0) (asks : Bool) (Untaken Done Quiet Works : Type 0)
     (Work : Refusal → Type 0) (told_before told_after : Option (List ℕ)) (work : Result ℕ Refusal) (status : ℕ)
-    → IfOk work (λ s. s ≡ 0) → MakesIf files names out Made work → IfOk work (λ _. Done) → IfOk work (λ _. asks ≡ true) → IfErr work (OrUsage asks Work)
+    → IfOk work (λ s. (s ≡ 0) × (asks ≡ true)) → MakesIf files names out Made work → IfOk work (λ _. Done) → IfErr work (OrUsage asks Work)
     → IfErr work (IsUnmade (Made []) Untaken) → IfOk work (λ s. (status ≡ s) × Quiet)
     → IfErr work (λ why. (status ≡ status_after why) × (Works → Appends told_before told_after (printed why)))
     → Answers asks ((status ≡ 0) × Done × MakesNamed files names out Made × Quiet) (MayMake files names out Made × (asks ≡ false → Made [])) (λ why. Work why × IsUnmade (Made []) Untaken why) Works
     told_before told_after status
-answer_is files names out Made asks Untaken Done Quiet Works Work told_before told_after (Ok s) status zero made is formed first unmade done told =
-    inl (formed, (done.0 ∙ zero, is, made, done.1))
-answer_is files names out Made asks Untaken Done Quiet Works Work told_before told_after (Err why) status zero made is formed first unmade done told =
+answer_is files names out Made asks Untaken Done Quiet Works Work told_before told_after (Ok s) status ends made is first unmade done told =
+    inl (ends.1, (done.0 ∙ ends.0, is, made, done.1))
+answer_is files names out Made asks Untaken Done Quiet Works Work told_before told_after (Err why) status ends made is first unmade done told =
     inr ((made, usage_unmade asks Work (Made []) Untaken why first unmade), (why, and_unmade asks Work (Made []) Untaken why first unmade, told.0, told.1))

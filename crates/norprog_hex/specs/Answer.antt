@@ -28,10 +28,11 @@ pub record IsWritten (Sent : Option (List ℕ) → Type 0) (t : HexTask) : Type 
   pub converted : WasConverted t.bin.at t.bin.len t.bin.ahead rest t.begun after
   pub sent : Sent after
 
--- the output failed in the work
-pub record IsCut (t : HexTask) : Type 0 where
+-- the output failed in the work, after a proper prefix of the text of the bytes so far; `Gone`: nothing more was written to it
+pub record IsCut (Gone : Option (List ℕ) → Type 0) (t : HexTask) : Type 0 where
   pub after : Option (List ℕ)
   pub cut : WasCut t.bin.at t.bin.ahead t.begun after
+  pub gone : Gone after
 
 -- the file has fewer bytes than its length when it was opened, or more
 abbrev pub HasOtherLength : BinTask → Type 0
@@ -51,7 +52,7 @@ RefusesHex Lacked Broke Failed Gone Opened Asked (File file.Bin) = Lacked file.B
 RefusesHex Lacked Broke Failed Gone Opened Asked (File file.Out) = Lacked file.Out × ForAsked BinTask Opened Fits
 RefusesHex Lacked Broke Failed Gone Opened Asked BinSize = ForAsked BinTask Opened IsTooLong
 RefusesHex Lacked Broke Failed Gone Opened Asked (Build fault.Memory) = ⊤
-RefusesHex Lacked Broke Failed Gone Opened Asked (Build fault.Write) = (ForAsked HexTask Asked IsCut ⊎ ForAsked HexTask Asked (IsWritten Gone)) × Broke
+RefusesHex Lacked Broke Failed Gone Opened Asked (Build fault.Write) = (ForAsked HexTask Asked (IsCut Gone) ⊎ ForAsked HexTask Asked (IsWritten Gone)) × Broke
 RefusesHex Lacked Broke Failed Gone Opened Asked other = ⊥
 
 -- that the file fits is known before the output is made, and at out of memory that took nothing: `Nothing` says that nothing was made,

@@ -2,7 +2,7 @@
 
 ghost use Rattle.std.specs.Prelude.{◌≡◌, ◌+◌, ◌<◌, ◌≤◌, ◌-◌, ◌^◌, [], ◌∷◌, true, IfOk, IfErr};
 ghost use Rattle.std.specs.Prelude.{Some, option_map, option_to_list};
-ghost use Rattle.norprog_common.specs.FileStore.{Adds, HasGone, LacksEarly, MakesIf};
+ghost use Rattle.norprog_common.specs.FileStore.{Adds, HasGone, LacksEarly, MakesIf, MayRead};
 ghost use Rattle.norprog_common.specs.declared.faults.FileName.TheVariants.{Out};
 ghost use Rattle.norprog_common.specs.Reading.{HasFailed};
 ghost use Rattle.norprog_common.specs.Told.{ForAsked, OrUsage};
@@ -31,7 +31,8 @@ pub fn hex<S: FileStore, E: ByteOut>(
     given: HexArgs<'_>,
     err: &mut E,
 ) -> u8
-    requires { E.count err.old < 2 ^ 64 - 1 }
+    requires err { E.count err.old < 2 ^ 64 - 1 }
+    requires read { MayRead (S.facts store.now) (paths_asked given) }
     ensures status { result ≤ 2 }
     ensures quiet { result ≡ 0 → err.new ≡ err.old }
     ensures answer { AnswersHex (S.facts store.now) (HasFailed S.Input.ahead S.Input.count)
@@ -49,7 +50,8 @@ fn converted_in<S: FileStore>(
     journal: &mut S::Journal,
     given: HexArgs<'_>,
 ) -> Result<u8, Refusal>
-    ensures status { IfOk result (λ status. status ≡ 0) }
+    requires read { MayRead (S.facts store.now) (paths_asked given) }
+    ensures done { IfOk result (λ status. (status ≡ 0) × (is_well_formed given.entry ≡ true)) }
     ensures journal { MakesIf (S.facts store.now)
         (option_to_list (option_map (λ t. t.now) given.entry.bin))
         (option_map (λ t. t.now) given.entry.out)
@@ -57,7 +59,6 @@ fn converted_in<S: FileStore>(
     ensures written { IfOk result
         (λ _. ForAsked HexTask (Serves (S.facts store.now) given.entry)
         (IsWritten (S.facts store.now).flushed)) }
-    ensures asked { IfOk result (λ _. is_well_formed given.entry ≡ true) }
     ensures first { IfErr result (OrUsage (is_well_formed given.entry)
         (RefusesHex (LacksEarly (S.facts store.now) (paths_asked given.entry) Out
         (Adds (S.Journal.changes journal.old) (S.Journal.changes journal.new) []))
@@ -81,6 +82,7 @@ fn run_hex<S: FileStore>(
     journal: &mut S::Journal,
     request: HexRequest<'_>,
 ) -> Result<u8, Refusal>
+    requires read { MayRead (S.facts store.now) (paths_of request) }
     ensures status { IfOk result (λ status. status ≡ 0) }
     ensures journal { MakesIf (S.facts store.now) (request.entry.bin.now ∷ [])
         (Some request.entry.out.now)

@@ -1,13 +1,13 @@
 -- The chip of a request is the one that its texts ask for, and what is so of it is so of that.
-use Rattle.std.proofs.Common.{ap, refl, option_map, List, ℕ, Option}
+use Rattle.std.proofs.Common.{ap, refl, sym, option_map, List, ℕ, Option}
 use Rattle.nor_base.specs.Device.{Ahead}
 use Rattle.norprog_common.specs.declared.faults.FileName.{FileName}
 use Rattle.norprog_common.specs.declared.faults.Refusal.{Refusal}
 use Rattle.norprog_common.specs.declared.given.ListArgs.{ListArgs}
-use Rattle.norprog_common.specs.FileStore.{FileFacts, Lacks}
+use Rattle.norprog_common.specs.FileStore.{FileFacts, Lacks, MayRead}
 use Rattle.norprog_common.specs.Chip.{origin_of}
 use Rattle.norprog_common.specs.Files.{TellsFile}
-use Rattle.norprog_common.proofs.LackedLemmas.{lacks_same, tables_named}
+use Rattle.norprog_common.proofs.LackedLemmas.{lacks_same, may_same, tables_named}
 use Rattle.norprog_common.proofs.ToldLemmas.{asked_wider, by_files, refuses_wider}
 use Rattle.norprog_list.specs.declared.request.ListRequest.{ListRequest}
 use Rattle.norprog_list.specs.Answer.{StopsScript, IsListFault, RefusesList}
@@ -30,6 +30,10 @@ same_paths given request asks =
     let tables = tables_named (option_map (λ t. t.now) chip.sfdp) (option_map (λ t. t.now) chip.uniform) (option_map (λ t. t.now) chip.bits)
     (origin_of request.setup.chip) asks.setup.chip in
     rw (asks.script, tables) refl
+
+-- they may be read where those may
+pub may_read : (files : FileFacts) (given : ListArgs) (request : ListRequest) → AsksFor given request → MayRead files (paths_asked given) → MayRead files (paths_of request)
+may_read files given request asks = may_same files (paths_asked given) (paths_of request) (sym (same_paths given request asks))
 
 -- a file that couldn't be used
 pub file_refused : (Lacked : FileName → Type 0) (Broke : Type 0) (Asked : ListTask → Type 0) (Failed : Ahead → Type 0) (before after : Option (List ℕ)) (why : Refusal)

@@ -1,7 +1,7 @@
 //! `list`: from the texts of the command line to the lines of a listing.
 
 ghost use Rattle.std.specs.Prelude.{◌≡◌, ◌<◌, ◌≤◌, ◌-◌, ◌^◌, true, IfOk, IfErr};
-ghost use Rattle.norprog_common.specs.FileStore.{Lacks};
+ghost use Rattle.norprog_common.specs.FileStore.{Lacks, MayRead};
 ghost use Rattle.norprog_common.specs.Reading.{HasFailed};
 ghost use Rattle.norprog_common.specs.Told.{OrUsage};
 ghost use Rattle.norprog_list.specs.Answer.{PrintsListing, CutsListing, RefusesList, AnswersList};
@@ -26,6 +26,7 @@ pub fn list<S: FileStore, O: ByteOut, E: ByteOut>(
 ) -> u8
     requires out { O.count out.old < 2 ^ 64 - 1 }
     requires err { E.count err.old < 2 ^ 64 - 1 }
+    requires read { MayRead (S.facts store.now) (paths_asked given) }
     ensures status { result ≤ 2 }
     ensures quiet { result ≡ 0 → err.new ≡ err.old }
     ensures answer { AnswersList (S.facts store.now) (HasFailed S.Input.ahead S.Input.count)
@@ -43,15 +44,15 @@ fn listed_in<S: FileStore, O: ByteOut>(
     given: ListArgs<'_>,
     out: &mut O,
 ) -> Result<u8, Refusal>
-    requires { O.count out.old < 2 ^ 64 - 1 }
-    ensures status { IfOk result (λ status. status ≡ 0) }
+    requires out { O.count out.old < 2 ^ 64 - 1 }
+    requires read { MayRead (S.facts store.now) (paths_asked given) }
+    ensures done { IfOk result (λ status. (status ≡ 0) × (is_well_formed given.entry ≡ true)) }
     ensures printed { IfOk result
         (λ _. PrintsListing (Serves (S.facts store.now) given.entry) (O.held out.old)
         (O.held out.new)) }
     ensures unprinted { IfErr result
         (λ _. CutsListing (Serves (S.facts store.now) given.entry) (O.held out.old)
         (O.held out.new)) }
-    ensures asked { IfOk result (λ _. is_well_formed given.entry ≡ true) }
     ensures first { IfErr result
         (OrUsage (is_well_formed given.entry)
         (RefusesList (Lacks (S.facts store.now) (paths_asked given.entry))
@@ -70,7 +71,8 @@ fn run_list<S: FileStore, O: ByteOut>(
     request: ListRequest<'_>,
     out: &mut O,
 ) -> Result<(), Refusal>
-    requires { O.count out.old < 2 ^ 64 - 1 }
+    requires out { O.count out.old < 2 ^ 64 - 1 }
+    requires read { MayRead (S.facts store.now) (paths_of request) }
     ensures printed { IfOk result
         (λ _. PrintsListing (IsTaskOf (S.facts store.now) request.entry) (O.held out.old)
         (O.held out.new)) }

@@ -12,7 +12,7 @@ use std::alloc::{AllocError, Global};
 /// The version, the commit and the kit; `make build` writes the commit over the zeros of the
 /// program that it has built.
 const VERSION: &str =
-    "0.1.0\ncommit 0000000000000000000000000000000000000000\nrattle-kit-13f logic dac8208d650f15bf";
+    "1.0.0\ncommit 0000000000000000000000000000000000000000\nrattle-kit-13f logic dac8208d650f15bf";
 
 /// What is written behind an option, with the name that the help has for it.
 #[derive(Clone, Copy)]

@@ -1,5 +1,5 @@
 -- What was printed, and why no more was, of a job that is asked for.
-use Rattle.std.proofs.Common.{◌≡◌, ◌∙◌, ℕ, ◌+◌, ◌<◌, ◌⊎◌, inl, inr, refl, arith, ◌++◌, [], Bool, is_some, List, Option, Some, Result, Ok, Err, IfOk, IfErr, IfSome, subst, sym}
+use Rattle.std.proofs.Common.{◌≡◌, ◌∙◌, ℕ, ◌+◌, ◌<◌, ◌⊎◌, inl, inr, refl, arith, ◌++◌, [], Bool, List, Option, Some, Result, Ok, Err, IfOk, IfErr, IfSome, subst, sym}
 use Rattle.std.specs.Io.KnownBytes.{Appends}
 use Rattle.nor_base.specs.Device.{Ahead, Cuts}
 use Rattle.nor_base.specs.Parameters.{Parameters}
@@ -18,14 +18,15 @@ use Rattle.norprog.specs.declared.report.Report.{Report}
 use Rattle.norprog_common.specs.declared.faults.FileName.{FileName}
 use Rattle.norprog_common.specs.declared.faults.Refusal.{Refusal}
 use Rattle.norprog_common.specs.declared.faults.Refusal.TheVariants.{Text, Usage, File, Build, Page, Script, BinSize, Steps, EmptyRegion, Log}
+use Rattle.norprog_common.specs.Files.{TellsFile}
 use Rattle.norprog_common.specs.Reading.{GivesSome, HasFailed}
 use Rattle.norprog_common.specs.Told.{AtMemory, ForAsked, OfFault, TellsBroken}
 use Rattle.norprog_common.specs.Served.{Job, Is}
 use Rattle.norprog_common.specs.Strict.{Filled, OrEmpty, RefusesEmpty}
 use Rattle.norprog_common.proofs.ServedLemmas.{of_one}
 use Rattle.norprog_common.proofs.StrictLemmas.{filled_wider, empty_wider, by_empty}
-use Rattle.norprog_common.proofs.ToldLemmas.{asked_wider, fault_wider, by_fault, refuses_wider}
-use Rattle.norprog_plan.specs.Answer.{behind_lines, BlamesReader, CutsPlan, Draws, FailsToDraw, FailsToPrint, IsBehind, IsLeft, IsLinesOf, IsPlanFault, IsTold, IsUndrawn, IsWhole, LacksMap, PrintsPlan, RefusesPlan, StopsPlanOf, StopsPrinting}
+use Rattle.norprog_common.proofs.ToldLemmas.{asked_wider, fault_wider, by_fault, by_files, refuses_wider}
+use Rattle.norprog_plan.specs.Answer.{behind_lines, AtWrite, BlamesReader, CutsPlan, Draws, FailsToDraw, FailsToPrint, IsBehind, IsLeft, IsLinesOf, IsPlanFault, IsTold, IsUndrawn, IsWhole, LacksMap, LosesMap, PrintsPlan, RefusesPlan, StopsPlanOf, StopsPrinting}
 use Rattle.norprog_plan.specs.Regions.{EndsWith}
 use Rattle.norprog_plan.specs.Sums.{PrintsLines}
 use Rattle.norprog_plan.specs.declared.outline.Shows.{Shows}
@@ -44,10 +45,10 @@ cuts_wider Sent shows A B wider x y (inl same) = inl same
 cuts_wider Sent shows A B wider x y (inr some) =
     inr (record { bytes = some.bytes; of = asked_wider Job A B (IsTold Sent shows some.bytes) wider some.of; put = some.put })
 
-fails_wider : (Lost : Type 0) (Sent : Option (List ℕ) → Type 0) (shows : Shows) (A B : Job → Type 0) → ((j : Job) → A j → B j) → (x y : Option (List ℕ))
-    → FailsToDraw Lost A ⊎ FailsToPrint Sent shows A x y → FailsToDraw Lost B ⊎ FailsToPrint Sent shows B x y
-fails_wider Lost Sent shows A B wider x y (inl undrawn) = inl (asked_wider Job A B (IsUndrawn Lost) wider undrawn)
-fails_wider Lost Sent shows A B wider x y (inr fails) =
+fails_wider : (Lost : Type 0) (Gone Sent : Option (List ℕ) → Type 0) (shows : Shows) (A B : Job → Type 0) → ((j : Job) → A j → B j) → (x y : Option (List ℕ))
+    → FailsToDraw Lost Gone shows A ⊎ FailsToPrint Sent shows A x y → FailsToDraw Lost Gone shows B ⊎ FailsToPrint Sent shows B x y
+fails_wider Lost Gone Sent shows A B wider x y (inl undrawn) = inl (asked_wider Job A B (IsUndrawn Lost Gone shows) wider undrawn)
+fails_wider Lost Gone Sent shows A B wider x y (inr fails) =
     inr (record { lines = fails.lines; rest = fails.rest; whole = asked_wider Job A B (IsWhole Sent shows fails.lines fails.rest) wider fails.whole; put = fails.put })
 
 faults_wider : (Failed : Ahead → Type 0) (Gone : Option (List ℕ) → Type 0) (A B : Job → Type 0) → ((j : Job) → A j → B j) → (why : Refusal) → OfFault (IsPlanFault Failed Gone A) why → OfFault (IsPlanFault Failed Gone B) why
@@ -59,10 +60,10 @@ pub refuses_asked : (strict : Bool) (L M : FileName → Type 0) (Broke Lost : Ty
 refuses_asked strict L M Broke Lost Failed Gone Sent shows A B files wider x y =
     let filled = filled_wider strict A B wider in
     refuses_wider L M Broke Broke (OrEmpty strict (IsLeft Gone A) (OfFault (IsPlanFault Failed Gone (Filled strict A)))) (OrEmpty strict (IsLeft Gone B) (OfFault (IsPlanFault Failed Gone (Filled strict B))))
-    (FailsToDraw Lost (Filled strict A) ⊎ FailsToPrint Sent shows (Filled strict A) x y) (FailsToDraw Lost (Filled strict B) ⊎ FailsToPrint Sent shows (Filled strict B) x y)
+    (FailsToDraw Lost Gone shows (Filled strict A) ⊎ FailsToPrint Sent shows (Filled strict A) x y) (FailsToDraw Lost Gone shows (Filled strict B) ⊎ FailsToPrint Sent shows (Filled strict B) x y)
     files (λ broke. broke)
     (empty_wider strict (IsLeft Gone A) (IsLeft Gone B) (OfFault (IsPlanFault Failed Gone (Filled strict A))) (OfFault (IsPlanFault Failed Gone (Filled strict B))) (λ j left. (wider j left.0, left.1)) (faults_wider Failed Gone (Filled strict A) (Filled strict B) filled))
-    (fails_wider Lost Sent shows (Filled strict A) (Filled strict B) filled x y)
+    (fails_wider Lost Gone Sent shows (Filled strict A) (Filled strict B) filled x y)
 
 -- a fault of the work is told as such
 fault_so : (strict : Bool) (A : Job → Type 0) (P : BuildFault → Type 0) (why : Refusal) → OfFault P why → OrEmpty strict A (OfFault P) why
@@ -83,8 +84,8 @@ stops_asked strict Lacked Broke Lost Failed Gone Sent shows A j x y why asked =
     let B = Filled strict A in
     let wider = of_one B j asked in
     refuses_wider (λ name. ⊥) Lacked Broke Broke (OfFault (IsPlanFault Failed Gone (Is j))) (OrEmpty strict (IsLeft Gone A) (OfFault (IsPlanFault Failed Gone B)))
-    (FailsToDraw Lost (Is j) ⊎ FailsToPrint Sent shows (Is j) x y) (FailsToDraw Lost B ⊎ FailsToPrint Sent shows B x y)
-    (λ name never. absurd never) (λ broke. broke) (λ why is. fault_so strict (IsLeft Gone A) (IsPlanFault Failed Gone B) why (faults_wider Failed Gone (Is j) B wider why is)) (fails_wider Lost Sent shows (Is j) B wider x y) why
+    (FailsToDraw Lost Gone shows (Is j) ⊎ FailsToPrint Sent shows (Is j) x y) (FailsToDraw Lost Gone shows B ⊎ FailsToPrint Sent shows B x y)
+    (λ name never. absurd never) (λ broke. broke) (λ why is. fault_so strict (IsLeft Gone A) (IsPlanFault Failed Gone B) why (faults_wider Failed Gone (Is j) B wider why is)) (fails_wider Lost Gone Sent shows (Is j) B wider x y) why
 
 -- the answer of a job is that of what is asked for
 
@@ -110,17 +111,23 @@ job_holds (Err why) Nothing Gone A j asked holds = λ memory. inr (j, (asked, ho
 
 -- what comes before a job
 
+pub file_refused : (strict : Bool) (Lacked : FileName → Type 0) (Broke Lost : Type 0) (Failed : Ahead → Type 0) (Gone : Option (List ℕ) → Type 0) (Sent : Option (List ℕ) → Type 0) (shows : Shows) (A : Job → Type 0) (x y : Option (List ℕ)) (why : Refusal)
+    → TellsFile Lacked why → RefusesPlan strict Lacked Broke Lost Failed Gone Sent shows A x y why
+file_refused strict Lacked Broke Lost Failed Gone Sent shows A x y why =
+    by_files Lacked Lacked Broke (OrEmpty strict (IsLeft Gone A) (OfFault (IsPlanFault Failed Gone (Filled strict A)))) (FailsToDraw Lost Gone shows (Filled strict A) ⊎ FailsToPrint Sent shows (Filled strict A) x y) why
+    (λ name is. is)
+
 pub empty_refused : (strict : Bool) (Lacked : FileName → Type 0) (Broke Lost : Type 0) (Failed : Ahead → Type 0) (Gone : Option (List ℕ) → Type 0) (Sent : Option (List ℕ) → Type 0) (shows : Shows) (A : Job → Type 0) (j : Job) (x y : Option (List ℕ)) (why : Refusal)
     → IsLeft Gone A j → RefusesEmpty strict j.task j.len why → RefusesPlan strict Lacked Broke Lost Failed Gone Sent shows A x y why
 empty_refused strict Lacked Broke Lost Failed Gone Sent shows A j x y why =
-    by_empty strict Lacked Broke (IsLeft Gone A) (OfFault (IsPlanFault Failed Gone (Filled strict A))) (FailsToDraw Lost (Filled strict A) ⊎ FailsToPrint Sent shows (Filled strict A) x y) j why
+    by_empty strict Lacked Broke (IsLeft Gone A) (OfFault (IsPlanFault Failed Gone (Filled strict A))) (FailsToDraw Lost Gone shows (Filled strict A) ⊎ FailsToPrint Sent shows (Filled strict A) x y) j why
 
 -- why a job isn't told
 
 stops_of : (Broke Lost : Type 0) (Failed : Ahead → Type 0) (Gone : Option (List ℕ) → Type 0) (Sent : Option (List ℕ) → Type 0) (shows : Shows) (j : Job) (x y : Option (List ℕ)) (why : BuildFault) → TellsBroken Broke (Build why)
     → StopsPlanOf Failed Gone why j → StopsPrinting Broke Lost Failed Gone Sent shows j x y (Build why)
 stops_of Broke Lost Failed Gone Sent shows j x y why broke is =
-    by_fault (λ name. ⊥) Broke (OfFault (IsPlanFault Failed Gone (Is j))) (FailsToDraw Lost (Is j) ⊎ FailsToPrint Sent shows (Is j) x y) (Build why) broke
+    by_fault (λ name. ⊥) Broke (OfFault (IsPlanFault Failed Gone (Is j))) (FailsToDraw Lost Gone shows (Is j) ⊎ FailsToPrint Sent shows (Is j) x y) (Build why) broke
     (record { it = j; asked = refl; has = is })
 
 -- that the writer failed is told only where its count rose
@@ -219,45 +226,62 @@ all_printed (Ok u) Sent shows j work begun done b x y z report all is behind = r
 }
 all_printed (Err why) Sent shows j work begun done b x y z report all is behind = tt
 
-abbrev CutsBehind : Type 0 → Type 0 → Type 0 → (Option (List ℕ) → Type 0) → Shows → Job → Work → Report → Bool → Option (List ℕ) → Option (List ℕ) → Refusal → List PlanLine → Type 0
-CutsBehind Same More Broke Sent shows j work report drawn y z why lines =
-    (Same × LacksMap drawn Broke why)
+-- what of that an output for the picture had taken, where it failed
+abbrev Loses : (Option (List ℕ) → Type 0) → Shows → Job → Parameters → Report → List PlanLine → Type 0
+Loses Gone shows j m report lines = LosesMap Gone j.begun j.task m lines (behind_lines shows.times report j.task m lines)
+
+abbrev CutsBehind : Type 0 → Type 0 → Type 0 → (Option (List ℕ) → Type 0) → (Option (List ℕ) → Type 0) → Shows → Job → Work → Report → Bool → Option (List ℕ) → Option (List ℕ) → Refusal → List PlanLine → Type 0
+CutsBehind Same More Broke Gone Sent shows j work report drawn y z why lines =
+    (Same × LacksMap drawn Broke why × AtWrite (Loses Gone shows j work.meaning report lines) why)
     ⊎ ((rest : List ℕ) × IsBehind Sent shows j.begun report j.task j.len work.meaning lines rest × Cuts y z rest × (why ≡ Build fault.Write) × More)
 
-cut_of : (Same More Broke : Type 0) (Sent : Option (List ℕ) → Type 0) (shows : Shows) (j : Job) (work : Work) (begun done : Sums) (b : Ahead) (x y z : Option (List ℕ)) (report : Report)
+cut_of : (Same More Broke : Type 0) (Gone Sent : Option (List ℕ) → Type 0) (shows : Shows) (j : Job) (work : Work) (begun done : Sums) (b : Ahead) (x y z : Option (List ℕ)) (report : Report)
     (drawn : Bool) (why : Refusal) → (all : PrintsLines work begun done j.task j.len j.content b x y report) → IsJob j.task j.len work → (Same → z ≡ y)
-    → CutsBehind Same More Broke Sent shows j work report drawn y z why all.lines → CutsPlan Sent shows (Is j) x z
-cut_of Same More Broke Sent shows j work begun done b x y z report drawn why all is same (inl lacks) = inr (record {
+    → CutsBehind Same More Broke Gone Sent shows j work report drawn y z why all.lines → CutsPlan Sent shows (Is j) x z
+cut_of Same More Broke Gone Sent shows j work begun done b x y z report drawn why all is same (inl lacks) = inr (record {
   bytes = lines_text all.lines;
   of = record { it = j; asked = refl; has = inl (inr (report, lines_of j work begun done b x y report all)) };
   put = inl (subst (λ (z : Option (List ℕ)). Appends x z (lines_text all.lines)) (sym (same lacks.0)) all.put);
 })
-cut_of Same More Broke Sent shows j work begun done b x y z report drawn why all is same (inr cut) = inr (record {
+cut_of Same More Broke Gone Sent shows j work begun done b x y z report drawn why all is same (inr cut) = inr (record {
   bytes = lines_text all.lines ++ cut.0;
   of = told_of Sent shows j (lines_text all.lines) cut.0 (whole_of Sent shows j work begun done b x y report cut.0 all is cut.1);
   put = inr (Cuts-then x y z (lines_text all.lines) cut.0 all.put cut.2);
 })
 
-pub behind_cut : {U : Type 0} (r : Result U Refusal) (Same More Broke : Type 0) (Sent : Option (List ℕ) → Type 0) (shows : Shows) (j : Job) (work : Work) (begun done : Sums) (b : Ahead)
+pub behind_cut : {U : Type 0} (r : Result U Refusal) (Same More Broke : Type 0) (Gone Sent : Option (List ℕ) → Type 0) (shows : Shows) (j : Job) (work : Work) (begun done : Sums) (b : Ahead)
     (x y z : Option (List ℕ)) (report : Report) (drawn : Bool) → (all : PrintsLines work begun done j.task j.len j.content b x y report) → IsJob j.task j.len work → (Same → z ≡ y)
-    → IfErr r (λ why. CutsBehind Same More Broke Sent shows j work report drawn y z why all.lines) → IfErr r (λ why. CutsPlan Sent shows (Is j) x z)
-behind_cut (Ok u) Same More Broke Sent shows j work begun done b x y z report drawn all is same cut = tt
-behind_cut (Err why) Same More Broke Sent shows j work begun done b x y z report drawn all is same cut =
-    cut_of Same More Broke Sent shows j work begun done b x y z report drawn why all is same cut
+    → IfErr r (λ why. CutsBehind Same More Broke Gone Sent shows j work report drawn y z why all.lines) → IfErr r (λ why. CutsPlan Sent shows (Is j) x z)
+behind_cut (Ok u) Same More Broke Gone Sent shows j work begun done b x y z report drawn all is same cut = tt
+behind_cut (Err why) Same More Broke Gone Sent shows j work begun done b x y z report drawn all is same cut =
+    cut_of Same More Broke Gone Sent shows j work begun done b x y z report drawn why all is same cut
+
+undrawn_of : (Lost : Type 0) (Gone : Option (List ℕ) → Type 0) (shows : Shows) (j : Job) (work : Work) (begun done : Sums) (b : Ahead) (x y : Option (List ℕ)) (report : Report)
+    → (all : PrintsLines work begun done j.task j.len j.content b x y report) → IsJob j.task j.len work → Lost → Loses Gone shows j work.meaning report all.lines
+    → FailsToDraw Lost Gone shows (Is j)
+unfolding lines_of
+undrawn_of Lost Gone shows j work begun done b x y report all is lost taken = record {
+  it = j;
+  asked = refl;
+  has = record {
+    told = lines_text all.lines;
+    report = report;
+    of = lines_of j work begun done b x y report all;
+    lost = lost;
+    taken = subst (λ (m : Parameters). Loses Gone shows j m report all.lines)
+        (same_chip (chip_says j.task) work.meaning all.planned.m is.accepted.means all.planned.accepted.means) taken;
+  };
+}
 
 stop_of : (Same More Broke Files : Type 0) (Failed : Ahead → Type 0) (Gone : Option (List ℕ) → Type 0) (Sent : Option (List ℕ) → Type 0) (shows : Shows) (j : Job) (work : Work) (begun done : Sums) (b : Ahead) (x y z : Option (List ℕ)) (report : Report)
-    (drawn : Bool) (why : Refusal) → (all : PrintsLines work begun done j.task j.len j.content b x y report) → IsJob j.task j.len work → drawn ≡ is_some j.begun
-    → (Files → Broke) → (More → Broke) → CutsBehind Same More Files Sent shows j work report drawn y z why all.lines → StopsPrinting Broke Files Failed Gone Sent shows j x z why
-stop_of Same More Broke Files Failed Gone Sent shows j work begun done b x y z report drawn why all is there files more (inl (same, inl memory)) = rw memory tt
-stop_of Same More Broke Files Failed Gone Sent shows j work begun done b x y z report drawn why all is there files more (inl (same, inr map)) = rw map.1 (
-  inr (inl (record {
-    it = j;
-    asked = refl;
-    has = (sym there ∙ map.0, map.2, lines_text all.lines, report, lines_of j work begun done b x y report all);
-  })),
+    (drawn : Bool) (why : Refusal) → (all : PrintsLines work begun done j.task j.len j.content b x y report) → IsJob j.task j.len work
+    → (Files → Broke) → (More → Broke) → CutsBehind Same More Files Gone Sent shows j work report drawn y z why all.lines → StopsPrinting Broke Files Failed Gone Sent shows j x z why
+stop_of Same More Broke Files Failed Gone Sent shows j work begun done b x y z report drawn why all is files more (inl (same, inl memory, taken)) = rw memory tt
+stop_of Same More Broke Files Failed Gone Sent shows j work begun done b x y z report drawn why all is files more (inl (same, inr map, taken)) = rw map.1 (
+  inr (inl (undrawn_of Files Gone shows j work begun done b x y report all is map.2 (taken map.1))),
   files map.2,
 )
-stop_of Same More Broke Files Failed Gone Sent shows j work begun done b x y z report drawn why all is there files more (inr cut) = rw cut.3 (
+stop_of Same More Broke Files Failed Gone Sent shows j work begun done b x y z report drawn why all is files more (inr cut) = rw cut.3 (
   inr (inr (record {
     lines = lines_text all.lines;
     rest = cut.0;
@@ -269,11 +293,11 @@ stop_of Same More Broke Files Failed Gone Sent shows j work begun done b x y z r
 
 pub behind_stops : {U : Type 0} (r : Result U Refusal) (Same More Broke Files : Type 0) (Failed : Ahead → Type 0) (Gone : Option (List ℕ) → Type 0) (Sent : Option (List ℕ) → Type 0) (shows : Shows) (j : Job) (work : Work) (begun done : Sums) (b : Ahead)
     (x y z : Option (List ℕ)) (report : Report) (drawn : Bool) → (all : PrintsLines work begun done j.task j.len j.content b x y report) → IsJob j.task j.len work
-    → drawn ≡ is_some j.begun → (Files → Broke) → (More → Broke)
-    → IfErr r (λ why. CutsBehind Same More Files Sent shows j work report drawn y z why all.lines) → IfErr r (StopsPrinting Broke Files Failed Gone Sent shows j x z)
-behind_stops (Ok u) Same More Broke Files Failed Gone Sent shows j work begun done b x y z report drawn all is there files more cut = tt
-behind_stops (Err why) Same More Broke Files Failed Gone Sent shows j work begun done b x y z report drawn all is there files more cut =
-    stop_of Same More Broke Files Failed Gone Sent shows j work begun done b x y z report drawn why all is there files more cut
+    → (Files → Broke) → (More → Broke)
+    → IfErr r (λ why. CutsBehind Same More Files Gone Sent shows j work report drawn y z why all.lines) → IfErr r (StopsPrinting Broke Files Failed Gone Sent shows j x z)
+behind_stops (Ok u) Same More Broke Files Failed Gone Sent shows j work begun done b x y z report drawn all is files more cut = tt
+behind_stops (Err why) Same More Broke Files Failed Gone Sent shows j work begun done b x y z report drawn all is files more cut =
+    stop_of Same More Broke Files Failed Gone Sent shows j work begun done b x y z report drawn why all is files more cut
 
 -- what stands behind the lines, with the lines of the regions; the picture has what comes before these
 pub behind_is : (Sent : Option (List ℕ) → Type 0) (shows : Shows) (begun : Option (Option (List ℕ))) (report : Report) (t : Task) (len : ℕ) (m : Parameters) (lines : List PlanLine)

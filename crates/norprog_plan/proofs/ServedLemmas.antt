@@ -1,18 +1,18 @@
 -- The job of a request is the one that the texts ask for.
-use Rattle.std.proofs.Common.{◌≡◌, ◌∙◌, ℕ, List, inl, inr, subst, Bool, refl, option_map, Option, Some, IfSome}
+use Rattle.std.proofs.Common.{◌≡◌, ◌∙◌, ℕ, List, inl, inr, subst, sym, Bool, refl, option_map, Option, Some, IfSome}
 use Rattle.nor_base.specs.Device.{Ahead}
-use Rattle.norprog_common.specs.FileStore.{FileFacts, Change, HasGone, LacksEarly}
+use Rattle.norprog_common.specs.FileStore.{FileFacts, Change, HasGone, LacksEarly, MayRead}
 use Rattle.norprog_common.specs.declared.given.PlanArgs.{PlanArgs}
 use Rattle.norprog_common.specs.declared.request.Request.{Request}
 use Rattle.norprog_common.specs.Request.{AsksFor}
-use Rattle.norprog_common.specs.Served.{Job, IsJobOf, map_path, paths_asked, paths_of}
+use Rattle.norprog_common.specs.Served.{Job, IsJobOf, map_path, no_path, paths_asked, paths_of}
 use Rattle.norprog_common.specs.Strict.{Filled}
 use Rattle.norprog_common.specs.declared.faults.FileName.TheVariants.{Map}
 use Rattle.norprog_common.specs.declared.faults.Refusal.{Refusal}
 use Rattle.norprog_plan.specs.Answer.{HoldsPlan, RefusesPlan}
 use Rattle.norprog_plan.specs.Served.{ServesPlan, shows_of}
 use Rattle.norprog_plan.proofs.AnswerLemmas.{refuses_asked}
-use Rattle.norprog_common.proofs.LackedLemmas.{early_same, paths_are}
+use Rattle.norprog_common.proofs.LackedLemmas.{early_same, may_same, paths_are}
 use Rattle.norprog_common.proofs.ServedLemmas.{serves, asks_of}
 
 pub plan_serves : (files : FileFacts) (given : PlanArgs) (o : Option Request) (request : Request) → o ≡ Some request → IfSome o (AsksFor given.job)
@@ -29,6 +29,12 @@ pub plan_filled : (files : FileFacts) (given : PlanArgs) (o : Option Request) (r
     → (j : Job) → Filled request.strict (IsJobOf files request (option_map (λ t. t.now) given.map)) j → Filled given.job.strict (ServesPlan files given) j
 plan_filled files given o request some asks j of =
     (plan_serves files given o request some asks j of.0, λ strict. of.1 ((asks_of given.job o request some asks).strict ∙ strict))
+
+-- the files that the texts name may be read, so those of a request may
+pub plan_may : (files : FileFacts) (given : PlanArgs) (o : Option Request) (request : Request) → o ≡ Some request → IfSome o (AsksFor given.job)
+    → MayRead files (paths_asked given.job no_path) → MayRead files (paths_of request no_path)
+plan_may files given o request some asks =
+    may_same files (paths_asked given.job no_path) (paths_of request no_path) (sym (paths_are given.job request no_path (asks_of given.job o request some asks)))
 
 pub plan_refused : (files : FileFacts) (Failed : Ahead → Type 0) (given : PlanArgs) (Nothing : Type 0) (o : Option Request) (request : Request) → o ≡ Some request → IfSome o (AsksFor given.job)
     → (Broke : Type 0) (x y : Option (List ℕ)) (why : Refusal)

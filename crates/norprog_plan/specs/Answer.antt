@@ -1,5 +1,5 @@
 -- What is told of a plan (this project's).
-use Rattle.std.specs.Prelude.{◌≡◌, ◌⊎◌, ⊤, ℕ, Bool, true, false, List, [], ◌++◌, Option, Some, None, is_some, option_map, IfSome}
+use Rattle.std.specs.Prelude.{◌≡◌, ◌⊎◌, ⊤, ℕ, Bool, true, false, List, [], ◌++◌, Option, Some, None, option_map, IfSome}
 use Rattle.std.specs.Io.KnownBytes.{Appends}
 use Rattle.nor_base.specs.Device.{Ahead, Cuts}
 use Rattle.nor_base.specs.Parameters.{Parameters}
@@ -71,9 +71,23 @@ pub record PutsMap (t : Task) (m : Parameters) (lines : List PlanLine) (rest : L
   pub says : LayoutSays t.layout regions
   pub put : Appends before after (plan_map t m lines regions rest)
 
--- an output that held this did, and it is so of what it had taken
+-- an output took a proper prefix of the picture
+pub record CutsMap (t : Task) (m : Parameters) (lines : List PlanLine) (rest : List ℕ) (before after : Option (List ℕ)) : Type 0 where
+  pub regions : List Region
+  pub says : LayoutSays t.layout regions
+  pub put : Cuts before after (plan_map t m lines regions rest)
+
+-- an output that held this took the picture, and it is so of what it had taken
 abbrev pub IsDrawn : (Option (List ℕ) → Type 0) → Option (List ℕ) → Task → Parameters → List PlanLine → List ℕ → Type 0
 IsDrawn Sent begun t m lines rest = (after : Option (List ℕ)) × PutsMap t m lines rest begun after × Sent after
+
+-- an output that held this took a proper prefix of the picture, or all; `Gone`: nothing more was written to it
+abbrev pub TookSome : (Option (List ℕ) → Type 0) → Option (List ℕ) → Task → Parameters → List PlanLine → List ℕ → Type 0
+TookSome Gone begun t m lines rest = (after : Option (List ℕ)) × (CutsMap t m lines rest begun after ⊎ PutsMap t m lines rest begun after) × Gone after
+
+-- this is so where an output can't be written
+abbrev pub AtWrite : Type 0 → Refusal → Type 0
+AtWrite Holds why = why ≡ Build Write → Holds
 
 -- memory was refused, or an output can't be written, which is told only where one failed
 abbrev pub LacksOutput : Type 0 → Refusal → Type 0
@@ -83,6 +97,11 @@ LacksOutput Broke why = (why ≡ Build Memory) ⊎ ((why ≡ Build Write) × Bro
 abbrev pub Draws : (Option (List ℕ) → Type 0) → Option (Option (List ℕ)) → Task → Parameters → List PlanLine → List ℕ → Type 0
 Draws Sent (Some begun) t m lines rest = IsDrawn Sent begun t m lines rest
 Draws Sent None t m lines rest = ⊤
+
+-- the job has an output for a picture, which took a proper prefix of that, or all; `Gone`: nothing more was written to it
+abbrev pub LosesMap : (Option (List ℕ) → Type 0) → Option (Option (List ℕ)) → Task → Parameters → List PlanLine → List ℕ → Type 0
+LosesMap Gone (Some begun) t m lines rest = TookSome Gone begun t m lines rest
+LosesMap Gone None t m lines rest = ⊥
 
 -- what stands behind the lines of a plan: its report, with its times or without; a picture that has them was drawn, where the job has
 -- an output for that; and then come the lines of its chosen regions, where they are asked for
@@ -153,13 +172,17 @@ pub record StopsPlanOf (Failed : Ahead → Type 0) (Gone : Option (List ℕ) →
 abbrev pub IsPlanFault : (Ahead → Type 0) → (Option (List ℕ) → Type 0) → (Job → Type 0) → BuildFault → Type 0
 IsPlanFault Failed Gone Asked why = ForAsked Job Asked (StopsPlanOf Failed Gone why)
 
--- the plan of the job was told, and it has an output for a picture, which was not taken or didn't go out; `Lost`: an output that was
--- made failed
-abbrev pub IsUndrawn : Type 0 → Job → Type 0
-IsUndrawn Lost j = (is_some j.begun ≡ true) × Lost × (told : List ℕ) × (report : Report) × IsLinesOf told report j
+-- the plan of the job was told, and its output for a picture took a proper prefix of that, or all, and nothing more; `Lost`: an output
+-- that was made failed
+pub record IsUndrawn (Lost : Type 0) (Gone : Option (List ℕ) → Type 0) (shows : Shows) (j : Job) : Type 0 where
+  pub told : List ℕ
+  pub report : Report
+  pub of : IsLinesOf told report j
+  pub lost : Lost
+  pub taken : LosesMap Gone j.begun j.task of.planned.m of.lines (behind_lines shows.times report j.task of.planned.m of.lines)
 
-abbrev pub FailsToDraw : Type 0 → (Job → Type 0) → Type 0
-FailsToDraw Lost Asked = ForAsked Job Asked (IsUndrawn Lost)
+abbrev pub FailsToDraw : Type 0 → (Option (List ℕ) → Type 0) → Shows → (Job → Type 0) → Type 0
+FailsToDraw Lost Gone shows Asked = ForAsked Job Asked (IsUndrawn Lost Gone shows)
 
 -- memory was refused, or the output of a picture, where there is one, can't be written
 abbrev pub LacksMap : Bool → Type 0 → Refusal → Type 0
@@ -168,7 +191,7 @@ LacksMap drawn Broke why = (why ≡ Build Memory) ⊎ ((drawn ≡ true) × (why 
 -- why the plan of a job isn't told; `Broke`: an output failed; `Lost`: one that was made did
 abbrev pub StopsPrinting : Type 0 → Type 0 → (Ahead → Type 0) → (Option (List ℕ) → Type 0) → (Option (List ℕ) → Type 0) → Shows → Job → Option (List ℕ) → Option (List ℕ) → Refusal → Type 0
 StopsPrinting Broke Lost Failed Gone Sent shows j before after =
-    RefusesFor (λ name. ⊥) Broke (OfFault (IsPlanFault Failed Gone (Is j))) (FailsToDraw Lost (Is j) ⊎ FailsToPrint Sent shows (Is j) before after)
+    RefusesFor (λ name. ⊥) Broke (OfFault (IsPlanFault Failed Gone (Is j))) (FailsToDraw Lost Gone shows (Is j) ⊎ FailsToPrint Sent shows (Is j) before after)
 
 -- the output of the job's picture holds what it held as it was made; `Gone`: nothing more was written to it
 abbrev pub IsLeft : (Option (List ℕ) → Type 0) → (Job → Type 0) → Job → Type 0
@@ -179,7 +202,7 @@ IsLeft Gone Asked j = Asked j × IfSome j.begun Gone
 abbrev pub RefusesPlan : Bool → (FileName → Type 0) → Type 0 → Type 0 → (Ahead → Type 0) → (Option (List ℕ) → Type 0) → (Option (List ℕ) → Type 0) → Shows → (Job → Type 0) → Option (List ℕ) → Option (List ℕ) → Refusal → Type 0
 RefusesPlan strict Lacked Broke Lost Failed Gone Sent shows Asked before after =
     RefusesFor Lacked Broke (OrEmpty strict (IsLeft Gone Asked) (OfFault (IsPlanFault Failed Gone (Filled strict Asked))))
-    (FailsToDraw Lost (Filled strict Asked) ⊎ FailsToPrint Sent shows (Filled strict Asked) before after)
+    (FailsToDraw Lost Gone shows (Filled strict Asked) ⊎ FailsToPrint Sent shows (Filled strict Asked) before after)
 
 -- at out of memory the output of the picture took nothing
 abbrev pub HoldsPlan : FileFacts → Option (List ℕ) → (List Change → Type 0) → (Job → Type 0) → Refusal → Type 0

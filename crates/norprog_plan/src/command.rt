@@ -6,7 +6,8 @@ ghost use Rattle.std.specs.Prelude.{IfOk, IfErr, IfSome, MatchResult, option_map
 ghost use Rattle.norprog_common.specs.Files.{TellsFile};
 ghost use Rattle.norprog_common.specs.declared.faults.FileName.TheVariants.{Map};
 ghost use Rattle.norprog_common.specs.FileStore.{Adds, Breaks, HasGone, IsMadeApart};
-ghost use Rattle.norprog_common.specs.FileStore.{LacksEarly, MakesIf, TookNothing, WhereNamed};
+ghost use Rattle.norprog_common.specs.FileStore.{LacksEarly, MakesIf, MayRead, TookNothing};
+ghost use Rattle.norprog_common.specs.FileStore.{WhereNamed};
 ghost use Rattle.norprog_common.specs.Strict.{Filled};
 ghost use Rattle.norprog_common.specs.Told.{OrUsage};
 ghost use Rattle.norprog_plan.specs.Served.{asks_plan, shows_of, ServesPlan};
@@ -14,7 +15,7 @@ ghost use Rattle.norprog_plan.specs.Answer.{AnswersPlan, CutsPlan, HoldsPlan, Pr
 ghost use Rattle.norprog_plan.specs.Answer.{RefusesPlan};
 ghost use Rattle.norprog_common.specs.Reading.{HasFailed};
 ghost use Rattle.norprog_common.specs.Served.{IsJobOf, AreGiven, held_in, input_files_of};
-ghost use Rattle.norprog_common.specs.Served.{map_path, paths_asked, paths_of};
+ghost use Rattle.norprog_common.specs.Served.{map_path, no_path, paths_asked, paths_of};
 ghost use Rattle.norprog_common.specs.Served.{MakesFor, MayMakeFor};
 
 use crate::drawing::left;
@@ -40,6 +41,7 @@ pub fn plan<S: FileStore, O: ByteOut, E: ByteOut>(
 ) -> u8
     requires out { O.count out.old < 2 ^ 64 - 1 }
     requires err { E.count err.old < 2 ^ 64 - 1 }
+    requires read { MayRead (S.facts store.now) (paths_asked given.job no_path) }
     ensures status { result ≤ 2 }
     ensures quiet { result ≡ 0 → err.new ≡ err.old }
     ensures answer { AnswersPlan (S.facts store.now) (HasFailed S.Input.ahead S.Input.count)
@@ -61,7 +63,8 @@ fn report_plan<S: FileStore, O: ByteOut>(
     given: PlanArgs<'_>,
     out: &mut O,
 ) -> Result<u8, Refusal>
-    requires { O.count out.old < 2 ^ 64 - 1 }
+    requires out { O.count out.old < 2 ^ 64 - 1 }
+    requires read { MayRead (S.facts store.now) (paths_asked given.job no_path) }
     ensures done { IfOk result (λ status. (status ≡ 0) × (asks_plan given.entry ≡ true)) }
     ensures journal { MatchResult result
         (λ _. MakesFor (S.facts store.now) given.entry.job
@@ -89,9 +92,8 @@ fn report_plan<S: FileStore, O: ByteOut>(
         (S.facts store.now).broke (HasFailed S.Input.ahead S.Input.count)
         (HasGone (S.facts store.now))
         (S.facts store.now).flushed (shows_of given.entry)
-        (ServesPlan (S.facts store.now) given.entry) (O.held out.old) (O.held out.new))) }
-    ensures memory { IfErr result
-        (HoldsPlan (S.facts store.now) (option_map (λ t. t.now) given.entry.map)
+        (ServesPlan (S.facts store.now) given.entry) (O.held out.old) (O.held out.new)))
+        × IfErr result (HoldsPlan (S.facts store.now) (option_map (λ t. t.now) given.entry.map)
         (Adds (S.Journal.changes journal.old) (S.Journal.changes journal.new))
         (ServesPlan (S.facts store.now) given.entry)) }
 {
@@ -127,7 +129,8 @@ fn run_plan<S: FileStore, O: ByteOut>(
     map: Option<&str>,
     out: &mut O,
 ) -> Result<(), Refusal>
-    requires { O.count out.old < 2 ^ 64 - 1 }
+    requires out { O.count out.old < 2 ^ 64 - 1 }
+    requires read { MayRead (S.facts store.now) (paths_of request.now no_path) }
     ensures journal { MakesIf (S.facts store.now) (input_files_of request.now)
         (option_map (λ t. t.now) map.entry)
         (Adds (S.Journal.changes journal.old) (S.Journal.changes journal.new)) result }
@@ -148,9 +151,8 @@ fn run_plan<S: FileStore, O: ByteOut>(
         (HasGone (S.facts store.now))
         (S.facts store.now).flushed shows
         (IsJobOf (S.facts store.now) request.now (option_map (λ t. t.now) map.entry))
-        (O.held out.old) (O.held out.new)) }
-    ensures memory { IfErr result
-        (HoldsPlan (S.facts store.now) (option_map (λ t. t.now) map.entry)
+        (O.held out.old) (O.held out.new))
+        × IfErr result (HoldsPlan (S.facts store.now) (option_map (λ t. t.now) map.entry)
         (Adds (S.Journal.changes journal.old) (S.Journal.changes journal.new))
         (IsJobOf (S.facts store.now) request.now (option_map (λ t. t.now) map.entry))) }
 {
@@ -176,10 +178,10 @@ fn open_files<S: FileStore>(
     request: &Request<'_>,
     map: Option<&str>,
 ) -> Result<PlanFiles<S::Input, S::Output>, Refusal>
+    requires read { MayRead (S.facts store.now) (paths_of request.now no_path) }
     ensures given { IfOk result
-        (λ files. AreGiven (S.facts store.now) request.now (held_in files.texts)) }
-    ensures content { IfOk result
-        (λ files. (S.facts store.now).opened request.now.content.now (S.Input.ahead files.content)
+        (λ files. AreGiven (S.facts store.now) request.now (held_in files.texts)
+        × (S.facts store.now).opened request.now.content.now (S.Input.ahead files.content)
         files.len) }
     ensures journal { MakesIf (S.facts store.now) (input_files_of request.now)
         (option_map (λ t. t.now) map.entry)

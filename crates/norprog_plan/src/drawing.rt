@@ -3,6 +3,7 @@
 ghost use Rattle.std.specs.Prelude.{◌≡◌, ◌<◌, ◌-◌, ◌^◌, ℕ, List, IfOk, IfErr, IfSome, is_some};
 ghost use Rattle.std.specs.Prelude.{option_map};
 ghost use Rattle.std.specs.Io.KnownBytes.{Appends};
+ghost use Rattle.nor_base.specs.Device.{Cuts};
 ghost use Rattle.nor_hex.specs.Image.{Pairs};
 ghost use Rattle.nor_job.specs.Causes.{HasRegions};
 ghost use Rattle.nor_layout.specs.Chosen.{has};
@@ -13,7 +14,8 @@ ghost use Rattle.nor_map.specs.Map.{map_text};
 ghost use Rattle.nor_plan_read.specs.declared.line.PlanLine.{PlanLine as Line};
 ghost use Rattle.norprog_common.specs.FileStore.{HasGone};
 ghost use Rattle.norprog_common.specs.Told.{AtMemory};
-ghost use Rattle.norprog_plan.specs.Answer.{Draws, IsDrawn, LacksMap, LacksOutput, PutsMap};
+ghost use Rattle.norprog_plan.specs.Answer.{AtWrite, CutsMap, Draws, IsDrawn, LacksMap};
+ghost use Rattle.norprog_plan.specs.Answer.{LacksOutput, LosesMap, PutsMap, TookSome};
 
 use nor_base::{ByteOut, Meaning};
 use nor_job::Inputs;
@@ -56,6 +58,11 @@ pub(crate) fn draw_where_asked<S: FileStore>(
         → HasRegions inputs.now image regions
         → IfOk result (λ _. Draws (S.facts store.now).flushed (option_map S.Output.held map)
         inputs.now meaning.now lines rest.now) }
+    ensures cut { (lines : List Line) (image : Pairs) (regions : List NamedRegion)
+        → IfSome marks.now (λ marks. marks ≡ marks_of meaning.now.size meaning.now.page lines)
+        → HasRegions inputs.now image regions
+        → IfErr result (AtWrite (LosesMap (HasGone (S.facts store.now))
+        (option_map S.Output.held map) inputs.now meaning.now lines rest.now)) }
     ensures refused { IfErr result (LacksMap (is_some map) (S.facts store.now).broke) }
     ensures memory { IfErr result
         (AtMemory (IfSome (option_map S.Output.held map) (HasGone (S.facts store.now)))) }
@@ -85,6 +92,11 @@ fn draw_file<S: FileStore>(
         → HasRegions inputs.now image regions
         → IfOk result (λ _. IsDrawn (S.facts store.now).flushed (S.Output.held file) inputs.now
         meaning.now lines rest.now) }
+    ensures cut { (lines : List Line) (image : Pairs) (regions : List NamedRegion)
+        → marks.now ≡ marks_of meaning.now.size meaning.now.page lines
+        → HasRegions inputs.now image regions
+        → IfErr result (AtWrite (TookSome (HasGone (S.facts store.now)) (S.Output.held file)
+        inputs.now meaning.now lines rest.now)) }
     ensures refused { IfErr result (LacksOutput (S.facts store.now).broke) }
     ensures memory { IfErr result
         (AtMemory (HasGone (S.facts store.now) (S.Output.held file))) }
@@ -115,6 +127,11 @@ fn draw<W: ByteOut>(
         → HasRegions inputs.now image regions
         → IfOk result (λ _. PutsMap inputs.now meaning.now lines rest.now (W.held out.old)
         (W.held out.new)) }
+    ensures cut { (lines : List Line) (image : Pairs) (regions : List NamedRegion)
+        → marks.now ≡ marks_of meaning.now.size meaning.now.page lines
+        → HasRegions inputs.now image regions
+        → IfErr result (AtWrite (CutsMap inputs.now meaning.now lines rest.now (W.held out.old)
+        (W.held out.new))) }
     ensures refused { IfErr result (LacksOutput (W.count out.old < W.count out.new)) }
     ensures kept { IfErr result (AtMemory (out.new ≡ out.old)) }
 {
@@ -144,6 +161,9 @@ fn put_map<W: ByteOut>(
     ensures drawn { (size page : ℕ) (lines : List Line) → marks.now ≡ marks_of size page lines
         → IfOk result (λ _. Appends (W.held out.old) (W.held out.new)
         (map_text (grid_of size page lines (has chosen.now)) lines regions.now rest.now)) }
+    ensures cut { (size page : ℕ) (lines : List Line) → marks.now ≡ marks_of size page lines
+        → IfErr result (AtWrite (Cuts (W.held out.old) (W.held out.new)
+        (map_text (grid_of size page lines (has chosen.now)) lines regions.now rest.now))) }
     ensures refused { IfErr result (LacksOutput (W.count out.old < W.count out.new)) }
     ensures kept { IfErr result (AtMemory (out.new ≡ out.old)) }
 {

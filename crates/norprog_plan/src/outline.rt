@@ -22,8 +22,9 @@ ghost use Rattle.norprog_common.specs.Told.{AtMemory};
 ghost use Rattle.norprog_common.specs.declared.faults.Refusal.TheVariants.{Build};
 ghost use Rattle.norprog_common.specs.Reading.{HasFailed};
 ghost use Rattle.norprog_common.specs.Served.{job_with, Is};
-ghost use Rattle.norprog_plan.specs.Answer.{behind_lines, tables_times, CutsPlan, IsBehind};
-ghost use Rattle.norprog_plan.specs.Answer.{LacksMap, PrintsPlan, StopsPrinting};
+ghost use Rattle.norprog_plan.specs.Answer.{behind_lines, tables_times, AtWrite, CutsPlan};
+ghost use Rattle.norprog_plan.specs.Answer.{IsBehind, LacksMap, LosesMap, PrintsPlan};
+ghost use Rattle.norprog_plan.specs.Answer.{StopsPrinting};
 ghost use Rattle.norprog_plan.specs.Sums.{AreSums, PrintsAll, PrintsLines};
 
 use crate::drawing::{draw_where_asked, left};
@@ -177,7 +178,10 @@ fn print_behind<S: FileStore, O: ByteOut>(
     ensures cut { (len : ℕ) (lines : List Line) → IsJob inputs.now len job.now
         → AreSums job.now (tables_times inputs.now.chip) sums.now lines
         → IfErr result (λ why. ((out.new ≡ out.old)
-        × LacksMap (is_some map) (S.facts store.now).broke why)
+        × LacksMap (is_some map) (S.facts store.now).broke why
+        × AtWrite (LosesMap (HasGone (S.facts store.now)) (option_map S.Output.held map)
+        inputs.now job.now.meaning lines
+        (behind_lines shows.times report.now inputs.now job.now.meaning lines)) why)
         ⊎ ((rest : List ℕ) × IsBehind (S.facts store.now).flushed shows
         (option_map S.Output.held map) report.now inputs.now len job.now.meaning lines rest
         × Cuts (O.held out.old) (O.held out.new) rest × (why ≡ Build Write)
@@ -213,6 +217,11 @@ fn behind<S: FileStore>(
         (option_map S.Output.held map) report.now inputs.now len job.now.meaning lines
         rest.items) }
     ensures refused { IfErr result (LacksMap (is_some map) (S.facts store.now).broke) }
+    ensures cut { (len : ℕ) (lines : List Line) → IsJob inputs.now len job.now
+        → AreSums job.now (tables_times inputs.now.chip) sums.now lines
+        → IfErr result (AtWrite (LosesMap (HasGone (S.facts store.now))
+        (option_map S.Output.held map) inputs.now job.now.meaning lines
+        (behind_lines shows.times report.now inputs.now job.now.meaning lines))) }
     ensures memory { IfErr result
         (AtMemory (IfSome (option_map S.Output.held map) (HasGone (S.facts store.now)))) }
 {

@@ -17,11 +17,11 @@ use Rattle.norprog_common.specs.declared.given.PlayArgs.{PlayArgs}
 use Rattle.norprog_common.specs.Chip.{origin_of}
 use Rattle.norprog_common.specs.Files.{RefusesFile, TellsFile}
 use Rattle.norprog_common.specs.Setup.{setup_task}
-use Rattle.norprog_common.specs.FileStore.{AreTables, Change, FileFacts, IsAheadIn, Lacks, LacksNamed, Named}
+use Rattle.norprog_common.specs.FileStore.{AreTables, Change, FileFacts, IsAheadIn, Lacks, LacksNamed, MayRead, Named}
 use Rattle.norprog_common.specs.Content.{of_reader}
 use Rattle.norprog_common.specs.Reading.{GivesSome, HasFailed}
 use Rattle.norprog_common.specs.Told.{TellsBroken}
-use Rattle.norprog_common.proofs.LackedLemmas.{lacks_named, lacks_same, tables_named}
+use Rattle.norprog_common.proofs.LackedLemmas.{lacks_named, lacks_same, may_same, tables_named}
 use Rattle.norprog_common.proofs.ToldLemmas.{asked_wider, refuses_wider, by_fault, by_files, or_usage}
 use Rattle.norprog_play.specs.declared.ending.Ending.{Ending}
 use Rattle.norprog_play.specs.declared.request.PlayRequest.{PlayRequest}
@@ -52,22 +52,28 @@ endings_asked files Made Told given request (Ok ending) asks of =
     asked_wider PlayTask (IsTaskOf files request) (Serves files given) (IsEndingOf files Made Told ending) (serves files given request asks) of
 endings_asked files Made Told given request (Err why) asks of = tt
 
+-- the options of a request are those of the texts that ask for it
+same_paths : (given : PlayArgs) (request : PlayRequest) → AsksFor given request → Path (FileName → Option (List ℕ)) (paths_of request) (paths_asked given)
+same_paths given request asks =
+    let tables = tables_named (option_map (λ t. t.now) given.setup.chip.sfdp) (option_map (λ t. t.now) given.setup.chip.uniform)
+    (option_map (λ t. t.now) given.setup.chip.bits) (origin_of request.setup.chip) asks.setup.chip in
+    rw (asks.content, asks.script, tables) refl
+
+-- its files may be read, since those of the texts may
+pub may_by : (files : FileFacts) (given : PlayArgs) (request : PlayRequest) → AsksFor given request → MayRead files (paths_asked given)
+    → MayRead files (paths_of request)
+may_by files given request asks may = may_same files (paths_asked given) (paths_of request) (sym (same_paths given request asks)) may
+
 -- and why it isn't played
 module _ (files : FileFacts) (Failed : Ahead → Type 0) (Made : List Change → Type 0) (given : PlayArgs) (request : PlayRequest) (asks : AsksFor given request) where
   halt_asked : (why : Unplayed) → IsHalt files Made (IsTaskOf files request) why → IsHalt files Made (Serves files given) why
   halt_asked why of = asked_wider PlayTask (IsTaskOf files request) (Serves files given) (IsHaltOf files Made why) (serves files given request asks) of
 
-  same : Path (FileName → Option (List ℕ)) (paths_of request) (paths_asked given)
-  same =
-      let tables = tables_named (option_map (λ t. t.now) given.setup.chip.sfdp) (option_map (λ t. t.now) given.setup.chip.uniform)
-      (option_map (λ t. t.now) given.setup.chip.bits) (origin_of request.setup.chip) asks.setup.chip in
-      rw (asks.content, asks.script, tables) refl
-
   refusal_asked : (why : Refusal) → RefusesPlay (Lacks files (paths_of request)) Failed (IsTaskOf files request) why
       → RefusesPlay (Lacks files (paths_asked given)) Failed (Serves files given) why
   refusal_asked why of =
       refuses_wider (Lacks files (paths_of request)) (Lacks files (paths_asked given)) ⊥ ⊥ (IsPlayFault Failed (IsTaskOf files request))
-      (IsPlayFault Failed (Serves files given)) ⊥ ⊥ (lacks_same files (paths_of request) (paths_asked given) same) (λ none. none)
+      (IsPlayFault Failed (Serves files given)) ⊥ ⊥ (lacks_same files (paths_of request) (paths_asked given) (same_paths given request asks)) (λ none. none)
       (λ why of. asked_wider PlayTask (IsTaskOf files request) (Serves files given) (IsStopOf Failed why) (serves files given request asks) of) (λ none. none) why of
 
   pub refusals_asked : (r : Result Ending Unplayed) → is_well_formed given ≡ true → IfErr r (IsUnplayed files (paths_of request) Failed Made (IsTaskOf files request))

@@ -4,7 +4,7 @@ ghost use Rattle.std.specs.Prelude.{◌≡◌, ◌<◌, ◌≤◌, ◌-◌, ◌^
 ghost use Rattle.std.specs.Prelude.{MatchResult};
 ghost use Rattle.nor_base.specs.Chip.{IsPossible};
 ghost use Rattle.nor_base.specs.Run.{trail};
-ghost use Rattle.norprog_common.specs.FileStore.{Adds, Breaks};
+ghost use Rattle.norprog_common.specs.FileStore.{Adds, Breaks, MayRead};
 ghost use Rattle.norprog_common.specs.Reading.{HasFailed};
 ghost use Rattle.norprog_play.specs.Answer.{IsEnding, IsUnplayed, RefusesToPlay, AnswersPlay};
 ghost use Rattle.norprog_play.specs.Early.{MayPlay, chip_with};
@@ -12,7 +12,7 @@ ghost use Rattle.norprog_play.specs.Expected.{expectation_of};
 ghost use Rattle.norprog_play.specs.Played.{Ends, EndsOnDevice, StopsPlay};
 ghost use Rattle.norprog_play.specs.Progress.{ReportsPlay};
 ghost use Rattle.norprog_play.specs.Request.{is_well_formed};
-ghost use Rattle.norprog_play.specs.Served.{paths_of, IsTaskOf, Serves};
+ghost use Rattle.norprog_play.specs.Served.{paths_asked, paths_of, IsTaskOf, Serves};
 
 use crate::early::{Early, ends_early, widest};
 use crate::ending::Ending;
@@ -42,6 +42,7 @@ pub fn play<S: FileStore, O: ByteOut, E: ByteOut, P: ByteOut>(
     err: &mut E,
     progress: &mut P,
 ) -> u8
+    requires read { MayRead (S.facts store.now) (paths_asked given) }
     requires out { O.count out.old < 2 ^ 64 - 1 }
     requires err { E.count err.old < 2 ^ 64 - 1 }
     requires progress { P.count progress.old < 2 ^ 64 - 1 }
@@ -69,7 +70,8 @@ fn ending_of<S: FileStore, P: ByteOut>(
     given: PlayArgs<'_>,
     progress: &mut P,
 ) -> Result<Ending, Unplayed>
-    requires { P.count progress.old < 2 ^ 64 - 1 }
+    requires read { MayRead (S.facts store.now) (paths_asked given) }
+    requires progress { P.count progress.old < 2 ^ 64 - 1 }
     ensures played { IfOk result
         (IsEnding (S.facts store.now)
         (Adds (S.Journal.changes journal.old) (S.Journal.changes journal.new))
@@ -95,7 +97,8 @@ fn play_request<S: FileStore, P: ByteOut>(
     request: PlayRequest<'_>,
     progress: &mut P,
 ) -> Result<Ending, Unplayed>
-    requires { P.count progress.old < 2 ^ 64 - 1 }
+    requires read { MayRead (S.facts store.now) (paths_of request) }
+    requires progress { P.count progress.old < 2 ^ 64 - 1 }
     ensures played { IfOk result
         (IsEnding (S.facts store.now)
         (Adds (S.Journal.changes journal.old) (S.Journal.changes journal.new))

@@ -5,7 +5,7 @@ use Rattle.norprog_common.specs.declared.faults.FileName.TheVariants as file
 use Rattle.norprog_common.specs.declared.given.ReadArgs.{ReadArgs}
 use Rattle.norprog_common.specs.Chip.{origin_of}
 use Rattle.norprog_common.specs.Files.{RefusesFile, TellsFile}
-use Rattle.norprog_common.specs.FileStore.{FileFacts, Adds, Change, Lacks, LacksNamed, Opened}
+use Rattle.norprog_common.specs.FileStore.{FileFacts, Adds, Change, Lacks, LacksNamed, MayReadNamed, Opened}
 use Rattle.norprog_device.specs.Opened.{LacksDevice}
 use Rattle.norprog_read.specs.declared.asked.Ask.{Ask}
 use Rattle.norprog_read.specs.declared.asked.Reading.{Reading}
@@ -29,6 +29,11 @@ module _ (files : FileFacts) (given : ReadArgs) (request : ReadRequest) (asks : 
 
   device_told : (why : Refusal) → LacksDevice files request.device.now why → TellsFile (Lacks files (opened_asked given)) why
   device_told why lacks = lacks_at files (opened_asked given) file.Device request.device.now why device_asked lacks.0 lacks.1
+
+  -- the file of its tables may be read, since that of theirs may
+  pub may_by : MayReadNamed files (option_map (λ t. t.now) given.chip.sfdp) → MayReadNamed files (tables_named (option_map origin_of request.chip))
+  may_by may =
+      subst (λ (named : Option (List ℕ)). MayReadNamed files named) (sym (tables_are given.chip (option_map origin_of request.chip) asks.chip)) may
 
   pub tables_told : (Made : List Change → Type 0) → Made [] → is_well_formed given ≡ true → (why : Refusal) → RefusesFile file.Sfdp why
       → TellsFile (LacksNamed files (tables_named (option_map origin_of request.chip))) why → IsUnread files given Made (Refused why)

@@ -5,7 +5,7 @@ ghost use Rattle.std.specs.Prelude.{IfOk, IfErr};
 ghost use Rattle.norprog_common.specs.Chip.{origin_of};
 ghost use Rattle.norprog_common.specs.declared.faults.FileName.TheVariants.{Sfdp};
 ghost use Rattle.norprog_common.specs.Files.{RefusesFile, TellsFile};
-ghost use Rattle.norprog_common.specs.FileStore.{Adds, Breaks, LacksNamed, Opened};
+ghost use Rattle.norprog_common.specs.FileStore.{Adds, Breaks, LacksNamed, MayReadNamed, Opened};
 ghost use Rattle.norprog_read.specs.Answer.{AnswersRead, AreSavedIf, AreUnsaved, IsKept};
 ghost use Rattle.norprog_read.specs.Answer.{IsUnread, IsUnsavedIf, PrintsReading, Reports};
 ghost use Rattle.norprog_read.specs.Line.{reading_text, unlike_line};
@@ -37,6 +37,7 @@ pub fn read<S: FileStore, O: ByteOut, E: ByteOut>(
     out: &mut O,
     err: &mut E,
 ) -> u8
+    requires read { MayReadNamed (S.facts store.now) (option_map (λ t. t.now) given.chip.sfdp) }
     requires out { O.count out.old < 2 ^ 64 - 1 }
     requires err { E.count err.old < 2 ^ 64 - 1 }
     ensures status { result ≤ 2 }
@@ -95,6 +96,7 @@ fn read_texts<S: FileStore>(
     journal: &mut S::Journal,
     given: ReadArgs<'_>,
 ) -> Result<Reading, Unread>
+    requires read { MayReadNamed (S.facts store.now) (option_map (λ t. t.now) given.chip.sfdp) }
     ensures kept { IfOk result (IsKept (S.facts store.now) given.entry
         (Adds (S.Journal.changes journal.old) (S.Journal.changes journal.new))) }
     ensures asked { IfOk result (λ _. is_well_formed given.entry ≡ true) }
@@ -117,6 +119,7 @@ pub fn file_of<S: FileStore>(
     store: &S,
     chip: Option<Chip<'_>>,
 ) -> Result<Vec<u8>, Refusal>
+    requires read { MayReadNamed (S.facts store.now) (tables_named (option_map origin_of chip)) }
     ensures file { IfOk result
         (λ file. AreTablesIf (S.facts store.now) (option_map origin_of chip.entry) file.items) }
     ensures refused { IfErr result (RefusesFile Sfdp) }

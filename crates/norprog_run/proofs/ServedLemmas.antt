@@ -13,9 +13,9 @@ use Rattle.norprog_common.specs.declared.faults.Refusal.TheVariants.{Text, Usage
 use Rattle.norprog_common.specs.Chip.{origin_of}
 use Rattle.norprog_common.specs.Files.{TellsFile}
 use Rattle.norprog_common.specs.Setup.{setup_task}
-use Rattle.norprog_common.specs.FileStore.{FileFacts, Change, Emptied, Adds, Tries, MakesNamed, MayMake, AreTables, GoesOut, HasGone, IsMadeApart, IsTextIn, Lacks, LacksEarly, Named, Notes, WhereNamed, tables_file}
+use Rattle.norprog_common.specs.FileStore.{FileFacts, Change, Emptied, Adds, Tries, MakesNamed, MayMake, AreTables, GoesOut, HasGone, IsMadeApart, IsTextIn, Lacks, LacksEarly, MayRead, Named, Notes, WhereNamed, tables_file}
 use Rattle.norprog_common.specs.Served.{out_path}
-use Rattle.norprog_common.proofs.LackedLemmas.{early_same, tables_named}
+use Rattle.norprog_common.proofs.LackedLemmas.{early_same, may_same, tables_named}
 use Rattle.norprog_common.proofs.StoreLemmas.{made_apart, more_noted, one_noted}
 use Rattle.norprog_common.proofs.JournalLemmas.{adds_none, may_make, output_made}
 use Rattle.norprog_common.specs.Content.{CountsReader, CountsWriter, of_reader, of_writer}
@@ -47,6 +47,10 @@ same_paths given request asks =
     let tables = tables_named (option_map (λ t. t.now) chip.sfdp) (option_map (λ t. t.now) chip.uniform) (option_map (λ t. t.now) chip.bits)
     (origin_of request.setup.chip) asks.beside.setup.chip in
     rw (asks.beside.content, asks.beside.script, asks.beside.out, tables) refl
+
+-- they may be read where those may
+pub may_read : (files : FileFacts) (given : RunArgs) (request : RunRequest) → AsksFor given request → MayRead files (paths_asked given) → MayRead files (paths_of request)
+may_read files given request asks = may_same files (paths_asked given) (paths_of request) (sym (same_paths given request asks))
 
 -- a play of a request that the texts ask for is one that they ask for, and so is its script
 serves : (files : FileFacts) (given : RunArgs) (request : RunRequest) → AsksFor given request → (t : PlayTask) → IsTaskOf files request t → Serves files given t

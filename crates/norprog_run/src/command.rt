@@ -6,7 +6,7 @@ ghost use Rattle.nor_job.specs.declared.fault.BuildFault.TheVariants.{Write};
 ghost use Rattle.std.specs.Io.KnownBytes.{Appends};
 ghost use Rattle.norprog_common.specs.FileStore.{Adds, Breaks, DoNotFail, Emptied, HasGone};
 ghost use Rattle.norprog_common.specs.FileStore.{IsTextIn, IsTextOfFile, LacksEarly, MakesNamed};
-ghost use Rattle.norprog_common.specs.FileStore.{MayMake, Tries};
+ghost use Rattle.norprog_common.specs.FileStore.{MayMake, MayRead, Tries};
 ghost use Rattle.norprog_common.specs.Reading.{FailsReading, FailsScript, HasFailed, IsTextRead};
 ghost use Rattle.norprog_common.specs.declared.faults.FileName.TheVariants.{Out};
 ghost use Rattle.norprog_common.specs.declared.faults.Refusal.TheVariants.{Build};
@@ -17,7 +17,7 @@ ghost use Rattle.norprog_run.specs.Answer.{HoldsRun, RefusesRun, RefusesToRun, A
 ghost use Rattle.norprog_run.specs.Request.{is_well_formed};
 ghost use Rattle.norprog_run.specs.Served.{play_with, IsMadeFor, IsTaskOf, Serves};
 ghost use Rattle.norprog_run.specs.Served.{ServesScript, MakesFor, MayMakeFor, input_files_of};
-ghost use Rattle.norprog_run.specs.Served.{paths_of};
+ghost use Rattle.norprog_run.specs.Served.{paths_asked, paths_of};
 ghost use Rattle.norprog_run.specs.Verdict.{verdict_line};
 
 use crate::play::play_script;
@@ -44,6 +44,7 @@ pub fn run<S: FileStore, O: ByteOut, E: ByteOut>(
 ) -> u8
     requires out { O.count out.old < 2 ^ 64 - 1 }
     requires err { E.count err.old < 2 ^ 64 - 1 }
+    requires read { MayRead (S.facts store.now) (paths_asked given) }
     ensures status { result ≤ 2 }
     ensures quiet { result ≡ 0 → err.new ≡ err.old }
     ensures answer { AnswersRun (S.facts store.now) (HasFailed S.Input.ahead S.Input.count)
@@ -66,7 +67,8 @@ fn report_run<S: FileStore, O: ByteOut>(
     given: RunArgs<'_>,
     out: &mut O,
 ) -> Result<Verdict, Refusal>
-    requires { O.count out.old < 2 ^ 64 - 1 }
+    requires out { O.count out.old < 2 ^ 64 - 1 }
+    requires read { MayRead (S.facts store.now) (paths_asked given) }
     ensures played { IfOk result (IsPlayVerdict (Serves (S.facts store.now) given.entry)
         (ServesScript (S.facts store.now) given.entry) (S.facts store.now).flushed) }
     ensures printed { IfOk result (λ verdict. (is_well_formed given.entry ≡ true)
@@ -82,8 +84,8 @@ fn report_run<S: FileStore, O: ByteOut>(
     ensures first { IfErr result
         (RefusesToRun (S.facts store.now) (HasFailed S.Input.ahead S.Input.count) given.entry
         (Adds (S.Journal.changes journal.old) (S.Journal.changes journal.new) [])
-        (Breaks (S.facts store.now) (O.count out.old) (O.count out.new))) }
-    ensures memory { IfErr result
+        (Breaks (S.facts store.now) (O.count out.old) (O.count out.new)))
+        × IfErr result
         (HoldsRun (S.facts store.now) (option_map (λ t. t.now) given.entry.out)
         (Adds (S.Journal.changes journal.old) (S.Journal.changes journal.new))
         (Serves (S.facts store.now) given.entry)) }
@@ -102,6 +104,7 @@ fn verdict_of<S: FileStore>(
     journal: &mut S::Journal,
     given: RunArgs<'_>,
 ) -> Result<Verdict, Refusal>
+    requires read { MayRead (S.facts store.now) (paths_asked given) }
     ensures played { IfOk result (IsPlayVerdict (Serves (S.facts store.now) given.entry)
         (ServesScript (S.facts store.now) given.entry) (S.facts store.now).flushed) }
     ensures asked { IfOk result (λ _. is_well_formed given.entry ≡ true) }
@@ -130,7 +133,8 @@ fn play_request<S: FileStore>(
     journal: &mut S::Journal,
     request: RunRequest<'_>,
 ) -> Result<Verdict, Refusal>
-    requires { 0 < request.bench.limit }
+    requires limit { 0 < request.bench.limit }
+    requires read { MayRead (S.facts store.now) (paths_of request) }
     ensures played { IfOk result (IsPlayVerdict (IsTaskOf (S.facts store.now) request.entry)
         (IsTextIn (S.facts store.now) request.entry.script.now) (S.facts store.now).flushed) }
     ensures refused { IfErr result
@@ -214,13 +218,13 @@ fn play_to<S: FileStore>(
         (S.Input.ahead content.old) len) (IsTextRead S.Input.ahead script)
         (HasFailed S.Input.ahead S.Input.count)
         (FailsScript S.Input.ahead (HasFailed S.Input.ahead S.Input.count) script)
-        (HasGone (S.facts store.now))) }
-    ensures journal { Tries (S.Journal.changes journal.old) (S.Journal.changes journal.new)
-        (Emptied path.now places.now) result }
-    ensures memory { IfErr result (HoldsRun (S.facts store.now) (Some path.now)
+        (HasGone (S.facts store.now)))
+        × IfErr result (HoldsRun (S.facts store.now) (Some path.now)
         (Adds (S.Journal.changes journal.old) (S.Journal.changes journal.new))
         (IsMadeFor (S.facts store.now) path.now places.now inputs.now bench
         (S.Input.ahead content.old) len)) }
+    ensures journal { Tries (S.Journal.changes journal.old) (S.Journal.changes journal.new)
+        (Emptied path.now places.now) result }
 {
     let mut file = store.create(journal, alloc, path, FileName::Out, places)?;
     let played = play_file(alloc, inputs, bench, script, content, len, &mut file);

@@ -1,6 +1,6 @@
 -- What is written for a request is what its texts ask for, and what is so of it is so of that.
 use Rattle.std.proofs.Common.{◌≡◌, ◌+◌, arith, inl, ◌++◌, ◌||◌, Bool, Bor, true, false, is_some, option_map, option_to_list, refl, sym, subst, List, [], ◌∷◌, ℕ, Option, None, Some, Result, Ok, Err, IfOk, IfErr, inr}
-use Rattle.norprog_common.specs.FileStore.{FileFacts, Change, AreTables, Breaks, HasGone, IsMadeApart, LacksEarly, Named, Notes, TookNothing, tables_file}
+use Rattle.norprog_common.specs.FileStore.{FileFacts, Change, AreTables, Breaks, HasGone, IsMadeApart, LacksEarly, MayRead, Named, Notes, TookNothing, tables_file}
 use Rattle.norprog_common.specs.Chip.{origin_of}
 use Rattle.norprog_common.specs.Setup.{setup_task}
 use Rattle.norprog_common.specs.declared.files.FileId.{FileId}
@@ -16,7 +16,7 @@ use Rattle.norprog_common.specs.declared.faults.FileName.{FileName}
 use Rattle.norprog_common.specs.declared.faults.FileName.TheVariants.{Out}
 use Rattle.norprog_common.specs.declared.faults.Refusal.{Refusal}
 use Rattle.norprog_common.specs.declared.given.SetupArgs.{SetupArgs}
-use Rattle.norprog_common.proofs.LackedLemmas.{early_same, tables_named}
+use Rattle.norprog_common.proofs.LackedLemmas.{early_same, may_same, tables_named}
 use Rattle.norprog_common.proofs.ToldLemmas.{asked_wider, refuses_wider, by_fault, by_files, write_is_other}
 use Rattle.norprog_common.specs.declared.given.ScriptArgs.{ScriptArgs}
 use Rattle.norprog_script.specs.declared.request.ScriptRequest.{ScriptRequest}
@@ -59,6 +59,10 @@ tables_said given (Some setup) asks =
 -- the files of a request are those that the texts name
 same_paths : (given : ScriptArgs) (request : ScriptRequest) → AsksFor given request → Path (FileName → Option (List ℕ)) (paths_of request) (paths_asked given)
 same_paths given request asks = let tables = tables_said given.setup request.chip asks.chip in rw (asks.log, asks.out, tables) refl
+
+-- they may be read where those may
+pub may_read : (files : FileFacts) (given : ScriptArgs) (request : ScriptRequest) → AsksFor given request → MayRead files (paths_asked given) → MayRead files (paths_of request)
+may_read files given request asks = may_same files (paths_asked given) (paths_of request) (sym (same_paths given request asks))
 
 -- a file that couldn't be used
 pub file_refused : (Lacked : FileName → Type 0) (Broke : Type 0) (Gone : Option (List ℕ) → Type 0) (Asked : LogTask → Type 0) (why : Refusal) → TellsFile Lacked why

@@ -4,6 +4,7 @@ ghost use Rattle.std.specs.Prelude.{◌≡◌, ◌<◌, ◌≤◌, ◌-◌, ◌^
 ghost use Rattle.std.specs.Prelude.{option_map};
 ghost use Rattle.std.specs.Prelude.{IfOk, IfErr, MatchResult};
 ghost use Rattle.norprog_common.specs.FileStore.{Adds, Breaks, HasGone, LacksEarly, MakesIf};
+ghost use Rattle.norprog_common.specs.FileStore.{MayRead};
 ghost use Rattle.norprog_common.specs.declared.faults.FileName.TheVariants.{Out};
 ghost use Rattle.norprog_common.specs.Told.{OrUsage};
 ghost use Rattle.norprog_script.specs.Answer.{IsScripted, RefusesScript, PrintsTally, CutsTally};
@@ -36,6 +37,7 @@ pub fn script<S: FileStore, O: ByteOut, E: ByteOut>(
 ) -> u8
     requires out { O.count out.old < 2 ^ 64 - 1 }
     requires err { E.count err.old < 2 ^ 64 - 1 }
+    requires read { MayRead (S.facts store.now) (paths_asked given) }
     ensures status { result ≤ 2 }
     ensures quiet { result ≡ 0 → err.new ≡ err.old }
     ensures answer { AnswersScript (S.facts store.now) given.entry
@@ -55,7 +57,8 @@ fn scripted_in<S: FileStore, O: ByteOut>(
     given: ScriptArgs<'_>,
     out: &mut O,
 ) -> Result<u8, Refusal>
-    requires { O.count out.old < 2 ^ 64 - 1 }
+    requires out { O.count out.old < 2 ^ 64 - 1 }
+    requires read { MayRead (S.facts store.now) (paths_asked given) }
     ensures done { IfOk result (λ status. (status ≡ 0) × (is_well_formed given.entry ≡ true)) }
     ensures journal { MatchResult result
         (λ _. MakesScript (S.facts store.now) given.entry
@@ -73,8 +76,8 @@ fn scripted_in<S: FileStore, O: ByteOut>(
         (RefusesScript (LacksEarly (S.facts store.now) (paths_asked given.entry) Out
         (Adds (S.Journal.changes journal.old) (S.Journal.changes journal.new) []))
         (Breaks (S.facts store.now) (O.count out.old) (O.count out.new))
-        (HasGone (S.facts store.now)) (Serves (S.facts store.now) given.entry))) }
-    ensures memory { IfErr result
+        (HasGone (S.facts store.now)) (Serves (S.facts store.now) given.entry)))
+        × IfErr result
         (HoldsScript (S.facts store.now) (option_map (λ t. t.now) given.entry.out)
         (Adds (S.Journal.changes journal.old) (S.Journal.changes journal.new))
         (Serves (S.facts store.now) given.entry)) }
@@ -94,6 +97,7 @@ fn run_script<S: FileStore>(
     journal: &mut S::Journal,
     request: ScriptRequest<'_>,
 ) -> Result<Tally, Refusal>
+    requires read { MayRead (S.facts store.now) (paths_of request) }
     ensures journal { MakesIf (S.facts store.now)
         (chip_file request.entry.chip ++ request.entry.log.now ∷ []) (Some request.entry.out.now)
         (Adds (S.Journal.changes journal.old) (S.Journal.changes journal.new)) result }
@@ -123,7 +127,8 @@ fn run_listing<S: FileStore>(
     setup: Setup<'_>,
     request: ScriptRequest<'_>,
 ) -> Result<Tally, Refusal>
-    requires { request.chip ≡ Some setup }
+    requires chip { request.chip ≡ Some setup }
+    requires read { MayRead (S.facts store.now) (paths_of request) }
     ensures journal { MakesIf (S.facts store.now)
         (chip_file request.entry.chip ++ request.entry.log.now ∷ []) (Some request.entry.out.now)
         (Adds (S.Journal.changes journal.old) (S.Journal.changes journal.new)) result }
@@ -163,7 +168,8 @@ fn run_log<S: FileStore>(
     journal: &mut S::Journal,
     request: ScriptRequest<'_>,
 ) -> Result<Tally, Refusal>
-    requires { request.chip ≡ None }
+    requires chip { request.chip ≡ None }
+    requires read { MayRead (S.facts store.now) (paths_of request) }
     ensures journal { MakesIf (S.facts store.now)
         (chip_file request.entry.chip ++ request.entry.log.now ∷ []) (Some request.entry.out.now)
         (Adds (S.Journal.changes journal.old) (S.Journal.changes journal.new)) result }

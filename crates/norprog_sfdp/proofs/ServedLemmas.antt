@@ -1,13 +1,14 @@
 -- The chip is the one that the texts name.
-use Rattle.std.proofs.Common.{◌≡◌, ◌∙◌, ap, refl, sym, true, Bor, codes, unwrap_or, is_some, option_map, Option, Some, None, List, ℕ}
+use Rattle.std.proofs.Common.{◌≡◌, ◌∙◌, ap, refl, subst, sym, true, Bor, codes, unwrap_or, is_some, option_map, Option, Some, None, List, ℕ}
 use Rattle.nor_base.specs.declared.meaning.Part.{Part}
 use Rattle.nor_job.specs.Task.{Task}
 use Rattle.norprog_common.specs.Chip.{Origin}
-use Rattle.norprog_common.specs.FileStore.{FileFacts, AreTables, Lacks, tables_name}
+use Rattle.norprog_common.specs.FileStore.{FileFacts, AreTables, Lacks, MayRead, MayReadNamed, tables_name}
 use Rattle.norprog_common.specs.Values.{part_of}
 use Rattle.norprog_common.specs.declared.given.ChipArgs.{ChipArgs}
 use Rattle.norprog_common.specs.Setup.{chip_asked, family_asked}
 use Rattle.norprog_common.specs.declared.faults.FileName.{FileName}
+use Rattle.norprog_common.specs.declared.faults.FileName.TheVariants.{Sfdp}
 use Rattle.norprog_sfdp.specs.Served.{asks_chip, tables_path, ServesChip, IsTaskAlone, IsChipTask}
 use Rattle.norprog_common.proofs.LackedLemmas.{lacks_same, tables_named}
 use Rattle.norprog_common.proofs.ServedLemmas.{both}
@@ -44,3 +45,10 @@ tables_asked files given origin named =
     let sfdp = option_map (λ t. t.now) given.sfdp in
     lacks_same files (tables_path (tables_name origin)) (tables_path sfdp)
     (ap tables_path (tables_named sfdp (option_map (λ t. t.now) given.uniform) (option_map (λ t. t.now) given.bits) origin named))
+
+-- it may be read where that may
+pub may_read : (files : FileFacts) (given : ChipArgs) (origin : Origin) → chip_asked given ≡ Some origin → MayRead files (tables_path (option_map (λ t. t.now) given.sfdp))
+    → MayReadNamed files (tables_name origin)
+may_read files given origin named may =
+    let sfdp = option_map (λ t. t.now) given.sfdp in
+    subst (MayReadNamed files) (sym (tables_named sfdp (option_map (λ t. t.now) given.uniform) (option_map (λ t. t.now) given.bits) origin named)) (may Sfdp)

@@ -2,7 +2,7 @@
 
 ghost use Rattle.std.specs.Prelude.{◌≡◌, ◌<◌, ◌≤◌, ◌-◌, ◌^◌, true, option_map, IfOk, IfErr};
 ghost use Rattle.norprog_common.specs.Chip.{origin_of};
-ghost use Rattle.norprog_common.specs.FileStore.{Lacks, tables_name};
+ghost use Rattle.norprog_common.specs.FileStore.{Lacks, MayRead, MayReadNamed, tables_name};
 ghost use Rattle.norprog_common.specs.Told.{OrUsage};
 ghost use Rattle.norprog_sfdp.specs.Served.{asks_chip, tables_path, IsChipTask, IsTaskAlone};
 ghost use Rattle.norprog_sfdp.specs.Served.{ServesChip};
@@ -30,6 +30,8 @@ pub fn sfdp<S: FileStore, O: ByteOut, E: ByteOut>(
 ) -> u8
     requires out { O.count out.old < 2 ^ 64 - 1 }
     requires err { E.count err.old < 2 ^ 64 - 1 }
+    requires read { MayRead (S.facts store.now)
+        (tables_path (option_map (λ t. t.now) given.sfdp)) }
     ensures status { result ≤ 2 }
     ensures quiet { result ≡ 0 → err.new ≡ err.old }
     ensures answer { AnswersChip (S.facts store.now) given.entry (O.count out.old < O.count out.new)
@@ -46,15 +48,16 @@ fn report_meaning<S: FileStore, O: ByteOut>(
     given: ChipArgs<'_>,
     out: &mut O,
 ) -> Result<u8, Refusal>
-    requires { O.count out.old < 2 ^ 64 - 1 }
-    ensures status { IfOk result (λ status. status ≡ 0) }
+    requires out { O.count out.old < 2 ^ 64 - 1 }
+    requires read { MayRead (S.facts store.now)
+        (tables_path (option_map (λ t. t.now) given.sfdp)) }
+    ensures done { IfOk result (λ status. (status ≡ 0) × (asks_chip given.entry ≡ true)) }
     ensures printed { IfOk result
         (λ _. PrintsMeaning (ServesChip (S.facts store.now) given.entry) (O.held out.old)
         (O.held out.new)) }
     ensures unprinted { IfErr result
         (λ _. CutsMeaning (ServesChip (S.facts store.now) given.entry) (O.held out.old)
         (O.held out.new)) }
-    ensures asked { IfOk result (λ _. asks_chip given.entry ≡ true) }
     ensures first { IfErr result
         (OrUsage (asks_chip given.entry)
         (RefusesMeaning (Lacks (S.facts store.now)
@@ -77,6 +80,7 @@ fn run_meaning<S: FileStore>(
     chip: Chip<'_>,
     part: Part,
 ) -> Result<Meaning, Refusal>
+    requires read { MayReadNamed (S.facts store.now) (tables_name (origin_of chip)) }
     ensures means { IfOk result
         (IsMeaning (IsChipTask (S.facts store.now) (origin_of chip.entry) part)) }
     ensures refused { IfErr result

@@ -1,22 +1,39 @@
 -- What the answer of a run over files in memory says of their bytes.
-use Rattle.std.proofs.Common.{◌≡◌, ◌∙◌, ℕ, List, [], ◌∷◌, Option, Some, option_map, refl, sym, ap, subst, length, arith}
+use Rattle.std.proofs.Common.{◌≡◌, ◌∙◌, ℕ, true, List, [], ◌∷◌, Option, None, Some, is_some, option_map, refl, sym, ap, subst, length, arith}
 use Rattle.std.specs.Prelude.{codes}
 use Rattle.nor_base.specs.Device.{Ahead, Finite}
 use Rattle.norprog_common.specs.Chip.{Uniform, origin_of}
-use Rattle.norprog_common.specs.FileStore.{Change, Emptied, MakesNamed, MakesOutput, Named, IsTextIn}
+use Rattle.norprog_common.specs.FileStore.{Change, Emptied, MakesNamed, MakesOutput, MayRead, Named, IsTextIn}
 use Rattle.norprog_common.specs.Setup.{chip_asked}
+use Rattle.norprog_common.specs.declared.faults.FileName.TheVariants as name
 use Rattle.norprog_common.specs.declared.files.FileId.{FileId}
 use Rattle.norprog_common.specs.declared.given.RunArgs.{RunArgs}
 use Rattle.norprog_run.specs.Answer.{PrintsVerdict, WasPlayedSo}
-use Rattle.norprog_run.specs.Served.{MakesFor, Serves, ServesScript, input_files_asked}
+use Rattle.norprog_run.specs.Served.{MakesFor, Serves, ServesScript, input_files_asked, paths_asked}
 use Rattle.norprog_run.specs.Verdict.{status_of}
 use Rattle.norprog_run.specs.declared.verdict.Verdict.{Verdict}
 use Rattle.norprog_run.specs.declared.verdict.Verdict.TheVariants.{Done, Wrong}
-use Rattle.test_files.proofs.WorkedLemmas.{given_bytes, of_named, some_origin, text_is, two_places}
+use Rattle.norprog_common.proofs.LackedLemmas.{tables_named}
+use Rattle.test_files.proofs.WorkedLemmas.{given_bytes, none_may, of_named, one_may, some_origin, text_is, two_places}
 use Rattle.test_files.specs.Told.{bytes_in, file_of, told_files}
 use Rattle.test_files.specs.Worked.{IsRunOf}
 use Rattle.test_files.specs.declared.memory.Device.{Device}
 use Rattle.test_files.specs.declared.memory.File.{File}
+
+-- the content and the script of a play may be read, and it names no other file that is
+pub run_may : (files : List File) (device : Option Device) (given : RunArgs) → is_some (file_of files (codes "content")) ≡ true
+    → is_some (file_of files (codes "script")) ≡ true → option_map (λ t. t.now) given.content ≡ Some (codes "content")
+    → option_map (λ t. t.now) given.script ≡ Some (codes "script") → chip_asked given.setup.chip ≡ Some (Uniform 8192)
+    → MayRead (told_files files device) (paths_asked given)
+run_may files device given kept there content script chip name.Sfdp =
+    let of = given.setup.chip in
+    none_may (told_files files device) (option_map (λ t. t.now) of.sfdp)
+    (sym (tables_named (option_map (λ t. t.now) of.sfdp) (option_map (λ t. t.now) of.uniform) (option_map (λ t. t.now) of.bits) (Uniform 8192) chip))
+run_may files device given kept there content script chip name.Content =
+    one_may files device (option_map (λ t. t.now) given.content) (codes "content") content kept
+run_may files device given kept there content script chip name.Script =
+    one_may files device (option_map (λ t. t.now) given.script) (codes "script") script there
+run_may files device given kept there content script chip other = none_may (told_files files device) None refl
 
 -- what a device of the job had ahead, and how much
 opened_is : (files : List File) (device : Option Device) (named : Option (List ℕ)) (name content : List ℕ) (ahead : Ahead) (len : ℕ) → bytes_in files name ≡ Some content

@@ -1,24 +1,27 @@
 -- What an answer over files in memory says of their bytes.
-use Rattle.std.proofs.Common.{◌≡◌, ◌∙◌, ℕ, List, [], ◌∷◌, Option, None, Some, option_map, inl, inr, refl, sym, ap, subst, length, arith}
+use Rattle.std.proofs.Common.{◌≡◌, ◌∙◌, ℕ, true, List, [], ◌∷◌, Option, None, Some, is_some, option_map, inl, inr, refl, sym, ap, subst, length, arith}
 use Rattle.std.specs.Prelude.{codes}
 use Rattle.nor_base.specs.Device.{Ahead, Finite}
 use Rattle.nor_check.specs.declared.verdict.Verdict.{Verdict}
 use Rattle.nor_check.specs.declared.verdict.Verdict.TheVariants.{Yes, No}
 use Rattle.nor_script.specs.Stream.{IsTextOf}
 use Rattle.norprog_check.specs.Answer.{PrintsJudgement, verdict_status}
-use Rattle.norprog_check.specs.Served.{ServesCheck, ServesScript}
+use Rattle.norprog_check.specs.Served.{check_paths, ServesCheck, ServesScript}
 use Rattle.norprog_common.specs.Strict.{Filled}
 use Rattle.norprog_check.specs.Checked.{IsChecked}
 use Rattle.norprog_build.specs.Answer.{PrintsReport}
 use Rattle.norprog_build.specs.Served.{ServesBuild}
 use Rattle.norprog_common.specs.Chip.{Origin, Uniform}
-use Rattle.norprog_common.specs.FileStore.{Change, Emptied, MakesNamed, MakesOutput, Named, IsTextIn, StoodAt}
+use Rattle.norprog_common.specs.FileStore.{FileFacts, Change, Emptied, MakesNamed, MakesOutput, MayRead, MayReadNamed, Named, IsTextIn, StoodAt}
 use Rattle.norprog_common.specs.Request.{asked_chip}
-use Rattle.norprog_common.specs.Served.{Job, MakesFor, Serves, input_files_asked}
+use Rattle.norprog_common.specs.Served.{Job, MakesFor, Serves, input_files_asked, no_path, paths_asked, script_path}
+use Rattle.norprog_common.specs.declared.faults.FileName.{FileName}
+use Rattle.norprog_common.specs.declared.faults.FileName.TheVariants as name
 use Rattle.norprog_common.specs.declared.files.FileId.{FileId}
 use Rattle.norprog_common.specs.declared.given.BuildArgs.{BuildArgs}
 use Rattle.norprog_common.specs.declared.given.CheckArgs.{CheckArgs}
 use Rattle.norprog_common.specs.declared.given.Given.{Given}
+use Rattle.norprog_common.proofs.LackedLemmas.{tables_named}
 use Rattle.test_files.specs.Told.{bytes_in, file_of, told_files}
 use Rattle.test_files.specs.Worked.{IsBuiltOf, IsJobOfBytes, IsYesOf}
 use Rattle.test_files.specs.declared.memory.Device.{Device}
@@ -37,6 +40,60 @@ of_named Has named name is has = subst (Named Has) is has
 
 pub given_bytes : (files : List File) (name bytes other : List ℕ) → bytes_in files name ≡ Some bytes → bytes_in files name ≡ Some other → other ≡ bytes
 given_bytes files name bytes other is was = same_bytes bytes other (sym is ∙ was)
+
+-- a file that is there may be read by its name; where none is named there is none to be read
+pub one_may : (files : List File) (device : Option Device) (named : Option (List ℕ)) (known : List ℕ) → named ≡ Some known → is_some (file_of files known) ≡ true
+    → MayReadNamed (told_files files device) named
+one_may files device named known is there = λ path at.
+    subst (λ (n : List ℕ). is_some (file_of files n) ≡ true) (same_bytes path known (sym at ∙ is)) there
+
+pub none_may : (files : FileFacts) (named : Option (List ℕ)) → named ≡ None → MayReadNamed files named
+none_may files named is = λ path at. let none : Path (Option (List ℕ)) None (Some path) = sym is ∙ at in cc
+
+-- the image and the content of a job may be read, and it names no other file but a command's own
+job_may : (files : List File) (device : Option Device) (given : Given) (own : FileName → Option (List ℕ)) → is_some (file_of files (codes "image")) ≡ true
+    → is_some (file_of files (codes "content")) ≡ true → option_map (λ t. t.now) given.hex ≡ Some (codes "image")
+    → option_map (λ t. t.now) given.content ≡ Some (codes "content") → given.layout ≡ None → asked_chip given ≡ Some (Uniform 8192)
+    → ((told : FileName) → MayReadNamed (told_files files device) (own told)) → MayRead (told_files files device) (paths_asked given own)
+job_may files device given own held kept hex content layout chip mine name.Hex = one_may files device (option_map (λ t. t.now) given.hex) (codes "image") hex held
+job_may files device given own held kept hex content layout chip mine name.Layout =
+    none_may (told_files files device) (option_map (λ t. t.now) given.layout) (ap (option_map (λ t. t.now)) layout)
+job_may files device given own held kept hex content layout chip mine name.Sfdp =
+    none_may (told_files files device) (option_map (λ t. t.now) given.sfdp)
+    (sym (tables_named (option_map (λ t. t.now) given.sfdp) (option_map (λ t. t.now) given.uniform) (option_map (λ t. t.now) given.bits) (Uniform 8192) chip))
+job_may files device given own held kept hex content layout chip mine name.Content =
+    one_may files device (option_map (λ t. t.now) given.content) (codes "content") content kept
+job_may files device given own held kept hex content layout chip mine name.Script = mine name.Script
+job_may files device given own held kept hex content layout chip mine name.Out = none_may (told_files files device) None refl
+job_may files device given own held kept hex content layout chip mine name.Map = none_may (told_files files device) None refl
+job_may files device given own held kept hex content layout chip mine name.Device = none_may (told_files files device) None refl
+job_may files device given own held kept hex content layout chip mine name.Bin = mine name.Bin
+job_may files device given own held kept hex content layout chip mine name.Tables = none_may (told_files files device) None refl
+job_may files device given own held kept hex content layout chip mine name.Before = none_may (told_files files device) None refl
+job_may files device given own held kept hex content layout chip mine name.Resume = mine name.Resume
+job_may files device given own held kept hex content layout chip mine name.Log = mine name.Log
+
+pub build_may : (files : List File) (device : Option Device) (given : Given) → is_some (file_of files (codes "image")) ≡ true
+    → is_some (file_of files (codes "content")) ≡ true → option_map (λ t. t.now) given.hex ≡ Some (codes "image")
+    → option_map (λ t. t.now) given.content ≡ Some (codes "content") → given.layout ≡ None → asked_chip given ≡ Some (Uniform 8192)
+    → MayRead (told_files files device) (paths_asked given no_path)
+build_may files device given held kept hex content layout chip =
+    job_may files device given no_path held kept hex content layout chip (λ told. none_may (told_files files device) None refl)
+
+-- a check's own file is the script
+script_may : (files : FileFacts) (named : Option (List ℕ)) → MayReadNamed files named → (told : FileName) → MayReadNamed files (script_path named told)
+script_may files named may name.Script = may
+script_may files named may other = none_may files None refl
+
+pub check_may : (files : List File) (device : Option Device) (given : CheckArgs) → is_some (file_of files (codes "image")) ≡ true
+    → is_some (file_of files (codes "content")) ≡ true → is_some (file_of files (codes "script")) ≡ true
+    → option_map (λ t. t.now) given.job.hex ≡ Some (codes "image") → option_map (λ t. t.now) given.job.content ≡ Some (codes "content")
+    → given.job.layout ≡ None → asked_chip given.job ≡ Some (Uniform 8192) → option_map (λ t. t.now) given.script ≡ Some (codes "script")
+    → MayRead (told_files files device) (check_paths given)
+check_may files device given held kept there hex content layout chip script =
+    let named = option_map (λ t. t.now) given.script in
+    job_may files device given.job (script_path named) held kept hex content layout chip
+    (script_may (told_files files device) named (one_may files device named (codes "script") script there))
 
 -- the text of a file is its bytes
 pub text_is : (files : List File) (device : Option Device) (name bytes text : List ℕ) → bytes_in files name ≡ Some bytes → IsTextIn (told_files files device) name text

@@ -1,5 +1,5 @@
 -- What files in memory tell (this project's).
-use Rattle.std.specs.Prelude.{◌≡◌, ◌⊎◌, ⊤, ℕ, ◌^◌, ◌<◌, Bool, if◌then◌else◌, List, [], length, map, Option, Some, None, option_map}
+use Rattle.std.specs.Prelude.{◌≡◌, ◌⊎◌, ⊤, ℕ, ◌^◌, ◌<◌, Bool, true, if◌then◌else◌, List, [], length, map, Option, Some, None, is_some, option_map}
 use Rattle.std.specs.List.{find}
 use Rattle.std.specs.Str.{bytes_eq}
 use Rattle.nor_base.specs.Device.{Finite}
@@ -39,10 +39,11 @@ lacks files device name told =
     (file_of files name ≡ None)
     ⊎ (((bytes : List ℕ) × (bytes_in files name ≡ Some bytes) × (2 ^ 36 < length bytes)) ⊎ ((told ≡ told_as.Device) × (answers_of device name ≡ None)))
 
--- a file gives the bytes that it has; an output is empty when it is made, and has gone out with what it took, unless memory was
+-- a file that is there may be read, and gives the bytes that it has; an output is empty when it is made, and has gone out with what it took, unless memory was
 -- refused to it, of which nothing is told; none is emptied that then can't be used; a device has its answers ahead when it is opened, and has taken nothing
 abbrev pub told_files : List File → Option Device → FileFacts
 told_files files device = record {
+  may = λ name. is_some (file_of files name) ≡ true;
   gave = λ name bytes. bytes_in files name ≡ Some bytes;
   opened = λ name ahead len. (bytes : List ℕ) × (bytes_in files name ≡ Some bytes) × (ahead ≡ Finite bytes) × (len ≡ length bytes);
   stood = λ name place. option_map (λ file. file.id) (file_of files name) ≡ Some place;

@@ -1,6 +1,8 @@
 //! A check of files in memory.
 
-ghost use Rattle.std.specs.Prelude.{◌≡◌, ◌<◌, ◌-◌, ◌^◌, Some, codes, option_map};
+ghost use Rattle.std.specs.Prelude.{◌≡◌, ◌<◌, ◌-◌, ◌^◌, None, Some, codes, option_map};
+ghost use Rattle.norprog_common.specs.Chip.{Uniform};
+ghost use Rattle.norprog_common.specs.Request.{asked_chip};
 ghost use Rattle.test_files.specs.Worked.{IsYesOf};
 
 use crate::given::{file, files_alone, job_in_memory};
@@ -36,6 +38,8 @@ pub fn check_of<O: ByteOut, E: ByteOut>(
 fn check_args<'a>(alloc: Global) -> CheckArgs<'a>
     ensures image { option_map (λ t. t.now) result.job.hex ≡ Some (codes "image") }
     ensures content { option_map (λ t. t.now) result.job.content ≡ Some (codes "content") }
+    ensures layout { result.job.layout ≡ None }
+    ensures chip { asked_chip result.job ≡ Some (Uniform 8192) }
     ensures script { option_map (λ t. t.now) result.script ≡ Some (codes "script") }
 {
     CheckArgs {

@@ -11,3 +11,6 @@ returns-then-failures-lt18446744073709551615 g c = (
   subst (IsLastLine _) (sym c.as_slice.ensures.value) c.last_line-refusal.ensures.last,
   λ works. c.write_details.ensures.told works.1,
 )
+
+pub write_details-requires-clause-read : goal.write_details-requires-clause-read
+write_details-requires-clause-read g c = c.requires _ c.as_line-line.ensures

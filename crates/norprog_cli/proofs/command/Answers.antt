@@ -24,3 +24,12 @@ returns-clause-answer g c = (
     (c.in-Err.refusal, refl, c.refuse.ensures.status, c.refuse.ensures.told),
   ),
 )
+
+-- the files of the command line that the words spell may be read
+pub answer_to-status-requires-clause-read : goal.answer_to-status-requires-clause-read
+answer_to-status-requires-clause-read g c =
+    (c.requires.read c.in-Ok.line (subst (λ words. Spells (map string_bytes words) c.in-Ok.line) c.as_slice.ensures.value c.in-Ok.ensures.line)).0
+
+pub add_details-requires : goal.add_details-requires
+add_details-requires g c =
+    (c.requires.read c.in-Ok.line (subst (λ words. Spells (map string_bytes words) c.in-Ok.line) c.as_slice.ensures.value c.in-Ok.ensures.line)).1

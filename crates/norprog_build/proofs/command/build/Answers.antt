@@ -27,5 +27,5 @@ returns-clause-answer g c =
     (CutsReport (Filled strict (ServesBuild files given)) files.flushed (g.O.ByteOut.held c.args.out.now) (g.O.ByteOut.held c.report_build.new.out))
     _ _ _ _ (λ why. Refuses why × Holds why) _ _ c.report_build.result c.answered.result
     c.report_build.ensures.done c.report_build.ensures.journal c.report_build.ensures.printed c.report_build.ensures.unprinted
-    (and_also (asks_build given) Refuses Holds c.report_build.result c.report_build.ensures.first c.report_build.ensures.memory)
+    (and_also (asks_build given) Refuses Holds c.report_build.result c.report_build.ensures.first.0 c.report_build.ensures.first.1)
     c.answered.ensures.done c.answered.ensures.told

@@ -8,9 +8,16 @@ use Rattle.norprog_common.proofs.ToldLemmas.{or_usage}
 use Rattle.norprog_check.specs.Served.{asks_check, ServesCheck, ServesScript}
 use Rattle.norprog_common.specs.Served.{IsJobOf}
 use Rattle.norprog_check.proofs.AnswerLemmas.{rose, verdict_wider}
-use Rattle.norprog_check.proofs.ServedLemmas.{check_filled, check_refused, check_asked, script_serves}
+use Rattle.norprog_check.proofs.ServedLemmas.{check_filled, check_may, check_refused, check_asked, script_serves}
 use Rattle.norprog_common.proofs.ServedLemmas.{no_job}
 use Rattle.norprog_check.proofs.command.report_check.Goals as goal
+
+-- the files that the request names are those that the texts name
+pub run_check-requires : goal.run_check-requires
+run_check-requires g c = record {
+  read = check_may (g.S.FileStore.facts c.args.store.now) c.args.given c.request_of.result c.in_ok-request.request c.in_ok-path.path.now c.in_ok-request.ensures.ok_part
+      c.request_of.ensures.values (ap (option_map (λ t. t.now)) c.in_ok-path.ensures.ok_part) c.requires.read;
+}
 
 pub returns-in-Ok-clause-checked : goal.returns-in-Ok-clause-checked
 returns-in-Ok-clause-checked g c =
@@ -18,8 +25,10 @@ returns-in-Ok-clause-checked g c =
     let script = ap (option_map (λ t. t.now)) c.in_ok-path.ensures.ok_part in
     let wider = check_filled files c.args.given c.request_of.result c.in_ok-request.request
     c.in_ok-request.ensures.ok_part c.request_of.ensures.values in
-    let more = script_serves files c.args.given c.in_ok-path.path.now script in
-    verdict_wider (Filled c.in_ok-request.request.strict (IsJobOf files c.in_ok-request.request None)) (Filled c.args.given.job.strict (ServesCheck files c.args.given)) (IsTextIn files c.in_ok-path.path.now) (ServesScript files c.args.given) wider more c.in_ok-found.found c.in_ok-found.ensures.checked
+    let more = script_serves files c.args.given c.in_ok-path.path.now script in (
+      verdict_wider (Filled c.in_ok-request.request.strict (IsJobOf files c.in_ok-request.request None)) (Filled c.args.given.job.strict (ServesCheck files c.args.given)) (IsTextIn files c.in_ok-path.path.now) (ServesScript files c.args.given) wider more c.in_ok-found.found c.in_ok-found.ensures.checked,
+      check_asked c.args.given c.request_of.result c.in_ok-request.request c.in_ok-path.path.now c.in_ok-request.ensures.ok_part c.request_of.ensures.forms script,
+    )
 
 pub returns-in_err-found-clause-first : goal.returns-in_err-found-clause-first
 returns-in_err-found-clause-first g c =
@@ -66,8 +75,3 @@ returns-in_err-request-clause-first g c =
     handed_on _ _ _ c.from_residual.ensures.1
     (no_job (asks_check c.args.given) c.args.given.job c.request_of.result _ c.in_err-request.field-0.0
     (ap (λ b. b && is_some c.args.given.script)) c.request_of.ensures.forms c.in_err-request.ensures.ok_part c.in_err-request.ensures.value)
-
-pub returns-in-Ok-clause-asked : goal.returns-in-Ok-clause-asked
-returns-in-Ok-clause-asked g c =
-    check_asked c.args.given c.request_of.result c.in_ok-request.request c.in_ok-path.path.now
-    c.in_ok-request.ensures.ok_part c.request_of.ensures.forms (ap (option_map (λ t. t.now)) c.in_ok-path.ensures.ok_part)

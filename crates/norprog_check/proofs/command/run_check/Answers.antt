@@ -1,6 +1,7 @@
 -- The verdict, or the stop, is that of the request's job and script.
-use Rattle.std.proofs.Common.{None, Some, inl, inr, refl}
-use Rattle.norprog_common.specs.FileStore.{IsTextIn, Lacks}
+use Rattle.std.proofs.Common.{None, Some, inl, inr, option_map, refl}
+use Rattle.norprog_common.specs.Chip.{origin_of}
+use Rattle.norprog_common.specs.FileStore.{IsTextIn, Lacks, tables_name}
 use Rattle.norprog_common.specs.Told.{OrScript}
 use Rattle.norprog_common.proofs.StoreLemmas.{text_in}
 use Rattle.norprog_common.specs.Reading.{FailsReading, HasFailed}
@@ -9,10 +10,20 @@ use Rattle.norprog_common.specs.Served.{IsJobOf, held_in, no_path, paths_of, scr
 use Rattle.norprog_common.specs.Strict.{Filled}
 use Rattle.nor_base.proofs.FaultLaws.{handed_on}
 use Rattle.norprog_common.specs.declared.faults.FileName.TheVariants as file
-use Rattle.norprog_common.proofs.LackedLemmas.{lacks_at, lacks_own}
+use Rattle.norprog_common.proofs.LackedLemmas.{lacks_at, lacks_own, may_job}
 use Rattle.norprog_common.proofs.ServedLemmas.{of_one, job_of}
 use Rattle.norprog_check.proofs.AnswerLemmas.{verdicts_wider, refusals_wider, asked_refused, empty_refused, lacked_refused}
 use Rattle.norprog_check.proofs.command.run_check.Goals as goal
+
+-- the files of the job may be read, and so may the script's
+pub open_job-requires : goal.open_job-requires
+open_job-requires g c =
+    let request = c.args.request.now in
+    may_job (g.S.FileStore.facts c.args.store.now) (Some request.hex.now) (option_map (λ t. t.now) request.layout) (tables_name (origin_of request.chip)) (Some request.content.now)
+    (script_path (Some c.args.path.now)) c.requires.read
+
+pub open_script-requires : goal.open_script-requires
+open_script-requires g c = c.requires.read file.Script c.args.path.now refl
 
 pub returns-clause-checked : goal.returns-clause-checked
 returns-clause-checked g c =

@@ -36,3 +36,13 @@ returns-in_err-sfdp-clause-lacked g c =
     handed_on _ _ _ c.from_residual-in_err-sfdp.ensures.1
     (lacks_named (g.S.FileStore.facts c.args.store.now) (paths_of c.args.request.now no_path) Sfdp _ _ refl
     c.in_err-sfdp.ensures.refused c.in_err-sfdp.ensures.lacked)
+
+-- each may be read by its option's name
+pub read_noted-requires : goal.read_noted-requires
+read_noted-requires g c = c.requires Hex _ refl
+
+pub read_layout-requires : goal.read_layout-requires
+read_layout-requires g c = c.requires Layout
+
+pub noted_tables-requires : goal.noted_tables-requires
+noted_tables-requires g c = c.requires Sfdp

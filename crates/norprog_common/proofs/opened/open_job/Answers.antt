@@ -20,3 +20,7 @@ returns-in_err-content-clause-lacked g c =
     handed_on _ _ _ c.from_residual-in_err-content.ensures.1
     (lacks_at (g.S.FileStore.facts c.args.store.now) (paths_of c.args.request.now no_path) Content c.args.request.now.content.now _ refl
     c.in_err-content.ensures.refused c.in_err-content.ensures.lacked)
+
+-- the content may be read by its option's name
+pub open-requires : goal.open-requires
+open-requires g c = c.requires Content _ refl

@@ -5,6 +5,7 @@ use Rattle.std.specs.Str.{bytes_eq}
 use Rattle.nor_base.specs.Device.{Writes}
 use Rattle.norprog_details.specs.Subject.{option_of}
 use Rattle.norprog_details.specs.Details.{about_lines, AreFacts, AreFactsIf, IsSaidOf}
+use Rattle.norprog_details.proofs.MayLemmas.{may_about}
 use Rattle.norprog_details.proofs.details.write_facts.Goals as goal
 
 pub returns-clause-bytes : goal.returns-clause-bytes
@@ -26,3 +27,18 @@ returns-clause-bytes g c =
     subst (λ (held : List ℕ). Writes (g.E.ByteOut.held c.args.err.now) (g.E.ByteOut.held c.write_about.new.err) c.write_about.result (about_lines pair trouble held names refusal))
     c.as_slice-2.ensures.value c.write_about.ensures.bytes in
     (said, are, writes)
+
+-- the option is one that was typed
+pub trouble_of-trouble-requires : goal.trouble_of-trouble-requires
+trouble_of-trouble-requires g c =
+    let pair : List ℕ × List ℕ = (c.in-Some.option.name.now, c.in-Some.option.value.now) in
+    let is : Some pair ≡ option_of c.args.line.typed.now c.args.refusal.now = search rules in record {
+      read = may_about (g.S.FileStore.facts c.args.store.now) c.args.line c.args.refusal.now pair is c.requires.read;
+    }
+
+pub held_by-text-requires : goal.held_by-text-requires
+held_by-text-requires g c =
+    let pair : List ℕ × List ℕ = (c.in-Some.option.name.now, c.in-Some.option.value.now) in
+    let is : Some pair ≡ option_of c.args.line.typed.now c.args.refusal.now = search rules in record {
+      read = may_about (g.S.FileStore.facts c.args.store.now) c.args.line c.args.refusal.now pair is c.requires.read;
+    }

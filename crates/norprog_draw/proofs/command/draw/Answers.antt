@@ -16,4 +16,4 @@ returns-clause-answer g c =
     (is_well_formed given) (TookNothing files (option_map (λ t. t.now) given.out) (Adds (changes c.args.journal.now) (changes c.drawn_in.new.journal)))
     (IsDrawing (Serves files given) (Makes files given) files.flushed) _ _
     (RefusesDraw (Lacks files (paths_asked given)) files.broke (Serves files given) (Makes files given) (HasGone files)) _ _ c.drawn_in.result c.answered.result
-    c.drawn_in.ensures.status c.drawn_in.ensures.journal c.drawn_in.ensures.drawn c.drawn_in.ensures.asked c.drawn_in.ensures.first c.drawn_in.ensures.unmade c.answered.ensures.done c.answered.ensures.told
+    c.drawn_in.ensures.done c.drawn_in.ensures.journal c.drawn_in.ensures.drawn c.drawn_in.ensures.first c.drawn_in.ensures.unmade c.answered.ensures.done c.answered.ensures.told

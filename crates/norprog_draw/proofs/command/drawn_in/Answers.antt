@@ -2,8 +2,18 @@
 use Rattle.std.proofs.Common.{rules, ◌≡◌, [], true}
 use Rattle.norprog_common.specs.FileStore.{Adds}
 use Rattle.norprog_draw.specs.Request.{is_well_formed, AsksFor}
-use Rattle.norprog_draw.proofs.ServedLemmas.{drawings_asked, refusals_asked, unmade_asked}
+use Rattle.norprog_draw.proofs.ServedLemmas.{done_asked, drawings_asked, may_read, refusals_asked, unmade_asked}
 use Rattle.norprog_draw.proofs.command.drawn_in.Goals as goal
+
+pub run_draw-requires : goal.run_draw-requires
+run_draw-requires g c =
+    let asks : AsksFor c.args.given c.in_ok-request.request = search rules in
+    record { read = may_read (g.S.FileStore.facts c.args.store.now) c.args.given c.in_ok-request.request asks c.requires.read }
+
+pub returns-clause-done : goal.returns-clause-done
+returns-clause-done g c =
+    let formed : is_well_formed c.args.given ≡ true = search rules in
+    done_asked (is_well_formed c.args.given) c.run_draw.result formed c.run_draw.ensures.status
 
 pub returns-clause-drawn : goal.returns-clause-drawn
 returns-clause-drawn g c =

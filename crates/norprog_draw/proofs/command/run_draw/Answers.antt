@@ -15,6 +15,10 @@ use Rattle.norprog_draw.proofs.ServedLemmas.{file_refused, steps_refused, done_i
 use Rattle.norprog_draw.proofs.ServedLemmas.{unmade_any, unmade_done, unmade_out}
 use Rattle.norprog_draw.proofs.command.run_draw.Goals as goal
 
+-- the file that is read is the request's script
+pub read-requires : goal.read-requires
+read-requires g c = c.requires.read Script c.args.request.script.now refl
+
 pub returns-clause-drawn : goal.returns-clause-drawn
 returns-clause-drawn g c =
     let files = g.S.FileStore.facts c.args.store.now in

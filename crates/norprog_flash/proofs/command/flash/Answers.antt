@@ -39,3 +39,6 @@ returns-clause-answer g c =
       reported = unflashed_wider _ (Breaks files n p) (λ rose. inr (omega (arith, low, rose))) _ _ _ _ _ _ _ c.in-Err.why c.family_of.result
           (family_of c.args.given) c.family_of.ensures c.report_unflashed.ensures.reported;
     })
+
+pub flash_texts-requires-clause-read : goal.flash_texts-requires-clause-read
+flash_texts-requires-clause-read g c = c.requires.read

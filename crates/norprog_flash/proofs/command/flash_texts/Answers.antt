@@ -11,7 +11,7 @@ use Rattle.norprog_flash.specs.Served.{paths_of}
 use Rattle.norprog_flash.specs.Stops.{CountsOut}
 use Rattle.norprog_flash.specs.Worked.{Showing}
 use Rattle.norprog_flash.proofs.CountLemmas.{lacked_told}
-use Rattle.norprog_flash.proofs.ServedLemmas.{ending_by, lacked_by, unbegun_by, wanted}
+use Rattle.norprog_flash.proofs.ServedLemmas.{ending_by, lacked_by, may_by, unbegun_by, wanted}
 use Rattle.norprog_read.specs.Request.{IsAskOf}
 use Rattle.norprog_flash.proofs.command.flash_texts.Goals as goal
 
@@ -24,6 +24,12 @@ returns-in_err-files-clause-unbegun g c =
     handed_on (IsUnbegunFor files c.args.given.now (Adds before before) _ _) _ (Refused c.in_err-files.field-0.0) c.from_residual-in_err-files.ensures.1
     (lacked_by files c.args.given.now c.in_ok-request.request (Adds before before) _ asks formed (adds_none _ _ refl) c.in_err-files.field-0.0
     c.in_err-files.ensures.lacked)
+
+pub read_files-requires : goal.read_files-requires
+read_files-requires g c =
+    let asks : AsksFor c.args.given.now c.in_ok-request.request = search rules in record {
+      read = may_by (g.S.FileStore.facts c.args.store.now) c.args.given.now c.in_ok-request.request asks c.requires.read;
+    }
 
 pub flash_device-requires-clause-whole : goal.flash_device-requires-clause-whole
 flash_device-requires-clause-whole g c =

@@ -1,4 +1,4 @@
--- The file that couldn't be used is the one that its option names.
+-- Each file that is read, and the one that couldn't be used, is the one that its option names.
 use Rattle.std.proofs.Common.{refl}
 use Rattle.nor_base.proofs.FaultLaws.{handed_on}
 use Rattle.norprog_common.specs.declared.faults.FileName.TheVariants.{Hex, Layout, Resume, Sfdp}
@@ -29,3 +29,15 @@ returns-in_err-old-clause-lacked g c =
     handed_on _ _ _ c.from_residual-in_err-old.ensures.1
     (lacks_named (g.S.FileStore.facts c.args.store.now) (paths_of c.args.request.now) Resume _ _ refl
     c.in_err-old.ensures.refused c.in_err-old.ensures.lacked)
+
+pub read-requires : goal.read-requires
+read-requires g c = c.requires.read Hex c.args.request.now.hex.now refl
+
+pub read_if-requires : goal.read_if-requires
+read_if-requires g c = record { read = c.requires.read Layout }
+
+pub file_of-requires : goal.file_of-requires
+file_of-requires g c = record { read = c.requires.read Sfdp }
+
+pub read_if-requires-2 : goal.read_if-requires-2
+read_if-requires-2 g c = record { read = c.requires.read Resume }

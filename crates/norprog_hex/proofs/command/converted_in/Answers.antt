@@ -2,8 +2,18 @@
 use Rattle.std.proofs.Common.{rules, ◌≡◌, [], true}
 use Rattle.norprog_common.specs.FileStore.{Adds}
 use Rattle.norprog_hex.specs.Request.{is_well_formed, AsksFor}
-use Rattle.norprog_hex.proofs.ServedLemmas.{unmade_asked, written_asked, refusals_asked}
+use Rattle.norprog_hex.proofs.ServedLemmas.{done_asked, may_read, unmade_asked, written_asked, refusals_asked}
 use Rattle.norprog_hex.proofs.command.converted_in.Goals as goal
+
+pub run_hex-requires : goal.run_hex-requires
+run_hex-requires g c =
+    let asks : AsksFor c.args.given c.in_ok-request.request = search rules in
+    record { read = may_read (g.S.FileStore.facts c.args.store.now) c.args.given c.in_ok-request.request asks c.requires.read }
+
+pub returns-clause-done : goal.returns-clause-done
+returns-clause-done g c =
+    let formed : is_well_formed c.args.given ≡ true = search rules in
+    done_asked (is_well_formed c.args.given) c.run_hex.result formed c.run_hex.ensures.status
 
 pub returns-clause-written : goal.returns-clause-written
 returns-clause-written g c =

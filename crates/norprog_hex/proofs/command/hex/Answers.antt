@@ -19,5 +19,5 @@ returns-clause-answer g c =
     (is_well_formed given) (IsUntaken files (option_map (λ t. t.now) given.out) (Adds (changes c.args.journal.now) (changes c.converted_in.new.journal)) (Serves files given))
     (ForAsked HexTask (Serves files given) (IsWritten files.flushed)) _ _
     (RefusesHex (LacksEarly files (paths_asked given) Out (Adds (changes c.args.journal.now) (changes c.converted_in.new.journal) [])) files.broke (HasFailed g.S.Input.ByteIn.ahead g.S.Input.ByteIn.count) (HasGone files) (ServesBin files given) (Serves files given)) _ _ c.converted_in.result c.answered.result
-    c.converted_in.ensures.status c.converted_in.ensures.journal c.converted_in.ensures.written c.converted_in.ensures.asked c.converted_in.ensures.first
+    c.converted_in.ensures.done c.converted_in.ensures.journal c.converted_in.ensures.written c.converted_in.ensures.first
     c.converted_in.ensures.unmade c.answered.ensures.done c.answered.ensures.told

@@ -12,6 +12,10 @@ use Rattle.norprog_hex.proofs.ServedLemmas.{all_broken, unopened, unmade, fits_s
 use Rattle.norprog_hex.proofs.ServedLemmas.{is_untaken, unmade_done, unmade_file}
 use Rattle.norprog_hex.proofs.command.run_hex.Goals as goal
 
+-- the file that is opened is the request's raw image
+pub open-requires : goal.open-requires
+open-requires g c = c.requires.read Bin c.args.request.bin.now refl
+
 pub returns-in_err-bin-clause-refused : goal.returns-in_err-bin-clause-refused
 returns-in_err-bin-clause-refused g c =
     let files = g.S.FileStore.facts c.args.store.now in

@@ -20,6 +20,13 @@ module _ (g : given.Over) (c : goal.After-drop-tables-2 g) where
   asked ahead len = asked_of (g.S.FileStore.facts c.args.store.now) c.args.request _ _ ahead len c.setup_inputs-inputs.ensures
       (subst (AreTables (g.S.FileStore.facts c.args.store.now) (origin_of c.args.request.setup.chip)) (sym c.as_slice.ensures.value) c.in_ok-tables.ensures.tables)
 
+-- the files that are opened are those of the request
+pub tables_of-requires : goal.tables_of-requires
+tables_of-requires g c = c.requires.read Sfdp
+
+pub open-requires : goal.open-requires
+open-requires g c = c.requires.read Script c.args.request.script.now refl
+
 pub returns-clause-printed : goal.returns-clause-printed
 returns-clause-printed g c =
     all_printed (IsTaskOf (g.S.FileStore.facts c.args.store.now) c.args.request) _ (asked g c _ _ c.in_ok-script.ensures.opened) _ _ _ _ c.list_script.ensures.listed

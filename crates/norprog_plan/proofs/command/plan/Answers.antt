@@ -28,5 +28,5 @@ returns-clause-answer g c =
     answer_is (asks_plan given) (PrintsPlan files.flushed (shows_of given) Asked before after) (CutsPlan files.flushed (shows_of given) Asked before after)
     _ _ _ _ (λ why. Refuses why × Holds why) _ _ c.report_plan.result c.answered.result
     c.report_plan.ensures.done c.report_plan.ensures.journal c.report_plan.ensures.printed c.report_plan.ensures.unprinted
-    (and_also (asks_plan given) Refuses Holds c.report_plan.result c.report_plan.ensures.first c.report_plan.ensures.memory)
+    (and_also (asks_plan given) Refuses Holds c.report_plan.result c.report_plan.ensures.first.0 c.report_plan.ensures.first.1)
     c.answered.ensures.done c.answered.ensures.told

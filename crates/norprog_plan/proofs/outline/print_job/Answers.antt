@@ -1,10 +1,9 @@
 -- The plan of the job was printed, or why not.
-use Rattle.std.proofs.Common.{ap, arith, inl, inr, is_some, option_map, sym}
+use Rattle.std.proofs.Common.{ap, arith, inl, inr, is_some, option_map}
 use Rattle.nor_job.specs.Job.{IsJob}
 use Rattle.norprog_common.specs.FileStore.{Breaks, HasGone}
 use Rattle.norprog_common.specs.Reading.{HasFailed}
 use Rattle.norprog_common.specs.Served.{job_with}
-use Rattle.norprog_common.proofs.ServedLemmas.{same_some}
 use Rattle.norprog_plan.specs.Answer.{tables_times}
 use Rattle.norprog_plan.proofs.AnswerLemmas.{all_printed, behind_cut, behind_stops, lines_cut, lines_stop, read_blames}
 use Rattle.norprog_plan.proofs.outline.print_job.Goals as goal
@@ -27,7 +26,7 @@ returns-in-Ok-print_lines-clause-cut g c =
     let is : IsJob t c.args.len c.in-Ok.job = c.in-Ok.ensures.job in
     let all = c.in-Ok-print_lines.ensures.printed t c.args.len is in
     let are = all.sums (tables_times t.chip) c.in-Ok-new.ensures.sums in
-    behind_cut c.print_behind.result _ _ _ (g.S.FileStore.facts c.args.store.now).flushed c.args.shows j c.in-Ok.job c.in-Ok-new.sums c.print_lines.new.sums
+    behind_cut c.print_behind.result _ _ _ (HasGone (g.S.FileStore.facts c.args.store.now)) (g.S.FileStore.facts c.args.store.now).flushed c.args.shows j c.in-Ok.job c.in-Ok-new.sums c.print_lines.new.sums
     (g.R.ByteIn.ahead c.print_lines.new.content) (g.O.ByteOut.held c.args.out.now) (g.O.ByteOut.held c.print_lines.new.out) (g.O.ByteOut.held c.print_behind.new.out) c.in-Ok-print_lines.report
     (is_some c.args.map) all is (λ same. ap g.O.ByteOut.held same) (c.print_behind.ensures.cut c.args.len all.lines is are)
 
@@ -41,7 +40,7 @@ returns-in-Ok-print_lines-clause-refused g c =
     let are = all.sums (tables_times t.chip) c.in-Ok-new.ensures.sums in
     behind_stops c.print_behind.result _ _ (Breaks files (g.O.ByteOut.count c.args.out.now) (g.O.ByteOut.count c.print_behind.new.out)) files.broke (HasFailed g.R.ByteIn.ahead g.R.ByteIn.count) (HasGone files) files.flushed c.args.shows j c.in-Ok.job
     c.in-Ok-new.sums c.print_lines.new.sums (g.R.ByteIn.ahead c.print_lines.new.content) (g.O.ByteOut.held c.args.out.now) (g.O.ByteOut.held c.print_lines.new.out)
-    (g.O.ByteOut.held c.print_behind.new.out) c.in-Ok-print_lines.report (is_some c.args.map) all is (sym (same_some _ c.args.map)) (λ broke. inl broke)
+    (g.O.ByteOut.held c.print_behind.new.out) c.in-Ok-print_lines.report (is_some c.args.map) all is (λ broke. inl broke)
     (λ more. inr (omega (arith, more, c.in-Ok-print_lines.ensures.counts.1))) (c.print_behind.ensures.cut c.args.len all.lines is are)
 
 pub returns-clause-cut : goal.returns-clause-cut

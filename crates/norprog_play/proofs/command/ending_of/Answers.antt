@@ -6,7 +6,7 @@ use Rattle.norprog_common.specs.Reading.{HasFailed}
 use Rattle.norprog_play.specs.declared.ending.Ending.{Ending}
 use Rattle.norprog_play.specs.Progress.{ReportsPlay}
 use Rattle.norprog_play.specs.Request.{is_well_formed, AsksFor}
-use Rattle.norprog_play.proofs.ServedLemmas.{endings_asked, refusals_asked}
+use Rattle.norprog_play.proofs.ServedLemmas.{endings_asked, may_by, refusals_asked}
 use Rattle.norprog_play.proofs.command.ending_of.Goals as goal
 
 pub returns-clause-played : goal.returns-clause-played
@@ -22,3 +22,8 @@ returns-clause-first g c =
     let formed : is_well_formed c.args.given ≡ true = search rules in
     refusals_asked (g.S.FileStore.facts c.args.store.now) (HasFailed g.S.Input.ByteIn.ahead g.S.Input.ByteIn.count)
     (Adds (g.S.Journal.Journal.changes c.args.journal.now) (g.S.Journal.Journal.changes c.play_request.new.journal)) c.args.given c.in_ok-request.request asks _ formed c.play_request.ensures.refused
+
+pub play_request-requires-clause-read : goal.play_request-requires-clause-read
+play_request-requires-clause-read g c =
+    let asks : AsksFor c.args.given c.in_ok-request.request = search rules in
+    may_by (g.S.FileStore.facts c.args.store.now) c.args.given c.in_ok-request.request asks c.requires.read

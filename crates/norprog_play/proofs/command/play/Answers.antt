@@ -25,3 +25,6 @@ returns-in-Ok-clause-answer g c =
         reported = reports_wider _ Broke (λ rose. inr rose) c.in-Ok.ending _ _ _ _ _ _ c.report_ending.result c.report_ending.ensures.reported;
       },
     )
+
+pub ending_of-requires-clause-read : goal.ending_of-requires-clause-read
+ending_of-requires-clause-read g c = c.requires.read

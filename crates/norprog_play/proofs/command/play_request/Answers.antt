@@ -78,3 +78,13 @@ returns-in_err-script-clause-refused g c =
     handed_on (IsUnplayed files (paths_of c.args.request) Failed (Adds before before) (IsTaskOf files c.args.request)) _ (Refused c.in_err-script.field-0.0) c.from_residual-in_err-script.ensures.1
     (lacked_refused files (paths_of c.args.request) Failed (Adds before before) (IsTaskOf files c.args.request) file.Script (Some c.args.request.script.now) c.in_err-script.field-0.0
     refl c.in_err-script.ensures.refused c.in_err-script.ensures.lacked (adds_none _ _ refl))
+
+-- each file that is opened is the one that its option names
+pub tables_of-requires : goal.tables_of-requires
+tables_of-requires g c = c.requires.read file.Sfdp
+
+pub open-requires : goal.open-requires
+open-requires g c = c.requires.read file.Content c.args.request.content.now refl
+
+pub open-requires-2 : goal.open-requires-2
+open-requires-2 g c = c.requires.read file.Script c.args.request.script.now refl

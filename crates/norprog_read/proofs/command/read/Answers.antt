@@ -39,3 +39,6 @@ returns-in-Err-Unlike-clause-answer g c =
         reports_wider _ Broke (λ rose. inr rose) (unlike_line c.in-Err-Unlike.why) 1 _ _ _ _ _ _ c.report_unlike.result c.report_unlike.ensures,
       ),
     ))
+
+pub read_texts-requires : goal.read_texts-requires
+read_texts-requires g c = record { read = c.requires.read }

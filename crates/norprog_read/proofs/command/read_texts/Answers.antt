@@ -8,7 +8,7 @@ use Rattle.norprog_read.specs.Answer.{IsUnread}
 use Rattle.norprog_read.specs.Request.{is_well_formed, AsksFor}
 use Rattle.norprog_read.specs.Served.{AreTablesIf}
 use Rattle.norprog_common.proofs.JournalLemmas.{adds_none}
-use Rattle.norprog_read.proofs.ServedLemmas.{kept, tables_told, unread, unsaved}
+use Rattle.norprog_read.proofs.ServedLemmas.{kept, may_by, tables_told, unread, unsaved}
 use Rattle.norprog_read.proofs.command.read_texts.Goals as goal
 
 pub returns-in_err-file-clause-unread : goal.returns-in_err-file-clause-unread
@@ -50,3 +50,10 @@ returns-clause-kept g c =
     kept files c.args.given c.in_ok-request.request c.as_slice.result.now c.ask_of-ask.result asks gave c.ask_of-ask.ensures _ _ _
     c.in_ok-reading.ensures.opened c.in_ok-reading.reading c.in_ok-reading.ensures.read c.in_ok-save_all.ensures.made
     c.in_ok-save_all.ensures.tables c.in_ok-save_all.ensures.content
+
+-- the file of the tables is the one that its option names
+pub file_of-requires : goal.file_of-requires
+file_of-requires g c =
+    let asks : AsksFor c.args.given c.in_ok-request.request = search rules in record {
+      read = may_by (g.S.FileStore.facts c.args.store.now) c.args.given c.in_ok-request.request asks c.requires.read;
+    }

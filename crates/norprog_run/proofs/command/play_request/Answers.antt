@@ -15,6 +15,16 @@ use Rattle.norprog_run.specs.Served.{IsTaskOf, paths_of}
 use Rattle.norprog_run.proofs.ServedLemmas.{never, all_noted, asked_of, made_for, made_beside, named_made, none_made, all_played, all_refused, lacked_refused, out_lacks, verdicts_wider, refusals_wider, holds_wider, none_holds}
 use Rattle.norprog_run.proofs.command.play_request.Goals as goal
 
+-- the files that are opened are those of the request
+pub noted_tables-requires : goal.noted_tables-requires
+noted_tables-requires g c = c.requires.read file.Sfdp
+
+pub open-requires : goal.open-requires
+open-requires g c = c.requires.read file.Content c.args.request.content.now refl
+
+pub open_script-requires : goal.open_script-requires
+open_script-requires g c = c.requires.read file.Script c.args.request.script.now refl
+
 pub returns-clause-played : goal.returns-clause-played
 returns-clause-played g c =
     let files = g.S.FileStore.facts c.args.store.now in
@@ -69,7 +79,7 @@ returns-in-Some-clause-refused g c =
     refusals_wider (LacksEarly files (out_path (Some c.in-Some.path.now)) file.Out Nothing) (LacksEarly files (paths_of request) file.Out Nothing) files.broke _ (IsTaskOf files request) (IsTextRead ahead c.in_ok-script.script)
     (IsTextIn files request.script.now) Failed (FailsScript ahead Failed c.in_ok-script.script) (FailsReading files Failed request.script.now) (HasGone files)
     (λ name is. (out_lacks files request c.in-Some.path c.in-Some.is name is.0, is.1)) tasks (λ text is. read_in files request.script.now ahead c.in_ok-script.script text of is)
-    (λ failed. fails_in files request.script.now ahead Failed c.in_ok-script.script of failed) c.play_to.result c.play_to.ensures.refused
+    (λ failed. fails_in files request.script.now ahead Failed c.in_ok-script.script of failed) c.play_to.result c.play_to.ensures.refused.0
 
 pub returns-in-Some-clause-journal : goal.returns-in-Some-clause-journal
 returns-in-Some-clause-journal g c =
@@ -144,7 +154,7 @@ returns-in-Some-clause-memory g c =
     let tasks = made_for files request c.in-Some.path.now _ c.setup_inputs-inputs.result request.bench _ _ c.in_ok-content.len c.setup_inputs-inputs.ensures refl tables
     c.in_ok-content.ensures.opened (λ held made. made_beside files request c.in-Some.path _ _ _ held c.in-Some.is c.new-places.ensures.items noted c.as_slice-in-Some.ensures.value made) in
     subst (λ s. IfErr c.play_to.result (HoldsRun files (option_map (λ t. t.now) s) Made (IsTaskOf files request))) (sym c.in-Some.is)
-    (holds_wider files (Some c.in-Some.path.now) Made _ (IsTaskOf files request) c.play_to.result tasks c.play_to.ensures.memory)
+    (holds_wider files (Some c.in-Some.path.now) Made _ (IsTaskOf files request) c.play_to.result tasks c.play_to.ensures.refused.1)
 
 pub returns-in_err-sfdp-clause-memory : goal.returns-in_err-sfdp-clause-memory
 returns-in_err-sfdp-clause-memory g c =

@@ -2,13 +2,17 @@
 use Rattle.std.proofs.Common.{rules, ◌≡◌, inl, option_map, refl, true}
 use Rattle.norprog_common.specs.Reading.{HasFailed}
 use Rattle.norprog_run.specs.Request.{is_well_formed}
-use Rattle.norprog_run.proofs.ServedLemmas.{holds_asked, made_asked, verdicts_asked, refusals_asked}
+use Rattle.norprog_run.proofs.ServedLemmas.{holds_asked, made_asked, may_read, verdicts_asked, refusals_asked}
 use Rattle.nor_base.proofs.FaultLaws.{handed_on}
 use Rattle.norprog_common.proofs.JournalLemmas.{adds_none}
 use Rattle.norprog_common.specs.FileStore.{Adds}
 use Rattle.norprog_run.specs.Answer.{HoldsRun}
 use Rattle.norprog_run.specs.Served.{Serves}
 use Rattle.norprog_run.proofs.command.verdict_of.Goals as goal
+
+pub play_request-requires-clause-read : goal.play_request-requires-clause-read
+play_request-requires-clause-read g c =
+    may_read (g.S.FileStore.facts c.args.store.now) c.args.given c.in_ok-request.request c.in_ok-request.ensures.values c.requires.read
 
 pub returns-clause-played : goal.returns-clause-played
 returns-clause-played g c =

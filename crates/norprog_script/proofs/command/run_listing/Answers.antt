@@ -3,7 +3,7 @@ use Rattle.std.proofs.Common.{inl, inr, Some, [], ap, refl, sym, subst}
 use Rattle.norprog_common.specs.Chip.{origin_of}
 use Rattle.nor_base.proofs.FaultLaws.{handed_on}
 use Rattle.norprog_common.proofs.JournalLemmas.{adds_none}
-use Rattle.norprog_common.specs.FileStore.{Adds, AreTables, HasGone, LacksEarly, tables_name}
+use Rattle.norprog_common.specs.FileStore.{Adds, AreTables, HasGone, LacksEarly, MayReadNamed, tables_name}
 use Rattle.norprog_common.specs.declared.faults.FileName.TheVariants.{Sfdp, Log, Out}
 use Rattle.norprog_common.proofs.LackedLemmas.{lacks_at, lacks_early, lacks_named, lacks_output}
 use Rattle.norprog_script.specs.Answer.{HoldsScript, RefusesScript}
@@ -12,14 +12,21 @@ use Rattle.norprog_script.specs.Written.{listed}
 use Rattle.norprog_script.proofs.ServedLemmas.{file_refused, done_holds, done_is_written, done_is_refused, of_listing, apart_listing}
 use Rattle.norprog_script.proofs.command.run_listing.Goals as goal
 
+-- the files that are read are those of the request
+pub noted_tables-requires : goal.noted_tables-requires
+noted_tables-requires g c = subst (MayReadNamed (g.S.FileStore.facts c.args.store.now)) (ap chip_name c.requires.chip) (c.requires.read Sfdp)
+
+pub read-requires : goal.read-requires
+read-requires g c = c.requires.read Log c.args.request.log.now refl
+
 pub returns-clause-written : goal.returns-clause-written
 returns-clause-written g c =
     let files = g.S.FileStore.facts c.args.store.now in
     let gave = subst (files.gave c.args.request.log.now) (sym c.as_slice-3.ensures.value) c.in_ok-listing.ensures.gave in
     let tables = subst (AreTables files (origin_of c.args.setup.chip)) (sym c.as_slice-2.ensures.value) c.in_ok-tables.ensures.tables in
     done_is_written files (Unit {0}) c.args.request _ (listed c.setup_inputs-inputs.result) _ _ gave
-    (of_listing files c.args.request c.args.setup _ c.setup_inputs-inputs.result c.requires tables c.setup_inputs-inputs.ensures)
-    (apart_listing files c.args.request c.args.setup _ _ _ _ _ _ c.requires c.new-places.ensures.items c.in_ok-tables.ensures.noted c.in_ok-listing.ensures.stood
+    (of_listing files c.args.request c.args.setup _ c.setup_inputs-inputs.result c.requires.chip tables c.setup_inputs-inputs.ensures)
+    (apart_listing files c.args.request c.args.setup _ _ _ _ _ _ c.requires.chip c.new-places.ensures.items c.in_ok-tables.ensures.noted c.in_ok-listing.ensures.stood
     c.in_ok-push.ensures.items c.as_slice.ensures.value c.in_ok-out.ensures.made) c.script_listing-answer.result
     c.flush-flushed.result _ c.script_listing-answer.ensures.written c.flush-flushed.ensures.flushed c.done.ensures
 
@@ -30,8 +37,8 @@ returns-clause-refused g c =
     let gave = subst (files.gave c.args.request.log.now) (sym c.as_slice-3.ensures.value) c.in_ok-listing.ensures.gave in
     let tables = subst (AreTables files (origin_of c.args.setup.chip)) (sym c.as_slice-2.ensures.value) c.in_ok-tables.ensures.tables in
     done_is_refused files (Adds (changes c.args.journal.now) (changes c.create.new.journal) []) c.args.request _ (listed c.setup_inputs-inputs.result) _ _ gave
-    (of_listing files c.args.request c.args.setup _ c.setup_inputs-inputs.result c.requires tables c.setup_inputs-inputs.ensures)
-    (apart_listing files c.args.request c.args.setup _ _ _ _ _ _ c.requires c.new-places.ensures.items c.in_ok-tables.ensures.noted c.in_ok-listing.ensures.stood
+    (of_listing files c.args.request c.args.setup _ c.setup_inputs-inputs.result c.requires.chip tables c.setup_inputs-inputs.ensures)
+    (apart_listing files c.args.request c.args.setup _ _ _ _ _ _ c.requires.chip c.new-places.ensures.items c.in_ok-tables.ensures.noted c.in_ok-listing.ensures.stood
     c.in_ok-push.ensures.items c.as_slice.ensures.value c.in_ok-out.ensures.made) _ _ c.script_listing-answer.result
     c.flush-flushed.result _ c.script_listing-answer.ensures.written c.script_listing-answer.ensures.refused
     c.in_ok-out.ensures.count c.script_listing-answer.ensures.count c.flush-flushed.ensures.whole (inr c.flush-flushed.ensures.closed) c.flush-flushed.ensures.broke c.done.ensures
@@ -47,7 +54,7 @@ returns-in_err-tables-clause-refused g c =
     let why = c.in_err-tables.field-0.0 in
     handed_on (RefusesScript Lacked files.broke (HasGone files) (IsTaskOf files request)) _ _ c.from_residual.ensures.1
     (file_refused Lacked files.broke (HasGone files) (IsTaskOf files request) why
-    (lacks_early files (paths_of request) Out Nothing why (adds_none _ _ refl) (lacks_named files (paths_of request) Sfdp (tables_name (origin_of c.args.setup.chip)) why (ap chip_name c.requires) c.in_err-tables.ensures.refused c.in_err-tables.ensures.lacked)))
+    (lacks_early files (paths_of request) Out Nothing why (adds_none _ _ refl) (lacks_named files (paths_of request) Sfdp (tables_name (origin_of c.args.setup.chip)) why (ap chip_name c.requires.chip) c.in_err-tables.ensures.refused c.in_err-tables.ensures.lacked)))
 
 pub returns-in_err-listing-clause-refused : goal.returns-in_err-listing-clause-refused
 returns-in_err-listing-clause-refused g c =
@@ -109,7 +116,7 @@ returns-clause-memory g c =
     let gave = subst (files.gave c.args.request.log.now) (sym c.as_slice-3.ensures.value) c.in_ok-listing.ensures.gave in
     let tables = subst (AreTables files (origin_of c.args.setup.chip)) (sym c.as_slice-2.ensures.value) c.in_ok-tables.ensures.tables in
     done_holds files (Unit {0}) c.args.request _ (listed c.setup_inputs-inputs.result) _ _ gave
-    (of_listing files c.args.request c.args.setup _ c.setup_inputs-inputs.result c.requires tables c.setup_inputs-inputs.ensures)
-    (apart_listing files c.args.request c.args.setup _ _ _ _ _ _ c.requires c.new-places.ensures.items c.in_ok-tables.ensures.noted c.in_ok-listing.ensures.stood
+    (of_listing files c.args.request c.args.setup _ c.setup_inputs-inputs.result c.requires.chip tables c.setup_inputs-inputs.ensures)
+    (apart_listing files c.args.request c.args.setup _ _ _ _ _ _ c.requires.chip c.new-places.ensures.items c.in_ok-tables.ensures.noted c.in_ok-listing.ensures.stood
     c.in_ok-push.ensures.items c.as_slice.ensures.value c.in_ok-out.ensures.made) (Adds (changes c.args.journal.now) (changes c.create.new.journal)) c.script_listing-answer.result
     c.flush-flushed.result _ c.script_listing-answer.ensures.refused (inr c.flush-flushed.ensures.closed) c.done.ensures

@@ -11,12 +11,16 @@ use Rattle.norprog_script.specs.Written.{foreign}
 use Rattle.norprog_script.proofs.ServedLemmas.{file_refused, done_holds, done_is_written, done_is_refused, of_foreign, apart_foreign}
 use Rattle.norprog_script.proofs.command.run_log.Goals as goal
 
+-- the file that is read is the request's log
+pub read-requires : goal.read-requires
+read-requires g c = c.requires.read Log c.args.request.log.now refl
+
 pub returns-clause-written : goal.returns-clause-written
 returns-clause-written g c =
     let files = g.S.FileStore.facts c.args.store.now in
     let gave = subst (files.gave c.args.request.log.now) (sym c.as_slice.ensures.value) c.in_ok-log.ensures.gave in
-    done_is_written files (Unit {0}) c.args.request _ (foreign c.args.request.without_identity) _ _ gave (of_foreign files c.args.request c.requires)
-    (apart_foreign files c.args.request _ c.requires (c.in_ok-log.place ∷ [], (c.in_ok-log.ensures.stood, tt), c.in_ok-out.ensures.made)) c.script_log-answer.result
+    done_is_written files (Unit {0}) c.args.request _ (foreign c.args.request.without_identity) _ _ gave (of_foreign files c.args.request c.requires.chip)
+    (apart_foreign files c.args.request _ c.requires.chip (c.in_ok-log.place ∷ [], (c.in_ok-log.ensures.stood, tt), c.in_ok-out.ensures.made)) c.script_log-answer.result
     c.flush-flushed.result _ c.script_log-answer.ensures.written c.flush-flushed.ensures.flushed c.done.ensures
 
 pub returns-clause-refused : goal.returns-clause-refused
@@ -24,8 +28,8 @@ returns-clause-refused g c =
     let files = g.S.FileStore.facts c.args.store.now in
     let changes = g.S.Journal.Journal.changes in
     let gave = subst (files.gave c.args.request.log.now) (sym c.as_slice.ensures.value) c.in_ok-log.ensures.gave in
-    done_is_refused files (Adds (changes c.args.journal.now) (changes c.create.new.journal) []) c.args.request _ (foreign c.args.request.without_identity) _ _ gave (of_foreign files c.args.request c.requires)
-    (apart_foreign files c.args.request _ c.requires (c.in_ok-log.place ∷ [], (c.in_ok-log.ensures.stood, tt), c.in_ok-out.ensures.made)) _ _ c.script_log-answer.result
+    done_is_refused files (Adds (changes c.args.journal.now) (changes c.create.new.journal) []) c.args.request _ (foreign c.args.request.without_identity) _ _ gave (of_foreign files c.args.request c.requires.chip)
+    (apart_foreign files c.args.request _ c.requires.chip (c.in_ok-log.place ∷ [], (c.in_ok-log.ensures.stood, tt), c.in_ok-out.ensures.made)) _ _ c.script_log-answer.result
     c.flush-flushed.result _ c.script_log-answer.ensures.written c.script_log-answer.ensures.refused
     c.in_ok-out.ensures.count c.script_log-answer.ensures.count c.flush-flushed.ensures.whole (inr c.flush-flushed.ensures.closed) c.flush-flushed.ensures.broke c.done.ensures
 
@@ -74,6 +78,6 @@ returns-clause-memory g c =
     let files = g.S.FileStore.facts c.args.store.now in
     let changes = g.S.Journal.Journal.changes in
     let gave = subst (files.gave c.args.request.log.now) (sym c.as_slice.ensures.value) c.in_ok-log.ensures.gave in
-    done_holds files (Unit {0}) c.args.request _ (foreign c.args.request.without_identity) _ _ gave (of_foreign files c.args.request c.requires)
-    (apart_foreign files c.args.request _ c.requires (c.in_ok-log.place ∷ [], (c.in_ok-log.ensures.stood, tt), c.in_ok-out.ensures.made)) (Adds (changes c.args.journal.now) (changes c.create.new.journal)) c.script_log-answer.result
+    done_holds files (Unit {0}) c.args.request _ (foreign c.args.request.without_identity) _ _ gave (of_foreign files c.args.request c.requires.chip)
+    (apart_foreign files c.args.request _ c.requires.chip (c.in_ok-log.place ∷ [], (c.in_ok-log.ensures.stood, tt), c.in_ok-out.ensures.made)) (Adds (changes c.args.journal.now) (changes c.create.new.journal)) c.script_log-answer.result
     c.flush-flushed.result _ c.script_log-answer.ensures.refused (inr c.flush-flushed.ensures.closed) c.done.ensures

@@ -21,5 +21,5 @@ returns-clause-answer g c =
     answer_is (is_well_formed given) (PrintsTally (Serves files given) files.flushed held held') (CutsTally (Serves files given) files.flushed held held')
     _ _ _ _ (λ why. Refuses why × Holds why) _ _ c.scripted_in.result c.answered.result
     c.scripted_in.ensures.done c.scripted_in.ensures.journal c.scripted_in.ensures.printed c.scripted_in.ensures.unprinted
-    (and_also (is_well_formed given) Refuses Holds c.scripted_in.result c.scripted_in.ensures.first c.scripted_in.ensures.memory)
+    (and_also (is_well_formed given) Refuses Holds c.scripted_in.result c.scripted_in.ensures.first.0 c.scripted_in.ensures.first.1)
     c.answered.ensures.done c.answered.ensures.told

@@ -2,11 +2,16 @@
 use Rattle.std.proofs.Common.{rules, ◌≡◌, true, inl, inr, arith}
 use Rattle.nor_base.proofs.FaultLaws.{handed_on}
 use Rattle.norprog_common.specs.FileStore.{Adds, HasGone}
-use Rattle.norprog_common.proofs.ToldLemmas.{or_usage}
+use Rattle.norprog_common.proofs.ToldLemmas.{or_usage, write_is_other}
 use Rattle.norprog_script.specs.Request.{is_well_formed, AsksFor}
 use Rattle.norprog_script.specs.Served.{Serves}
-use Rattle.norprog_script.proofs.ServedLemmas.{gone, holds_asked, scripted_asked, refusal_asked}
+use Rattle.norprog_script.proofs.ServedLemmas.{gone, holds_asked, may_read, scripted_asked, refusal_asked}
 use Rattle.norprog_script.proofs.command.scripted_in.Goals as goal
+
+pub run_script-requires : goal.run_script-requires
+run_script-requires g c =
+    let asks : AsksFor c.args.given c.in_ok-request.request = search rules in
+    record { read = may_read (g.S.FileStore.facts c.args.store.now) c.args.given c.in_ok-request.request asks c.requires.read }
 
 pub returns-in-Ok-clause-printed : goal.returns-in-Ok-clause-printed
 returns-in-Ok-clause-printed g c =
@@ -23,8 +28,12 @@ returns-in_err-tally-clause-first g c =
     let files = g.S.FileStore.facts c.args.store.now in
     let asks : AsksFor c.args.given c.in_ok-request.request = search rules in
     let formed : is_well_formed c.args.given ≡ true = search rules in
-    handed_on _ _ _ c.from_residual-in_err-tally.ensures.1
-    (or_usage _ _ _ formed (refusal_asked files c.args.given c.in_ok-request.request _ _ _ _ asks c.in_err-tally.ensures.refused))
+    let changes = g.S.Journal.Journal.changes in (
+      handed_on _ _ _ c.from_residual-in_err-tally.ensures.1
+          (or_usage _ _ _ formed (refusal_asked files c.args.given c.in_ok-request.request _ _ _ _ asks c.in_err-tally.ensures.refused)),
+      handed_on _ _ _ c.from_residual-in_err-tally.ensures.1
+          (holds_asked files c.args.given c.in_ok-request.request (Adds (changes c.args.journal.now) (changes c.run_script.new.journal)) _ asks c.in_err-tally.ensures.memory),
+    )
 
 pub returns-in-Err-clause-unprinted : goal.returns-in-Err-clause-unprinted
 returns-in-Err-clause-unprinted g c =
@@ -43,11 +52,4 @@ returns-in-Err-clause-first g c =
     let formed : is_well_formed c.args.given ≡ true = search rules in
     let late = gone (Serves files c.args.given) files.flushed (HasGone files) c.in_ok-tally.tally (λ held sent. inl sent)
     (scripted_asked files c.args.given c.in_ok-request.request files.flushed c.in_ok-tally.tally asks c.in_ok-tally.ensures.written) in
-    or_usage _ _ _ formed (inr (c.in_ok-tally.tally, late), inr (omega (arith, c.in-Err.ensures.count)))
-
-pub returns-in_err-tally-clause-memory : goal.returns-in_err-tally-clause-memory
-returns-in_err-tally-clause-memory g c =
-    let files = g.S.FileStore.facts c.args.store.now in
-    let changes = g.S.Journal.Journal.changes in
-    let asks : AsksFor c.args.given c.in_ok-request.request = search rules in
-    handed_on _ _ _ c.from_residual-in_err-tally.ensures.1 (holds_asked files c.args.given c.in_ok-request.request (Adds (changes c.args.journal.now) (changes c.run_script.new.journal)) _ asks c.in_err-tally.ensures.memory)
+    (or_usage _ _ _ formed (inr (c.in_ok-tally.tally, late), inr (omega (arith, c.in-Err.ensures.count))), λ memory. absurd (write_is_other memory))

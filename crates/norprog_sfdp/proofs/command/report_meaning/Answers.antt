@@ -9,8 +9,13 @@ use Rattle.norprog_common.proofs.ToldLemmas.{asked_wider, or_usage}
 use Rattle.norprog_sfdp.specs.Served.{tables_path, IsChipTask, ServesChip}
 use Rattle.norprog_sfdp.specs.Answer.{MeansThis}
 use Rattle.norprog_sfdp.proofs.AnswerLemmas.{chip_wider}
-use Rattle.norprog_sfdp.proofs.ServedLemmas.{named_of, family_of, chip_serves, chip_is_asked, tables_asked}
+use Rattle.norprog_sfdp.proofs.ServedLemmas.{named_of, family_of, chip_serves, chip_is_asked, may_read, tables_asked}
 use Rattle.norprog_sfdp.proofs.command.report_meaning.Goals as goal
+
+pub run_meaning-requires : goal.run_meaning-requires
+run_meaning-requires g c =
+    let named = named_of origin_of c.chip_of.result c.in_ok-chip.chip (chip_asked c.args.given) c.chip_of.ensures c.in_ok-chip.ensures.ok_part in
+    record { read = may_read (g.S.FileStore.facts c.args.store.now) c.args.given (origin_of c.in_ok-chip.chip) named c.requires.read }
 
 pub returns-in-Ok-clause-printed : goal.returns-in-Ok-clause-printed
 returns-in-Ok-clause-printed g c =
@@ -54,8 +59,8 @@ returns-in-Err-clause-first g c =
       omega (arith, c.in-Err.ensures.count),
     )
 
-pub returns-in-Ok-clause-asked : goal.returns-in-Ok-clause-asked
-returns-in-Ok-clause-asked g c =
+pub returns-in-Ok-clause-done : goal.returns-in-Ok-clause-done
+returns-in-Ok-clause-done g c =
     let named = named_of origin_of c.chip_of.result c.in_ok-chip.chip (chip_asked c.args.given) c.chip_of.ensures c.in_ok-chip.ensures.ok_part in
     let family = family_of c.args.given c.unwrap_or.result _ c.part.result c.in_ok-part.part c.unwrap_or.ensures refl c.part.ensures c.in_ok-part.ensures.ok_part in
-    chip_is_asked c.args.given (origin_of c.in_ok-chip.chip) c.in_ok-part.part named family
+    (refl, chip_is_asked c.args.given (origin_of c.in_ok-chip.chip) c.in_ok-part.part named family)

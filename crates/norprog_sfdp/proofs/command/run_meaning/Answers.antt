@@ -11,6 +11,9 @@ use Rattle.norprog_sfdp.proofs.AnswerLemmas.{file_refused, means_wider, chips_wi
 use Rattle.norprog_sfdp.proofs.ServedLemmas.{chip_task}
 use Rattle.norprog_sfdp.proofs.command.run_meaning.Goals as goal
 
+pub tables_of-requires : goal.tables_of-requires
+tables_of-requires g c = c.requires.read
+
 pub returns-clause-means : goal.returns-clause-means
 returns-clause-means g c =
     let files = g.S.FileStore.facts c.args.store.now in

@@ -3,8 +3,15 @@ use Rattle.std.proofs.Common.{refl, inl, inr, arith}
 use Rattle.norprog_common.proofs.ToldLemmas.{refused_status}
 use Rattle.norprog_common.specs.FileStore.{Adds}
 use Rattle.test_files.specs.Told.{place, told_changes}
-use Rattle.test_files.proofs.WorkedLemmas.{built_told, made_told}
+use Rattle.test_files.proofs.WorkedLemmas.{build_may, built_told, made_told}
 use Rattle.test_files.proofs.built.build_of.Goals as goal
+
+-- both files are there
+pub build-status-requires-clause-read : goal.build-status-requires-clause-read
+build-status-requires-clause-read g c =
+    build_may c.files_alone-store.result.files.now c.files_alone-store.result.device c.build_args.result.job
+    (rw (c.files_alone-store.ensures.files, c.file.ensures) refl) (rw (c.files_alone-store.ensures.files, c.file.ensures, c.file-2.ensures) refl)
+    c.build_args.ensures.image c.build_args.ensures.content c.build_args.ensures.layout c.build_args.ensures.chip
 
 pub returns : goal.returns
 returns g c = record {

@@ -3,8 +3,15 @@ use Rattle.std.proofs.Common.{refl, inl, inr, arith}
 use Rattle.norprog_common.proofs.ToldLemmas.{refused_status}
 use Rattle.norprog_common.specs.FileStore.{Adds}
 use Rattle.test_files.specs.Told.{place, told_changes}
-use Rattle.test_files.proofs.RanLemmas.{output_told, run_told}
+use Rattle.test_files.proofs.RanLemmas.{output_told, run_may, run_told}
 use Rattle.test_files.proofs.ran.run_of.Goals as goal
+
+-- both files are there
+pub run-status-requires-clause-read : goal.run-status-requires-clause-read
+run-status-requires-clause-read g c =
+    run_may c.files_alone-store.result.files.now c.files_alone-store.result.device c.run_args.result
+    (rw (c.files_alone-store.ensures.files, c.file.ensures) refl) (rw (c.files_alone-store.ensures.files, c.file.ensures, c.file-2.ensures) refl)
+    c.run_args.ensures.content c.run_args.ensures.script c.run_args.ensures.chip
 
 pub returns : goal.returns
 returns g c = record {
