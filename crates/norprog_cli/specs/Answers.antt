@@ -1,6 +1,6 @@
 -- What the program answers (this project's).
 use Rattle.std.specs.Prelude.{◌≡◌, ◌≢◌, ◌⊎◌, ◌<◌, ◌+◌, ◌-◌, ◌^◌, ℕ, zero, suc, min, List, [], Option, Some, None, Result, Ok, Err}
-use Rattle.std.specs.Io.KnownBytes.{Keeps}
+use Rattle.std.specs.Io.KnownBytes.{Keeps, append_known}
 use Rattle.nor_base.specs.Device.{Ahead}
 use Rattle.nor_job.specs.declared.fault.BuildFault.TheVariants.{Memory, Write}
 use Rattle.norprog_common.specs.declared.faults.Refusal.{Refusal}
@@ -139,10 +139,14 @@ abbrev pub EndsCommand : {E : Type 0} → (E → ℕ) → (E → Option (List �
 EndsCommand count held files Failed Made words failures failed left before after err_before err_after status shown =
     IsEnd _ count held files Failed Made words failures failed left before after err_before err_after status shown
 
--- the same of a command whose output is gathered: memory for that is refused, which is reported, and nothing was done; or it ends so
+-- the same of a command whose output is gathered, where what is printed to was given back and holds this: it ends so, nothing is left to
+-- go out at status 0, and else nothing more of what is left goes out
 abbrev pub EndsGathered : {E : Type 0} → (E → ℕ) → (E → Option (List ℕ)) → FileFacts → (Ahead → Type 0) → (List Change → Type 0)
-    → List (List ℕ) → Option (List ℕ) → E → E → ℕ → ProgressShown → Type 0
-EndsGathered count held files Failed Made words before err_before err_after status shown =
-    (ShowsNone shown × Made [] × TellsOf (λ told. told ≡ Build Memory) (count err_after ≡ count err_before) (held err_before) (held err_after) status)
-    ⊎ ((gathered : Option (List ℕ)) × (failed : ℕ) × (left : List ℕ) × (after : Option (List ℕ)) × Keeps before gathered
-    × EndsCommand count held files Failed Made words 0 failed left gathered after err_before err_after status shown)
+    → List (List ℕ) → Option (List ℕ) → Option (Option (List ℕ)) → E → E → ℕ → ProgressShown → Type 0
+EndsGathered count held files Failed Made words before (Some after) err_before err_after status shown =
+    (gathered : Option (List ℕ)) × (failed : ℕ) × (left : List ℕ) × Keeps before gathered
+    × EndsCommand count held files Failed Made words 0 failed left gathered (append_known after left) err_before err_after status shown
+    × (status ≡ 0 → left ≡ [])
+-- memory for that was refused, which is reported, and nothing was done
+EndsGathered count held files Failed Made words before None err_before err_after status shown =
+    ShowsNone shown × Made [] × TellsOf (λ told. told ≡ Build Memory) (count err_after ≡ count err_before) (held err_before) (held err_after) status

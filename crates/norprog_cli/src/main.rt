@@ -12,7 +12,7 @@
 #![tactic(auto)]
 
 ghost use Rattle.std.specs.Prelude.{◌≡◌, ◌<◌, ◌≤◌, ◌-◌, ◌^◌, [], drop, map, string_bytes};
-ghost use Rattle.std.specs.Prelude.{IfOk, IfErr};
+ghost use Rattle.std.specs.Prelude.{IfOk, IfErr, option_map};
 ghost use Rattle.std.specs.Vec.Iter.{into_iter_items};
 ghost use Rattle.std.specs.Io.KnownBytes.{Keeps};
 ghost use Rattle.std.specs.Io.Buffered.{writer_buffer, writer_contents};
@@ -69,14 +69,14 @@ fn main_status<E: ByteOut + Drop>(rt: &HostRuntime, err: &mut Heard<E>) -> u8
     let out = rt.stdout();
     if rt.stderr().is_terminal() {
         let mut progress = IntoWrite::new(rt.stderr());
-        command_gathered(alloc, &files, &mut journal, words, out, err, &mut progress)
+        command_gathered(alloc, &files, &mut journal, words, out, err, &mut progress).0
     } else {
-        command_gathered(alloc, &files, &mut journal, words, out, err, &mut Nowhere)
+        command_gathered(alloc, &files, &mut journal, words, out, err, &mut Nowhere).0
     }
 }
 
-/// Runs a command as [`command_flushed`] does, with what it prints gathered. Returns its status; 1
-/// where memory to gather in is refused, which is reported.
+/// Runs a command as [`command_flushed`] does, with what it prints gathered. Returns its status and
+/// what was printed to; 1 and nothing where memory to gather in is refused, which is reported.
 fn command_gathered<S: FileStore, W: Write + Drop, E: ByteOut + Drop, P: ByteOut>(
     alloc: Global,
     store: &S,
@@ -85,14 +85,15 @@ fn command_gathered<S: FileStore, W: Write + Drop, E: ByteOut + Drop, P: ByteOut
     out: W,
     err: &mut Heard<E>,
     progress: &mut P,
-) -> u8
+) -> (u8, Option<W>)
     requires read { MayReadWords (S.facts store.now) (map string_bytes words.items) }
     requires err { E.count err.old.out < 2 ^ 64 - 1 }
     requires progress { P.count progress.old < 2 ^ 64 - 1 }
     ensures { EndsGathered ⟦<Heard<E> as ByteOut>⟧.count ⟦<Heard<E> as ByteOut>⟧.held
         (S.facts store.now) (HasFailed S.Input.ahead S.Input.count)
         (Adds (S.Journal.changes journal.old) (S.Journal.changes journal.new))
-        (map string_bytes words.items) (W.contents out) err.old err.new result (
+        (map string_bytes words.items) (W.contents out) (option_map W.contents result.1)
+        err.old err.new result.0 (
           P.held progress.old,
           P.held progress.new,
           P.count progress.old,
@@ -102,9 +103,11 @@ fn command_gathered<S: FileStore, W: Write + Drop, E: ByteOut + Drop, P: ByteOut
     match BufWriter::with_capacity(alloc, BUFFER, out) {
         Ok(gathered) => {
             let mut out = IntoWrite::new(gathered);
-            command_flushed(alloc, store, journal, words, &mut out, err, progress)
+            let status = command_flushed(alloc, store, journal, words, &mut out, err, progress);
+            let (out, _left) = out.into_inner().into_parts();
+            (status, Some(out))
         }
-        Err(_) => refuse(&Refusal::MEMORY, err),
+        Err(_) => (refuse(&Refusal::MEMORY, err), None),
     }
 }
 

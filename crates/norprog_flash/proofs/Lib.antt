@@ -1,4 +1,5 @@
 mod PlannedLemmas
+mod CarriedLemmas
 mod EndedLemmas
 mod LineLemmas
 mod OpenedLemmas

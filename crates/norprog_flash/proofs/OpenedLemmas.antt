@@ -1,5 +1,5 @@
 -- A job after the handshake, and then the pins were let go.
-use Rattle.std.proofs.Common.{ℕ, List, [], ◌∷◌, Option, Result, Ok, Err, IfOk, IfErr, inl, inr, refl}
+use Rattle.std.proofs.Common.{◌≡◌, ℕ, Bool, not, ◌&&◌, List, [], ◌∷◌, Option, Result, Ok, Err, IfOk, IfErr, inl, inr, refl, subst}
 use Rattle.nor_base.specs.declared.step.Step.{Step}
 use Rattle.nor_base.specs.Device.{Ahead, ahead_of}
 use Rattle.nor_serprog.specs.declared.limits.Limits.{Limits}
@@ -15,15 +15,17 @@ use Rattle.norprog_flash.specs.declared.ending.Unflashed.{Unflashed}
 use Rattle.norprog_flash.specs.declared.ending.Unflashed.TheVariants.{Refused}
 use Rattle.norprog_flash.specs.declared.job.Job.{Job}
 use Rattle.norprog_flash.specs.Answer.{IsUnbegunOn}
+use Rattle.norprog_flash.specs.Cut.{was_cut}
 use Rattle.norprog_flash.specs.Early.{IsSoundEarly}
 use Rattle.norprog_flash.specs.Opened.{HasFlashedOpened, HasFlashedTested, IsFlashedOn}
 use Rattle.norprog_flash.specs.Stops.{StopsBegun, StopsOpened, StopsTested, StopsWork}
 use Rattle.norprog_read.proofs.MadeLemmas.{unsaved_by}
 
-pub opened_by : {E : Type 0} (files : FileFacts) (job : Job) (h i j k : Option (List ℕ)) (a b c d : Ahead) (o p : Option (List ℕ)) (Shown : List Step → ℕ → Type 0)
-    (limits : Limits) (r : Result Ending E) → Greeted h i a b (Ok limits) → IfOk r (HasFlashedTested files job limits i j b c o p Shown)
-    → LetsGo j k c d limits.pins → IfOk r (HasFlashedOpened files job h k a d o p Shown)
-opened_by files job h i j k a b c d o p Shown limits (Ok ending) greeted tested released = record {
+pub opened_by : (files : FileFacts) (job : Job) (h i j k : Option (List ℕ)) (a b c d : Ahead) (o p : Option (List ℕ)) (Shown : List Step → ℕ → Type 0)
+    (limits : Limits) (r : Result Ending Unflashed) (pins : Bool) → Greeted h i a b (Ok limits)
+    → IfOk r (HasFlashedTested files job limits i j b c o p Shown) → pins ≡ (limits.pins && not (was_cut r)) → LetsGo j k c d pins
+    → IfOk r (HasFlashedOpened files job h k a d o p Shown)
+opened_by files job h i j k a b c d o p Shown limits (Ok ending) pins greeted tested is released = record {
   held = i;
   ahead = b;
   limits = limits;
@@ -31,16 +33,17 @@ opened_by files job h i j k a b c d o p Shown limits (Ok ending) greeted tested 
   held_late = j;
   ahead_late = c;
   tested = tested;
-  released = released;
+  released = subst (λ (frees : Bool). LetsGo j k c d frees) is released;
 }
-opened_by files job h i j k a b c d o p Shown limits (Err why) greeted tested released = tt
+opened_by files job h i j k a b c d o p Shown limits (Err why) pins greeted tested is released = tt
 
 -- or it wasn't begun
-pub stopped_by : {T : Type 0} (files : FileFacts) (Made : List Change → Type 0) (job : Job) (h i j k : Option (List ℕ)) (a b c d : Ahead)
-    (o p : Option (List ℕ)) (limits : Limits) (r : Result T Unflashed) → Greeted h i a b (Ok limits)
-    → IfErr r (StopsTested files Made i j b c limits job o p) → LetsGo j k c d limits.pins → IfErr r (StopsOpened files Made h k a d job o p)
-stopped_by files Made job h i j k a b c d o p limits (Ok ending) greeted stops released = tt
-stopped_by files Made job h i j k a b c d o p limits (Err why) greeted stops released = inr (record {
+pub stopped_by : (files : FileFacts) (Made : List Change → Type 0) (job : Job) (h i j k : Option (List ℕ)) (a b c d : Ahead) (o p : Option (List ℕ))
+    (limits : Limits) (r : Result Ending Unflashed) (pins : Bool) → Greeted h i a b (Ok limits)
+    → IfErr r (StopsTested files Made i j b c limits job o p) → pins ≡ (limits.pins && not (was_cut r)) → LetsGo j k c d pins
+    → IfErr r (StopsOpened files Made h k a d job o p)
+stopped_by files Made job h i j k a b c d o p limits (Ok ending) pins greeted stops is released = tt
+stopped_by files Made job h i j k a b c d o p limits (Err why) pins greeted stops is released = inr (record {
   held = i;
   ahead = b;
   limits = limits;
@@ -48,7 +51,7 @@ stopped_by files Made job h i j k a b c d o p limits (Err why) greeted stops rel
   held_late = j;
   ahead_late = c;
   stops = stops;
-  released = released;
+  released = subst (λ (frees : Bool). LetsGo j k c d frees) is released;
 })
 
 pub stopped_after : {T : Type 0} (files : FileFacts) (Made : List Change → Type 0) (job : Job) (h i j : Option (List ℕ)) (a b c : Ahead)

@@ -68,11 +68,9 @@ pub record HasFlashed (files : FileFacts) (job : Job) (limits : Limits) (held_be
 
 -- a step can't be done by this device: nothing was sent after the chip was read
 pub record CantFlash (files : FileFacts) (job : Job) (limits : Limits) (held_before held_after : Option (List ℕ))
-    (ahead_before ahead_after : Ahead) (out_before out_after : Option (List ℕ)) (Shown : List Step → ℕ → Type 0) (step : ℕ) (why : Failure)
-    : Type 0 where
+    (ahead_before ahead_after : Ahead) (out_before out_after : Option (List ℕ)) (Shown : List Step → ℕ → Type 0) (step : ℕ) : Type 0 where
   pub todo : IsToDo files job held_before held_after ahead_before ahead_after out_before out_after
   pub first : IsFirstNotCarried limits todo.steps step
-  pub carried : why ≡ Carried
   pub shown : Shown todo.steps 0
 
 -- the device halted at a step
@@ -98,7 +96,8 @@ pub record HasMissedFlash (files : FileFacts) (job : Job) (limits : Limits) (hel
   pub every : EveryChipFlashes todo missed.worked.held missed.worked.ahead
   pub shown : Shown todo.steps step
 
--- how it ends: planned, and nothing else was sent; all done; or why a step wasn't. `Shown`: how many of these steps were done is reported
+-- how it ends: planned, and nothing else was sent; all done; one step can't be done by this device, and none was sent; or why another one
+-- wasn't done. `Shown`: how many of these steps were done is reported
 abbrev pub EndsFlash : FileFacts → Job → Limits → Option (List ℕ) → Option (List ℕ) → Ahead → Ahead → Option (List ℕ) → Option (List ℕ)
     → (List Step → ℕ → Type 0) → Ending → Type 0
 EndsFlash files job limits held_before held_after ahead_before ahead_after out_before out_after Shown Planned =
@@ -106,7 +105,8 @@ EndsFlash files job limits held_before held_after ahead_before ahead_after out_b
     × HasPlanned files job held_before held_after ahead_before ahead_after reading goal steps out_before out_after × Shown steps 0)
 EndsFlash files job limits held_before held_after ahead_before ahead_after out_before out_after Shown (Done transactions) =
     HasFlashed files job limits held_before held_after ahead_before ahead_after out_before out_after Shown transactions
+EndsFlash files job limits held_before held_after ahead_before ahead_after out_before out_after Shown (Failed step Carried) =
+    CantFlash files job limits held_before held_after ahead_before ahead_after out_before out_after Shown step
 EndsFlash files job limits held_before held_after ahead_before ahead_after out_before out_after Shown (Failed step why) =
-    CantFlash files job limits held_before held_after ahead_before ahead_after out_before out_after Shown step why
-    ⊎ (HasHaltedFlash files job limits held_before held_after ahead_before ahead_after out_before out_after Shown step why
-    ⊎ HasMissedFlash files job limits held_before held_after ahead_before ahead_after out_before out_after Shown step why)
+    HasHaltedFlash files job limits held_before held_after ahead_before ahead_after out_before out_after Shown step why
+    ⊎ HasMissedFlash files job limits held_before held_after ahead_before ahead_after out_before out_after Shown step why

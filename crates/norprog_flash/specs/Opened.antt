@@ -1,5 +1,5 @@
 -- Work on the chip behind a device, from its handshake on (this project's).
-use Rattle.std.specs.Prelude.{ℕ, List, Option, Ok}
+use Rattle.std.specs.Prelude.{ℕ, not, ◌&&◌, List, Option, Ok}
 use Rattle.nor_base.specs.declared.step.Step.{Step}
 use Rattle.nor_base.specs.Device.{Ahead, ahead_of}
 use Rattle.nor_serprog.specs.declared.limits.Limits.{Limits}
@@ -9,6 +9,7 @@ use Rattle.norprog_common.specs.FileStore.{FileFacts}
 use Rattle.norprog_device.specs.Opened.{LetsGo}
 use Rattle.norprog_flash.specs.declared.ending.Ending.{Ending}
 use Rattle.norprog_flash.specs.declared.job.Job.{Job}
+use Rattle.norprog_flash.specs.Cut.{ends_cut}
 use Rattle.norprog_flash.specs.Ended.{EndsFlash}
 
 -- the line was tested, and then the job ended so
@@ -20,7 +21,7 @@ pub record HasFlashedTested (files : FileFacts) (job : Job) (limits : Limits) (h
   pub tested : TestsLine held_before held ahead_before ahead (Ok tt) limits
   pub ends : EndsFlash files job limits held held_after ahead ahead_after out_before out_after Shown ending
 
--- the handshake, the test of the line, the job, the pins: nothing else was sent
+-- the handshake, the test of the line, the job, and the pins, unless a request was cut: nothing else was sent
 pub record HasFlashedOpened (files : FileFacts) (job : Job) (held_before held_after : Option (List ℕ)) (ahead_before ahead_after : Ahead)
     (out_before out_after : Option (List ℕ)) (Shown : List Step → ℕ → Type 0) (ending : Ending) : Type 0 where
   pub held : Option (List ℕ)
@@ -30,7 +31,7 @@ pub record HasFlashedOpened (files : FileFacts) (job : Job) (held_before held_af
   pub held_late : Option (List ℕ)
   pub ahead_late : Ahead
   pub tested : HasFlashedTested files job limits held held_late ahead ahead_late out_before out_after Shown ending
-  pub released : LetsGo held_late held_after ahead_late ahead_after limits.pins
+  pub released : LetsGo held_late held_after ahead_late ahead_after (limits.pins && not (ends_cut ending))
 
 -- the device that was named was opened, had this yet to give, and had taken that; the job on its chip ended so, and nothing was sent
 -- after that

@@ -25,6 +25,7 @@ use Rattle.norprog_flash.specs.declared.ending.Unflashed.{Unflashed}
 use Rattle.norprog_flash.specs.declared.ending.Unflashed.TheVariants.{Refused, Device, Unlike, Closed}
 use Rattle.norprog_flash.specs.declared.job.Job.{Job}
 use Rattle.norprog_flash.specs.Begun.{HasRead, start_at}
+use Rattle.norprog_flash.specs.Cut.{stops_cut}
 use Rattle.norprog_flash.specs.Task.{dump_of, flash_task}
 use Rattle.norprog_read.specs.declared.asked.Ask.{Ask}
 use Rattle.norprog_read.specs.declared.asked.Reading.{Reading}
@@ -140,7 +141,7 @@ StopsTested files Made held_before held_after ahead_before ahead_after limits jo
     × Made [] × (out_after ≡ out_before))
     ⊎ StopsAfter files Made held_before held_after ahead_before ahead_after limits job out_before out_after why
 
--- the handshake was done, what came after it stopped so, and the pins were let go
+-- the handshake was done, what came after it stopped so, and the pins were let go, unless a request was cut: then nothing followed it
 pub record StopsGreeted (files : FileFacts) (Made : List Change → Type 0) (held_before held_after : Option (List ℕ))
     (ahead_before ahead_after : Ahead) (job : Job) (out_before out_after : Option (List ℕ)) (why : Unflashed) : Type 0 where
   pub held : Option (List ℕ)
@@ -150,7 +151,7 @@ pub record StopsGreeted (files : FileFacts) (Made : List Change → Type 0) (hel
   pub held_late : Option (List ℕ)
   pub ahead_late : Ahead
   pub stops : StopsTested files Made held held_late ahead ahead_late limits job out_before out_after why
-  pub released : LetsGo held_late held_after ahead_late ahead_after limits.pins
+  pub released : LetsGo held_late held_after ahead_late ahead_after (limits.pins && not (stops_cut why))
 
 -- the handshake stopped, or so
 abbrev pub StopsOpened : FileFacts → (List Change → Type 0) → Option (List ℕ) → Option (List ℕ) → Ahead → Ahead → Job → Option (List ℕ)

@@ -14,7 +14,7 @@ use Rattle.nor_serprog.specs.declared.halt.Halt.{Halt}
 use Rattle.nor_serprog.specs.declared.limits.Limits.{Limits}
 use Rattle.nor_serprog.specs.Done.{HasDoneAll}
 use Rattle.nor_serprog.specs.Row.{HasHalted}
-use Rattle.nor_serprog.specs.Steps.{IsFirstNotCarried}
+use Rattle.nor_serprog.specs.Steps.{AreCarried, IsFirstNotCarried}
 use Rattle.norprog_failure.specs.declared.failure.Failure.{Failure}
 use Rattle.norprog_failure.specs.declared.failure.Failure.TheVariants.{Carried}
 use Rattle.norprog_failure.specs.Reported.{FailsAs, failure_by}
@@ -74,12 +74,12 @@ IsSoOfDone Shown Planned = ⊥
 IsSoOfDone Shown (Done transactions) = Shown transactions
 IsSoOfDone Shown (Failed step why) = Shown step
 
--- what work that was planned says: some step can't be done by the device, and nothing was sent; or it went so, in a way by which the chip
--- is read back; and how many steps were done is reported
+-- what work that was planned says: some step can't be done by the device, and nothing was sent; or each can, and it went so, in a way by
+-- which the chip is read back; and how many steps were done is reported
 abbrev pub GoesOn : Option (List ℕ) → Option (List ℕ) → Ahead → Ahead → Limits → Job → Reading → List ℕ → List Step → (ℕ → Type 0) → Ending
     → Type 0
 GoesOn held_before held_after ahead_before ahead_after limits job r goal steps Shown ending =
     ((step : ℕ) × (ending ≡ Failed step Carried) × IsFirstNotCarried limits steps step × (held_after ≡ held_before) × (ahead_after ≡ ahead_before)
     × Shown 0)
-    ⊎ ((by : ReadBy) × GivesBy r.meaning (start_of (flash_task job r.tables.items)) by
+    ⊎ ((by : ReadBy) × GivesBy r.meaning (start_of (flash_task job r.tables.items)) by × AreCarried limits steps
     × WorksOut held_before held_after ahead_before ahead_after limits job.ask.turns r.meaning by steps goal ending × IsSoOfDone Shown ending)

@@ -1,7 +1,9 @@
 //! Work on the chip behind a device, from its handshake on.
 
-ghost use Rattle.std.specs.Prelude.{◌≡◌, ◌≤◌, ◌<◌, ◌+◌, ◌-◌, ◌^◌, [], ◌∷◌, true, IfOk, IfErr};
+ghost use Rattle.std.specs.Prelude.{◌≡◌, ◌≤◌, ◌<◌, ◌+◌, ◌-◌, ◌^◌, ◌&&◌, not, [], ◌∷◌, true};
+ghost use Rattle.std.specs.Prelude.{IfOk, IfErr};
 ghost use Rattle.norprog_common.specs.FileStore.{Adds, Created};
+ghost use Rattle.norprog_flash.specs.Cut.{ends_cut, fails_cut, stops_cut, was_cut};
 ghost use Rattle.norprog_flash.specs.Stops.{CountsOut, StopsOpened, StopsTested};
 ghost use Rattle.norprog_flash.specs.Opened.{HasFlashedOpened, HasFlashedTested};
 ghost use Rattle.norprog_flash.specs.Worked.{Showing};
@@ -13,10 +15,12 @@ use nor_base::{ByteIn, ByteOut};
 use nor_serprog::{Limits, greet, test_line};
 use norprog_common::FileStore;
 use norprog_device::{DeviceFault, let_go};
+use norprog_failure::Failure;
+use norprog_read::{Unlike, cuts_request, is_cut};
 use std::alloc::Global;
 
 /// Begins with a device, tests the line to it, and does the job on its chip, as [`flash_chip`]
-/// does. At last it lets the chip's pins go, whatever happened.
+/// does. At last it lets the chip's pins go; after a failed write nothing more is sent.
 ///
 /// `Device` where the handshake or the test of the line ended early. At each `Unflashed` nothing
 /// was sent that changes the chip.
@@ -56,7 +60,8 @@ pub fn flash_opened<S: FileStore, R: ByteIn, W: ByteOut, O: ByteOut, P: ByteOut>
         Err(why) => return Err(Unflashed::Device(DeviceFault::Greet(why))),
     };
     let ended = flash_tested(alloc, store, journal, from, to, &limits, job, out, progress);
-    let_go(from, to, limits.pins);
+    let pins = frees_pins(&limits, &ended);
+    let_go(from, to, pins);
     ended
 }
 
@@ -98,5 +103,56 @@ fn flash_tested<S: FileStore, R: ByteIn, W: ByteOut, O: ByteOut, P: ByteOut>(
     match test_line(from, to, limits) {
         Ok(()) => flash_chip(alloc, store, journal, from, to, limits, job, out, progress),
         Err(why) => Err(Unflashed::Device(DeviceFault::Line(why))),
+    }
+}
+
+/// Whether the pins are let go after a job that ended so: the device drives them, and no request
+/// was cut. A device would take what follows as the rest of such a request.
+fn frees_pins(limits: &Limits, ended: &Result<Ending, Unflashed>) -> bool
+    ensures { result ≡ (limits.now.pins && not (was_cut ended.now)) }
+{
+    limits.pins && !was_cut(ended)
+}
+
+/// Whether a job ended because the writer failed in a request.
+fn was_cut(ended: &Result<Ending, Unflashed>) -> bool
+    ensures { result ≡ was_cut ended.now }
+{
+    match ended {
+        Ok(ending) => ends_cut(*ending),
+        Err(why) => stops_cut(why),
+    }
+}
+
+/// Whether work ended so.
+fn ends_cut(ending: Ending) -> bool
+    ensures { result ≡ ends_cut ending }
+{
+    match ending {
+        Ending::Failed { why, step: _ } => fails_cut(why),
+        Ending::Planned | Ending::Done { .. } => false,
+    }
+}
+
+/// Whether a step isn't done because the writer failed in a request.
+fn fails_cut(why: Failure) -> bool
+    ensures { result ≡ fails_cut why }
+{
+    match why {
+        Failure::Exchange(fault) => cuts_request(fault),
+        Failure::Busy | Failure::Carried => false,
+        Failure::Differs(_) | Failure::Gives { .. } => false,
+    }
+}
+
+/// Whether work isn't begun because the writer failed in a request.
+fn stops_cut(why: &Unflashed) -> bool
+    ensures { result ≡ stops_cut why.now }
+{
+    match why {
+        Unflashed::Device(fault) => is_cut(*fault),
+        Unflashed::Unlike(Unlike::Asking(fault)) => cuts_request(*fault),
+        Unflashed::Unlike(_) => false,
+        Unflashed::Refused(_) | Unflashed::Closed(_) => false,
     }
 }

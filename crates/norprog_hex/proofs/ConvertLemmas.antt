@@ -6,7 +6,7 @@ use Rattle.std.proofs.lemmas.Bool.{cases_lt, cases_Bool, cond-true, cond-false, 
 use Rattle.std.proofs.lemmas.Grind.{flat_map-append}
 use Rattle.nor_base.specs.declared.device.Failed.{Failed}
 use Rattle.nor_base.specs.Device.{Ahead, Gives, IsAtEnd, Cuts, Writes, Fills, Counts}
-use Rattle.nor_base.proofs.DeviceLaws.{Appends-append, Appends-none, Cuts-then, Cuts-more, Gives-append}
+use Rattle.nor_base.proofs.DeviceLaws.{Appends-append, Appends-none, Cuts-then, Gives-append}
 use Rattle.nor_hex_out.specs.Records.{Entry, end_record, record_text}
 use Rattle.nor_hex_out.specs.Segments.{image_records, text_of, hex_text}
 use Rattle.nor_hex_out.specs.Laws.{PartsJoin, NoneHaveNone}
@@ -16,7 +16,7 @@ use Rattle.norprog_common.specs.Content.{CountsWriter, of_writer}
 use Rattle.norprog_common.specs.declared.faults.FileName.TheVariants as file
 use Rattle.norprog_common.specs.declared.faults.Refusal.{Refusal}
 use Rattle.norprog_common.specs.declared.faults.Refusal.TheVariants.{File, Build}
-use Rattle.norprog_hex.specs.Converted.{WasConverted, WasBegun, WasCut, WasRead, WasCutInPart, StopsConverting, StopsPart, FallsShort, BreaksOff, complete, written}
+use Rattle.norprog_hex.specs.Converted.{WasConverted, WasBegun, WasCut, WasCutInData, WasRead, WasCutInPart, StopsConverting, StopsPart, FallsShort, BreaksOff, complete, written}
 
 abbrev pub IsSeam : ℕ → ℕ → Type 0
 IsSeam at done = (done ≡ 0) ⊎ ((at + done) % 65536 ≡ 0)
@@ -51,21 +51,19 @@ module _ (joins : PartsJoin) (at done n : ℕ) (seam : IsSeam at done) (a b c : 
     put = subst (Appends h j) (sym (both this.bytes)) (Appends-append h i j _ _ before.put this.put);
   }
 
-  cut_after : WasCutInPart (at + done) n b c i j → WasCut at a h j
+  cut_after : WasCutInPart (at + done) n b c i j → WasCutInData at a h j
   cut_after this = record {
     bytes = before.bytes ++ this.bytes;
     rest = c;
     given = Gives-append a b c before.bytes this.bytes before.given this.given;
-    put = subst (Cuts h j) (sym (text_append (image_records at (before.bytes ++ this.bytes)) (end_record ∷ [])))
-        (Cuts-more h j (text_of (image_records at (before.bytes ++ this.bytes))) (text_of (end_record ∷ []))
-        (subst (Cuts h j) (sym (both this.bytes)) (Cuts-then h i j _ _ before.put this.put)));
+    put = subst (Cuts h j) (sym (both this.bytes)) (Cuts-then h i j _ _ before.put this.put);
   }
 
-  pub part_stopped : (why : Refusal) → StopsPart (at + done) n b c i j why → StopsConverting at a h j why
-  part_stopped (File file.Bin) is = record { bytes = before.bytes; rest = b; given = before.given; put = subst (λ held. Appends h held (text_of (image_records at before.bytes))) (sym is) before.put }
-  part_stopped (Build fault.Write) is = cut_after is
-  part_stopped (Build fault.Memory) is = absurd is
-  part_stopped other is = absurd is
+  pub part_stopped : (len : ℕ) (why : Refusal) → StopsPart (at + done) n b c i j why → StopsConverting at len a h j why
+  part_stopped len (File file.Bin) is = record { bytes = before.bytes; rest = b; given = before.given; put = subst (λ held. Appends h held (text_of (image_records at before.bytes))) (sym is) before.put }
+  part_stopped len (Build fault.Write) is = inl (cut_after is)
+  part_stopped len (Build fault.Memory) is = absurd is
+  part_stopped len other is = absurd is
 
   -- too few bytes in a part are too few in all
   pub still_short : (len k k' k'' : ℕ) → k' ≡ k → done + n ≤ len → FallsShort k' k'' n b c → FallsShort k k'' len a c
@@ -172,13 +170,15 @@ converted at len a b c h i j before none end put = record {
   put = subst (Appends h j) (sym (whole_text at before.bytes)) (Appends-append h i j _ _ before.put put);
 }
 
-pub end_cut : (at len : ℕ) (a b : Ahead) (h i j : Option (List ℕ)) → WasRead at len a b h i → Cuts i j (record_text end_record) → WasCut at a h j
-end_cut at len a b h i j before cut = record {
+pub end_cut : (at len : ℕ) (a b c : Ahead) (h i j : Option (List ℕ)) → WasRead at len a b h i → Gives b [] c → IsAtEnd c → Cuts i j (record_text end_record) → WasCut at len a h j
+end_cut at len a b c h i j before none end cut = inr (record {
   bytes = before.bytes;
-  rest = b;
-  given = before.given;
+  rest = c;
+  long = before.long;
+  given = subst (λ bytes. Gives a bytes c) (append-nil before.bytes) (Gives-append a b c before.bytes [] before.given none);
+  ended = end;
   put = subst (Cuts h j) (sym (whole_text at before.bytes)) (Cuts-then h i j _ _ before.put cut);
-}
+})
 
 pub no_end : (at len : ℕ) (a b : Ahead) (h i : Option (List ℕ)) → WasRead at len a b h i → WasBegun at a h i
 no_end at len a b h i before = record { bytes = before.bytes; rest = b; given = before.given; put = before.put }

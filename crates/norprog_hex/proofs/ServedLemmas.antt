@@ -123,7 +123,7 @@ module _ (files : FileFacts) (request : HexRequest) (ahead : Ahead) (len : ℕ) 
     was_written Sent rest sent is = record { it = task; asked = asked; has = record { fits = fits; rest = rest; after = after; converted = is; sent = sent } }
 
     was_stopped : (F : Ahead → Type 0) (why : Refusal) → HasGone files after → (why ≡ File file.Bin → F ahead ⊎ HasOtherLength bin_task) → TellsBroken files.broke why
-        → StopsConverting request.at ahead begun after why
+        → StopsConverting request.at len ahead begun after why
         → RefusesHex (LacksEarly files (paths_of request) file.Out Nothing) files.broke F (HasGone files) (IsBinOf files request) (IsTaskOf files request) why
     was_stopped F (File file.Bin) gone cause broke is = inr (record { it = task; asked = asked; has = record { after = after; begun = is; cause = cause refl; gone = gone } })
     was_stopped F (Build fault.Write) gone cause broke is = (inl (record { it = task; asked = asked; has = record { after = after; cut = is; gone = gone } }), broke)
@@ -142,7 +142,7 @@ module _ (files : FileFacts) (request : HexRequest) (ahead : Ahead) (len : ℕ) 
     done_is_written rest (Ok x) (Ok u) r written sent is = rw is (was_written files.flushed rest sent written)
 
     pub done_is_refused : {T U E : Type 0} (F : Ahead → Type 0) (rest : Ahead) (k k' : ℕ) (answer : Result T Refusal) (flushed : Result U E) (r : Result ℕ Refusal)
-        → IfOk answer (λ _. WasConverted request.at len ahead rest begun after) → IfErr answer (StopsConverting request.at ahead begun after)
+        → IfOk answer (λ _. WasConverted request.at len ahead rest begun after) → IfErr answer (StopsConverting request.at len ahead begun after)
         → IfErr answer (λ why. why ≡ File file.Bin → F ahead ⊎ HasOtherLength bin_task) → k ≡ 0 → CountsWriter k k' answer → IfOk flushed (λ _. k' ≡ 0) → HasGone files after → IfErr flushed (λ _. files.broke) → r ≡ done answer flushed
         → IfErr r (RefusesHex (LacksEarly files (paths_of request) file.Out Nothing) files.broke F (HasGone files) (IsBinOf files request) (IsTaskOf files request))
     done_is_refused F rest k k' (Err why) flushed r written stopped cause none counts whole gone broke is =
@@ -165,22 +165,23 @@ all_broken ahead count bin bin' len at (Err why) breaks = λ is. broken ahead co
 
 -- a file that can't be used is told by its name
 pub unmade_file : (P Q : Type 0) (name : FileName) (why : Refusal) → Q → RefusesFile name why → IsUnmade P Q why
-unmade_file P Q name (File told) untaken named = tt
+unmade_file P Q name (File file.Out) untaken named = untaken
+unmade_file P Q name (File other) untaken named = tt
 unmade_file P Q name (Build fault.Memory) untaken named = untaken
 unmade_file P Q name other untaken named = absurd named
 
 -- a text that wasn't written was begun, except where memory was refused before that
-stopped_made : (P Q : Type 0) (at : ℕ) (ahead : Ahead) (begun after : Option (List ℕ)) (why : Refusal) → (after ≡ begun → Q) → StopsConverting at ahead begun after why → IsUnmade P Q why
-stopped_made P Q at ahead begun after (File file.Bin) untaken is = tt
-stopped_made P Q at ahead begun after (Build fault.Write) untaken is = tt
-stopped_made P Q at ahead begun after (Build fault.Memory) untaken is = untaken is
-stopped_made P Q at ahead begun after other untaken is = absurd is
+stopped_made : (P Q : Type 0) (at len : ℕ) (ahead : Ahead) (begun after : Option (List ℕ)) (why : Refusal) → (after ≡ begun → Q) → StopsConverting at len ahead begun after why → IsUnmade P Q why
+stopped_made P Q at len ahead begun after (File file.Bin) untaken is = tt
+stopped_made P Q at len ahead begun after (Build fault.Write) untaken is = tt
+stopped_made P Q at len ahead begun after (Build fault.Memory) untaken is = untaken is
+stopped_made P Q at len ahead begun after other untaken is = absurd is
 
-pub unmade_done : {T U E : Type 0} (P Q : Type 0) (at : ℕ) (ahead : Ahead) (begun after : Option (List ℕ)) (answer : Result T Refusal) (flushed : Result U E)
-    (r : Result ℕ Refusal) → (after ≡ begun → Q) → IfErr answer (StopsConverting at ahead begun after) → r ≡ done answer flushed → IfErr r (IsUnmade P Q)
-unmade_done P Q at ahead begun after (Err why) flushed r untaken stopped is = rw is (stopped_made P Q at ahead begun after why untaken stopped)
-unmade_done P Q at ahead begun after (Ok x) (Err e) r untaken stopped is = rw is tt
-unmade_done P Q at ahead begun after (Ok x) (Ok u) r untaken stopped is = rw is tt
+pub unmade_done : {T U E : Type 0} (P Q : Type 0) (at len : ℕ) (ahead : Ahead) (begun after : Option (List ℕ)) (answer : Result T Refusal) (flushed : Result U E)
+    (r : Result ℕ Refusal) → (after ≡ begun → Q) → IfErr answer (StopsConverting at len ahead begun after) → r ≡ done answer flushed → IfErr r (IsUnmade P Q)
+unmade_done P Q at len ahead begun after (Err why) flushed r untaken stopped is = rw is (stopped_made P Q at len ahead begun after why untaken stopped)
+unmade_done P Q at len ahead begun after (Ok x) (Err e) r untaken stopped is = rw is tt
+unmade_done P Q at len ahead begun after (Ok x) (Ok u) r untaken stopped is = rw is tt
 
 -- the output is the one that the texts name
 untaken_asked : (files : FileFacts) (given : HexArgs) (request : HexRequest) (Made : List Change → Type 0) → AsksFor given request
@@ -192,6 +193,7 @@ untaken_asked files given request Made asks (inr begun) =
 unmade_wider : (P Q R : Type 0) → (Q → R) → (why : Refusal) → IsUnmade P Q why → IsUnmade P R why
 unmade_wider P Q R more BinSize is = is
 unmade_wider P Q R more Usage is = is
+unmade_wider P Q R more (File file.Out) is = more is
 unmade_wider P Q R more (Build fault.Memory) is = more is
 unmade_wider P Q R more other is = tt
 

@@ -28,10 +28,11 @@ pub record IsWritten (Sent : Option (List ℕ) → Type 0) (t : HexTask) : Type 
   pub converted : WasConverted t.bin.at t.bin.len t.bin.ahead rest t.begun after
   pub sent : Sent after
 
--- the output failed in the work, after a proper prefix of the text of the bytes so far; `Gone`: nothing more was written to it
+-- the output failed in the work: at the data records of the bytes so far, or, where these are all, at the end record; `Gone`: nothing
+-- more was written to it
 pub record IsCut (Gone : Option (List ℕ) → Type 0) (t : HexTask) : Type 0 where
   pub after : Option (List ℕ)
-  pub cut : WasCut t.bin.at t.bin.ahead t.begun after
+  pub cut : WasCut t.bin.at t.bin.len t.bin.ahead t.begun after
   pub gone : Gone after
 
 -- the file has fewer bytes than its length when it was opened, or more
@@ -55,11 +56,12 @@ RefusesHex Lacked Broke Failed Gone Opened Asked (Build fault.Memory) = ⊤
 RefusesHex Lacked Broke Failed Gone Opened Asked (Build fault.Write) = (ForAsked HexTask Asked (IsCut Gone) ⊎ ForAsked HexTask Asked (IsWritten Gone)) × Broke
 RefusesHex Lacked Broke Failed Gone Opened Asked other = ⊥
 
--- that the file fits is known before the output is made, and at out of memory that took nothing: `Nothing` says that nothing was made,
--- `Untaken` that the output took nothing
+-- that the file fits is known before the output is made, and where that can't be made, and at out of memory, it took nothing: `Nothing`
+-- says that nothing was made, `Untaken` that the output took nothing
 abbrev pub IsUnmade : Type 0 → Type 0 → Refusal → Type 0
 IsUnmade Nothing Untaken BinSize = Nothing
 IsUnmade Nothing Untaken Usage = Nothing
+IsUnmade Nothing Untaken (File file.Out) = Untaken
 IsUnmade Nothing Untaken (Build fault.Memory) = Untaken
 IsUnmade Nothing Untaken other = ⊤
 

@@ -25,19 +25,32 @@ pub record WasBegun (at : ℕ) (ahead : Ahead) (before after : Option (List ℕ)
   pub given : Gives ahead bytes rest
   pub put : Appends before after (text_of (image_records at bytes))
 
--- a proper prefix of the text of the bytes that it gave so far was
-pub record WasCut (at : ℕ) (ahead : Ahead) (before after : Option (List ℕ)) : Type 0 where
+-- a proper prefix of the text of these records was
+pub record WasCutInData (at : ℕ) (ahead : Ahead) (before after : Option (List ℕ)) : Type 0 where
   pub bytes : List ℕ
   pub rest : Ahead
   pub given : Gives ahead bytes rest
+  pub put : Cuts before after (text_of (image_records at bytes))
+
+-- the reader gave so many bytes, and has no more; a proper prefix of the whole text of these was appended
+pub record WasCutAtEnd (at len : ℕ) (ahead : Ahead) (before after : Option (List ℕ)) : Type 0 where
+  pub bytes : List ℕ
+  pub rest : Ahead
+  pub long : length bytes ≡ len
+  pub given : Gives ahead bytes rest
+  pub ended : IsAtEnd rest
   pub put : Cuts before after (hex_text at bytes)
 
+-- the output failed at the records of the bytes that the reader gave so far; or at the end record, which follows only those of all
+abbrev pub WasCut : ℕ → ℕ → Ahead → Option (List ℕ) → Option (List ℕ) → Type 0
+WasCut at len ahead before after = WasCutInData at ahead before after ⊎ WasCutAtEnd at len ahead before after
+
 -- why the text isn't whole: the raw image couldn't be read as said, the output failed, or memory was refused before all
-abbrev pub StopsConverting : ℕ → Ahead → Option (List ℕ) → Option (List ℕ) → Refusal → Type 0
-StopsConverting at ahead before after (File file.Bin) = WasBegun at ahead before after
-StopsConverting at ahead before after (Build fault.Write) = WasCut at ahead before after
-StopsConverting at ahead before after (Build fault.Memory) = after ≡ before
-StopsConverting at ahead before after other = ⊥
+abbrev pub StopsConverting : ℕ → ℕ → Ahead → Option (List ℕ) → Option (List ℕ) → Refusal → Type 0
+StopsConverting at len ahead before after (File file.Bin) = WasBegun at ahead before after
+StopsConverting at len ahead before after (Build fault.Write) = WasCut at len ahead before after
+StopsConverting at len ahead before after (Build fault.Memory) = after ≡ before
+StopsConverting at len ahead before after other = ⊥
 
 -- so many bytes were read, and their records appended
 pub record WasRead (at n : ℕ) (ahead rest : Ahead) (before after : Option (List ℕ)) : Type 0 where

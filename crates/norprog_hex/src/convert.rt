@@ -38,7 +38,7 @@ pub fn write_bin<R: ByteIn, W: ByteOut>(
         (λ _. WasConverted at len (R.ahead bin.old) (R.ahead bin.new) (W.held out.old)
         (W.held out.new)) }
     ensures stopped { IfErr result
-        (StopsConverting at (R.ahead bin.old) (W.held out.old) (W.held out.new)) }
+        (StopsConverting at len (R.ahead bin.old) (W.held out.old) (W.held out.new)) }
     ensures cause { IfErr result (λ why. why ≡ File Bin
         → BreaksOff (R.count bin.old) (R.count bin.new) len (R.ahead bin.old) (R.ahead bin.new)) }
     ensures count { CountsWriter (W.count out.old) (W.count out.new) result }
@@ -74,7 +74,7 @@ fn write_parts<R: ByteIn, W: ByteOut>(
     ensures counts { OnOk result (R.count bin.new ≡ R.count bin.old)
         × CountsWriter (W.count out.old) (W.count out.new) result }
     ensures stopped { IfErr result
-        (StopsConverting at (R.ahead bin.old) (W.held out.old) (W.held out.new)) }
+        (StopsConverting at len (R.ahead bin.old) (W.held out.old) (W.held out.new)) }
     ensures cause { IfErr result (λ why. why ≡ File Bin
         → FallsShort (R.count bin.old) (R.count bin.new) len (R.ahead bin.old) (R.ahead bin.new)) }
 {

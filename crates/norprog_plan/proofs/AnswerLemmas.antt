@@ -26,7 +26,7 @@ use Rattle.norprog_common.specs.Strict.{Filled, OrEmpty, RefusesEmpty}
 use Rattle.norprog_common.proofs.ServedLemmas.{of_one}
 use Rattle.norprog_common.proofs.StrictLemmas.{filled_wider, empty_wider, by_empty}
 use Rattle.norprog_common.proofs.ToldLemmas.{asked_wider, fault_wider, by_fault, by_files, refuses_wider}
-use Rattle.norprog_plan.specs.Answer.{behind_lines, AtWrite, BlamesReader, CutsPlan, Draws, FailsToDraw, FailsToPrint, IsBehind, IsLeft, IsLinesOf, IsPlanFault, IsTold, IsUndrawn, IsWhole, LacksMap, LosesMap, PrintsPlan, RefusesPlan, StopsPlanOf, StopsPrinting}
+use Rattle.norprog_plan.specs.Answer.{behind_lines, AtFile, AtWrite, BlamesReader, CutsPlan, Draws, FailsToDraw, FailsToPrint, IsBehind, IsLeft, IsLinesOf, IsPlanFault, IsTold, IsUndrawn, IsWhole, LacksMap, LosesMap, PrintsPlan, RefusesPlan, StopsPlanOf, StopsPrinting}
 use Rattle.norprog_plan.specs.Regions.{EndsWith}
 use Rattle.norprog_plan.specs.Sums.{PrintsLines}
 use Rattle.norprog_plan.specs.declared.outline.Shows.{Shows}
@@ -46,23 +46,33 @@ cuts_wider Sent shows A B wider x y (inr some) =
     inr (record { bytes = some.bytes; of = asked_wider Job A B (IsTold Sent shows some.bytes) wider some.of; put = some.put })
 
 fails_wider : (Lost : Type 0) (Gone Sent : Option (List ℕ) → Type 0) (shows : Shows) (A B : Job → Type 0) → ((j : Job) → A j → B j) → (x y : Option (List ℕ))
-    → FailsToDraw Lost Gone shows A ⊎ FailsToPrint Sent shows A x y → FailsToDraw Lost Gone shows B ⊎ FailsToPrint Sent shows B x y
-fails_wider Lost Gone Sent shows A B wider x y (inl undrawn) = inl (asked_wider Job A B (IsUndrawn Lost Gone shows) wider undrawn)
+    → FailsToDraw Lost Gone shows A x y ⊎ FailsToPrint Sent shows A x y → FailsToDraw Lost Gone shows B x y ⊎ FailsToPrint Sent shows B x y
+fails_wider Lost Gone Sent shows A B wider x y (inl undrawn) = inl (asked_wider Job A B (IsUndrawn Lost Gone shows x y) wider undrawn)
 fails_wider Lost Gone Sent shows A B wider x y (inr fails) =
-    inr (record { lines = fails.lines; rest = fails.rest; whole = asked_wider Job A B (IsWhole Sent shows fails.lines fails.rest) wider fails.whole; put = fails.put })
+    inr (record {
+      lines = fails.lines;
+      rest = fails.rest;
+      whole = asked_wider Job A B (IsWhole Sent shows fails.lines fails.rest) wider fails.whole;
+      middle = fails.middle;
+      printed = fails.printed;
+      put = fails.put;
+    })
 
-faults_wider : (Failed : Ahead → Type 0) (Gone : Option (List ℕ) → Type 0) (A B : Job → Type 0) → ((j : Job) → A j → B j) → (why : Refusal) → OfFault (IsPlanFault Failed Gone A) why → OfFault (IsPlanFault Failed Gone B) why
-faults_wider Failed Gone A B wider = fault_wider (IsPlanFault Failed Gone A) (IsPlanFault Failed Gone B) (λ why of. asked_wider Job A B (StopsPlanOf Failed Gone why) wider of)
+faults_wider : (Failed : Ahead → Type 0) (Gone : Option (List ℕ) → Type 0) (A B : Job → Type 0) → ((j : Job) → A j → B j) → (x y : Option (List ℕ)) (why : Refusal) → OfFault (IsPlanFault Failed Gone A x y) why
+    → OfFault (IsPlanFault Failed Gone B x y) why
+faults_wider Failed Gone A B wider x y =
+    fault_wider (IsPlanFault Failed Gone A x y) (IsPlanFault Failed Gone B x y) (λ why of. asked_wider Job A B (StopsPlanOf Failed Gone x y why) wider of)
 
 pub refuses_asked : (strict : Bool) (L M : FileName → Type 0) (Broke Lost : Type 0) (Failed : Ahead → Type 0) (Gone : Option (List ℕ) → Type 0) (Sent : Option (List ℕ) → Type 0) (shows : Shows) (A B : Job → Type 0)
     → ((name : FileName) → L name → M name) → ((j : Job) → A j → B j) → (x y : Option (List ℕ)) (why : Refusal)
     → RefusesPlan strict L Broke Lost Failed Gone Sent shows A x y why → RefusesPlan strict M Broke Lost Failed Gone Sent shows B x y why
 refuses_asked strict L M Broke Lost Failed Gone Sent shows A B files wider x y =
     let filled = filled_wider strict A B wider in
-    refuses_wider L M Broke Broke (OrEmpty strict (IsLeft Gone A) (OfFault (IsPlanFault Failed Gone (Filled strict A)))) (OrEmpty strict (IsLeft Gone B) (OfFault (IsPlanFault Failed Gone (Filled strict B))))
-    (FailsToDraw Lost Gone shows (Filled strict A) ⊎ FailsToPrint Sent shows (Filled strict A) x y) (FailsToDraw Lost Gone shows (Filled strict B) ⊎ FailsToPrint Sent shows (Filled strict B) x y)
+    refuses_wider L M Broke Broke (OrEmpty strict (IsLeft Gone A) (OfFault (IsPlanFault Failed Gone (Filled strict A) x y))) (OrEmpty strict (IsLeft Gone B) (OfFault (IsPlanFault Failed Gone (Filled strict B) x y)))
+    (FailsToDraw Lost Gone shows (Filled strict A) x y ⊎ FailsToPrint Sent shows (Filled strict A) x y) (FailsToDraw Lost Gone shows (Filled strict B) x y ⊎ FailsToPrint Sent shows (Filled strict B) x y)
     files (λ broke. broke)
-    (empty_wider strict (IsLeft Gone A) (IsLeft Gone B) (OfFault (IsPlanFault Failed Gone (Filled strict A))) (OfFault (IsPlanFault Failed Gone (Filled strict B))) (λ j left. (wider j left.0, left.1)) (faults_wider Failed Gone (Filled strict A) (Filled strict B) filled))
+    (empty_wider strict (IsLeft Gone A) (IsLeft Gone B) (OfFault (IsPlanFault Failed Gone (Filled strict A) x y)) (OfFault (IsPlanFault Failed Gone (Filled strict B) x y)) (λ j left. (wider j left.0, left.1))
+    (faults_wider Failed Gone (Filled strict A) (Filled strict B) filled x y))
     (fails_wider Lost Gone Sent shows (Filled strict A) (Filled strict B) filled x y)
 
 -- a fault of the work is told as such
@@ -83,9 +93,9 @@ stops_asked : (strict : Bool) (Lacked : FileName → Type 0) (Broke Lost : Type 
 stops_asked strict Lacked Broke Lost Failed Gone Sent shows A j x y why asked =
     let B = Filled strict A in
     let wider = of_one B j asked in
-    refuses_wider (λ name. ⊥) Lacked Broke Broke (OfFault (IsPlanFault Failed Gone (Is j))) (OrEmpty strict (IsLeft Gone A) (OfFault (IsPlanFault Failed Gone B)))
-    (FailsToDraw Lost Gone shows (Is j) ⊎ FailsToPrint Sent shows (Is j) x y) (FailsToDraw Lost Gone shows B ⊎ FailsToPrint Sent shows B x y)
-    (λ name never. absurd never) (λ broke. broke) (λ why is. fault_so strict (IsLeft Gone A) (IsPlanFault Failed Gone B) why (faults_wider Failed Gone (Is j) B wider why is)) (fails_wider Lost Gone Sent shows (Is j) B wider x y) why
+    refuses_wider (λ name. ⊥) Lacked Broke Broke (OfFault (IsPlanFault Failed Gone (Is j) x y)) (OrEmpty strict (IsLeft Gone A) (OfFault (IsPlanFault Failed Gone B x y)))
+    (FailsToDraw Lost Gone shows (Is j) x y ⊎ FailsToPrint Sent shows (Is j) x y) (FailsToDraw Lost Gone shows B x y ⊎ FailsToPrint Sent shows B x y)
+    (λ name never. absurd never) (λ broke. broke) (λ why is. fault_so strict (IsLeft Gone A) (IsPlanFault Failed Gone B x y) why (faults_wider Failed Gone (Is j) B wider x y why is)) (fails_wider Lost Gone Sent shows (Is j) B wider x y) why
 
 -- the answer of a job is that of what is asked for
 
@@ -104,30 +114,44 @@ pub job_stops : {U : Type 0} (r : Result U Refusal) (strict : Bool) (Lacked : Fi
 job_stops (Ok u) strict Lacked Broke Lost Failed Gone Sent shows A j x y asked stops = tt
 job_stops (Err why) strict Lacked Broke Lost Failed Gone Sent shows A j x y asked stops = stops_asked strict Lacked Broke Lost Failed Gone Sent shows A j x y why asked stops
 
-pub job_holds : {U : Type 0} (r : Result U Refusal) (Nothing : Type 0) (Gone : Option (List ℕ) → Type 0) (A : Job → Type 0) (j : Job) → A j → IfErr r (AtMemory (IfSome j.begun Gone))
-    → IfErr r (AtMemory (Nothing ⊎ ((j : Job) × IsLeft Gone A j)))
-job_holds (Ok u) Nothing Gone A j asked holds = tt
-job_holds (Err why) Nothing Gone A j asked holds = λ memory. inr (j, (asked, holds memory))
+-- no job is stopped by a file
+no_file : (Broke Lost : Type 0) (Failed : Ahead → Type 0) (Gone : Option (List ℕ) → Type 0) (Sent : Option (List ℕ) → Type 0) (shows : Shows) (j : Job) (x y : Option (List ℕ)) (name : FileName)
+    → StopsPrinting Broke Lost Failed Gone Sent shows j x y (File name) → ⊥
+no_file Broke Lost Failed Gone Sent shows j x y name (inl never) = never
+no_file Broke Lost Failed Gone Sent shows j x y name (inr never) = never
+
+pub job_holds : {U : Type 0} (r : Result U Refusal) (Nothing Broke Lost : Type 0) (Failed : Ahead → Type 0) (Gone : Option (List ℕ) → Type 0) (Sent : Option (List ℕ) → Type 0) (shows : Shows) (A : Job → Type 0) (j : Job) (x y : Option (List ℕ)) → A j
+    → IfErr r (StopsPrinting Broke Lost Failed Gone Sent shows j x y) → IfErr r (AtMemory (IfSome j.begun Gone)) → IfErr r (λ why. AtFile Nothing why × AtMemory (Nothing ⊎ ((j : Job) × IsLeft Gone A j)) why)
+job_holds (Ok u) Nothing Broke Lost Failed Gone Sent shows A j x y asked stops holds = tt
+job_holds (Err why) Nothing Broke Lost Failed Gone Sent shows A j x y asked stops holds = (
+  λ name is. absurd (no_file Broke Lost Failed Gone Sent shows j x y name (subst (StopsPrinting Broke Lost Failed Gone Sent shows j x y) is stops)),
+  λ memory. inr (j, (asked, holds memory)),
+)
+
+-- nor is a job that is refused as strict
+pub empty_holds : (strict : Bool) (Nothing : Type 0) (Gone : Option (List ℕ) → Type 0) (A : Job → Type 0) (j : Job) (why told : Refusal) → IsLeft Gone A j → RefusesEmpty strict j.task j.len why → told ≡ why
+    → AtFile Nothing told × AtMemory (Nothing ⊎ ((j : Job) × IsLeft Gone A j)) told
+empty_holds strict Nothing Gone A j why told left refused same = (λ name is. absurd (subst (RefusesEmpty strict j.task j.len) (sym same ∙ is) refused), λ memory. inr (j, left))
 
 -- what comes before a job
 
 pub file_refused : (strict : Bool) (Lacked : FileName → Type 0) (Broke Lost : Type 0) (Failed : Ahead → Type 0) (Gone : Option (List ℕ) → Type 0) (Sent : Option (List ℕ) → Type 0) (shows : Shows) (A : Job → Type 0) (x y : Option (List ℕ)) (why : Refusal)
     → TellsFile Lacked why → RefusesPlan strict Lacked Broke Lost Failed Gone Sent shows A x y why
 file_refused strict Lacked Broke Lost Failed Gone Sent shows A x y why =
-    by_files Lacked Lacked Broke (OrEmpty strict (IsLeft Gone A) (OfFault (IsPlanFault Failed Gone (Filled strict A)))) (FailsToDraw Lost Gone shows (Filled strict A) ⊎ FailsToPrint Sent shows (Filled strict A) x y) why
+    by_files Lacked Lacked Broke (OrEmpty strict (IsLeft Gone A) (OfFault (IsPlanFault Failed Gone (Filled strict A) x y))) (FailsToDraw Lost Gone shows (Filled strict A) x y ⊎ FailsToPrint Sent shows (Filled strict A) x y) why
     (λ name is. is)
 
 pub empty_refused : (strict : Bool) (Lacked : FileName → Type 0) (Broke Lost : Type 0) (Failed : Ahead → Type 0) (Gone : Option (List ℕ) → Type 0) (Sent : Option (List ℕ) → Type 0) (shows : Shows) (A : Job → Type 0) (j : Job) (x y : Option (List ℕ)) (why : Refusal)
     → IsLeft Gone A j → RefusesEmpty strict j.task j.len why → RefusesPlan strict Lacked Broke Lost Failed Gone Sent shows A x y why
 empty_refused strict Lacked Broke Lost Failed Gone Sent shows A j x y why =
-    by_empty strict Lacked Broke (IsLeft Gone A) (OfFault (IsPlanFault Failed Gone (Filled strict A))) (FailsToDraw Lost Gone shows (Filled strict A) ⊎ FailsToPrint Sent shows (Filled strict A) x y) j why
+    by_empty strict Lacked Broke (IsLeft Gone A) (OfFault (IsPlanFault Failed Gone (Filled strict A) x y)) (FailsToDraw Lost Gone shows (Filled strict A) x y ⊎ FailsToPrint Sent shows (Filled strict A) x y) j why
 
 -- why a job isn't told
 
 stops_of : (Broke Lost : Type 0) (Failed : Ahead → Type 0) (Gone : Option (List ℕ) → Type 0) (Sent : Option (List ℕ) → Type 0) (shows : Shows) (j : Job) (x y : Option (List ℕ)) (why : BuildFault) → TellsBroken Broke (Build why)
-    → StopsPlanOf Failed Gone why j → StopsPrinting Broke Lost Failed Gone Sent shows j x y (Build why)
+    → StopsPlanOf Failed Gone x y why j → StopsPrinting Broke Lost Failed Gone Sent shows j x y (Build why)
 stops_of Broke Lost Failed Gone Sent shows j x y why broke is =
-    by_fault (λ name. ⊥) Broke (OfFault (IsPlanFault Failed Gone (Is j))) (FailsToDraw Lost Gone shows (Is j) ⊎ FailsToPrint Sent shows (Is j) x y) (Build why) broke
+    by_fault (λ name. ⊥) Broke (OfFault (IsPlanFault Failed Gone (Is j) x y)) (FailsToDraw Lost Gone shows (Is j) x y ⊎ FailsToPrint Sent shows (Is j) x y) (Build why) broke
     (record { it = j; asked = refl; has = is })
 
 -- that the writer failed is told only where its count rose
@@ -154,7 +178,7 @@ read_blames ahead count content after other gave counts = tt
 pub lines_stop : (Broke Lost : Type 0) (Failed : Ahead → Type 0) (Gone : Option (List ℕ) → Type 0) (Sent : Option (List ℕ) → Type 0) (shows : Shows) (j : Job) (b : Ahead) (before after : ℕ) (x y : Option (List ℕ)) (why : BuildFault)
     → (before < after → Broke) → after ≡ before + of_writer why → BlamesReader (Failed j.content) why → IfSome j.begun Gone → StopsPlan j.task j.len j.content b x y why → StopsPrinting Broke Lost Failed Gone Sent shows j x y (Build why)
 lines_stop Broke Lost Failed Gone Sent shows j b before after x y why broke count blamed left stops =
-    stops_of Broke Lost Failed Gone Sent shows j x y why (count_broke Broke before after why broke count) (record { behind = b; before = x; after = y; refused = inr stops; blamed = blamed; left = left })
+    stops_of Broke Lost Failed Gone Sent shows j x y why (count_broke Broke before after why broke count) (record { behind = b; refused = inr stops; blamed = blamed; left = left })
 
 -- some lines were printed
 in_memory : (j : Job) (b : Ahead) (x y : Option (List ℕ)) (why : BuildFault) → (stops : StopsPlan j.task j.len j.content b x y why)
@@ -256,17 +280,18 @@ behind_cut (Ok u) Same More Broke Gone Sent shows j work begun done b x y z repo
 behind_cut (Err why) Same More Broke Gone Sent shows j work begun done b x y z report drawn all is same cut =
     cut_of Same More Broke Gone Sent shows j work begun done b x y z report drawn why all is same cut
 
-undrawn_of : (Lost : Type 0) (Gone : Option (List ℕ) → Type 0) (shows : Shows) (j : Job) (work : Work) (begun done : Sums) (b : Ahead) (x y : Option (List ℕ)) (report : Report)
-    → (all : PrintsLines work begun done j.task j.len j.content b x y report) → IsJob j.task j.len work → Lost → Loses Gone shows j work.meaning report all.lines
-    → FailsToDraw Lost Gone shows (Is j)
+undrawn_of : (Lost : Type 0) (Gone : Option (List ℕ) → Type 0) (shows : Shows) (j : Job) (work : Work) (begun done : Sums) (b : Ahead) (x y z : Option (List ℕ)) (report : Report)
+    → (all : PrintsLines work begun done j.task j.len j.content b x y report) → IsJob j.task j.len work → z ≡ y → Lost → Loses Gone shows j work.meaning report all.lines
+    → FailsToDraw Lost Gone shows (Is j) x z
 unfolding lines_of
-undrawn_of Lost Gone shows j work begun done b x y report all is lost taken = record {
+undrawn_of Lost Gone shows j work begun done b x y z report all is same lost taken = record {
   it = j;
   asked = refl;
   has = record {
     told = lines_text all.lines;
     report = report;
     of = lines_of j work begun done b x y report all;
+    put = subst (λ (z : Option (List ℕ)). Appends x z (lines_text all.lines)) (sym same) all.put;
     lost = lost;
     taken = subst (λ (m : Parameters). Loses Gone shows j m report all.lines)
         (same_chip (chip_says j.task) work.meaning all.planned.m is.accepted.means all.planned.accepted.means) taken;
@@ -274,30 +299,32 @@ undrawn_of Lost Gone shows j work begun done b x y report all is lost taken = re
 }
 
 stop_of : (Same More Broke Files : Type 0) (Failed : Ahead → Type 0) (Gone : Option (List ℕ) → Type 0) (Sent : Option (List ℕ) → Type 0) (shows : Shows) (j : Job) (work : Work) (begun done : Sums) (b : Ahead) (x y z : Option (List ℕ)) (report : Report)
-    (drawn : Bool) (why : Refusal) → (all : PrintsLines work begun done j.task j.len j.content b x y report) → IsJob j.task j.len work
+    (drawn : Bool) (why : Refusal) → (all : PrintsLines work begun done j.task j.len j.content b x y report) → IsJob j.task j.len work → (Same → z ≡ y)
     → (Files → Broke) → (More → Broke) → CutsBehind Same More Files Gone Sent shows j work report drawn y z why all.lines → StopsPrinting Broke Files Failed Gone Sent shows j x z why
-stop_of Same More Broke Files Failed Gone Sent shows j work begun done b x y z report drawn why all is files more (inl (same, inl memory, taken)) = rw memory tt
-stop_of Same More Broke Files Failed Gone Sent shows j work begun done b x y z report drawn why all is files more (inl (same, inr map, taken)) = rw map.1 (
-  inr (inl (undrawn_of Files Gone shows j work begun done b x y report all is map.2 (taken map.1))),
+stop_of Same More Broke Files Failed Gone Sent shows j work begun done b x y z report drawn why all is unprinted files more (inl (same, inl memory, taken)) = rw memory tt
+stop_of Same More Broke Files Failed Gone Sent shows j work begun done b x y z report drawn why all is unprinted files more (inl (same, inr map, taken)) = rw map.1 (
+  inr (inl (undrawn_of Files Gone shows j work begun done b x y z report all is (unprinted same) map.2 (taken map.1))),
   files map.2,
 )
-stop_of Same More Broke Files Failed Gone Sent shows j work begun done b x y z report drawn why all is files more (inr cut) = rw cut.3 (
+stop_of Same More Broke Files Failed Gone Sent shows j work begun done b x y z report drawn why all is unprinted files more (inr cut) = rw cut.3 (
   inr (inr (record {
     lines = lines_text all.lines;
     rest = cut.0;
     whole = whole_of Sent shows j work begun done b x y report cut.0 all is cut.1;
-    put = Cuts-then x y z (lines_text all.lines) cut.0 all.put cut.2;
+    middle = y;
+    printed = all.put;
+    put = cut.2;
   })),
   more cut.4,
 )
 
 pub behind_stops : {U : Type 0} (r : Result U Refusal) (Same More Broke Files : Type 0) (Failed : Ahead → Type 0) (Gone : Option (List ℕ) → Type 0) (Sent : Option (List ℕ) → Type 0) (shows : Shows) (j : Job) (work : Work) (begun done : Sums) (b : Ahead)
-    (x y z : Option (List ℕ)) (report : Report) (drawn : Bool) → (all : PrintsLines work begun done j.task j.len j.content b x y report) → IsJob j.task j.len work
+    (x y z : Option (List ℕ)) (report : Report) (drawn : Bool) → (all : PrintsLines work begun done j.task j.len j.content b x y report) → IsJob j.task j.len work → (Same → z ≡ y)
     → (Files → Broke) → (More → Broke)
     → IfErr r (λ why. CutsBehind Same More Files Gone Sent shows j work report drawn y z why all.lines) → IfErr r (StopsPrinting Broke Files Failed Gone Sent shows j x z)
-behind_stops (Ok u) Same More Broke Files Failed Gone Sent shows j work begun done b x y z report drawn all is files more cut = tt
-behind_stops (Err why) Same More Broke Files Failed Gone Sent shows j work begun done b x y z report drawn all is files more cut =
-    stop_of Same More Broke Files Failed Gone Sent shows j work begun done b x y z report drawn why all is files more cut
+behind_stops (Ok u) Same More Broke Files Failed Gone Sent shows j work begun done b x y z report drawn all is unprinted files more cut = tt
+behind_stops (Err why) Same More Broke Files Failed Gone Sent shows j work begun done b x y z report drawn all is unprinted files more cut =
+    stop_of Same More Broke Files Failed Gone Sent shows j work begun done b x y z report drawn why all is unprinted files more cut
 
 -- what stands behind the lines, with the lines of the regions; the picture has what comes before these
 pub behind_is : (Sent : Option (List ℕ) → Type 0) (shows : Shows) (begun : Option (Option (List ℕ))) (report : Report) (t : Task) (len : ℕ) (m : Parameters) (lines : List PlanLine)

@@ -22,8 +22,10 @@ plan_serves files given o request some asks = serves files given.job request (op
 pub plan_holds : (files : FileFacts) (given : PlanArgs) (Made : List Change → Type 0) (o : Option Request) (request : Request) → o ≡ Some request → IfSome o (AsksFor given.job) → (why : Refusal)
     → HoldsPlan files (option_map (λ t. t.now) given.map) Made (IsJobOf files request (option_map (λ t. t.now) given.map)) why
     → HoldsPlan files (option_map (λ t. t.now) given.map) Made (ServesPlan files given) why
-plan_holds files given Made o request some asks why holds = λ memory.
-    elim (holds memory) [ inl none ↦ inl none | inr left ↦ inr (left.0, (plan_serves files given o request some asks left.0 left.1.0, left.1.1)) ]
+plan_holds files given Made o request some asks why holds = (
+  holds.0,
+  λ memory. elim (holds.1 memory) [ inl none ↦ inl none | inr left ↦ inr (left.0, (plan_serves files given o request some asks left.0 left.1.0, left.1.1)) ],
+)
 
 pub plan_filled : (files : FileFacts) (given : PlanArgs) (o : Option Request) (request : Request) → o ≡ Some request → IfSome o (AsksFor given.job)
     → (j : Job) → Filled request.strict (IsJobOf files request (option_map (λ t. t.now) given.map)) j → Filled given.job.strict (ServesPlan files given) j

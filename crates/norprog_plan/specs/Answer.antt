@@ -26,7 +26,7 @@ use Rattle.norprog.specs.declared.report.Report.{Report}
 use Rattle.norprog_common.specs.declared.faults.FileName.{FileName}
 use Rattle.norprog_common.specs.declared.faults.FileName.TheVariants.{Map}
 use Rattle.norprog_common.specs.declared.faults.Refusal.{Refusal}
-use Rattle.norprog_common.specs.declared.faults.Refusal.TheVariants.{Build}
+use Rattle.norprog_common.specs.declared.faults.Refusal.TheVariants.{Build, File}
 use Rattle.norprog_common.specs.declared.given.PlanArgs.{PlanArgs}
 use Rattle.norprog_common.specs.FileStore.{FileFacts, Change, HasGone, LacksEarly, TookNothing}
 use Rattle.norprog_common.specs.Told.{ForAsked, AtMemory, OfFault, RefusesFor, Answers}
@@ -147,42 +147,45 @@ pub record PrintsSome (Sent : Option (List ℕ) → Type 0) (shows : Shows) (Ask
 abbrev pub CutsPlan : (Option (List ℕ) → Type 0) → Shows → (Job → Type 0) → Option (List ℕ) → Option (List ℕ) → Type 0
 CutsPlan Sent shows Asked before after = (after ≡ before) ⊎ PrintsSome Sent shows Asked before after
 
--- the output failed at the bytes that tell the whole plan of a job that was asked for, whose picture had gone out
+-- all lines of the plan of a job that was asked for were printed, its picture had gone out, and the output failed at what stands behind
+-- the lines: a proper prefix of that was printed
 pub record FailsToPrint (Sent : Option (List ℕ) → Type 0) (shows : Shows) (Asked : Job → Type 0) (before after : Option (List ℕ)) : Type 0 where
   pub lines : List ℕ
   pub rest : List ℕ
   pub whole : ForAsked Job Asked (IsWhole Sent shows lines rest)
-  pub put : Cuts before after (lines ++ rest)
+  pub middle : Option (List ℕ)
+  pub printed : Appends before middle lines
+  pub put : Cuts middle after rest
 
 -- that a reading of the content failed is reported only where its reader has failed
 abbrev pub BlamesReader : Type 0 → BuildFault → Type 0
 BlamesReader Failed Read = Failed
 BlamesReader Failed other = ⊤
 
--- the inputs of the job are refused, or its plan stopped, and the output of its picture holds what it held as it was made; `Failed`: a
--- reader that had this ahead has failed; `Gone`: nothing more was written to it
-pub record StopsPlanOf (Failed : Ahead → Type 0) (Gone : Option (List ℕ) → Type 0) (why : BuildFault) (j : Job) : Type 0 where
+-- the inputs of the job are refused, and nothing was printed; or its plan stopped, and just the lines before that were printed. The
+-- output of its picture holds what it held as it was made; `Failed`: a reader that had this ahead has failed; `Gone`: nothing more was
+-- written to it
+pub record StopsPlanOf (Failed : Ahead → Type 0) (Gone : Option (List ℕ) → Type 0) (before after : Option (List ℕ)) (why : BuildFault) (j : Job) : Type 0 where
   pub behind : Ahead
-  pub before : Option (List ℕ)
-  pub after : Option (List ℕ)
-  pub refused : RefusesInputs j.task j.len why ⊎ StopsPlan j.task j.len j.content behind before after why
+  pub refused : (RefusesInputs j.task j.len why × (after ≡ before)) ⊎ StopsPlan j.task j.len j.content behind before after why
   pub blamed : BlamesReader (Failed j.content) why
   pub left : IfSome j.begun Gone
 
-abbrev pub IsPlanFault : (Ahead → Type 0) → (Option (List ℕ) → Type 0) → (Job → Type 0) → BuildFault → Type 0
-IsPlanFault Failed Gone Asked why = ForAsked Job Asked (StopsPlanOf Failed Gone why)
+abbrev pub IsPlanFault : (Ahead → Type 0) → (Option (List ℕ) → Type 0) → (Job → Type 0) → Option (List ℕ) → Option (List ℕ) → BuildFault → Type 0
+IsPlanFault Failed Gone Asked before after why = ForAsked Job Asked (StopsPlanOf Failed Gone before after why)
 
--- the plan of the job was told, and its output for a picture took a proper prefix of that, or all, and nothing more; `Lost`: an output
--- that was made failed
-pub record IsUndrawn (Lost : Type 0) (Gone : Option (List ℕ) → Type 0) (shows : Shows) (j : Job) : Type 0 where
+-- just the lines of the plan of the job were printed, and its output for a picture took a proper prefix of that, or all, and nothing
+-- more; `Lost`: an output that was made failed
+pub record IsUndrawn (Lost : Type 0) (Gone : Option (List ℕ) → Type 0) (shows : Shows) (before after : Option (List ℕ)) (j : Job) : Type 0 where
   pub told : List ℕ
   pub report : Report
   pub of : IsLinesOf told report j
+  pub put : Appends before after told
   pub lost : Lost
   pub taken : LosesMap Gone j.begun j.task of.planned.m of.lines (behind_lines shows.times report j.task of.planned.m of.lines)
 
-abbrev pub FailsToDraw : Type 0 → (Option (List ℕ) → Type 0) → Shows → (Job → Type 0) → Type 0
-FailsToDraw Lost Gone shows Asked = ForAsked Job Asked (IsUndrawn Lost Gone shows)
+abbrev pub FailsToDraw : Type 0 → (Option (List ℕ) → Type 0) → Shows → (Job → Type 0) → Option (List ℕ) → Option (List ℕ) → Type 0
+FailsToDraw Lost Gone shows Asked before after = ForAsked Job Asked (IsUndrawn Lost Gone shows before after)
 
 -- memory was refused, or the output of a picture, where there is one, can't be written
 abbrev pub LacksMap : Bool → Type 0 → Refusal → Type 0
@@ -191,7 +194,8 @@ LacksMap drawn Broke why = (why ≡ Build Memory) ⊎ ((drawn ≡ true) × (why 
 -- why the plan of a job isn't told; `Broke`: an output failed; `Lost`: one that was made did
 abbrev pub StopsPrinting : Type 0 → Type 0 → (Ahead → Type 0) → (Option (List ℕ) → Type 0) → (Option (List ℕ) → Type 0) → Shows → Job → Option (List ℕ) → Option (List ℕ) → Refusal → Type 0
 StopsPrinting Broke Lost Failed Gone Sent shows j before after =
-    RefusesFor (λ name. ⊥) Broke (OfFault (IsPlanFault Failed Gone (Is j))) (FailsToDraw Lost Gone shows (Is j) ⊎ FailsToPrint Sent shows (Is j) before after)
+    RefusesFor (λ name. ⊥) Broke (OfFault (IsPlanFault Failed Gone (Is j) before after))
+    (FailsToDraw Lost Gone shows (Is j) before after ⊎ FailsToPrint Sent shows (Is j) before after)
 
 -- the output of the job's picture holds what it held as it was made; `Gone`: nothing more was written to it
 abbrev pub IsLeft : (Option (List ℕ) → Type 0) → (Job → Type 0) → Job → Type 0
@@ -201,12 +205,17 @@ IsLeft Gone Asked j = Asked j × IfSome j.begun Gone
 -- plan that went further each has one
 abbrev pub RefusesPlan : Bool → (FileName → Type 0) → Type 0 → Type 0 → (Ahead → Type 0) → (Option (List ℕ) → Type 0) → (Option (List ℕ) → Type 0) → Shows → (Job → Type 0) → Option (List ℕ) → Option (List ℕ) → Refusal → Type 0
 RefusesPlan strict Lacked Broke Lost Failed Gone Sent shows Asked before after =
-    RefusesFor Lacked Broke (OrEmpty strict (IsLeft Gone Asked) (OfFault (IsPlanFault Failed Gone (Filled strict Asked))))
-    (FailsToDraw Lost Gone shows (Filled strict Asked) ⊎ FailsToPrint Sent shows (Filled strict Asked) before after)
+    RefusesFor Lacked Broke (OrEmpty strict (IsLeft Gone Asked) (OfFault (IsPlanFault Failed Gone (Filled strict Asked) before after)))
+    (FailsToDraw Lost Gone shows (Filled strict Asked) before after ⊎ FailsToPrint Sent shows (Filled strict Asked) before after)
 
--- at out of memory the output of the picture took nothing
+-- this is so where a file can't be used
+abbrev pub AtFile : Type 0 → Refusal → Type 0
+AtFile Holds why = (name : FileName) → why ≡ File name → Holds
+
+-- where a file can't be used, and at out of memory, the output of the picture took nothing
 abbrev pub HoldsPlan : FileFacts → Option (List ℕ) → (List Change → Type 0) → (Job → Type 0) → Refusal → Type 0
-HoldsPlan files out Made Asked = AtMemory (TookNothing files out Made ⊎ ((j : Job) × IsLeft (HasGone files) Asked j))
+HoldsPlan files out Made Asked why =
+    AtFile (TookNothing files out Made) why × AtMemory (TookNothing files out Made ⊎ ((j : Job) × IsLeft (HasGone files) Asked j)) why
 
 -- what `plan` answers to the texts of a command line, where `Made` says which changes it made, `Failed` that a reader that had this
 -- ahead has failed, and `Broke` that an output has: the lines and the report at status 0, where the picture has gone out if one is asked

@@ -1,5 +1,5 @@
 -- Where memory is refused after the handshake.
-use Rattle.std.proofs.Common.{◌≡◌, ◌∙◌, ap, Bool, false, ℕ, List, [], ◌∷◌, Option, Ok, Err, Result, inr, refl, sym, subst}
+use Rattle.std.proofs.Common.{◌≡◌, ◌∙◌, ap, Bool, true, false, not, ◌&&◌, ℕ, List, [], ◌∷◌, Option, Ok, Err, Result, inr, refl, sym, subst}
 use Rattle.std.specs.Prelude.{MatchResult, IsErrAnd}
 use Rattle.nor_base.specs.declared.meaning.Start.{Start}
 use Rattle.nor_base.specs.declared.step.Step.{Step}
@@ -17,6 +17,7 @@ use Rattle.norprog_device.specs.declared.fault.DeviceFault.{DeviceFault}
 use Rattle.norprog_device.specs.declared.fault.DeviceFault.TheVariants.{Greet, Line}
 use Rattle.norprog_play.specs.declared.unplayed.Unplayed.{Unplayed}
 use Rattle.norprog_play.specs.declared.unplayed.Unplayed.TheVariants.{Refused, Device}
+use Rattle.norprog_play.specs.Cut.{was_cut}
 use Rattle.norprog_play.specs.Early.{MayPlay, chip_with}
 use Rattle.norprog_play.specs.Ending.{EndsSo}
 use Rattle.norprog_play.specs.Expected.{Expectation}
@@ -51,13 +52,22 @@ has_played limits limits' turns turns' x m before between after steps ending sam
       (subst (λ n. EndsSo limits n x m between steps ending after) as_many ends);
 }
 
+-- the pins, by what the code says of a request that was cut
+released_so : (pins cut cut' : Bool) (reached after : Moment) → cut ≡ cut' → Releases (pins && not cut) reached after → Releases (pins && not cut') reached after
+released_so pins cut cut' reached after same released = subst (λ (b : Bool). Releases (pins && not b) reached after) same released
+
+-- where none was cut
+uncut : (pins : Bool) (reached after : Moment) → Releases (pins && true) reached after → Releases pins reached after
+uncut true reached after released = released
+uncut false reached after released = released
+
 -- a play on that device of steps that may be played
 pub known_ends : (files : FileFacts) (name : List ℕ) (Made : List Change → Type 0) (limit turns : ℕ) (first limits : Limits) (x : Expectation) (m : Parameters) (content : List ℕ) (steps : List Step) (before reached after : Moment)
-    → MayPlay (chip_with m x.start content) steps → Stands (files.device name) m x.start content before → turns ≡ limit → first.pins ≡ false → Releases limits.pins reached after → files.left after.held
-    → Made (Opening name ∷ []) → (r : Result Ending Unplayed)
+    (cut : Bool) (r : Result Ending Unplayed) → MayPlay (chip_with m x.start content) steps → Stands (files.device name) m x.start content before → turns ≡ limit → first.pins ≡ false
+    → cut ≡ was_cut r → Releases (limits.pins && not cut) reached after → files.left after.held → Made (Opening name ∷ [])
     → MatchResult r (λ ending. HasPlayed limits turns x m before steps ending reached) (StopsBefore first limits before reached)
     → MatchResult r (EndsOnDevice files name Made limit x m content steps) (StopsPlay files name Made m x.start content steps)
-known_ends files name Made limit turns first limits x m content steps before reached after may stands same none released left made (Ok ending) is = record {
+known_ends files name Made limit turns first limits x m content steps before reached after cut (Ok ending) may stands same none so released left made is = record {
   may = may;
   before = before;
   reached = reached;
@@ -65,11 +75,11 @@ known_ends files name Made limit turns first limits x m content steps before rea
   limits = limits;
   stands = stands;
   played = subst (λ n. HasPlayed limits n x m before steps ending reached) same is;
-  released = released;
+  released = released_so limits.pins cut (was_cut (Ok ending)) reached after so released;
   left = left;
   made = made;
 }
-known_ends files name Made limit turns first limits x m content steps before reached after may stands same none released left made (Err (Device (Greet why))) is =
+known_ends files name Made limit turns first limits x m content steps before reached after cut (Err (Device (Greet why))) may stands same none so released left made is =
     let undriven : limits.pins ≡ false = ap (λ (l : Limits). l.pins) is.stops.0 ∙ none in
     record {
       may = may;
@@ -78,11 +88,11 @@ known_ends files name Made limit turns first limits x m content steps before rea
       after = after;
       stands = stands;
       greeted = record { shown = is.shown; opened = is.stops.1 };
-      released = subst (λ (b : Bool). Releases b reached after) undriven released;
+      released = subst (λ (b : Bool). Releases (b && not cut) reached after) undriven released;
       left = left;
       made = made;
     }
-known_ends files name Made limit turns first limits x m content steps before reached after may stands same none released left made (Err (Device (Line why))) is = (
+known_ends files name Made limit turns first limits x m content steps before reached after cut (Err (Device (Line why))) may stands same none so released left made is = (
   limits,
   record {
     may = may;
@@ -91,16 +101,29 @@ known_ends files name Made limit turns first limits x m content steps before rea
     after = after;
     stands = stands;
     greeted = record { shown = is.shown; opened = is.stops };
-    released = released;
+    released = released_so limits.pins cut (was_cut (Err (Device (Line why)))) reached after so released;
     left = left;
     made = made;
   },
 )
-known_ends files name Made limit turns first limits x m content steps before reached after may stands same none released left made (Err (Refused (Build Memory))) is = inr (
+known_ends files name Made limit turns first limits x m content steps before reached after cut (Err (Refused (Build Memory))) may stands same none so released left made is = inr (
   refl,
-  (limits, record { may = may; before = before; reached = reached; after = after; stands = stands; greeted = is; released = released; left = left; made = made }),
+  (
+    limits,
+    record {
+      may = may;
+      before = before;
+      reached = reached;
+      after = after;
+      stands = stands;
+      greeted = is;
+      released = uncut limits.pins reached after (released_so limits.pins cut (was_cut (Err (Refused (Build Memory)))) reached after so released);
+      left = left;
+      made = made;
+    },
+  ),
 )
-known_ends files name Made limit turns first limits x m content steps before reached after may stands same none released left made (Err (Refused other)) is = absurd is
+known_ends files name Made limit turns first limits x m content steps before reached after cut (Err (Refused other)) may stands same none so released left made is = absurd is
 
 -- what is handed on of a refusal
 pub handed : {T : Type 0} (P : T → Type 0) (Q : Unplayed → Type 0) (why : Unplayed) (r : Result T Unplayed) → IsErrAnd r (λ other. other ≡ why) → Q why → MatchResult r P Q

@@ -175,6 +175,7 @@ stops_so a h i p q limits turns x given why beyond after same_held same_ahead pl
   put = within.put;
   ahead = within.ahead;
   out = subst (λ (l : Option (List ℕ)). Appends within.held l within.put) same_held within.out;
+  last = within.last;
 })
 stops_so a h i p q limits turns x given why beyond after same_held same_ahead plain gave (inr cut) = inr (
     subst (λ (l : Ahead). CutsRow h after.held p l limits turns why (x ∷ beyond)) same_ahead
@@ -249,6 +250,7 @@ stops_alone m limits turns before after row x failed is form stop = record {
     put = [];
     ahead = record { reads = 0; few = omega arith; within = omega arith; asked = refl; fits = omega arith };
     out = nothing_out after.held;
+    last = λ _. refl;
   });
   failure = stop.failure;
 }

@@ -16,6 +16,7 @@ pub mod Served
 pub mod Job
 pub mod Early
 pub mod Opened
+pub mod Cut
 pub mod Played
 pub mod State
 pub mod Answer

@@ -7,7 +7,9 @@ use Rattle.nor_base.specs.Chip.{Chip}
 use Rattle.nor_base.specs.Effect.{effect}
 use Rattle.nor_base.specs.Device.{Ahead, ahead_of}
 use Rattle.nor_base.specs.Port.{Shown, Transacts}
+use Rattle.nor_serprog.specs.declared.fault.Fault.TheVariants.{Write}
 use Rattle.nor_serprog.specs.declared.fault.Reason.{Reason}
+use Rattle.nor_serprog.specs.declared.fault.Reason.TheVariants.{Exchange}
 use Rattle.nor_serprog.specs.declared.limits.Limits.{Limits}
 use Rattle.norprog_failure.specs.declared.failure.Failure.{Failure}
 use Rattle.norprog_failure.specs.Reported.{FailsAs}
@@ -44,6 +46,8 @@ pub record StopsFollowing (limits : Limits) (turns : ℕ) (before : Moment) (clo
   pub put : List ℕ
   pub ahead : AreAhead limits turns beyond put
   pub out : Appends held after.held put
+  -- where the writer failed nothing goes out after it
+  pub last : reason ≡ Exchange Write → beyond ≡ []
 
 -- so a step ended; or the writer failed in its requests and those of the steps that were sent at once with it
 abbrev pub StopsStep : Limits → ℕ → Moment → Step → List ℕ → Reason → List Step → Moment → Type 0

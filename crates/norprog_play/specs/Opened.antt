@@ -68,7 +68,7 @@ pub record LetsGo (before after : Moment) : Type 0 where
   pub answer : Result (Unit {0}) Fault
   pub asked : Asks before.held after.held before.ahead after.ahead answer release_bytes (Answers before.ahead after.ahead answer [])
 
--- so, where it drives them; else nothing was done
+-- so, where that was to be; else nothing was done
 abbrev pub Releases : Bool → Moment → Moment → Type 0
 Releases true before after = LetsGo before after
 Releases false before after = after ≡ before

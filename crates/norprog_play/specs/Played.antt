@@ -1,6 +1,6 @@
 -- How a play on a chip behind a device ends (this project's). `Opened` says of the device that was named what it had yet to give, and
 -- what it had taken, as it was opened.
-use Rattle.std.specs.Prelude.{◌≡◌, ◌⊎◌, ℕ, Bool, false, List, [], ◌∷◌, Option, Ok, Err}
+use Rattle.std.specs.Prelude.{◌≡◌, ◌⊎◌, ℕ, Bool, false, ◌&&◌, not, List, [], ◌∷◌, Option, Ok, Err}
 use Rattle.nor_base.specs.declared.meaning.Start.{Start}
 use Rattle.nor_base.specs.declared.step.Step.{Step}
 use Rattle.nor_base.specs.Parameters.{Parameters}
@@ -14,6 +14,7 @@ use Rattle.norprog_device.specs.Opened.{IsUntouched, LacksDevice}
 use Rattle.norprog_play.specs.declared.ending.Ending.{Ending}
 use Rattle.norprog_play.specs.declared.unplayed.Unplayed.{Unplayed}
 use Rattle.norprog_play.specs.declared.unplayed.Unplayed.TheVariants.{Refused, Device}
+use Rattle.norprog_play.specs.Cut.{is_cut, is_write}
 use Rattle.norprog_play.specs.Early.{chip_with, MayPlay, EndsInMemory}
 use Rattle.norprog_play.specs.Expected.{Expectation}
 use Rattle.norprog_play.specs.Moment.{Moment, moment}
@@ -26,8 +27,8 @@ pub record Stands (Opened : Option (List ℕ) → Option (List ℕ) → Type 0) 
   pub opened : Opened remaining contents
   pub is : now ≡ moment (chip_with m start content) contents remaining
 
--- the steps might be played, and so they ended on that device beside the chip in memory; then its pins were released, and nothing more
--- went to it. It was opened once, and nothing else was changed
+-- the steps might be played, and so they ended on that device beside the chip in memory; then its pins were released, unless a request was
+-- cut, and nothing more went to it. It was opened once, and nothing else was changed
 pub record EndsOnDevice (files : FileFacts) (name : List ℕ) (Made : List Change → Type 0) (limit : ℕ) (x : Expectation) (m : Parameters) (content : List ℕ)
     (steps : List Step) (ending : Ending) : Type 0 where
   pub may : MayPlay (chip_with m x.start content) steps
@@ -37,7 +38,7 @@ pub record EndsOnDevice (files : FileFacts) (name : List ℕ) (Made : List Chang
   pub limits : Limits
   pub stands : Stands (files.device name) m x.start content before
   pub played : HasPlayed limits limit x m before steps ending reached
-  pub released : Releases limits.pins reached after
+  pub released : Releases (limits.pins && not (is_cut ending)) reached after
   pub left : files.left after.held
   pub made : Made (Opening name ∷ [])
 
@@ -47,7 +48,7 @@ Ends files name Made limit x m content steps ending =
     (EndsInMemory (chip_with m x.start content) steps ending × Made []) ⊎ EndsOnDevice files name Made limit x m content steps ending
 
 -- they might be played, and the handshake with that device and the test of the line to it went as `Greets` says; nothing went out after
--- that, except that the pins were released where `pins` says that the device drives them. It was opened once, and nothing else was changed
+-- that, except that the pins were released where `pins` says so. It was opened once, and nothing else was changed
 pub record HasGreeted (files : FileFacts) (name : List ℕ) (Made : List Change → Type 0) (m : Parameters) (start : Start) (content : List ℕ)
     (steps : List Step) (Greets : Moment → Moment → Type 0) (pins : Bool) : Type 0 where
   pub may : MayPlay (chip_with m start content) steps
@@ -61,12 +62,12 @@ pub record HasGreeted (files : FileFacts) (name : List ℕ) (Made : List Change 
   pub made : Made (Opening name ∷ [])
 
 -- the handshake ended early, and nothing more went out; or the device reported these limits and the test of the line ended early, and the
--- pins were released where those say that the device drives them
+-- pins were released where those say that the device drives them, unless a request was cut
 abbrev pub EndsGreeting : FileFacts → List ℕ → (List Change → Type 0) → Parameters → Start → List ℕ → List Step → DeviceFault → Type 0
 EndsGreeting files name Made m start content steps (Greet why) =
     HasGreeted files name Made m start content steps (λ before reached. GreetsSo before reached (Err (Greet why))) false
 EndsGreeting files name Made m start content steps (Line why) =
-    (limits : Limits) × HasGreeted files name Made m start content steps (FailsLine limits why) limits.pins
+    (limits : Limits) × HasGreeted files name Made m start content steps (FailsLine limits why) (limits.pins && not (is_write why))
 
 -- memory was refused after both
 abbrev pub EndsForMemory : FileFacts → List ℕ → (List Change → Type 0) → Parameters → Start → List ℕ → List Step → Type 0

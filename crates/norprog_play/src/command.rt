@@ -14,6 +14,7 @@ ghost use Rattle.norprog_play.specs.Progress.{ReportsPlay};
 ghost use Rattle.norprog_play.specs.Request.{is_well_formed};
 ghost use Rattle.norprog_play.specs.Served.{paths_asked, paths_of, IsTaskOf, Serves};
 
+use crate::cut::was_cut;
 use crate::early::{Early, ends_early, widest};
 use crate::ending::Ending;
 use crate::expected::{Expected, known_tables};
@@ -235,7 +236,7 @@ fn play_known<S: FileStore, P: ByteOut>(
         &mut port,
         progress,
     );
-    release_pins(&mut port);
+    release_pins(&mut port, was_cut(&ended));
     store.close_device(port.to.inner);
     ended
 }

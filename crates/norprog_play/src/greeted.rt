@@ -1,7 +1,7 @@
 //! A script on a device, from its handshake on.
 
 ghost use Rattle.std.specs.Prelude.{◌≡◌, ◌<◌, ◌≤◌, ◌+◌, ◌-◌, ◌^◌, [], None, Ok, Err, false, length};
-ghost use Rattle.std.specs.Prelude.{IfOk, MatchResult};
+ghost use Rattle.std.specs.Prelude.{◌&&◌, not, IfOk, MatchResult};
 ghost use Rattle.nor_base.specs.Chip.{chip_of};
 ghost use Rattle.nor_base.specs.Device.{ahead_of};
 ghost use Rattle.nor_base.specs.Run.{trail};
@@ -160,14 +160,18 @@ fn test_port<R: Read + Drop, W: Write + Drop>(
     }
 }
 
-/// Has the device of a port drive the pins of the chip no more, where it does; whatever it answers.
-pub(crate) fn release_pins<R: Read + Drop, W: Write + Drop>(port: &mut Shadowed<'_, R, W>)
+/// Has the device of a port drive the pins of the chip no more, where it does, whatever it answers;
+/// after a request that was cut nothing is sent.
+pub(crate) fn release_pins<R: Read + Drop, W: Write + Drop>(
+    port: &mut Shadowed<'_, R, W>,
+    cut: bool,
+)
     requires count { port.old.failed < 2 ^ 64 - 1 }
-    ensures { Releases port.old.limits.pins
+    ensures { Releases (port.old.limits.pins && not cut)
         (moment port.old.chip (W.contents port.old.to.inner) (R.remaining port.old.from.inner))
         (moment port.new.chip (W.contents port.new.to.inner) (R.remaining port.new.from.inner)) }
 {
-    if port.limits.pins {
+    if port.limits.pins && !cut {
         if release(&mut port.from, &mut port.to).is_err() {
             port.failed += 1;
         }

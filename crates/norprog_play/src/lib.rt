@@ -16,6 +16,7 @@ mod access;
 mod asked;
 mod command;
 mod content;
+mod cut;
 mod device;
 mod early;
 mod ending;

@@ -1,5 +1,5 @@
 -- What was read, and from which reading it follows.
-use Rattle.std.proofs.Common.{◌≡◌, inl, inr, ℕ, List, ◌++◌, length, take, drop, Option, Result, Ok, Err, IfOk, IfErr, ◌∙◌, ap}
+use Rattle.std.proofs.Common.{◌≡◌, inl, inr, ℕ, Bool, true, false, not, ◌&&◌, List, ◌++◌, length, take, drop, Option, Result, Ok, Err, IfOk, IfErr, ◌∙◌, ap, refl, subst}
 use Rattle.std.proofs.Math.Seq.{take-append_seam}
 use Rattle.nor_base.specs.Device.{Ahead}
 use Rattle.nor_serprog.specs.declared.limits.Limits.{Limits}
@@ -16,6 +16,7 @@ use Rattle.norprog_read.specs.declared.fault.Unread.TheVariants.{Refused, Device
 use Rattle.norprog_device.specs.declared.fault.DeviceFault.{DeviceFault}
 use Rattle.norprog_device.specs.declared.fault.DeviceFault.TheVariants.{Greet, Line}
 use Rattle.norprog_device.specs.Opened.{LetsGo}
+use Rattle.norprog_read.specs.Cut.{stops_cut, was_cut}
 use Rattle.norprog_read.specs.Stops.{RefusesFile, StopsAsked, StopsChip}
 use Rattle.norprog_read.specs.Opened.{HasReadOpened, HasReadTested, StopsGreeted, StopsOpened, StopsTested}
 
@@ -23,10 +24,16 @@ use Rattle.norprog_read.specs.Opened.{HasReadOpened, HasReadTested, StopsGreeted
 pub written : (new old : List ℕ) (n : ℕ) → n ≡ length new → take n (new ++ drop (length new) old) ≡ new
 written new old n long = ap (λ k. take k (new ++ drop (length new) old)) long ∙ take-append_seam new (drop (length new) old)
 
+-- nothing is taken from what holds as well
+as_well : (b : Bool) → b && true ≡ b
+as_well true = refl
+as_well false = refl
+
 -- a chip was read after the handshake, and then the pins were let go
-pub opened_by : (h i j k : Option (List ℕ)) (a b c d : Ahead) (limits : Limits) (ask : Ask) (r : Result Reading Unread) → Greeted h i a b (Ok limits)
-    → IfOk r (λ reading. HasReadTested i j b c limits ask reading) → LetsGo j k c d limits.pins → IfOk r (λ reading. HasReadOpened h k a d ask reading)
-opened_by h i j k a b c d limits ask (Ok reading) greeted read released = record {
+pub opened_by : (h i j k : Option (List ℕ)) (a b c d : Ahead) (limits : Limits) (ask : Ask) (r : Result Reading Unread) (pins : Bool)
+    → Greeted h i a b (Ok limits) → IfOk r (λ reading. HasReadTested i j b c limits ask reading) → pins ≡ (limits.pins && not (was_cut r))
+    → LetsGo j k c d pins → IfOk r (λ reading. HasReadOpened h k a d ask reading)
+opened_by h i j k a b c d limits ask (Ok reading) pins greeted read is released = record {
   held = i;
   ahead = b;
   limits = limits;
@@ -34,14 +41,15 @@ opened_by h i j k a b c d limits ask (Ok reading) greeted read released = record
   held_late = j;
   ahead_late = c;
   read = read;
-  released = released;
+  released = subst (λ (frees : Bool). LetsGo j k c d frees) (is ∙ as_well limits.pins) released;
 }
-opened_by h i j k a b c d limits ask (Err why) greeted read released = tt
+opened_by h i j k a b c d limits ask (Err why) pins greeted read is released = tt
 
 -- or it stopped
-greeted_stops : (h i j k : Option (List ℕ)) (a b c d : Ahead) (limits : Limits) (ask : Ask) (why : Unread) → Greeted h i a b (Ok limits)
-    → StopsTested i j b c limits ask why → LetsGo j k c d limits.pins → StopsGreeted h k a d ask why
-greeted_stops h i j k a b c d limits ask why greeted stops released = record {
+greeted_stops : (h i j k : Option (List ℕ)) (a b c d : Ahead) (limits : Limits) (ask : Ask) (why : Unread) (pins : Bool)
+    → Greeted h i a b (Ok limits) → StopsTested i j b c limits ask why → pins ≡ (limits.pins && not (stops_cut why)) → LetsGo j k c d pins
+    → StopsGreeted h k a d ask why
+greeted_stops h i j k a b c d limits ask why pins greeted stops is released = record {
   held = i;
   ahead = b;
   limits = limits;
@@ -49,19 +57,20 @@ greeted_stops h i j k a b c d limits ask why greeted stops released = record {
   held_late = j;
   ahead_late = c;
   stops = stops;
-  released = released;
+  released = subst (λ (frees : Bool). LetsGo j k c d frees) is released;
 }
 
-pub stops_by : (h i j k : Option (List ℕ)) (a b c d : Ahead) (limits : Limits) (ask : Ask) (r : Result Reading Unread) → Greeted h i a b (Ok limits)
-    → IfErr r (StopsTested i j b c limits ask) → LetsGo j k c d limits.pins → IfErr r (StopsOpened h k a d ask)
-stops_by h i j k a b c d limits ask (Ok reading) greeted stops released = tt
-stops_by h i j k a b c d limits ask (Err (Device (Greet why))) greeted stops released = absurd stops
-stops_by h i j k a b c d limits ask (Err (Device (Line why))) greeted stops released =
-    greeted_stops h i j k a b c d limits ask (Device (Line why)) greeted stops released
-stops_by h i j k a b c d limits ask (Err (Refused why)) greeted stops released =
-    greeted_stops h i j k a b c d limits ask (Refused why) greeted stops released
-stops_by h i j k a b c d limits ask (Err (Unlike why)) greeted stops released =
-    greeted_stops h i j k a b c d limits ask (Unlike why) greeted stops released
+pub stops_by : (h i j k : Option (List ℕ)) (a b c d : Ahead) (limits : Limits) (ask : Ask) (r : Result Reading Unread) (pins : Bool)
+    → Greeted h i a b (Ok limits) → IfErr r (StopsTested i j b c limits ask) → pins ≡ (limits.pins && not (was_cut r)) → LetsGo j k c d pins
+    → IfErr r (StopsOpened h k a d ask)
+stops_by h i j k a b c d limits ask (Ok reading) pins greeted stops is released = tt
+stops_by h i j k a b c d limits ask (Err (Device (Greet why))) pins greeted stops is released = absurd stops
+stops_by h i j k a b c d limits ask (Err (Device (Line why))) pins greeted stops is released =
+    greeted_stops h i j k a b c d limits ask (Device (Line why)) pins greeted stops is released
+stops_by h i j k a b c d limits ask (Err (Refused why)) pins greeted stops is released =
+    greeted_stops h i j k a b c d limits ask (Refused why) pins greeted stops is released
+stops_by h i j k a b c d limits ask (Err (Unlike why)) pins greeted stops is released =
+    greeted_stops h i j k a b c d limits ask (Unlike why) pins greeted stops is released
 
 -- a chip that is asked never stops at the device
 no_file : (ask : Ask) (by : Known) (why : DeviceFault) → RefusesFile ask by (Device why) → ⊥

@@ -1,5 +1,5 @@
 -- A chip that was read, or wasn't, from the handshake on (this project's).
-use Rattle.std.specs.Prelude.{◌⊎◌, ℕ, List, [], ◌∷◌, Option, Ok, Err}
+use Rattle.std.specs.Prelude.{◌⊎◌, ℕ, not, ◌&&◌, List, [], ◌∷◌, Option, Ok, Err}
 use Rattle.nor_base.specs.Device.{Ahead, ahead_of}
 use Rattle.nor_serprog.specs.declared.limits.Limits.{Limits}
 use Rattle.nor_serprog.specs.Greeting.{Greeted}
@@ -12,6 +12,7 @@ use Rattle.norprog_read.specs.declared.asked.Reading.{Reading}
 use Rattle.norprog_read.specs.declared.fault.Unread.{Unread}
 use Rattle.norprog_read.specs.declared.fault.Unread.TheVariants.{Refused, Device}
 use Rattle.norprog_read.specs.Chip.{HasReadChip}
+use Rattle.norprog_read.specs.Cut.{stops_cut}
 use Rattle.norprog_read.specs.Stops.{StopsChip}
 
 -- the line was tested, and the chip read
@@ -49,7 +50,7 @@ pub record HasReadOpened (held_before held_after : Option (List ℕ)) (ahead_bef
   pub read : HasReadTested held held_late ahead ahead_late limits ask r
   pub released : LetsGo held_late held_after ahead_late ahead_after limits.pins
 
--- the handshake was done, what came after it stopped so, and the pins were let go
+-- the handshake was done, what came after it stopped so, and the pins were let go, unless a request was cut: then nothing followed it
 pub record StopsGreeted (held_before held_after : Option (List ℕ)) (ahead_before ahead_after : Ahead) (ask : Ask) (why : Unread)
     : Type 0 where
   pub held : Option (List ℕ)
@@ -59,7 +60,7 @@ pub record StopsGreeted (held_before held_after : Option (List ℕ)) (ahead_befo
   pub held_late : Option (List ℕ)
   pub ahead_late : Ahead
   pub stops : StopsTested held held_late ahead ahead_late limits ask why
-  pub released : LetsGo held_late held_after ahead_late ahead_after limits.pins
+  pub released : LetsGo held_late held_after ahead_late ahead_after (limits.pins && not (stops_cut why))
 
 -- the handshake stopped so, or what came after it
 abbrev pub StopsOpened : Option (List ℕ) → Option (List ℕ) → Ahead → Ahead → Ask → Unread → Type 0

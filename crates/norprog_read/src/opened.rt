@@ -1,19 +1,21 @@
 //! A chip behind a device, from the handshake on.
 
-ghost use Rattle.std.specs.Prelude.{◌≡◌, ◌≤◌, ◌<◌, ◌+◌, ◌-◌, ◌^◌, Ok, IfOk, IfErr};
+ghost use Rattle.std.specs.Prelude.{◌≡◌, ◌≤◌, ◌<◌, ◌+◌, ◌-◌, ◌^◌, ◌&&◌, not, Ok, IfOk, IfErr};
+ghost use Rattle.norprog_read.specs.Cut.{stops_cut, was_cut};
 ghost use Rattle.norprog_read.specs.Opened.{HasReadOpened, HasReadTested, StopsOpened, StopsTested};
 
 use crate::asked::{Ask, Reading};
 use crate::chip::read_chip;
-use crate::fault::Unread;
+use crate::cut::{cuts_request, is_cut};
+use crate::fault::{Unlike, Unread};
 use nor_base::{ByteIn, ByteOut};
 use nor_serprog::{Limits, greet, test_line};
 use norprog_device::{DeviceFault, let_go};
 use std::alloc::Global;
 
 /// Begins with a device, tests the line to it, and has its chip read, as [`read_chip`] does, by the
-/// limits that the device reports. At last it lets the chip's pins go, where it drives them,
-/// whatever happened; what it answers to that changes nothing.
+/// limits that the device reports. At last it lets the chip's pins go, where it drives them; its
+/// answer changes nothing. After a failed write nothing more is sent.
 ///
 /// `Device` where the handshake or the test of the line ended early.
 pub fn read_opened<R: ByteIn, W: ByteOut>(
@@ -37,8 +39,39 @@ pub fn read_opened<R: ByteIn, W: ByteOut>(
         Err(why) => return Err(Unread::Device(DeviceFault::Greet(why))),
     };
     let read = read_tested(alloc, from, to, &limits, ask);
-    let_go(from, to, limits.pins);
+    let pins = frees_pins(&limits, &read);
+    let_go(from, to, pins);
     read
+}
+
+/// Whether the pins are let go after a reading that ended so: the device drives them, and no
+/// request was cut. A device would take what follows as the rest of such a request.
+fn frees_pins(limits: &Limits, read: &Result<Reading, Unread>) -> bool
+    ensures { result ≡ (limits.now.pins && not (was_cut read.now)) }
+{
+    limits.pins && !was_cut(read)
+}
+
+/// Whether a reading ended because the writer failed in a request.
+fn was_cut(read: &Result<Reading, Unread>) -> bool
+    ensures { result ≡ was_cut read.now }
+{
+    match read {
+        Ok(_) => false,
+        Err(why) => stops_cut(why),
+    }
+}
+
+/// Whether a chip isn't read because the writer failed in a request.
+fn stops_cut(why: &Unread) -> bool
+    ensures { result ≡ stops_cut why.now }
+{
+    match why {
+        Unread::Refused(_) => false,
+        Unread::Device(fault) => is_cut(*fault),
+        Unread::Unlike(Unlike::Asking(fault)) => cuts_request(*fault),
+        Unread::Unlike(_) => false,
+    }
 }
 
 /// Tests the line to a device, and has its chip read.

@@ -2,7 +2,7 @@
 use Rattle.std.proofs.Common.{List, ℕ, All, inl, inr, refl, subst, sym}
 use Rattle.nor_base.specs.declared.step.Step.{Step}
 use Rattle.nor_serprog.specs.Done.{IsDoable}
-use Rattle.nor_serprog.specs.Steps.{IsFirstNotCarried}
+use Rattle.nor_serprog.specs.Steps.{AreCarried, IsFirstNotCarried}
 use Rattle.nor_progress.proofs.ReportLaws.{none_reported}
 use Rattle.norprog_flash.specs.Worked.{IsSoOfDone, Showing, WorksOut}
 use Rattle.norprog_flash.proofs.PlannedLemmas.{steps_doable}
@@ -31,6 +31,7 @@ returns-clause-goes g c =
     inr (
       c.args.begun.now.by,
       c.requires.way,
+      subst (λ (xs : List Step). AreCarried limits xs) c.as_slice-steps.ensures.value c.in_default.ensures,
       subst (λ (xs : List Step). WorksOut h0 h1 a0 a1 limits job.ask.turns m c.args.begun.now.by xs c.args.begun.now.work.goal.items c.do_work.result)
           c.as_slice-steps.ensures.value
           (subst (λ (xs : List ℕ). WorksOut h0 h1 a0 a1 limits job.ask.turns m c.args.begun.now.by c.as_slice-steps.result.now xs c.do_work.result)

@@ -80,7 +80,7 @@ pub returns-clause-unmade : goal.returns-clause-unmade
 returns-clause-unmade g c =
     let files = g.S.FileStore.facts c.args.store.now in
     let changes = g.S.Journal.Journal.changes in
-    unmade_done _ _ c.args.request.at _ _ _ c.write_bin-answer.result c.flush-flushed.result _
+    unmade_done _ _ c.args.request.at c.in_ok-bin.len _ _ _ c.write_bin-answer.result c.flush-flushed.result _
     (is_untaken files c.args.request _ c.in_ok-bin.len c.in_ok-bin.ensures.opened (Unit {0}) _ _ (c.in_ok-bin.place ∷ [], (c.in_ok-bin.ensures.stood, tt), c.in_ok-out.ensures.made)
     (omega (arith, c.if-len-from.false, c.from.ensures)) (Adds (changes c.args.journal.now) (changes c.create.new.journal)) (inr c.flush-flushed.ensures.closed))
     c.write_bin-answer.ensures.stopped c.done.ensures

@@ -10,7 +10,7 @@ use Rattle.norprog_hex.proofs.convert.write_bin.Goals as goal
 
 pub returns-in_err-buffer-clause-stopped : goal.returns-in_err-buffer-clause-stopped
 returns-in_err-buffer-clause-stopped g c =
-    handed_on _ _ _ c.from_residual.ensures.1 (subst (StopsConverting c.args.at (g.R.ByteIn.ahead c.args.bin.now) (g.W.ByteOut.held c.args.out.now) (g.W.ByteOut.held c.args.out.now)) (sym c.in_err-buffer.ensures.memory) refl)
+    handed_on _ _ _ c.from_residual.ensures.1 (subst (StopsConverting c.args.at c.args.len (g.R.ByteIn.ahead c.args.bin.now) (g.W.ByteOut.held c.args.out.now) (g.W.ByteOut.held c.args.out.now)) (sym c.in_err-buffer.ensures.memory) refl)
 
 pub returns-in_err-buffer-clause-cause : goal.returns-in_err-buffer-clause-cause
 returns-in_err-buffer-clause-cause g c = handed_on _ _ _ c.from_residual.ensures.1 (λ is. no_memory (sym c.in_err-buffer.ensures.memory ∙ is))
@@ -25,7 +25,7 @@ pub returns-in_err-complete-clause-stopped : goal.returns-in_err-complete-clause
 returns-in_err-complete-clause-stopped g c =
     let named = is_bin 0 c.fill_from.result c.in_err-complete.field-0.0 (sym c.complete.ensures ∙ c.in_err-complete.was) in
     handed_on _ _ _ c.from_residual-in_err-complete.ensures.1
-    (subst (StopsConverting c.args.at (g.R.ByteIn.ahead c.args.bin.now) (g.W.ByteOut.held c.args.out.now) (g.W.ByteOut.held c.write_parts.new.out)) (sym named)
+    (subst (StopsConverting c.args.at c.args.len (g.R.ByteIn.ahead c.args.bin.now) (g.W.ByteOut.held c.args.out.now) (g.W.ByteOut.held c.write_parts.new.out)) (sym named)
     (no_end c.args.at c.args.len _ _ _ _ c.in_ok-write_parts.ensures.read))
 
 pub returns-in_err-complete-clause-cause : goal.returns-in_err-complete-clause-cause
@@ -43,8 +43,9 @@ returns-clause-converted g c =
 
 pub returns-clause-stopped : goal.returns-clause-stopped
 returns-clause-stopped g c =
+    let none = ended c.fill_from.result c.fill_from.new.buffer _ _ (sym c.complete.ensures ∙ c.in_ok-complete.was) (omega arith) c.fill_from.ensures.bytes in
     written_err c.write_end.result c.written.result _ c.written.ensures
-    (λ failed. end_cut c.args.at c.args.len _ _ _ _ _ c.in_ok-write_parts.ensures.read (cut_of _ _ c.write_end.result _ c.write_end.ensures.bytes failed))
+    (λ failed. end_cut c.args.at c.args.len _ _ _ _ _ _ c.in_ok-write_parts.ensures.read none.0 none.1 (cut_of _ _ c.write_end.result _ c.write_end.ensures.bytes failed))
 
 -- only the output's own failure is counted, where it is told
 pub returns-in_err-buffer-clause-count : goal.returns-in_err-buffer-clause-count

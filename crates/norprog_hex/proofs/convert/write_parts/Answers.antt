@@ -21,7 +21,7 @@ returns-in_err-write_part-clause-stopped g c =
     let at = c.args.at in
     let done = c.loop-done.done in
     handed_on _ _ _ c.from_residual.ensures.1
-    (part_stopped c.parts_join.ensures.join at done _ (c.loop-done.invariant.seam c.loop-done-test.true) _ _ _ _ _ _ c.loop-done.invariant.read c.in_err-write_part.field-0.0 c.in_err-write_part.ensures.stopped)
+    (part_stopped c.parts_join.ensures.join at done _ (c.loop-done.invariant.seam c.loop-done-test.true) _ _ _ _ _ _ c.loop-done.invariant.read c.args.len c.in_err-write_part.field-0.0 c.in_err-write_part.ensures.stopped)
 
 pub returns-in_err-write_part-clause-cause : goal.returns-in_err-write_part-clause-cause
 returns-in_err-write_part-clause-cause g c =

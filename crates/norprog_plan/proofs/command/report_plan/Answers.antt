@@ -73,5 +73,5 @@ returns-in_err-request-clause-first g c =
           (no_job (asks_plan given) given.job c.request_of.result _ c.in_err-request.field-0.0
           (λ none. none) c.request_of.ensures.forms c.in_err-request.ensures.ok_part c.in_err-request.ensures.value),
       handed_on (HoldsPlan files (option_map (λ t. t.now) given.map) (Adds now now) (ServesPlan files given)) _ _ c.from_residual.ensures.1
-          (λ memory. inl (inl (adds_none _ _ refl))),
+          (λ name is. inl (adds_none _ _ refl), λ memory. inl (inl (adds_none _ _ refl))),
     )

@@ -1,5 +1,5 @@
 -- What was printed is of the request's job.
-use Rattle.std.proofs.Common.{[], inl, inr, option_map}
+use Rattle.std.proofs.Common.{[], inl, option_map}
 use Rattle.nor_base.proofs.FaultLaws.{handed_on}
 use Rattle.norprog_common.specs.declared.faults.FileName.TheVariants.{Map}
 use Rattle.norprog_common.specs.FileStore.{Adds, Breaks, HasGone, LacksEarly, TookNothing}
@@ -8,7 +8,7 @@ use Rattle.norprog_common.specs.Served.{IsJobOf, held_in, map_path, paths_of}
 use Rattle.norprog_common.specs.Strict.{Filled}
 use Rattle.norprog_common.proofs.ServedLemmas.{job_of}
 use Rattle.norprog_plan.specs.Answer.{HoldsPlan, RefusesPlan}
-use Rattle.norprog_plan.proofs.AnswerLemmas.{empty_refused, file_refused, job_cuts, job_holds, job_prints, job_stops}
+use Rattle.norprog_plan.proofs.AnswerLemmas.{empty_holds, empty_refused, file_refused, job_cuts, job_holds, job_prints, job_stops}
 use Rattle.norprog_plan.proofs.command.run_plan.Goals as goal
 
 -- where a file couldn't be used
@@ -26,7 +26,7 @@ returns-in_err-texts-clause-refused g c =
     let Failed = HasFailed g.S.Input.ByteIn.ahead g.S.Input.ByteIn.count in (
       handed_on (RefusesPlan request.strict Lacked (Breaks files count count) files.broke Failed (HasGone files) files.flushed c.args.shows Asked x x) _ _ c.from_residual.ensures.1
           (file_refused request.strict Lacked (Breaks files count count) files.broke Failed (HasGone files) files.flushed c.args.shows Asked x x _ c.in_err-texts.ensures.lacked.0),
-      handed_on (HoldsPlan files out Made Asked) _ _ c.from_residual.ensures.1 (λ memory. inl c.in_err-texts.ensures.lacked.1),
+      handed_on (HoldsPlan files out Made Asked) _ _ c.from_residual.ensures.1 (λ name is. c.in_err-texts.ensures.lacked.1, λ memory. inl c.in_err-texts.ensures.lacked.1),
     )
 
 pub returns-clause-refused : goal.returns-clause-refused
@@ -42,7 +42,11 @@ returns-clause-refused g c =
     c.in_ok-texts.ensures.given.0 c.inputs_of-inputs.ensures c.in_ok-texts.ensures.given.1 c.in_ok-texts.ensures.made in
     let refused = empty_refused strict Lacked (Breaks files count count) files.broke (HasFailed g.S.Input.ByteIn.ahead g.S.Input.ByteIn.count) (HasGone files) files.flushed c.args.shows Asked _ x x c.in-Err.refusal
     (asked, c.left.ensures.gone) c.in-Err.ensures.refused in
-    (rw c.left.ensures.same refused, λ memory. inr (_, (asked, c.left.ensures.gone)))
+    let changes = g.S.Journal.Journal.changes in (
+      rw c.left.ensures.same refused,
+      empty_holds strict (TookNothing files out (Adds (changes c.args.journal.now) (changes c.open_files.new.journal))) (HasGone files) Asked _ c.in-Err.refusal _ (asked, c.left.ensures.gone) c.in-Err.ensures.refused
+          c.left.ensures.same,
+    )
 
 pub returns-in-Ok-clause-printed : goal.returns-in-Ok-clause-printed
 returns-in-Ok-clause-printed g c =
@@ -72,6 +76,6 @@ returns-in-Ok-clause-refused g c =
     let changes = g.S.Journal.Journal.changes in (
       job_stops c.print_job.result c.args.request.now.strict Lacked (Breaks files (g.O.ByteOut.count c.args.out.now) (g.O.ByteOut.count c.print_job.new.out)) files.broke (HasFailed g.S.Input.ByteIn.ahead g.S.Input.ByteIn.count) (HasGone files) files.flushed c.args.shows
           (IsJobOf files c.args.request.now out) _ _ _ (asked, c.in-Ok.ensures.filled) c.print_job.ensures.refused,
-      job_holds c.print_job.result (TookNothing files out (Adds (changes c.args.journal.now) (changes c.open_files.new.journal))) (HasGone files) (IsJobOf files c.args.request.now out) _ asked
-          c.print_job.ensures.memory,
+      job_holds c.print_job.result (TookNothing files out (Adds (changes c.args.journal.now) (changes c.open_files.new.journal))) (Breaks files (g.O.ByteOut.count c.args.out.now) (g.O.ByteOut.count c.print_job.new.out)) files.broke
+          (HasFailed g.S.Input.ByteIn.ahead g.S.Input.ByteIn.count) (HasGone files) files.flushed c.args.shows (IsJobOf files c.args.request.now out) _ _ _ asked c.print_job.ensures.refused c.print_job.ensures.memory,
     )

@@ -40,7 +40,7 @@ returns-in-Ok-print_lines-clause-refused g c =
     let are = all.sums (tables_times t.chip) c.in-Ok-new.ensures.sums in
     behind_stops c.print_behind.result _ _ (Breaks files (g.O.ByteOut.count c.args.out.now) (g.O.ByteOut.count c.print_behind.new.out)) files.broke (HasFailed g.R.ByteIn.ahead g.R.ByteIn.count) (HasGone files) files.flushed c.args.shows j c.in-Ok.job
     c.in-Ok-new.sums c.print_lines.new.sums (g.R.ByteIn.ahead c.print_lines.new.content) (g.O.ByteOut.held c.args.out.now) (g.O.ByteOut.held c.print_lines.new.out)
-    (g.O.ByteOut.held c.print_behind.new.out) c.in-Ok-print_lines.report (is_some c.args.map) all is (λ broke. inl broke)
+    (g.O.ByteOut.held c.print_behind.new.out) c.in-Ok-print_lines.report (is_some c.args.map) all is (λ same. ap g.O.ByteOut.held same) (λ broke. inl broke)
     (λ more. inr (omega (arith, more, c.in-Ok-print_lines.ensures.counts.1))) (c.print_behind.ensures.cut c.args.len all.lines is are)
 
 pub returns-clause-cut : goal.returns-clause-cut

@@ -1,4 +1,5 @@
--- The chip in memory is the one that the steps go well on, beside the device that was named; at the end the pins are released.
+-- The chip in memory is the one that the steps go well on, beside the device that was named; at the end the pins are released, unless a
+-- request was cut.
 use Rattle.std.proofs.Common.{◌∙◌, ap, inl, refl}
 use Rattle.std.specs.Io.Buffered.{reader_remaining}
 use Rattle.nor_serprog.specs.declared.limits.Limits.{Limits}
@@ -15,7 +16,8 @@ returns-clause-ends g c =
     (ap (λ o. g.S.ToDevice.Write.contents o) c.new-port.ensures.to) (ap (λ r. reader_remaining g.S.FromDevice.Read.remaining r) c.new-port.ensures.from) in
     let undriven = ap (λ (l : Limits). l.pins) c.new-port.ensures.limits ∙ c.widest.ensures.pins in
     known_ends files c.args.device.now _ c.args.limit _ _ _ (expectation_of c.args.expected) c.args.meaning.now c.args.content.items c.args.steps.now _ _ _
-    c.requires.may.0 stands c.new-port.ensures.turns undriven c.release_pins.ensures c.close_device.ensures c.in_ok-from.ensures.journal c.greet_and_play-ended.result c.greet_and_play-ended.ensures.ends
+    c.was_cut.result c.greet_and_play-ended.result c.requires.may.0 stands c.new-port.ensures.turns undriven c.was_cut.ensures c.release_pins.ensures c.close_device.ensures c.in_ok-from.ensures.journal
+    c.greet_and_play-ended.ensures.ends
 
 pub returns-in_err-from-clause-ends : goal.returns-in_err-from-clause-ends
 returns-in_err-from-clause-ends g c =
