@@ -208,6 +208,11 @@ CountsReason fault.Read before after (Err (reason.Exchange fault.Read)) = after 
 CountsReason fault.Write before after (Err (reason.Exchange fault.Write)) = after ≡ before + 1
 CountsReason device before after (Err (reason.Exchange why)) = after ≡ before
 
+-- so it is of the reason for which a port fails first; where it fails for none, or has failed before, neither count rises
+abbrev pub CountsFirst : Fault → ℕ → ℕ → Option Reason → Option Reason → Type 0
+CountsFirst device before after None (Some why) = CountsReason {T = Unit {0}} device before after (Err why)
+CountsFirst device before after reason_before reason_after = after ≡ before
+
 -- the device was left alone
 pub record IsUntouched (held_before held_after : Option (List ℕ)) (ahead_before ahead_after : Ahead) : Type 0 where
   pub held : held_after ≡ held_before

@@ -1,17 +1,16 @@
 //! A chip in memory that the chip behind a device is to go along with.
 
 ghost use Rattle.std.specs.Prelude.{◌≡◌, ◌≤◌, ◌<◌, ◌-◌, ◌^◌, ⊤, None, length};
-ghost use Rattle.nor_base.specs.Device.{ahead_of};
 ghost use Rattle.nor_base.specs.Port.{Transacts, CountsTransact};
 ghost use Rattle.nor_base.specs.Sample.{sampled_count};
-ghost use Rattle.nor_serprog.specs.Follow.{Accompanies};
+ghost use Rattle.nor_serprog.specs.declared.fault.Fault.TheVariants.{Read, Write};
+ghost use Rattle.nor_serprog.specs.Follow.{Accompanies, CountsFirst};
 
 use crate::fault::Reason;
 use crate::follow::follow;
 use crate::limits::Limits;
-use nor_base::{FromRead, IntoWrite, PortFault};
+use nor_base::{ByteIn, ByteOut, PortFault};
 use nor_chip::{Chip, Port};
-use std::io::{Read, Write};
 
 /// A chip in memory, and a device that is to do the same transactions.
 ///
@@ -20,13 +19,13 @@ use std::io::{Read, Write};
 /// device: `reason` tells why. The device's busy time is waited out inside a poll, so the chip in
 /// memory is to have none; of the status a poll looks at only the busy bit.
 #[derive(Drop)]
-pub struct Shadowed<'a, R: Read + Drop, W: Write + Drop> {
+pub struct Shadowed<'a, R: ByteIn + Drop, W: ByteOut + Drop> {
     /// The chip in memory.
     pub chip: Chip<'a>,
     /// What comes from the device.
-    pub from: FromRead<R>,
+    pub from: R,
     /// What goes to it.
-    pub to: IntoWrite<W>,
+    pub to: W,
     /// What it can do.
     pub limits: Limits,
     /// Most status reads of one poll.
@@ -35,25 +34,27 @@ pub struct Shadowed<'a, R: Read + Drop, W: Write + Drop> {
     pub failed: u64,
     /// Why it failed first.
     pub reason: Option<Reason>,
-    ghost reader: { from.failed ≤ failed },
-    ghost writer: { to.failed ≤ failed },
+    ghost reader: { R.count from ≤ failed },
+    ghost writer: { W.count to ≤ failed },
 }
 
-impl<'a, R: Read + Drop, W: Write + Drop> Shadowed<'a, R, W> {
-    /// A chip in memory, and the device of a reader and a writer, after its handshake.
+impl<'a, R: ByteIn + Drop, W: ByteOut + Drop> Shadowed<'a, R, W> {
+    /// A chip in memory, and the device of a reader and a writer that haven't failed, after its
+    /// handshake.
     pub fn new(chip: Chip<'a>, from: R, to: W, limits: Limits, turns: u64) -> Shadowed<'a, R, W>
+        requires works { (R.count from ≡ 0) × (W.count to ≡ 0) }
         ensures chip { result.chip ≡ chip.entry }
-        ensures from { result.from.inner ≡ from }
-        ensures to { result.to.inner ≡ to }
-        ensures limits { result.limits ≡ limits }
-        ensures turns { result.turns ≡ turns }
+        ensures from { result.from ≡ from }
+        ensures to { result.to ≡ to }
+        ensures limits { (result.limits ≡ limits)
+            × (result.turns ≡ turns) }
         ensures fresh { (result.failed ≡ 0)
             × (result.reason ≡ None) }
     {
         Shadowed {
             chip,
-            from: FromRead::new(from),
-            to: IntoWrite::new(to),
+            from,
+            to,
             limits,
             turns,
             failed: 0,
@@ -62,7 +63,7 @@ impl<'a, R: Read + Drop, W: Write + Drop> Shadowed<'a, R, W> {
     }
 }
 
-impl<'a, R: Read + Drop, W: Write + Drop> Port for Shadowed<'a, R, W> {
+impl<'a, R: ByteIn + Drop, W: ByteOut + Drop> Port for Shadowed<'a, R, W> {
     ghost shown = { λ port. port.chip };
 
     ghost count = { λ port. port.failed };
@@ -74,11 +75,14 @@ impl<'a, R: Read + Drop, W: Write + Drop> Port for Shadowed<'a, R, W> {
         requires room { self.old.failed < 2 ^ 64 - 1 }
         ensures effect { Transacts self.old.chip self.new.chip result clocks.now out.new }
         ensures count { CountsTransact self.old.failed self.new.failed result }
-        ensures device { Accompanies self.old.chip self.new.chip (W.contents self.old.to.inner)
-            (W.contents self.new.to.inner)
-            (ahead_of (R.remaining self.old.from.inner))
-            (ahead_of (R.remaining self.new.from.inner)) self.old.reason self.new.reason
-            result self.old.limits self.old.turns clocks.now out.new }
+        ensures device { Accompanies self.old.chip self.new.chip (W.held self.old.to)
+            (W.held self.new.to) (R.ahead self.old.from) (R.ahead self.new.from)
+            self.old.reason self.new.reason
+            result self.old.limits self.old.turns clocks.now out.new
+            × CountsFirst Read (R.count self.old.from) (R.count self.new.from)
+            self.old.reason self.new.reason
+            × CountsFirst Write (W.count self.old.to) (W.count self.new.to)
+            self.old.reason self.new.reason }
         ensures kept { (self.new.limits ≡ self.old.limits)
             × (self.new.turns ≡ self.old.turns) }
     {

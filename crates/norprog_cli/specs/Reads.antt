@@ -1,4 +1,4 @@
--- Which files a command line lets the program open to be read (this project's). `files` is what is known of files by their names.
+-- Which files a command line lets the program open to be read, or ask about (this project's). `files` is what is known of files by their names.
 use Rattle.std.specs.Prelude.{⊤, ℕ, List, Option, Some, None, option_map}
 use Rattle.norprog_common.specs.FileStore.{FileFacts, MayRead, MayReadNamed}
 use Rattle.norprog_common.specs.Served as job
@@ -12,7 +12,7 @@ use Rattle.norprog_run.specs.Served as run
 use Rattle.norprog_script.specs.Served as script
 use Rattle.norprog_sfdp.specs.Served as sfdp
 use Rattle.norprog_details.specs.declared.typed.CommandLine.{CommandLine}
-use Rattle.norprog_details.specs.Details.{MayReadTyped}
+use Rattle.norprog_details.specs.Details.{MayAskTyped}
 use Rattle.norprog_options.specs.declared.options.Asked.{Asked}
 use Rattle.norprog_options.specs.declared.options.Asked.TheVariants as command
 use Rattle.norprog_options.specs.declared.options.Line.{Line}
@@ -36,14 +36,14 @@ MayReadAsked files (command.Hex given) = MayRead files (hex.paths_asked given)
 MayReadAsked files (command.Script given) = MayRead files (script.paths_asked given)
 MayReadAsked files (command.Explain words) = ⊤
 
--- those whose text `--details` shows once more
-abbrev pub MayReadLine : FileFacts → TypedLine → Type 0
-MayReadLine files typed = (line : CommandLine) → IsLineOf typed line → MayReadTyped files line
+-- `--details` may have the system asked once more about those that its options with values name
+abbrev pub MayAskLine : FileFacts → TypedLine → Type 0
+MayAskLine files typed = (line : CommandLine) → IsLineOf typed line → MayAskTyped files line
 
-abbrev pub MayReadDetails : FileFacts → Option TypedLine → Type 0
-MayReadDetails files None = ⊤
-MayReadDetails files (Some typed) = MayReadLine files typed
+abbrev pub MayAskDetails : FileFacts → Option TypedLine → Type 0
+MayAskDetails files None = ⊤
+MayAskDetails files (Some typed) = MayAskLine files typed
 
--- those of the command line that the words spell
+-- both of the command line that the words spell
 abbrev pub MayReadWords : FileFacts → List (List ℕ) → Type 0
-MayReadWords files words = (line : Line) → Spells words line → MayReadAsked files line.asked × MayReadDetails files line.details
+MayReadWords files words = (line : Line) → Spells words line → MayReadAsked files line.asked × MayAskDetails files line.details

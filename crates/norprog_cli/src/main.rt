@@ -12,19 +12,22 @@
 #![tactic(auto)]
 
 ghost use Rattle.std.specs.Prelude.{◌≡◌, ◌<◌, ◌≤◌, ◌-◌, ◌^◌, [], drop, map, string_bytes};
-ghost use Rattle.std.specs.Prelude.{IfOk, IfErr, option_map};
+ghost use Rattle.std.specs.Prelude.{IfOk, IfErr};
 ghost use Rattle.std.specs.Vec.Iter.{into_iter_items};
-ghost use Rattle.std.specs.Io.KnownBytes.{Keeps};
-ghost use Rattle.std.specs.Io.Buffered.{writer_buffer, writer_contents};
+ghost use Rattle.std.specs.Io.KnownBytes.{Keeps, append_known};
 ghost use Rattle.nor_job.specs.declared.fault.BuildFault.TheVariants.{Memory};
 ghost use Rattle.norprog_common.specs.declared.faults.Refusal.TheVariants.{Build};
 ghost use Rattle.norprog_common.specs.FileStore.{Adds};
 ghost use Rattle.norprog_common.specs.Reading.{HasFailed};
 ghost use Rattle.norprog_cli.specs.Answers.{AnswersTo, AnswersWords, AddsDetails, AddsLines};
-ghost use Rattle.norprog_cli.specs.Answers.{EndsCommand, EndsGathered, one_more};
-ghost use Rattle.norprog_cli.specs.Reads.{MayReadAsked, MayReadDetails, MayReadLine, MayReadWords};
+ghost use Rattle.norprog_cli.specs.Answers.{EndsCommand, EndsGathered, EndsGiven, EndsProgram};
+ghost use Rattle.norprog_cli.specs.Answers.{IsWordless, one_more, texts_in};
+ghost use Rattle.norprog_cli.specs.Reads.{MayAskDetails, MayAskLine, MayReadAsked, MayReadWords};
 
-use nor_base::{ByteOut, Failed, IntoWrite, Nowhere};
+mod gathered;
+
+use crate::gathered::Gathered;
+use nor_base::{ByteIn, ByteOut, Failed, FromRead, IntoWrite, Nowhere};
 use norprog_build::build;
 use norprog_check::check;
 use norprog_common::{FileStore, Refusal, SystemFiles, Unrecorded, refuse};
@@ -43,41 +46,76 @@ use norprog_script::script;
 use norprog_sfdp::sfdp;
 use std::alloc::Global;
 use std::env::{self, Args};
-use std::io::{BufWriter, ErrorKind, IsTerminal, Write};
+use std::fs::{self, File};
+use std::io::{ErrorKind, IsTerminal};
 use std::process::ExitCode;
 
-/// Bytes of standard output that are gathered before they are written.
-const BUFFER: usize = 65536;
-
 fn main(rt: HostRuntime) -> ExitCode {
+    // the next files opened get the numbers of standard streams that were closed: a folder, which
+    // can't be written to, takes these, so that no device or output does
+    let _kept = [fs::open(&rt, "/"), fs::open(&rt, "/"), fs::open(&rt, "/")];
     let mut err = Heard::new(IntoWrite::new(rt.stderr()));
     ExitCode::from(main_status(&rt, &mut err))
 }
 
 /// Does what the program's words say, and returns the status. Where standard error is a terminal
-/// the progress of a play goes there too.
+/// the progress of a play goes there too. Of the system's files and streams nothing is known.
 fn main_status<E: ByteOut + Drop>(rt: &HostRuntime, err: &mut Heard<E>) -> u8
     requires { E.count err.old.out < 2 ^ 64 - 1 }
+    ensures { EndsProgram ⟦<Heard<E> as ByteOut>⟧.count ⟦<Heard<E> as ByteOut>⟧.held
+        (HasFailed ⟦<FromRead<File> as ByteIn>⟧.ahead ⟦<FromRead<File> as ByteIn>⟧.count)
+        err.old err.new result }
 {
-    let words = match words_of(rt) {
-        Ok(words) => words,
-        Err(refusal) => return refuse(&refusal, err),
-    };
     let alloc = rt.alloc();
+    let words = words_of(rt);
     let files = SystemFiles::new(rt);
     let mut journal = Unrecorded;
-    let out = rt.stdout();
+    let out = IntoWrite::new(rt.stdout());
     if rt.stderr().is_terminal() {
         let mut progress = IntoWrite::new(rt.stderr());
-        command_gathered(alloc, &files, &mut journal, words, out, err, &mut progress).0
+        run_words(alloc, &files, &mut journal, words, out, err, &mut progress).0
     } else {
-        command_gathered(alloc, &files, &mut journal, words, out, err, &mut Nowhere).0
+        run_words(alloc, &files, &mut journal, words, out, err, &mut Nowhere).0
     }
 }
 
-/// Runs a command as [`command_flushed`] does, with what it prints gathered. Returns its status and
-/// what was printed to; 1 and nothing where memory to gather in is refused, which is reported.
-fn command_gathered<S: FileStore, W: Write + Drop, E: ByteOut + Drop, P: ByteOut>(
+/// Runs a command as [`command_gathered`] does; where there are no words, reports why. Returns its
+/// status and what was printed to.
+fn run_words<S: FileStore, W: ByteOut + Drop, E: ByteOut + Drop, P: ByteOut>(
+    alloc: Global,
+    store: &S,
+    journal: &mut S::Journal,
+    words: Result<Vec<String>, Refusal>,
+    out: W,
+    err: &mut Heard<E>,
+    progress: &mut P,
+) -> (u8, W)
+    requires read { IfOk words
+        (λ words. MayReadWords (S.facts store.now) (map string_bytes words.items)) }
+    requires out { W.count out < 2 ^ 64 - 2 }
+    requires err { E.count err.old.out < 2 ^ 64 - 1 }
+    requires progress { P.count progress.old < 2 ^ 64 - 1 }
+    ensures { EndsGiven ⟦<Heard<E> as ByteOut>⟧.count ⟦<Heard<E> as ByteOut>⟧.held
+        (S.facts store.now) (HasFailed S.Input.ahead S.Input.count)
+        (Adds (S.Journal.changes journal.old) (S.Journal.changes journal.new))
+        (texts_in (λ words. map string_bytes words.items) words) (W.count out) (W.count result.1)
+        (W.held out) (W.held result.1) err.old err.new result.0 (
+          P.held progress.old,
+          P.held progress.new,
+          P.count progress.old,
+          P.count progress.new,
+        ) }
+{
+    match words {
+        Ok(words) => command_gathered(alloc, store, journal, words, out, err, progress),
+        Err(refusal) => (refuse(&refusal, err), out),
+    }
+}
+
+/// Runs a command as [`command_flushed`] does, with what it prints gathered. What `flash` prints
+/// isn't: its plan goes out before the first step is sent, or no step is. Returns its status and
+/// what was printed to.
+fn command_gathered<S: FileStore, W: ByteOut + Drop, E: ByteOut + Drop, P: ByteOut>(
     alloc: Global,
     store: &S,
     journal: &mut S::Journal,
@@ -85,60 +123,59 @@ fn command_gathered<S: FileStore, W: Write + Drop, E: ByteOut + Drop, P: ByteOut
     out: W,
     err: &mut Heard<E>,
     progress: &mut P,
-) -> (u8, Option<W>)
+) -> (u8, W)
     requires read { MayReadWords (S.facts store.now) (map string_bytes words.items) }
+    requires out { W.count out < 2 ^ 64 - 2 }
     requires err { E.count err.old.out < 2 ^ 64 - 1 }
     requires progress { P.count progress.old < 2 ^ 64 - 1 }
     ensures { EndsGathered ⟦<Heard<E> as ByteOut>⟧.count ⟦<Heard<E> as ByteOut>⟧.held
         (S.facts store.now) (HasFailed S.Input.ahead S.Input.count)
         (Adds (S.Journal.changes journal.old) (S.Journal.changes journal.new))
-        (map string_bytes words.items) (W.contents out) (option_map W.contents result.1)
-        err.old err.new result.0 (
+        (map string_bytes words.items) (W.count out) (W.count result.1) (W.held out)
+        (W.held result.1) err.old err.new result.0 (
           P.held progress.old,
           P.held progress.new,
           P.count progress.old,
           P.count progress.new,
         ) }
 {
-    match BufWriter::with_capacity(alloc, BUFFER, out) {
-        Ok(gathered) => {
-            let mut out = IntoWrite::new(gathered);
-            let status = command_flushed(alloc, store, journal, words, &mut out, err, progress);
-            let (out, _left) = out.into_inner().into_parts();
-            (status, Some(out))
-        }
-        Err(_) => (refuse(&Refusal::MEMORY, err), None),
+    if words.iter().any(|word| word.as_str() == "flash") {
+        let mut out = out;
+        let status = command(alloc, store, journal, words, &mut out, err, progress);
+        return (status, out);
     }
+    let mut gathered = Gathered::new(out);
+    let status = command_flushed(alloc, store, journal, words, &mut gathered, err, progress);
+    (status, gathered.into_inner())
 }
 
 /// Runs a command as [`command`] does, and then has all go out that it wrote to `out`. Returns its
 /// status; 1 where it was done and that failed, which is reported.
-fn command_flushed<S: FileStore, W: Write + Drop, E: ByteOut + Drop, P: ByteOut>(
+fn command_flushed<S: FileStore, W: ByteOut + Drop, E: ByteOut + Drop, P: ByteOut>(
     alloc: Global,
     store: &S,
     journal: &mut S::Journal,
     words: Vec<String>,
-    out: &mut IntoWrite<BufWriter<W>>,
+    out: &mut Gathered<W>,
     err: &mut Heard<E>,
     progress: &mut P,
 ) -> u8
     requires read { MayReadWords (S.facts store.now) (map string_bytes words.items) }
-    requires out { out.old.failed < 2 ^ 64 - 2 }
+    requires out { W.count out.old.out < 2 ^ 64 - 2 }
     requires err { E.count err.old.out < 2 ^ 64 - 1 }
     requires progress { P.count progress.old < 2 ^ 64 - 1 }
     ensures ends { EndsCommand ⟦<Heard<E> as ByteOut>⟧.count ⟦<Heard<E> as ByteOut>⟧.held
         (S.facts store.now) (HasFailed S.Input.ahead S.Input.count)
         (Adds (S.Journal.changes journal.old) (S.Journal.changes journal.new))
-        (map string_bytes words.items) out.old.failed out.new.failed
-        (writer_buffer out.new.inner)
-        (writer_contents W.contents out.old.inner) (writer_contents W.contents out.new.inner)
-        err.old err.new result (
+        (map string_bytes words.items) (W.count out.old.out) (W.count out.new.out)
+        out.new.left.items (append_known (W.held out.old.out) out.old.left.items)
+        (append_known (W.held out.new.out) out.new.left.items) err.old err.new result (
           P.held progress.old,
           P.held progress.new,
           P.count progress.old,
           P.count progress.new,
         ) }
-    ensures out { result ≡ 0 → writer_buffer out.new.inner ≡ [] }
+    ensures out { result ≡ 0 → out.new.left.items ≡ [] }
 {
     let status = command(alloc, store, journal, words, out, err, progress);
     match flush_out(out) {
@@ -147,26 +184,26 @@ fn command_flushed<S: FileStore, W: Write + Drop, E: ByteOut + Drop, P: ByteOut>
     }
 }
 
-/// Has all go out that was gathered. `Failed`, which is counted, where some of it may not have gone
-/// out.
-fn flush_out<W: Write + Drop>(out: &mut IntoWrite<BufWriter<W>>) -> Result<(), Failed>
-    ensures kept { Keeps (writer_contents W.contents out.old.inner)
-        (writer_contents W.contents out.new.inner) }
-    ensures whole { IfOk result (λ _. (writer_buffer out.new.inner ≡ [])
-        × (out.new.failed ≡ out.old.failed)) }
-    ensures failed { IfErr result (λ _. out.new.failed ≡ one_more out.old.failed) }
+/// Has all go out that was gathered. `Failed` where the device fails, or failed before as often as
+/// can be counted: some of it may not have gone out.
+fn flush_out<W: ByteOut + Drop>(out: &mut Gathered<W>) -> Result<(), Failed>
+    ensures kept { Keeps (append_known (W.held out.old.out) out.old.left.items)
+        (append_known (W.held out.new.out) out.new.left.items) }
+    ensures whole { IfOk result (λ _. (out.new.left.items ≡ [])
+        × (W.count out.new.out ≡ W.count out.old.out)) }
+    ensures failed { IfErr result
+        (λ _. W.count out.new.out ≡ one_more (W.count out.old.out)) }
 {
-    match out.inner.flush() {
-        Ok(()) => Ok(()),
-        Err(_) => {
-            out.failed = out.failed.saturating_add(1);
-            Err(Failed)
-        }
+    if out.failures() == u64::MAX {
+        return Err(Failed);
     }
+    out.send()
 }
 
 /// The words after the program's name.
-fn words_of(rt: &HostRuntime) -> Result<Vec<String>, Refusal> {
+fn words_of(rt: &HostRuntime) -> Result<Vec<String>, Refusal>
+    ensures { IfErr result IsWordless }
+{
     match env::args(rt) {
         Ok(words) => words_after_name(rt.alloc(), words),
         Err(error) if error.kind() == ErrorKind::OutOfMemory => Err(Refusal::MEMORY),
@@ -234,7 +271,7 @@ fn add_details<S: FileStore, E: ByteOut + Drop>(
     status: u8,
     err: &mut Heard<E>,
 )
-    requires { MayReadDetails (S.facts store.now) details }
+    requires { MayAskDetails (S.facts store.now) details }
     ensures { AddsDetails ⟦<Heard<E> as ByteOut>⟧.count ⟦<Heard<E> as ByteOut>⟧.held
         (S.facts store.now) details.entry status err.old err.new }
 {
@@ -253,7 +290,7 @@ fn add_lines<S: FileStore, E: ByteOut + Drop>(
     typed: TypedLine<'_>,
     err: &mut Heard<E>,
 )
-    requires { MayReadLine (S.facts store.now) typed }
+    requires { MayAskLine (S.facts store.now) typed }
     ensures { AddsLines ⟦<Heard<E> as ByteOut>⟧.count ⟦<Heard<E> as ByteOut>⟧.held
         (S.facts store.now) typed.entry err.old err.new }
 {

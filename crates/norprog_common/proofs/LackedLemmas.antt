@@ -1,5 +1,5 @@
 -- Which file couldn't be used, by the option that names it.
-use Rattle.std.proofs.Common.{◌≡◌, ◌∙◌, ℕ, inl, inr, List, Option, Some, None, option_map, refl, sym, ap, subst}
+use Rattle.std.proofs.Common.{◌≡◌, ◌∙◌, ◌⊎◌, ℕ, inl, inr, List, Option, Some, None, option_map, refl, sym, ap, subst}
 use Rattle.nor_job.specs.declared.fault.BuildFault.TheVariants as fault
 use Rattle.norprog_common.specs.declared.faults.FileName.{FileName}
 use Rattle.norprog_common.specs.declared.faults.FileName.TheVariants as name
@@ -9,7 +9,7 @@ use Rattle.norprog_common.specs.declared.given.Given.{Given}
 use Rattle.norprog_common.specs.declared.request.Request.{Request}
 use Rattle.norprog_common.specs.Chip.{Origin, Uniform, origin_of, chosen_origin}
 use Rattle.norprog_common.specs.Files.{RefusesFile, TellsFile}
-use Rattle.norprog_common.specs.FileStore.{FileFacts, Lacks, LacksEarly, LacksNamed, MayRead, MayReadNamed, tables_name}
+use Rattle.norprog_common.specs.FileStore.{FileFacts, Lacks, LacksEarly, LacksNamed, LeavesOutput, MayRead, MayReadNamed, Named, tables_name}
 use Rattle.norprog_common.specs.Request.{AsksFor}
 use Rattle.norprog_common.specs.Served.{job_paths, paths_of, paths_asked, no_path}
 use Rattle.norprog_common.specs.Values.{decimal_of}
@@ -84,15 +84,22 @@ pub lacks_early : (files : FileFacts) (paths : FileName → Option (List ℕ)) (
 lacks_early files paths out Nothing why none =
     files_wider (Lacks files paths) (LacksEarly files paths out Nothing) (λ told lacks. (lacks, inr none)) why
 
--- an output that couldn't be made is told by its own name
-pub lacks_output : (files : FileFacts) (paths : FileName → Option (List ℕ)) (out : FileName) (Nothing : Type 0) (why : Refusal) → RefusesFile out why
+-- an output that couldn't be made is told by its own name, and took nothing
+untaken : (files : FileFacts) (named : Option (List ℕ)) (out told : FileName) (path : List ℕ) (Nothing : Type 0) → named ≡ Some path → told ≡ out
+    → Nothing ⊎ files.emptied path → LeavesOutput files named out Nothing told
+untaken files named out told path Nothing at is (inl none) = inr none
+untaken files named out told path Nothing at is (inr emptied) = inl (is, subst (λ (name : Option (List ℕ)). Named files.emptied name) (sym at) emptied)
+
+pub lacks_output : (files : FileFacts) (paths : FileName → Option (List ℕ)) (out : FileName) (Nothing : Type 0) (path : List ℕ) (why : Refusal)
+    → paths out ≡ Some path → Nothing ⊎ files.emptied path → RefusesFile out why
     → TellsFile (Lacks files paths) why → TellsFile (LacksEarly files paths out Nothing) why
-lacks_output files paths out Nothing why =
-    files_both (λ told. told ≡ out) (Lacks files paths) (LacksEarly files paths out Nothing) (λ told is lacks. (lacks, inl is)) why
+lacks_output files paths out Nothing path why at taken =
+    files_both (λ told. told ≡ out) (Lacks files paths) (LacksEarly files paths out Nothing)
+    (λ told is lacks. (lacks, untaken files (paths out) out told path Nothing at is taken)) why
 
 pub early_same : (files : FileFacts) (paths others : FileName → Option (List ℕ)) (out : FileName) (Nothing : Type 0) → Path (FileName → Option (List ℕ)) paths others
     → (told : FileName) → LacksEarly files paths out Nothing told → LacksEarly files others out Nothing told
-early_same files paths others out Nothing same told lacks = (lacks_same files paths others same told lacks.0, lacks.1)
+early_same files paths others out Nothing same told lacks = subst (λ (ps : FileName → Option (List ℕ)). LacksEarly files ps out Nothing told) same lacks
 
 -- a command with more files than those of its job
 pub lacks_own : (files : FileFacts) (hex layout tables content : Option (List ℕ)) (own : FileName → Option (List ℕ)) (told : FileName)

@@ -9,17 +9,21 @@ use Rattle.norprog_common.specs.declared.files.FileId.{FileId}
 use Rattle.norprog_common.specs.declared.files.ScriptFile.{ScriptFile}
 use Rattle.norprog_common.specs.declared.files.ScriptFile.TheVariants.{Twice, Held}
 
--- what is known of files, each by its name. `may`: a file of this name may be opened to be read. `gave`: the file gave these bytes, read whole. `opened`: it was opened, this is ahead
+-- what is known of files, each by its name. `may`: a file of this name may be opened to be read. `may_ask`: the system may be asked about it
+-- once more, which may open a regular file. `said`: that it doesn't open the file of this name was said in these words. `gave`: the file gave these bytes, read whole. `opened`: it was opened, this is ahead
 -- of its reader, and this is its length in bytes. `stood`: it was opened, and stood at this place. `made`: it was made, or emptied,
 -- at none of these places, and held this then. `fresh`: no file of this name was there, and the one that was made held this.
 -- `emptied`: an output of this name was to be made and can't be used; it may be there, or may have been emptied, and took nothing.
 -- `flushed`: some file that was made had taken this, all of it has gone out, and the file took nothing after it. `closed`: some file
 -- that was made had taken this as it was closed, though it may not have gone out, and took nothing after it. `lacked`: the file
 -- of this name, which is told so, couldn't be used. `device`: the device of this name was opened to be read and written; it had this
--- yet to give, and had taken this, where that is known. `left`: a device that was opened took nothing after this. `broke`: an output
--- that was made failed, or some of what it had taken may not have gone out
+-- ahead, and had taken this, where that is known. `left`: a device that was opened took nothing after this. `unread`, `unsent`: a device
+-- that was opened failed as it was read, as it was written to. `broke`: an output that was made failed, or some of what it had taken may
+-- not have gone out
 pub record FileFacts : Type 1 where
   pub may : List ℕ → Type 0
+  pub may_ask : List ℕ → Type 0
+  pub said : List ℕ → List ℕ → Type 0
   pub gave : List ℕ → List ℕ → Type 0
   pub opened : List ℕ → Ahead → ℕ → Type 0
   pub stood : List ℕ → FileId → Type 0
@@ -29,14 +33,18 @@ pub record FileFacts : Type 1 where
   pub flushed : Option (List ℕ) → Type 0
   pub closed : Option (List ℕ) → Type 0
   pub lacked : List ℕ → FileName → Type 0
-  pub device : List ℕ → Option (List ℕ) → Option (List ℕ) → Type 0
+  pub device : List ℕ → Ahead → Option (List ℕ) → Type 0
   pub left : Option (List ℕ) → Type 0
+  pub unread : Type 0
+  pub unsent : Type 0
   pub broke : Type 0
 
 -- of the system's files nothing is known
 abbrev pub nothing_known : FileFacts
 nothing_known = record {
   may = λ name. ⊤;
+  may_ask = λ name. ⊤;
+  said = λ name words. ⊤;
   gave = λ name bytes. ⊤;
   opened = λ name ahead len. ⊤;
   stood = λ name place. ⊤;
@@ -46,8 +54,10 @@ nothing_known = record {
   flushed = λ held. ⊤;
   closed = λ held. ⊤;
   lacked = λ name told. ⊤;
-  device = λ name remaining contents. ⊤;
-  left = λ contents. ⊤;
+  device = λ name ahead held. ⊤;
+  left = λ held. ⊤;
+  unread = ⊤;
+  unsent = ⊤;
   broke = ⊤;
 }
 
@@ -150,13 +160,13 @@ LacksNamed files named told = Named (λ name. files.lacked name told) named
 abbrev pub Lacks : FileFacts → (FileName → Option (List ℕ)) → FileName → Type 0
 Lacks files paths told = LacksNamed files (paths told) told
 
--- each other file is opened before the output is made, which is reported as `out`: `Nothing` says that nothing was made
-abbrev pub LeavesOutput : FileName → Type 0 → FileName → Type 0
-LeavesOutput out Nothing told = (told ≡ out) ⊎ Nothing
+-- an output that can't be made, reported as `out`, took nothing; each other file is opened before it is made: `Nothing` says that nothing was
+abbrev pub LeavesOutput : FileFacts → Option (List ℕ) → FileName → Type 0 → FileName → Type 0
+LeavesOutput files named out Nothing told = ((told ≡ out) × Named files.emptied named) ⊎ Nothing
 
--- a file couldn't be used, and where it isn't the output, that wasn't touched
+-- a file couldn't be used, and the output took nothing; where that is another file nothing was made
 abbrev pub LacksEarly : FileFacts → (FileName → Option (List ℕ)) → FileName → Type 0 → FileName → Type 0
-LacksEarly files paths out Nothing told = Lacks files paths told × LeavesOutput out Nothing told
+LacksEarly files paths out Nothing told = Lacks files paths told × LeavesOutput files (paths out) out Nothing told
 
 -- what an output had taken then has gone out, or may not have, and it took nothing after that
 abbrev pub HasGone : FileFacts → Option (List ℕ) → Type 0

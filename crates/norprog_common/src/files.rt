@@ -204,12 +204,11 @@ pub(crate) fn create_fresh<R: Files>(rt: &R, path: &str, name: FileName) -> Resu
     }
 }
 
-/// Opens a character device twice, to read from it and to write to it. Nothing else is opened to
-/// write, nor changed.
+/// Opens a character device to read from it.
 ///
 /// Where it isn't one, can't be opened or asked, `File` of `Device`; `Memory` where the system says
 /// that it lacks that.
-pub(crate) fn open_device<R: Files>(rt: &R, path: &str) -> Result<(R::File, R::File), Refusal>
+pub(crate) fn open_device_reader<R: Files>(rt: &R, path: &str) -> Result<R::File, Refusal>
     ensures refused { IfErr result (RefusesFile Device) }
     ensures files { IfErr result IsOfFiles }
 {
@@ -218,14 +217,26 @@ pub(crate) fn open_device<R: Files>(rt: &R, path: &str) -> Result<(R::File, R::F
         Ok(file) => file,
         Err(error) => return Err(refusal_of(&error, FileName::Device)),
     };
+    // the name may have come to mean another file since it was asked about
+    only_device(from.metadata())?;
+    Ok(from)
+}
+
+/// Opens a character device to write to it. Nothing else is opened to write, nor changed.
+///
+/// Where it isn't one, can't be opened or asked, `File` of `Device`; `Memory` where the system says
+/// that it lacks that.
+pub(crate) fn open_device_writer<R: Files>(rt: &R, path: &str) -> Result<R::File, Refusal>
+    ensures refused { IfErr result (RefusesFile Device) }
+    ensures files { IfErr result IsOfFiles }
+{
+    only_device(fs::metadata(rt, path))?;
     let to = match OpenOptions::new().write(true).open(rt, path) {
         Ok(file) => file,
         Err(error) => return Err(refusal_of(&error, FileName::Device)),
     };
-    // the name may have come to mean another file since it was asked about
-    only_device(from.metadata())?;
     only_device(to.metadata())?;
-    Ok((from, to))
+    Ok(to)
 }
 
 /// Whether a regular file of this name is there. None is opened.

@@ -1,7 +1,8 @@
 //! Files by name.
 
-ghost use Rattle.std.specs.Prelude.{◌≡◌, ◌≤◌, ◌^◌, [], ◌∷◌, length, IfOk, IfErr, MatchResult};
-ghost use Rattle.std.specs.Prelude.{List, Option, Some};
+ghost use Rattle.std.specs.Prelude.{◌≡◌, ◌<◌, ◌≤◌, ◌^◌, [], ◌∷◌, length, IfOk, IfErr};
+ghost use Rattle.std.specs.Prelude.{IfSome, List, MatchResult, Option, Some, string_bytes};
+ghost use Rattle.std.specs.Bool.{OnTrue};
 ghost use Rattle.norprog_common.specs.Chip.{origin_of};
 ghost use Rattle.norprog_common.specs.declared.faults.FileName.TheVariants.{Device, Script, Sfdp};
 ghost use Rattle.norprog_common.specs.Files.{RefusesFile, TellsFile};
@@ -16,7 +17,6 @@ use crate::faults::{FileName, Refusal};
 use crate::files::{FileId, ScriptFile};
 use nor_base::{ByteIn, ByteOut, Failed};
 use std::alloc::Global;
-use std::io::{Read, Write};
 
 /// What was made, emptied or opened to be written to, in order. No call of a store makes one: who
 /// is handed one can't hide a change.
@@ -35,10 +35,10 @@ pub trait FileStore {
     type Output: ByteOut + Drop;
 
     /// What a character device is read by.
-    type FromDevice: Read + Drop;
+    type FromDevice: ByteIn + Drop;
 
     /// What a character device is written by.
-    type ToDevice: Write + Drop;
+    type ToDevice: ByteOut + Drop;
 
     /// Which files and devices were changed.
     type Journal: Journal;
@@ -145,16 +145,19 @@ pub trait FileStore {
     /// Opens a character device twice, to read from it and to write to it. Nothing else is opened
     /// to write, nor changed.
     ///
-    /// Where it isn't one, can't be opened or asked, `File` of `Device`; `Memory` where the system
-    /// says that it lacks that.
+    /// Where it isn't one, can't be opened or asked, `File` of `Device`; `Memory` where a growth is
+    /// refused, before it is opened to be written to.
     fn open_device(
         &self,
         journal: &mut Self::Journal,
+        alloc: Global,
         path: &str,
     ) -> Result<(Self::FromDevice, Self::ToDevice), Refusal>
         ensures opened { IfOk result (λ device.
-            (facts self.now).device path.now (Self.FromDevice.remaining device.0)
-            (Self.ToDevice.contents device.1)) }
+            (facts self.now).device path.now (Self.FromDevice.ahead device.0)
+            (Self.ToDevice.held device.1)) }
+        ensures count { IfOk result (λ device.
+            (Self.FromDevice.count device.0 ≡ 0) × (Self.ToDevice.count device.1 ≡ 0)) }
         ensures journal { MatchResult result
             (λ _. Adds (Self.Journal.changes journal.old) (Self.Journal.changes journal.new)
             (Opened path.now ∷ []))
@@ -162,21 +165,27 @@ pub trait FileStore {
         ensures refused { IfErr result (RefusesFile Device) }
         ensures lacked { IfErr result (TellsFile ((facts self.now).lacked path.now)) };
 
-    /// Closes what a device was written by, so that nothing more goes to it.
-    fn close_device(&self, to: Self::ToDevice)
-        ensures { (facts self.now).left (Self.ToDevice.contents to) };
+    /// Closes a device, so that nothing more goes to it.
+    fn close_device(&self, from: Self::FromDevice, to: Self::ToDevice)
+        ensures left { (facts self.now).left (Self.ToDevice.held to) }
+        ensures unread { 0 < Self.FromDevice.count from → (facts self.now).unread }
+        ensures unsent { 0 < Self.ToDevice.count to → (facts self.now).unsent };
 
     /// Whether a regular file of this name is there, which is read again without a wait. None is
     /// opened.
-    fn is_regular(&self, path: &str) -> bool {
+    fn is_regular(&self, path: &str) -> bool
+        requires { (facts self.now).may_ask path.now }
+        ensures { OnTrue result ((facts self.now).may path.now) }
+    {
         let _ = path;
-        true
+        false
     }
 
     /// Why the system doesn't open a file to be read, in its words. Nothing but a regular file is
     /// opened for that, and none is changed. None where it opens it or memory runs out.
     fn trouble(&self, alloc: Global, path: &str) -> Option<String>
-        requires { (facts self.now).may path.now }
+        requires { (facts self.now).may_ask path.now }
+        ensures { IfSome result (λ words. (facts self.now).said path.now (string_bytes words)) }
     {
         let _ = alloc;
         let _ = path;

@@ -5,14 +5,14 @@ ghost use Rattle.norprog_common.specs.FileStore.{DoNotFail};
 
 use crate::faults::{FileName, Refusal};
 use crate::files::{
-    FileId, ScriptFile, create_fresh, create_output, is_regular_file, open_device, open_error,
-    open_input, open_script, read_whole,
+    FileId, ScriptFile, create_fresh, create_output, is_regular_file, open_device_reader,
+    open_device_writer, open_error, open_input, open_script, read_whole,
 };
 use crate::store::{FileStore, Journal};
 use nor_base::{Failed, FromRead, IntoWrite};
 use std::alloc::Global;
 use std::fs::Files;
-use std::io::{self, BufWriter, Read, Write};
+use std::io::{self, BufReader, BufWriter, Read, Write};
 
 /// Bytes that are gathered before they are written to a file.
 const BUFFER: usize = 65536;
@@ -47,9 +47,9 @@ impl<'a, R: Files> FileStore for SystemFiles<'a, R> {
 
     type Output = IntoWrite<BufWriter<R::File>>;
 
-    type FromDevice = R::File;
+    type FromDevice = FromRead<BufReader<R::File>>;
 
-    type ToDevice = R::File;
+    type ToDevice = IntoWrite<R::File>;
 
     type Journal = Unrecorded;
 
@@ -119,12 +119,18 @@ impl<'a, R: Files> FileStore for SystemFiles<'a, R> {
     fn open_device(
         &self,
         _journal: &mut Unrecorded,
+        alloc: Global,
         path: &str,
-    ) -> Result<(R::File, R::File), Refusal> {
-        open_device(self.files, path)
+    ) -> Result<(FromRead<BufReader<R::File>>, IntoWrite<R::File>), Refusal> {
+        let file = open_device_reader(self.files, path)?;
+        let Ok(from) = BufReader::new(alloc, file) else {
+            return Err(Refusal::MEMORY);
+        };
+        let to = open_device_writer(self.files, path)?;
+        Ok((FromRead::new(from), IntoWrite::new(to)))
     }
 
-    fn close_device(&self, _to: R::File) {}
+    fn close_device(&self, _from: FromRead<BufReader<R::File>>, _to: IntoWrite<R::File>) {}
 
     fn is_regular(&self, path: &str) -> bool {
         is_regular_file(self.files, path)

@@ -1,11 +1,11 @@
--- The option that a refusal is about is one of those that were typed; so its file may be read.
-use Rattle.std.proofs.Common.{◌≡◌, ℕ, suc, Bool, true, false, List, [], ◌∷◌, Option, None, Some, option_map, refl, sym, subst, arith}
+-- The option that a refusal is about is one of those that were typed; so the system may be asked about its file.
+use Rattle.std.proofs.Common.{◌≡◌, ℕ, suc, Bool, true, false, List, [], ◌∷◌, Option, None, Some, option_map, refl, subst, arith}
 use Rattle.std.specs.Prelude.{cond}
 use Rattle.std.specs.List.{find, Contains}
 use Rattle.norprog_common.specs.FileStore.{FileFacts}
 use Rattle.norprog_details.specs.declared.typed.CommandLine.{CommandLine}
 use Rattle.norprog_details.specs.declared.typed.Typed.{Typed}
-use Rattle.norprog_details.specs.Details.{MayReadOption, MayReadTyped}
+use Rattle.norprog_details.specs.Details.{MayAskAbout, MayAskOption, MayAskTyped}
 use Rattle.norprog_details.specs.Subject.{is_about, option_of}
 
 first_or_later : (first : Bool) (y x : Typed) (ys : List Typed) (found : Option Typed) → cond first (Some y) found ≡ Some x
@@ -20,18 +20,18 @@ found_in : (p : Typed → Bool) (xs : List Typed) (x : Typed) → find p xs ≡ 
 found_in p [] x is = let none : Path (Option Typed) None (Some x) = is in absurd cc
 found_in p (y ∷ ys) x is = first_or_later (p y) y x ys (find p ys) is (found_in p ys x)
 
-may_found : (files : FileFacts) (line : CommandLine) (pair : List ℕ × List ℕ) (found : Option Typed)
-    → ((option : Typed) → found ≡ Some option → Contains line.typed.now option) → Some pair ≡ option_map (λ o. (o.name.now, o.value.now)) found
-    → MayReadTyped files line → MayReadOption files pair
-may_found files line pair None listed is may = let none : Path (Option (List ℕ × List ℕ)) (Some pair) None = is in absurd cc
-may_found files line pair (Some option) listed is may =
-    let some : Path (Option (List ℕ × List ℕ)) (Some pair) (Some (option.name.now, option.value.now)) = is in
-    let same : pair ≡ (option.name.now, option.value.now) = cc in
-    subst (λ (p : List ℕ × List ℕ). MayReadOption files p) (sym same) (may option (listed option refl))
+ask_found : (files : FileFacts) (line : CommandLine) (pair : List ℕ × List ℕ) (found : Option Typed)
+    → ((option : Typed) → found ≡ Some option → Contains line.typed.now option) → option_map (λ o. (o.name.now, o.value.now)) found ≡ Some pair
+    → MayAskTyped files line → MayAskOption files pair
+ask_found files line pair None listed is may = let none : Path (Option (List ℕ × List ℕ)) None (Some pair) = is in absurd cc
+ask_found files line pair (Some option) listed is may =
+    let some : Path (Option (List ℕ × List ℕ)) (Some (option.name.now, option.value.now)) (Some pair) = is in
+    let same : (option.name.now, option.value.now) ≡ pair = cc in
+    subst (λ (p : List ℕ × List ℕ). MayAskOption files p) same (may option (listed option refl))
 
--- by its name and value
-pub may_about : (files : FileFacts) (line : CommandLine) (refusal : List ℕ) (pair : List ℕ × List ℕ) → Some pair ≡ option_of line.typed.now refusal
-    → MayReadTyped files line → MayReadOption files pair
-may_about files line refusal pair is may =
+-- the system may be asked about each option that was typed, so about that one
+pub ask_about : (files : FileFacts) (line : CommandLine) (refusal : List ℕ) → MayAskTyped files line
+    → MayAskAbout files (option_of line.typed.now refusal)
+ask_about files line refusal may pair is =
     let about : Typed → Bool = λ o. is_about refusal o.name.now in
-    may_found files line pair (find about line.typed.now) (found_in about line.typed.now) is may
+    ask_found files line pair (find about line.typed.now) (found_in about line.typed.now) is may

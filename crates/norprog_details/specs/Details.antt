@@ -1,5 +1,5 @@
 -- What is written after the line of a refusal (this project's; docs/FORMATS.md, section 9).
-use Rattle.std.specs.Prelude.{◌≡◌, ◌⊎◌, ℕ, Bool, true, false, nat_eq, if◌then◌else◌, List, [], ◌∷◌, ◌++◌, length, drop, map, codes, Option, Some, None, Result}
+use Rattle.std.specs.Prelude.{◌≡◌, ◌⊎◌, ℕ, Bool, true, false, nat_eq, if◌then◌else◌, List, [], ◌∷◌, ◌++◌, length, drop, map, codes, Option, Some, None, Result, IfSome}
 use Rattle.std.specs.Io.KnownBytes.{Appends}
 use Rattle.std.specs.List.{starts_with, Contains}
 use Rattle.std.specs.Str.{bytes_eq}
@@ -46,28 +46,44 @@ text_lines option refusal text = passage_lines (passage_of refusal text) ++ advi
 abbrev pub about_lines : List ℕ × List ℕ → Option (List ℕ) → List ℕ → List (List ℕ) → List ℕ → List ℕ
 about_lines option trouble text names refusal = option_line option trouble ++ (region_line names refusal ++ text_lines option refusal text)
 
--- the options whose value is a file that may be opened again: `device` too, since a regular file can have its name
+-- the options whose value is a file that the system may be asked about again: `device` too, since a regular file can have its name
 abbrev pub read_options : List (List ℕ)
 read_options =
     codes "hex" ∷ codes "layout" ∷ codes "sfdp" ∷ codes "content" ∷ codes "script" ∷ codes "log" ∷ codes "bin" ∷ codes "resume" ∷ codes "device" ∷ []
 
--- the value of an option, by its name and value, may be opened to be read, if the option is one of these
-abbrev pub MayReadOption : FileFacts → List ℕ × List ℕ → Type 0
-MayReadOption files option = is_one_of read_options option.0 ≡ true → files.may option.1
+-- those whose file is a text, of which a line may be shown
+abbrev pub text_options : List (List ℕ)
+text_options = codes "hex" ∷ codes "layout" ∷ codes "script" ∷ codes "log" ∷ []
 
--- so may that of each option that was typed
-abbrev pub MayReadTyped : FileFacts → CommandLine → Type 0
-MayReadTyped files line = (option : Typed) → Contains line.typed.now option → MayReadOption files (option.name.now, option.value.now)
+-- the system may be asked about the file of an option, by its name and value, if the option is one of those
+abbrev pub MayAskOption : FileFacts → List ℕ × List ℕ → Type 0
+MayAskOption files option = is_one_of read_options option.0 ≡ true → files.may_ask option.1
 
--- the file of that name gave this; or it isn't read, and this is nothing
-abbrev pub IsHeld : FileFacts → List ℕ → List ℕ → Type 0
-IsHeld files name text = (text ≡ []) ⊎ files.gave name text
+-- so it may about the option that a refusal is about, if there is one
+abbrev pub MayAskAbout : FileFacts → Option (List ℕ × List ℕ) → Type 0
+MayAskAbout files about = (option : List ℕ × List ℕ) → about ≡ Some option → MayAskOption files option
+
+-- so it may about each option that was typed
+abbrev pub MayAskTyped : FileFacts → CommandLine → Type 0
+MayAskTyped files line = (option : Typed) → Contains line.typed.now option → MayAskOption files (option.name.now, option.value.now)
+
+-- nothing; or these are the system's words on why it doesn't open the file of an option
+abbrev pub IsTroubleOf : FileFacts → List ℕ × List ℕ → Option (List ℕ) → Type 0
+IsTroubleOf files option trouble = IfSome trouble (λ words. (is_one_of read_options option.0 ≡ true) × files.said option.1 words)
+
+-- the file of a text gave this, or isn't read again, and this is nothing; so it is of an option that names no text
+abbrev pub IsHeldIf : Bool → FileFacts → List ℕ → List ℕ → Type 0
+IsHeldIf true files value text = (text ≡ []) ⊎ files.gave value text
+IsHeldIf false files value text = text ≡ []
+
+abbrev pub IsHeld : FileFacts → List ℕ × List ℕ → List ℕ → Type 0
+IsHeld files option text = IsHeldIf (is_one_of text_options option.0) files option.1 text
 
 -- what is said of the option that a refusal is about, by its name and value; without one, of a region that it counts
 abbrev pub IsSaidOf : FileFacts → CommandLine → List ℕ → Option (List ℕ × List ℕ) → List ℕ → Type 0
 IsSaidOf files line refusal None said = said ≡ region_line (map (λ name. name.now) line.regions.now) refusal
 IsSaidOf files line refusal (Some option) said =
-    (trouble : Option (List ℕ)) × (text : List ℕ) × IsHeld files option.1 text
+    (trouble : Option (List ℕ)) × (text : List ℕ) × IsTroubleOf files option trouble × IsHeld files option text
     × (said ≡ about_lines option trouble text (map (λ name. name.now) line.regions.now) refusal)
 
 -- after `usage` what isn't of its form, else what there is to say of the first option that the refusal is about
@@ -84,9 +100,9 @@ abbrev pub words_after : List ℕ → List ℕ
 words_after refusal =
     if starts_with nat_eq refusal (codes "norprog: ") then drop (length (codes "norprog: ")) refusal else refusal
 
--- the paragraph of `explain`; nothing where memory ran out
-abbrev pub IsParagraph : List ℕ → List ℕ → Type 0
-IsParagraph refusal text = (text ≡ []) ⊎ (text ≡ topic_text topics (words_after refusal ∷ []))
+-- the paragraph of `explain`, if there is one
+abbrev pub paragraph : List ℕ → List ℕ
+paragraph refusal = topic_text topics (words_after refusal)
 
 -- some such text was written, or a proper prefix of it where the writer failed
 abbrev pub WritesSome : (List ℕ → Type 0) → Option (List ℕ) → Option (List ℕ) → Result (Unit {0}) Failed → Type 0
@@ -95,5 +111,4 @@ WritesSome Is before after result = (text : List ℕ) × Is text × Writes befor
 -- both were written, if the writer works
 abbrev pub TellsDetails : FileFacts → CommandLine → List ℕ → Type 0 → Option (List ℕ) → Option (List ℕ) → Type 0
 TellsDetails files line refusal Works before after =
-    Works → (said paragraph : List ℕ) × AreFacts files line refusal said × IsParagraph refusal paragraph
-    × Appends before after (said ++ paragraph)
+    Works → (said : List ℕ) × AreFacts files line refusal said × Appends before after (said ++ paragraph refusal)

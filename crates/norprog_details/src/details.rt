@@ -1,30 +1,32 @@
 //! What is written after the line of a refusal.
 
 ghost use Rattle.std.specs.Prelude.{◌≡◌, ◌<◌, ◌-◌, ◌^◌, true, map, option_map, string_bytes};
-ghost use Rattle.std.specs.Prelude.{IfSome};
+ghost use Rattle.std.specs.Prelude.{is_some, IfSome};
 ghost use Rattle.nor_base.specs.Device.{Writes, Counts};
 ghost use Rattle.norprog_details.specs.Passage.{passage_of};
 ghost use Rattle.norprog_details.specs.Details.{about_lines, option_line, region_line};
-ghost use Rattle.norprog_details.specs.Details.{passage_lines, text_lines, words_after, IsHeld};
-ghost use Rattle.norprog_details.specs.Details.{IsParagraph, WritesSome, AreFacts, TellsDetails};
-ghost use Rattle.norprog_details.specs.Details.{read_options, MayReadOption, MayReadTyped};
+ghost use Rattle.norprog_details.specs.Details.{passage_lines, text_lines, words_after};
+ghost use Rattle.norprog_details.specs.Details.{paragraph, WritesSome, AreFacts, TellsDetails};
+ghost use Rattle.norprog_details.specs.Details.{read_options, text_options, IsHeld, IsTroubleOf};
+ghost use Rattle.norprog_details.specs.Details.{MayAskAbout, MayAskOption};
 ghost use Rattle.norprog_details.specs.Form.{is_one_of};
+ghost use Rattle.norprog_details.specs.Subject.{option_of};
 
 use crate::passage::{passage_of, write_passage};
 use crate::seems::write_advice;
 use crate::subject::{option_of, region_of};
 use crate::typed::{CommandLine, Typed};
 use crate::usage::write_usage;
-use nor_base::{ByteOut, Bytes, Failed, put_all, put_parts};
+use nor_base::{ByteOut, Failed, put_all, put_parts};
 use norprog_common::{FileName, FileStore};
 use norprog_explain::write_topic;
 use std::alloc::Global;
 
-/// Writes what more there is to say of the line of a refusal, without its LF, of a command line
-/// (docs/FORMATS.md, section 9). It opens only files that options of the command line name, and
-/// only to be read.
+/// Writes what more there is to say of a refusal's line, without its LF (docs/FORMATS.md, section
+/// 9). It asks the system only about the file of the option that the line is about, and reads only
+/// a regular one.
 ///
-/// Where `err` fails the rest is left out. So is the line of a file that can't be read again.
+/// Where `err` fails the rest is left out; so is the line of a file that can't be read again.
 pub fn write_details<S: FileStore, E: ByteOut>(
     alloc: Global,
     store: &S,
@@ -32,27 +34,24 @@ pub fn write_details<S: FileStore, E: ByteOut>(
     refusal: &[u8],
     err: &mut E,
 )
-    requires read { MayReadTyped (S.facts store.now) line }
+    requires ask { MayAskAbout (S.facts store.now) (option_of line.typed.now refusal.now) }
     requires count { E.count err.old < 2 ^ 64 - 1 }
     ensures told { TellsDetails (S.facts store.now) line.entry refusal.now
         (E.count err.new ≡ E.count err.old)
         (E.held err.old) (E.held err.new) }
 {
     if write_facts(alloc, store, line, refusal, err).is_ok() {
-        let _ = write_paragraph(alloc, refusal, err);
+        let _ = write_paragraph(refusal, err);
     }
 }
 
-/// Writes the paragraph of `explain`; nothing where memory runs out.
-fn write_paragraph<E: ByteOut>(alloc: Global, refusal: &[u8], err: &mut E) -> Result<(), Failed>
+/// Writes the paragraph of `explain`, if there is one.
+fn write_paragraph<E: ByteOut>(refusal: &[u8], err: &mut E) -> Result<(), Failed>
     requires { E.count err.old < 2 ^ 64 - 1 }
-    ensures bytes { WritesSome (IsParagraph refusal.now) (E.held err.old) (E.held err.new) result }
+    ensures bytes { Writes (E.held err.old) (E.held err.new) result (paragraph refusal.now) }
     ensures count { Counts (E.count err.old) (E.count err.new) result }
 {
-    match Vec::from_slice(alloc, words_after(refusal)) {
-        Ok(words) => write_topic(&[Bytes::new(words)], err),
-        Err(_) => put_all(err, b""),
-    }
+    write_topic(words_after(refusal), err)
 }
 
 /// The line of a refusal without the program's name.
@@ -73,7 +72,7 @@ fn write_facts<S: FileStore, E: ByteOut>(
     refusal: &[u8],
     err: &mut E,
 ) -> Result<(), Failed>
-    requires read { MayReadTyped (S.facts store.now) line }
+    requires ask { MayAskAbout (S.facts store.now) (option_of line.typed.now refusal.now) }
     requires count { E.count err.old < 2 ^ 64 - 1 }
     ensures bytes { WritesSome (AreFacts (S.facts store.now) line.entry refusal.now)
         (E.held err.old) (E.held err.new) result }
@@ -114,7 +113,9 @@ fn write_about<E: ByteOut>(
 
 /// What the system says of the file that an option names, where it doesn't open it.
 fn trouble_of<S: FileStore>(alloc: Global, store: &S, option: Typed<'_>) -> Option<String>
-    requires read { MayReadOption (S.facts store.now) (option.name.now, option.value.now) }
+    requires { MayAskOption (S.facts store.now) (option.name.now, option.value.now) }
+    ensures { IsTroubleOf (S.facts store.now) (option.entry.name.now, option.entry.value.now)
+        (option_map string_bytes result) }
 {
     if is_read(option.name) {
         store.trouble(alloc, option.value)
@@ -123,7 +124,7 @@ fn trouble_of<S: FileStore>(alloc: Global, store: &S, option: Typed<'_>) -> Opti
     }
 }
 
-/// Whether the value of an option of this name is a file that may be opened again.
+/// Whether the value of an option of this name is a file that the system may be asked about.
 fn is_read(name: &str) -> bool
     ensures { result ≡ is_one_of read_options name.now }
 {
@@ -138,8 +139,9 @@ fn is_read(name: &str) -> bool
 /// What the file of an option of a text gives; nothing where it can't be read, or would be waited
 /// for, as a pipe.
 fn held_by<S: FileStore>(alloc: Global, store: &S, option: Typed<'_>) -> Vec<u8>
-    requires read { MayReadOption (S.facts store.now) (option.name.now, option.value.now) }
-    ensures { IsHeld (S.facts store.now) option.entry.value.now result.items }
+    requires { MayAskOption (S.facts store.now) (option.name.now, option.value.now) }
+    ensures { IsHeld (S.facts store.now) (option.entry.name.now, option.entry.value.now)
+        result.items }
 {
     let Some(name) = text_of(option.name) else {
         return Vec::new(alloc);
@@ -155,7 +157,8 @@ fn held_by<S: FileStore>(alloc: Global, store: &S, option: Typed<'_>) -> Vec<u8>
 
 /// Which text the option of this name names, if it names one.
 fn text_of(name: &str) -> Option<FileName>
-    ensures { IfSome result (λ _. is_one_of read_options name.now ≡ true) }
+    ensures text { is_some result ≡ is_one_of text_options name.now }
+    ensures file { IfSome result (λ _. is_one_of read_options name.now ≡ true) }
 {
     match name {
         "hex" => Some(FileName::Hex),

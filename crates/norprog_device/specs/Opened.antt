@@ -1,17 +1,15 @@
 -- A device's handshake, the test of the line to it, and its pins (this project's; the exchanges are the Serial Flasher Protocol's).
-use Rattle.std.specs.Prelude.{◌≡◌, ◌⊎◌, ℕ, Bool, true, false, List, [], ◌∷◌, Option, Result, Ok, Err}
+use Rattle.std.specs.Prelude.{◌≡◌, ℕ, Bool, true, false, List, [], Option, Result, Ok, Err}
 use Rattle.nor_base.specs.Device.{Ahead}
 use Rattle.nor_serprog.specs.declared.fault.Fault.{Fault}
 use Rattle.nor_serprog.specs.declared.limits.Limits.{Limits}
 use Rattle.nor_serprog.specs.Exchange.{Answers, Asks}
 use Rattle.nor_serprog.specs.Greeting.{Greeted, release_bytes}
 use Rattle.nor_serprog.specs.Line.{TestsLine}
-use Rattle.nor_job.specs.declared.fault.BuildFault.TheVariants.{Memory}
 use Rattle.norprog_common.specs.declared.faults.FileName.TheVariants as file
 use Rattle.norprog_common.specs.declared.faults.Refusal.{Refusal}
-use Rattle.norprog_common.specs.declared.faults.Refusal.TheVariants.{Build}
 use Rattle.norprog_common.specs.Files.{RefusesFile, TellsFile}
-use Rattle.norprog_common.specs.FileStore.{FileFacts, Change, Opened as Opening}
+use Rattle.norprog_common.specs.FileStore.{FileFacts}
 use Rattle.norprog_device.specs.declared.fault.DeviceFault.{DeviceFault}
 use Rattle.norprog_device.specs.declared.fault.DeviceFault.TheVariants.{Greet, Line}
 
@@ -37,18 +35,6 @@ LetsGo held_before held_after ahead_before ahead_after true =
     (Answers ahead_before ahead_after result [])
 LetsGo held_before held_after ahead_before ahead_after false = (held_after ≡ held_before) × (ahead_after ≡ ahead_before)
 
--- the device of this name took nothing after it was opened
-pub record IsLeftAsOpened (files : FileFacts) (name : List ℕ) : Type 0 where
-  pub remaining : Option (List ℕ)
-  pub contents : Option (List ℕ)
-  pub opened : files.device name remaining contents
-  pub left : files.left contents
-
 -- the device of this name couldn't be used, and is told as the device; or memory ran out
 abbrev pub LacksDevice : FileFacts → List ℕ → Refusal → Type 0
 LacksDevice files name why = RefusesFile file.Device why × TellsFile (files.lacked name) why
-
--- where that one can't be used nothing was changed; or memory ran out as it was open, and it was left as it was
-abbrev pub IsUntouched : FileFacts → List ℕ → (List Change → Type 0) → Refusal → Type 0
-IsUntouched files name Made why =
-    Made [] ⊎ ((why ≡ Build Memory) × Made (Opening name ∷ []) × IsLeftAsOpened files name)

@@ -1,16 +1,17 @@
 //! What the commands have in common that ask a serprog device (docs/FORMATS.md, section 14).
 //!
-//! [`open_port`] opens the device of a name, [`let_go`] lets the pins of its chip go.
-//! [`DeviceFault`] says why it can't be used, [`refuse_device`] writes that, and [`word`] is the
-//! word of an exchange that ended early.
+//! [`DeviceFault`] says why a device can't be used, [`refuse_device`] writes that, and [`word`] is
+//! the word of an exchange that ended early. [`fault_of_greeting`] and [`fault_of_mismatch`] say
+//! how the exchange ended that ended the work, and [`is_cut`] whether nothing more may be sent.
+//! [`let_go`] lets the pins of the device's chip go.
 #![tactic(auto)]
 
+mod blame;
 mod fault;
 mod line;
 mod pins;
-mod port;
 
+pub use blame::{fault_of_greeting, fault_of_mismatch, is_cut};
 pub use fault::DeviceFault;
 pub use line::{refuse_device, word, write_device};
 pub use pins::let_go;
-pub use port::open_port;

@@ -9,13 +9,15 @@ use nor_serprog::release;
 
 /// Has a device drive the pins of its chip no more, where it does, as [`nor_serprog::Limits`] says;
 /// what it answers changes nothing.
-#[tactic(auto, using(crate::proofs::Room::reads_room, crate::proofs::Room::writes_room))]
+#[tactic(auto, using(crate::proofs::Room::reads_rise, crate::proofs::Room::writes_rise))]
 pub fn let_go<R: ByteIn, W: ByteOut>(from: &mut R, to: &mut W, pins: bool)
     requires room { HaveRoom (R.count from.old) (W.count to.old) }
     ensures goes { LetsGo (W.held to.old) (W.held to.new) (R.ahead from.old) (R.ahead from.new)
         pins }
-    ensures reads_room { R.count from.new ≤ R.count from.old + 1 }
-    ensures writes_room { W.count to.new ≤ W.count to.old + 1 }
+    ensures reads { (R.count from.old ≤ R.count from.new)
+        × (R.count from.new ≤ R.count from.old + 1) }
+    ensures writes { (W.count to.old ≤ W.count to.new)
+        × (W.count to.new ≤ W.count to.old + 1) }
 {
     if pins {
         let _ = release(from, to);

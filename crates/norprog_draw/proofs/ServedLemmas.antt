@@ -178,6 +178,7 @@ module _ (files : FileFacts) (request : DrawRequest) (text : List ℕ) (gave : f
 -- nothing was made, whatever is told
 pub unmade_any : (P Q : Type 0) → P → Q → (why : Refusal) → IsUnmade P Q why
 unmade_any P Q none untaken (File file.Script) = none
+unmade_any P Q none untaken (File file.Out) = untaken
 unmade_any P Q none untaken (File other) = tt
 unmade_any P Q none untaken (Script why) = none
 unmade_any P Q none untaken (Steps number) = none
@@ -185,9 +186,9 @@ unmade_any P Q none untaken Usage = none
 unmade_any P Q none untaken (Build fault.Memory) = untaken
 unmade_any P Q none untaken other = tt
 
--- an output that couldn't be made is told by another name
+-- an output that couldn't be made took nothing
 pub unmade_out : (P Q : Type 0) (why : Refusal) → Q → RefusesFile file.Out why → IsUnmade P Q why
-unmade_out P Q (File told) untaken named = subst (λ (n : FileName). IsUnmade P Q (File n)) (sym named) tt
+unmade_out P Q (File told) untaken named = subst (λ (n : FileName). IsUnmade P Q (File n)) (sym named) untaken
 unmade_out P Q (Build fault.Memory) untaken named = untaken
 unmade_out P Q other untaken named = absurd named
 
@@ -200,6 +201,7 @@ unmade_done P Q (Ok x) (Ok u) r is = rw is tt
 -- the output is the one that the texts name
 unmade_wider : (P Q R : Type 0) → (Q → R) → (why : Refusal) → IsUnmade P Q why → IsUnmade P R why
 unmade_wider P Q R wider (File file.Script) is = is
+unmade_wider P Q R wider (File file.Out) is = wider is
 unmade_wider P Q R wider (Script why) is = is
 unmade_wider P Q R wider (Steps number) is = is
 unmade_wider P Q R wider Usage is = is

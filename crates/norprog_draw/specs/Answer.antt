@@ -45,10 +45,11 @@ IsDrawFault Asked Made Gone why = ForAsked DrawTask Asked (IsStopOf Made Gone wh
 abbrev pub RefusesDraw : (FileName → Type 0) → Type 0 → (DrawTask → Type 0) → (Option (List ℕ) → Type 0) → (Option (List ℕ) → Type 0) → Refusal → Type 0
 RefusesDraw Lacked Broke Asked Made Gone = RefusesFor Lacked Broke (IsDrawFault Asked Made Gone) (IsDrawing Asked Made Gone)
 
--- before the output is made it is known that the script can be read, and is one that has the first step; and memory is refused before
--- anything is drawn: `Nothing` says that nothing was made, `Untaken` that the output took nothing
+-- before the output is made it is known that the script can be read, and is one that has the first step; one that can't be made took
+-- nothing, and memory is refused before anything is drawn: `Nothing` says that nothing was made, `Untaken` that the output took nothing
 abbrev pub IsUnmade : Type 0 → Type 0 → Refusal → Type 0
 IsUnmade Nothing Untaken (File file.Script) = Nothing
+IsUnmade Nothing Untaken (File file.Out) = Untaken
 IsUnmade Nothing Untaken (Script why) = Nothing
 IsUnmade Nothing Untaken (Steps number) = Nothing
 IsUnmade Nothing Untaken Usage = Nothing

@@ -1,5 +1,5 @@
 -- Words against arguments in a row.
-use Rattle.std.proofs.Common.{◌≡◌, ℕ, zero, suc, ◌+◌, ◌<◌, true, false, List, [], ◌∷◌, ◌++◌, length, get_or, drop, refl, sym, ◌∙◌, ap, arith, add-one}
+use Rattle.std.proofs.Common.{◌≡◌, ℕ, zero, suc, ◌+◌, ◌<◌, true, false, List, [], ◌∷◌, ◌++◌, length, get_or, drop, refl, sym, ◌∙◌, ap, arith, add-one, append-nil}
 use Rattle.std.specs.Prelude.{nat_eq, ◌&&◌, if◌then◌else◌, Bool}
 use Rattle.std.specs.List.{starts_with}
 use Rattle.norprog_explain.specs.Explained.{in_a_row}
@@ -39,3 +39,24 @@ after_one asked i item argument left how fits is same met =
     ap (λ (row : List ℕ). starts_with nat_eq row (left ++ 32 ∷ [])) parts
     ∙ met_row left argument rest ∙ ap (λ (m : Met). goes_on m rest) met
     ∙ ap (λ (n : ℕ). goes_on how (in_a_row (drop n asked))) (sym (add-one i))
+
+none_left : (more : List ℕ) → starts_with nat_eq [] (more ++ 32 ∷ []) ≡ false
+none_left [] = refl
+none_left (byte ∷ bytes) = refl
+
+abbrev pub meets_whole : Met → Bool
+meets_whole Whole = true
+meets_whole (Part more) = false
+meets_whole Apart = false
+
+whole_only : (how : Met) → goes_on how [] ≡ meets_whole how
+whole_only Whole = refl
+whole_only (Part more) = none_left more
+whole_only Apart = refl
+
+-- a line alone is begun by the words where it meets all of them
+pub met_line : (words line : List ℕ) (how : Met) → meeting words line ≡ how
+    → starts_with nat_eq (line ++ 32 ∷ []) (words ++ 32 ∷ []) ≡ meets_whole how
+met_line words line how met =
+    ap (λ (row : List ℕ). starts_with nat_eq row (words ++ 32 ∷ [])) (sym (append-nil (line ++ 32 ∷ [])))
+    ∙ met_row words line [] ∙ ap (λ (m : Met). goes_on m []) met ∙ whole_only how

@@ -41,9 +41,9 @@ abbrev pub answered : List Topic → List (List ℕ) → Option (List ℕ)
 answered topics [] = Some (flat_map listed topics)
 answered topics (argument ∷ more) = option_map paragraph (find (is_about (in_a_row (argument ∷ more))) topics)
 
--- the paragraph of the first topic that the words begin with, if there is one
-abbrev pub topic_text : List Topic → List (List ℕ) → List ℕ
-topic_text topics words = unwrap_or (option_map paragraph (find (is_about (in_a_row words)) topics)) []
+-- the paragraph of the first topic that a line begins with, word by word, if there is one
+abbrev pub topic_text : List Topic → List ℕ → List ℕ
+topic_text topics line = unwrap_or (option_map paragraph (find (is_about (line ++ 32 ∷ [])) topics)) []
 
 -- arguments without the name in front of them that the line of a refusal begins with
 abbrev pub nameless : List (List ℕ) → List (List ℕ)

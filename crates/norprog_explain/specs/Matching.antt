@@ -1,7 +1,15 @@
 -- How the words of a topic stand to an argument (this project's).
-use Rattle.std.specs.Prelude.{ℕ, nat_eq, if◌then◌else◌, List, [], ◌∷◌}
+use Rattle.std.specs.Prelude.{ℕ, nat_eq, if◌then◌else◌, List, [], ◌∷◌, ◌++◌}
 use Rattle.norprog_explain.specs.declared.matching.Meeting.{Meeting}
 use Rattle.norprog_explain.specs.declared.matching.Meeting.TheVariants as code
+use Rattle.norprog_explain.specs.declared.matching.Text.{Text}
+use Rattle.norprog_explain.specs.declared.matching.Text.TheVariants.{Arguments, Line}
+use Rattle.norprog_explain.specs.Explained.{in_a_row}
+
+-- the text that a topic is asked for by, with a blank after it
+abbrev pub row_of : Text → List ℕ
+row_of (Arguments words) = in_a_row words.now
+row_of (Line line) = line.now ++ 32 ∷ []
 
 -- the argument begins with all of the words, or it is the first of them and these follow, or they differ
 pub data Met : Type 0 where

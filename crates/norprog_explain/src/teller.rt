@@ -7,7 +7,7 @@ ghost use Rattle.norprog_explain.specs.Explained.{in_order, topic_text, Tells, C
 ghost use Rattle.norprog_explain.specs.Explained.{RefusesText, AnswersExplain};
 ghost use Rattle.norprog_explain.specs.Topics.{topics};
 
-use crate::matching::topic_of;
+use crate::matching::{Text, topic_of};
 use crate::topics::{Topic, subjects};
 use nor_base::{ByteOut, Bytes, Failed, put_all, put_parts};
 use norprog_common::{Refusal, refuse};
@@ -35,15 +35,14 @@ pub fn explain<O: ByteOut, E: ByteOut>(words: &[Bytes], out: &mut O, err: &mut E
     }
 }
 
-/// Writes to `out` the paragraph of the first topic whose words a text begins with, word by word;
-/// nothing where there is none. The text is the arguments in a row, without the name of the
-/// program.
-pub fn write_topic<O: ByteOut>(words: &[Bytes], out: &mut O) -> Result<(), Failed>
+/// Writes to `out` the paragraph of the first topic whose words a line begins with, word by word;
+/// nothing where there is none. The line is without the name of the program. It takes no memory.
+pub fn write_topic<O: ByteOut>(line: &[u8], out: &mut O) -> Result<(), Failed>
     requires { O.count out.old < 2 ^ 64 - 1 }
-    ensures bytes { Writes (O.held out.old) (O.held out.new) result (topic_text topics words.now) }
+    ensures bytes { Writes (O.held out.old) (O.held out.new) result (topic_text topics line.now) }
     ensures count { Counts (O.count out.old) (O.count out.new) result }
 {
-    match topic_of(&subjects(), words) {
+    match topic_of(&subjects(), Text::Line(line)) {
         Some((_, paragraph)) => put_parts(out, &[paragraph.as_bytes(), b"\n"]),
         None => put_all(out, b""),
     }
@@ -74,7 +73,7 @@ fn tell<O: ByteOut>(subjects: &[&[Topic]], words: &[Bytes], out: &mut O) -> Resu
     if words.is_empty() {
         return list(subjects, out).map_err(|_| Refusal::WRITE);
     }
-    let (_, paragraph) = topic_of(subjects, words).ok_or(Refusal::Usage)?;
+    let (_, paragraph) = topic_of(subjects, Text::Arguments(words)).ok_or(Refusal::Usage)?;
     put_parts(out, &[paragraph.as_bytes(), b"\n"]).map_err(|_| Refusal::WRITE)
 }
 

@@ -1,5 +1,8 @@
 //! Why a step isn't done.
 
+ghost use Rattle.std.specs.Prelude.{◌≡◌};
+ghost use Rattle.norprog_failure.specs.Blame.{fault_of_failure};
+
 use nor_probe::Difference;
 use nor_serprog::Fault;
 
@@ -21,4 +24,16 @@ pub enum Failure {
         /// What was wanted.
         want: u8,
     },
+}
+
+/// How the exchange ended early for which a step isn't done. None where each came whole, or none
+/// was to.
+pub fn fault_of_failure(why: Failure) -> Option<Fault>
+    ensures { result ≡ fault_of_failure why }
+{
+    match why {
+        Failure::Exchange(fault) => Some(fault),
+        Failure::Busy | Failure::Carried => None,
+        Failure::Differs(_) | Failure::Gives { .. } => None,
+    }
 }

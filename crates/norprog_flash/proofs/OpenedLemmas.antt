@@ -1,7 +1,8 @@
 -- A job after the handshake, and then the pins were let go.
-use Rattle.std.proofs.Common.{◌≡◌, ℕ, Bool, not, ◌&&◌, List, [], ◌∷◌, Option, Result, Ok, Err, IfOk, IfErr, inl, inr, refl, subst}
+use Rattle.std.proofs.Common.{◌≡◌, ◌<◌, ℕ, Bool, not, ◌&&◌, List, [], ◌∷◌, Option, Result, Ok, Err, IfOk, IfErr, inl, inr, refl, subst}
 use Rattle.nor_base.specs.declared.step.Step.{Step}
-use Rattle.nor_base.specs.Device.{Ahead, ahead_of}
+use Rattle.nor_base.specs.Device.{Ahead}
+use Rattle.nor_serprog.specs.declared.fault.Fault.{Fault}
 use Rattle.nor_serprog.specs.declared.limits.Limits.{Limits}
 use Rattle.nor_serprog.specs.Greeting.{Greeted}
 use Rattle.nor_serprog.specs.Line.{TestsLine}
@@ -9,21 +10,23 @@ use Rattle.norprog_common.specs.FileStore.{FileFacts, Adds, Change, Created, Ope
 use Rattle.norprog_common.proofs.JournalLemmas.{adds_both}
 use Rattle.norprog_common.specs.declared.faults.FileName.TheVariants as file
 use Rattle.norprog_common.specs.declared.faults.Refusal.{Refusal}
-use Rattle.norprog_device.specs.Opened.{IsUntouched, LacksDevice, LetsGo}
+use Rattle.norprog_device.specs.Blame.{is_cut, Blames}
+use Rattle.norprog_device.specs.Opened.{LacksDevice, LetsGo}
 use Rattle.norprog_flash.specs.declared.ending.Ending.{Ending}
 use Rattle.norprog_flash.specs.declared.ending.Unflashed.{Unflashed}
 use Rattle.norprog_flash.specs.declared.ending.Unflashed.TheVariants.{Refused}
 use Rattle.norprog_flash.specs.declared.job.Job.{Job}
 use Rattle.norprog_flash.specs.Answer.{IsUnbegunOn}
-use Rattle.norprog_flash.specs.Cut.{was_cut}
+use Rattle.norprog_flash.specs.Blame.{fault_in, fault_of_ending, fault_of_stop}
 use Rattle.norprog_flash.specs.Early.{IsSoundEarly}
 use Rattle.norprog_flash.specs.Opened.{HasFlashedOpened, HasFlashedTested, IsFlashedOn}
 use Rattle.norprog_flash.specs.Stops.{StopsBegun, StopsOpened, StopsTested, StopsWork}
+use Rattle.norprog_read.proofs.BlameLemmas.{blames_by}
 use Rattle.norprog_read.proofs.MadeLemmas.{unsaved_by}
 
 pub opened_by : (files : FileFacts) (job : Job) (h i j k : Option (List ℕ)) (a b c d : Ahead) (o p : Option (List ℕ)) (Shown : List Step → ℕ → Type 0)
     (limits : Limits) (r : Result Ending Unflashed) (pins : Bool) → Greeted h i a b (Ok limits)
-    → IfOk r (HasFlashedTested files job limits i j b c o p Shown) → pins ≡ (limits.pins && not (was_cut r)) → LetsGo j k c d pins
+    → IfOk r (HasFlashedTested files job limits i j b c o p Shown) → pins ≡ (limits.pins && not (is_cut (fault_in r))) → LetsGo j k c d pins
     → IfOk r (HasFlashedOpened files job h k a d o p Shown)
 opened_by files job h i j k a b c d o p Shown limits (Ok ending) pins greeted tested is released = record {
   held = i;
@@ -40,7 +43,7 @@ opened_by files job h i j k a b c d o p Shown limits (Err why) pins greeted test
 -- or it wasn't begun
 pub stopped_by : (files : FileFacts) (Made : List Change → Type 0) (job : Job) (h i j k : Option (List ℕ)) (a b c d : Ahead) (o p : Option (List ℕ))
     (limits : Limits) (r : Result Ending Unflashed) (pins : Bool) → Greeted h i a b (Ok limits)
-    → IfErr r (StopsTested files Made i j b c limits job o p) → pins ≡ (limits.pins && not (was_cut r)) → LetsGo j k c d pins
+    → IfErr r (StopsTested files Made i j b c limits job o p) → pins ≡ (limits.pins && not (is_cut (fault_in r))) → LetsGo j k c d pins
     → IfErr r (StopsOpened files Made h k a d job o p)
 stopped_by files Made job h i j k a b c d o p limits (Ok ending) pins greeted stops is released = tt
 stopped_by files Made job h i j k a b c d o p limits (Err why) pins greeted stops is released = inr (record {
@@ -61,21 +64,29 @@ stopped_after files Made job h i j a b c o p limits (Ok ending) tested begun = t
 stopped_after files Made job h i j a b c o p limits (Err why) tested begun =
     inr (record { held = i; ahead = b; tested = tested; begun = begun })
 
--- on the device that was opened
-pub flashed_on : {E : Type 0} (files : FileFacts) (device : List ℕ) (job : Job) (remaining contents held : Option (List ℕ)) (ahead : Ahead)
-    (o p : Option (List ℕ)) (Shown : List Step → ℕ → Type 0) (r : Result Ending E) → files.device device remaining contents → files.left held
-    → IfOk r (HasFlashedOpened files job contents held (ahead_of remaining) ahead o p Shown)
-    → IfOk r (IsFlashedOn (files.device device) files job o p Shown)
-flashed_on files device job remaining contents held ahead o p Shown (Ok ending) opened left flashed = record {
-  remaining = remaining;
-  contents = contents;
+-- ---- on the device that was opened, whose counts of failures were 0 then
+module _ (files : FileFacts) (a b c d : ℕ) (reads : a ≡ 0) (writes : c ≡ 0) (unread : 0 < b → files.unread) (unsent : 0 < d → files.unsent)
+    (why : Option Fault) where
+  told_by : Blames (a < b) (c < d) why → Blames files.unread files.unsent why
+  told_by blamed =
+      blames_by (a < b) (c < d) files.unread files.unsent (λ rose. unread (subst (λ (n : ℕ). n < b) reads rose))
+      (λ rose. unsent (subst (λ (n : ℕ). n < d) writes rose)) why blamed
+
+pub flashed_on : (files : FileFacts) (device : List ℕ) (job : Job) (first : Ahead) (h held : Option (List ℕ)) (ahead : Ahead) (o p : Option (List ℕ))
+    (Shown : List Step → ℕ → Type 0) (a b c d : ℕ) (r : Result Ending Unflashed) → a ≡ 0 → c ≡ 0 → (0 < b → files.unread) → (0 < d → files.unsent)
+    → files.device device first h → files.left held → Blames (a < b) (c < d) (fault_in r)
+    → IfOk r (HasFlashedOpened files job h held first ahead o p Shown) → IfOk r (IsFlashedOn files device job o p Shown)
+flashed_on files device job first h held ahead o p Shown a b c d (Ok ending) reads writes unread unsent opened left blamed flashed = record {
+  ahead_first = first;
+  held_first = h;
   opened = opened;
   held = held;
   ahead = ahead;
   flashed = flashed;
   left = left;
+  blamed = told_by files a b c d reads writes unread unsent (fault_of_ending ending) blamed;
 }
-flashed_on files device job remaining contents held ahead o p Shown (Err why) opened left flashed = tt
+flashed_on files device job first h held ahead o p Shown a b c d (Err why) reads writes unread unsent opened left blamed flashed = tt
 
 -- ---- after other changes
 module _ (files : FileFacts) (Made Other : List Change → Type 0) (wider : (xs : List Change) → Made xs → Other xs) (job : Job)
@@ -129,23 +140,24 @@ module _ (files : FileFacts) (Made Other : List Change → Type 0) (wider : (xs 
   })
 
 -- or the job on the device that was opened stopped so
-pub unbegun_on : {T : Type 0} (files : FileFacts) (device : List ℕ) (job : Job) (remaining contents held : Option (List ℕ)) (ahead : Ahead)
-    (o p : Option (List ℕ)) (before mid after : Option (List Change)) (r : Result T Unflashed) → Adds before mid (Opened device ∷ [])
-    → IsSoundEarly job → files.device device remaining contents → files.left held
-    → IfErr r (StopsOpened files (Adds mid after) contents held (ahead_of remaining) ahead job o p)
+pub unbegun_on : (files : FileFacts) (device : List ℕ) (job : Job) (first : Ahead) (h held : Option (List ℕ)) (ahead : Ahead)
+    (o p : Option (List ℕ)) (before mid after : Option (List Change)) (a b c d : ℕ) (r : Result Ending Unflashed) → a ≡ 0 → c ≡ 0
+    → (0 < b → files.unread) → (0 < d → files.unsent) → Adds before mid (Opened device ∷ []) → IsSoundEarly job → files.device device first h
+    → files.left held → Blames (a < b) (c < d) (fault_in r) → IfErr r (StopsOpened files (Adds mid after) h held first ahead job o p)
     → IfErr r (IsUnbegunOn files device (Adds before after) job o p)
-unbegun_on files device job remaining contents held ahead o p before mid after (Ok ending) first sound opened left stops = tt
-unbegun_on files device job remaining contents held ahead o p before mid after (Err why) first sound opened left stops = inr (
+unbegun_on files device job first h held ahead o p before mid after a b c d (Ok ending) reads writes unread unsent made sound opened left blamed stops = tt
+unbegun_on files device job first h held ahead o p before mid after a b c d (Err why) reads writes unread unsent made sound opened left blamed stops = inr (
   sound,
   inr (record {
-    remaining = remaining;
-    contents = contents;
+    ahead_first = first;
+    held_first = h;
     opened = opened;
     held = held;
     ahead = ahead;
     stops = opened_wider files (Adds mid after) (λ next. Adds before after (Opened device ∷ next))
-        (λ xs made. adds_both before mid after (Opened device ∷ []) xs first made) job o p why contents held (ahead_of remaining) ahead stops;
+        (λ xs more. adds_both before mid after (Opened device ∷ []) xs made more) job o p why h held first ahead stops;
     left = left;
+    blamed = told_by files a b c d reads writes unread unsent (fault_of_stop why) blamed;
   }),
 )
 
@@ -156,6 +168,6 @@ made_on device name before mid after (Err why) first made = tt
 
 -- or it couldn't be opened
 pub unopened : (files : FileFacts) (device : List ℕ) (Made : List Change → Type 0) (job : Job) (o : Option (List ℕ)) (refusal : Refusal)
-    → IsSoundEarly job → LacksDevice files device refusal → IsUntouched files device Made refusal
+    → IsSoundEarly job → LacksDevice files device refusal → Made []
     → IsUnbegunOn files device Made job o o (Refused refusal)
-unopened files device Made job o refusal sound lacks untouched = inr (sound, inl (refusal, refl, lacks, untouched, refl))
+unopened files device Made job o refusal sound lacks none = inr (sound, inl (refusal, refl, lacks, none, refl))

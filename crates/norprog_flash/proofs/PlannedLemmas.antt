@@ -26,8 +26,8 @@ meaning_same r m n p q = cc
 
 -- a content that was wanted came twice
 given_twice : (h i : Option (List ℕ)) (a b : Ahead) (m : Parameters) (start : Start) (wanted : Bool) (content : List ℕ) → wanted ≡ true
-    → GivesContent h i a b m start wanted content → ReadTwice h i a b m start content
-given_twice h i a b m start true content is given = given.known
+    → GivesContent h i a b m start wanted content → ReadTwice h i a b m (record start { quad = false }) content
+given_twice h i a b m start true content is given = given.known false
 given_twice h i a b m start false content is given = absurd cc
 
 module _ (files : FileFacts) (job : Job) (h0 h1 : Option (List ℕ)) (a0 a1 : Ahead) (r : Reading) (goal : List ℕ) (steps : List Step)

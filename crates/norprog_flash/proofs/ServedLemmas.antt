@@ -57,7 +57,7 @@ wanted given request file ask asks is = is.content ∙ (ap is_some asks.read.out
 
 pub ending_by : {E : Type 0} (files : FileFacts) (given : FlashArgs) (request : FlashRequest) (Made : List Change → Type 0) (job : Job)
     (o p : Option (List ℕ)) (Shown : List Step → ℕ → Type 0) (r : Result Ending E) → is_well_formed given ≡ true → AsksFor given request
-    → IsJobOf files request job → IfOk r (λ _. IsSoundEarly job) → IfOk r (IsFlashedOn (files.device request.read.device.now) files job o p Shown)
+    → IsJobOf files request job → IfOk r (λ _. IsSoundEarly job) → IfOk r (IsFlashedOn files request.read.device.now job o p Shown)
     → IfOk r (λ _. Made (Opened request.read.device.now ∷ Created job.before.now ∷ [])) → IfOk r (IsEndingOf files given Made o p Shown)
 ending_by files given request Made job o p Shown (Ok ending) formed asks is sound flashed made = record {
   formed = formed;

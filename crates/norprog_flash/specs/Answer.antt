@@ -18,7 +18,7 @@ use Rattle.norprog_common.specs.declared.faults.Refusal.{Refusal}
 use Rattle.norprog_common.specs.declared.faults.Refusal.TheVariants.{Build}
 use Rattle.norprog_common.specs.declared.given.FlashArgs.{FlashArgs}
 use Rattle.norprog_device.specs.Line.{device_line}
-use Rattle.norprog_device.specs.Opened.{IsUntouched, LacksDevice}
+use Rattle.norprog_device.specs.Opened.{LacksDevice}
 use Rattle.norprog_flash.specs.declared.ending.Ending.{Ending}
 use Rattle.norprog_flash.specs.declared.ending.Unflashed.{Unflashed}
 use Rattle.norprog_flash.specs.declared.ending.Unflashed.TheVariants.{Refused, Device, Unlike, Closed}
@@ -41,7 +41,7 @@ pub record EndsRequest (files : FileFacts) (request : FlashRequest) (Made : List
   pub job : Job
   pub is : IsJobOf files request job
   pub sound : IsSoundEarly job
-  pub flashed : IsFlashedOn (files.device request.read.device.now) files job out_before out_after Shown ending
+  pub flashed : IsFlashedOn files request.read.device.now job out_before out_after Shown ending
   pub made : Made (Opened request.read.device.now ∷ Created request.before.now ∷ [])
 
 -- what the texts ask for did
@@ -52,13 +52,12 @@ pub record IsEndingOf (files : FileFacts) (given : FlashArgs) (Made : List Chang
   pub asks : AsksFor given request
   pub ends : EndsRequest files request Made out_before out_after Shown ending
 
--- the device of this name couldn't be opened, or memory ran out before anything was sent, and nothing was printed; or it was opened,
--- and the job on its chip stopped so
+-- the device of this name couldn't be opened, or memory ran out before it was, and nothing was changed or printed; or it was opened, and
+-- the job on its chip stopped so
 abbrev pub IsUnbegunBy : FileFacts → List ℕ → (List Change → Type 0) → Job → Option (List ℕ) → Option (List ℕ) → Unflashed → Type 0
 IsUnbegunBy files device Made job out_before out_after why =
-    ((refusal : Refusal) × (why ≡ Refused refusal) × LacksDevice files device refusal × IsUntouched files device Made refusal
-    × (out_after ≡ out_before))
-    ⊎ StopsOn (files.device device) files (λ next. Made (Opened device ∷ next)) job out_before out_after why
+    ((refusal : Refusal) × (why ≡ Refused refusal) × LacksDevice files device refusal × Made [] × (out_after ≡ out_before))
+    ⊎ StopsOn files device (λ next. Made (Opened device ∷ next)) job out_before out_after why
 
 -- a fault of the job shows before its chip is read: no device was opened, and nothing was printed; or none does, and then so
 abbrev pub IsUnbegunOn : FileFacts → List ℕ → (List Change → Type 0) → Job → Option (List ℕ) → Option (List ℕ) → Unflashed → Type 0

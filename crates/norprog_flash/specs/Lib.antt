@@ -5,7 +5,7 @@ pub mod Worked
 pub mod Ended
 pub mod Line
 pub mod State
-pub mod Cut
+pub mod Blame
 pub mod Opened
 pub mod Stops
 pub mod Request

@@ -1,7 +1,7 @@
 -- Why work isn't begun; and that nothing went over the wire till then that changes what a chip holds (this project's).
 use Rattle.std.specs.Prelude.{◌≡◌, ◌≤◌, ◌+◌, ◌⊎◌, ⊤, ℕ, Bool, false, not, ◌&&◌, List, [], ◌∷◌, length, Option, unwrap_or, Result, Ok, Err, ◌≢◌}
 use Rattle.nor_base.specs.declared.meaning.Start.{Start}
-use Rattle.nor_base.specs.Device.{Ahead, ahead_of}
+use Rattle.nor_base.specs.Device.{Ahead}
 use Rattle.nor_base.specs.Parameters.{Parameters}
 use Rattle.nor_job.specs.declared.fault.BuildFault.{BuildFault}
 use Rattle.nor_job.specs.declared.fault.BuildFault.TheVariants.{ContentSize}
@@ -20,12 +20,13 @@ use Rattle.norprog_common.specs.FileStore.{FileFacts, Breaks, Change, Created}
 use Rattle.norprog_common.specs.Strict.{RefusesEmpty}
 use Rattle.norprog_common.specs.Told.{TellsBroken}
 use Rattle.norprog_device.specs.declared.fault.DeviceFault.TheVariants.{Greet, Line}
+use Rattle.norprog_device.specs.Blame.{is_cut, Blames}
 use Rattle.norprog_device.specs.Opened.{LetsGo}
 use Rattle.norprog_flash.specs.declared.ending.Unflashed.{Unflashed}
 use Rattle.norprog_flash.specs.declared.ending.Unflashed.TheVariants.{Refused, Device, Unlike, Closed}
 use Rattle.norprog_flash.specs.declared.job.Job.{Job}
 use Rattle.norprog_flash.specs.Begun.{HasRead, start_at}
-use Rattle.norprog_flash.specs.Cut.{stops_cut}
+use Rattle.norprog_flash.specs.Blame.{fault_of_stop}
 use Rattle.norprog_flash.specs.Task.{dump_of, flash_task}
 use Rattle.norprog_read.specs.declared.asked.Ask.{Ask}
 use Rattle.norprog_read.specs.declared.asked.Reading.{Reading}
@@ -151,7 +152,7 @@ pub record StopsGreeted (files : FileFacts) (Made : List Change → Type 0) (hel
   pub held_late : Option (List ℕ)
   pub ahead_late : Ahead
   pub stops : StopsTested files Made held held_late ahead ahead_late limits job out_before out_after why
-  pub released : LetsGo held_late held_after ahead_late ahead_after (limits.pins && not (stops_cut why))
+  pub released : LetsGo held_late held_after ahead_late ahead_after (limits.pins && not (is_cut (fault_of_stop why)))
 
 -- the handshake stopped, or so
 abbrev pub StopsOpened : FileFacts → (List Change → Type 0) → Option (List ℕ) → Option (List ℕ) → Ahead → Ahead → Job → Option (List ℕ)
@@ -161,14 +162,15 @@ StopsOpened files Made held_before held_after ahead_before ahead_after job out_b
     × Made [] × (out_after ≡ out_before))
     ⊎ StopsGreeted files Made held_before held_after ahead_before ahead_after job out_before out_after why
 
--- the device that was named was opened, had this yet to give, and had taken that; then the job on its chip stopped so, and nothing was
--- sent after that
-pub record StopsOn (Opened : Option (List ℕ) → Option (List ℕ) → Type 0) (files : FileFacts) (Made : List Change → Type 0) (job : Job)
-    (out_before out_after : Option (List ℕ)) (why : Unflashed) : Type 0 where
-  pub remaining : Option (List ℕ)
-  pub contents : Option (List ℕ)
-  pub opened : Opened remaining contents
+-- the device of this name was opened, had this ahead, and had taken that; then the job on its chip stopped so, and nothing was sent after
+-- that. The reader is blamed only where the device failed as it was read, and the writer only where it failed as it was written to
+pub record StopsOn (files : FileFacts) (device : List ℕ) (Made : List Change → Type 0) (job : Job) (out_before out_after : Option (List ℕ))
+    (why : Unflashed) : Type 0 where
+  pub ahead_first : Ahead
+  pub held_first : Option (List ℕ)
+  pub opened : files.device device ahead_first held_first
   pub held : Option (List ℕ)
   pub ahead : Ahead
-  pub stops : StopsOpened files Made contents held (ahead_of remaining) ahead job out_before out_after why
+  pub stops : StopsOpened files Made held_first held ahead_first ahead job out_before out_after why
   pub left : files.left held
+  pub blamed : Blames files.unread files.unsent (fault_of_stop why)

@@ -9,11 +9,13 @@ ghost use Rattle.nor_job.specs.Status.{start_of};
 ghost use Rattle.norprog_common.specs.Content.{CountsWriter};
 ghost use Rattle.norprog_common.specs.FileStore.{Adds, Created};
 ghost use Rattle.norprog_common.specs.Strict.{RefusesEmpty};
+ghost use Rattle.norprog_flash.specs.Blame.{fault_before};
 ghost use Rattle.norprog_flash.specs.Begun.{HasRead, HasPlanned, start_at};
 ghost use Rattle.norprog_flash.specs.Task.{dump_of, flash_task};
 ghost use Rattle.norprog_work.specs.Work.{IsWork};
 ghost use Rattle.nor_reader.specs.Harmless.{HasSentHarmless, SendsHarmless};
 ghost use Rattle.nor_reader.specs.Laws.{GivesBy};
+ghost use Rattle.norprog_read.specs.Blame.{CountsBoth};
 ghost use Rattle.norprog_flash.specs.Stops.{CantPlan, CountsOut, StopsBefore, StopsBegun};
 
 use crate::back::way_of;
@@ -57,16 +59,16 @@ pub(crate) fn begin<S: FileStore, R: ByteIn, W: ByteOut, O: ByteOut>(
         (R.ahead from.new) begun.reading begun.work.goal.items begun.work.steps.items
         (O.held out.old) (O.held out.new)
         × GivesBy begun.reading.meaning (start_of (flash_task job.now begun.reading.tables.items))
-        begun.by) }
+        begun.by
+        × Adds (S.Journal.changes journal.old) (S.Journal.changes journal.new)
+        (Created job.now.before.now ∷ [])) }
     ensures stops { IfErr result
         (StopsBegun (S.facts store.now)
         (Adds (S.Journal.changes journal.old) (S.Journal.changes journal.new)) (W.held to.old)
         (W.held to.new) (R.ahead from.old) (R.ahead from.new) job.now (O.held out.old)
         (O.held out.new)) }
-    ensures made { IfOk result (λ _. Adds (S.Journal.changes journal.old)
-        (S.Journal.changes journal.new) (Created job.now.before.now ∷ [])) }
-    ensures reads_room { R.count from.new ≤ R.count from.old + 1 }
-    ensures writes_room { W.count to.new ≤ W.count to.old + 1 }
+    ensures counts { CountsBoth (R.count from.old) (R.count from.new) (W.count to.old)
+        (W.count to.new) (fault_before result) }
     ensures out_counts { CountsOut (S.facts store.now) (O.count out.old) (O.count out.new) result }
 {
     let (reading, by) = read_suited(alloc, from, to, limits, job)?;
@@ -141,8 +143,8 @@ fn read_suited<R: ByteIn, W: ByteOut>(
         job.now) }
     ensures harmless { MatchResult result (λ _. HasSentHarmless (W.held to.old) (W.held to.new))
         (λ _. SendsHarmless (W.held to.old) (W.held to.new)) }
-    ensures counts { R.count from.new ≤ R.count from.old + 1
-        × W.count to.new ≤ W.count to.old + 1 }
+    ensures counts { CountsBoth (R.count from.old) (R.count from.new) (W.count to.old)
+        (W.count to.new) (fault_before result) }
 {
     let reading = read_chip(alloc, from, to, limits, &job.ask)?;
     let start = start_at(job, reading.status);

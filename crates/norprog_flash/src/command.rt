@@ -23,9 +23,9 @@ use crate::line::write_closed;
 use crate::opened::flash_opened;
 use crate::report::report_ending;
 use crate::request::{FlashRequest, request_of};
-use nor_base::{ByteOut, Failed, FromRead, IntoWrite, Part};
+use nor_base::{ByteOut, Failed, Part};
 use norprog_common::{FileStore, FlashArgs, Refusal, part, refuse};
-use norprog_device::{open_port, refuse_device};
+use norprog_device::refuse_device;
 use norprog_read::{Ask, Known, ask_of, write_unlike};
 use norprog_work::look;
 use std::alloc::Global;
@@ -185,8 +185,7 @@ fn flash_device<S: FileStore, O: ByteOut, P: ByteOut>(
     requires progress { P.count progress.old < 2 ^ 64 - 1 }
     ensures sound { IfOk result (λ _. IsSoundEarly job.now) }
     ensures flashed { IfOk result
-        (IsFlashedOn ((S.facts store.now).device device.now) (S.facts store.now) job.now
-        (O.held out.old)
+        (IsFlashedOn (S.facts store.now) device.now job.now (O.held out.old)
         (O.held out.new) (Showing (P.held progress.old) (P.held progress.new)
         (P.count progress.old)
         (P.count progress.new))) }
@@ -202,13 +201,11 @@ fn flash_device<S: FileStore, O: ByteOut, P: ByteOut>(
     ensures counts { CountsOut (S.facts store.now) (O.count out.old) (O.count out.new) result }
 {
     look_at(alloc, job)?;
-    let (from, to) = open_port(alloc, store, journal, device)?;
-    let mut from = FromRead::new(from);
-    let mut to = IntoWrite::new(to);
+    let (mut from, mut to) = store.open_device(journal, alloc, device)?;
     let flashed = flash_opened(
         alloc, store, journal, &mut from, &mut to, job, out, progress,
     );
-    store.close_device(to.into_inner());
+    store.close_device(from, to);
     flashed
 }
 

@@ -6,11 +6,14 @@ ghost use Rattle.nor_base.specs.Device.{HaveRoom};
 ghost use Rattle.nor_job.specs.Status.{start_of};
 ghost use Rattle.nor_reader.specs.Laws.{GivesBy};
 ghost use Rattle.norprog_common.specs.FileStore.{Adds, Created};
+ghost use Rattle.norprog_device.specs.Blame.{Blames};
+ghost use Rattle.norprog_flash.specs.Blame.{fault_in, fault_of_ending};
 ghost use Rattle.norprog_flash.specs.Begun.{IsPlannedOn};
 ghost use Rattle.norprog_flash.specs.Ended.{EndsFlash};
 ghost use Rattle.norprog_flash.specs.Stops.{CountsOut, StopsBegun};
 ghost use Rattle.norprog_flash.specs.Task.{flash_task};
 ghost use Rattle.norprog_flash.specs.Worked.{GoesOn, Showing};
+ghost use Rattle.norprog_read.specs.Blame.{CountsBoth};
 
 use crate::begun::{Begun, begin};
 use crate::ending::{Ending, Unflashed};
@@ -58,8 +61,10 @@ pub fn flash_chip<S: FileStore, R: ByteIn, W: ByteOut, O: ByteOut, P: ByteOut>(
     ensures silent { IfErr result (λ _. progress.new ≡ progress.old) }
     ensures made { IfOk result (λ _. Adds (S.Journal.changes journal.old)
         (S.Journal.changes journal.new) (Created job.now.before.now ∷ [])) }
-    ensures reads_room { R.count from.new ≤ R.count from.old + 2 }
-    ensures writes_room { W.count to.new ≤ W.count to.old + 2 }
+    ensures blamed { Blames (R.count from.old < R.count from.new)
+        (W.count to.old < W.count to.new) (fault_in result) }
+    ensures counts { CountsBoth (R.count from.old) (R.count from.new) (W.count to.old)
+        (W.count to.new) (fault_in result) }
     ensures out_counts { CountsOut (S.facts store.now) (O.count out.old) (O.count out.new) result }
 {
     closes();
@@ -86,15 +91,15 @@ fn flash_planned<S: FileStore, R: ByteIn, W: ByteOut, P: ByteOut>(
         begun.now.work.goal.items begun.now.work.steps.items }
     requires way { GivesBy begun.now.reading.meaning
         (start_of (flash_task job.now begun.now.reading.tables.items)) begun.now.by }
-    requires room { HaveRoom (R.count from.old) (W.count to.old) }
-    requires told { P.count progress.old < 2 ^ 64 - 1 }
+    requires room { HaveRoom (R.count from.old) (W.count to.old)
+        × (P.count progress.old < 2 ^ 64 - 1) }
     ensures goes { GoesOn (W.held to.old) (W.held to.new) (R.ahead from.old) (R.ahead from.new)
         limits.now job.now begun.now.reading
         begun.now.work.goal.items begun.now.work.steps.items
         (Showing (P.held progress.old) (P.held progress.new) (P.count progress.old)
         (P.count progress.new) begun.now.work.steps.items) result }
-    ensures reads_room { R.count from.new ≤ R.count from.old + 1 }
-    ensures writes_room { W.count to.new ≤ W.count to.old + 1 }
+    ensures counts { CountsBoth (R.count from.old) (R.count from.new) (W.count to.old)
+        (W.count to.new) (fault_of_ending result) }
 {
     let Begun { reading, work, by } = begun;
     let steps = work.steps.as_slice();

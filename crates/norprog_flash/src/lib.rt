@@ -9,6 +9,7 @@
 
 mod back;
 mod begun;
+mod blame;
 mod command;
 mod device;
 mod ending;

@@ -3,20 +3,21 @@
 ghost use Rattle.std.specs.Prelude.{◌≡◌, ◌≤◌, ◌<◌, ◌+◌, ◌-◌, ◌^◌, ◌&&◌, not, [], ◌∷◌, true};
 ghost use Rattle.std.specs.Prelude.{IfOk, IfErr};
 ghost use Rattle.norprog_common.specs.FileStore.{Adds, Created};
-ghost use Rattle.norprog_flash.specs.Cut.{ends_cut, fails_cut, stops_cut, was_cut};
+ghost use Rattle.norprog_device.specs.Blame.{is_cut, Blames};
+ghost use Rattle.norprog_flash.specs.Blame.{fault_in};
 ghost use Rattle.norprog_flash.specs.Stops.{CountsOut, StopsOpened, StopsTested};
 ghost use Rattle.norprog_flash.specs.Opened.{HasFlashedOpened, HasFlashedTested};
 ghost use Rattle.norprog_flash.specs.Worked.{Showing};
+ghost use Rattle.norprog_read.specs.Blame.{CountsBoth};
 
+use crate::blame::fault_in;
 use crate::device::flash_chip;
 use crate::ending::{Ending, Unflashed};
 use crate::job::Job;
 use nor_base::{ByteIn, ByteOut};
 use nor_serprog::{Limits, greet, test_line};
 use norprog_common::FileStore;
-use norprog_device::{DeviceFault, let_go};
-use norprog_failure::Failure;
-use norprog_read::{Unlike, cuts_request, is_cut};
+use norprog_device::{DeviceFault, is_cut, let_go};
 use std::alloc::Global;
 
 /// Begins with a device, tests the line to it, and does the job on its chip, as [`flash_chip`]
@@ -53,6 +54,8 @@ pub fn flash_opened<S: FileStore, R: ByteIn, W: ByteOut, O: ByteOut, P: ByteOut>
     ensures silent { IfErr result (λ _. progress.new ≡ progress.old) }
     ensures made { IfOk result (λ _. Adds (S.Journal.changes journal.old)
         (S.Journal.changes journal.new) (Created job.now.before.now ∷ [])) }
+    ensures blamed { Blames (R.count from.old < R.count from.new)
+        (W.count to.old < W.count to.new) (fault_in result) }
     ensures out_counts { CountsOut (S.facts store.now) (O.count out.old) (O.count out.new) result }
 {
     let limits = match greet(from, to) {
@@ -94,8 +97,8 @@ fn flash_tested<S: FileStore, R: ByteIn, W: ByteOut, O: ByteOut, P: ByteOut>(
         (W.held to.new) (R.ahead from.old) (R.ahead from.new) limits.now job.now
         (O.held out.old) (O.held out.new)) }
     ensures silent { IfErr result (λ _. progress.new ≡ progress.old) }
-    ensures counts { R.count from.new ≤ R.count from.old + 2
-        × W.count to.new ≤ W.count to.old + 2 }
+    ensures counts { CountsBoth (R.count from.old) (R.count from.new) (W.count to.old)
+        (W.count to.new) (fault_in result) }
     ensures made { IfOk result (λ _. Adds (S.Journal.changes journal.old)
         (S.Journal.changes journal.new) (Created job.now.before.now ∷ [])) }
     ensures out_counts { CountsOut (S.facts store.now) (O.count out.old) (O.count out.new) result }
@@ -109,50 +112,7 @@ fn flash_tested<S: FileStore, R: ByteIn, W: ByteOut, O: ByteOut, P: ByteOut>(
 /// Whether the pins are let go after a job that ended so: the device drives them, and no request
 /// was cut. A device would take what follows as the rest of such a request.
 fn frees_pins(limits: &Limits, ended: &Result<Ending, Unflashed>) -> bool
-    ensures { result ≡ (limits.now.pins && not (was_cut ended.now)) }
+    ensures { result ≡ (limits.now.pins && not (is_cut (fault_in ended.now))) }
 {
-    limits.pins && !was_cut(ended)
-}
-
-/// Whether a job ended because the writer failed in a request.
-fn was_cut(ended: &Result<Ending, Unflashed>) -> bool
-    ensures { result ≡ was_cut ended.now }
-{
-    match ended {
-        Ok(ending) => ends_cut(*ending),
-        Err(why) => stops_cut(why),
-    }
-}
-
-/// Whether work ended so.
-fn ends_cut(ending: Ending) -> bool
-    ensures { result ≡ ends_cut ending }
-{
-    match ending {
-        Ending::Failed { why, step: _ } => fails_cut(why),
-        Ending::Planned | Ending::Done { .. } => false,
-    }
-}
-
-/// Whether a step isn't done because the writer failed in a request.
-fn fails_cut(why: Failure) -> bool
-    ensures { result ≡ fails_cut why }
-{
-    match why {
-        Failure::Exchange(fault) => cuts_request(fault),
-        Failure::Busy | Failure::Carried => false,
-        Failure::Differs(_) | Failure::Gives { .. } => false,
-    }
-}
-
-/// Whether work isn't begun because the writer failed in a request.
-fn stops_cut(why: &Unflashed) -> bool
-    ensures { result ≡ stops_cut why.now }
-{
-    match why {
-        Unflashed::Device(fault) => is_cut(*fault),
-        Unflashed::Unlike(Unlike::Asking(fault)) => cuts_request(*fault),
-        Unflashed::Unlike(_) => false,
-        Unflashed::Refused(_) | Unflashed::Closed(_) => false,
-    }
+    limits.pins && !is_cut(fault_in(ended))
 }

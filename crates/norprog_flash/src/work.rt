@@ -4,7 +4,9 @@ ghost use Rattle.std.specs.Prelude.{◌≡◌, ◌<◌, ◌≤◌, ◌+◌, ◌-
 ghost use Rattle.nor_base.specs.Device.{HaveRoom};
 ghost use Rattle.nor_base.specs.Step.{expected};
 ghost use Rattle.nor_serprog.specs.Done.{IsDoable};
+ghost use Rattle.norprog_flash.specs.Blame.{fault_of_ending};
 ghost use Rattle.norprog_flash.specs.Worked.{IsFailureAt, IsSoOfDone, Showing, WorksOut};
+ghost use Rattle.norprog_read.specs.Blame.{CountsBoth};
 ghost use Rattle.norprog_read.specs.Saved.{IsSaved};
 
 use crate::ending::Ending;
@@ -54,8 +56,8 @@ pub(crate) fn do_work<S: FileStore, R: ByteIn, W: ByteOut, P: ByteOut>(
     ensures shown { IsSoOfDone (Showing (P.held progress.old) (P.held progress.new)
         (P.count progress.old)
         (P.count progress.new) steps.now) result }
-    ensures reads_room { R.count from.new ≤ R.count from.old + 1 }
-    ensures writes_room { W.count to.new ≤ W.count to.old + 1 }
+    ensures counts { CountsBoth (R.count from.old) (R.count from.new) (W.count to.old)
+        (W.count to.new) (fault_of_ending result) }
 {
     if let Err(halt) = do_steps(from, to, limits, turns, steps, progress) {
         let why = failure_at(bench.meaning, steps, halt);

@@ -1,3 +1,4 @@
+mod BlameLemmas
 mod TakenLemmas
 mod TogetherLemmas
 mod FollowedLemmas

@@ -17,7 +17,8 @@ use Rattle.norprog_device.specs.declared.fault.DeviceFault.{DeviceFault}
 use Rattle.norprog_device.specs.declared.fault.DeviceFault.TheVariants.{Greet, Line}
 use Rattle.norprog_play.specs.declared.unplayed.Unplayed.{Unplayed}
 use Rattle.norprog_play.specs.declared.unplayed.Unplayed.TheVariants.{Refused, Device}
-use Rattle.norprog_play.specs.Cut.{was_cut}
+use Rattle.norprog_device.specs.Blame.{Blames, is_cut}
+use Rattle.norprog_play.specs.Blame.{fault_in}
 use Rattle.norprog_play.specs.Early.{MayPlay, chip_with}
 use Rattle.norprog_play.specs.Ending.{EndsSo}
 use Rattle.norprog_play.specs.Expected.{Expectation}
@@ -64,10 +65,10 @@ uncut false reached after released = released
 -- a play on that device of steps that may be played
 pub known_ends : (files : FileFacts) (name : List ℕ) (Made : List Change → Type 0) (limit turns : ℕ) (first limits : Limits) (x : Expectation) (m : Parameters) (content : List ℕ) (steps : List Step) (before reached after : Moment)
     (cut : Bool) (r : Result Ending Unplayed) → MayPlay (chip_with m x.start content) steps → Stands (files.device name) m x.start content before → turns ≡ limit → first.pins ≡ false
-    → cut ≡ was_cut r → Releases (limits.pins && not cut) reached after → files.left after.held → Made (Opening name ∷ [])
+    → cut ≡ is_cut (fault_in r) → Blames files.unread files.unsent (fault_in r) → Releases (limits.pins && not cut) reached after → files.left after.held → Made (Opening name ∷ [])
     → MatchResult r (λ ending. HasPlayed limits turns x m before steps ending reached) (StopsBefore first limits before reached)
     → MatchResult r (EndsOnDevice files name Made limit x m content steps) (StopsPlay files name Made m x.start content steps)
-known_ends files name Made limit turns first limits x m content steps before reached after cut (Ok ending) may stands same none so released left made is = record {
+known_ends files name Made limit turns first limits x m content steps before reached after cut (Ok ending) may stands same none so blamed released left made is = record {
   may = may;
   before = before;
   reached = reached;
@@ -75,38 +76,44 @@ known_ends files name Made limit turns first limits x m content steps before rea
   limits = limits;
   stands = stands;
   played = subst (λ n. HasPlayed limits n x m before steps ending reached) same is;
-  released = released_so limits.pins cut (was_cut (Ok ending)) reached after so released;
+  released = released_so limits.pins cut (is_cut (fault_in (Ok ending))) reached after so released;
   left = left;
+  blamed = blamed;
   made = made;
 }
-known_ends files name Made limit turns first limits x m content steps before reached after cut (Err (Device (Greet why))) may stands same none so released left made is =
-    let undriven : limits.pins ≡ false = ap (λ (l : Limits). l.pins) is.stops.0 ∙ none in
+known_ends files name Made limit turns first limits x m content steps before reached after cut (Err (Device (Greet why))) may stands same none so blamed released left made is =
+    let undriven : limits.pins ≡ false = ap (λ (l : Limits). l.pins) is.stops.0 ∙ none in (
+      record {
+        may = may;
+        before = before;
+        reached = reached;
+        after = after;
+        stands = stands;
+        greeted = record { shown = is.shown; opened = is.stops.1 };
+        released = subst (λ (b : Bool). Releases (b && not cut) reached after) undriven released;
+        left = left;
+        made = made;
+      },
+      blamed,
+    )
+known_ends files name Made limit turns first limits x m content steps before reached after cut (Err (Device (Line why))) may stands same none so blamed released left made is = (
+  (
+    limits,
     record {
       may = may;
       before = before;
       reached = reached;
       after = after;
       stands = stands;
-      greeted = record { shown = is.shown; opened = is.stops.1 };
-      released = subst (λ (b : Bool). Releases (b && not cut) reached after) undriven released;
+      greeted = record { shown = is.shown; opened = is.stops };
+      released = released_so limits.pins cut (is_cut (fault_in (Err (Device (Line why))))) reached after so released;
       left = left;
       made = made;
-    }
-known_ends files name Made limit turns first limits x m content steps before reached after cut (Err (Device (Line why))) may stands same none so released left made is = (
-  limits,
-  record {
-    may = may;
-    before = before;
-    reached = reached;
-    after = after;
-    stands = stands;
-    greeted = record { shown = is.shown; opened = is.stops };
-    released = released_so limits.pins cut (was_cut (Err (Device (Line why)))) reached after so released;
-    left = left;
-    made = made;
-  },
+    },
+  ),
+  blamed,
 )
-known_ends files name Made limit turns first limits x m content steps before reached after cut (Err (Refused (Build Memory))) may stands same none so released left made is = inr (
+known_ends files name Made limit turns first limits x m content steps before reached after cut (Err (Refused (Build Memory))) may stands same none so blamed released left made is = inr (
   refl,
   (
     limits,
@@ -117,13 +124,13 @@ known_ends files name Made limit turns first limits x m content steps before rea
       after = after;
       stands = stands;
       greeted = is;
-      released = uncut limits.pins reached after (released_so limits.pins cut (was_cut (Err (Refused (Build Memory)))) reached after so released);
+      released = uncut limits.pins reached after (released_so limits.pins cut (is_cut (fault_in (Err (Refused (Build Memory))))) reached after so released);
       left = left;
       made = made;
     },
   ),
 )
-known_ends files name Made limit turns first limits x m content steps before reached after cut (Err (Refused other)) may stands same none so released left made is = absurd is
+known_ends files name Made limit turns first limits x m content steps before reached after cut (Err (Refused other)) may stands same none so blamed released left made is = absurd is
 
 -- what is handed on of a refusal
 pub handed : {T : Type 0} (P : T → Type 0) (Q : Unplayed → Type 0) (why : Unplayed) (r : Result T Unplayed) → IsErrAnd r (λ other. other ≡ why) → Q why → MatchResult r P Q
@@ -131,12 +138,12 @@ handed P Q why (Ok x) is of = absurd is
 handed P Q why (Err other) is of = subst Q (sym is) of
 
 -- a chip in memory beside a reader and a writer as they were opened
-pub stands_so : (Opened : Option (List ℕ) → Option (List ℕ) → Type 0) (m : Parameters) (start : Start) (content : List ℕ) (shown : Shown) (contents remaining contents' remaining' : Option (List ℕ))
-    → Opened remaining contents → shown ≡ chip_with m start content → contents' ≡ contents → remaining' ≡ remaining → Stands Opened m start content (moment shown contents' remaining')
-stands_so Opened m start content shown contents remaining contents' remaining' opened is taken given = record {
-  remaining = remaining;
-  contents = contents;
+pub stands_so : (Opened : Ahead → Option (List ℕ) → Type 0) (m : Parameters) (start : Start) (content : List ℕ) (shown : Shown) (held held' : Option (List ℕ)) (ahead ahead' : Ahead)
+    → Opened ahead held → shown ≡ chip_with m start content → held' ≡ held → ahead' ≡ ahead → Stands Opened m start content (moment shown held' ahead')
+stands_so Opened m start content shown held held' ahead ahead' opened is taken given = record {
+  ahead = ahead;
+  held = held;
   opened = opened;
-  is = ap (λ (s : Shown). moment s contents' remaining') is ∙ ap (λ o. moment (chip_with m start content) o remaining') taken
-      ∙ ap (λ o. moment (chip_with m start content) contents o) given;
+  is = ap (λ (s : Shown). moment s held' ahead') is ∙ ap (λ o. moment (chip_with m start content) o ahead') taken
+      ∙ ap (λ (o : Ahead). moment (chip_with m start content) held o) given;
 }

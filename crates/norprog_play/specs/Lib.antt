@@ -16,7 +16,7 @@ pub mod Served
 pub mod Job
 pub mod Early
 pub mod Opened
-pub mod Cut
+pub mod Blame
 pub mod Played
 pub mod State
 pub mod Answer

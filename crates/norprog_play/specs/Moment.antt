@@ -5,7 +5,7 @@ use Rattle.nor_base.specs.declared.step.Step.{Step}
 use Rattle.nor_base.specs.Step.{step_clocks}
 use Rattle.nor_base.specs.Chip.{Chip}
 use Rattle.nor_base.specs.Effect.{effect}
-use Rattle.nor_base.specs.Device.{Ahead, ahead_of}
+use Rattle.nor_base.specs.Device.{Ahead}
 use Rattle.nor_base.specs.Port.{Shown, Transacts}
 use Rattle.nor_serprog.specs.declared.fault.Fault.TheVariants.{Write}
 use Rattle.nor_serprog.specs.declared.fault.Reason.{Reason}
@@ -24,8 +24,8 @@ pub record Moment : Type 0 where
   pub ahead : Ahead
 
 -- where these are told by a writer and a reader
-abbrev pub moment : Shown → Option (List ℕ) → Option (List ℕ) → Moment
-moment shown contents remaining = record { shown = shown; held = contents; ahead = ahead_of remaining }
+abbrev pub moment : Shown → Option (List ℕ) → Ahead → Moment
+moment shown held ahead = record { shown = shown; held = held; ahead = ahead }
 
 -- the chip in memory takes the transaction of these clocks
 abbrev pub IsTaken : Shown → List ℕ → Type 0

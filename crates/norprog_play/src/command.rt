@@ -14,7 +14,7 @@ ghost use Rattle.norprog_play.specs.Progress.{ReportsPlay};
 ghost use Rattle.norprog_play.specs.Request.{is_well_formed};
 ghost use Rattle.norprog_play.specs.Served.{paths_asked, paths_of, IsTaskOf, Serves};
 
-use crate::cut::was_cut;
+use crate::blame::fault_in;
 use crate::early::{Early, ends_early, widest};
 use crate::ending::Ending;
 use crate::expected::{Expected, known_tables};
@@ -27,7 +27,7 @@ use nor_base::{ByteOut, Meaning, Step};
 use nor_chip::Chip;
 use nor_serprog::Shadowed;
 use norprog_common::{FileName, FileStore, PlayArgs, Refusal, refuse, setup_inputs, tables_of};
-use norprog_device::{open_port, refuse_device};
+use norprog_device::{is_cut, refuse_device};
 use std::alloc::Global;
 
 /// Does what the texts of a command line of `play` ask for: on the chip in memory, then on that of
@@ -224,7 +224,7 @@ fn play_known<S: FileStore, P: ByteOut>(
         (P.count progress.new))
         (λ _. progress.new ≡ progress.old) }
 {
-    let (from, to) = open_port(alloc, store, journal, device)?;
+    let (from, to) = store.open_device(journal, alloc, device)?;
     let chip = Chip::new(meaning, expected.start, content, Vec::new(alloc), false);
     let mut port = Shadowed::new(chip, from, to, widest(), limit);
     let ended = greet_and_play(
@@ -236,7 +236,7 @@ fn play_known<S: FileStore, P: ByteOut>(
         &mut port,
         progress,
     );
-    release_pins(&mut port, was_cut(&ended));
-    store.close_device(port.to.inner);
+    release_pins(&mut port, is_cut(fault_in(&ended)));
+    store.close_device(port.from, port.to);
     ended
 }

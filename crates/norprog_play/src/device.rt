@@ -7,6 +7,8 @@ ghost use Rattle.nor_base.specs.Run.{trail};
 ghost use Rattle.nor_base.specs.Sample.{sampled_count};
 ghost use Rattle.nor_base.specs.Step.{step_clocks};
 ghost use Rattle.nor_chip.specs.Ready.{ready_chip};
+ghost use Rattle.norprog_device.specs.Blame.{CountsBoth};
+ghost use Rattle.norprog_play.specs.Blame.{fault_of_ending, fault_when};
 ghost use Rattle.norprog_play.specs.Early.{GoesWellInMemory};
 ghost use Rattle.norprog_play.specs.Moment.{moment};
 ghost use Rattle.norprog_play.specs.Ending.{EndsComparing, EndsSo, MayBegin, SaysBlank};
@@ -24,19 +26,18 @@ use crate::follow::{Halt, follow_steps};
 use crate::likeness::compare_unless_trusted;
 use crate::step::widest;
 use crate::within::carried;
-use nor_base::{ByteOut, Meaning, Step};
+use nor_base::{ByteIn, ByteOut, Meaning, Step};
 use nor_cells::{compared_cells, first_held, mark_wraps};
 use nor_serprog::Shadowed;
 use norprog_failure::{Failure, failure_by};
 use std::alloc::{AllocError, Global};
-use std::io::{Read, Write};
 
 /// Plays steps on a device, after its handshake, beside a ready chip in memory on which they go
 /// well ([`ends_early`](crate::ends_early)), in the order of docs/FORMATS.md, section 14.
 ///
 /// How many are done is written to `progress`; where that fails nothing changes. Memory is taken
 /// before the device is asked for anything.
-pub fn play_on_device<R: Read + Drop, W: Write + Drop, P: ByteOut>(
+pub fn play_on_device<R: ByteIn + Drop, W: ByteOut + Drop, P: ByteOut>(
     alloc: Global,
     meaning: &Meaning,
     expected: Expected<'_>,
@@ -56,12 +57,14 @@ pub fn play_on_device<R: Read + Drop, W: Write + Drop, P: ByteOut>(
         ≡ length (trail port.old.chip.setting port.old.chip.chip steps.now)) }
     ensures ends { MatchResult result
         (λ ending. EndsSo port.old.limits port.old.turns (expectation_of expected.entry) meaning.now
-        (moment port.old.chip (W.contents port.old.to.inner) (R.remaining port.old.from.inner))
+        (moment port.old.chip (W.held port.old.to) (R.ahead port.old.from))
         steps.now ending
-        (moment port.new.chip (W.contents port.new.to.inner) (R.remaining port.new.from.inner)))
+        (moment port.new.chip (W.held port.new.to) (R.ahead port.new.from)))
         (λ _. port.new ≡ port.old) }
     ensures after { (port.new.failed ≤ port.old.failed + 1)
-        × (port.new.limits ≡ port.old.limits) }
+        × (port.new.limits ≡ port.old.limits)
+        × CountsBoth (R.count port.old.from) (R.count port.new.from)
+        (W.count port.old.to) (W.count port.new.to) (fault_when fault_of_ending result) }
     ensures told { MatchResult result
         (λ ending. ReportsPlay steps.now ending (P.held progress.old) (P.held progress.new)
         (P.count progress.old)
@@ -94,7 +97,7 @@ pub fn play_on_device<R: Read + Drop, W: Write + Drop, P: ByteOut>(
 
 /// Asks the chip behind the device, plays steps that go well in memory and that the device can do,
 /// and reads the chip again.
-fn play_compared<R: Read + Drop, W: Write + Drop, P: ByteOut>(
+fn play_compared<R: ByteIn + Drop, W: ByteOut + Drop, P: ByteOut>(
     meaning: &Meaning,
     expected: Expected<'_>,
     access: Access,
@@ -113,7 +116,7 @@ fn play_compared<R: Read + Drop, W: Write + Drop, P: ByteOut>(
         × (length port.old.chip.chip.array ≡ 256 * length cells.old)
         × SaysBlank (expectation_of expected) port.old.chip.chip.array blank }
     requires steps { MayBegin port.old.limits
-        (moment port.old.chip (W.contents port.old.to.inner) (R.remaining port.old.from.inner))
+        (moment port.old.chip (W.held port.old.to) (R.ahead port.old.from))
         steps.now
         × (transactions
         ≡ length (trail port.old.chip.setting port.old.chip.chip steps.now))
@@ -121,11 +124,13 @@ fn play_compared<R: Read + Drop, W: Write + Drop, P: ByteOut>(
     ensures ends { EndsComparing port.old.limits port.old.turns (expectation_of expected.entry)
         meaning.now access (IsMarked cells.old)
         (λ left a. IsMarked cells.old a ⊎ IsInCellOf (ShowsWrap left) a)
-        (moment port.old.chip (W.contents port.old.to.inner) (R.remaining port.old.from.inner))
+        (moment port.old.chip (W.held port.old.to) (R.ahead port.old.from))
         steps.now result
-        (moment port.new.chip (W.contents port.new.to.inner) (R.remaining port.new.from.inner)) }
+        (moment port.new.chip (W.held port.new.to) (R.ahead port.new.from)) }
     ensures after { (port.new.failed ≤ port.old.failed + 1)
-        × (port.new.limits ≡ port.old.limits) }
+        × (port.new.limits ≡ port.old.limits)
+        × CountsBoth (R.count port.old.from) (R.count port.new.from)
+        (W.count port.old.to) (W.count port.new.to) (fault_of_ending result) }
     ensures told { ReportsPlay steps.now result (P.held progress.old) (P.held progress.new)
         (P.count progress.old)
         (P.count progress.new) }

@@ -8,18 +8,20 @@ ghost use Rattle.nor_base.specs.Sample.{sampled_count};
 ghost use Rattle.nor_base.specs.Step.{expected, step_clocks};
 ghost use Rattle.nor_progress.specs.Text.{Reports};
 ghost use Rattle.nor_serprog.specs.Row.{IsRow};
+ghost use Rattle.norprog_device.specs.Blame.{CountsBoth};
 ghost use Rattle.norprog_play.specs.Carried.{AreCarried};
+ghost use Rattle.norprog_failure.specs.Blame.{fault_of_failure};
 ghost use Rattle.norprog_failure.specs.Reported.{FailsAs};
+ghost use Rattle.norprog_play.specs.Blame.{fault_by, fault_of_reason};
 ghost use Rattle.norprog_play.specs.Moment.{moment, Does, DoesAll, StopsAt, IsTaken};
 ghost use Rattle.norprog_play.specs.Together.{MayGoTogether, StopsAlone};
 
 use crate::together::{expected, row_of, take_row};
-use nor_base::{ByteOut, Meaning, PortFault, Step, sampled};
+use nor_base::{ByteIn, ByteOut, Meaning, PortFault, Step, sampled};
 use nor_chip::Port;
 use nor_progress::Progress;
 use nor_serprog::{Reason, Shadowed, do_row};
 use norprog_failure::{Failure, failure_of};
-use std::io::{Read, Write};
 
 /// Why a device didn't go on, and at which step.
 #[derive(Clone, Copy, Drop)]
@@ -32,7 +34,7 @@ pub(crate) struct Halt {
 /// than there is room. Those of a row go to the device at once.
 ///
 /// How far it has come is reported to `progress`; where that fails nothing changes.
-pub(crate) fn follow_steps<R: Read + Drop, W: Write + Drop, P: ByteOut>(
+pub(crate) fn follow_steps<R: ByteIn + Drop, W: ByteOut + Drop, P: ByteOut>(
     meaning: &Meaning,
     steps: &[Step],
     port: &mut Shadowed<'_, R, W>,
@@ -50,16 +52,19 @@ pub(crate) fn follow_steps<R: Read + Drop, W: Write + Drop, P: ByteOut>(
         ≡ Ok port.new.chip.chip) }
     ensures failures { IfOk result (λ _. port.new.failed ≡ port.old.failed)
         × (port.new.failed ≤ port.old.failed + 1)
-        × (port.new.limits ≡ port.old.limits) }
+        × (port.new.limits ≡ port.old.limits)
+        × CountsBoth (R.count port.old.from) (R.count port.new.from)
+        (W.count port.old.to) (W.count port.new.to)
+        (fault_by (λ halt. fault_of_failure halt.why) result) }
     ensures done { MatchResult result
         (λ _. DoesAll port.old.limits port.old.turns
-        (moment port.old.chip (W.contents port.old.to.inner) (R.remaining port.old.from.inner))
+        (moment port.old.chip (W.held port.old.to) (R.ahead port.old.from))
         steps.now
-        (moment port.new.chip (W.contents port.new.to.inner) (R.remaining port.new.from.inner)))
+        (moment port.new.chip (W.held port.new.to) (R.ahead port.new.from)))
         (λ halt. StopsAt meaning.now port.old.limits port.old.turns
-        (moment port.old.chip (W.contents port.old.to.inner) (R.remaining port.old.from.inner))
+        (moment port.old.chip (W.held port.old.to) (R.ahead port.old.from))
         steps.now halt.step halt.why
-        (moment port.new.chip (W.contents port.new.to.inner) (R.remaining port.new.from.inner))) }
+        (moment port.new.chip (W.held port.new.to) (R.ahead port.new.from))) }
     ensures told { MatchResult result
         (λ _. Reports steps.now (length steps.now) (P.held progress.old) (P.held progress.new)
         (P.count progress.old)
@@ -88,7 +93,7 @@ pub(crate) fn follow_steps<R: Read + Drop, W: Write + Drop, P: ByteOut>(
 }
 
 /// Has the device do so many of the first steps, which the chip in memory takes, at once.
-fn follow_row<R: Read + Drop, W: Write + Drop>(
+fn follow_row<R: ByteIn + Drop, W: ByteOut + Drop>(
     meaning: &Meaning,
     steps: &[Step],
     count: usize,
@@ -106,18 +111,20 @@ fn follow_row<R: Read + Drop, W: Write + Drop>(
         × (played port.old.chip.setting 1 port.old.chip.chip steps.now ≡ Ok chip)) }
     ensures done { MatchResult result
         (λ _. DoesAll port.old.limits port.old.turns
-        (moment port.old.chip (W.contents port.old.to.inner) (R.remaining port.old.from.inner))
+        (moment port.old.chip (W.held port.old.to) (R.ahead port.old.from))
         (take count steps.now)
-        (moment port.new.chip (W.contents port.new.to.inner) (R.remaining port.new.from.inner)))
+        (moment port.new.chip (W.held port.new.to) (R.ahead port.new.from)))
         (λ halt. StopsAt meaning.now port.old.limits port.old.turns
-        (moment port.old.chip (W.contents port.old.to.inner) (R.remaining port.old.from.inner))
+        (moment port.old.chip (W.held port.old.to) (R.ahead port.old.from))
         (take count steps.now) halt.step halt.why
-        (moment port.new.chip (W.contents port.new.to.inner)
-        (R.remaining port.new.from.inner))) }
+        (moment port.new.chip (W.held port.new.to) (R.ahead port.new.from))) }
     ensures failures { (port.new.failed ≤ port.old.failed + 1)
         × IfOk result (λ _. port.new.reason ≡ None)
         × IfOk result (λ _. port.new.failed ≡ port.old.failed)
-        × IfErr result (λ halt. halt.step < count) }
+        × IfErr result (λ halt. halt.step < count)
+        × CountsBoth (R.count port.old.from) (R.count port.new.from)
+        (W.count port.old.to) (W.count port.new.to)
+        (fault_by (λ halt. fault_of_failure halt.why) result) }
     ensures kept { (port.new.limits ≡ port.old.limits)
         × (port.new.turns ≡ port.old.turns)
         × (length room.new ≡ length room.old) }
@@ -147,6 +154,7 @@ fn failed(meaning: &Meaning, row: &[Step], step: u64, why: Reason) -> Halt
     ensures step { result.step ≡ step }
     ensures why { (x : Step) → x ≡ get_or row.now step x
         → FailsAs meaning.now (step_clocks x) (expected x) why result.why }
+    ensures fault { fault_of_failure result.why ≡ fault_of_reason why }
 {
     let at = &row[step as usize];
     let why = failure_of(meaning, at.clocks(), expected(at), why);
@@ -154,7 +162,7 @@ fn failed(meaning: &Meaning, row: &[Step], step: u64, why: Reason) -> Halt
 }
 
 /// Has the device do a step that the chip in memory takes.
-fn follow_step<R: Read + Drop, W: Write + Drop>(
+fn follow_step<R: ByteIn + Drop, W: ByteOut + Drop>(
     meaning: &Meaning,
     step: &Step,
     port: &mut Shadowed<'_, R, W>,
@@ -166,17 +174,18 @@ fn follow_step<R: Read + Drop, W: Write + Drop>(
         × IsTaken port.old.chip (step_clocks step.now) }
     ensures done { MatchResult result
         (λ _. Does port.old.limits port.old.turns
-        (moment port.old.chip (W.contents port.old.to.inner) (R.remaining port.old.from.inner))
+        (moment port.old.chip (W.held port.old.to) (R.ahead port.old.from))
         (step_clocks step.now)
-        (moment port.new.chip (W.contents port.new.to.inner) (R.remaining port.new.from.inner)))
+        (moment port.new.chip (W.held port.new.to) (R.ahead port.new.from)))
         (λ failed. StopsAlone meaning.now port.old.limits port.old.turns
-        (moment port.old.chip (W.contents port.old.to.inner) (R.remaining port.old.from.inner))
+        (moment port.old.chip (W.held port.old.to) (R.ahead port.old.from))
         (step_clocks step.now) failed
-        (moment port.new.chip (W.contents port.new.to.inner)
-        (R.remaining port.new.from.inner))) }
+        (moment port.new.chip (W.held port.new.to) (R.ahead port.new.from))) }
     ensures failures { (port.new.failed ≤ port.old.failed + 1)
         × IfOk result (λ _. port.new.reason ≡ None)
         × IfOk result (λ _. port.new.failed ≡ port.old.failed) }
+    ensures blamed { CountsBoth (R.count port.old.from) (R.count port.new.from)
+        (W.count port.old.to) (W.count port.new.to) (fault_by fault_of_failure result) }
     ensures kept { (port.new.limits ≡ port.old.limits)
         × (port.new.turns ≡ port.old.turns)
         × (length room.new ≡ length room.old) }

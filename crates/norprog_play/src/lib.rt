@@ -14,9 +14,9 @@
 
 mod access;
 mod asked;
+mod blame;
 mod command;
 mod content;
-mod cut;
 mod device;
 mod early;
 mod ending;

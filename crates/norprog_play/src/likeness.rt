@@ -3,18 +3,20 @@
 ghost use Rattle.std.specs.Prelude.{◌≡◌, ◌<◌, ◌≤◌, ◌+◌, ◌-◌, ◌*◌, ◌^◌, false, length, MatchResult};
 ghost use Rattle.std.specs.Prelude.{IfOk};
 ghost use Rattle.nor_cells.specs.Marks.{IsMarked};
+ghost use Rattle.norprog_device.specs.Blame.{CountsBoth, fault_of_mismatch};
+ghost use Rattle.norprog_play.specs.Blame.{fault_by};
 ghost use Rattle.norprog_play.specs.Moment.{moment};
 ghost use Rattle.norprog_play.specs.Likeness.{Compares, IsLike, IsUnlike};
 
 use crate::access::Access;
 use crate::content::compare;
+use nor_base::{ByteIn, ByteOut};
 use nor_probe::Mismatch;
 use nor_serprog::{Reason, Shadowed};
-use std::io::{Read, Write};
 
 /// Compares the marked cells of the chip behind the device with the chip in memory, unless it is
 /// trusted.
-pub(crate) fn compare_unless_trusted<R: Read + Drop, W: Write + Drop>(
+pub(crate) fn compare_unless_trusted<R: ByteIn + Drop, W: ByteOut + Drop>(
     port: &mut Shadowed<'_, R, W>,
     access: Access,
     marks: &[bool],
@@ -25,11 +27,11 @@ pub(crate) fn compare_unless_trusted<R: Read + Drop, W: Write + Drop>(
     requires count { port.old.failed < 2 ^ 64 - 1 }
     ensures compared { MatchResult result
         (λ _. Compares trusted access (IsMarked marks.now)
-        (moment port.old.chip (W.contents port.old.to.inner) (R.remaining port.old.from.inner))
-        (moment port.new.chip (W.contents port.new.to.inner) (R.remaining port.new.from.inner)))
+        (moment port.old.chip (W.held port.old.to) (R.ahead port.old.from))
+        (moment port.new.chip (W.held port.new.to) (R.ahead port.new.from)))
         (λ why. (trusted ≡ false) × IsUnlike access (IsMarked marks.now)
-        (moment port.old.chip (W.contents port.old.to.inner) (R.remaining port.old.from.inner))
-        (moment port.new.chip (W.contents port.new.to.inner) (R.remaining port.new.from.inner))
+        (moment port.old.chip (W.held port.old.to) (R.ahead port.old.from))
+        (moment port.new.chip (W.held port.new.to) (R.ahead port.new.from))
         why) }
     ensures kept { (port.new.chip ≡ port.old.chip)
         × (port.new.limits ≡ port.old.limits)
@@ -37,6 +39,8 @@ pub(crate) fn compare_unless_trusted<R: Read + Drop, W: Write + Drop>(
     ensures failures { IfOk result (λ _. port.new.reason ≡ port.old.reason)
         × IfOk result (λ _. port.new.failed ≡ port.old.failed)
         × (port.new.failed ≤ port.old.failed + 1) }
+    ensures blamed { CountsBoth (R.count port.old.from) (R.count port.new.from)
+        (W.count port.old.to) (W.count port.new.to) (fault_by fault_of_mismatch result) }
 {
     if trusted {
         return Ok(());
@@ -46,7 +50,7 @@ pub(crate) fn compare_unless_trusted<R: Read + Drop, W: Write + Drop>(
 
 /// Has the device read the marked cells of its chip, and compares them with the chip in memory. A
 /// port where that stops has failed.
-pub(crate) fn compare_chip<R: Read + Drop, W: Write + Drop>(
+pub(crate) fn compare_chip<R: ByteIn + Drop, W: ByteOut + Drop>(
     port: &mut Shadowed<'_, R, W>,
     access: Access,
     marks: &[bool],
@@ -56,11 +60,11 @@ pub(crate) fn compare_chip<R: Read + Drop, W: Write + Drop>(
     requires count { port.old.failed < 2 ^ 64 - 1 }
     ensures compared { MatchResult result
         (λ _. IsLike access (IsMarked marks.now)
-        (moment port.old.chip (W.contents port.old.to.inner) (R.remaining port.old.from.inner))
-        (moment port.new.chip (W.contents port.new.to.inner) (R.remaining port.new.from.inner)))
+        (moment port.old.chip (W.held port.old.to) (R.ahead port.old.from))
+        (moment port.new.chip (W.held port.new.to) (R.ahead port.new.from)))
         (λ why. IsUnlike access (IsMarked marks.now)
-        (moment port.old.chip (W.contents port.old.to.inner) (R.remaining port.old.from.inner))
-        (moment port.new.chip (W.contents port.new.to.inner) (R.remaining port.new.from.inner))
+        (moment port.old.chip (W.held port.old.to) (R.ahead port.old.from))
+        (moment port.new.chip (W.held port.new.to) (R.ahead port.new.from))
         why) }
     ensures kept { (port.new.chip ≡ port.old.chip)
         × (port.new.limits ≡ port.old.limits)
@@ -68,6 +72,8 @@ pub(crate) fn compare_chip<R: Read + Drop, W: Write + Drop>(
     ensures failures { IfOk result (λ _. port.new.reason ≡ port.old.reason)
         × IfOk result (λ _. port.new.failed ≡ port.old.failed)
         × (port.new.failed ≤ port.old.failed + 1) }
+    ensures blamed { CountsBoth (R.count port.old.from) (R.count port.new.from)
+        (W.count port.old.to) (W.count port.new.to) (fault_by fault_of_mismatch result) }
 {
     let content = port.chip.content();
     let compared = compare(

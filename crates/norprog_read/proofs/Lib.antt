@@ -1,4 +1,4 @@
-mod Room
+pub mod BlameLemmas
 mod WayLemmas
 pub mod ReadLemmas
 mod HarmlessLemmas

@@ -15,8 +15,9 @@ use Rattle.norprog_read.specs.declared.fault.Unread.{Unread}
 use Rattle.norprog_read.specs.declared.fault.Unread.TheVariants.{Refused, Device, Unlike}
 use Rattle.norprog_device.specs.declared.fault.DeviceFault.{DeviceFault}
 use Rattle.norprog_device.specs.declared.fault.DeviceFault.TheVariants.{Greet, Line}
+use Rattle.norprog_device.specs.Blame.{is_cut}
 use Rattle.norprog_device.specs.Opened.{LetsGo}
-use Rattle.norprog_read.specs.Cut.{stops_cut, was_cut}
+use Rattle.norprog_read.specs.Blame.{fault_in, fault_of_stop}
 use Rattle.norprog_read.specs.Stops.{RefusesFile, StopsAsked, StopsChip}
 use Rattle.norprog_read.specs.Opened.{HasReadOpened, HasReadTested, StopsGreeted, StopsOpened, StopsTested}
 
@@ -31,7 +32,7 @@ as_well false = refl
 
 -- a chip was read after the handshake, and then the pins were let go
 pub opened_by : (h i j k : Option (List ℕ)) (a b c d : Ahead) (limits : Limits) (ask : Ask) (r : Result Reading Unread) (pins : Bool)
-    → Greeted h i a b (Ok limits) → IfOk r (λ reading. HasReadTested i j b c limits ask reading) → pins ≡ (limits.pins && not (was_cut r))
+    → Greeted h i a b (Ok limits) → IfOk r (λ reading. HasReadTested i j b c limits ask reading) → pins ≡ (limits.pins && not (is_cut (fault_in r)))
     → LetsGo j k c d pins → IfOk r (λ reading. HasReadOpened h k a d ask reading)
 opened_by h i j k a b c d limits ask (Ok reading) pins greeted read is released = record {
   held = i;
@@ -47,7 +48,7 @@ opened_by h i j k a b c d limits ask (Err why) pins greeted read is released = t
 
 -- or it stopped
 greeted_stops : (h i j k : Option (List ℕ)) (a b c d : Ahead) (limits : Limits) (ask : Ask) (why : Unread) (pins : Bool)
-    → Greeted h i a b (Ok limits) → StopsTested i j b c limits ask why → pins ≡ (limits.pins && not (stops_cut why)) → LetsGo j k c d pins
+    → Greeted h i a b (Ok limits) → StopsTested i j b c limits ask why → pins ≡ (limits.pins && not (is_cut (fault_of_stop why))) → LetsGo j k c d pins
     → StopsGreeted h k a d ask why
 greeted_stops h i j k a b c d limits ask why pins greeted stops is released = record {
   held = i;
@@ -61,7 +62,7 @@ greeted_stops h i j k a b c d limits ask why pins greeted stops is released = re
 }
 
 pub stops_by : (h i j k : Option (List ℕ)) (a b c d : Ahead) (limits : Limits) (ask : Ask) (r : Result Reading Unread) (pins : Bool)
-    → Greeted h i a b (Ok limits) → IfErr r (StopsTested i j b c limits ask) → pins ≡ (limits.pins && not (was_cut r)) → LetsGo j k c d pins
+    → Greeted h i a b (Ok limits) → IfErr r (StopsTested i j b c limits ask) → pins ≡ (limits.pins && not (is_cut (fault_in r))) → LetsGo j k c d pins
     → IfErr r (StopsOpened h k a d ask)
 stops_by h i j k a b c d limits ask (Ok reading) pins greeted stops is released = tt
 stops_by h i j k a b c d limits ask (Err (Device (Greet why))) pins greeted stops is released = absurd stops

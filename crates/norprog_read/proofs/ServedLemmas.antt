@@ -13,7 +13,7 @@ use Rattle.norprog_read.specs.declared.fault.Unread.{Unread}
 use Rattle.norprog_read.specs.declared.fault.Unread.TheVariants.{Refused, Device, Unlike}
 use Rattle.norprog_read.specs.declared.request.ReadRequest.{ReadRequest}
 use Rattle.norprog_read.specs.Answer.{outputs_of, IsKept, IsReadOf, IsStopOf, IsUnread, AreSavedIf, AreUnsaved, RefusesReading, RefusesTexts}
-use Rattle.norprog_read.specs.Made.{creates, opens, IsUnused}
+use Rattle.norprog_read.specs.Made.{creates, opens}
 use Rattle.norprog_read.specs.Opened.{IsReadOn, IsUnreadOn, StopsNamed}
 use Rattle.norprog_read.specs.Request.{is_well_formed, AsksFor, IsAskOf}
 use Rattle.norprog_read.specs.Served.{opened_asked, tables_named, AreTablesIf, Serves}
@@ -41,7 +41,7 @@ module _ (files : FileFacts) (given : ReadArgs) (request : ReadRequest) (asks : 
       let same = sym (tables_are given.chip (option_map origin_of request.chip) asks.chip) in
       let told : RefusesReading files given Made why = inl (
         lacks_named files (opened_asked given) file.Sfdp (tables_named (option_map origin_of request.chip)) why same refused lacks,
-        subst (λ (device : Option (List ℕ)). IsUnused files device Made why) (sym device_asked) (inl none),
+        none,
       ) in rw formed told
 
 module _ (files : FileFacts) (given : ReadArgs) (request : ReadRequest) (file : List ℕ) (ask : Ask) (asks : AsksFor given request)
@@ -60,7 +60,7 @@ module _ (files : FileFacts) (given : ReadArgs) (request : ReadRequest) (file : 
     content = of.content ∙ ap (λ s. is_some s) asks.out;
   }
 
-  pub was_read : (r : Reading) → IsReadOn (files.device request.device.now) files.left ask r → IsReadOf files given r
+  pub was_read : (r : Reading) → IsReadOn files request.device.now ask r → IsReadOf files given r
   was_read r on = record {
     ask = ask;
     serves = serves;
@@ -88,8 +88,7 @@ module _ (files : FileFacts) (given : ReadArgs) (request : ReadRequest) (file : 
     }
 
     refused : (why : Refusal) → IsUnreadOn files request.device.now Made ask (Refused why) → RefusesReading files given Made why
-    refused why (inl untouched) =
-        inl (device_told files given request asks why untouched.0, subst (λ (device : Option (List ℕ)). IsUnused files device Made why) (sym named) untouched.1)
+    refused why (inl unopened) = inl (device_told files given request asks why unopened.0, unopened.1)
     refused why (inr on) = inr (inl (stopped (Refused why) on))
 
     module _ (formed : is_well_formed given ≡ true) where
@@ -102,7 +101,7 @@ module _ (files : FileFacts) (given : ReadArgs) (request : ReadRequest) (file : 
       unread (Unlike why) p = (formed, stopped (Unlike why) p)
 
   module _ (a b c : Option (List Change)) (opened : Adds a b (Opened request.device.now ∷ [])) (r : Reading)
-      (on : IsReadOn (files.device request.device.now) files.left ask r) where
+      (on : IsReadOn files request.device.now ask r) where
     -- the device was opened, and then these changes were made
     first : Adds a b (opens (option_map (λ t. t.now) given.device))
     first = subst (λ (device : Option (List ℕ)). Adds a b (opens device)) (sym named) opened

@@ -20,7 +20,7 @@ use Rattle.norprog_read.specs.declared.fault.Unlike.{Unlike as Unlikeness}
 use Rattle.norprog_read.specs.declared.fault.Unread.{Unread}
 use Rattle.norprog_read.specs.declared.fault.Unread.TheVariants.{Refused, Device, Unlike}
 use Rattle.norprog_read.specs.Line.{reading_text, unlike_line}
-use Rattle.norprog_read.specs.Made.{creates, opens, IsUnused}
+use Rattle.norprog_read.specs.Made.{creates, opens}
 use Rattle.norprog_read.specs.Opened.{IsReadOn, StopsOnDevice}
 use Rattle.norprog_read.specs.Request.{is_well_formed}
 use Rattle.norprog_read.specs.Saved.{IsSaved, IsUnsaved}
@@ -32,7 +32,7 @@ pub record IsReadOf (files : FileFacts) (given : ReadArgs) (r : Reading) : Type 
   pub serves : Serves files given ask
   pub device : List ℕ
   pub named : option_map (λ t. t.now) given.device ≡ Some device
-  pub read : IsReadOn (files.device device) files.left ask r
+  pub read : IsReadOn files device ask r
 
 -- the device that is named was opened, and nothing else was changed; and that stopped so
 pub record IsStopOf (files : FileFacts) (given : ReadArgs) (Made : List Change → Type 0) (why : Unread) : Type 0 where
@@ -41,7 +41,7 @@ pub record IsStopOf (files : FileFacts) (given : ReadArgs) (Made : List Change �
   pub device : List ℕ
   pub named : option_map (λ t. t.now) given.device ≡ Some device
   pub made : Made (opens (option_map (λ t. t.now) given.device))
-  pub stops : StopsOnDevice (files.device device) files.left ask why
+  pub stops : StopsOnDevice files device ask why
 
 -- where an output is named these bytes are saved
 abbrev pub AreSavedIf : FileFacts → Option (List ℕ) → List ℕ → Type 0
@@ -78,11 +78,11 @@ pub record IsUnkept (files : FileFacts) (given : ReadArgs) (Made : List Change �
   pub unsaved : AreUnsaved files (option_map (λ t. t.now) given.tables) (option_map (λ t. t.now) given.out) reading
       (λ next. Made (opens (option_map (λ t. t.now) given.device) ++ next)) why
 
--- a refusal of work that is asked for: a file couldn't be used, or memory ran out, before anything was sent; or why the chip wasn't
+-- a refusal of work that is asked for: a file couldn't be used, or memory ran out, and nothing was changed; or why the chip wasn't
 -- read; or it was read, and an output failed, or memory ran out
 abbrev pub RefusesReading : FileFacts → ReadArgs → (List Change → Type 0) → Refusal → Type 0
 RefusesReading files given Made why =
-    (TellsFile (Lacks files (opened_asked given)) why × IsUnused files (option_map (λ t. t.now) given.device) Made why)
+    (TellsFile (Lacks files (opened_asked given)) why × Made [])
     ⊎ (IsStopOf files given Made (Refused why)
     ⊎ IsUnkept files given Made why)
 

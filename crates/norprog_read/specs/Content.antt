@@ -1,5 +1,5 @@
 -- The content of a chip that came twice alike (this project's).
-use Rattle.std.specs.Prelude.{◌≡◌, ℕ, List, length, Option}
+use Rattle.std.specs.Prelude.{◌≡◌, ℕ, Bool, List, length, Option}
 use Rattle.nor_base.specs.declared.meaning.Start.{Start}
 use Rattle.nor_base.specs.Device.{Ahead}
 use Rattle.nor_base.specs.Parameters.{Parameters}
@@ -7,10 +7,10 @@ use Rattle.nor_reader.specs.Laws.{KnowsContent}
 use Rattle.nor_reader.specs.Twice.{ReadTwice}
 use Rattle.norprog_read.specs.Way.{first_by, second_by}
 
--- a byte for each address, by just these two readings; and what every ready chip of the meaning and the start holds that would have
--- given these answers
+-- a byte for each address, by just these two readings; and what every ready chip of the meaning and the start holds, whatever its quad
+-- setting, that would have given these answers
 pub record HoldsWhole (held_before held_after : Option (List ℕ)) (ahead_before ahead_after : Ahead) (m : Parameters) (start : Start)
     (content : List ℕ) : Type 0 where
   pub whole : length content ≡ m.size
-  pub known : KnowsContent held_before held_after ahead_before ahead_after m start content
+  pub known : (quad : Bool) → KnowsContent held_before held_after ahead_before ahead_after m (record start { quad = quad }) content
   pub twice : ReadTwice held_before held_after ahead_before ahead_after (first_by m start) (second_by m start) content

@@ -4,7 +4,7 @@ pub mod Chip
 pub mod Stops
 pub mod Saved
 pub mod Made
-pub mod Cut
+pub mod Blame
 pub mod Opened
 pub mod Line
 pub mod Request

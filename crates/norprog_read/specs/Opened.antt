@@ -1,18 +1,19 @@
 -- A chip that was read, or wasn't, from the handshake on (this project's).
 use Rattle.std.specs.Prelude.{◌⊎◌, ℕ, not, ◌&&◌, List, [], ◌∷◌, Option, Ok, Err}
-use Rattle.nor_base.specs.Device.{Ahead, ahead_of}
+use Rattle.nor_base.specs.Device.{Ahead}
 use Rattle.nor_serprog.specs.declared.limits.Limits.{Limits}
 use Rattle.nor_serprog.specs.Greeting.{Greeted}
 use Rattle.nor_serprog.specs.Line.{TestsLine}
 use Rattle.norprog_common.specs.FileStore.{FileFacts, Change, Opened as Opening}
 use Rattle.norprog_device.specs.declared.fault.DeviceFault.TheVariants.{Greet, Line}
-use Rattle.norprog_device.specs.Opened.{IsUntouched, LacksDevice, LetsGo}
+use Rattle.norprog_device.specs.Blame.{is_cut, Blames}
+use Rattle.norprog_device.specs.Opened.{LacksDevice, LetsGo}
 use Rattle.norprog_read.specs.declared.asked.Ask.{Ask}
 use Rattle.norprog_read.specs.declared.asked.Reading.{Reading}
 use Rattle.norprog_read.specs.declared.fault.Unread.{Unread}
 use Rattle.norprog_read.specs.declared.fault.Unread.TheVariants.{Refused, Device}
 use Rattle.norprog_read.specs.Chip.{HasReadChip}
-use Rattle.norprog_read.specs.Cut.{stops_cut}
+use Rattle.norprog_read.specs.Blame.{fault_of_stop}
 use Rattle.norprog_read.specs.Stops.{StopsChip}
 
 -- the line was tested, and the chip read
@@ -60,7 +61,7 @@ pub record StopsGreeted (held_before held_after : Option (List ℕ)) (ahead_befo
   pub held_late : Option (List ℕ)
   pub ahead_late : Ahead
   pub stops : StopsTested held held_late ahead ahead_late limits ask why
-  pub released : LetsGo held_late held_after ahead_late ahead_after (limits.pins && not (stops_cut why))
+  pub released : LetsGo held_late held_after ahead_late ahead_after (limits.pins && not (is_cut (fault_of_stop why)))
 
 -- the handshake stopped so, or what came after it
 abbrev pub StopsOpened : Option (List ℕ) → Option (List ℕ) → Ahead → Ahead → Ask → Unread → Type 0
@@ -69,35 +70,33 @@ StopsOpened held_before held_after ahead_before ahead_after ask (Device (Greet w
 StopsOpened held_before held_after ahead_before ahead_after ask why =
     StopsGreeted held_before held_after ahead_before ahead_after ask why
 
--- the device that was named was opened, had this yet to give, and had taken that; the chip behind it was read so, and nothing was sent
--- after that
-pub record IsReadOn (Opened : Option (List ℕ) → Option (List ℕ) → Type 0) (Left : Option (List ℕ) → Type 0) (ask : Ask) (r : Reading)
-    : Type 0 where
-  pub remaining : Option (List ℕ)
-  pub contents : Option (List ℕ)
-  pub opened : Opened remaining contents
+-- the device of this name was opened, had this ahead, and had taken that; the chip behind it was read so, and nothing was sent after that
+pub record IsReadOn (files : FileFacts) (device : List ℕ) (ask : Ask) (r : Reading) : Type 0 where
+  pub ahead_first : Ahead
+  pub held_first : Option (List ℕ)
+  pub opened : files.device device ahead_first held_first
   pub held : Option (List ℕ)
   pub ahead : Ahead
-  pub read : HasReadOpened contents held (ahead_of remaining) ahead ask r
-  pub left : Left held
+  pub read : HasReadOpened held_first held ahead_first ahead ask r
+  pub left : files.left held
 
--- or that stopped so
-pub record StopsOnDevice (Opened : Option (List ℕ) → Option (List ℕ) → Type 0) (Left : Option (List ℕ) → Type 0) (ask : Ask) (why : Unread)
-    : Type 0 where
-  pub remaining : Option (List ℕ)
-  pub contents : Option (List ℕ)
-  pub opened : Opened remaining contents
+-- or that stopped so; the reader is blamed only where the device failed as it was read, and the writer only where it failed as it was
+-- written to
+pub record StopsOnDevice (files : FileFacts) (device : List ℕ) (ask : Ask) (why : Unread) : Type 0 where
+  pub ahead_first : Ahead
+  pub held_first : Option (List ℕ)
+  pub opened : files.device device ahead_first held_first
   pub held : Option (List ℕ)
   pub ahead : Ahead
-  pub stops : StopsOpened contents held (ahead_of remaining) ahead ask why
-  pub left : Left held
+  pub stops : StopsOpened held_first held ahead_first ahead ask why
+  pub left : files.left held
+  pub blamed : Blames files.unread files.unsent (fault_of_stop why)
 
--- the device of this name was opened, and that stopped so
+-- just that device was opened, and that stopped so
 abbrev pub StopsNamed : FileFacts → List ℕ → (List Change → Type 0) → Ask → Unread → Type 0
-StopsNamed files device Made ask why = Made (Opening device ∷ []) × StopsOnDevice (files.device device) files.left ask why
+StopsNamed files device Made ask why = Made (Opening device ∷ []) × StopsOnDevice files device ask why
 
--- why the chip behind it isn't read: it couldn't be opened, or memory ran out before anything was sent; or that
+-- why the chip behind it isn't read: it couldn't be opened, or memory ran out before it was, and nothing was changed; or that
 abbrev pub IsUnreadOn : FileFacts → List ℕ → (List Change → Type 0) → Ask → Unread → Type 0
-IsUnreadOn files device Made ask (Refused why) =
-    (LacksDevice files device why × IsUntouched files device Made why) ⊎ StopsNamed files device Made ask (Refused why)
+IsUnreadOn files device Made ask (Refused why) = (LacksDevice files device why × Made []) ⊎ StopsNamed files device Made ask (Refused why)
 IsUnreadOn files device Made ask why = StopsNamed files device Made ask why

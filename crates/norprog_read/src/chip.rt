@@ -9,6 +9,8 @@ ghost use Rattle.nor_probe.specs.Status.{ReadsStatus};
 ghost use Rattle.nor_reader.specs.Harmless.{HasSentHarmless, SendsHarmless};
 ghost use Rattle.nor_reader.specs.Id.{Identifies};
 ghost use Rattle.nor_reader.specs.Tables.{HasReadTables};
+ghost use Rattle.norprog_device.specs.Blame.{Blames};
+ghost use Rattle.norprog_read.specs.Blame.{fault_in, CountsBoth};
 ghost use Rattle.norprog_read.specs.Chip.{is_otherwise, AreAlike, GivesContent, GivesTables};
 ghost use Rattle.norprog_read.specs.Chip.{HasMeaning, HasReadChip, IsDriven, IsUndriven, both_go};
 ghost use Rattle.norprog_read.specs.Chip.{chip_task};
@@ -48,8 +50,10 @@ pub fn read_chip<R: ByteIn, W: ByteOut>(
         (StopsChip (W.held to.old) (W.held to.new) (R.ahead from.old) (R.ahead from.new) ask.now) }
     ensures harmless { MatchResult result (λ _. HasSentHarmless (W.held to.old) (W.held to.new))
         (λ _. SendsHarmless (W.held to.old) (W.held to.new)) }
-    ensures reads_room { R.count from.new ≤ R.count from.old + 1 }
-    ensures writes_room { W.count to.new ≤ W.count to.old + 1 }
+    ensures blamed { Blames (R.count from.old < R.count from.new)
+        (W.count to.old < W.count to.new) (fault_in result) }
+    ensures counts { CountsBoth (R.count from.old) (R.count from.new) (W.count to.old)
+        (W.count to.new) (fault_in result) }
 {
     ask_chip(alloc, from, to, limits, ask)
 }
@@ -69,8 +73,8 @@ fn ask_chip<R: ByteIn, W: ByteOut>(
         ask.now reading) }
     ensures stops { IfErr result
         (StopsChip (W.held to.old) (W.held to.new) (R.ahead from.old) (R.ahead from.new) ask.now) }
-    ensures reads_room { R.count from.new ≤ R.count from.old + 1 }
-    ensures writes_room { W.count to.new ≤ W.count to.old + 1 }
+    ensures counts { CountsBoth (R.count from.old) (R.count from.new) (W.count to.old)
+        (W.count to.new) (fault_in result) }
 {
     check_file(ask)?;
     let status = ask_status(from, to, ask)?;
@@ -112,7 +116,6 @@ fn is_undriven(id: [u8; 3]) -> bool
 }
 
 /// What the chip says that it is, where it says something.
-#[tactic(auto, using(crate::proofs::Room::reads_room, crate::proofs::Room::writes_room))]
 fn ask_id<R: ByteIn, W: ByteOut>(from: &mut R, to: &mut W) -> Result<[u8; 3], Unread>
     requires room { HaveRoom (R.count from.old) (W.count to.old) }
     ensures id { IfOk result
@@ -121,10 +124,8 @@ fn ask_id<R: ByteIn, W: ByteOut>(from: &mut R, to: &mut W) -> Result<[u8; 3], Un
     ensures driven { IfOk result IsDriven }
     ensures stops { IfErr result
         (StopsId (W.held to.old) (W.held to.new) (R.ahead from.old) (R.ahead from.new)) }
-    ensures counts { IfOk result (λ _. R.count from.new ≡ R.count from.old)
-        × IfOk result (λ _. W.count to.new ≡ W.count to.old) }
-    ensures failures { (R.count from.new ≤ R.count from.old + 1)
-        × (W.count to.new ≤ W.count to.old + 1) }
+    ensures counts { CountsBoth (R.count from.old) (R.count from.new) (W.count to.old)
+        (W.count to.new) (fault_in result) }
 {
     match read_id(from, to) {
         Ok(id) if is_undriven(id) => Err(Unread::Unlike(Unlike::Id(id))),
@@ -135,7 +136,6 @@ fn ask_id<R: ByteIn, W: ByteOut>(from: &mut R, to: &mut W) -> Result<[u8; 3], Un
 
 /// Its status, once it is idle. Of a part whose registers are known it has to be in the address
 /// mode that was said.
-#[tactic(auto, using(crate::proofs::Room::reason_read, crate::proofs::Room::reason_write))]
 fn ask_status<R: ByteIn, W: ByteOut>(from: &mut R, to: &mut W, ask: &Ask<'_>) -> Result<u32, Unread>
     requires room { HaveRoom (R.count from.old) (W.count to.old) }
     ensures status { IfOk result
@@ -146,10 +146,8 @@ fn ask_status<R: ByteIn, W: ByteOut>(from: &mut R, to: &mut W, ask: &Ask<'_>) ->
     ensures stops { IfErr result
         (StopsStatus (W.held to.old) (W.held to.new) (R.ahead from.old) (R.ahead from.new)
         ask.now) }
-    ensures counts { IfOk result (λ _. R.count from.new ≡ R.count from.old)
-        × IfOk result (λ _. W.count to.new ≡ W.count to.old) }
-    ensures failures { (R.count from.new ≤ R.count from.old + 1)
-        × (W.count to.new ≤ W.count to.old + 1) }
+    ensures counts { CountsBoth (R.count from.old) (R.count from.new) (W.count to.old)
+        (W.count to.new) (fault_in result) }
 {
     match chip_status(from, to, ask.part, ask.turns) {
         Ok(status) if is_otherwise(ask.part, ask.mode4, status) => {
@@ -189,10 +187,8 @@ fn ask_tables<R: ByteIn, W: ByteOut>(
     ensures stops { IfErr result
         (StopsAsked (W.held to.old) (W.held to.new) (R.ahead from.old) (R.ahead from.new)
         ask.now.known) }
-    ensures counts { IfOk result (λ _. R.count from.new ≡ R.count from.old)
-        × IfOk result (λ _. W.count to.new ≡ W.count to.old) }
-    ensures failures { (R.count from.new ≤ R.count from.old + 1)
-        × (W.count to.new ≤ W.count to.old + 1) }
+    ensures counts { CountsBoth (R.count from.old) (R.count from.new) (W.count to.old)
+        (W.count to.new) (fault_in result) }
 {
     match ask.known {
         Known::Uniform(_) => Ok(Vec::new(alloc)),
@@ -206,7 +202,6 @@ fn ask_tables<R: ByteIn, W: ByteOut>(
 }
 
 /// Its tables, which came twice alike.
-#[tactic(auto, using(crate::proofs::Room::tables_read, crate::proofs::Room::tables_write))]
 fn own_tables<R: ByteIn, W: ByteOut>(
     alloc: Global,
     from: &mut R,
@@ -220,10 +215,8 @@ fn own_tables<R: ByteIn, W: ByteOut>(
         tables.items) }
     ensures stops { IfErr result
         (StopsOwn (W.held to.old) (W.held to.new) (R.ahead from.old) (R.ahead from.new)) }
-    ensures counts { IfOk result (λ _. R.count from.new ≡ R.count from.old)
-        × IfOk result (λ _. W.count to.new ≡ W.count to.old) }
-    ensures reads_room { R.count from.new ≤ R.count from.old + 1 }
-    ensures writes_room { W.count to.new ≤ W.count to.old + 1 }
+    ensures counts { CountsBoth (R.count from.old) (R.count from.new) (W.count to.old)
+        (W.count to.new) (fault_in result) }
 {
     match read_tables(alloc, from, to, limits) {
         Ok(tables) => Ok(tables),
@@ -322,10 +315,8 @@ fn ask_content<R: ByteIn, W: ByteOut>(
         (StopsContent (W.held to.old) (W.held to.new) (R.ahead from.old) (R.ahead from.new)
         meaning.now start) }
     ensures wanted { IfErr result (λ _. wanted ≡ true) }
-    ensures counts { IfOk result (λ _. R.count from.new ≡ R.count from.old)
-        × IfOk result (λ _. W.count to.new ≡ W.count to.old) }
-    ensures failures { (R.count from.new ≤ R.count from.old + 1)
-        × (W.count to.new ≤ W.count to.old + 1) }
+    ensures counts { CountsBoth (R.count from.old) (R.count from.new) (W.count to.old)
+        (W.count to.new) (fault_in result) }
 {
     if wanted {
         read_whole(alloc, from, to, limits, meaning, start)

@@ -20,9 +20,9 @@ use crate::line::{write_reading, write_unlike};
 use crate::opened::read_opened;
 use crate::request::{ReadRequest, ask_of, request_of};
 use crate::saved::save;
-use nor_base::{ByteOut, FromRead, IntoWrite};
+use nor_base::ByteOut;
 use norprog_common::{Chip, FileName, FileStore, ReadArgs, Refusal, refuse, tables_of};
-use norprog_device::{open_port, refuse_device};
+use norprog_device::refuse_device;
 use std::alloc::Global;
 
 /// Does what the texts of a command line of `read` ask for: the lines go to `out`, a refusal to
@@ -141,18 +141,15 @@ fn read_device<S: FileStore>(
     device: &str,
     ask: &Ask<'_>,
 ) -> Result<Reading, Unread>
-    ensures read { IfOk result (IsReadOn ((S.facts store.now).device device.now)
-        (S.facts store.now).left ask.now) }
+    ensures read { IfOk result (IsReadOn (S.facts store.now) device.now ask.now) }
     ensures opened { IfOk result (λ _. Adds (S.Journal.changes journal.old)
         (S.Journal.changes journal.new) (Opened device.now ∷ [])) }
     ensures unread { IfErr result (IsUnreadOn (S.facts store.now) device.now
         (Adds (S.Journal.changes journal.old) (S.Journal.changes journal.new)) ask.now) }
 {
-    let (from, to) = open_port(alloc, store, journal, device)?;
-    let mut from = FromRead::new(from);
-    let mut to = IntoWrite::new(to);
+    let (mut from, mut to) = store.open_device(journal, alloc, device)?;
     let read = read_opened(alloc, &mut from, &mut to, ask);
-    store.close_device(to.into_inner());
+    store.close_device(from, to);
     read
 }
 

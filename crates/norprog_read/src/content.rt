@@ -4,6 +4,7 @@ ghost use Rattle.std.specs.Prelude.{◌≡◌, ◌<◌, ◌≤◌, ◌+◌, ◌-
 ghost use Rattle.nor_base.specs.Device.{HaveRoom};
 ghost use Rattle.nor_base.specs.Instructions.{is_there};
 ghost use Rattle.nor_reader.specs.declared.by.ReadBy.TheVariants.{Entered};
+ghost use Rattle.norprog_read.specs.Blame.{fault_in, CountsBoth};
 ghost use Rattle.norprog_read.specs.Content.{HoldsWhole};
 ghost use Rattle.norprog_read.specs.Stops.{StopsContent};
 ghost use Rattle.norprog_read.specs.Way.{first_by, has_both, is_near, is_readable, is_small};
@@ -24,7 +25,6 @@ const REACH: u32 = 1 << 24;
 /// doubt. Memory is taken for it.
 ///
 /// `Unlike` where the chip can't be read whole or a byte came otherwise; `Refused` for `Memory`.
-#[tactic(auto, using(crate::proofs::Room::mismatch_read, crate::proofs::Room::mismatch_write))]
 pub(crate) fn read_whole<R: ByteIn, W: ByteOut>(
     alloc: Global,
     from: &mut R,
@@ -40,10 +40,8 @@ pub(crate) fn read_whole<R: ByteIn, W: ByteOut>(
     ensures stops { IfErr result
         (StopsContent (W.held to.old) (W.held to.new) (R.ahead from.old) (R.ahead from.new)
         meaning.now start) }
-    ensures counts { IfOk result (λ _. R.count from.new ≡ R.count from.old)
-        × IfOk result (λ _. W.count to.new ≡ W.count to.old) }
-    ensures reads_room { R.count from.new ≤ R.count from.old + 1 }
-    ensures writes_room { W.count to.new ≤ W.count to.old + 1 }
+    ensures counts { CountsBoth (R.count from.old) (R.count from.new) (W.count to.old)
+        (W.count to.new) (fault_in result) }
 {
     if !is_readable(meaning, start) {
         return Err(Unread::Unlike(Unlike::Unreadable));

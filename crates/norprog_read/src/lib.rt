@@ -3,15 +3,15 @@
 //!
 //! [`read`] does what the texts of a command line ask for. [`read_opened`] does the work from the
 //! handshake on, over any reader and writer; [`read_chip`] after it. [`save`] makes an output,
-//! [`write_reading`] and [`write_unlike`] print how it ended. [`is_cut`] and [`cuts_request`] say
-//! whether a request was cut, after which nothing may be sent.
+//! [`write_reading`] and [`write_unlike`] print how it ended. [`fault_of_unlike`] says how the
+//! exchange ended early that is why a chip isn't read.
 #![tactic(auto)]
 
 mod asked;
+mod blame;
 mod chip;
 mod command;
 mod content;
-mod cut;
 mod fault;
 mod line;
 mod opened;
@@ -19,9 +19,9 @@ mod request;
 mod saved;
 
 pub use asked::{Ask, Known, Reading};
+pub use blame::fault_of_unlike;
 pub use chip::read_chip;
 pub use command::{file_of, read};
-pub use cut::{cuts_request, is_cut};
 pub use fault::{Unlike, Unread};
 pub use line::{write_reading, write_unlike};
 pub use norprog_common::ReadArgs;

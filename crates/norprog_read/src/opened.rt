@@ -1,16 +1,17 @@
 //! A chip behind a device, from the handshake on.
 
 ghost use Rattle.std.specs.Prelude.{◌≡◌, ◌≤◌, ◌<◌, ◌+◌, ◌-◌, ◌^◌, ◌&&◌, not, Ok, IfOk, IfErr};
-ghost use Rattle.norprog_read.specs.Cut.{stops_cut, was_cut};
+ghost use Rattle.norprog_device.specs.Blame.{is_cut, Blames};
+ghost use Rattle.norprog_read.specs.Blame.{fault_in, CountsBoth};
 ghost use Rattle.norprog_read.specs.Opened.{HasReadOpened, HasReadTested, StopsOpened, StopsTested};
 
 use crate::asked::{Ask, Reading};
+use crate::blame::fault_in;
 use crate::chip::read_chip;
-use crate::cut::{cuts_request, is_cut};
-use crate::fault::{Unlike, Unread};
+use crate::fault::Unread;
 use nor_base::{ByteIn, ByteOut};
 use nor_serprog::{Limits, greet, test_line};
-use norprog_device::{DeviceFault, let_go};
+use norprog_device::{DeviceFault, is_cut, let_go};
 use std::alloc::Global;
 
 /// Begins with a device, tests the line to it, and has its chip read, as [`read_chip`] does, by the
@@ -33,6 +34,8 @@ pub fn read_opened<R: ByteIn, W: ByteOut>(
     ensures stops { IfErr result
         (StopsOpened (W.held to.old) (W.held to.new) (R.ahead from.old) (R.ahead from.new)
         ask.now) }
+    ensures blamed { Blames (R.count from.old < R.count from.new)
+        (W.count to.old < W.count to.new) (fault_in result) }
 {
     let limits = match greet(from, to) {
         Ok(limits) => limits,
@@ -47,31 +50,9 @@ pub fn read_opened<R: ByteIn, W: ByteOut>(
 /// Whether the pins are let go after a reading that ended so: the device drives them, and no
 /// request was cut. A device would take what follows as the rest of such a request.
 fn frees_pins(limits: &Limits, read: &Result<Reading, Unread>) -> bool
-    ensures { result ≡ (limits.now.pins && not (was_cut read.now)) }
+    ensures { result ≡ (limits.now.pins && not (is_cut (fault_in read.now))) }
 {
-    limits.pins && !was_cut(read)
-}
-
-/// Whether a reading ended because the writer failed in a request.
-fn was_cut(read: &Result<Reading, Unread>) -> bool
-    ensures { result ≡ was_cut read.now }
-{
-    match read {
-        Ok(_) => false,
-        Err(why) => stops_cut(why),
-    }
-}
-
-/// Whether a chip isn't read because the writer failed in a request.
-fn stops_cut(why: &Unread) -> bool
-    ensures { result ≡ stops_cut why.now }
-{
-    match why {
-        Unread::Refused(_) => false,
-        Unread::Device(fault) => is_cut(*fault),
-        Unread::Unlike(Unlike::Asking(fault)) => cuts_request(*fault),
-        Unread::Unlike(_) => false,
-    }
+    limits.pins && !is_cut(fault_in(read))
 }
 
 /// Tests the line to a device, and has its chip read.
@@ -91,8 +72,8 @@ fn read_tested<R: ByteIn, W: ByteOut>(
     ensures stops { IfErr result
         (StopsTested (W.held to.old) (W.held to.new) (R.ahead from.old) (R.ahead from.new)
         limits.now ask.now) }
-    ensures counts { R.count from.new ≤ R.count from.old + 1
-        × W.count to.new ≤ W.count to.old + 1 }
+    ensures counts { CountsBoth (R.count from.old) (R.count from.new) (W.count to.old)
+        (W.count to.new) (fault_in result) }
 {
     match test_line(from, to, limits) {
         Ok(()) => read_chip(alloc, from, to, limits, ask),

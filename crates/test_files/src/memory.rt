@@ -91,9 +91,9 @@ impl<'a> FileStore for Memory<'a> {
 
     type Output = IntoWrite<Vec<u8>>;
 
-    type FromDevice = &'a [u8];
+    type FromDevice = FromRead<&'a [u8]>;
 
-    type ToDevice = Vec<u8>;
+    type ToDevice = IntoWrite<Vec<u8>>;
 
     type Journal = Noted;
 
@@ -165,16 +165,24 @@ impl<'a> FileStore for Memory<'a> {
         if failed == 0 { Ok(()) } else { Err(Failed) }
     }
 
-    fn open_device(&self, journal: &mut Noted, path: &str) -> Result<(&'a [u8], Vec<u8>), Refusal> {
+    fn open_device(
+        &self,
+        journal: &mut Noted,
+        alloc: Global,
+        path: &str,
+    ) -> Result<(FromRead<&'a [u8]>, IntoWrite<Vec<u8>>), Refusal> {
         let answers = self.answers(path)?;
-        let alloc = journal.alloc;
         journal
             .notes
             .push(Note::Opened(String::from_str(alloc, path)?))?;
-        Ok((answers, Vec::new(alloc)))
+        Ok((FromRead::new(answers), IntoWrite::new(Vec::new(alloc))))
     }
 
-    fn close_device(&self, to: Vec<u8>) {
-        let _ = self.sent.replace(to);
+    fn close_device(&self, _from: FromRead<&'a [u8]>, to: IntoWrite<Vec<u8>>) {
+        let _ = self.sent.replace(to.inner);
+    }
+
+    fn is_regular(&self, path: &str) -> bool {
+        self.file(path, FileName::Script).is_ok()
     }
 }

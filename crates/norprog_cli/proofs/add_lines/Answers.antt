@@ -1,5 +1,6 @@
 -- The line that was taken is the last one.
 use Rattle.std.proofs.Common.{subst, sym}
+use Rattle.norprog_details.proofs.MayLemmas.{ask_about}
 use Rattle.norprog_details.specs.Heard.{IsLastLine}
 use Rattle.norprog_cli.proofs.add_lines.Goals as goal
 
@@ -12,5 +13,7 @@ returns-then-failures-lt18446744073709551615 g c = (
   λ works. c.write_details.ensures.told works.1,
 )
 
-pub write_details-requires-clause-read : goal.write_details-requires-clause-read
-write_details-requires-clause-read g c = c.requires _ c.as_line-line.ensures
+-- each option that was typed may be asked about, so the one that the refusal is about
+pub write_details-requires-clause-ask : goal.write_details-requires-clause-ask
+write_details-requires-clause-ask g c =
+    ask_about (g.S.FileStore.facts c.args.store.now) c.as_line-line.result c.as_slice.result.now (c.requires _ c.as_line-line.ensures)

@@ -1,14 +1,14 @@
 -- The command's own status; or, where it was done and its last bytes weren't written, that.
 use Rattle.std.proofs.Common.{inl, inr, refl, rules}
-use Rattle.std.specs.Io.Buffered.{writer_contents}
+use Rattle.std.specs.Io.KnownBytes.{append_known}
 use Rattle.norprog_cli.proofs.command_flushed.Goals as goal
 
 pub returns-in-Err-clause-ends : goal.returns-in-Err-clause-ends
 returns-in-Err-clause-ends g c = record {
-  written = writer_contents g.W.Write.contents c.command-status.new.out.inner;
+  written = append_known (g.W.ByteOut.held c.command-status.new.out.out) c.command-status.new.out.left.items;
   answered = c.command-status.new.err;
   own = c.command-status.result;
-  counted = c.command-status.new.out.failed;
+  counted = g.W.ByteOut.count c.command-status.new.out.out;
   answers = c.command-status.ensures.answer;
   kept = c.flush_out.ensures.kept;
   ends = inr (c.in-Err.ensures.failed, inr (search rules, search rules));
@@ -16,10 +16,10 @@ returns-in-Err-clause-ends g c = record {
 
 pub returns-in_default-clause-ends : goal.returns-in_default-clause-ends
 returns-in_default-clause-ends g c = record {
-  written = writer_contents g.W.Write.contents c.command-status.new.out.inner;
+  written = append_known (g.W.ByteOut.held c.command-status.new.out.out) c.command-status.new.out.left.items;
   answered = c.command-status.new.err;
   own = c.command-status.result;
-  counted = c.command-status.new.out.failed;
+  counted = g.W.ByteOut.count c.command-status.new.out.out;
   answers = c.command-status.ensures.answer;
   kept = c.flush_out.ensures.kept;
   ends = inr (search rules, inl (search rules, refl, refl));
@@ -27,10 +27,10 @@ returns-in_default-clause-ends g c = record {
 
 pub returns-in_default-2-clause-ends : goal.returns-in_default-2-clause-ends
 returns-in_default-2-clause-ends g c = record {
-  written = writer_contents g.W.Write.contents c.command-status.new.out.inner;
+  written = append_known (g.W.ByteOut.held c.command-status.new.out.out) c.command-status.new.out.left.items;
   answered = c.command-status.new.err;
   own = c.command-status.result;
-  counted = c.command-status.new.out.failed;
+  counted = g.W.ByteOut.count c.command-status.new.out.out;
   answers = c.command-status.ensures.answer;
   kept = c.flush_out.ensures.kept;
   ends = inl (search rules, search rules, refl, refl);

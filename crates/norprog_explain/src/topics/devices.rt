@@ -31,7 +31,8 @@ pub(crate) const TOPICS: &[Topic] = &[
     (
         "device write",
         "Writing to the device failed in the handshake or in the test of its line. Check\n\
-         that it is plugged in. The chip is as it was.",
+         that it is plugged in, and power it off and on, since it may wait for the rest\n\
+         of a request. The chip is as it was.",
     ),
     (
         "device version",
@@ -109,7 +110,8 @@ pub(crate) const TOPICS: &[Topic] = &[
         "unlike",
         "play couldn't read the chip before the steps: the device was silent or refused\n\
          a command (nak), or reading from it or writing to it failed. play sent no step.\n\
-         Check its line and its power, and play again.",
+         Check its line and its power, after `write` power it off and on, since it may\n\
+         wait for the rest of a request, and play again.",
     ),
     (
         "blank",
@@ -124,7 +126,8 @@ pub(crate) const TOPICS: &[Topic] = &[
          step was sent: build without --quad, and with bit 9 of --status as 0. Else the\n\
          steps before it are done, and of it and of up to two steps after it the chip\n\
          may have done some: `nak` the device refused it, `silent` no answer came,\n\
-         `read` or `write` failed, `differs` another byte came than `want`. Where the\n\
+         `read` or `write` failed, `differs` another byte came than `want`. After `write`\n\
+         power the device off and on: it may wait for the rest of a request. Where the\n\
          number is that of all steps, all were sent, and then the chip was read back:\n\
          at the address it doesn't hold what it must. If no step touches that address,\n\
          the chip is smaller than --uniform says, or an erase of it takes more than it\n\

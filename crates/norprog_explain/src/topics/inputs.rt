@@ -80,8 +80,11 @@ pub(crate) const TOPICS: &[Topic] = &[
     (
         "file before",
         "A file of the name that --before says is there, or can't be made or written.\n\
-         None is written over, since it may be the only copy of what a chip held. The\n\
-         chip isn't changed. Name another file.",
+         None is written over, since it may be the only copy of what a chip held. This\n\
+         time the chip isn't changed. If an earlier try with that file ended before its\n\
+         last line, as by Ctrl-C, a closed terminal or a power cut, the chip may be half\n\
+         done: give that file as --resume, and another as --before. Else what it held is\n\
+         lost. If there was no such try, name another file.",
     ),
     (
         "file resume",

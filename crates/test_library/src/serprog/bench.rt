@@ -89,6 +89,7 @@ fn files<'a>(
         tables: &[],
         answers: &[],
         end: End::Silent,
+        cut: None,
         put,
         left,
         saved: Some(saved),

@@ -49,6 +49,9 @@ const READ_SIX: &[u8] = b"\x13\x04\x00\x00\x06\x00\x00\x03\x00\x00\x00";
 /// A write enable.
 const ENABLE: &[u8] = b"\x13\x01\x00\x00\x00\x00\x00\x06";
 
+/// The write enable, and the program without its address and its byte.
+const HALF_SENT: &[u8] = b"\x13\x01\x00\x00\x00\x00\x00\x06\x13\x05\x00\x00\x00\x00\x00\x02";
+
 /// The program of 00h at 0.
 const PROGRAM: &[u8] = b"\x13\x05\x00\x00\x00\x00\x00\x02\x00\x00\x00\x00";
 
@@ -143,6 +146,8 @@ struct Row {
     released: &'static [u8],
     released_so: &'static [u8],
     end: End,
+    /// Its writer fails once, after all that goes out.
+    cut: bool,
     /// The first bytes of the file that was made; FFh are those after them.
     saved: Option<&'static [u8]>,
     plan: &'static [u8],
@@ -166,6 +171,7 @@ const GOOD: Row = Row {
     released: b"\x15\x00",
     released_so: ACK,
     end: End::Silent,
+    cut: false,
     saved: Some(b""),
     plan: PLAN,
     far: FAR,
@@ -334,7 +340,7 @@ const UNLIKE: Row = Row {
     ..KEPT
 };
 
-static UNLIKES: [Row; 13] = [
+static UNLIKES: [Row; 14] = [
     // block protection
     Row {
         put: READ,
@@ -426,6 +432,16 @@ static UNLIKES: [Row; 13] = [
         line: b"unlike read\n",
         ..UNLIKE
     },
+    // the writer fails in the middle of the identification: then nothing more goes out
+    Row {
+        put: &[STATUS, b"\x13\x01\x00"],
+        answers: &[b"\x06\x00"],
+        released: b"",
+        released_so: b"",
+        cut: true,
+        line: b"unlike write\n",
+        ..UNLIKE
+    },
     // silence at the status; a chip that stays busy
     Row {
         put: &[STATUS],
@@ -475,7 +491,7 @@ static UNLIKES: [Row; 13] = [
 /// Work that stops after a step was sent.
 const HALF: Row = Row { far: b"", ..GOOD };
 
-static HALVES: [Row; 9] = [
+static HALVES: [Row; 11] = [
     // NAK at the write enable; silence at the program
     Row {
         put: &[ENABLE],
@@ -548,6 +564,26 @@ static HALVES: [Row; 9] = [
         line: b"failed at 4 differs\n",
         ..HALF
     },
+    // the writer fails in the program, and as the chip is read back: then nothing more goes out
+    Row {
+        put: &[HALF_SENT],
+        answers: &[ACK],
+        released: b"",
+        released_so: b"",
+        cut: true,
+        line: b"failed at 1 write\n",
+        ..HALF
+    },
+    Row {
+        put: &[STEPS, READ_ONE, b"\x13\x04\x00"],
+        answers: &[DONE, b"\x06\x00"],
+        released: b"",
+        released_so: b"",
+        cut: true,
+        far: FAR,
+        line: b"failed at 4 write\n",
+        ..HALF
+    },
 ];
 
 /// What the device of a row answers in all.
@@ -617,6 +653,7 @@ fn store_of<'a>(
     alloc: Global,
     row: &Row,
     answers: &'a [u8],
+    cut: Option<usize>,
     put: &'a Cell<Vec<u8>>,
     left: &'a Cell<usize>,
     saved: &'a Cell<Vec<u8>>,
@@ -629,6 +666,7 @@ fn store_of<'a>(
         tables: &[],
         answers,
         end: row.end,
+        cut,
         put,
         left,
         saved: place,
@@ -641,13 +679,14 @@ fn flashes(rt: &impl Abort, alloc: Global, row: &Row) -> Result<(), AllocError> 
     let put = Cell::new(Vec::new(alloc));
     let left = Cell::new(answers.len());
     let saved = Cell::new(Vec::new(alloc));
-    let store = store_of(alloc, row, answers.as_slice(), &put, &left, &saved);
-    match store.open_device(&mut Unrecorded, "device") {
+    let want = wanted(alloc, row)?;
+    let cut = row.cut.then_some(want.len());
+    let store = store_of(alloc, row, answers.as_slice(), cut, &put, &left, &saved);
+    match store.open_device(&mut Unrecorded, alloc, "device") {
         Ok(line) => works(rt, alloc, &store, line, row)?,
         Err(_) => holds(rt, "a device", false),
     }
     let found = put.replace(Vec::new(alloc));
-    let want = wanted(alloc, row)?;
     same(rt, "how many were put", found.len(), want.len());
     holds(rt, "what was put", found.as_slice() == want.as_slice());
     same(rt, "answers left", left.replace(0), 0);
@@ -697,12 +736,12 @@ fn works(
     rt: &impl Abort,
     alloc: Global,
     store: &Store<'_>,
-    line: (FromLine<'_>, ToLine<'_>),
+    line: (FromRead<FromLine<'_>>, IntoWrite<ToLine<'_>>),
     row: &Row,
 ) -> Result<(), AllocError> {
     let old = old_in(alloc, row)?;
-    let mut from = FromRead::new(line.0);
-    let mut to = IntoWrite::new(line.1);
+    let mut from = FromRead::new(line.0.into_inner());
+    let mut to = IntoWrite::new(line.1.into_inner());
     let mut out = IntoWrite::new(Held::new(alloc, 1000));
     let mut progress = IntoWrite::new(Held::new(alloc, 1000));
     let job = job_of(row, old.as_slice());

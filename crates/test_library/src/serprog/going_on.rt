@@ -131,6 +131,7 @@ fn store_of<'a>(
         tables: &BLANK,
         answers,
         end: End::Silent,
+        cut: None,
         put,
         left,
         saved: Some(saved),

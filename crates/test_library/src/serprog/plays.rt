@@ -3,7 +3,7 @@
 use crate::ports::BLANK;
 use crate::same::{holds, same};
 use crate::serprog::canned::{Canned, End, Held};
-use nor_base::{PortFault, Start, Step, Width, Wrong};
+use nor_base::{FromRead, IntoWrite, PortFault, Start, Step, Width, Wrong};
 use nor_chip::{Chip, Port};
 use nor_play::{PlayFault, play};
 use nor_script::read;
@@ -111,15 +111,20 @@ fn plays_up_to<'a>(
         ahead: 0,
         pins: false,
     };
-    let mut port = Shadowed::new(chip, from, Held::new(alloc, row.room), limits, row.turns);
+    let from = FromRead::new(from);
+    let to = IntoWrite::new(Held::new(alloc, row.room));
+    let mut port = Shadowed::new(chip, from, to, limits, row.turns);
     same(rt, "played", play(alloc, steps, &mut port, 1), row.played);
     *left = port.from.inner.answers;
     has_put(rt, &mut port, row);
     Ok(())
 }
 
+/// A chip in memory beside such a device.
+type Beside<'a, 'b> = Shadowed<'a, FromRead<Canned<'b>>, IntoWrite<Held>>;
+
 /// The port failed for the row's reason, and has put what it says.
-fn has_put(rt: &impl Abort, port: &mut Shadowed<'_, Canned<'_>, Held>, row: &Row<'_>) {
+fn has_put(rt: &impl Abort, port: &mut Beside<'_, '_>, row: &Row<'_>) {
     same(rt, "the reason", port.reason, row.reason);
     if port.reason.is_some() {
         stays_failed(rt, port);
@@ -132,7 +137,7 @@ fn has_put(rt: &impl Abort, port: &mut Shadowed<'_, Canned<'_>, Held>, row: &Row
 }
 
 /// A port that has failed fails again, and puts nothing.
-fn stays_failed(rt: &impl Abort, port: &mut Shadowed<'_, Canned<'_>, Held>) {
+fn stays_failed(rt: &impl Abort, port: &mut Beside<'_, '_>) {
     let before = port.to.inner.bytes.len();
     holds(rt, "one failure", port.failures() == 1);
     let again = port.transact(b"00000110", &mut []);

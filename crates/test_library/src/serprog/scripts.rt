@@ -151,6 +151,8 @@ struct Row {
     released: &'static [u8],
     released_so: &'static [u8],
     end: End,
+    /// Its writer fails once, after all that goes out.
+    cut: bool,
     code: u8,
     line: &'static [u8],
     told: &'static [&'static [u8]],
@@ -183,6 +185,7 @@ const GOOD: Row = Row {
     released: b"\x15\x00",
     released_so: b"\x06",
     end: End::Silent,
+    cut: false,
     code: 0,
     line: b"blank\nok 3\n",
     told: &[],
@@ -517,6 +520,64 @@ static HALVES: [Row; 10] = [
     },
 ];
 
+/// The write enable, and the program without its address and its byte.
+const HALF_SENT: &[u8] = b"\x13\x01\x00\x00\x00\x00\x00\x06\x13\x05\x00\x00\x00\x00\x00\x02";
+
+/// The writer fails in the middle of a request: nothing more goes out, not even what lets the pins
+/// go.
+static CUTS: [Row; 5] = [
+    // in the test of the line, after the head of its first operation
+    Row {
+        parts: 1,
+        tested: b"",
+        put: &[],
+        answers: &[],
+        released: b"",
+        released_so: b"",
+        cut: true,
+        told: &[b"norprog: device write\n"],
+        ..LINE
+    },
+    // as the status is asked for, and as the chip is compared
+    Row {
+        put: &[b"\x13\x01\x00"],
+        answers: &[],
+        released: b"",
+        released_so: b"",
+        cut: true,
+        line: b"unlike write\n",
+        ..UNLIKE
+    },
+    Row {
+        put: &[STATUS, b"\x13\x04\x00\x00\x00\x01\x00\x03\x00\x00"],
+        answers: &[b"\x06\x00"],
+        released: b"",
+        released_so: b"",
+        cut: true,
+        line: b"unlike write\n",
+        ..UNLIKE
+    },
+    // in the program, and as the chip is read back
+    Row {
+        put: &[STATUS, FIRST, HALF_SENT],
+        answers: &[b"\x06\x00\x06", CELL, b"\x06"],
+        released: b"",
+        released_so: b"",
+        cut: true,
+        line: b"failed at 1 write\n",
+        ..HALF
+    },
+    Row {
+        put: &[STATUS, FIRST, STEPS, b"\x13\x04\x00\x00\x00"],
+        answers: &[b"\x06\x00\x06", CELL, DONE],
+        released: b"",
+        released_so: b"",
+        cut: true,
+        line: b"failed at 3 write\n",
+        ..HALF
+    },
+];
+
 /// Plays that end at what a device can't do, and at a line that changes what goes out: nothing that
 /// a chip doesn't ignore goes out.
 static LINES: [Row; 5] = [
@@ -627,6 +688,7 @@ fn plays(rt: &impl Abort, alloc: Global, row: &Row) -> Result<(), AllocError> {
         *last = row.last;
     }
     let answers = answers(alloc, row)?;
+    let want = wanted(alloc, row)?;
     let put = Cell::new(Vec::new(alloc));
     let left = Cell::new(answers.len());
     tells(
@@ -635,11 +697,11 @@ fn plays(rt: &impl Abort, alloc: Global, row: &Row) -> Result<(), AllocError> {
         row,
         content.as_slice(),
         answers.as_slice(),
+        row.cut.then_some(want.len()),
         &put,
         &left,
     )?;
     let found = put.replace(Vec::new(alloc));
-    let want = wanted(alloc, row)?;
     same(rt, "how many were put", found.len(), want.len());
     holds(rt, "what was put", found.as_slice() == want.as_slice());
     same(rt, "answers left", left.replace(0), 0);
@@ -653,6 +715,7 @@ fn tells<'a>(
     row: &Row,
     content: &'a [u8],
     answers: &'a [u8],
+    cut: Option<usize>,
     put: &'a Cell<Vec<u8>>,
     left: &'a Cell<usize>,
 ) -> Result<(), AllocError> {
@@ -663,6 +726,7 @@ fn tells<'a>(
         tables: &SMALL,
         answers,
         end: row.end,
+        cut,
         put,
         left,
         saved: None,
@@ -698,7 +762,7 @@ fn tells<'a>(
 
 #[test]
 fn scripts_are_played(rt: HostRuntime) -> Result<(), Fail> {
-    for rows in [DONES.as_slice(), &UNLIKES, &HALVES, &LINES] {
+    for rows in [DONES.as_slice(), &UNLIKES, &HALVES, &CUTS, &LINES] {
         for row in rows {
             plays(&rt, rt.alloc(), row)?;
         }

@@ -13,9 +13,10 @@ use std::io;
 /// A file of more bytes isn't read whole.
 const MOST_BYTES: u64 = 1 << 36;
 
-/// The files `content`, `script` and `tables`, and a device that gives these answers. What it took,
-/// and how many bytes of its answers are left. Where there is a place for it, what a file that is
-/// made anew had taken when it was flushed; else none is made.
+/// The files `content`, `script` and `tables`, and a device that gives these answers, whose writer
+/// fails once, after so many bytes. What it took, and how many bytes of its answers are left. Where
+/// there is a place for it, what a file that is made anew had taken when it was flushed; else none
+/// is made.
 #[derive(Drop)]
 pub(crate) struct Store<'a> {
     pub(crate) alloc: Global,
@@ -24,6 +25,7 @@ pub(crate) struct Store<'a> {
     pub(crate) tables: &'static [u8],
     pub(crate) answers: &'a [u8],
     pub(crate) end: End,
+    pub(crate) cut: Option<usize>,
     pub(crate) put: &'a Cell<Vec<u8>>,
     pub(crate) left: &'a Cell<usize>,
     pub(crate) saved: Option<&'a Cell<Vec<u8>>>,
@@ -48,20 +50,27 @@ impl<'a> io::Read for FromLine<'a> {
 #[derive(Drop)]
 pub(crate) struct ToLine<'a> {
     alloc: Global,
+    cut: Option<usize>,
     put: &'a Cell<Vec<u8>>,
 }
 
 impl<'a> io::Write for ToLine<'a> {
     fn write(&mut self, buf: &[u8]) -> io::Result<usize> {
-        match buf.first() {
-            Some(byte) => {
-                let mut all = self.put.replace(Vec::new(self.alloc));
-                all.push(*byte)?;
-                let _ = self.put.replace(all);
-                Ok(1)
-            }
-            None => Ok(0),
+        let Some(byte) = buf.first() else {
+            return Ok(0);
+        };
+        let mut all = self.put.replace(Vec::new(self.alloc));
+        let fails = self.cut == Some(all.len());
+        if fails {
+            self.cut = None;
+        } else {
+            all.push(*byte)?;
         }
+        let _ = self.put.replace(all);
+        if fails {
+            return Err(io::ErrorKind::TimedOut.into());
+        }
+        Ok(1)
     }
 
     fn flush(&mut self) -> io::Result<()> {
@@ -104,9 +113,9 @@ impl<'a> FileStore for Store<'a> {
 
     type Output = IntoWrite<Vec<u8>>;
 
-    type FromDevice = FromLine<'a>;
+    type FromDevice = FromRead<FromLine<'a>>;
 
-    type ToDevice = ToLine<'a>;
+    type ToDevice = IntoWrite<ToLine<'a>>;
 
     type Journal = Unrecorded;
 
@@ -181,8 +190,9 @@ impl<'a> FileStore for Store<'a> {
     fn open_device(
         &self,
         _journal: &mut Unrecorded,
+        _alloc: Global,
         _path: &str,
-    ) -> Result<(FromLine<'a>, ToLine<'a>), Refusal> {
+    ) -> Result<(FromRead<FromLine<'a>>, IntoWrite<ToLine<'a>>), Refusal> {
         let canned = Canned {
             answers: self.answers,
             silent: 0,
@@ -194,10 +204,11 @@ impl<'a> FileStore for Store<'a> {
         };
         let to = ToLine {
             alloc: self.alloc,
+            cut: self.cut,
             put: self.put,
         };
-        Ok((from, to))
+        Ok((FromRead::new(from), IntoWrite::new(to)))
     }
 
-    fn close_device(&self, _to: ToLine<'a>) {}
+    fn close_device(&self, _from: FromRead<FromLine<'a>>, _to: IntoWrite<ToLine<'a>>) {}
 }

@@ -83,7 +83,7 @@ returns-in_err-script-clause-refused g c =
     let Nothing = Adds (changes c.args.journal.now) (changes c.create.new.journal) [] in
     handed_on (RefusesBuild request.strict (LacksEarly files paths Out Nothing) files.broke (HasGone files) Failed Asked) _ _ c.from_residual-in_err-script.ensures.1
     (file_refused request.strict (LacksEarly files paths Out Nothing) (LacksEarly files paths Out Nothing) files.broke (HasGone files) Failed Asked c.in_err-script.field-0.0 (λ told lacks. lacks)
-    (lacks_output files paths Out Nothing c.in_err-script.field-0.0 c.in_err-script.ensures.refused
+    (lacks_output files paths Out Nothing c.args.path.now c.in_err-script.field-0.0 refl c.in_err-script.ensures.untaken c.in_err-script.ensures.refused
     (lacks_at files paths Out c.args.path.now c.in_err-script.field-0.0 refl c.in_err-script.ensures.refused c.in_err-script.ensures.lacked)))
 
 -- the output was made once, as none of the files that were opened before it

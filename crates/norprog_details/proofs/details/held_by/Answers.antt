@@ -1,5 +1,5 @@
--- The option of a text is one whose file may be read.
+-- The option of a text is one whose file may be asked about, and read where it is a regular one.
 use Rattle.norprog_details.proofs.details.held_by.Goals as goal
 
-pub read-requires : goal.read-requires
-read-requires g c = c.requires.read c.in-Some.ensures
+pub is_regular-requires : goal.is_regular-requires
+is_regular-requires g c = c.requires c.in-Some.ensures.file

@@ -1,6 +1,6 @@
--- The option is one whose file may be read.
+-- The option is one whose file may be asked about.
 use Rattle.std.proofs.Common.{sym}
 use Rattle.norprog_details.proofs.details.trouble_of.Goals as goal
 
 pub trouble-requires : goal.trouble-requires
-trouble-requires g c = c.requires.read (sym c.if-is_read.ensures)
+trouble-requires g c = c.requires (sym c.if-is_read.ensures)

@@ -1,5 +1,5 @@
--- The files that may be read are those of the options that were typed.
+-- The option that may be asked about is the one that the refusal is about.
 use Rattle.norprog_details.proofs.details.write_details.Goals as goal
 
-pub write_facts-requires-clause-read : goal.write_facts-requires-clause-read
-write_facts-requires-clause-read g c = c.requires.read
+pub write_facts-requires-clause-ask : goal.write_facts-requires-clause-ask
+write_facts-requires-clause-ask g c = c.requires.ask

@@ -1,11 +1,10 @@
 -- What isn't of its form; or what is said of the option.
-use Rattle.std.proofs.Common.{◌≡◌, ℕ, List, Bool, false, Option, Some, refl, rules, subst, map, Bor}
+use Rattle.std.proofs.Common.{◌≡◌, ℕ, List, Bool, false, Option, Some, refl, rules, subst, sym, map, Bor}
 use Rattle.std.specs.Prelude.{codes, option_map, string_bytes}
 use Rattle.std.specs.Str.{bytes_eq}
 use Rattle.nor_base.specs.Device.{Writes}
 use Rattle.norprog_details.specs.Subject.{option_of}
 use Rattle.norprog_details.specs.Details.{about_lines, AreFacts, AreFactsIf, IsSaidOf}
-use Rattle.norprog_details.proofs.MayLemmas.{may_about}
 use Rattle.norprog_details.proofs.details.write_facts.Goals as goal
 
 pub returns-clause-bytes : goal.returns-clause-bytes
@@ -17,7 +16,7 @@ returns-clause-bytes g c =
     let trouble = option_map string_bytes c.trouble_of-trouble.result in
     let text = c.held_by-text.result.items in
     let said = about_lines pair trouble text (map (λ (name : Bor (List ℕ)). name.now) line.regions.now) refusal in
-    let of : IsSaidOf files line refusal (Some pair) said = (trouble, text, c.held_by-text.ensures, refl) in
+    let of : IsSaidOf files line refusal (Some pair) said = (trouble, text, c.trouble_of-trouble.ensures, c.held_by-text.ensures, refl) in
     let other : false ≡ bytes_eq refusal (codes "norprog: usage") = search rules in
     let is : Some pair ≡ option_of line.typed.now refusal = search rules in
     let are : AreFacts files line refusal said =
@@ -28,17 +27,15 @@ returns-clause-bytes g c =
     c.as_slice-2.ensures.value c.write_about.ensures.bytes in
     (said, are, writes)
 
--- the option is one that was typed
+-- the option is the one that the refusal is about
 pub trouble_of-trouble-requires : goal.trouble_of-trouble-requires
 trouble_of-trouble-requires g c =
     let pair : List ℕ × List ℕ = (c.in-Some.option.name.now, c.in-Some.option.value.now) in
-    let is : Some pair ≡ option_of c.args.line.typed.now c.args.refusal.now = search rules in record {
-      read = may_about (g.S.FileStore.facts c.args.store.now) c.args.line c.args.refusal.now pair is c.requires.read;
-    }
+    let is : Some pair ≡ option_of c.args.line.typed.now c.args.refusal.now = search rules in
+    c.requires.ask pair (sym is)
 
 pub held_by-text-requires : goal.held_by-text-requires
 held_by-text-requires g c =
     let pair : List ℕ × List ℕ = (c.in-Some.option.name.now, c.in-Some.option.value.now) in
-    let is : Some pair ≡ option_of c.args.line.typed.now c.args.refusal.now = search rules in record {
-      read = may_about (g.S.FileStore.facts c.args.store.now) c.args.line c.args.refusal.now pair is c.requires.read;
-    }
+    let is : Some pair ≡ option_of c.args.line.typed.now c.args.refusal.now = search rules in
+    c.requires.ask pair (sym is)

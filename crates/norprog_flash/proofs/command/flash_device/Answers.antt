@@ -21,13 +21,15 @@ returns-in_err-from-clause-unbegun g c =
 
 pub returns-clause-flashed : goal.returns-clause-flashed
 returns-clause-flashed g c =
-    flashed_on (g.S.FileStore.facts c.args.store.now) c.args.device.now c.args.job.now _ _ _ _ _ _ (Showing _ _ _ _) c.flash_opened-flashed.result (search rules)
-    (search rules) c.flash_opened-flashed.ensures.ends
+    flashed_on (g.S.FileStore.facts c.args.store.now) c.args.device.now c.args.job.now _ _ _ _ _ _ (Showing _ _ _ _) _ _ _ _
+    c.flash_opened-flashed.result (search rules) (search rules) c.close_device.ensures.unread c.close_device.ensures.unsent (search rules)
+    (search rules) c.flash_opened-flashed.ensures.blamed c.flash_opened-flashed.ensures.ends
 
 pub returns-clause-unbegun : goal.returns-clause-unbegun
 returns-clause-unbegun g c =
-    unbegun_on (g.S.FileStore.facts c.args.store.now) c.args.device.now c.args.job.now _ _ _ _ _ _ _ _ _ c.flash_opened-flashed.result
-    (search rules) (search rules) (search rules) (search rules) c.flash_opened-flashed.ensures.stops
+    unbegun_on (g.S.FileStore.facts c.args.store.now) c.args.device.now c.args.job.now _ _ _ _ _ _ _ _ _ _ _ _ _ c.flash_opened-flashed.result
+    (search rules) (search rules) c.close_device.ensures.unread c.close_device.ensures.unsent (search rules) (search rules) (search rules)
+    (search rules) c.flash_opened-flashed.ensures.blamed c.flash_opened-flashed.ensures.stops
 
 pub returns-clause-made : goal.returns-clause-made
 returns-clause-made g c =

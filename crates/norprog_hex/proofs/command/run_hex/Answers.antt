@@ -39,7 +39,7 @@ returns-in_err-out-clause-refused g c =
     let Nothing = Adds (changes c.args.journal.now) (changes c.create.new.journal) [] in
     unmade (LacksEarly files paths Out Nothing) files.broke (HasFailed g.S.Input.ByteIn.ahead g.S.Input.ByteIn.count) (HasGone files) _ _ _ why c.from_residual-in_err-out.ensures.1
     (fits_so files c.args.request _ c.in_ok-bin.len c.in_ok-bin.ensures.opened (omega (arith, c.if-len-from.false, c.from.ensures))) c.in_err-out.ensures.refused
-    (lacks_output files paths Out Nothing why c.in_err-out.ensures.refused (lacks_at files paths Out c.args.request.out.now why refl c.in_err-out.ensures.refused c.in_err-out.ensures.lacked))
+    (lacks_output files paths Out Nothing c.args.request.out.now why refl c.in_err-out.ensures.untaken c.in_err-out.ensures.refused (lacks_at files paths Out c.args.request.out.now why refl c.in_err-out.ensures.refused c.in_err-out.ensures.lacked))
 
 pub returns-clause-written : goal.returns-clause-written
 returns-clause-written g c =

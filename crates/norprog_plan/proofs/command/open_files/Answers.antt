@@ -38,7 +38,7 @@ returns-in_err-create-in-Some-clause-lacked g c =
     let Made = Adds (changes c.args.journal.now) (changes c.create.new.journal) in
     let named = ap (option_map (λ t. t.now)) c.in-Some.is in (
       handed_on (TellsFile (LacksEarly files paths Map (Made []))) _ _ c.from_residual-in_err-create-in-Some.ensures.1
-          (lacks_output files paths Map (Made []) why c.in_err-create-in-Some.ensures.refused
+          (lacks_output files paths Map (Made []) c.in-Some.path.now why named c.in_err-create-in-Some.ensures.untaken c.in_err-create-in-Some.ensures.refused
           (lacks_at files paths Map c.in-Some.path.now why named c.in_err-create-in-Some.ensures.refused c.in_err-create-in-Some.ensures.lacked)),
       handed_on (λ _. TookNothing files map Made) _ _ c.from_residual-in_err-create-in-Some.ensures.1
           (subst (λ (out : Option (List ℕ)). TookNothing files out Made) (sym named) c.in_err-create-in-Some.ensures.untaken),

@@ -21,9 +21,9 @@ follow_steps-requires-clause-steps g c =
 
 pub returns-in-Err-follow_steps-clause-ends : goal.returns-in-Err-follow_steps-clause-ends
 returns-in-Err-follow_steps-clause-ends g c =
-    let before = moment c.args.port.now.chip (g.W.Write.contents c.args.port.now.to.inner) (g.R.Read.remaining c.args.port.now.from.inner) in
-    let between = moment c.begin.new.port.chip (g.W.Write.contents c.begin.new.port.to.inner) (g.R.Read.remaining c.begin.new.port.from.inner) in
-    let after = moment c.follow_steps.new.port.chip (g.W.Write.contents c.follow_steps.new.port.to.inner) (g.R.Read.remaining c.follow_steps.new.port.from.inner) in
+    let before = moment c.args.port.now.chip (g.W.ByteOut.held c.args.port.now.to) (g.R.ByteIn.ahead c.args.port.now.from) in
+    let between = moment c.begin.new.port.chip (g.W.ByteOut.held c.begin.new.port.to) (g.R.ByteIn.ahead c.begin.new.port.from) in
+    let after = moment c.follow_steps.new.port.chip (g.W.ByteOut.held c.follow_steps.new.port.to) (g.R.ByteIn.ahead c.follow_steps.new.port.from) in
     stops c.args.port.now.limits c.args.port.now.turns (expectation_of c.args.expected) c.args.meaning.now c.args.access (IsMarked c.args.cells.now) (MarkedSince c.args.cells.now) before between after c.args.steps.now
     c.in-Err-follow_steps.halt.step c.in-Err-follow_steps.halt.why c.requires.steps.0 c.in_default.ensures.begins
     (same_bounds c.args.meaning.now c.args.port.now.limits c.begin.new.port.limits c.args.port.now.turns c.begin.new.port.turns between after c.args.steps.now
@@ -31,8 +31,8 @@ returns-in-Err-follow_steps-clause-ends g c =
 
 pub mark_wraps-requires : goal.mark_wraps-requires
 mark_wraps-requires g c =
-    let between = moment c.begin.new.port.chip (g.W.Write.contents c.begin.new.port.to.inner) (g.R.Read.remaining c.begin.new.port.from.inner) in
-    let reached = moment c.follow_steps.new.port.chip (g.W.Write.contents c.follow_steps.new.port.to.inner) (g.R.Read.remaining c.follow_steps.new.port.from.inner) in
+    let between = moment c.begin.new.port.chip (g.W.ByteOut.held c.begin.new.port.to) (g.R.ByteIn.ahead c.begin.new.port.from) in
+    let reached = moment c.follow_steps.new.port.chip (g.W.ByteOut.held c.follow_steps.new.port.to) (g.R.ByteIn.ahead c.follow_steps.new.port.from) in
     let kept = all_keep c.begin.new.port.limits c.begin.new.port.turns between reached c.args.steps.now c.in_default-follow_steps.ensures.done in
     let same : length c.follow_steps.new.port.chip.chip.array ≡ length c.args.port.now.chip.chip.array = kept ∙ ap (λ (s : Shown). length s.chip.array) c.in_default.ensures.kept.0 in
     let is : length c.content.result.now ≡ length c.follow_steps.new.port.chip.chip.array = ap length c.content.ensures in
@@ -40,18 +40,18 @@ mark_wraps-requires g c =
 
 pub compare_unless_trusted-requires-clause-marked : goal.compare_unless_trusted-requires-clause-marked
 compare_unless_trusted-requires-clause-marked g c =
-    let between = moment c.begin.new.port.chip (g.W.Write.contents c.begin.new.port.to.inner) (g.R.Read.remaining c.begin.new.port.from.inner) in
-    let reached = moment c.follow_steps.new.port.chip (g.W.Write.contents c.follow_steps.new.port.to.inner) (g.R.Read.remaining c.follow_steps.new.port.from.inner) in
+    let between = moment c.begin.new.port.chip (g.W.ByteOut.held c.begin.new.port.to) (g.R.ByteIn.ahead c.begin.new.port.from) in
+    let reached = moment c.follow_steps.new.port.chip (g.W.ByteOut.held c.follow_steps.new.port.to) (g.R.ByteIn.ahead c.follow_steps.new.port.from) in
     let kept = all_keep c.begin.new.port.limits c.begin.new.port.turns between reached c.args.steps.now c.in_default-follow_steps.ensures.done in
     let same : length c.follow_steps.new.port.chip.chip.array ≡ length c.args.port.now.chip.chip.array = kept ∙ ap (λ (s : Shown). length s.chip.array) c.in_default.ensures.kept.0 in
     (omega (arith, same, c.requires.content.0), same ∙ c.requires.content.1 ∙ ap (λ n. 256 * n) (sym c.mark_wraps.ensures.same_length))
 
 pub returns-in-Err-compare_unless_trusted-clause-ends : goal.returns-in-Err-compare_unless_trusted-clause-ends
 returns-in-Err-compare_unless_trusted-clause-ends g c =
-    let before = moment c.args.port.now.chip (g.W.Write.contents c.args.port.now.to.inner) (g.R.Read.remaining c.args.port.now.from.inner) in
-    let between = moment c.begin.new.port.chip (g.W.Write.contents c.begin.new.port.to.inner) (g.R.Read.remaining c.begin.new.port.from.inner) in
-    let reached = moment c.follow_steps.new.port.chip (g.W.Write.contents c.follow_steps.new.port.to.inner) (g.R.Read.remaining c.follow_steps.new.port.from.inner) in
-    let after = moment c.compare_unless_trusted.new.port.chip (g.W.Write.contents c.compare_unless_trusted.new.port.to.inner) (g.R.Read.remaining c.compare_unless_trusted.new.port.from.inner) in
+    let before = moment c.args.port.now.chip (g.W.ByteOut.held c.args.port.now.to) (g.R.ByteIn.ahead c.args.port.now.from) in
+    let between = moment c.begin.new.port.chip (g.W.ByteOut.held c.begin.new.port.to) (g.R.ByteIn.ahead c.begin.new.port.from) in
+    let reached = moment c.follow_steps.new.port.chip (g.W.ByteOut.held c.follow_steps.new.port.to) (g.R.ByteIn.ahead c.follow_steps.new.port.from) in
+    let after = moment c.compare_unless_trusted.new.port.chip (g.W.ByteOut.held c.compare_unless_trusted.new.port.to) (g.R.ByteIn.ahead c.compare_unless_trusted.new.port.from) in
     let ends : played c.args.port.now.chip.setting 1 c.args.port.now.chip.chip c.args.steps.now ≡ Ok c.follow_steps.new.port.chip.chip =
     subst (λ (shown : Shown). played shown.setting 1 shown.chip c.args.steps.now ≡ Ok c.follow_steps.new.port.chip.chip) c.in_default.ensures.kept.0 c.in_default-follow_steps.ensures.chip in
     let kept = all_keep c.begin.new.port.limits c.begin.new.port.turns between reached c.args.steps.now c.in_default-follow_steps.ensures.done in
@@ -78,9 +78,9 @@ returns-in-Err-compare_unless_trusted-clause-ends g c =
 
 pub returns-in-Ok-clause-ends : goal.returns-in-Ok-clause-ends
 returns-in-Ok-clause-ends g c =
-    let between = moment c.begin.new.port.chip (g.W.Write.contents c.begin.new.port.to.inner) (g.R.Read.remaining c.begin.new.port.from.inner) in
-    let reached = moment c.follow_steps.new.port.chip (g.W.Write.contents c.follow_steps.new.port.to.inner) (g.R.Read.remaining c.follow_steps.new.port.from.inner) in
-    let after = moment c.compare_unless_trusted.new.port.chip (g.W.Write.contents c.compare_unless_trusted.new.port.to.inner) (g.R.Read.remaining c.compare_unless_trusted.new.port.from.inner) in
+    let between = moment c.begin.new.port.chip (g.W.ByteOut.held c.begin.new.port.to) (g.R.ByteIn.ahead c.begin.new.port.from) in
+    let reached = moment c.follow_steps.new.port.chip (g.W.ByteOut.held c.follow_steps.new.port.to) (g.R.ByteIn.ahead c.follow_steps.new.port.from) in
+    let after = moment c.compare_unless_trusted.new.port.chip (g.W.ByteOut.held c.compare_unless_trusted.new.port.to) (g.R.ByteIn.ahead c.compare_unless_trusted.new.port.from) in
     let ends : played c.args.port.now.chip.setting 1 c.args.port.now.chip.chip c.args.steps.now ≡ Ok c.follow_steps.new.port.chip.chip =
     subst (λ (shown : Shown). played shown.setting 1 shown.chip c.args.steps.now ≡ Ok c.follow_steps.new.port.chip.chip) c.in_default.ensures.kept.0 c.in_default-follow_steps.ensures.chip in
     let kept = all_keep c.begin.new.port.limits c.begin.new.port.turns between reached c.args.steps.now c.in_default-follow_steps.ensures.done in
@@ -108,8 +108,8 @@ returns-in-Err-clause-told g c = none_reported c.args.steps.now _ _ _ _ refl ref
 
 pub returns-in-Err-follow_steps-clause-told : goal.returns-in-Err-follow_steps-clause-told
 returns-in-Err-follow_steps-clause-told g c =
-    let between = moment c.begin.new.port.chip (g.W.Write.contents c.begin.new.port.to.inner) (g.R.Read.remaining c.begin.new.port.from.inner) in
-    let after = moment c.follow_steps.new.port.chip (g.W.Write.contents c.follow_steps.new.port.to.inner) (g.R.Read.remaining c.follow_steps.new.port.from.inner) in
+    let between = moment c.begin.new.port.chip (g.W.ByteOut.held c.begin.new.port.to) (g.R.ByteIn.ahead c.begin.new.port.from) in
+    let after = moment c.follow_steps.new.port.chip (g.W.ByteOut.held c.follow_steps.new.port.to) (g.R.ByteIn.ahead c.follow_steps.new.port.from) in
     stop_reported c.begin.new.port.limits c.begin.new.port.turns c.args.meaning.now between after c.args.steps.now c.in-Err-follow_steps.halt.step c.in-Err-follow_steps.halt.why _ _ _ _
     (subst (λ (l : Limits). AreCarried l c.args.steps.now) (sym c.in_default.ensures.kept.1) c.requires.steps.0.carried) c.in-Err-follow_steps.ensures.done c.in-Err-follow_steps.ensures.told
 

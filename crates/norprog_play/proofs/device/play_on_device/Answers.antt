@@ -16,8 +16,8 @@ returns-clause-ends g c =
     let m = c.args.meaning.now in
     let mode4 = begins4 m c.args.expected.start in
     let Wanted : List ℕ → ℕ → Type 0 = λ content. IsAsked (IsTouched m mode4 c.args.steps.now) content in
-    let before = moment c.args.port.now.chip (g.W.Write.contents c.args.port.now.to.inner) (g.R.Read.remaining c.args.port.now.from.inner) in
-    let after = moment c.play_compared.new.port.chip (g.W.Write.contents c.play_compared.new.port.to.inner) (g.R.Read.remaining c.play_compared.new.port.from.inner) in
+    let before = moment c.args.port.now.chip (g.W.ByteOut.held c.args.port.now.to) (g.R.ByteIn.ahead c.args.port.now.from) in
+    let after = moment c.play_compared.new.port.chip (g.W.ByteOut.held c.play_compared.new.port.to) (g.R.ByteIn.ahead c.play_compared.new.port.from) in
     let are : AreMarks (Wanted c.args.port.now.chip.chip.array) (m.size / 256) c.in_ok-cells.cells.items =
     subst (λ (content : List ℕ). AreMarks (Wanted content) (m.size / 256) c.in_ok-cells.cells.items) c.content.ensures c.in_ok-cells.ensures in
     let cells = as_cells (Wanted c.args.port.now.chip.chip.array) c.in_ok-cells.cells.items (length c.args.port.now.chip.chip.array) m.size are c.requires.chip.1 c.acceptance.ensures.size_whole in

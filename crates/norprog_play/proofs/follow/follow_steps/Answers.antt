@@ -6,8 +6,10 @@ use Rattle.nor_base.specs.declared.step.Step.{Step}
 use Rattle.nor_base.specs.Run.{played}
 use Rattle.nor_progress.specs.Come.{AreNext, HasCome}
 use Rattle.nor_progress.proofs.ReportLaws.{ended_reports, none_come}
-use Rattle.std.specs.Prelude.{Ok}
+use Rattle.std.specs.Prelude.{None, Ok}
 use Rattle.norprog_play.specs.Moment.{moment, DoesAll}
+use Rattle.norprog_failure.specs.Blame.{fault_of_failure}
+use Rattle.norprog_play.proofs.BlameLemmas.{counts_after}
 use Rattle.norprog_play.proofs.CarriedLemmas.{done_bounds, same_bounds}
 use Rattle.norprog_play.proofs.FollowedLemmas.{goes_to_end}
 use Rattle.norprog_play.proofs.TogetherLemmas.{all_left_over, does_append, goes_through, stops_in}
@@ -31,6 +33,7 @@ loop-done-init g c = record {
   rest = λ d goes. goes;
   fresh = c.requires.ready.0;
   count = refl;
+  none = (refl, refl);
   limits = refl;
   turns = refl;
   room = refl;
@@ -71,9 +74,9 @@ returns-in-Err-clause-done g c =
     let whole : left ≡ drop c.loop-done.done steps = all_left_over c.loop-done.done steps in
     let row : List Step = take c.row_of-count.result left in
     let rest : List Step = drop c.row_of-count.result left in
-    let before = moment c.args.port.now.chip (g.W.Write.contents c.args.port.now.to.inner) (g.R.Read.remaining c.args.port.now.from.inner) in
-    let now = moment c.loop-done.port.chip (g.W.Write.contents c.loop-done.port.to.inner) (g.R.Read.remaining c.loop-done.port.from.inner) in
-    let after = moment c.follow_row.new.port.chip (g.W.Write.contents c.follow_row.new.port.to.inner) (g.R.Read.remaining c.follow_row.new.port.from.inner) in
+    let before = moment c.args.port.now.chip (g.W.ByteOut.held c.args.port.now.to) (g.R.ByteIn.ahead c.args.port.now.from) in
+    let now = moment c.loop-done.port.chip (g.W.ByteOut.held c.loop-done.port.to) (g.R.ByteIn.ahead c.loop-done.port.from) in
+    let after = moment c.follow_row.new.port.chip (g.W.ByteOut.held c.follow_row.new.port.to) (g.R.ByteIn.ahead c.follow_row.new.port.from) in
     let parts : steps ≡ front ++ (row ++ rest) =
     sym (ap (λ (l : List Step). front ++ l) (take-append-drop c.row_of-count.result left ∙ whole) ∙ take-append-drop c.loop-done.done steps) in
     let counted : c.loop-done.done + c.in-Err.halt.step ≡ length front + c.in-Err.halt.step =
@@ -83,6 +86,20 @@ returns-in-Err-clause-done g c =
     (same_bounds c.args.meaning.now c.args.port.now.limits c.loop-done.port.limits c.args.port.now.turns c.loop-done.port.turns now after row
     c.in-Err.halt.step c.in-Err.halt.why c.loop-done.invariant.limits c.loop-done.invariant.turns c.in-Err.ensures.done)
 
+pub returns-in-Err-clause-failures : goal.returns-in-Err-clause-failures
+returns-in-Err-clause-failures g c = (
+  tt,
+  omega (arith, c.in-Err.ensures.failures.0, c.loop-done.invariant.count),
+  c.in-Err.ensures.kept.0 ∙ c.loop-done.invariant.limits,
+  counts_after (g.R.ByteIn.count c.args.port.now.from) (g.R.ByteIn.count c.loop-done.port.from) (g.R.ByteIn.count c.follow_row.new.port.from)
+      (g.W.ByteOut.count c.args.port.now.to) (g.W.ByteOut.count c.loop-done.port.to) (g.W.ByteOut.count c.follow_row.new.port.to) (fault_of_failure c.in-Err.halt.why)
+      c.loop-done.invariant.none c.in-Err.ensures.failures.4,
+)
+
+pub returns-clause-failures : goal.returns-clause-failures
+returns-clause-failures g c =
+    (c.loop-done.invariant.count, omega (arith, c.loop-done.invariant.count), c.loop-done.invariant.limits, c.loop-done.invariant.none)
+
 pub loop-done-preserved : goal.loop-done-preserved
 loop-done-preserved g c =
     let steps : List Step = c.args.steps.now in
@@ -90,9 +107,9 @@ loop-done-preserved g c =
     let whole : left ≡ drop c.loop-done.done steps = all_left_over c.loop-done.done steps in
     let row : List Step = take c.row_of-count.result left in
     let rest : List Step = drop c.row_of-count.result left in
-    let before = moment c.args.port.now.chip (g.W.Write.contents c.args.port.now.to.inner) (g.R.Read.remaining c.args.port.now.from.inner) in
-    let now = moment c.loop-done.port.chip (g.W.Write.contents c.loop-done.port.to.inner) (g.R.Read.remaining c.loop-done.port.from.inner) in
-    let after = moment c.follow_row.new.port.chip (g.W.Write.contents c.follow_row.new.port.to.inner) (g.R.Read.remaining c.follow_row.new.port.from.inner) in
+    let before = moment c.args.port.now.chip (g.W.ByteOut.held c.args.port.now.to) (g.R.ByteIn.ahead c.args.port.now.from) in
+    let now = moment c.loop-done.port.chip (g.W.ByteOut.held c.loop-done.port.to) (g.R.ByteIn.ahead c.loop-done.port.from) in
+    let after = moment c.follow_row.new.port.chip (g.W.ByteOut.held c.follow_row.new.port.to) (g.R.ByteIn.ahead c.follow_row.new.port.from) in
     let one = done_bounds c.args.port.now.limits c.loop-done.port.limits c.args.port.now.turns c.loop-done.port.turns now after row
     c.loop-done.invariant.limits c.loop-done.invariant.turns c.in_default.ensures.done in
     let few : c.row_of-count.result ≤ length left = c.row_of-count.ensures.within in
@@ -114,6 +131,9 @@ loop-done-preserved g c =
           (c.loop-done.invariant.rest d goes)));
       fresh = c.in_default.ensures.failures.1;
       count = c.in_default.ensures.failures.2 ∙ c.loop-done.invariant.count;
+      none = counts_after (g.R.ByteIn.count c.args.port.now.from) (g.R.ByteIn.count c.loop-done.port.from) (g.R.ByteIn.count c.follow_row.new.port.from)
+          (g.W.ByteOut.count c.args.port.now.to) (g.W.ByteOut.count c.loop-done.port.to) (g.W.ByteOut.count c.follow_row.new.port.to) None
+          c.loop-done.invariant.none c.in_default.ensures.failures.4;
       limits = c.in_default.ensures.kept.0 ∙ c.loop-done.invariant.limits;
       turns = c.in_default.ensures.kept.1 ∙ c.loop-done.invariant.turns;
       room = c.in_default.ensures.kept.2 ∙ c.loop-done.invariant.room;

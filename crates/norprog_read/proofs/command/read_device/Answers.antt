@@ -9,14 +9,14 @@ use Rattle.norprog_read.proofs.command.read_device.Goals as goal
 
 pub returns-clause-read : goal.returns-clause-read
 returns-clause-read g c =
-    let files = g.S.FileStore.facts c.args.store.now in
-    read_on (files.device c.args.device.now) files.left c.args.ask.now _ _ _ _ c.read_opened-read.result (search rules) c.read_opened-read.ensures.read
-    (search rules)
+    read_on (g.S.FileStore.facts c.args.store.now) c.args.device.now c.args.ask.now _ _ _ _ c.read_opened-read.result (search rules)
+    c.read_opened-read.ensures.read (search rules)
 
 pub returns-clause-unread : goal.returns-clause-unread
 returns-clause-unread g c =
     unread_on (g.S.FileStore.facts c.args.store.now) c.args.device.now (Adds _ _) c.args.ask.now _ _ _ _ (search rules) (search rules) (search rules)
-    c.read_opened-read.result c.read_opened-read.ensures.stops
+    _ _ _ _ c.read_opened-read.result (search rules) (search rules) c.close_device.ensures.unread c.close_device.ensures.unsent
+    c.read_opened-read.ensures.stops c.read_opened-read.ensures.blamed
 
 pub returns-in_err-from-clause-unread : goal.returns-in_err-from-clause-unread
 returns-in_err-from-clause-unread g c =

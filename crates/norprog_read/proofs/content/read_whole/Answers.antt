@@ -28,7 +28,8 @@ returns-in-Ok-clause-whole g c =
     subst (λ bytes. HoldsWhole h i a b m start bytes) (sym (written new c.in_ok-content.content.items c.in_ok-content.content.len long))
     (record {
       whole = whole;
-      known = c.twice_knows.ensures h i a b m start (first_by m start) (second_by m start) new
-          (omega (arith, c.size_in.ensures.is, c.size_in.ensures.few)) whole (first_gives m start readable) (second_gives m start readable) twice;
+      known = λ quad. c.twice_knows.ensures h i a b m (record start { quad = quad }) (first_by m start) (second_by m start) new
+          (omega (arith, c.size_in.ensures.is, c.size_in.ensures.few)) whole (first_gives m (record start { quad = quad }) readable)
+          (second_gives m (record start { quad = quad }) readable) twice;
       twice = twice;
     })

@@ -1,7 +1,7 @@
 -- What was played is of the chip, the content and the script of the request's files.
 use Rattle.std.proofs.Common.{List, [], ℕ, ◌<◌, IfErr, inl, option_map, Some, None, refl, sym, subst}
 use Rattle.norprog_common.specs.Chip.{origin_of}
-use Rattle.norprog_common.specs.FileStore.{Adds, AreTables, HasGone, IsTextIn, IsTextOfFile, LacksEarly, tables_name}
+use Rattle.norprog_common.specs.FileStore.{Adds, AreTables, HasGone, IsTextIn, IsTextOfFile, LacksEarly, LeavesOutput, tables_name}
 use Rattle.norprog_common.specs.Served.{out_path}
 use Rattle.norprog_common.specs.declared.faults.FileName.TheVariants as file
 use Rattle.norprog_common.proofs.LackedLemmas.{lacks_at, lacks_early, lacks_named}
@@ -78,7 +78,7 @@ returns-in-Some-clause-refused g c =
     let Nothing = Adds (changes c.args.journal.now) (changes c.play_to.new.journal) [] in
     refusals_wider (LacksEarly files (out_path (Some c.in-Some.path.now)) file.Out Nothing) (LacksEarly files (paths_of request) file.Out Nothing) files.broke _ (IsTaskOf files request) (IsTextRead ahead c.in_ok-script.script)
     (IsTextIn files request.script.now) Failed (FailsScript ahead Failed c.in_ok-script.script) (FailsReading files Failed request.script.now) (HasGone files)
-    (λ name is. (out_lacks files request c.in-Some.path c.in-Some.is name is.0, is.1)) tasks (λ text is. read_in files request.script.now ahead c.in_ok-script.script text of is)
+    (λ name is. (out_lacks files request c.in-Some.path c.in-Some.is name is.0, subst (λ s. LeavesOutput files (option_map (λ t. t.now) s) file.Out Nothing name) (sym c.in-Some.is) is.1)) tasks (λ text is. read_in files request.script.now ahead c.in_ok-script.script text of is)
     (λ failed. fails_in files request.script.now ahead Failed c.in_ok-script.script of failed) c.play_to.result c.play_to.ensures.refused.0
 
 pub returns-in-Some-clause-journal : goal.returns-in-Some-clause-journal

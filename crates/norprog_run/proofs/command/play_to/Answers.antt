@@ -84,7 +84,7 @@ returns-in_err-file-clause-refused g c =
     let Lost = FailsScript ahead Failed c.args.script in (
       handed_on (RefusesRun Told files.broke Asked Spoken Failed Lost (HasGone files)) _ _ c.from_residual.ensures.1
           (lacked_refused Told files.broke Asked Spoken Failed Lost (HasGone files) c.in_err-file.field-0.0
-          (lacks_output files paths Out Nothing c.in_err-file.field-0.0 c.in_err-file.ensures.refused
+          (lacks_output files paths Out Nothing c.args.path.now c.in_err-file.field-0.0 refl c.in_err-file.ensures.untaken c.in_err-file.ensures.refused
           (lacks_at files paths Out c.args.path.now c.in_err-file.field-0.0 refl c.in_err-file.ensures.refused c.in_err-file.ensures.lacked))),
       handed_on (HoldsRun files (Some c.args.path.now) Made Asked) _ _ c.from_residual.ensures.1 (λ memory. inl c.in_err-file.ensures.untaken),
     )

@@ -78,7 +78,7 @@ returns-in_err-out-clause-refused g c =
     let why = c.in_err-out.field-0.0 in
     handed_on (RefusesScript Lacked files.broke (HasGone files) (IsTaskOf files request)) _ _ c.from_residual-in_err-out.ensures.1
     (file_refused Lacked files.broke (HasGone files) (IsTaskOf files request) why
-    (lacks_output files (paths_of request) Out Nothing why c.in_err-out.ensures.refused (lacks_at files (paths_of request) Out request.out.now why refl c.in_err-out.ensures.refused c.in_err-out.ensures.lacked)))
+    (lacks_output files (paths_of request) Out Nothing request.out.now why refl c.in_err-out.ensures.untaken c.in_err-out.ensures.refused (lacks_at files (paths_of request) Out request.out.now why refl c.in_err-out.ensures.refused c.in_err-out.ensures.lacked)))
 
 -- what the output holds at out of memory
 pub returns-in_err-tables-clause-memory : goal.returns-in_err-tables-clause-memory
